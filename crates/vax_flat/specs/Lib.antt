@@ -1,0 +1,8 @@
+pub mod State
+pub mod Protection
+pub mod Memory
+pub mod Accesses
+pub mod Outcome
+pub mod Operand
+pub mod Rows
+pub mod Step
