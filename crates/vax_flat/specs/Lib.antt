@@ -1,5 +1,4 @@
 pub mod State
-pub mod Protection
 pub mod Memory
 pub mod Accesses
 pub mod Outcome

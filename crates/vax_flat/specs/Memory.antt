@@ -1,18 +1,12 @@
 -- The whole memory of the flat machine: a list of areas, each with all its bytes. Addresses have 32 bits, and pages 512 bytes.
-use Rattle.std.specs.Prelude.{◌≡◌, ℕ, suc, zero, ◌+◌, ◌-◌, ◌*◌, ◌/◌, ◌%◌, ◌^◌, Bool, ◌&&◌, if◌then◌else◌, nat_lt, nat_le, List, [], ◌∷◌, length, slice_index, slice_set}
+use Rattle.std.specs.Prelude.{◌≡◌, ℕ, suc, zero, ◌+◌, ◌-◌, ◌*◌, ◌/◌, ◌%◌, if◌then◌else◌, List, [], ◌∷◌, length, slice_index, slice_set}
 use Rattle.vax_space.specs.declared.Area.{Area}
-
--- the page of an address
-abbrev pub page_of : ℕ → ℕ
-page_of addr = addr / 512
+use Rattle.vax_space.specs.Areas.{has_page}
+use Rattle.vax_space.specs.Reference.{page_of, byte_after}
 
 -- the address behind
 abbrev pub after : ℕ → ℕ
-after addr = (addr + 1) % 2 ^ 32
-
--- an area has the page
-unfoldable pub has_page : Area → ℕ → Bool
-has_page area page = nat_le area.first page && nat_lt page (area.first + area.pages)
+after addr = byte_after addr 1
 
 -- the byte at an address, and 0 where no area has it
 unfoldable pub byte_at : List Area → ℕ → ℕ

@@ -5,7 +5,7 @@ use Rattle.vax_space.specs.declared.Area.{Area}
 use Rattle.vax_space.specs.declared.Violation.{Violation}
 use Rattle.vax_flat.specs.declared.Exception.{Exception}
 use Rattle.vax_flat.specs.declared.Exception.TheVariants as exception
-use Rattle.vax_flat.specs.Protection.{violation}
+use Rattle.vax_space.specs.Reference.{violation}
 use Rattle.vax_flat.specs.Memory.{byte_at, number, bytes_from, written, written_run}
 use Rattle.vax_flat.specs.Accesses.{Accesses, Done, Raises, Checks, Asks, Reads, Writes, ReadsRun, WritesRun}
 
