@@ -1,7 +1,9 @@
 pub mod State
 pub mod Memory
+pub mod Port
 pub mod Accesses
 pub mod Outcome
+pub mod OverPort
 pub mod Operand
 pub mod Rows
 pub mod Step

@@ -7,6 +7,7 @@ use Rattle.vax_flat.specs.declared.Exception.{Exception}
 use Rattle.vax_flat.specs.declared.Exception.TheVariants as exception
 use Rattle.vax_space.specs.Reference.{violation}
 use Rattle.vax_flat.specs.Memory.{byte_at, number, bytes_from, written, written_run}
+use Rattle.vax_flat.specs.Port.{first_absent}
 use Rattle.vax_flat.specs.Accesses.{Accesses, Done, Raises, Checks, Asks, Reads, Writes, ReadsRun, WritesRun}
 
 -- it comes to its end with this memory, or raises an exception
@@ -67,3 +68,13 @@ touches_of (ReadsRun addr len mode next) memory =
 touches_of (WritesRun addr bytes mode next) memory =
     unless_stopped (violation memory addr (length bytes) mode Write)
         (record { addr = addr; len = length bytes } ∷ touches_of next (written_run memory addr bytes))
+
+abbrev pub or_else : Option ℕ → Option ℕ → Option ℕ
+or_else (Some page) other = Some page
+or_else None other = other
+
+-- the first page of these ranges that is absent
+unfoldable pub first_missing : (ℕ → Bool) → List Range → Option ℕ
+first_missing resident [] = None
+first_missing resident (range ∷ ranges) =
+    or_else (first_absent resident range.addr range.len) (first_missing resident ranges)

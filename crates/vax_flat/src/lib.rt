@@ -70,3 +70,36 @@ pub enum Flow {
     /// It ends the run.
     Ended(Ending),
 }
+
+/// Why a port can't use a range.
+#[derive(Clone, Copy, Debug, PartialEq, Eq)]
+pub enum Stop {
+    /// The range is allowed, and this page is the lowest of it that is absent.
+    NotResident(u32),
+    /// The range isn't allowed.
+    Violated(Violation),
+}
+
+/// What cuts an instruction short.
+#[derive(Clone, Copy, Debug, PartialEq, Eq)]
+pub enum Cut {
+    /// This page is needed and absent.
+    Absent(u32),
+    /// The instruction raises this exception.
+    Event(Exception),
+}
+
+impl From<Stop> for Cut {
+    ghost use Rattle.std.specs.Prelude.{◌≡◌};
+    ghost use Rattle.vax_flat.specs.Port.{cut_of};
+
+    ghost from_gives = { λ stop cut. cut ≡ cut_of stop };
+
+    #[inline]
+    fn from(stop: Stop) -> Cut {
+        match stop {
+            Stop::NotResident(page) => Cut::Absent(page),
+            Stop::Violated(violation) => Cut::Event(Exception::Access(violation)),
+        }
+    }
+}

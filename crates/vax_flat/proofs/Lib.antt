@@ -1,0 +1,4 @@
+pub mod Bytes
+pub mod Alike
+pub mod Memory
+pub mod Standing
