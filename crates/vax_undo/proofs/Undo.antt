@@ -1,0 +1,164 @@
+-- What keeps a transaction.
+use Rattle.std.proofs.Common.{Bool, true, false, zero, suc, inl, inr, ◌≡◌, ℕ, ◌+◌, ◌-◌, ◌^◌, ◌<◌, ◌≤◌, Option, Some, None, Result, Ok, Err, List, [], ◌∷◌, ◌++◌, length, refl, ap, sym, subst, ◌∙◌, arith, length-append}
+use Rattle.std.proofs.lemmas.Bool.{cases_Bool}
+use Rattle.std.proofs.lemmas.List.{set-get_or, set-set}
+use Rattle.std.specs.Prelude.{slice_index, slice_set, IfOk}
+use Rattle.vax_space.specs.declared.Access.TheVariants.{Read, Write}
+use Rattle.vax_space.specs.declared.Area.{Area}
+use Rattle.vax_space.specs.declared.Violation.{Violation}
+use Rattle.vax_space.specs.declared.Right.{Right}
+use Rattle.vax_space.specs.declared.Right.TheVariants.{Nothing, ReadOnly, ReadWrite}
+use Rattle.vax_space.specs.Protection.{permits, allows, right_of}
+use Rattle.vax_space.specs.Areas.{prot_of}
+use Rattle.vax_space.specs.Reference.{violation, violation_at, may_access, permitted, page_of, byte_after}
+use Rattle.vax_flat.specs.declared.Stop.{Stop}
+use Rattle.vax_flat.specs.Memory.{number}
+use Rattle.vax_flat.specs.Port.{View, AreBytes, first_absent, stop, stop_of, loaded, loaded_by, stored, with_number}
+use Rattle.vax_flat.specs.OverPort.{Present}
+use Rattle.vax_flat.proofs.Bytes.{put_back as put-put, number-below}
+use Rattle.vax_undo.specs.declared.entry.Entry.{Entry}
+use Rattle.vax_undo.specs.declared.entry.Kept.{Kept}
+use Rattle.vax_undo.specs.declared.entry.Kept.TheVariants as kept
+use Rattle.vax_undo.specs.declared.txn.Txn.{Txn as Transaction}
+use Rattle.vax_undo.specs.Transaction.{put_back, undo, undo_all, Allows, AllowsAll, present, IsReady, IsSame, Keeps}
+
+pub undo_all-append : (log : List Entry) (e : Entry) (p : Present) → undo_all (log ++ e ∷ []) p ≡ undo_all log (undo e p)
+undo_all-append [] e p = refl
+undo_all-append (x ∷ xs) e p = ap (undo x) (undo_all-append xs e p)
+
+pub allows_one_more : (areas : List Area) (resident : ℕ → Bool) (log : List Entry) (e : Entry) → AllowsAll areas resident log → Allows areas resident e.kept e → AllowsAll areas resident (log ++ e ∷ [])
+allows_one_more areas resident [] e all one = (one, all)
+allows_one_more areas resident (x ∷ xs) e all one = (all.0, allows_one_more areas resident xs e all.1 one)
+
+-- one more entry, which undoes what was done
+pub logged : {P : Type 0} (view : P → View) (along : P → P → Type 0) (old new : Transaction P) (e : Entry) →
+    new.log.items ≡ old.log.items ++ e ∷ [] → IsSame along old new → undo e (present view new) ≡ present view old →
+    (view new.port.now).areas ≡ (view old.port.now).areas → (view new.port.now).resident ≡ (view old.port.now).resident →
+    Allows (view old.port.now).areas (view old.port.now).resident e.kept e → Keeps view along 1 old new
+logged view along old new e items same back areas resident one = record {
+  undone = ap (λ log. undo_all log (present view new)) items ∙ (undo_all-append old.log.items e (present view new) ∙ ap (undo_all old.log.items) back);
+  ready = λ ready. rw (items, areas, resident) (allows_one_more (view old.port.now).areas (view old.port.now).resident old.log.items e ready one);
+  room = rw items (simp length-append (omega arith));
+  same = same;
+}
+
+-- a value that was overwritten is put back
+pub set_back : (xs : List ℕ) (n v : ℕ) → slice_set (slice_set xs n v) n (slice_index xs n) ≡ xs
+set_back xs n v = set-set xs n v (slice_index xs n) ∙ set-get_or xs n 0
+
+loaded_some : (o : Option Stop) (v : ℕ) (s : Stop) → loaded_by o v ≡ Err s → o ≡ Some s
+loaded_some (Some x) v s h = cc
+loaded_some None v s h = cc
+
+loaded_none : (o : Option Stop) (v x : ℕ) → loaded_by o v ≡ Ok x → (o ≡ None) × (v ≡ x)
+loaded_none (Some s) v x h = cc
+loaded_none None v x h = (refl, cc)
+
+stop_parts : (v : Option Violation) (p : Option ℕ) → stop_of v p ≡ None → (v ≡ None) × (p ≡ None)
+stop_parts (Some v) p h = cc
+stop_parts None (Some page) h = cc
+stop_parts None None h = (refl, refl)
+
+-- nothing stops a write: the range is allowed and resident
+pub is_free : (view : View) (addr len mode : ℕ) → None ≡ stop view addr len mode Write → (violation view.areas addr len mode Write ≡ None) × (first_absent view.resident addr len ≡ None)
+is_free view addr len mode h = stop_parts (violation view.areas addr len mode Write) (first_absent view.resident addr len) (sym h)
+
+pub not_stopped : (view : View) (addr len mode : ℕ) → violation view.areas addr len mode Write ≡ None → first_absent view.resident addr len ≡ None → None ≡ stop view addr len mode Write
+not_stopped view addr len mode v p = rw (v, p) refl
+
+permits_read : (right : Right) → permits right Write ≡ true → permits right Read ≡ true
+permits_read Nothing h = h
+permits_read ReadOnly h = refl
+permits_read ReadWrite h = refl
+
+permitted_read : (prot : Option ℕ) (mode : ℕ) → permitted prot mode Write ≡ true → permitted prot mode Read ≡ true
+unfolding allows
+permitted_read None mode h = h
+permitted_read (Some code) mode h = permits_read (right_of code mode) h
+
+accessible_too : (areas : List Area) (page mode : ℕ) → may_access areas page mode Write ≡ true → may_access areas page mode Read ≡ true
+unfolding may_access
+accessible_too areas page mode h = permitted_read (prot_of areas page) mode h
+
+-- what may be written may be read
+writable_is_readable : (areas : List Area) (addr len mode : ℕ) → violation areas addr len mode Write ≡ None → violation areas addr len mode Read ≡ None
+unfolding violation
+writable_is_readable areas addr zero mode h = refl
+writable_is_readable areas addr (suc len) mode h =
+    elim (cases_Bool (may_access areas (page_of addr) mode Write)) [
+      | inl can ↦
+          let rest : violation areas (byte_after addr 1) len mode Write ≡ None = rw can at h in
+          rw (accessible_too areas (page_of addr) mode can) (writable_is_readable areas (byte_after addr 1) len mode rest)
+      | inr cannot ↦ let no : Some (violation_at areas addr Write) ≡ None = rw cannot at h in cc
+    ]
+
+-- where a range may be written, a read of it is stopped where a write is
+stops_alike : (view : View) (addr len mode : ℕ) → violation view.areas addr len mode Write ≡ None → stop view addr len mode Write ≡ stop view addr len mode Read
+stops_alike view addr len mode h = rw (h, writable_is_readable view.areas addr len mode h) refl
+
+-- where a write is allowed and the read before it was stopped
+pub stopped_read : (view : View) (addr len mode : ℕ) (s : Stop) → None ≡ violation view.areas addr len mode Write → Err s ≡ loaded view addr len mode → Some s ≡ stop view addr len mode Write
+stopped_read view addr len mode s h r =
+    sym (stops_alike view addr len mode (sym h) ∙ loaded_some (stop view addr len mode Read) (number view.byte addr len) s (sym r))
+
+pub stopped_store : (view : View) (addr len value mode : ℕ) (s : Stop) → Some s ≡ stop view addr len mode Write → stored view addr len value mode ≡ view
+stopped_store view addr len value mode s h = rw (← h) refl
+
+pub full_store : (view : View) (addr len value mode : ℕ) → None ≡ stop view addr len mode Write → stored view addr len value mode ≡ with_number view addr len value
+full_store view addr len value mode h = rw (← h) refl
+
+-- the bytes before a write are put back
+pub bytes_back : (view : View) (addr len value old mode : ℕ) → AreBytes view.byte → Ok old ≡ loaded view addr len mode → with_number (with_number view addr len value) addr len old ≡ view
+bytes_back view addr len value old mode bytes r =
+    let e = loaded_none (stop view addr len mode Read) (number view.byte addr len) old (sym r) in
+    rw (← e.1) (ap (λ (byte : ℕ → ℕ). record view { byte = byte }) (put-put view.byte addr len value bytes))
+
+pub old_fits : (view : View) (addr len old mode : ℕ) → AreBytes view.byte → Ok old ≡ loaded view addr len mode → old < 256 ^ len
+old_fits view addr len old mode bytes r =
+    let e = loaded_none (stop view addr len mode Read) (number view.byte addr len) old (sym r) in
+    rw (← e.1) (number-below view.byte addr len bytes)
+
+pub loaded_fits : (view : View) (addr len mode : ℕ) (r : Result ℕ Stop) → AreBytes view.byte → r ≡ loaded view addr len mode → IfOk r (λ v. v < 256 ^ len)
+loaded_fits view addr len mode (Ok v) bytes e = old_fits view addr len v mode bytes e
+loaded_fits view addr len mode (Err s) bytes e = tt
+
+-- one turn of unwinding
+pub unwound : (log rest : List Entry) (e : Entry) (p now start : Present) → log ≡ rest ++ e ∷ [] → now ≡ undo e p → undo_all log p ≡ start → undo_all rest now ≡ start
+unwound log rest e p now start items back before =
+    rw back (sym (undo_all-append rest e p) ∙ (ap (λ l. undo_all l p) (sym items) ∙ before))
+
+parts_of : (areas : List Area) (resident : ℕ → Bool) (rest : List Entry) (e : Entry) → AllowsAll areas resident (rest ++ e ∷ []) → AllowsAll areas resident rest × Allows areas resident e.kept e
+parts_of areas resident [] e all = (tt, all.0)
+parts_of areas resident (x ∷ xs) e all = let p = parts_of areas resident xs e all.1 in ((all.0, p.0), p.1)
+
+pub last_allowed : (areas : List Area) (resident : ℕ → Bool) (log rest : List Entry) (e : Entry) → log ≡ rest ++ e ∷ [] → AllowsAll areas resident log → AllowsAll areas resident rest × Allows areas resident e.kept e
+last_allowed areas resident log rest e items all = parts_of areas resident rest e (subst (AllowsAll areas resident) items all)
+
+pub present_alike : (p q : Present) → p.state ≡ q.state → p.view ≡ q.view → p ≡ q
+present_alike p q s v = ap (λ x. record { state = x; view = p.view }) s ∙ ap (λ x. record { state = q.state; view = x }) v
+
+-- undoing an entry leaves the areas and the resident pages
+put_back-areas : (k : Kept) (e : Entry) (p : Present) → (put_back k e p).view.areas ≡ p.view.areas
+put_back-areas kept.Register e p = refl
+put_back-areas kept.Status e p = refl
+put_back-areas kept.Stack e p = refl
+put_back-areas kept.Requests e p = refl
+put_back-areas kept.Timer e p = refl
+put_back-areas kept.Clock e p = refl
+put_back-areas kept.Taken e p = refl
+put_back-areas kept.Sent e p = refl
+put_back-areas kept.Bytes e p = refl
+
+put_back-resident : (k : Kept) (e : Entry) (p : Present) → (put_back k e p).view.resident ≡ p.view.resident
+put_back-resident kept.Register e p = refl
+put_back-resident kept.Status e p = refl
+put_back-resident kept.Stack e p = refl
+put_back-resident kept.Requests e p = refl
+put_back-resident kept.Timer e p = refl
+put_back-resident kept.Clock e p = refl
+put_back-resident kept.Taken e p = refl
+put_back-resident kept.Sent e p = refl
+put_back-resident kept.Bytes e p = refl
+
+pub still_allowed : (e : Entry) (p : Present) (now : View) (log : List Entry) → now ≡ (undo e p).view → AllowsAll p.view.areas p.view.resident log → AllowsAll now.areas now.resident log
+still_allowed e p now log is all = rw (is, put_back-areas e.kept e p, put_back-resident e.kept e p) all

@@ -1,0 +1,122 @@
+-- What a transaction means, and how its log is undone.
+use Rattle.std.specs.Prelude.{◌≡◌, ℕ, ◌+◌, ◌-◌, ◌^◌, ◌<◌, ◌≤◌, Bool, Option, Some, None, List, [], ◌∷◌, length, slice_get, slice_index, slice_set}
+use Rattle.vax_word.specs.declared.Core.{Core}
+use Rattle.vax_space.specs.declared.Access.TheVariants.{Write}
+use Rattle.vax_space.specs.declared.Area.{Area}
+use Rattle.vax_space.specs.Reference.{violation}
+use Rattle.vax_flat.specs.State.{State, with_register, with_psl}
+use Rattle.vax_flat.specs.Port.{View, first_absent, with_number}
+use Rattle.vax_flat.specs.OverPort.{Present}
+use Rattle.vax_undo.specs.declared.entry.Entry.{Entry}
+use Rattle.vax_undo.specs.declared.entry.Kept.{Kept}
+use Rattle.vax_undo.specs.declared.entry.Kept.TheVariants.{Register, Status, Stack, Requests, Timer, Clock, Taken, Sent, Bytes}
+use Rattle.vax_undo.specs.declared.term.Term.{Term}
+use Rattle.vax_undo.specs.declared.txn.Txn.{Txn as Transaction}
+
+-- registers and console as an instruction sees them
+abbrev pub state_of : Core → Term → State
+state_of core term = record { core = core; input = term.input.items; taken = term.place; sent = term.out }
+
+abbrev pub with_state : Present → State → Present
+with_state p s = record { state = s; view = p.view }
+
+abbrev pub with_view : Present → View → Present
+with_view p v = record { state = p.state; view = v }
+
+abbrev pub with_stack : State → ℕ → ℕ → State
+with_stack s n value = record s { core = record s.core { stacks = slice_set s.core.stacks n value } }
+
+abbrev pub with_requests : State → ℕ → State
+with_requests s value = record s { core = record s.core { sisr = value } }
+
+abbrev pub with_timer : State → ℕ → State
+with_timer s value = record s { core = record s.core { iccs = value } }
+
+abbrev pub with_clock : State → ℕ → State
+with_clock s value = record s { core = record s.core { clock = value } }
+
+abbrev pub with_taken : State → ℕ → State
+with_taken s place = record s { taken = place }
+
+abbrev pub with_sent : State → Option ℕ → State
+with_sent s byte = record s { sent = byte }
+
+-- the next byte of the console's input, and the state once it is taken
+abbrev pub next_byte : State → Option ℕ
+next_byte s = slice_get s.input s.taken
+
+abbrev pub if_some : {A B : Type 0} → Option A → B → B → B
+if_some None x y = x
+if_some (Some a) x y = y
+
+abbrev pub after_take : State → State
+after_take s = if_some (next_byte s) s (with_taken s (s.taken + 1))
+
+-- the old value of an entry is put back
+abbrev pub put_back : Kept → Entry → Present → Present
+put_back Register e p = with_state p (with_register p.state e.number e.old)
+put_back Status e p = with_state p (with_psl p.state (record { 0 = e.old }))
+put_back Stack e p = with_state p (with_stack p.state e.number e.old)
+put_back Requests e p = with_state p (with_requests p.state e.old)
+put_back Timer e p = with_state p (with_timer p.state e.old)
+put_back Clock e p = with_state p (with_clock p.state e.old)
+put_back Taken e p = with_state p (with_taken p.state e.old)
+put_back Sent e p = with_state p (with_sent p.state None)
+put_back Bytes e p = with_view p (with_number p.view e.addr e.number e.old)
+
+abbrev pub undo : Entry → Present → Present
+undo e p = put_back e.kept e p
+
+-- a log is undone from its last entry backwards
+abbrev pub undo_all : List Entry → Present → Present
+undo_all [] p = p
+undo_all (e ∷ es) p = undo e (undo_all es p)
+
+-- what undoing an entry needs of the areas and of the resident pages: bytes are put back where the mode may write and the pages are there
+abbrev pub Allows : List Area → (ℕ → Bool) → Kept → Entry → Type 0
+Allows areas resident Register e = (e.number < 16) × (e.old < 2 ^ 32)
+Allows areas resident Status e = e.old < 2 ^ 32
+Allows areas resident Stack e = (e.number < 5) × (e.old < 2 ^ 32)
+Allows areas resident Requests e = e.old < 2 ^ 16
+Allows areas resident Timer e = e.old < 2 ^ 8
+Allows areas resident Clock e = e.old < 2 ^ 16
+Allows areas resident Taken e = e.old < 2 ^ 32
+Allows areas resident Sent e = Unit {0}
+Allows areas resident Bytes e =
+    (1 ≤ e.number) × (e.number ≤ 8) × (e.mode ≤ 3) × (e.old < 256 ^ e.number)
+    × (violation areas e.addr e.number e.mode Write ≡ None) × (first_absent resident e.addr e.number ≡ None)
+
+abbrev pub AllowsAll : List Area → (ℕ → Bool) → List Entry → Type 0
+AllowsAll areas resident [] = Unit {0}
+AllowsAll areas resident (e ∷ es) = Allows areas resident e.kept e × AllowsAll areas resident es
+
+module _ {P : Type 0} where
+  -- what a transaction works on, as it is now
+  abbrev pub present : (P → View) → Transaction P → Present
+  present view t = record { state = state_of t.core.now t.term.now; view = view t.port.now }
+
+  -- what comes out when the log is undone
+  abbrev pub undone : (P → View) → Transaction P → Present
+  undone view t = undo_all t.log.items (present view t)
+
+  -- how many more entries the log takes
+  abbrev pub room : Transaction P → ℕ
+  room t = 96 - length t.log.items
+
+  -- the log can be undone
+  abbrev pub IsReady : (P → View) → Transaction P → Type 0
+  IsReady view t = AllowsAll (view t.port.now).areas (view t.port.now).resident t.log.items
+
+  -- the transaction is over the same registers, console and port
+  pub record IsSame (along : P → P → Type 0) (old new : Transaction P) : Type 0 where
+    pub core : new.core.ghost_name ≡ old.core.ghost_name
+    pub term : new.term.ghost_name ≡ old.term.ghost_name
+    pub port : new.port.ghost_name ≡ old.port.ghost_name
+    pub since : (start : P) → along start old.port.now → along start new.port.now
+
+  -- A call leaves the transaction so that undoing its log gives what it gave before, and used at most so many entries.
+  pub record Keeps (view : P → View) (along : P → P → Type 0) (count : ℕ) (old new : Transaction P) : Type 0 where
+    pub undone : undo_all new.log.items (present view new) ≡ undo_all old.log.items (present view old)
+    pub ready : IsReady view old → IsReady view new
+    pub room : room old ≤ room new + count
+    pub same : IsSame along old new

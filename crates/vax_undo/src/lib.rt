@@ -1,0 +1,15 @@
+//! Work on the registers, the console and the memory of a processor that can be undone: what the restart of an instruction stands on.
+//!
+//! A [`Port`] is memory in which pages may be absent. A [`Txn`] does an instruction's work over a port and logs the old value of all that
+//! it changes, so that [`Txn::unwind`] leaves everything as it was.
+#![tactic(auto)]
+
+mod entry;
+mod port;
+mod term;
+mod txn;
+
+pub use crate::port::Port;
+pub use crate::term::Term;
+pub use crate::txn::Txn;
+pub use vax_flat::Stop;

@@ -1,0 +1,69 @@
+//! Memory in which pages may be absent.
+ghost use Rattle.std.specs.Prelude.{◌≡◌, ℕ, ◌+◌, ◌%◌, ◌^◌, ◌<◌, ◌≤◌, length, IfOk, OnOk, OnErr};
+ghost use Rattle.vax_space.specs.Reference.{violation};
+ghost use Rattle.vax_flat.specs.Memory.{bytes_from};
+ghost use Rattle.vax_flat.specs.Port.{View, AreBytes, stop, loaded, stored, stored_run};
+ghost use Rattle.vax_undo.specs.Answers.{err_of};
+
+use vax_flat::Stop;
+use vax_space::{Access, Violation};
+
+/// A memory in which some pages are absent (VAX Architecture Reference Manual, memory management). It shows areas, which of
+/// their pages are resident, and the bytes of these. It stands for every whole memory that has these areas and has these bytes on the
+/// resident pages.
+///
+/// Access modes are 0 kernel, 1 executive, 2 supervisor, 3 user. Numbers are little-endian. A range may cross pages and areas and wraps
+/// at the end of the address space. No call makes a page resident or absent.
+pub trait Port {
+    /// Its areas, its resident pages, and the bytes of these.
+    ghost view: { Self → View };
+
+    /// The second came from the first by calls of this trait alone.
+    ghost since: { Self → Self → Type 0 };
+
+    /// Whether a range of at most 65,536 bytes may be used so, resident or not; else the violation at its first byte that may not.
+    fn check(&self, addr: u32, len: u32, mode: u8, access: Access) -> Result<(), Violation>
+        requires short { len ≤ 65536 }
+        requires of_mode { mode ≤ 3 }
+        ensures { err_of result ≡ violation (view self.now).areas addr len mode access };
+
+    /// The number that `n` bytes are, 1 to 8.
+    fn read(&mut self, addr: u32, n: u32, mode: u8) -> Result<u64, Stop>
+        requires some { 1 ≤ n }
+        requires few { n ≤ 8 }
+        requires of_mode { mode ≤ 3 }
+        ensures answer { result ≡ loaded (view self.old) addr n mode }
+        ensures same { view self.new ≡ view self.old }
+        ensures bytes { AreBytes (view self.old).byte }
+        ensures since { (start : Self) → since start self.old → since start self.new };
+
+    /// Writes the `n` bytes of a number, 1 to 8.
+    fn write(&mut self, addr: u32, n: u32, value: u64, mode: u8) -> Result<(), Stop>
+        requires some { 1 ≤ n }
+        requires few { n ≤ 8 }
+        requires of_mode { mode ≤ 3 }
+        requires fits { value < 256 ^ n }
+        ensures answer { err_of result ≡ stop (view self.old) addr n mode Access.Write }
+        ensures stored { view self.new ≡ stored (view self.old) addr n value mode }
+        ensures since { (start : Self) → since start self.old → since start self.new };
+
+    /// Reads a run of 1 to 512 bytes that lies within one page.
+    fn read_run(&mut self, addr: u32, into: &mut [u8], mode: u8) -> Result<(), Stop>
+        requires some { 1 ≤ length into.old }
+        requires one_page { addr % 512 + length into.old ≤ 512 }
+        requires of_mode { mode ≤ 3 }
+        ensures answer { err_of result ≡ stop (view self.old) addr (length into.old) mode Access.Read }
+        ensures bytes { OnOk result (into.new ≡ bytes_from (view self.old).byte addr (length into.old)) }
+        ensures unread { OnErr result (into.new ≡ into.old) }
+        ensures same { view self.new ≡ view self.old }
+        ensures since { (start : Self) → since start self.old → since start self.new };
+
+    /// Writes a run of 1 to 512 bytes that lies within one page.
+    fn write_run(&mut self, addr: u32, from: &[u8], mode: u8) -> Result<(), Stop>
+        requires some { 1 ≤ length from.now }
+        requires one_page { addr % 512 + length from.now ≤ 512 }
+        requires of_mode { mode ≤ 3 }
+        ensures answer { err_of result ≡ stop (view self.old) addr (length from.now) mode Access.Write }
+        ensures stored { view self.new ≡ stored_run (view self.old) addr from.now mode }
+        ensures since { (start : Self) → since start self.old → since start self.new };
+}

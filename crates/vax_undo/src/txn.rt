@@ -1,0 +1,367 @@
+//! Transactions.
+ghost use Rattle.std.specs.Prelude.{◌≡◌, ℕ, ◌+◌, ◌%◌, ◌^◌, ◌<◌, ◌≤◌, None, Some, length, slice_index, IfOk, OnOk, OnErr};
+ghost use Rattle.vax_undo.specs.Answers.{err_of};
+
+use crate::entry::{Entry, Kept};
+use crate::port::Port;
+use crate::term::Term;
+use arrayvec::ArrayVec;
+use vax_flat::Stop;
+use vax_space::{Access, Violation};
+use vax_word::{Core, Psl};
+
+/// Work on the registers, the console and a port, with a log of the old values of all that it changed.
+///
+/// A transaction ends by [`Txn::commit`] or by [`Txn::unwind`]. Its log takes 96 entries; a call that changes something takes one.
+pub struct Txn<'a, P: Port> {
+    core: &'a mut Core,
+    term: &'a mut Term,
+    port: &'a mut P,
+    log: ArrayVec<Entry, 96>,
+}
+
+/// A register behind a shared reference.
+#[inline]
+fn register_of(core: &Core, n: u8) -> u32
+    requires { n < 16 }
+    ensures { result ≡ slice_index core.now.regs n }
+{
+    core.regs[n as usize]
+}
+
+/// A kept stack pointer behind a shared reference.
+#[inline]
+fn stack_of(core: &Core, i: u8) -> u32
+    requires { i < 5 }
+    ensures { result ≡ slice_index core.now.stacks i }
+{
+    core.stacks[i as usize]
+}
+
+ghost use Rattle.vax_undo.specs.Transaction.{state_of, undo, Allows};
+
+/// Puts the old value of an entry back.
+fn put_back<P: Port>(entry: Entry, core: &mut Core, term: &mut Term, port: &mut P)
+    requires { Allows (P.view port.old).areas (P.view port.old).resident entry.kept entry }
+    ensures state { state_of core.new term.new ≡ (undo entry (record { state = state_of core.old term.old; view = P.view port.old })).state }
+    ensures view { P.view port.new ≡ (undo entry (record { state = state_of core.old term.old; view = P.view port.old })).view }
+    ensures input { term.new.input ≡ term.old.input }
+    ensures since { (start : P) → P.since start port.old → P.since start port.new }
+{
+    match entry.kept {
+        Kept::Register => core.regs[entry.number as usize] = entry.old as u32,
+        Kept::Status => core.psl = Psl(entry.old as u32),
+        Kept::Stack => core.stacks[entry.number as usize] = entry.old as u32,
+        Kept::Requests => core.sisr = entry.old as u16,
+        Kept::Timer => core.iccs = entry.old as u8,
+        Kept::Clock => core.clock = entry.old as u16,
+        Kept::Taken => term.place = entry.old as u32,
+        Kept::Sent => term.out = None,
+        Kept::Bytes => {
+            let _ = port.write(entry.addr, entry.number as u32, entry.old, entry.mode);
+        }
+    }
+}
+
+impl<'a, P: Port> Txn<'a, P> {
+    ghost use Rattle.vax_space.specs.Reference.{violation};
+    ghost use Rattle.vax_flat.specs.State.{register, with_register, with_psl};
+    ghost use Rattle.vax_flat.specs.Memory.{bytes_from};
+    ghost use Rattle.vax_flat.specs.Port.{loaded, stored, stored_run, stop};
+    ghost use Rattle.vax_undo.specs.Transaction.{state_of, present, undone, room, IsReady, IsSame, Keeps, with_state, with_view, with_stack, with_requests, with_timer, with_clock, with_taken, with_sent, next_byte, after_take};
+
+    /// Begins a transaction, at which nothing is sent to the console yet.
+    #[inline]
+    pub fn begin(core: &'a mut Core, term: &'a mut Term, port: &'a mut P) -> Txn<'a, P>
+        requires { term.old.out ≡ None }
+        ensures core { result.core.ghost_name ≡ core.entry.ghost_name }
+        ensures term { result.term.ghost_name ≡ term.entry.ghost_name }
+        ensures port { result.port.ghost_name ≡ port.entry.ghost_name }
+        ensures present { present P.view result ≡ record { state = state_of core.old term.old; view = P.view port.old } }
+        ensures lent { result.port.now ≡ port.old }
+        ensures undone { undone P.view result ≡ present P.view result }
+        ensures room { room result ≡ 96 }
+        ensures ready { IsReady P.view result }
+    {
+        Txn {
+            core,
+            term,
+            port,
+            log: ArrayVec::new(),
+        }
+    }
+
+    /// Register `n`, below 16.
+    #[inline]
+    pub fn reg(&self, n: u8) -> u32
+        requires { n < 16 }
+        ensures { result ≡ register (present P.view self.now).state n }
+    {
+        register_of(self.core, n)
+    }
+
+    /// Sets register `n`, below 16.
+    #[inline]
+    pub fn set_reg(&mut self, n: u8, v: u32)
+        requires of_core { n < 16 }
+        requires room { 1 ≤ room self.old }
+        ensures present { present P.view self.new ≡ with_state (present P.view self.old) (with_register (present P.view self.old).state n v) }
+        ensures keeps { Keeps P.view P.since 1 self.old self.new }
+    {
+        let old = register_of(self.core, n);
+        self.log.push(Entry::of(Kept::Register, n, old as u64));
+        self.core.regs[n as usize] = v;
+    }
+
+    /// The processor status longword.
+    #[inline]
+    pub fn psl(&self) -> Psl
+        ensures { result ≡ (present P.view self.now).state.core.psl }
+    {
+        self.core.psl
+    }
+
+    #[inline]
+    pub fn set_psl(&mut self, v: Psl)
+        requires { 1 ≤ room self.old }
+        ensures present { present P.view self.new ≡ with_state (present P.view self.old) (with_psl (present P.view self.old).state v) }
+        ensures keeps { Keeps P.view P.since 1 self.old self.new }
+    {
+        self.log.push(Entry::of(Kept::Status, 0, self.core.psl.0 as u64));
+        self.core.psl = v;
+    }
+
+    /// The kept pointer of stack `i`, below 5.
+    #[inline]
+    pub fn stack(&self, i: u8) -> u32
+        requires { i < 5 }
+        ensures { result ≡ slice_index (present P.view self.now).state.core.stacks i }
+    {
+        stack_of(self.core, i)
+    }
+
+    #[inline]
+    pub fn set_stack(&mut self, i: u8, v: u32)
+        requires of_core { i < 5 }
+        requires room { 1 ≤ room self.old }
+        ensures present { present P.view self.new ≡ with_state (present P.view self.old) (with_stack (present P.view self.old).state i v) }
+        ensures keeps { Keeps P.view P.since 1 self.old self.new }
+    {
+        let old = stack_of(self.core, i);
+        self.log.push(Entry::of(Kept::Stack, i, old as u64));
+        self.core.stacks[i as usize] = v;
+    }
+
+    /// The software interrupt summary register.
+    #[inline]
+    pub fn sisr(&self) -> u16
+        ensures { result ≡ (present P.view self.now).state.core.sisr }
+    {
+        self.core.sisr
+    }
+
+    #[inline]
+    pub fn set_sisr(&mut self, v: u16)
+        requires { 1 ≤ room self.old }
+        ensures present { present P.view self.new ≡ with_state (present P.view self.old) (with_requests (present P.view self.old).state v) }
+        ensures keeps { Keeps P.view P.since 1 self.old self.new }
+    {
+        self.log.push(Entry::of(Kept::Requests, 0, self.core.sisr as u64));
+        self.core.sisr = v;
+    }
+
+    /// The interval clock's control and status.
+    #[inline]
+    pub fn iccs(&self) -> u8
+        ensures { result ≡ (present P.view self.now).state.core.iccs }
+    {
+        self.core.iccs
+    }
+
+    #[inline]
+    pub fn set_iccs(&mut self, v: u8)
+        requires { 1 ≤ room self.old }
+        ensures present { present P.view self.new ≡ with_state (present P.view self.old) (with_timer (present P.view self.old).state v) }
+        ensures keeps { Keeps P.view P.since 1 self.old self.new }
+    {
+        self.log.push(Entry::of(Kept::Timer, 0, self.core.iccs as u64));
+        self.core.iccs = v;
+    }
+
+    /// The steps that the interval clock has counted.
+    #[inline]
+    pub fn clock(&self) -> u16
+        ensures { result ≡ (present P.view self.now).state.core.clock }
+    {
+        self.core.clock
+    }
+
+    #[inline]
+    pub fn set_clock(&mut self, v: u16)
+        requires { 1 ≤ room self.old }
+        ensures present { present P.view self.new ≡ with_state (present P.view self.old) (with_clock (present P.view self.old).state v) }
+        ensures keeps { Keeps P.view P.since 1 self.old self.new }
+    {
+        self.log.push(Entry::of(Kept::Clock, 0, self.core.clock as u64));
+        self.core.clock = v;
+    }
+
+    /// Takes the next byte of the console's input, if one is left.
+    #[inline]
+    pub fn take(&mut self) -> Option<u8>
+        requires room { 1 ≤ room self.old }
+        requires short { length (present P.view self.old).state.input < 2 ^ 32 }
+        ensures answer { result ≡ next_byte (present P.view self.old).state }
+        ensures present { present P.view self.new ≡ with_state (present P.view self.old) (after_take (present P.view self.old).state) }
+        ensures keeps { Keeps P.view P.since 1 self.old self.new }
+    {
+        let place = self.term.place;
+        if place as usize >= self.term.input.len() {
+            return None;
+        }
+        let byte = self.term.input[place as usize];
+        self.log.push(Entry::of(Kept::Taken, 0, place as u64));
+        self.term.place = place + 1;
+        Some(byte)
+    }
+
+    /// Sends a byte to the console, where none was sent since the transaction began.
+    #[inline]
+    pub fn emit(&mut self, byte: u8)
+        requires room { 1 ≤ room self.old }
+        requires nothing_yet { (present P.view self.old).state.sent ≡ None }
+        ensures present { present P.view self.new ≡ with_state (present P.view self.old) (with_sent (present P.view self.old).state (Some byte)) }
+        ensures keeps { Keeps P.view P.since 1 self.old self.new }
+    {
+        self.log.push(Entry::of(Kept::Sent, 0, 0));
+        self.term.out = Some(byte);
+    }
+
+    /// [`Port::check`].
+    #[inline]
+    pub fn check(&self, addr: u32, len: u32, mode: u8, access: Access) -> Result<(), Violation>
+        requires short { len ≤ 65536 }
+        requires of_mode { mode ≤ 3 }
+        ensures { err_of result ≡ violation (present P.view self.now).view.areas addr len mode access }
+    {
+        self.port.check(addr, len, mode, access)
+    }
+
+    /// [`Port::read`].
+    #[inline]
+    pub fn read(&mut self, addr: u32, n: u32, mode: u8) -> Result<u64, Stop>
+        requires some { 1 ≤ n }
+        requires few { n ≤ 8 }
+        requires of_mode { mode ≤ 3 }
+        ensures answer { result ≡ loaded (present P.view self.old).view addr n mode }
+        ensures fits { IfOk result (λ v. v < 256 ^ n) }
+        ensures present { present P.view self.new ≡ present P.view self.old }
+        ensures keeps { Keeps P.view P.since 0 self.old self.new }
+    {
+        self.port.read(addr, n, mode)
+    }
+
+    /// [`Port::write`], with the old bytes logged.
+    #[inline]
+    pub fn write(&mut self, addr: u32, n: u32, value: u64, mode: u8) -> Result<(), Stop>
+        requires some { 1 ≤ n }
+        requires few { n ≤ 8 }
+        requires of_mode { mode ≤ 3 }
+        requires fits { value < 256 ^ n }
+        requires room { 1 ≤ room self.old }
+        ensures answer { err_of result ≡ stop (present P.view self.old).view addr n mode Access.Write }
+        ensures present { present P.view self.new ≡ with_view (present P.view self.old) (stored (present P.view self.old).view addr n value mode) }
+        ensures keeps { Keeps P.view P.since 1 self.old self.new }
+    {
+        if let Err(violation) = self.port.check(addr, n, mode, Access::Write) {
+            return Err(Stop::Violated(violation));
+        }
+        let old = match self.port.read(addr, n, mode) {
+            Ok(old) => old,
+            Err(stop) => return Err(stop),
+        };
+        match self.port.write(addr, n, value, mode) {
+            Ok(()) => {
+                self.log.push(Entry {
+                    old,
+                    addr,
+                    number: n as u8,
+                    mode,
+                    kept: Kept::Bytes,
+                    spare: 0,
+                });
+                Ok(())
+            }
+            Err(stop) => Err(stop),
+        }
+    }
+
+    /// [`Port::read_run`].
+    #[inline]
+    pub fn read_run(&mut self, addr: u32, into: &mut [u8], mode: u8) -> Result<(), Stop>
+        requires some { 1 ≤ length into.old }
+        requires one_page { addr % 512 + length into.old ≤ 512 }
+        requires of_mode { mode ≤ 3 }
+        ensures answer { err_of result ≡ stop (present P.view self.old).view addr (length into.old) mode Access.Read }
+        ensures bytes { OnOk result (into.new ≡ bytes_from (present P.view self.old).view.byte addr (length into.old)) }
+        ensures unread { OnErr result (into.new ≡ into.old) }
+        ensures present { present P.view self.new ≡ present P.view self.old }
+        ensures keeps { Keeps P.view P.since 0 self.old self.new }
+    {
+        self.port.read_run(addr, into, mode)
+    }
+
+    /// [`Port::write_run`], which isn't logged: it is the transaction's last use of the port, and once it succeeded the transaction
+    /// isn't unwound.
+    #[inline]
+    pub fn write_run(&mut self, addr: u32, from: &[u8], mode: u8) -> Result<(), Stop>
+        requires some { 1 ≤ length from.now }
+        requires one_page { addr % 512 + length from.now ≤ 512 }
+        requires of_mode { mode ≤ 3 }
+        ensures answer { err_of result ≡ stop (present P.view self.old).view addr (length from.now) mode Access.Write }
+        ensures present { present P.view self.new ≡ with_view (present P.view self.old) (stored_run (present P.view self.old).view addr from.now mode) }
+        ensures keeps { OnErr result (Keeps P.view P.since 0 self.old self.new) }
+        ensures room { room self.new ≡ room self.old }
+        ensures same { IsSame P.since self.old self.new }
+    {
+        self.port.write_run(addr, from, mode)
+    }
+
+    /// Keeps all, and hands out the byte that was sent to the console.
+    #[inline]
+    pub fn commit(self) -> Option<u8>
+        ensures core { self.exit.0.now ≡ self.entry.core.now }
+        ensures term { self.exit.1.0.now ≡ record self.entry.term.now { out = None } }
+        ensures port { self.exit.1.1.0.now ≡ self.entry.port.now }
+        ensures sent { result ≡ self.entry.term.now.out }
+    {
+        let Txn {
+            core: _,
+            term,
+            port: _,
+            log: _,
+        } = self;
+        let sent = term.out;
+        term.out = None;
+        sent
+    }
+
+    /// Puts everything back as it was when the transaction began.
+    pub fn unwind(self)
+        requires { IsReady P.view self }
+        ensures state { state_of self.exit.0.now self.exit.1.0.now ≡ (undone P.view self.entry).state }
+        ensures view { P.view self.exit.1.1.0.now ≡ (undone P.view self.entry).view }
+        ensures input { self.exit.1.0.now.input ≡ self.entry.term.now.input }
+        ensures since { (start : P) → P.since start self.entry.port.now → P.since start self.exit.1.1.0.now }
+    {
+        let Txn {
+            core,
+            term,
+            port,
+            mut log,
+        } = self;
+        while let Some(entry) = log.pop() {
+            put_back(entry, core, term, port);
+        }
+    }
+}
