@@ -174,3 +174,24 @@ pub fn emul(a: u32, b: u32, add: u32) -> (u64, Codes)
     let product = extend(Size::L, a as u64) * extend(Size::L, b as u64);
     narrow(Size::Q, product + extend(Size::L, add as u64))
 }
+
+/// The signed quadword `divd` divided by the signed longword `divr`: the quotient, truncated towards 0,
+/// the remainder, which has the dividend's sign, and the codes of the quotient. Where the divisor is 0
+/// or the quotient does not fit a longword, the dividend's low longword and 0, with V 1. C is 0.
+#[inline]
+#[tactic(auto, unfolding(crate::specs::Arithmetic::extended_quotient))]
+pub fn ediv(divr: u32, divd: u64) -> (u32, u32, Codes)
+    ensures { result ≡ extended_quotient divr divd }
+{
+    let dividend = extend(Size::Q, divd);
+    let divisor = extend(Size::L, divr as u64);
+    if let Some(exact) = dividend.checked_div(divisor) {
+        let (quotient, codes) = narrow(Size::L, exact);
+        if !codes.v {
+            let remainder = low(Size::L, (dividend % divisor).cast_unsigned());
+            return (quotient as u32, remainder as u32, codes);
+        }
+    }
+    let (quotient, codes) = result(Size::L, low(Size::L, divd), true, false);
+    (quotient as u32, 0, codes)
+}
