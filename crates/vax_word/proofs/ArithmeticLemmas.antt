@@ -1,4 +1,4 @@
-use Rattle.std.proofs.Common.{◌≡◌, ◌+◌, ◌-◌, ◌*◌, ◌/◌, ◌%◌, ◌^◌, ◌<◌, ◌≤◌, ℕ, zero, suc, ◌⊎◌, inl, inr, Bool, true, false, not, ◌&&◌, ◌||◌, if◌then◌else◌, refl, ◌∙◌, ap, sym, arith, add_assoc, nat_eq, nat_lt, nat_le, ℤ, pos, negsuc, ◌+ℤ◌, ◌-ℤ◌, ◌*ℤ◌, neg_ℤ, unsigned_abs, int_div, lit≤, lit<, ◌≢◌, div-le_self, int_le, int_lt, w64, FitsSigned, to_z, of_z}
+use Rattle.std.proofs.Common.{◌≡◌, ◌+◌, ◌-◌, ◌*◌, ◌/◌, ◌%◌, ◌^◌, ◌<◌, ◌≤◌, ℕ, zero, suc, ◌⊎◌, inl, inr, Bool, true, false, not, ◌&&◌, ◌||◌, if◌then◌else◌, refl, ◌∙◌, ap, sym, arith, add_assoc, nat_eq, nat_lt, nat_le, ℤ, pos, negsuc, ◌+ℤ◌, ◌-ℤ◌, ◌*ℤ◌, neg_ℤ, unsigned_abs, int_div, int_rem, lit≤, lit<, ◌≢◌, div-le_self, int_le, int_lt, w64, FitsSigned, to_z, of_z}
 use Rattle.std.proofs.lemmas.Int.{ints, to_z-of_z, fits_signed_mul, fits_signed_from_abs, unsigned_abs-mul}
 use Rattle.std.proofs.lemmas.Nat.{mul-le}
 use Rattle.std.proofs.lemmas.Bool.Decides.{nat_tests}
@@ -7,7 +7,8 @@ use Rattle.std.specs.Int.{int_rem_euclid, from_bool}
 use Rattle.std.specs.Bool.{beq}
 use Rattle.vax_word.specs.declared.Size.{Size}
 use Rattle.vax_word.specs.declared.Size.TheVariants.{B, W, L, Q}
-use Rattle.vax_word.specs.Arithmetic.{bytes_of, modulus, sign_bit, is_negative, signed, low_bits, fits_signed, fits_unsigned, answer, signed_answer, sum, difference, quotient}
+use Rattle.vax_word.specs.declared.Codes.{Codes}
+use Rattle.vax_word.specs.Arithmetic.{bytes_of, modulus, sign_bit, is_negative, signed, low_bits, fits_signed, fits_unsigned, answer, signed_answer, sum, difference, quotient, extended_quotient}
 
 -- what the code's two shifts make of an operand
 pub shifts_extend : (s : Size) (x : ℕ) → x < modulus s →
@@ -249,3 +250,54 @@ quotient_answer s a b below e =
     let q : ℤ = int_div (signed s a) (signed s b) in
     quotient_by_fit s a q (fits_signed s q) refl below (abs-int_div (signed s a) (signed s b))
     ∙ ap (λ zero_divisor. if zero_divisor || not (fits_signed s q) then answer s a true false else signed_answer s q) (sym e)
+
+-- ---- extended quotients
+
+fits_longword : (z : ℤ) → fits_signed L z ≡ true → FitsSigned w64 z
+unfolding fits_signed
+fits_longword (pos n) e = record { sfits = grind (arith, ints, nat_tests) }
+fits_longword (negsuc n) e = record { sfits = grind (arith, ints, nat_tests) }
+
+pub divisor_nonzero : (b : ℕ) → 0 < of_z w64 (signed L b) → nat_eq b 0 ≡ false
+unfolding signed
+divisor_nonzero b h = grind (arith, ints, nat_tests)
+
+cannot_by_tests : (b : ℕ) (q : ℤ) (is_zero fits : Bool) → nat_eq b 0 ≡ is_zero → fits_signed L q ≡ fits → b < modulus L →
+    ¬ ((0 < of_z w64 (signed L b)) × FitsSigned w64 q) → nat_eq b 0 || not (fits_signed L q) ≡ true
+cannot_by_tests b q true fits z f below cannot = ap (λ t. t || not (fits_signed L q)) z
+cannot_by_tests b q false false z f below cannot = ap (λ t. t || not (fits_signed L q)) z ∙ ap not f
+cannot_by_tests b q false true z f below cannot = absurd (cannot (signed_nonzero L b below z, fits_longword q f))
+
+pub cannot_divide : (b : ℕ) (q : ℤ) → b < modulus L → ¬ ((0 < of_z w64 (signed L b)) × FitsSigned w64 q) → nat_eq b 0 || not (fits_signed L q) ≡ true
+cannot_divide b q below cannot = cannot_by_tests b q _ _ refl refl below cannot
+
+-- where the quotient does not fit
+pub extended_overflow : (b a : ℕ) → nat_eq b 0 || not (fits_signed L (int_div (signed Q a) (signed L b))) ≡ true →
+    (r : ℕ × Codes) → r ≡ answer L (a % modulus L) true false → (r.0, 0, r.1) ≡ extended_quotient b a
+unfolding extended_quotient
+extended_overflow b a e r is =
+    let q : ℤ = int_div (signed Q a) (signed L b) in
+    let low : ℕ × Codes = answer L (a % modulus L) true false in
+    let whole : ℕ × Codes = signed_answer L q in
+    ap (λ (r : ℕ × Codes). (r.0, 0, r.1)) is
+    ∙ ap (λ t. if t then (low.0, 0, low.1) else (whole.0, low_bits L (int_rem (signed Q a) (signed L b)), whole.1)) (sym e)
+
+-- where it fits
+pub extended_fit : (b a : ℕ) → nat_eq b 0 || not (fits_signed L (int_div (signed Q a) (signed L b))) ≡ false →
+    (r : ℕ × Codes) (m : ℕ) → r ≡ signed_answer L (int_div (signed Q a) (signed L b)) → m ≡ low_bits L (int_rem (signed Q a) (signed L b)) → (r.0, m, r.1) ≡ extended_quotient b a
+unfolding extended_quotient
+extended_fit b a e r m is rest =
+    let q : ℤ = int_div (signed Q a) (signed L b) in
+    let low : ℕ × Codes = answer L (a % modulus L) true false in
+    let whole : ℕ × Codes = signed_answer L q in
+    ap (λ (r : ℕ × Codes). (r.0, m, r.1)) is ∙ ap (λ (k : ℕ). (whole.0, k, whole.1)) rest
+    ∙ ap (λ t. if t then (low.0, 0, low.1) else (whole.0, low_bits L (int_rem (signed Q a) (signed L b)), whole.1)) (sym e)
+
+pub or-of_not : (a b : Bool) → not b ≡ false → a || b ≡ true
+or-of_not true b e = refl
+or-of_not false true e = refl
+or-of_not false false e = sym e
+
+pub not-true : (b : Bool) → not b ≡ true → b ≡ false
+not-true true e = sym e
+not-true false e = refl
