@@ -1,0 +1,303 @@
+use Rattle.std.proofs.Common.{◌≡◌, ◌+◌, ◌-◌, ◌*◌, ◌/◌, ◌%◌, ◌^◌, ◌<◌, ◌≤◌, ℕ, zero, suc, ◌⊎◌, inl, inr, Bool, true, false, not, ◌&&◌, ◌||◌, if◌then◌else◌, refl, ◌∙◌, ap, sym, arith, add_assoc, nat_eq, nat_lt, nat_le, ℤ, pos, negsuc, ◌+ℤ◌, ◌-ℤ◌, ◌*ℤ◌, neg_ℤ, unsigned_abs, int_div, int_rem, lit≤, lit<, ◌≢◌, div-le_self, int_le, int_lt, w64, FitsSigned, to_z, of_z}
+use Rattle.std.proofs.lemmas.Int.{ints, to_z-of_z, fits_signed_mul, fits_signed_from_abs, unsigned_abs-mul}
+use Rattle.std.proofs.lemmas.Nat.{mul-le}
+use Rattle.std.proofs.lemmas.Bool.Decides.{nat_tests}
+use Rattle.std.specs.Int.Signed.{shr_z}
+use Rattle.std.specs.Int.{int_rem_euclid, from_bool}
+use Rattle.std.specs.Bool.{beq}
+use Rattle.vax_word.specs.declared.Size.{Size}
+use Rattle.vax_word.specs.declared.Size.TheVariants.{B, W, L, Q}
+use Rattle.vax_word.specs.declared.Codes.{Codes}
+use Rattle.vax_word.specs.Arithmetic.{bytes_of, modulus, sign_bit, is_negative, signed, low_bits, fits_signed, fits_unsigned, answer, signed_answer, sum, difference, quotient, extended_quotient}
+
+-- what the code's two shifts make of an operand
+pub shifts_extend : (s : Size) (x : ℕ) → x < modulus s →
+    shr_z (to_z w64 (x * 2 ^ (64 - 8 * bytes_of s) % 18446744073709551616)) (2 ^ (64 - 8 * bytes_of s)) ≡ signed s x
+unfolding signed
+shifts_extend B x h = grind (arith, ints, nat_tests)
+shifts_extend W x h = grind (arith, ints, nat_tests)
+shifts_extend L x h = grind (arith, ints, nat_tests)
+shifts_extend Q x h = grind (arith, ints, nat_tests)
+
+pub low_of_cast : (s : Size) (z : ℤ) → FitsSigned w64 z → of_z w64 z % modulus s ≡ low_bits s z
+unfolding low_bits
+low_of_cast s (pos n) h = refl
+low_of_cast B (negsuc n) h = omega (arith, h.sfits)
+low_of_cast W (negsuc n) h = omega (arith, h.sfits)
+low_of_cast L (negsuc n) h = omega (arith, h.sfits)
+low_of_cast Q (negsuc n) h = omega (arith, h.sfits)
+
+-- V of a sum: both operands have one sign, and the result has the other
+sum_fits : (h a b c r : ℕ) → a < 2 * h → b < 2 * h → c < 2 → (r ≡ a + b + c) ⊎ (r + 2 * h ≡ a + b + c) → r < 2 * h →
+    let exact : ℤ = (if nat_le h a then pos a -ℤ pos (2 * h) else pos a) +ℤ (if nat_le h b then pos b -ℤ pos (2 * h) else pos b) +ℤ pos c in
+    int_le (neg_ℤ (pos h)) exact && int_lt exact (pos h)
+    ≡ (if nat_le h a then (if nat_le h b then nat_le h r else true) else (if nat_le h b then true else not (nat_le h r)))
+sum_fits h a b c r ha hb hc hr r_below = grind (arith, ints, nat_tests)
+
+sum_signs : (a b r : Bool) → beq a b && not (beq r a) ≡ not (if a then (if b then r else true) else (if b then true else not r))
+sum_signs true true true = refl
+sum_signs true true false = refl
+sum_signs true false true = refl
+sum_signs true false false = refl
+sum_signs false true true = refl
+sum_signs false true false = refl
+sum_signs false false true = refl
+sum_signs false false false = refl
+
+pub sum_overflows : (s : Size) (a b c r : ℕ) → a < modulus s → b < modulus s → c < 2 → (r ≡ a + b + c) ⊎ (r + modulus s ≡ a + b + c) → r < modulus s →
+    beq (is_negative s a) (is_negative s b) && not (beq (is_negative s r) (is_negative s a)) ≡ not (fits_signed s (signed s a +ℤ signed s b +ℤ pos c))
+unfolding signed fits_signed
+sum_overflows B a b c r ha hb hc hr below = sum_signs _ _ _ ∙ ap not (sym (sum_fits 128 a b c r ha hb hc hr below))
+sum_overflows W a b c r ha hb hc hr below = sum_signs _ _ _ ∙ ap not (sym (sum_fits 32768 a b c r ha hb hc hr below))
+sum_overflows L a b c r ha hb hc hr below = sum_signs _ _ _ ∙ ap not (sym (sum_fits 2147483648 a b c r ha hb hc hr below))
+sum_overflows Q a b c r ha hb hc hr below = sum_signs _ _ _ ∙ ap not (sym (sum_fits 9223372036854775808 a b c r ha hb hc hr below))
+
+-- C of a sum: the result is below an operand, or is that operand and a carry came in
+sum_carries : (m a b r : ℕ) (carry : Bool) → a < m → b < m → (r ≡ a + b + from_bool carry) ⊎ (r + m ≡ a + b + from_bool carry) → r < m →
+    nat_lt r a || (carry && nat_eq r a) ≡ not (int_le (pos 0) (pos (a + b + from_bool carry)) && int_lt (pos (a + b + from_bool carry)) (pos m))
+sum_carries m a b r true ha hb hr r_below = grind (arith, ints, nat_tests)
+sum_carries m a b r false ha hb hr r_below = grind (arith, ints, nat_tests)
+
+-- V of a difference: the operands' signs differ, and the result's is not the first's
+difference_fits_above : (h a b c r : ℕ) → a < 2 * h → b < 2 * h → c < 2 → r + b + c ≡ a →
+    let exact : ℤ = (if nat_le h a then pos a -ℤ pos (2 * h) else pos a) -ℤ (if nat_le h b then pos b -ℤ pos (2 * h) else pos b) -ℤ pos c in
+    int_le (neg_ℤ (pos h)) exact && int_lt exact (pos h)
+    ≡ (if nat_le h a then (if nat_le h b then true else nat_le h r) else (if nat_le h b then not (nat_le h r) else true))
+difference_fits_above h a b c r ha hb hc hr = grind (arith, ints, nat_tests)
+
+difference_fits_below : (h a b c r : ℕ) → a < 2 * h → b < 2 * h → c < 2 → r + b + c ≡ a + 2 * h → r < 2 * h →
+    let exact : ℤ = (if nat_le h a then pos a -ℤ pos (2 * h) else pos a) -ℤ (if nat_le h b then pos b -ℤ pos (2 * h) else pos b) -ℤ pos c in
+    int_le (neg_ℤ (pos h)) exact && int_lt exact (pos h)
+    ≡ (if nat_le h a then (if nat_le h b then true else nat_le h r) else (if nat_le h b then not (nat_le h r) else true))
+difference_fits_below h a b c r ha hb hc hr r_below = grind (arith, ints, nat_tests)
+
+difference_fits : (h a b c r : ℕ) → a < 2 * h → b < 2 * h → c < 2 → (r + b + c ≡ a) ⊎ (r + b + c ≡ a + 2 * h) → r < 2 * h →
+    let exact : ℤ = (if nat_le h a then pos a -ℤ pos (2 * h) else pos a) -ℤ (if nat_le h b then pos b -ℤ pos (2 * h) else pos b) -ℤ pos c in
+    int_le (neg_ℤ (pos h)) exact && int_lt exact (pos h)
+    ≡ (if nat_le h a then (if nat_le h b then true else nat_le h r) else (if nat_le h b then not (nat_le h r) else true))
+difference_fits h a b c r ha hb hc (inl e) r_below = difference_fits_above h a b c r ha hb hc e
+difference_fits h a b c r ha hb hc (inr e) r_below = difference_fits_below h a b c r ha hb hc e r_below
+
+difference_signs : (a b r : Bool) → not (beq a b) && not (beq r a) ≡ not (if a then (if b then true else r) else (if b then not r else true))
+difference_signs true true true = refl
+difference_signs true true false = refl
+difference_signs true false true = refl
+difference_signs true false false = refl
+difference_signs false true true = refl
+difference_signs false true false = refl
+difference_signs false false true = refl
+difference_signs false false false = refl
+
+pub difference_overflows : (s : Size) (a b c r : ℕ) → a < modulus s → b < modulus s → c < 2 → (r + b + c ≡ a) ⊎ (r + b + c ≡ a + modulus s) → r < modulus s →
+    not (beq (is_negative s a) (is_negative s b)) && not (beq (is_negative s r) (is_negative s a)) ≡ not (fits_signed s (signed s a -ℤ signed s b -ℤ pos c))
+unfolding signed fits_signed
+difference_overflows B a b c r ha hb hc hr below = difference_signs _ _ _ ∙ ap not (sym (difference_fits 128 a b c r ha hb hc hr below))
+difference_overflows W a b c r ha hb hc hr below = difference_signs _ _ _ ∙ ap not (sym (difference_fits 32768 a b c r ha hb hc hr below))
+difference_overflows L a b c r ha hb hc hr below = difference_signs _ _ _ ∙ ap not (sym (difference_fits 2147483648 a b c r ha hb hc hr below))
+difference_overflows Q a b c r ha hb hc hr below = difference_signs _ _ _ ∙ ap not (sym (difference_fits 9223372036854775808 a b c r ha hb hc hr below))
+
+-- C of a difference: the first operand is the lesser, or they are equal and a borrow came in
+difference_borrows : (m a b : ℕ) (borrow : Bool) → a < m → b < m →
+    let exact : ℤ = pos a -ℤ pos (b + from_bool borrow) in
+    nat_lt a b || (borrow && nat_eq a b) ≡ not (int_le (pos 0) exact && int_lt exact (pos m))
+difference_borrows m a b true ha hb = grind (arith, ints, nat_tests)
+difference_borrows m a b false ha hb = grind (arith, ints, nat_tests)
+
+-- what the code's wrapping sum and mask make
+sum_low : (s : Size) (a b c : ℕ) → ((a + b) % 18446744073709551616 + c) % 18446744073709551616 % modulus s ≡ (a + b + c) % modulus s
+sum_low B a b c = omega arith
+sum_low W a b c = omega arith
+sum_low L a b c = omega arith
+sum_low Q a b c = omega arith
+
+sum_low_cases : (s : Size) (a b c : ℕ) → a < modulus s → b < modulus s → c < 2 →
+    ((a + b + c) % modulus s ≡ a + b + c) ⊎ ((a + b + c) % modulus s + modulus s ≡ a + b + c)
+sum_low_cases B a b c ha hb hc = grind arith
+sum_low_cases W a b c ha hb hc = grind arith
+sum_low_cases L a b c ha hb hc = grind arith
+sum_low_cases Q a b c ha hb hc = grind arith
+
+difference_low : (s : Size) (a b c : ℕ) → a < modulus s → b < modulus s → c < 2 →
+    let r : ℕ = ((a + (18446744073709551616 - b)) % 18446744073709551616 + (18446744073709551616 - c)) % 18446744073709551616 % modulus s in
+    (r + b + c ≡ a) ⊎ (r + b + c ≡ a + modulus s)
+difference_low B a b c ha hb hc = grind arith
+difference_low W a b c ha hb hc = grind arith
+difference_low L a b c ha hb hc = grind arith
+difference_low Q a b c ha hb hc = grind arith
+
+difference_low_bits : (s : Size) (a n r : ℕ) → r < modulus s → (r + n ≡ a) ⊎ (r + n ≡ a + modulus s) → r ≡ low_bits s (pos a -ℤ pos n)
+unfolding low_bits
+difference_low_bits B a n r below h = grind (arith, ints, nat_tests)
+difference_low_bits W a n r below h = grind (arith, ints, nat_tests)
+difference_low_bits L a n r below h = grind (arith, ints, nat_tests)
+difference_low_bits Q a n r below h = grind (arith, ints, nat_tests)
+
+from_bool_below : (b : Bool) → from_bool b < 2
+from_bool_below true = omega arith
+from_bool_below false = omega arith
+
+-- the code's sum is the definition's
+pub sum_answer : (s : Size) (a b : ℕ) (carry : Bool) (r : ℕ) → a < modulus s → b < modulus s → r < modulus s →
+    r ≡ ((a + b) % 18446744073709551616 + from_bool carry) % 18446744073709551616 % modulus s →
+    answer s r (beq (is_negative s a) (is_negative s b) && not (beq (is_negative s r) (is_negative s a))) (nat_lt r a || (carry && nat_eq r a)) ≡ sum s a b carry
+unfolding sum low_bits fits_unsigned
+sum_answer s a b carry r ha hb below made =
+    let c : ℕ = from_bool carry in
+    let low : r ≡ (a + b + c) % modulus s = made ∙ sum_low s a b c in
+    let cases : (r ≡ a + b + c) ⊎ (r + modulus s ≡ a + b + c) = rw low (sum_low_cases s a b c ha hb (from_bool_below carry)) in
+    let v = sum_overflows s a b c r ha hb (from_bool_below carry) cases below in
+    let carried = sum_carries (modulus s) a b r carry ha hb cases below in
+    cc
+
+-- the code's difference is the definition's
+pub difference_answer : (s : Size) (a b : ℕ) (borrow : Bool) (r : ℕ) → a < modulus s → b < modulus s → r < modulus s →
+    r ≡ ((a + (18446744073709551616 - b)) % 18446744073709551616 + (18446744073709551616 - from_bool borrow)) % 18446744073709551616 % modulus s →
+    answer s r (not (beq (is_negative s a) (is_negative s b)) && not (beq (is_negative s r) (is_negative s a))) (nat_lt a b || (borrow && nat_eq a b)) ≡ difference s a b borrow
+unfolding difference fits_unsigned
+difference_answer s a b borrow r ha hb below made =
+    let c : ℕ = from_bool borrow in
+    let cases : (r + b + c ≡ a) ⊎ (r + b + c ≡ a + modulus s) = rw made (difference_low s a b c ha hb (from_bool_below borrow)) in
+    let grouped : (r + (b + c) ≡ a) ⊎ (r + (b + c) ≡ a + modulus s) = rw (← add_assoc) cases in
+    let low = difference_low_bits s a (b + c) r below grouped in
+    let v = difference_overflows s a b c r ha hb (from_bool_below borrow) cases below in
+    let borrowed = difference_borrows (modulus s) a b borrow ha hb in
+    cc
+
+pub overflow_seen : (s : Size) (z : ℤ) → FitsSigned w64 z → nat_eq (of_z w64 (signed s (low_bits s z))) (of_z w64 z) ≡ fits_signed s z
+unfolding signed low_bits fits_signed
+overflow_seen B (pos n) h = let f = h.sfits in grind (arith, ints, nat_tests)
+overflow_seen B (negsuc n) h = let f = h.sfits in grind (arith, ints, nat_tests)
+overflow_seen W (pos n) h = let f = h.sfits in grind (arith, ints, nat_tests)
+overflow_seen W (negsuc n) h = let f = h.sfits in grind (arith, ints, nat_tests)
+overflow_seen L (pos n) h = let f = h.sfits in grind (arith, ints, nat_tests)
+overflow_seen L (negsuc n) h = let f = h.sfits in grind (arith, ints, nat_tests)
+overflow_seen Q (pos n) h = let f = h.sfits in grind (arith, ints, nat_tests)
+overflow_seen Q (negsuc n) h = let f = h.sfits in grind (arith, ints, nat_tests)
+
+-- ---- products
+
+pub fits_quadword : (z : ℤ) → FitsSigned w64 z → fits_signed Q z ≡ true
+unfolding fits_signed
+fits_quadword (pos n) h = let f = h.sfits in grind (arith, ints, nat_tests)
+fits_quadword (negsuc n) h = let f = h.sfits in grind (arith, ints, nat_tests)
+
+pub signed_answer-v : (s : Size) (z : ℤ) → (signed_answer s z).1.v ≡ not (fits_signed s z)
+unfolding signed_answer answer
+signed_answer-v s z = refl
+
+abs-sum : (a b : ℤ) → unsigned_abs (a +ℤ b) ≤ unsigned_abs a + unsigned_abs b
+abs-sum (pos a) (pos b) = omega arith
+abs-sum (pos a) (negsuc b) = grind (arith, ints, nat_tests)
+abs-sum (negsuc a) (pos b) = grind (arith, ints, nat_tests)
+abs-sum (negsuc a) (negsuc b) = omega arith
+
+-- a product of longwords fits a quadword, also with a longword added
+pub product_fits : (x y : ℤ) → unsigned_abs x ≤ 2147483648 → unsigned_abs y ≤ 2147483648 → FitsSigned w64 (x *ℤ y)
+product_fits x y hx hy = fits_signed_mul w64 x y 2147483648 2147483648 hx hy (lit< tt)
+
+pub extended_product_fits : (x y z : ℤ) → unsigned_abs x ≤ 2147483648 → unsigned_abs y ≤ 2147483648 → unsigned_abs z ≤ 2147483648 → FitsSigned w64 (x *ℤ y +ℤ z)
+extended_product_fits x y z hx hy hz =
+    let size : unsigned_abs (x *ℤ y) ≤ 2147483648 * 2147483648 = rw unsigned_abs-mul (mul-le _ _ _ _ hx hy) in
+    fits_signed_from_abs w64 _ (omega (arith, abs-sum (x *ℤ y) z))
+
+-- ---- quotients
+
+abs-neg : (n : ℕ) → unsigned_abs (neg_ℤ (pos n)) ≡ n
+abs-neg zero = refl
+abs-neg (suc n) = refl
+
+pub abs-int_div : (a d : ℤ) → unsigned_abs (int_div a d) ≤ unsigned_abs a
+abs-int_div (pos a) (pos b) = omega (arith, div-le_self a b)
+abs-int_div (pos a) (negsuc b) = omega (arith, abs-neg (a / suc b), div-le_self a (suc b))
+abs-int_div (negsuc a) (pos b) = omega (arith, abs-neg (suc a / b), div-le_self (suc a) b)
+abs-int_div (negsuc a) (negsuc b) = omega (arith, div-le_self (suc a) (suc b))
+
+pub short_sign_bit : (s : Size) → s ≢ Q → sign_bit s ≤ 2147483648
+short_sign_bit B h = lit≤ tt
+short_sign_bit W h = lit≤ tt
+short_sign_bit L h = lit≤ tt
+short_sign_bit Q h = absurd (h refl)
+
+pub signed_nonzero : (s : Size) (x : ℕ) → x < modulus s → nat_eq x 0 ≡ false → 0 < of_z w64 (signed s x)
+unfolding signed
+signed_nonzero B x h e = grind (arith, ints, nat_tests)
+signed_nonzero W x h e = grind (arith, ints, nat_tests)
+signed_nonzero L x h e = grind (arith, ints, nat_tests)
+signed_nonzero Q x h e = grind (arith, ints, nat_tests)
+
+-- a quotient that does not fit is that of the least dividend by -1, and its low bits are the dividend
+overflow_low : (s : Size) (a : ℕ) (q : ℤ) → a < modulus s → unsigned_abs q ≤ unsigned_abs (signed s a) → fits_signed s q ≡ false → low_bits s q ≡ a
+unfolding signed low_bits fits_signed
+overflow_low B a (pos n) below h e = grind (arith, ints, nat_tests)
+overflow_low B a (negsuc n) below h e = grind (arith, ints, nat_tests)
+overflow_low W a (pos n) below h e = grind (arith, ints, nat_tests)
+overflow_low W a (negsuc n) below h e = grind (arith, ints, nat_tests)
+overflow_low L a (pos n) below h e = grind (arith, ints, nat_tests)
+overflow_low L a (negsuc n) below h e = grind (arith, ints, nat_tests)
+overflow_low Q a (pos n) below h e = grind (arith, ints, nat_tests)
+overflow_low Q a (negsuc n) below h e = grind (arith, ints, nat_tests)
+
+quotient_by_fit : (s : Size) (a : ℕ) (q : ℤ) (fits : Bool) → fits_signed s q ≡ fits → a < modulus s → unsigned_abs q ≤ unsigned_abs (signed s a) →
+    signed_answer s q ≡ (if not fits then answer s a true false else signed_answer s q)
+unfolding signed_answer
+quotient_by_fit s a q true e below h = refl
+quotient_by_fit s a q false e below h = ap (λ r. answer s r (not (fits_signed s q)) false) (overflow_low s a q below h e) ∙ ap (λ f. answer s a (not f) false) e
+
+pub quotient_answer : (s : Size) (a b : ℕ) → a < modulus s → nat_eq b 0 ≡ false →
+    signed_answer s (int_div (signed s a) (signed s b)) ≡ quotient s a b
+unfolding quotient
+quotient_answer s a b below e =
+    let q : ℤ = int_div (signed s a) (signed s b) in
+    quotient_by_fit s a q (fits_signed s q) refl below (abs-int_div (signed s a) (signed s b))
+    ∙ ap (λ zero_divisor. if zero_divisor || not (fits_signed s q) then answer s a true false else signed_answer s q) (sym e)
+
+-- ---- extended quotients
+
+fits_longword : (z : ℤ) → fits_signed L z ≡ true → FitsSigned w64 z
+unfolding fits_signed
+fits_longword (pos n) e = record { sfits = grind (arith, ints, nat_tests) }
+fits_longword (negsuc n) e = record { sfits = grind (arith, ints, nat_tests) }
+
+pub divisor_nonzero : (b : ℕ) → 0 < of_z w64 (signed L b) → nat_eq b 0 ≡ false
+unfolding signed
+divisor_nonzero b h = grind (arith, ints, nat_tests)
+
+cannot_by_tests : (b : ℕ) (q : ℤ) (is_zero fits : Bool) → nat_eq b 0 ≡ is_zero → fits_signed L q ≡ fits → b < modulus L →
+    ¬ ((0 < of_z w64 (signed L b)) × FitsSigned w64 q) → nat_eq b 0 || not (fits_signed L q) ≡ true
+cannot_by_tests b q true fits z f below cannot = ap (λ t. t || not (fits_signed L q)) z
+cannot_by_tests b q false false z f below cannot = ap (λ t. t || not (fits_signed L q)) z ∙ ap not f
+cannot_by_tests b q false true z f below cannot = absurd (cannot (signed_nonzero L b below z, fits_longword q f))
+
+pub cannot_divide : (b : ℕ) (q : ℤ) → b < modulus L → ¬ ((0 < of_z w64 (signed L b)) × FitsSigned w64 q) → nat_eq b 0 || not (fits_signed L q) ≡ true
+cannot_divide b q below cannot = cannot_by_tests b q _ _ refl refl below cannot
+
+-- where the quotient does not fit
+pub extended_overflow : (b a : ℕ) → nat_eq b 0 || not (fits_signed L (int_div (signed Q a) (signed L b))) ≡ true →
+    (r : ℕ × Codes) → r ≡ answer L (a % modulus L) true false → (r.0, 0, r.1) ≡ extended_quotient b a
+unfolding extended_quotient
+extended_overflow b a e r is =
+    let q : ℤ = int_div (signed Q a) (signed L b) in
+    let low : ℕ × Codes = answer L (a % modulus L) true false in
+    let whole : ℕ × Codes = signed_answer L q in
+    ap (λ (r : ℕ × Codes). (r.0, 0, r.1)) is
+    ∙ ap (λ t. if t then (low.0, 0, low.1) else (whole.0, low_bits L (int_rem (signed Q a) (signed L b)), whole.1)) (sym e)
+
+-- where it fits
+pub extended_fit : (b a : ℕ) → nat_eq b 0 || not (fits_signed L (int_div (signed Q a) (signed L b))) ≡ false →
+    (r : ℕ × Codes) (m : ℕ) → r ≡ signed_answer L (int_div (signed Q a) (signed L b)) → m ≡ low_bits L (int_rem (signed Q a) (signed L b)) → (r.0, m, r.1) ≡ extended_quotient b a
+unfolding extended_quotient
+extended_fit b a e r m is rest =
+    let q : ℤ = int_div (signed Q a) (signed L b) in
+    let low : ℕ × Codes = answer L (a % modulus L) true false in
+    let whole : ℕ × Codes = signed_answer L q in
+    ap (λ (r : ℕ × Codes). (r.0, m, r.1)) is ∙ ap (λ (k : ℕ). (whole.0, k, whole.1)) rest
+    ∙ ap (λ t. if t then (low.0, 0, low.1) else (whole.0, low_bits L (int_rem (signed Q a) (signed L b)), whole.1)) (sym e)
+
+pub or-of_not : (a b : Bool) → not b ≡ false → a || b ≡ true
+or-of_not true b e = refl
+or-of_not false true e = refl
+or-of_not false false e = sym e
+
+pub not-true : (b : Bool) → not b ≡ true → b ≡ false
+not-true true e = sym e
+not-true false e = refl
