@@ -2,3 +2,4 @@ pub mod Bytes
 pub mod Alike
 pub mod Memory
 pub mod Standing
+pub mod Leaves

@@ -3,7 +3,7 @@ use Rattle.std.specs.Prelude.{ℕ, Option, List, slice_index, slice_set}
 use Rattle.vax_word.specs.declared.Core.{Core}
 use Rattle.vax_word.specs.declared.Codes.{Codes}
 use Rattle.vax_word.specs.declared.Psl.{Psl}
-use Rattle.vax_word.specs.Status.{mode_of, with_codes}
+use Rattle.vax_word.specs.Status.{mode_of, ipl_of, with_codes}
 
 -- the registers; the console's input, with the number of its bytes taken; and the byte that this instruction sent to the console
 pub record State : Type 0 where
@@ -29,3 +29,27 @@ with_psl s psl = record s { core = record s.core { psl = psl } }
 -- other condition codes, and the rest of the status as it was
 abbrev pub with_conditions : State → Codes → State
 with_conditions s codes = with_psl s (with_codes s.core.psl codes)
+
+-- the interrupt priority level
+abbrev pub priority : State → ℕ
+priority s = ipl_of s.core.psl
+
+abbrev pub with_stack : State → ℕ → ℕ → State
+with_stack s n value = record s { core = record s.core { stacks = slice_set s.core.stacks n value } }
+
+-- the software interrupt requests, one bit a level
+abbrev pub with_requests : State → ℕ → State
+with_requests s value = record s { core = record s.core { sisr = value } }
+
+-- the interval clock's control and status, and its count
+abbrev pub with_timer : State → ℕ → State
+with_timer s value = record s { core = record s.core { iccs = value } }
+
+abbrev pub with_clock : State → ℕ → State
+with_clock s value = record s { core = record s.core { clock = value } }
+
+abbrev pub with_taken : State → ℕ → State
+with_taken s place = record s { taken = place }
+
+abbrev pub with_sent : State → Option ℕ → State
+with_sent s byte = record s { sent = byte }

@@ -45,6 +45,30 @@ pub enum Ending {
     Unbuilt,
 }
 
+/// The form of an operand specifier, as its first byte has it: the mode in bits 7:4, a register in bits 3:0
+/// (VAX Architecture Reference Manual, operand specifier addressing mode formats).
+#[derive(Clone, Copy, Debug, PartialEq, Eq)]
+pub enum Form {
+    /// `S^#`: the six bits of a literal.
+    Literal(u8),
+    /// `[Rx]`: the prefix of an index, which a base specifier follows.
+    Index(u8),
+    /// `Rn`.
+    Register(u8),
+    /// `(Rn)`.
+    Deferred(u8),
+    /// `-(Rn)`.
+    Decrement(u8),
+    /// `(Rn)+`, and `I^#` with PC.
+    Increment(u8),
+    /// `@(Rn)+`, and `@#` with PC.
+    IncrementDeferred(u8),
+    /// `e(Rn)` with a displacement of so many bytes.
+    Displacement { width: u8, register: u8 },
+    /// `@e(Rn)`.
+    DisplacementDeferred { width: u8, register: u8 },
+}
+
 /// Where an operand is, or what it is.
 #[derive(Clone, Copy, Debug, PartialEq, Eq)]
 pub enum Operand {

@@ -4,7 +4,7 @@ use Rattle.vax_word.specs.declared.Core.{Core}
 use Rattle.vax_space.specs.declared.Access.TheVariants.{Write}
 use Rattle.vax_space.specs.declared.Area.{Area}
 use Rattle.vax_space.specs.Reference.{violation}
-use Rattle.vax_flat.specs.State.{State, with_register, with_psl}
+use Rattle.vax_flat.specs.State.{State, with_register, with_psl, with_stack, with_requests, with_timer, with_clock, with_taken, with_sent}
 use Rattle.vax_flat.specs.Port.{View, first_absent, with_number}
 use Rattle.vax_flat.specs.OverPort.{Present}
 use Rattle.vax_undo.specs.declared.entry.Entry.{Entry}
@@ -22,24 +22,6 @@ with_state p s = record { state = s; view = p.view }
 
 abbrev pub with_view : Present → View → Present
 with_view p v = record { state = p.state; view = v }
-
-abbrev pub with_stack : State → ℕ → ℕ → State
-with_stack s n value = record s { core = record s.core { stacks = slice_set s.core.stacks n value } }
-
-abbrev pub with_requests : State → ℕ → State
-with_requests s value = record s { core = record s.core { sisr = value } }
-
-abbrev pub with_timer : State → ℕ → State
-with_timer s value = record s { core = record s.core { iccs = value } }
-
-abbrev pub with_clock : State → ℕ → State
-with_clock s value = record s { core = record s.core { clock = value } }
-
-abbrev pub with_taken : State → ℕ → State
-with_taken s place = record s { taken = place }
-
-abbrev pub with_sent : State → Option ℕ → State
-with_sent s byte = record s { sent = byte }
 
 -- the next byte of the console's input, and the state once it is taken
 abbrev pub next_byte : State → Option ℕ

@@ -65,10 +65,10 @@ fn put_back<P: Port>(entry: Entry, core: &mut Core, term: &mut Term, port: &mut 
 
 impl<'a, P: Port> Txn<'a, P> {
     ghost use Rattle.vax_space.specs.Reference.{violation};
-    ghost use Rattle.vax_flat.specs.State.{register, with_register, with_psl};
+    ghost use Rattle.vax_flat.specs.State.{register, with_register, with_psl, with_stack, with_requests, with_timer, with_clock, with_taken, with_sent};
     ghost use Rattle.vax_flat.specs.Memory.{bytes_from};
     ghost use Rattle.vax_flat.specs.Port.{loaded, stored, stored_run, stop};
-    ghost use Rattle.vax_undo.specs.Transaction.{state_of, present, undone, room, IsReady, IsSame, Keeps, with_state, with_view, with_stack, with_requests, with_timer, with_clock, with_taken, with_sent, next_byte, after_take};
+    ghost use Rattle.vax_undo.specs.Transaction.{state_of, present, undone, room, IsReady, IsSame, Keeps, with_state, with_view, next_byte, after_take};
 
     /// Begins a transaction, at which nothing is sent to the console yet.
     #[inline]

@@ -1,14 +1,12 @@
-use Rattle.std.proofs.Common.{◌≡◌, ◌+◌, ◌-◌, ◌*◌, ◌/◌, ◌%◌, ◌^◌, ◌<◌, ◌≤◌, ℕ, zero, suc, ◌⊎◌, inl, inr, Bool, true, false, not, ◌&&◌, ◌||◌, if◌then◌else◌, refl, ◌∙◌, ap, sym, arith, add_assoc, nat_eq, nat_lt, nat_le, ℤ, pos, negsuc, ◌+ℤ◌, ◌-ℤ◌, ◌*ℤ◌, neg_ℤ, unsigned_abs, int_div, int_rem, lit≤, lit<, ◌≢◌, div-le_self, int_le, int_lt, w64, FitsSigned, to_z, of_z}
-use Rattle.std.proofs.lemmas.Int.{ints, to_z-of_z, fits_signed_mul, fits_signed_from_abs, unsigned_abs-mul}
-use Rattle.std.proofs.lemmas.Nat.{mul-le}
+use Rattle.std.proofs.Common.{◌≡◌, ◌+◌, ◌-◌, ◌*◌, ◌/◌, ◌%◌, ◌^◌, ◌<◌, ◌≤◌, ℕ, zero, suc, ◌⊎◌, inl, inr, Bool, true, false, not, ◌&&◌, ◌||◌, if◌then◌else◌, refl, ◌∙◌, ap, sym, arith, add_assoc, nat_eq, nat_lt, nat_le, ℤ, pos, negsuc, ◌+ℤ◌, ◌-ℤ◌, ◌*ℤ◌, neg_ℤ, unsigned_abs, int_le, int_lt, w64, FitsSigned, to_z, of_z}
+use Rattle.std.proofs.lemmas.Int.{ints, to_z-of_z}
 use Rattle.std.proofs.lemmas.Bool.Decides.{nat_tests}
 use Rattle.std.specs.Int.Signed.{shr_z}
 use Rattle.std.specs.Int.{int_rem_euclid, from_bool}
 use Rattle.std.specs.Bool.{beq}
 use Rattle.vax_word.specs.declared.Size.{Size}
 use Rattle.vax_word.specs.declared.Size.TheVariants.{B, W, L, Q}
-use Rattle.vax_word.specs.declared.Codes.{Codes}
-use Rattle.vax_word.specs.Arithmetic.{bytes_of, modulus, sign_bit, is_negative, signed, low_bits, fits_signed, fits_unsigned, answer, signed_answer, sum, difference, quotient, extended_quotient}
+use Rattle.vax_word.specs.Arithmetic.{bytes_of, modulus, sign_bit, is_negative, signed, low_bits, fits_signed, fits_unsigned, answer, sum, difference}
 
 -- what the code's two shifts make of an operand
 pub shifts_extend : (s : Size) (x : ℕ) → x < modulus s →
@@ -173,131 +171,3 @@ overflow_seen L (pos n) h = let f = h.sfits in grind (arith, ints, nat_tests)
 overflow_seen L (negsuc n) h = let f = h.sfits in grind (arith, ints, nat_tests)
 overflow_seen Q (pos n) h = let f = h.sfits in grind (arith, ints, nat_tests)
 overflow_seen Q (negsuc n) h = let f = h.sfits in grind (arith, ints, nat_tests)
-
--- ---- products
-
-pub fits_quadword : (z : ℤ) → FitsSigned w64 z → fits_signed Q z ≡ true
-unfolding fits_signed
-fits_quadword (pos n) h = let f = h.sfits in grind (arith, ints, nat_tests)
-fits_quadword (negsuc n) h = let f = h.sfits in grind (arith, ints, nat_tests)
-
-pub signed_answer-v : (s : Size) (z : ℤ) → (signed_answer s z).1.v ≡ not (fits_signed s z)
-unfolding signed_answer answer
-signed_answer-v s z = refl
-
-abs-sum : (a b : ℤ) → unsigned_abs (a +ℤ b) ≤ unsigned_abs a + unsigned_abs b
-abs-sum (pos a) (pos b) = omega arith
-abs-sum (pos a) (negsuc b) = grind (arith, ints, nat_tests)
-abs-sum (negsuc a) (pos b) = grind (arith, ints, nat_tests)
-abs-sum (negsuc a) (negsuc b) = omega arith
-
--- a product of longwords fits a quadword, also with a longword added
-pub product_fits : (x y : ℤ) → unsigned_abs x ≤ 2147483648 → unsigned_abs y ≤ 2147483648 → FitsSigned w64 (x *ℤ y)
-product_fits x y hx hy = fits_signed_mul w64 x y 2147483648 2147483648 hx hy (lit< tt)
-
-pub extended_product_fits : (x y z : ℤ) → unsigned_abs x ≤ 2147483648 → unsigned_abs y ≤ 2147483648 → unsigned_abs z ≤ 2147483648 → FitsSigned w64 (x *ℤ y +ℤ z)
-extended_product_fits x y z hx hy hz =
-    let size : unsigned_abs (x *ℤ y) ≤ 2147483648 * 2147483648 = rw unsigned_abs-mul (mul-le _ _ _ _ hx hy) in
-    fits_signed_from_abs w64 _ (omega (arith, abs-sum (x *ℤ y) z))
-
--- ---- quotients
-
-abs-neg : (n : ℕ) → unsigned_abs (neg_ℤ (pos n)) ≡ n
-abs-neg zero = refl
-abs-neg (suc n) = refl
-
-pub abs-int_div : (a d : ℤ) → unsigned_abs (int_div a d) ≤ unsigned_abs a
-abs-int_div (pos a) (pos b) = omega (arith, div-le_self a b)
-abs-int_div (pos a) (negsuc b) = omega (arith, abs-neg (a / suc b), div-le_self a (suc b))
-abs-int_div (negsuc a) (pos b) = omega (arith, abs-neg (suc a / b), div-le_self (suc a) b)
-abs-int_div (negsuc a) (negsuc b) = omega (arith, div-le_self (suc a) (suc b))
-
-pub short_sign_bit : (s : Size) → s ≢ Q → sign_bit s ≤ 2147483648
-short_sign_bit B h = lit≤ tt
-short_sign_bit W h = lit≤ tt
-short_sign_bit L h = lit≤ tt
-short_sign_bit Q h = absurd (h refl)
-
-pub signed_nonzero : (s : Size) (x : ℕ) → x < modulus s → nat_eq x 0 ≡ false → 0 < of_z w64 (signed s x)
-unfolding signed
-signed_nonzero B x h e = grind (arith, ints, nat_tests)
-signed_nonzero W x h e = grind (arith, ints, nat_tests)
-signed_nonzero L x h e = grind (arith, ints, nat_tests)
-signed_nonzero Q x h e = grind (arith, ints, nat_tests)
-
--- a quotient that does not fit is that of the least dividend by -1, and its low bits are the dividend
-overflow_low : (s : Size) (a : ℕ) (q : ℤ) → a < modulus s → unsigned_abs q ≤ unsigned_abs (signed s a) → fits_signed s q ≡ false → low_bits s q ≡ a
-unfolding signed low_bits fits_signed
-overflow_low B a (pos n) below h e = grind (arith, ints, nat_tests)
-overflow_low B a (negsuc n) below h e = grind (arith, ints, nat_tests)
-overflow_low W a (pos n) below h e = grind (arith, ints, nat_tests)
-overflow_low W a (negsuc n) below h e = grind (arith, ints, nat_tests)
-overflow_low L a (pos n) below h e = grind (arith, ints, nat_tests)
-overflow_low L a (negsuc n) below h e = grind (arith, ints, nat_tests)
-overflow_low Q a (pos n) below h e = grind (arith, ints, nat_tests)
-overflow_low Q a (negsuc n) below h e = grind (arith, ints, nat_tests)
-
-quotient_by_fit : (s : Size) (a : ℕ) (q : ℤ) (fits : Bool) → fits_signed s q ≡ fits → a < modulus s → unsigned_abs q ≤ unsigned_abs (signed s a) →
-    signed_answer s q ≡ (if not fits then answer s a true false else signed_answer s q)
-unfolding signed_answer
-quotient_by_fit s a q true e below h = refl
-quotient_by_fit s a q false e below h = ap (λ r. answer s r (not (fits_signed s q)) false) (overflow_low s a q below h e) ∙ ap (λ f. answer s a (not f) false) e
-
-pub quotient_answer : (s : Size) (a b : ℕ) → a < modulus s → nat_eq b 0 ≡ false →
-    signed_answer s (int_div (signed s a) (signed s b)) ≡ quotient s a b
-unfolding quotient
-quotient_answer s a b below e =
-    let q : ℤ = int_div (signed s a) (signed s b) in
-    quotient_by_fit s a q (fits_signed s q) refl below (abs-int_div (signed s a) (signed s b))
-    ∙ ap (λ zero_divisor. if zero_divisor || not (fits_signed s q) then answer s a true false else signed_answer s q) (sym e)
-
--- ---- extended quotients
-
-fits_longword : (z : ℤ) → fits_signed L z ≡ true → FitsSigned w64 z
-unfolding fits_signed
-fits_longword (pos n) e = record { sfits = grind (arith, ints, nat_tests) }
-fits_longword (negsuc n) e = record { sfits = grind (arith, ints, nat_tests) }
-
-pub divisor_nonzero : (b : ℕ) → 0 < of_z w64 (signed L b) → nat_eq b 0 ≡ false
-unfolding signed
-divisor_nonzero b h = grind (arith, ints, nat_tests)
-
-cannot_by_tests : (b : ℕ) (q : ℤ) (is_zero fits : Bool) → nat_eq b 0 ≡ is_zero → fits_signed L q ≡ fits → b < modulus L →
-    ¬ ((0 < of_z w64 (signed L b)) × FitsSigned w64 q) → nat_eq b 0 || not (fits_signed L q) ≡ true
-cannot_by_tests b q true fits z f below cannot = ap (λ t. t || not (fits_signed L q)) z
-cannot_by_tests b q false false z f below cannot = ap (λ t. t || not (fits_signed L q)) z ∙ ap not f
-cannot_by_tests b q false true z f below cannot = absurd (cannot (signed_nonzero L b below z, fits_longword q f))
-
-pub cannot_divide : (b : ℕ) (q : ℤ) → b < modulus L → ¬ ((0 < of_z w64 (signed L b)) × FitsSigned w64 q) → nat_eq b 0 || not (fits_signed L q) ≡ true
-cannot_divide b q below cannot = cannot_by_tests b q _ _ refl refl below cannot
-
--- where the quotient does not fit
-pub extended_overflow : (b a : ℕ) → nat_eq b 0 || not (fits_signed L (int_div (signed Q a) (signed L b))) ≡ true →
-    (r : ℕ × Codes) → r ≡ answer L (a % modulus L) true false → (r.0, 0, r.1) ≡ extended_quotient b a
-unfolding extended_quotient
-extended_overflow b a e r is =
-    let q : ℤ = int_div (signed Q a) (signed L b) in
-    let low : ℕ × Codes = answer L (a % modulus L) true false in
-    let whole : ℕ × Codes = signed_answer L q in
-    ap (λ (r : ℕ × Codes). (r.0, 0, r.1)) is
-    ∙ ap (λ t. if t then (low.0, 0, low.1) else (whole.0, low_bits L (int_rem (signed Q a) (signed L b)), whole.1)) (sym e)
-
--- where it fits
-pub extended_fit : (b a : ℕ) → nat_eq b 0 || not (fits_signed L (int_div (signed Q a) (signed L b))) ≡ false →
-    (r : ℕ × Codes) (m : ℕ) → r ≡ signed_answer L (int_div (signed Q a) (signed L b)) → m ≡ low_bits L (int_rem (signed Q a) (signed L b)) → (r.0, m, r.1) ≡ extended_quotient b a
-unfolding extended_quotient
-extended_fit b a e r m is rest =
-    let q : ℤ = int_div (signed Q a) (signed L b) in
-    let low : ℕ × Codes = answer L (a % modulus L) true false in
-    let whole : ℕ × Codes = signed_answer L q in
-    ap (λ (r : ℕ × Codes). (r.0, m, r.1)) is ∙ ap (λ (k : ℕ). (whole.0, k, whole.1)) rest
-    ∙ ap (λ t. if t then (low.0, 0, low.1) else (whole.0, low_bits L (int_rem (signed Q a) (signed L b)), whole.1)) (sym e)
-
-pub or-of_not : (a b : Bool) → not b ≡ false → a || b ≡ true
-or-of_not true b e = refl
-or-of_not false true e = refl
-or-of_not false false e = sym e
-
-pub not-true : (b : Bool) → not b ≡ true → b ≡ false
-not-true true e = sym e
-not-true false e = refl

@@ -1,0 +1,13 @@
+//! Operands over any port: a specifier at PC is read, its side effects are done, and its operand is given
+//! (VAX Architecture Reference Manual, operand specifiers).
+//!
+//! Each call follows its definition in `vax_flat`, a tree of accesses: it reads, checks and writes what the tree does in the same order,
+//! and is cut short exactly where the tree is.
+#![tactic(auto)]
+
+mod access;
+mod memory;
+mod specifier;
+
+pub use crate::memory::{check, fetch, read, write};
+pub use vax_flat::{Cut, Flow, Operand};

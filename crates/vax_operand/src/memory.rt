@@ -1,0 +1,78 @@
+//! Single accesses of an instruction, in the current access mode.
+ghost use Rattle.std.specs.Prelude.{◌≡◌, ℕ, ◌+◌, ◌*◌, ◌%◌, ◌^◌, ◌<◌, ◌≤◌, IfOk};
+ghost use Rattle.vax_flat.specs.Operand.{read_at, write_at, check_at, fetched};
+ghost use Rattle.vax_flat.specs.OverPort.{Follows, Performs};
+ghost use Rattle.vax_undo.specs.Transaction.{present, room, Keeps};
+
+use vax_flat::{Cut, Exception};
+use vax_space::Access;
+use vax_undo::{Port, Txn};
+
+/// The number that `n` bytes are.
+#[inline]
+#[tactic(auto, unfolding(vax_flat::specs::OverPort::over_port, vax_flat::specs::Operand::read_at))]
+pub fn read<P: Port>(txn: &mut Txn<P>, addr: u32, n: u32) -> Result<u64, Cut>
+    requires some { 1 ≤ n }
+    requires few { n ≤ 8 }
+    ensures exact { Follows (read_at addr n (present P.view txn.old).state) (present P.view txn.old) result (present P.view txn.new) }
+    ensures same { present P.view txn.new ≡ present P.view txn.old }
+    ensures fits { IfOk result (λ x. x < 256 ^ n) }
+    ensures keeps { Keeps P.view P.since 0 txn.old txn.new }
+{
+    let mode = txn.psl().mode();
+    match txn.read(addr, n, mode) {
+        Ok(value) => Ok(value),
+        Err(stop) => Err(Cut::from(stop)),
+    }
+}
+
+/// Writes the `n` bytes of a number.
+#[inline]
+#[tactic(auto, unfolding(vax_flat::specs::OverPort::over_port, vax_flat::specs::Operand::write_at))]
+pub fn write<P: Port>(txn: &mut Txn<P>, addr: u32, n: u32, value: u64) -> Result<(), Cut>
+    requires some { 1 ≤ n }
+    requires few { n ≤ 8 }
+    requires fits { value < 256 ^ n }
+    requires room { 1 ≤ room txn.old }
+    ensures exact { Performs (write_at addr n value (present P.view txn.old).state) (present P.view txn.old) result (present P.view txn.new) }
+    ensures keeps { Keeps P.view P.since 1 txn.old txn.new }
+{
+    let mode = txn.psl().mode();
+    match txn.write(addr, n, value, mode) {
+        Ok(()) => Ok(()),
+        Err(stop) => Err(Cut::from(stop)),
+    }
+}
+
+/// Checks that `n` bytes may be used so, resident or not.
+#[inline]
+#[tactic(auto, unfolding(vax_flat::specs::OverPort::over_port, vax_flat::specs::Operand::check_at))]
+pub fn check<P: Port>(txn: &mut Txn<P>, addr: u32, n: u32, access: Access) -> Result<(), Cut>
+    requires short { n ≤ 65536 }
+    ensures exact { Performs (check_at addr n access (present P.view txn.old).state) (present P.view txn.old) result (present P.view txn.new) }
+    ensures same { present P.view txn.new ≡ present P.view txn.old }
+    ensures keeps { Keeps P.view P.since 0 txn.old txn.new }
+{
+    let mode = txn.psl().mode();
+    match txn.check(addr, n, mode, access) {
+        Ok(()) => Ok(()),
+        Err(violation) => Err(Cut::Event(Exception::Access(violation))),
+    }
+}
+
+/// The number that the next `n` bytes of the instruction are. PC moves past them.
+#[inline]
+#[tactic(auto, unfolding(vax_flat::specs::Operand::fetched))]
+pub fn fetch<P: Port>(txn: &mut Txn<P>, n: u32) -> Result<u64, Cut>
+    requires some { 1 ≤ n }
+    requires few { n ≤ 8 }
+    requires room { 1 ≤ room txn.old }
+    ensures exact { Follows (fetched n (present P.view txn.old).state) (present P.view txn.old) result (present P.view txn.new) }
+    ensures fits { IfOk result (λ x. x < 256 ^ n) }
+    ensures keeps { Keeps P.view P.since 1 txn.old txn.new }
+{
+    let pc = txn.reg(15);
+    let value = read(txn, pc, n)?;
+    txn.set_reg(15, pc.wrapping_add(n));
+    Ok(value)
+}

@@ -1,0 +1,183 @@
+//! Operand specifiers.
+ghost use Rattle.std.specs.Prelude.{◌≡◌, ℕ, ◌+◌, ◌*◌, ◌%◌, ◌^◌, ◌<◌, ◌≤◌, IfOk};
+ghost use Rattle.vax_flat.specs.Operand.{form_of, extended, at_address, literal, in_register, register_value, addressed, is_reserved, is_no_base, is_result, reaches_pc, indexed, in_memory, after_prefix, formed, specified, branched, next_operand, IsWidth, Fits};
+ghost use Rattle.vax_flat.specs.OverPort.{Follows, Performs};
+ghost use Rattle.vax_undo.specs.Transaction.{present, room, Keeps};
+ghost use Rattle.vax_operand.specs.Form.{IsForm, IsDisplacement};
+
+use crate::memory::{check, fetch, read};
+use vax_flat::{Cut, Exception, Form, Operand};
+use vax_isa::{Letter, OperandKind};
+use vax_space::Access;
+use vax_undo::{Port, Txn};
+
+/// A specifier byte's form.
+#[inline]
+#[tactic(auto, unfolding(vax_flat::specs::Operand::form_of))]
+fn decode(byte: u8) -> Form
+    ensures form { result ≡ form_of byte }
+    ensures sound { IsForm result }
+{
+    let register = byte & 15;
+    match byte >> 4 {
+        0 | 1 | 2 | 3 => Form::Literal(byte),
+        4 => Form::Index(register),
+        5 => Form::Register(register),
+        6 => Form::Deferred(register),
+        7 => Form::Decrement(register),
+        8 => Form::Increment(register),
+        9 => Form::IncrementDeferred(register),
+        10 => Form::Displacement { width: 1, register },
+        11 => Form::DisplacementDeferred { width: 1, register },
+        12 => Form::Displacement { width: 2, register },
+        13 => Form::DisplacementDeferred { width: 2, register },
+        14 => Form::Displacement { width: 4, register },
+        _ => Form::DisplacementDeferred { width: 4, register },
+    }
+}
+
+/// A displacement of 1, 2 or 4 bytes, sign-extended to 32 bits.
+#[inline]
+#[tactic(auto, unfolding(vax_flat::specs::Operand::extended))]
+fn extend(width: u8, value: u64) -> u32
+    requires width { IsDisplacement width }
+    requires fits { value < 256 ^ width }
+    ensures { result ≡ extended width value }
+{
+    match width {
+        1 if value >= 0x80 => value as u32 + 0xffff_ff00,
+        2 if value >= 0x8000 => value as u32 + 0xffff_0000,
+        _ => value as u32,
+    }
+}
+
+/// An operand at an address: one that is read is read, one that is modified is checked for writing.
+#[inline]
+#[tactic(auto, using(vax_flat::proofs::Leaves::over_port_raises), unfolding(vax_flat::specs::Operand::at_address))]
+fn locate<P: Port>(txn: &mut Txn<P>, kind: OperandKind, addr: u32) -> Result<Operand, Cut>
+    requires width { IsWidth kind.width }
+    ensures exact { Follows (at_address kind addr (present P.view txn.old).state) (present P.view txn.old) result (present P.view txn.new) }
+    ensures fits { IfOk result (Fits kind) }
+    ensures keeps { Keeps P.view P.since 0 txn.old txn.new }
+{
+    match kind.letter {
+        Letter::Read => {
+            let value = read(txn, addr, kind.width as u32)?;
+            Ok(Operand::Value(value))
+        }
+        Letter::Modify => {
+            check(txn, addr, kind.width as u32, Access::Write)?;
+            Ok(Operand::Memory(addr))
+        }
+        Letter::Write => Ok(Operand::Memory(addr)),
+        Letter::Address => Ok(Operand::Memory(addr)),
+        Letter::Field => Ok(Operand::Memory(addr)),
+        Letter::Branch => Err(Cut::Event(Exception::Mode)),
+    }
+}
+
+/// A literal, which is for an operand that is read alone.
+#[inline]
+#[tactic(auto, using(vax_flat::proofs::Leaves::over_port_raises), unfolding(vax_flat::specs::Operand::literal))]
+fn short_literal<P: Port>(txn: &mut Txn<P>, kind: OperandKind, value: u8) -> Result<Operand, Cut>
+    requires small { value < 64 }
+    requires width { IsWidth kind.width }
+    ensures exact { Follows (literal kind.letter value (present P.view txn.old).state) (present P.view txn.old) result (present P.view txn.new) }
+    ensures fits { IfOk result (Fits kind) }
+    ensures keeps { Keeps P.view P.since 0 txn.old txn.new }
+{
+    match kind.letter {
+        Letter::Read => Ok(Operand::Value(value as u64)),
+        Letter::Modify => Err(Cut::Event(Exception::Mode)),
+        Letter::Write => Err(Cut::Event(Exception::Mode)),
+        Letter::Address => Err(Cut::Event(Exception::Mode)),
+        Letter::Field => Err(Cut::Event(Exception::Mode)),
+        Letter::Branch => Err(Cut::Event(Exception::Mode)),
+    }
+}
+
+/// The value of a register, or of the pair of a quadword.
+#[inline]
+#[tactic(auto, unfolding(vax_flat::specs::Operand::register_value))]
+pub(crate) fn value_in<P: Port>(txn: &Txn<P>, width: u8, n: u8) -> u64
+    requires width { IsWidth width }
+    requires below { n < 15 }
+    requires pair { width ≡ 8 → n < 14 }
+    ensures exact { result ≡ register_value width n (present P.view txn.now).state }
+    ensures fits { result < 256 ^ width }
+{
+    let low = txn.reg(n);
+    match width {
+        1 => (low & 0xff) as u64,
+        2 => (low & 0xffff) as u64,
+        4 => low as u64,
+        _ => low as u64 | (txn.reg(n + 1) as u64) << 32,
+    }
+}
+
+/// A register as an operand.
+#[inline]
+#[tactic(auto, using(vax_flat::proofs::Leaves::over_port_raises), unfolding(vax_flat::specs::Operand::in_register))]
+fn register_operand<P: Port>(txn: &mut Txn<P>, kind: OperandKind, n: u8) -> Result<Operand, Cut>
+    requires of_core { n < 16 }
+    requires width { IsWidth kind.width }
+    ensures exact { Follows (in_register kind n (present P.view txn.old).state) (present P.view txn.old) result (present P.view txn.new) }
+    ensures fits { IfOk result (Fits kind) }
+    ensures keeps { Keeps P.view P.since 0 txn.old txn.new }
+{
+    if n == 15 || (kind.width == 8 && n == 14) {
+        return Err(Cut::Event(Exception::Mode));
+    }
+    match kind.letter {
+        Letter::Read => Ok(Operand::Value(value_in(txn, kind.width, n))),
+        Letter::Modify => Ok(Operand::Register(n)),
+        Letter::Write => Ok(Operand::Register(n)),
+        Letter::Address => Err(Cut::Event(Exception::Mode)),
+        Letter::Field => Ok(Operand::FieldRegister(n)),
+        Letter::Branch => Err(Cut::Event(Exception::Mode)),
+    }
+}
+
+/// The address that a memory form gives, with what it does to its register.
+#[inline]
+#[tactic(auto, using(vax_flat::proofs::Leaves::over_port_raises), unfolding(vax_flat::specs::Operand::addressed))]
+fn address<P: Port>(txn: &mut Txn<P>, width: u8, form: Form) -> Result<u32, Cut>
+    requires width { IsWidth width }
+    requires form { IsForm form }
+    requires room { 2 ≤ room txn.old }
+    ensures exact { Follows (addressed width form (present P.view txn.old).state) (present P.view txn.old) result (present P.view txn.new) }
+    ensures keeps { Keeps P.view P.since 2 txn.old txn.new }
+{
+    match form {
+        Form::Literal(_) => Err(Cut::Event(Exception::Mode)),
+        Form::Index(_) => Err(Cut::Event(Exception::Mode)),
+        Form::Register(_) => Err(Cut::Event(Exception::Mode)),
+        Form::Deferred(n) => Ok(txn.reg(n)),
+        Form::Decrement(n) => {
+            let addr = txn.reg(n).wrapping_sub(width as u32);
+            txn.set_reg(n, addr);
+            Ok(addr)
+        }
+        Form::Increment(n) => {
+            let addr = txn.reg(n);
+            txn.set_reg(n, addr.wrapping_add(width as u32));
+            Ok(addr)
+        }
+        Form::IncrementDeferred(n) => {
+            let at = txn.reg(n);
+            let pointer = read(txn, at, 4)? as u32;
+            txn.set_reg(n, at.wrapping_add(4));
+            Ok(pointer)
+        }
+        Form::Displacement { width, register } => {
+            let displacement = extend(width, fetch(txn, width as u32)?);
+            Ok(txn.reg(register).wrapping_add(displacement))
+        }
+        Form::DisplacementDeferred { width, register } => {
+            let displacement = extend(width, fetch(txn, width as u32)?);
+            let at = txn.reg(register).wrapping_add(displacement);
+            let pointer = read(txn, at, 4)?;
+            Ok(pointer as u32)
+        }
+    }
+}
