@@ -194,10 +194,51 @@ next_operand kind s next = elim kind.letter [
 abbrev pub IsWidth : ℕ → Type 0
 IsWidth width = (width ≡ 1) ⊎ ((width ≡ 2) ⊎ ((width ≡ 4) ⊎ (width ≡ 8)))
 
--- an operand fits its kind
+-- a value of so many bytes
+abbrev pub IsValue : ℕ → Operand → Type 0
+IsValue width (Value x) = x < 256 ^ width
+IsValue width (Register n) = ⊥
+IsValue width (Memory addr) = ⊥
+IsValue width (FieldRegister n) = ⊥
+IsValue width (Target addr) = ⊥
+
+-- a place for a result: registers other than PC, or memory
+abbrev pub IsPlace : ℕ → Operand → Type 0
+IsPlace width (Value x) = ⊥
+IsPlace width (Register n) = (n < 15) × (width ≡ 8 → n < 14)
+IsPlace width (Memory addr) = Unit {0}
+IsPlace width (FieldRegister n) = ⊥
+IsPlace width (Target addr) = ⊥
+
+abbrev pub IsAddress : Operand → Type 0
+IsAddress (Value x) = ⊥
+IsAddress (Register n) = ⊥
+IsAddress (Memory addr) = Unit {0}
+IsAddress (FieldRegister n) = ⊥
+IsAddress (Target addr) = ⊥
+
+-- where a field of bits is based
+abbrev pub IsBase : Operand → Type 0
+IsBase (Value x) = ⊥
+IsBase (Register n) = ⊥
+IsBase (Memory addr) = Unit {0}
+IsBase (FieldRegister n) = n < 15
+IsBase (Target addr) = ⊥
+
+abbrev pub IsTarget : Operand → Type 0
+IsTarget (Value x) = ⊥
+IsTarget (Register n) = ⊥
+IsTarget (Memory addr) = ⊥
+IsTarget (FieldRegister n) = ⊥
+IsTarget (Target addr) = Unit {0}
+
+-- an operand is of its kind
 abbrev pub Fits : OperandKind → Operand → Type 0
-Fits kind (Value x) = x < 256 ^ kind.width
-Fits kind (Register n) = (n < 15) × (kind.width ≡ 8 → n < 14)
-Fits kind (Memory addr) = Unit {0}
-Fits kind (FieldRegister n) = n < 15
-Fits kind (Target addr) = Unit {0}
+Fits kind operand = elim kind.letter [
+  | Read ↦ IsValue kind.width operand
+  | Modify ↦ IsPlace kind.width operand
+  | Write ↦ IsPlace kind.width operand
+  | Address ↦ IsAddress operand
+  | Field ↦ IsBase operand
+  | Branch ↦ IsTarget operand
+]

@@ -25,13 +25,13 @@ modify_of width = record { letter = Modify; width = width }
 abbrev pub write_of : ℕ → OperandKind
 write_of width = record { letter = Write; width = width }
 
--- the value of an operand, which is read where it lies in memory
+-- the value at the place of an operand that is modified
 unfoldable pub value_at : ℕ → Operand → State → (ℕ → State → Accesses Leaf) → Accesses Leaf
-value_at width (operand.Value x) s next = next x s
+value_at width (operand.Value x) s next = next 0 s
 value_at width (operand.Register n) s next = next (register_value width n s) s
 value_at width (operand.Memory addr) s next = read_at addr width s next
 value_at width (operand.FieldRegister n) s next = next 0 s
-value_at width (operand.Target addr) s next = next addr s
+value_at width (operand.Target addr) s next = next 0 s
 
 -- A value in a register: a byte or a word leaves the other bits, and a quadword fills the next register too.
 unfoldable pub with_value : ℕ → ℕ → ℕ → State → State
@@ -54,7 +54,7 @@ value_of (operand.Value x) = x
 value_of (operand.Register n) = 0
 value_of (operand.Memory addr) = 0
 value_of (operand.FieldRegister n) = 0
-value_of (operand.Target addr) = addr
+value_of (operand.Target addr) = 0
 
 -- an operand that is read, and its value
 unfoldable pub read_value : ℕ → State → (ℕ → State → Accesses Leaf) → Accesses Leaf

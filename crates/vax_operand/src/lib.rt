@@ -9,5 +9,7 @@ mod access;
 mod memory;
 mod specifier;
 
+pub use crate::access::{load, next_value, store, value_of};
 pub use crate::memory::{check, fetch, read, write};
+pub use crate::specifier::next;
 pub use vax_flat::{Cut, Flow, Operand};

@@ -1,6 +1,6 @@
 //! Operand specifiers.
 ghost use Rattle.std.specs.Prelude.{◌≡◌, ℕ, ◌+◌, ◌*◌, ◌%◌, ◌^◌, ◌<◌, ◌≤◌, IfOk};
-ghost use Rattle.vax_flat.specs.Operand.{form_of, extended, at_address, literal, in_register, register_value, addressed, is_reserved, is_no_base, is_result, reaches_pc, indexed, in_memory, after_prefix, formed, specified, branched, next_operand, IsWidth, Fits};
+ghost use Rattle.vax_flat.specs.Operand.{form_of, extended, at_address, literal, in_register, register_value, addressed, is_reserved, is_no_base, is_result, reaches_pc, indexed, in_memory, after_prefix, formed, specified, branched, next_operand, IsWidth, IsTarget, Fits};
 ghost use Rattle.vax_flat.specs.OverPort.{Follows, Performs};
 ghost use Rattle.vax_undo.specs.Transaction.{present, room, Keeps};
 ghost use Rattle.vax_operand.specs.Form.{IsForm, IsDisplacement};
@@ -179,5 +179,183 @@ fn address<P: Port>(txn: &mut Txn<P>, width: u8, form: Form) -> Result<u32, Cut>
             let pointer = read(txn, at, 4)?;
             Ok(pointer as u32)
         }
+    }
+}
+
+/// Whether a memory form with PC has no meaning for an operand.
+#[inline]
+#[tactic(auto, unfolding(vax_flat::specs::Operand::is_reserved))]
+fn is_reserved(letter: Letter, form: Form) -> bool
+    ensures { result ≡ is_reserved letter form }
+{
+    match form {
+        Form::Literal(_) => false,
+        Form::Index(_) => false,
+        Form::Register(_) => false,
+        Form::Deferred(n) => n == 15,
+        Form::Decrement(n) => n == 15,
+        Form::Increment(n) => {
+            n == 15
+                && match letter {
+                    Letter::Read => false,
+                    Letter::Modify => true,
+                    Letter::Write => true,
+                    Letter::Address => false,
+                    Letter::Field => false,
+                    Letter::Branch => true,
+                }
+        }
+        Form::IncrementDeferred(_) => false,
+        Form::Displacement { .. } => false,
+        Form::DisplacementDeferred { .. } => false,
+    }
+}
+
+/// Whether a form is no base for an index by register `x`.
+#[inline]
+#[tactic(auto, unfolding(vax_flat::specs::Operand::is_no_base))]
+fn is_no_base(x: u8, form: Form) -> bool
+    ensures { result ≡ is_no_base x form }
+{
+    match form {
+        Form::Literal(_) => true,
+        Form::Index(_) => true,
+        Form::Register(_) => true,
+        Form::Deferred(n) => n == 15,
+        Form::Decrement(n) => n == 15 || n == x,
+        Form::Increment(n) => n == 15 || n == x,
+        Form::IncrementDeferred(n) => n == x,
+        Form::Displacement { .. } => false,
+        Form::DisplacementDeferred { .. } => false,
+    }
+}
+
+/// An operand of a memory form.
+#[inline]
+#[tactic(auto, using(vax_flat::proofs::Leaves::over_port_raises), unfolding(vax_flat::specs::Operand::in_memory))]
+fn memory_operand<P: Port>(txn: &mut Txn<P>, kind: OperandKind, form: Form) -> Result<Operand, Cut>
+    requires width { IsWidth kind.width }
+    requires form { IsForm form }
+    requires room { 2 ≤ room txn.old }
+    ensures exact { Follows (in_memory kind form (present P.view txn.old).state) (present P.view txn.old) result (present P.view txn.new) }
+    ensures fits { IfOk result (Fits kind) }
+    ensures keeps { Keeps P.view P.since 2 txn.old txn.new }
+{
+    if is_reserved(kind.letter, form) {
+        return Err(Cut::Event(Exception::Mode));
+    }
+    let addr = address(txn, kind.width, form)?;
+    locate(txn, kind, addr)
+}
+
+/// An operand of a base form, indexed by register `x`.
+#[tactic(auto, using(vax_flat::proofs::Leaves::over_port_raises), unfolding(vax_flat::specs::Operand::indexed))]
+fn indexed_operand<P: Port>(txn: &mut Txn<P>, kind: OperandKind, x: u8, base: Form) -> Result<Operand, Cut>
+    requires width { IsWidth kind.width }
+    requires of_core { x < 16 }
+    requires form { IsForm base }
+    requires room { 2 ≤ room txn.old }
+    ensures exact { Follows (indexed kind x base (present P.view txn.old).state) (present P.view txn.old) result (present P.view txn.new) }
+    ensures fits { IfOk result (Fits kind) }
+    ensures keeps { Keeps P.view P.since 2 txn.old txn.new }
+{
+    if is_no_base(x, base) {
+        return Err(Cut::Event(Exception::Mode));
+    }
+    let addr = address(txn, kind.width, base)?;
+    let offset = (kind.width as u32).wrapping_mul(txn.reg(x));
+    locate(txn, kind, addr.wrapping_add(offset))
+}
+
+/// What follows the prefix of an index by register `x`.
+#[tactic(auto, using(vax_flat::proofs::Leaves::over_port_raises), unfolding(vax_flat::specs::Operand::after_prefix))]
+fn after_prefix<P: Port>(txn: &mut Txn<P>, kind: OperandKind, x: u8) -> Result<Operand, Cut>
+    requires width { IsWidth kind.width }
+    requires of_core { x < 16 }
+    requires room { 3 ≤ room txn.old }
+    ensures exact { Follows (after_prefix kind x (present P.view txn.old).state) (present P.view txn.old) result (present P.view txn.new) }
+    ensures fits { IfOk result (Fits kind) }
+    ensures keeps { Keeps P.view P.since 3 txn.old txn.new }
+{
+    if x == 15 {
+        return Err(Cut::Event(Exception::Mode));
+    }
+    let byte = fetch(txn, 1)? as u8;
+    indexed_operand(txn, kind, x, decode(byte))
+}
+
+/// An operand of a form.
+#[inline]
+#[tactic(auto, unfolding(vax_flat::specs::Operand::formed))]
+fn by_form<P: Port>(txn: &mut Txn<P>, kind: OperandKind, form: Form) -> Result<Operand, Cut>
+    requires width { IsWidth kind.width }
+    requires form { IsForm form }
+    requires room { 3 ≤ room txn.old }
+    ensures exact { Follows (formed kind form (present P.view txn.old).state) (present P.view txn.old) result (present P.view txn.new) }
+    ensures fits { IfOk result (Fits kind) }
+    ensures keeps { Keeps P.view P.since 3 txn.old txn.new }
+{
+    match form {
+        Form::Literal(value) => short_literal(txn, kind, value),
+        Form::Index(x) => after_prefix(txn, kind, x),
+        Form::Register(n) => register_operand(txn, kind, n),
+        Form::Deferred(_) => memory_operand(txn, kind, form),
+        Form::Decrement(_) => memory_operand(txn, kind, form),
+        Form::Increment(_) => memory_operand(txn, kind, form),
+        Form::IncrementDeferred(_) => memory_operand(txn, kind, form),
+        Form::Displacement { .. } => memory_operand(txn, kind, form),
+        Form::DisplacementDeferred { .. } => memory_operand(txn, kind, form),
+    }
+}
+
+/// A specifier at PC.
+#[inline]
+#[tactic(auto, unfolding(vax_flat::specs::Operand::specified))]
+fn specified<P: Port>(txn: &mut Txn<P>, kind: OperandKind) -> Result<Operand, Cut>
+    requires width { IsWidth kind.width }
+    requires room { 4 ≤ room txn.old }
+    ensures exact { Follows (specified kind (present P.view txn.old).state) (present P.view txn.old) result (present P.view txn.new) }
+    ensures fits { IfOk result (Fits kind) }
+    ensures keeps { Keeps P.view P.since 4 txn.old txn.new }
+{
+    let byte = fetch(txn, 1)? as u8;
+    by_form(txn, kind, decode(byte))
+}
+
+/// A branch displacement at PC.
+#[inline]
+#[tactic(auto, unfolding(vax_flat::specs::Operand::branched))]
+fn branch_target<P: Port>(txn: &mut Txn<P>, width: u8) -> Result<Operand, Cut>
+    requires width { IsDisplacement width }
+    requires room { 1 ≤ room txn.old }
+    ensures exact { Follows (branched width (present P.view txn.old).state) (present P.view txn.old) result (present P.view txn.new) }
+    ensures target { IfOk result IsTarget }
+    ensures keeps { Keeps P.view P.since 1 txn.old txn.new }
+{
+    let displacement = extend(width, fetch(txn, width as u32)?);
+    Ok(Operand::Target(txn.reg(15).wrapping_add(displacement)))
+}
+
+/// Reads one operand at PC, does its side effects and moves PC past it (VAX Architecture Reference Manual, operand specifiers).
+///
+/// An operand that is read is answered by its value; one that is modified is checked for writing, and where it lies is answered.
+/// The cut is the reserved addressing mode exception, an access violation, or the first page of the specifier that is absent.
+#[inline]
+#[tactic(auto, unfolding(vax_flat::specs::Operand::next_operand))]
+pub fn next<P: Port>(txn: &mut Txn<P>, kind: OperandKind) -> Result<Operand, Cut>
+    requires width { IsWidth kind.width }
+    requires displacement { kind.letter ≡ Letter.Branch → IsDisplacement kind.width }
+    requires room { 4 ≤ room txn.old }
+    ensures exact { Follows (next_operand kind (present P.view txn.old).state) (present P.view txn.old) result (present P.view txn.new) }
+    ensures fits { IfOk result (Fits kind) }
+    ensures keeps { Keeps P.view P.since 4 txn.old txn.new }
+{
+    match kind.letter {
+        Letter::Read => specified(txn, kind),
+        Letter::Modify => specified(txn, kind),
+        Letter::Write => specified(txn, kind),
+        Letter::Address => specified(txn, kind),
+        Letter::Field => specified(txn, kind),
+        Letter::Branch => branch_target(txn, kind.width),
     }
 }
