@@ -3,3 +3,4 @@ pub mod Alike
 pub mod Memory
 pub mod Standing
 pub mod Leaves
+pub mod Joined

@@ -37,11 +37,11 @@ highest (suc level) requests = if is_one requests (suc level) then suc level els
 unfoldable pub level : Core → ℕ
 level core = if is_one core.iccs 6 && is_one core.iccs 7 then 22 else highest 15 core.sisr
 
--- the interval clock counts a step, where it is on; at 1,000 it begins anew and asks for its interrupt
+-- the interval clock counts a step, where it is on; at the thousandth it begins anew and asks for its interrupt
 unfoldable pub ticked : State → State
 ticked s =
     if is_one s.core.iccs 6
-    then (if s.core.clock + 1 == 1000 then with_timer (with_clock s 0) (s.core.iccs % 128 + 128) else with_clock s (s.core.clock + 1))
+    then (if nat_lt s.core.clock 999 then with_clock s (s.core.clock + 1) else with_timer (with_clock s 0) (s.core.iccs % 128 + 128))
     else s
 
 -- the delivery of an exception, from the state at the start of the instruction or, for a trap, behind it

@@ -1,0 +1,56 @@
+//! Interrupts, and the interval clock (VAX Architecture Reference Manual, interrupts; interval clock).
+ghost use Rattle.std.specs.Prelude.{◌≡◌, ◌≤◌};
+ghost use Rattle.vax_flat.specs.Step.{highest, level, ticked};
+ghost use Rattle.vax_undo.specs.Transaction.{present, room, Keeps, with_state};
+
+use vax_undo::{Port, Txn};
+
+/// The highest software interrupt level that is requested, or 0.
+#[tactic(auto, using(crate::proofs::Levels::highest_none, crate::proofs::Levels::highest_step, crate::proofs::Levels::highest_here), unfolding(vax_flat::specs::Step::highest))]
+fn highest(requests: u16) -> u8
+    ensures exact { result ≡ highest 15 requests }
+{
+    if requests == 0 {
+        return 0;
+    }
+    let mut level = 15;
+    while level > 0 && (requests >> level) % 2 != 1 {
+        level -= 1;
+    }
+    level
+}
+
+/// The level of the interrupt that is requested, or 0.
+#[inline]
+#[tactic(auto, unfolding(vax_flat::specs::Step::level))]
+pub(crate) fn requested<P: Port>(txn: &Txn<P>) -> u8
+    ensures { result ≡ level (present P.view txn.now).state.core }
+{
+    let timer = txn.iccs();
+    if timer / 0x40 % 2 == 1 && timer / 0x80 % 2 == 1 {
+        22
+    } else {
+        highest(txn.sisr())
+    }
+}
+
+/// The interval clock counts a step, where it is on.
+#[inline]
+#[tactic(auto, unfolding(vax_flat::specs::Step::ticked))]
+pub(crate) fn tick<P: Port>(txn: &mut Txn<P>)
+    requires { 2 ≤ room txn.old }
+    ensures exact { present P.view txn.new ≡ with_state (present P.view txn.old) (ticked (present P.view txn.old).state) }
+    ensures keeps { Keeps P.view P.since 2 txn.old txn.new }
+{
+    let timer = txn.iccs();
+    if timer / 0x40 % 2 != 1 {
+        return;
+    }
+    let count = txn.clock();
+    if count < 999 {
+        txn.set_clock(count + 1);
+    } else {
+        txn.set_clock(0);
+        txn.set_iccs(timer % 128 + 128);
+    }
+}

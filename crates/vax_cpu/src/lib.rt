@@ -1,0 +1,6 @@
+//! The processor: attempts at instructions, over any port.
+#![tactic(auto)]
+
+mod interrupt;
+mod rows;
+
