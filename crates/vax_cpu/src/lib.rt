@@ -1,6 +1,8 @@
 //! The processor: attempts at instructions, over any port.
 #![tactic(auto)]
 
+mod attempt;
+mod cpu;
 mod interrupt;
 mod rows;
 

@@ -1,0 +1,115 @@
+//! One attempt at a step, as a transaction that is kept or undone.
+ghost use Rattle.std.specs.Prelude.{◌≡◌, ◌≤◌, None};
+ghost use Rattle.vax_flat.specs.OverPort.{Follows};
+ghost use Rattle.vax_flat.specs.Step.{begun, delivery, finished, whole, whole_step};
+ghost use Rattle.vax_undo.specs.Transaction.{present, room, state_of, Keeps};
+ghost use Rattle.vax_cpu.specs.Tried.{IsTried};
+
+use crate::interrupt::{requested, tick};
+use crate::rows::execute;
+use vax_flat::{Ending, Exception};
+use vax_operand::{Cut, Flow};
+use vax_undo::{Port, Term, Txn};
+use vax_word::Core;
+
+/// What an attempt at a step, or at the delivery of an exception, came to.
+#[derive(Clone, Copy, Debug, PartialEq, Eq)]
+pub(crate) enum Tried {
+    /// It was completed, and sent this byte.
+    Step(Option<u8>),
+    /// This page is needed and absent.
+    Absent(u32),
+    /// It ends the run.
+    Ended(Ending),
+    /// It raises this exception.
+    Event(Exception),
+}
+
+/// An interrupt above the priority, or the instruction at PC.
+#[inline]
+#[tactic(auto, unfolding(vax_flat::specs::Step::begun, vax_flat::specs::Step::interrupt))]
+fn begin<P: Port>(txn: &mut Txn<P>) -> Result<Flow, Cut>
+    requires { 12 ≤ room txn.old }
+    ensures exact { Follows (begun (present P.view txn.old).state) (present P.view txn.old) result (present P.view txn.new) }
+    ensures keeps { Keeps P.view P.since 12 txn.old txn.new }
+{
+    if txn.psl().ipl() < requested(txn) {
+        return Ok(Flow::Ended(Ending::Unbuilt));
+    }
+    execute(txn)
+}
+
+/// Delivers an exception, which isn't built yet.
+#[inline]
+#[tactic(auto, unfolding(vax_flat::specs::Step::delivery))]
+fn deliver<P: Port>(_txn: &mut Txn<P>, exception: Exception) -> Result<Flow, Cut>
+    ensures exact { Follows (delivery exception (present P.view _txn.old).state) (present P.view _txn.old) result (present P.view _txn.new) }
+    ensures keeps { Keeps P.view P.since 0 _txn.old _txn.new }
+{
+    let _ = exception;
+    Ok(Flow::Ended(Ending::Unbuilt))
+}
+
+/// What follows an instruction: a trap's delivery, and the clock.
+#[inline]
+#[tactic(auto, unfolding(vax_flat::specs::Step::finished))]
+fn finish<P: Port>(txn: &mut Txn<P>, flow: Flow) -> Result<Flow, Cut>
+    requires { 2 ≤ room txn.old }
+    ensures exact { Follows (finished flow (present P.view txn.old).state) (present P.view txn.old) result (present P.view txn.new) }
+    ensures keeps { Keeps P.view P.since 2 txn.old txn.new }
+{
+    match flow {
+        Flow::Done => {
+            tick(txn);
+            Ok(Flow::Done)
+        }
+        Flow::Trap(kind) => {
+            let how = deliver(txn, Exception::Arithmetic(kind))?;
+            tick(txn);
+            Ok(how)
+        }
+        Flow::Ended(ending) => Ok(Flow::Ended(ending)),
+    }
+}
+
+/// A step up to its exception, if it raises one.
+#[inline]
+#[tactic(auto, unfolding(vax_flat::specs::Step::whole))]
+fn work<P: Port>(txn: &mut Txn<P>) -> Result<Flow, Cut>
+    requires { 14 ≤ room txn.old }
+    ensures exact { Follows (whole (present P.view txn.old).state) (present P.view txn.old) result (present P.view txn.new) }
+    ensures keeps { Keeps P.view P.since 14 txn.old txn.new }
+{
+    let flow = begin(txn)?;
+    finish(txn, flow)
+}
+
+/// Makes an attempt at a step, which is undone where it isn't completed.
+#[tactic(auto)]
+pub(crate) fn try_step<P: Port>(core: &mut Core, term: &mut Term, port: &mut P) -> Tried
+    requires { term.old.out ≡ None }
+    ensures tried { IsTried whole_step (record { state = state_of core.old term.old; view = P.view port.old }) result (record { state = state_of core.new term.new; view = P.view port.new }) }
+    ensures unsent { term.new.out ≡ None }
+    ensures since { (start : P) → P.since start port.old → P.since start port.new }
+{
+    let mut txn = Txn::begin(core, term, port);
+    match work(&mut txn) {
+        Ok(Flow::Done) => Tried::Step(txn.commit()),
+        Ok(Flow::Trap(_)) => {
+            txn.unwind();
+            Tried::Ended(Ending::Unbuilt)
+        }
+        Ok(Flow::Ended(ending)) => {
+            txn.unwind();
+            Tried::Ended(ending)
+        }
+        Err(Cut::Absent(page)) => {
+            txn.unwind();
+            Tried::Absent(page)
+        }
+        Err(Cut::Event(exception)) => {
+            txn.unwind();
+            Tried::Event(exception)
+        }
+    }
+}
