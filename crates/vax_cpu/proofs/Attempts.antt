@@ -8,7 +8,7 @@ use Rattle.vax_flat.specs.State.{State, with_sent}
 use Rattle.vax_flat.specs.Port.{View}
 use Rattle.vax_flat.specs.Accesses.{Accesses, Leaf, Went}
 use Rattle.vax_flat.specs.OverPort.{Present, Comes, over_port, Follows}
-use Rattle.vax_flat.specs.Step.{whole, whole_step, leaf}
+use Rattle.vax_flat.specs.Step.{leaf}
 use Rattle.vax_cpu.specs.declared.attempt.Tried.TheVariants as tried
 use Rattle.vax_cpu.specs.Tried.{IsTried, ending_of}
 
@@ -16,13 +16,13 @@ use Rattle.vax_cpu.specs.Tried.{IsTried, ending_of}
 pub present_of : (old : Present) (state : State) (view : View) → state ≡ old.state → view ≡ old.view → record { state = state; view = view } ≡ old
 present_of old state view s v = ap (λ x. record { state = x; view = view }) s ∙ ap (λ x. record { state = old.state; view = x }) v
 
-module _ (old start mid new : Present) (begun : start ≡ old) (how : Flow) (follows : Follows (whole start.state) start (Ok how) mid) where
-  came : over_port (whole_step old.state) old.view ≡ Comes (Went how mid.state) mid.view
+module _ (tree : State → (Flow → State → Accesses Leaf) → Accesses Leaf) (old start mid new : Present) (begun : start ≡ old) (how : Flow) (follows : Follows (tree start.state) start (Ok how) mid) where
+  came : over_port (tree old.state leaf) old.view ≡ Comes (Went how mid.state) mid.view
   unfolding over_port
-  came = subst (λ (p : Present). over_port (whole_step p.state) p.view ≡ Comes (Went how mid.state) mid.view) begun (follows leaf)
+  came = subst (λ (p : Present). over_port (tree p.state leaf) p.view ≡ Comes (Went how mid.state) mid.view) begun (follows leaf)
 
   -- a step that is kept
-  pub kept : (sent : Option ℕ) → how ≡ flow.Done → new.state ≡ with_sent mid.state None → new.view ≡ mid.view → sent ≡ mid.state.sent → IsTried whole_step old (tried.Step sent) new
+  pub kept : (sent : Option ℕ) → how ≡ flow.Done → new.state ≡ with_sent mid.state None → new.view ≡ mid.view → sent ≡ mid.state.sent → IsTried (λ s. tree s leaf) old (tried.Step sent) new
   kept sent is state view byte = (
       mid.state,
       came ∙ (ap (λ x. Comes (Went x mid.state) mid.view) is ∙ ap (λ v. Comes (Went flow.Done mid.state) v) (sym view)),
@@ -31,5 +31,5 @@ module _ (old start mid new : Present) (begun : start ≡ old) (how : Flow) (fol
   )
 
   -- one that ends the run
-  pub finished : (e : Ending) → ending_of how ≡ Some e → new ≡ old → IsTried whole_step old (tried.Ended e) new
+  pub finished : (e : Ending) → ending_of how ≡ Some e → new ≡ old → IsTried (λ s. tree s leaf) old (tried.Ended e) new
   finished e is same = (how, mid.state, mid.view, came, is, same)

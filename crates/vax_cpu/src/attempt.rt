@@ -1,7 +1,7 @@
 //! One attempt at a step, as a transaction that is kept or undone.
 ghost use Rattle.std.specs.Prelude.{◌≡◌, ◌≤◌, None};
 ghost use Rattle.vax_flat.specs.OverPort.{Follows};
-ghost use Rattle.vax_flat.specs.Step.{begun, delivery, finished, whole, whole_step};
+ghost use Rattle.vax_flat.specs.Step.{begun, delivery, finished, whole, whole_step, delivered, whole_delivery};
 ghost use Rattle.vax_undo.specs.Transaction.{present, room, state_of, Keeps};
 ghost use Rattle.vax_cpu.specs.Tried.{IsTried};
 
@@ -84,32 +84,63 @@ fn work<P: Port>(txn: &mut Txn<P>) -> Result<Flow, Cut>
     finish(txn, flow)
 }
 
+/// The delivery of an exception, and the clock.
+#[inline]
+#[tactic(auto, unfolding(vax_flat::specs::Step::delivered))]
+fn work_delivery<P: Port>(txn: &mut Txn<P>, exception: Exception) -> Result<Flow, Cut>
+    requires { 2 ≤ room txn.old }
+    ensures exact { Follows (delivered exception (present P.view txn.old).state) (present P.view txn.old) result (present P.view txn.new) }
+    ensures keeps { Keeps P.view P.since 2 txn.old txn.new }
+{
+    let flow = deliver(txn, exception)?;
+    finish(txn, flow)
+}
+
+/// Keeps a transaction whose work was completed, and undoes any other.
+macro_rules! conclude {
+    ($txn:ident, $work:expr) => {
+        match $work {
+            Ok(Flow::Done) => Tried::Step($txn.commit()),
+            Ok(Flow::Trap(_)) => {
+                $txn.unwind();
+                Tried::Ended(Ending::Unbuilt)
+            }
+            Ok(Flow::Ended(ending)) => {
+                $txn.unwind();
+                Tried::Ended(ending)
+            }
+            Err(Cut::Absent(page)) => {
+                $txn.unwind();
+                Tried::Absent(page)
+            }
+            Err(Cut::Event(exception)) => {
+                $txn.unwind();
+                Tried::Event(exception)
+            }
+        }
+    };
+}
+
 /// Makes an attempt at a step, which is undone where it isn't completed.
-#[tactic(auto)]
 pub(crate) fn try_step<P: Port>(core: &mut Core, term: &mut Term, port: &mut P) -> Tried
     requires { term.old.out ≡ None }
     ensures tried { IsTried whole_step (record { state = state_of core.old term.old; view = P.view port.old }) result (record { state = state_of core.new term.new; view = P.view port.new }) }
     ensures unsent { term.new.out ≡ None }
+    ensures input { term.new.input ≡ term.old.input }
     ensures since { (start : P) → P.since start port.old → P.since start port.new }
 {
     let mut txn = Txn::begin(core, term, port);
-    match work(&mut txn) {
-        Ok(Flow::Done) => Tried::Step(txn.commit()),
-        Ok(Flow::Trap(_)) => {
-            txn.unwind();
-            Tried::Ended(Ending::Unbuilt)
-        }
-        Ok(Flow::Ended(ending)) => {
-            txn.unwind();
-            Tried::Ended(ending)
-        }
-        Err(Cut::Absent(page)) => {
-            txn.unwind();
-            Tried::Absent(page)
-        }
-        Err(Cut::Event(exception)) => {
-            txn.unwind();
-            Tried::Event(exception)
-        }
-    }
+    conclude!(txn, work(&mut txn))
+}
+
+/// Makes an attempt at the delivery of an exception, from the state at the start of the instruction.
+pub(crate) fn try_delivery<P: Port>(core: &mut Core, term: &mut Term, port: &mut P, exception: Exception) -> Tried
+    requires { term.old.out ≡ None }
+    ensures tried { IsTried (whole_delivery exception) (record { state = state_of core.old term.old; view = P.view port.old }) result (record { state = state_of core.new term.new; view = P.view port.new }) }
+    ensures unsent { term.new.out ≡ None }
+    ensures input { term.new.input ≡ term.old.input }
+    ensures since { (start : P) → P.since start port.old → P.since start port.new }
+{
+    let mut txn = Txn::begin(core, term, port);
+    conclude!(txn, work_delivery(&mut txn, exception))
 }

@@ -89,11 +89,12 @@ module _ {P : Type 0} where
   abbrev pub IsReady : (P → View) → Transaction P → Type 0
   IsReady view t = AllowsAll (view t.port.now).areas (view t.port.now).resident t.log.items
 
-  -- the transaction is over the same registers, console and port
+  -- the transaction is over the same registers, console and port, and the console's input is as it was
   pub record IsSame (along : P → P → Type 0) (old new : Transaction P) : Type 0 where
     pub core : new.core.ghost_name ≡ old.core.ghost_name
     pub term : new.term.ghost_name ≡ old.term.ghost_name
     pub port : new.port.ghost_name ≡ old.port.ghost_name
+    pub input : new.term.now.input ≡ old.term.now.input
     pub since : (start : P) → along start old.port.now → along start new.port.now
 
   -- A call leaves the transaction so that undoing its log gives what it gave before, and used at most so many entries.

@@ -79,6 +79,7 @@ impl<'a, P: Port> Txn<'a, P> {
         ensures port { result.port.ghost_name ≡ port.entry.ghost_name }
         ensures present { present P.view result ≡ record { state = state_of core.old term.old; view = P.view port.old } }
         ensures lent { result.port.now ≡ port.old }
+        ensures console { result.term.now ≡ term.old }
         ensures undone { undone P.view result ≡ present P.view result }
         ensures room { room result ≡ 96 }
         ensures ready { IsReady P.view result }
