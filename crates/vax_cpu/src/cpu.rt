@@ -1,1 +1,73 @@
 //! The processor.
+ghost use Rattle.std.specs.Prelude.{◌≡◌, ℕ, List, [], None};
+ghost use Rattle.vax_space.specs.declared.Area.{Area};
+ghost use Rattle.vax_flat.specs.Port.{StandsFor};
+
+use crate::attempt::{Tried, try_delivery, try_step};
+use vax_flat::Ending;
+use vax_undo::{Port, Term};
+use vax_word::Core;
+
+/// A string instruction that is open between two of its parts: its opcode, the registers at its start, and how many of its units are done.
+#[derive(Clone, Copy, Debug, PartialEq, Eq)]
+pub struct Open {
+    pub opcode: u8,
+    pub start: Core,
+    pub units: u32,
+}
+
+/// What an attempt came to.
+#[derive(Clone, Copy, Debug, PartialEq, Eq)]
+pub enum Attempt {
+    /// One whole instruction, or the delivery of its exception or of an interrupt, was completed; it sent this byte to the console.
+    Step(Option<u8>),
+    /// A part of a string instruction was completed, and more remains.
+    Part,
+    /// The attempt needs this page, which isn't resident. Everything is as before.
+    Absent(u32),
+    /// The step from here ends the run. Everything is as before.
+    Ended(Ending),
+}
+
+/// A processor: its registers, its console, and the string instruction that is open, if one is.
+#[derive(Drop)]
+pub struct Cpu {
+    pub core: Core,
+    pub term: Term,
+    pub latch: Option<Open>,
+}
+
+impl Cpu {
+    ghost use Rattle.vax_cpu.specs.Attempt.{flat_of, Attempted, IsAsBefore};
+
+    /// Makes one attempt at the instruction at PC, at which nothing that was sent to the console is left.
+    ///
+    /// It answers the first page, in the order in which the step touches memory, that isn't resident, and then everything is as before; else
+    /// it makes the step of the flat machine.
+    pub fn attempt<P: Port>(&mut self, port: &mut P) -> Attempt
+        requires { self.old.term.out ≡ None }
+        ensures step { self.old.latch ≡ None → (memory : List Area) → (output : List ℕ) → StandsFor (P.view port.old) memory → Attempted (P.view port.old) (flat_of self.old memory output) result self.new (P.view port.new) }
+        ensures before { IsAsBefore result (flat_of self.old [] []) (P.view port.old) (flat_of self.new [] []) (P.view port.new) }
+        ensures latch { self.new.latch ≡ self.old.latch }
+        ensures unsent { self.new.term.out ≡ None }
+        ensures input { self.new.term.input ≡ self.old.term.input }
+        ensures since { (start : P) → P.since start port.old → P.since start port.new }
+    {
+        if self.latch.is_some() {
+            return Attempt::Ended(Ending::Unbuilt);
+        }
+        match try_step(&mut self.core, &mut self.term, port) {
+            Tried::Step(sent) => Attempt::Step(sent),
+            Tried::Absent(page) => Attempt::Absent(page),
+            Tried::Ended(ending) => Attempt::Ended(ending),
+            Tried::Event(exception) => {
+                match try_delivery(&mut self.core, &mut self.term, port, exception) {
+                    Tried::Step(sent) => Attempt::Step(sent),
+                    Tried::Absent(page) => Attempt::Absent(page),
+                    Tried::Ended(ending) => Attempt::Ended(ending),
+                    Tried::Event(_) => Attempt::Ended(Ending::Unbuilt),
+                }
+            }
+        }
+    }
+}

@@ -6,3 +6,4 @@ mod cpu;
 mod interrupt;
 mod rows;
 
+pub use crate::cpu::{Attempt, Cpu, Open};
