@@ -1,29 +1,11 @@
-use Rattle.std.proofs.Common.{◌≡◌, ◌+◌, ◌-◌, ◌*◌, ◌/◌, ◌%◌, ◌^◌, ◌<◌, ◌≤◌, ℕ, zero, suc, ◌⊎◌, inl, inr, Bool, true, false, not, ◌&&◌, ◌||◌, if◌then◌else◌, refl, ◌∙◌, ap, sym, arith, add_assoc, nat_eq, nat_lt, nat_le, ℤ, pos, negsuc, ◌+ℤ◌, ◌-ℤ◌, ◌*ℤ◌, neg_ℤ, unsigned_abs, int_le, int_lt, w64, FitsSigned, to_z, of_z}
-use Rattle.std.proofs.lemmas.Int.{ints, to_z-of_z}
+use Rattle.std.proofs.Common.{◌≡◌, ◌+◌, ◌-◌, ◌*◌, ◌%◌, ◌<◌, ℕ, ◌⊎◌, inl, inr, Bool, true, false, not, ◌&&◌, ◌||◌, if◌then◌else◌, refl, ◌∙◌, ap, sym, arith, add_assoc, nat_eq, nat_lt, nat_le, ℤ, pos, ◌+ℤ◌, ◌-ℤ◌, neg_ℤ, int_le, int_lt}
+use Rattle.std.proofs.lemmas.Int.{ints}
 use Rattle.std.proofs.lemmas.Bool.Decides.{nat_tests}
-use Rattle.std.specs.Int.Signed.{shr_z}
-use Rattle.std.specs.Int.{int_rem_euclid, from_bool}
+use Rattle.std.specs.Int.{from_bool}
 use Rattle.std.specs.Bool.{beq}
 use Rattle.vax_word.specs.declared.Size.{Size}
 use Rattle.vax_word.specs.declared.Size.TheVariants.{B, W, L, Q}
-use Rattle.vax_word.specs.Arithmetic.{bytes_of, modulus, sign_bit, is_negative, signed, low_bits, fits_signed, fits_unsigned, answer, sum, difference}
-
--- what the code's two shifts make of an operand
-pub shifts_extend : (s : Size) (x : ℕ) → x < modulus s →
-    shr_z (to_z w64 (x * 2 ^ (64 - 8 * bytes_of s) % 18446744073709551616)) (2 ^ (64 - 8 * bytes_of s)) ≡ signed s x
-unfolding signed
-shifts_extend B x h = grind (arith, ints, nat_tests)
-shifts_extend W x h = grind (arith, ints, nat_tests)
-shifts_extend L x h = grind (arith, ints, nat_tests)
-shifts_extend Q x h = grind (arith, ints, nat_tests)
-
-pub low_of_cast : (s : Size) (z : ℤ) → FitsSigned w64 z → of_z w64 z % modulus s ≡ low_bits s z
-unfolding low_bits
-low_of_cast s (pos n) h = refl
-low_of_cast B (negsuc n) h = omega (arith, h.sfits)
-low_of_cast W (negsuc n) h = omega (arith, h.sfits)
-low_of_cast L (negsuc n) h = omega (arith, h.sfits)
-low_of_cast Q (negsuc n) h = omega (arith, h.sfits)
+use Rattle.vax_word.specs.Arithmetic.{modulus, is_negative, signed, low_bits, fits_signed, fits_unsigned, answer, sum, difference}
 
 -- V of a sum: both operands have one sign, and the result has the other
 sum_fits : (h a b c r : ℕ) → a < 2 * h → b < 2 * h → c < 2 → (r ≡ a + b + c) ⊎ (r + 2 * h ≡ a + b + c) → r < 2 * h →
@@ -160,14 +142,3 @@ difference_answer s a b borrow r ha hb below made =
     let v = difference_overflows s a b c r ha hb (from_bool_below borrow) cases below in
     let borrowed = difference_borrows (modulus s) a b borrow ha hb in
     cc
-
-pub overflow_seen : (s : Size) (z : ℤ) → FitsSigned w64 z → nat_eq (of_z w64 (signed s (low_bits s z))) (of_z w64 z) ≡ fits_signed s z
-unfolding signed low_bits fits_signed
-overflow_seen B (pos n) h = let f = h.sfits in grind (arith, ints, nat_tests)
-overflow_seen B (negsuc n) h = let f = h.sfits in grind (arith, ints, nat_tests)
-overflow_seen W (pos n) h = let f = h.sfits in grind (arith, ints, nat_tests)
-overflow_seen W (negsuc n) h = let f = h.sfits in grind (arith, ints, nat_tests)
-overflow_seen L (pos n) h = let f = h.sfits in grind (arith, ints, nat_tests)
-overflow_seen L (negsuc n) h = let f = h.sfits in grind (arith, ints, nat_tests)
-overflow_seen Q (pos n) h = let f = h.sfits in grind (arith, ints, nat_tests)
-overflow_seen Q (negsuc n) h = let f = h.sfits in grind (arith, ints, nat_tests)
