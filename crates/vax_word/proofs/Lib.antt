@@ -1,2 +1,3 @@
 pub mod ArithmeticLemmas
+pub mod ShiftLemmas
 pub mod StatusLemmas

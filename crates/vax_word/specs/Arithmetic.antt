@@ -1,4 +1,4 @@
-use Rattle.std.specs.Prelude.{ℕ, ◌+◌, ◌*◌, ◌/◌, ◌%◌, ◌^◌, ◌==◌, Bool, true, false, not, ◌&&◌, ◌||◌, if◌then◌else◌, nat_le, ℤ, pos, negsuc, ◌+ℤ◌, ◌-ℤ◌, ◌*ℤ◌, neg_ℤ, unsigned_abs, int_lt, int_le, int_div, int_rem}
+use Rattle.std.specs.Prelude.{ℕ, suc, ◌+◌, ◌*◌, ◌/◌, ◌%◌, ◌^◌, ◌==◌, Bool, true, false, not, ◌&&◌, ◌||◌, if◌then◌else◌, nat_le, ℤ, pos, negsuc, ◌+ℤ◌, ◌-ℤ◌, ◌*ℤ◌, neg_ℤ, unsigned_abs, int_lt, int_le, int_div, int_rem}
 use Rattle.std.specs.Int.{int_rem_euclid, int_div_euclid, from_bool}
 use Rattle.vax_word.specs.declared.Size.{Size}
 use Rattle.vax_word.specs.declared.Size.TheVariants.{B, W, L, Q}
@@ -75,7 +75,7 @@ quotient s dividend divisor =
 -- ASH by a count: times 2 to the count, or divided by 2 to minus the count and rounded down
 unfoldable pub shifted : Size → ℤ → ℕ → ℕ × Codes
 shifted s (pos count) value = signed_answer s (signed s value *ℤ pos (2 ^ count))
-shifted s (negsuc count) value = signed_answer s (int_div_euclid (signed s value) (pos (2 ^ (count + 1))))
+shifted s (negsuc count) value = signed_answer s (int_div_euclid (signed s value) (pos (2 ^ suc count)))
 
 -- CVT
 unfoldable pub converted : Size → Size → ℕ → ℕ × Codes
