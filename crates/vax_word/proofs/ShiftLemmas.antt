@@ -25,11 +25,11 @@ modulus_positive Q = lit≤ tt
 far_quotient : (a n : ℕ) → a < 9223372036854775808 → a / 2 ^ min n 63 ≡ a / 2 ^ n
 far_quotient a n h =
     elim (cases_lt n 64) [
-      inl near ↦ let least : min n 63 ≡ n = omega arith in ap (λ k. a / 2 ^ k) least
-    | inr far ↦
-        let least : min n 63 ≡ 63 = omega arith in
-        let wide : 2 ^ 63 ≤ 2 ^ n = pow_mono {i = 63} {j = n} (omega arith) in
-        ap (λ k. a / 2 ^ k) least ∙ div-eq_of_lt h ∙ sym (div-eq_of_lt (omega arith))
+      | inl near ↦ let least : min n 63 ≡ n = omega arith in ap (λ k. a / 2 ^ k) least
+      | inr far ↦
+          let least : min n 63 ≡ 63 = omega arith in
+          let wide : 2 ^ 63 ≤ 2 ^ n = pow_mono {i = 63} {j = n} (omega arith) in
+          ap (λ k. a / 2 ^ k) least ∙ div-eq_of_lt h ∙ sym (div-eq_of_lt (omega arith))
     ]
 
 floor_by_shift : (z : ℤ) (n : ℕ) → FitsSigned w64 z → shr_z z (2 ^ min n 63) ≡ int_div_euclid z (pos (2 ^ n))
@@ -121,23 +121,23 @@ signed-zero Q = refl
 units : (s : Size) (r u v p : ℕ) → r < modulus s → r ≡ u * p → modulus s ≡ v * p → u < v → (q : ℤ) × (signed s r ≡ q *ℤ pos p)
 units s r u v p below r_is m_is less =
     elim (signed_cases s r below) [
-      inl e ↦ (pos u, e ∙ ap pos r_is)
-    | inr (d, whole, e) ↦
-        let spare : v ≡ u + suc (v - suc u) = omega arith in
-        let product : v * p ≡ u * p + suc (v - suc u) * p = omega (arith, ap (λ y. y * p) spare) in
-        let left : suc d ≡ suc (v - suc u) * p = omega (arith, whole, product) in
-        (negsuc (v - suc u), e ∙ ap (λ w. neg_ℤ (pos w)) left)
+      | inl e ↦ (pos u, e ∙ ap pos r_is)
+      | inr (d, whole, e) ↦
+          let spare : v ≡ u + suc (v - suc u) = omega arith in
+          let product : v * p ≡ u * p + suc (v - suc u) * p = omega (arith, ap (λ y. y * p) spare) in
+          let left : suc d ≡ suc (v - suc u) * p = omega (arith, whole, product) in
+          (negsuc (v - suc u), e ∙ ap (λ w. neg_ℤ (pos w)) left)
     ]
 
 multiple_at : (s : Size) (b x k : ℕ) → modulus s ≡ 2 ^ b → (q : ℤ) × (signed s (x * 2 ^ k % modulus s) ≡ q *ℤ pos (2 ^ k))
 multiple_at s b x k bits =
     elim (cases_lt b k) [
-      inl far ↦
-        let none : x * 2 ^ k % modulus s ≡ 0 = rw bits (multiple_far b k x (omega arith)) in
-        (pos 0, ap (signed s) none ∙ signed-zero s ∙ ap pos (sym (zero-mul (2 ^ k))))
-    | inr near ↦
-        units s _ (x % 2 ^ (b - k)) (2 ^ (b - k)) (2 ^ k) (mod_below _ _ (modulus_positive s))
-        (rw bits (multiple_near b k x near)) (bits ∙ power_near b k near) (mod_below _ _ (pow_pos (b - k)))
+      | inl far ↦
+          let none : x * 2 ^ k % modulus s ≡ 0 = rw bits (multiple_far b k x (omega arith)) in
+          (pos 0, ap (signed s) none ∙ signed-zero s ∙ ap pos (sym (zero-mul (2 ^ k))))
+      | inr near ↦
+          units s _ (x % 2 ^ (b - k)) (2 ^ (b - k)) (2 ^ k) (mod_below _ _ (modulus_positive s))
+          (rw bits (multiple_near b k x near)) (bits ∙ power_near b k near) (mod_below _ _ (pow_pos (b - k)))
     ]
 
 multiple : (s : Size) (x k : ℕ) → (q : ℤ) × (signed s (x * 2 ^ k % modulus s) ≡ q *ℤ pos (2 ^ k))
@@ -157,17 +157,17 @@ left_test_by : (s : Size) (x k : ℕ) (fits : Bool) → x < modulus s → FitsSi
 left_test_by s x k true below x_fits back_fits e =
     let z : ℤ = signed s x in
     let same : signed s (x * 2 ^ k % modulus s) ≡ z *ℤ pos (2 ^ k) =
-        ap (signed s) (sym (low_of_shift s x (2 ^ k) below)) ∙ signed-low_bits s (z *ℤ pos (2 ^ k)) e in
+    ap (signed s) (sym (low_of_shift s x (2 ^ k) below)) ∙ signed-low_bits s (z *ℤ pos (2 ^ k)) e in
     eq-eqb _ _ (ap (λ y. of_z w64 (shr_z y (2 ^ k))) same ∙ ap (of_z w64) (back z (2 ^ k) (pow_pos k)))
 left_test_by s x k false below x_fits back_fits e =
     let r : ℕ = x * 2 ^ k % modulus s in
     ne_eqb _ _ (λ same.
-        let found = multiple s x k in
-        let returned : shr_z (signed s r) (2 ^ k) ≡ signed s x =
-            sym (to_z-of_z w64 _ back_fits) ∙ ap (to_z w64) same ∙ to_z-of_z w64 _ x_fits in
-        let exact : signed s r ≡ signed s x *ℤ pos (2 ^ k) =
-            sym (back_and_forth (signed s r) found.0 k found.1) ∙ ap (λ y. y *ℤ pos (2 ^ k)) returned in
-        true≢false (sym (signed_fits s r (mod_below _ _ (modulus_positive s))) ∙ ap (fits_signed s) exact ∙ e))
+    let found = multiple s x k in
+    let returned : shr_z (signed s r) (2 ^ k) ≡ signed s x =
+    sym (to_z-of_z w64 _ back_fits) ∙ ap (to_z w64) same ∙ to_z-of_z w64 _ x_fits in
+    let exact : signed s r ≡ signed s x *ℤ pos (2 ^ k) =
+    sym (back_and_forth (signed s r) found.0 k found.1) ∙ ap (λ y. y *ℤ pos (2 ^ k)) returned in
+    true≢false (sym (signed_fits s r (mod_below _ _ (modulus_positive s))) ∙ ap (fits_signed s) exact ∙ e))
 
 left_test : (s : Size) (x k : ℕ) → x < modulus s → FitsSigned w64 (signed s x) →
     FitsSigned w64 (shr_z (signed s (x * 2 ^ k % modulus s)) (2 ^ k)) →
@@ -185,17 +185,17 @@ far_test_by : (s : Size) (x k : ℕ) (fits : Bool) → x < modulus s → 64 ≤ 
 far_test_by s x k true below far e =
     let z : ℤ = signed s x in
     let none : pos 0 ≡ z *ℤ pos (2 ^ k) =
-        sym (signed-zero s) ∙ ap (signed s) (sym (low_of_shift s x (2 ^ k) below ∙ low_far s x k far)) ∙ signed-low_bits s (z *ℤ pos (2 ^ k)) e in
+    sym (signed-zero s) ∙ ap (signed s) (sym (low_of_shift s x (2 ^ k) below ∙ low_far s x k far)) ∙ signed-low_bits s (z *ℤ pos (2 ^ k)) e in
     let zero_value : z ≡ pos 0 = sym (back z (2 ^ k) (pow_pos k)) ∙ ap (λ y. shr_z y (2 ^ k)) (sym none) ∙ ap pos (zero-div (2 ^ k)) in
     elim (signed_cases s x below) [
-      inl positive ↦ let same : pos x ≡ pos 0 = sym positive ∙ zero_value in eq-eqb x 0 (omega (arith, ints))
-    | inr (d, whole, negative) ↦ let same : negsuc d ≡ pos 0 = sym negative ∙ zero_value in absurd (omega (arith, ints))
+      | inl positive ↦ let same : pos x ≡ pos 0 = sym positive ∙ zero_value in eq-eqb x 0 (omega (arith, ints))
+      | inr (d, whole, negative) ↦ let same : negsuc d ≡ pos 0 = sym negative ∙ zero_value in absurd (omega (arith, ints))
     ]
 far_test_by s x k false below far e =
     ne_eqb x 0 (λ zero_value.
-        let nothing : signed s x *ℤ pos (2 ^ k) ≡ signed s 0 =
-            ap (λ y. signed s y *ℤ pos (2 ^ k)) zero_value ∙ ap (λ y. y *ℤ pos (2 ^ k)) (signed-zero s) ∙ ap pos (zero-mul (2 ^ k)) ∙ sym (signed-zero s) in
-        true≢false (sym (signed_fits s 0 (modulus_positive s)) ∙ ap (fits_signed s) (sym nothing) ∙ e))
+    let nothing : signed s x *ℤ pos (2 ^ k) ≡ signed s 0 =
+    ap (λ y. signed s y *ℤ pos (2 ^ k)) zero_value ∙ ap (λ y. y *ℤ pos (2 ^ k)) (signed-zero s) ∙ ap pos (zero-mul (2 ^ k)) ∙ sym (signed-zero s) in
+    true≢false (sym (signed_fits s 0 (modulus_positive s)) ∙ ap (fits_signed s) (sym nothing) ∙ e))
 
 pub low_of_whole : (s : Size) (n : ℕ) → n % 18446744073709551616 % modulus s ≡ n % modulus s
 low_of_whole B n = omega arith

@@ -14,15 +14,15 @@ returns c =
     let x_fits : FitsSigned w64 c.extend-dividend.result = search rules in
     let y_fits : FitsSigned w64 c.extend-divisor.result = search rules in
     let tested : nat_eq b 0 || not (fits_signed L (int_div (signed Q a) (signed L b))) ≡ true =
-        elim c.match-checked_div.branch [
-          in-Some+else-not-codes w ↦
-            let whole = rw (to_z-of_z _ _ x_fits, to_z-of_z _ _ y_fits, c.extend-dividend.ensures.exact, c.extend-divisor.ensures.exact) at w.in-Some.ensures in
-            let narrowed : w.narrow-quotient.result ≡ signed_answer L (int_div (signed Q a) (signed L b)) =
-                w.narrow-quotient.ensures.exact ∙ rw (whole.1, to_z-of_z _ _ whole.0.1) refl in
-            rw (← signed_answer-v L (int_div (signed Q a) (signed L b)), ← narrowed) (or-of_not _ _ w.if-not-codes.false)
-        | in_default w ↦
-            cannot_divide b _ (omega arith) (rw (to_z-of_z _ _ x_fits, to_z-of_z _ _ y_fits, c.extend-dividend.ensures.exact, c.extend-divisor.ensures.exact) at w.in_default.ensures)
-        ] in
+    elim c.match-checked_div.branch [
+      | in-Some+else-not-codes w ↦
+          let whole = rw (to_z-of_z _ _ x_fits, to_z-of_z _ _ y_fits, c.extend-dividend.ensures.exact, c.extend-divisor.ensures.exact) at w.in-Some.ensures in
+          let narrowed : w.narrow-quotient.result ≡ signed_answer L (int_div (signed Q a) (signed L b)) =
+          w.narrow-quotient.ensures.exact ∙ rw (whole.1, to_z-of_z _ _ whole.0.1) refl in
+          rw (← signed_answer-v L (int_div (signed Q a) (signed L b)), ← narrowed) (or-of_not _ _ w.if-not-codes.false)
+      | in_default w ↦
+          cannot_divide b _ (omega arith) (rw (to_z-of_z _ _ x_fits, to_z-of_z _ _ y_fits, c.extend-dividend.ensures.exact, c.extend-divisor.ensures.exact) at w.in_default.ensures)
+    ] in
     extended_overflow b a tested c.result-quotient.result (c.result-quotient.ensures.exact ∙ ap (λ r. answer L r true false) c.low.ensures.exact)
 
 pub returns-then-not-codes : goal.returns-then-not-codes
@@ -35,13 +35,13 @@ returns-then-not-codes c =
     let y_fits : FitsSigned w64 y = search rules in
     let whole = rw (to_z-of_z _ _ x_fits, to_z-of_z _ _ y_fits, c.extend-dividend.ensures.exact, c.extend-divisor.ensures.exact) at c.in-Some.ensures in
     let narrowed : c.narrow-quotient.result ≡ signed_answer L (int_div (signed Q a) (signed L b)) =
-        c.narrow-quotient.ensures.exact ∙ rw (whole.1, to_z-of_z _ _ whole.0.1) refl in
+    c.narrow-quotient.ensures.exact ∙ rw (whole.1, to_z-of_z _ _ whole.0.1) refl in
     let fits : not (fits_signed L (int_div (signed Q a) (signed L b))) ≡ false =
-        rw (← signed_answer-v L (int_div (signed Q a) (signed L b)), ← narrowed) (not-true _ c.if-not-codes.true) in
+    rw (← signed_answer-v L (int_div (signed Q a) (signed L b)), ← narrowed) (not-true _ c.if-not-codes.true) in
     let tested : nat_eq b 0 || not (fits_signed L (int_div (signed Q a) (signed L b))) ≡ false =
-        rw (divisor_nonzero b whole.0.0, fits) refl in
+    rw (divisor_nonzero b whole.0.0, fits) refl in
     let rest_fits : FitsSigned w64 (int_rem x y) = record { sfits = omega (arith, mag_rem x y, x_fits.sfits) } in
     let rest : c.low-remainder.result ≡ low_bits L (int_rem (signed Q a) (signed L b)) =
-        c.low-remainder.ensures.exact
-        ∙ rw (c.cast_unsigned.ensures, to_z-of_z _ _ x_fits, to_z-of_z _ _ y_fits, to_z-of_z _ _ rest_fits, ← c.extend-dividend.ensures.exact, ← c.extend-divisor.ensures.exact) (low_of_cast L (int_rem x y) rest_fits) in
+    c.low-remainder.ensures.exact
+    ∙ rw (c.cast_unsigned.ensures, to_z-of_z _ _ x_fits, to_z-of_z _ _ y_fits, to_z-of_z _ _ rest_fits, ← c.extend-dividend.ensures.exact, ← c.extend-divisor.ensures.exact) (low_of_cast L (int_rem x y) rest_fits) in
     extended_fit b a tested _ _ narrowed rest

@@ -13,5 +13,5 @@ returns-clause-exact c =
     let fits : FitsSigned w64 (shr_z cast (2 ^ places)) = search rules in
     let read : to_z w64 (of_z w64 cast) ≡ cast = to_z-of_z _ _ cast_fits in
     let shifts : shr_z (to_z w64 (c.args.x * 2 ^ places % 18446744073709551616)) (2 ^ places) ≡ signed c.args.size c.args.x =
-        rw c.bits-unused.ensures (shifts_extend _ _ c.requires) in
+    rw c.bits-unused.ensures (shifts_extend _ _ c.requires) in
     rw (read, to_z-of_z _ _ fits, c.cast_signed.ensures) shifts

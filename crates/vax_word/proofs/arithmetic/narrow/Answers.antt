@@ -11,7 +11,7 @@ returns-clause-exact c =
     let exact = c.args.exact in
     let fits = c.ranges.exact in
     let low : c.low-r.result ≡ low_bits size exact =
-        c.low-r.ensures.exact ∙ rw (c.cast_unsigned.ensures, to_z-of_z _ _ fits) (low_of_cast size exact fits) in
+    c.low-r.ensures.exact ∙ rw (c.cast_unsigned.ensures, to_z-of_z _ _ fits) (low_of_cast size exact fits) in
     let seen : nat_eq (of_z w64 c.extend.result) (of_z w64 exact) ≡ fits_signed size exact =
-        rw (c.extend.ensures.exact, low) (overflow_seen size exact fits) in
+    rw (c.extend.ensures.exact, low) (overflow_seen size exact fits) in
     cc

@@ -31,12 +31,12 @@ returns-clause-exact c =
     let r = c.low-r.result in
     let places : c.unsigned_abs-places.result ≡ unsigned_abs c.args.count = c.unsigned_abs-places.ensures.value ∙ ap unsigned_abs (to_z-of_z _ _ count_fits) in
     let low : r ≡ value * 2 ^ unsigned_abs c.args.count % modulus size =
-        c.low-r.ensures.exact ∙ low_of_whole size _ ∙ ap (λ k. value * 2 ^ k % modulus size) places in
+    c.low-r.ensures.exact ∙ low_of_whole size _ ∙ ap (λ k. value * 2 ^ k % modulus size) places in
     let exact_fits : FitsSigned w64 c.extend-exact.result = search rules in
     let r_fits : FitsSigned w64 c.extend.result = search rules in
     let value_fits : FitsSigned w64 (signed size value) = rw (← c.extend-exact.ensures.exact) exact_fits in
     let signed_fits : FitsSigned w64 (signed size r) = rw (← c.extend.ensures.exact) r_fits in
     let back_fits : FitsSigned w64 (shr_z (signed size r) (2 ^ unsigned_abs c.args.count)) =
-        record { sfits = omega (arith, mag_shr (signed size r) (2 ^ unsigned_abs c.args.count), signed_fits.sfits) } in
+    record { sfits = omega (arith, mag_shr (signed size r) (2 ^ unsigned_abs c.args.count), signed_fits.sfits) } in
     let answered = left_answer size c.args.count value r left c.requires.fits value_fits low back_fits in
     c.result-2.ensures.exact ∙ rw (to_z-of_z _ _ r_fits, c.extend.ensures.exact, c.extend-exact.ensures.exact, places) answered
