@@ -1,23 +1,16 @@
-use Rattle.std.proofs.Common.{◌≡◌, ◌≢◌, ◌+◌, ◌-◌, ◌*◌, ◌/◌, ◌%◌, ◌^◌, ◌<◌, ◌≤◌, ℕ, zero, suc, min, ◌⊎◌, inl, inr, Bool, true, false, not, ◌&&◌, ◌||◌, if◌then◌else◌, refl, ◌∙◌, ap, sym, arith, eq-eqb, nat_eq, nat_lt, nat_le, ℤ, pos, negsuc, ◌+ℤ◌, ◌-ℤ◌, ◌*ℤ◌, neg_ℤ, unsigned_abs, lit≤, lit<, int_le, int_lt, w64, FitsSigned, to_z, of_z}
+use Rattle.std.proofs.Common.{◌≡◌, ◌+◌, ◌-◌, ◌*◌, ◌/◌, ◌%◌, ◌^◌, ◌<◌, ◌≤◌, ℕ, suc, min, ◌⊎◌, inl, inr, Bool, true, false, not, refl, ◌∙◌, ap, sym, arith, eq-eqb, nat_eq, ℤ, pos, negsuc, ◌+ℤ◌, ◌*ℤ◌, neg_ℤ, unsigned_abs, int_lt, w64, FitsSigned, to_z, of_z}
 use Rattle.std.proofs.Math.Nat.{div-eq_of_lt, mul-mod_left, add-zero, mul_assoc, zero-mul, zero-div}
 use Rattle.std.proofs.Math.Pow.{pow_mono}
 use Rattle.std.proofs.lemmas.Bool.{ne_eqb, true≢false, cases_lt}
 use borrow.Author.Tests.{ltb-true}
-use Rattle.std.proofs.lemmas.Bool.Decides.{nat_tests}
 use Rattle.std.proofs.lemmas.Int.{ints, to_z-of_z, int_rem_euclid_is}
 use Rattle.std.proofs.lemmas.Nat.{pow_pos, pow-add, shl-shr, mod-pow-add, div-mul-add, mod_below}
-use Rattle.std.specs.Int.Signed.{shr_z, mag_shr}
+use Rattle.std.specs.Int.Signed.{shr_z}
 use Rattle.std.specs.Int.{int_rem_euclid, int_div_euclid}
 use Rattle.vax_word.specs.declared.Size.{Size}
 use Rattle.vax_word.specs.declared.Size.TheVariants.{B, W, L, Q}
-use Rattle.vax_word.specs.declared.Codes.{Codes}
-use Rattle.vax_word.specs.Arithmetic.{bytes_of, modulus, sign_bit, is_negative, signed, low_bits, fits_signed, answer, signed_answer, shifted}
-
-modulus_positive : (s : Size) → 0 < modulus s
-modulus_positive B = lit≤ tt
-modulus_positive W = lit≤ tt
-modulus_positive L = lit≤ tt
-modulus_positive Q = lit≤ tt
+use Rattle.vax_word.specs.Arithmetic.{modulus, signed, low_bits, fits_signed, answer, signed_answer, shifted}
+use Rattle.vax_word.proofs.OperandLemmas.{modulus_positive, signed-zero, signed_cases, signed-low_bits, signed_fits}
 
 -- ---- to the right
 
@@ -44,17 +37,6 @@ right_answer s (negsuc n) value left fits = ap (signed_answer s) (floor_by_shift
 
 -- ---- to the left
 
--- a signed operand by its sign
-by_sign : (m x : ℕ) (b : Bool) → x < m →
-    ((if b then pos x -ℤ pos m else pos x) ≡ pos x) ⊎ ((d : ℕ) × (x + suc d ≡ m) × ((if b then pos x -ℤ pos m else pos x) ≡ negsuc d))
-by_sign m x true h = inr (m - suc x, omega arith, omega (arith, ints))
-by_sign m x false h = inl refl
-
-signed_cases : (s : Size) (x : ℕ) → x < modulus s →
-    (signed s x ≡ pos x) ⊎ ((d : ℕ) × (x + suc d ≡ modulus s) × (signed s x ≡ negsuc d))
-unfolding signed
-signed_cases s x h = by_sign (modulus s) x (is_negative s x) h
-
 -- the low bits of a signed product are those of the unsigned one
 low_of_product : (m x p : ℕ) (z : ℤ) → 0 < m → (z ≡ pos x) ⊎ ((d : ℕ) × (x + suc d ≡ m) × (z ≡ negsuc d)) →
     unsigned_abs (int_rem_euclid (z *ℤ pos p) (pos m)) ≡ x * p % m
@@ -68,25 +50,6 @@ low_of_product m x p z positive (inr (d, whole, e)) =
 pub low_of_shift : (s : Size) (x p : ℕ) → x < modulus s → low_bits s (signed s x *ℤ pos p) ≡ x * p % modulus s
 unfolding low_bits
 low_of_shift s x p h = low_of_product (modulus s) x p (signed s x) (omega arith) (signed_cases s x h)
-
--- a result that fits is what its low bits stand for, and no other is
-signed-low_bits : (s : Size) (z : ℤ) → fits_signed s z ≡ true → signed s (low_bits s z) ≡ z
-unfolding signed low_bits fits_signed
-signed-low_bits B (pos n) h = grind (arith, ints, nat_tests)
-signed-low_bits B (negsuc n) h = grind (arith, ints, nat_tests)
-signed-low_bits W (pos n) h = grind (arith, ints, nat_tests)
-signed-low_bits W (negsuc n) h = grind (arith, ints, nat_tests)
-signed-low_bits L (pos n) h = grind (arith, ints, nat_tests)
-signed-low_bits L (negsuc n) h = grind (arith, ints, nat_tests)
-signed-low_bits Q (pos n) h = grind (arith, ints, nat_tests)
-signed-low_bits Q (negsuc n) h = grind (arith, ints, nat_tests)
-
-signed_fits : (s : Size) (x : ℕ) → x < modulus s → fits_signed s (signed s x) ≡ true
-unfolding signed fits_signed
-signed_fits B x h = grind (arith, ints, nat_tests)
-signed_fits W x h = grind (arith, ints, nat_tests)
-signed_fits L x h = grind (arith, ints, nat_tests)
-signed_fits Q x h = grind (arith, ints, nat_tests)
 
 -- a shift to the left leaves a multiple, and a shift back loses nothing of it
 back : (z : ℤ) (p : ℕ) → 0 < p → shr_z (z *ℤ pos p) p ≡ z
@@ -109,13 +72,6 @@ multiple_far : (b k x : ℕ) → b ≤ k → x * 2 ^ k % 2 ^ b ≡ 0
 multiple_far b k x h =
     let whole : k ≡ (k - b) + b = omega arith in
     ap (λ n. x * 2 ^ n % 2 ^ b) whole ∙ rw (pow-add, ← mul_assoc, mul-mod_left) refl
-
-signed-zero : (s : Size) → signed s 0 ≡ pos 0
-unfolding signed
-signed-zero B = refl
-signed-zero W = refl
-signed-zero L = refl
-signed-zero Q = refl
 
 -- the signed number of u units of p, where the modulus has v of them
 units : (s : Size) (r u v p : ℕ) → r < modulus s → r ≡ u * p → modulus s ≡ v * p → u < v → (q : ℤ) × (signed s r ≡ q *ℤ pos p)

@@ -6,6 +6,7 @@ ghost use Rattle.vax_word.specs.Arithmetic.{bytes_of, modulus, sign_bit, is_nega
 
 use crate::{Codes, Size};
 
+// 8, 16, 32 or 64.
 #[inline]
 fn bits(size: Size) -> u32
     ensures { result ≡ 8 * bytes_of size }
@@ -18,6 +19,7 @@ fn bits(size: Size) -> u32
     }
 }
 
+// The low bits of `x`.
 #[inline]
 fn low(size: Size, x: u64) -> u64
     ensures exact { result ≡ x % modulus size }
@@ -26,14 +28,16 @@ fn low(size: Size, x: u64) -> u64
     x & (u64::MAX >> (64 - bits(size)))
 }
 
+// The sign bit.
 #[inline]
-fn is_minus(size: Size, x: u64) -> bool
+fn is_negative(size: Size, x: u64) -> bool
     requires { x < modulus size }
     ensures { result ≡ is_negative size x }
 {
     (x >> (bits(size) - 1)) != 0
 }
 
+// `x` as two's complement.
 #[inline]
 fn extend(size: Size, x: u64) -> i64
     requires { x < modulus size }
@@ -52,7 +56,7 @@ fn result(size: Size, r: u64, v: bool, c: bool) -> (u64, Codes)
     ensures exact { result ≡ answer size r v c }
     ensures within { result.0 < modulus size }
 {
-    let n = is_minus(size, r);
+    let n = is_negative(size, r);
     (r, Codes { n, z: r == 0, v, c })
 }
 
@@ -78,8 +82,12 @@ pub fn add(size: Size, a: u64, b: u64, carry: bool) -> (u64, Codes)
     ensures within { result.0 < 256 ^ bytes_of size }
 {
     let r = low(size, a.wrapping_add(b).wrapping_add(carry as u64));
-    let (a_minus, b_minus, r_minus) = (is_minus(size, a), is_minus(size, b), is_minus(size, r));
-    let v = (a_minus == b_minus) & (r_minus != a_minus);
+    let (a_negative, b_negative, r_negative) = (
+        is_negative(size, a),
+        is_negative(size, b),
+        is_negative(size, r),
+    );
+    let v = (a_negative == b_negative) & (r_negative != a_negative);
     let c = (r < a) | (carry & (r == a));
     result(size, r, v, c)
 }
@@ -94,8 +102,12 @@ pub fn sub(size: Size, a: u64, b: u64, borrow: bool) -> (u64, Codes)
     ensures within { result.0 < 256 ^ bytes_of size }
 {
     let r = low(size, a.wrapping_sub(b).wrapping_sub(borrow as u64));
-    let (a_minus, b_minus, r_minus) = (is_minus(size, a), is_minus(size, b), is_minus(size, r));
-    let v = (a_minus != b_minus) & (r_minus != a_minus);
+    let (a_negative, b_negative, r_negative) = (
+        is_negative(size, a),
+        is_negative(size, b),
+        is_negative(size, r),
+    );
+    let v = (a_negative != b_negative) & (r_negative != a_negative);
     let c = (a < b) | (borrow & (a == b));
     result(size, r, v, c)
 }

@@ -1,5 +1,4 @@
-use Rattle.std.proofs.Common.{◌∙◌}
-use Rattle.vax_word.proofs.ArithmeticLemmas.{sum_answer}
+use Rattle.vax_word.proofs.SumLemmas.{sum_answer}
 use Rattle.vax_word.proofs.arithmetic.add.Goals as goal
 
 pub returns-clause-exact : goal.returns-clause-exact

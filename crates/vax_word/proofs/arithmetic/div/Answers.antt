@@ -1,8 +1,8 @@
-use Rattle.std.proofs.Common.{◌≡◌, ◌∙◌, false, nat_eq, int_div, w64, FitsSigned, to_z, of_z, arith, rules}
+use Rattle.std.proofs.Common.{◌≡◌, false, nat_eq, int_div, w64, FitsSigned, arith, rules}
 use Rattle.std.proofs.lemmas.Int.{to_z-of_z, fits_signed_from_abs}
 use Rattle.std.proofs.lemmas.Bool.Decides.{nat_tests}
 use Rattle.vax_word.specs.Arithmetic.{signed_answer}
-use Rattle.vax_word.proofs.ArithmeticLemmas.{signed_nonzero, short_sign_bit, abs-int_div, quotient_answer}
+use Rattle.vax_word.proofs.QuotientLemmas.{signed_nonzero, short_sign_bit, abs-int_div, quotient_answer}
 use Rattle.vax_word.proofs.arithmetic.div.Goals as goal
 
 pub nonzero_div-extend : goal.nonzero_div-extend

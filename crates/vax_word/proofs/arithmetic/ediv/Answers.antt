@@ -1,9 +1,11 @@
-use Rattle.std.proofs.Common.{◌≡◌, ◌∙◌, ap, not, ◌||◌, true, false, nat_eq, int_div, int_rem, w64, FitsSigned, to_z, of_z, rules, arith, refl}
+use Rattle.std.proofs.Common.{◌≡◌, ◌∙◌, ap, not, ◌||◌, true, false, nat_eq, int_div, int_rem, w64, FitsSigned, rules, arith, refl}
 use Rattle.std.proofs.lemmas.Int.{to_z-of_z}
 use Rattle.std.specs.Int.Signed.{mag_rem}
 use Rattle.vax_word.specs.declared.Size.TheVariants.{L, Q}
-use Rattle.vax_word.specs.Arithmetic.{answer, signed, low_bits, fits_signed, signed_answer, extended_quotient}
-use Rattle.vax_word.proofs.ArithmeticLemmas.{low_of_cast, signed_answer-v, divisor_nonzero, cannot_divide, extended_overflow, extended_fit, or-of_not, not-true}
+use Rattle.vax_word.specs.Arithmetic.{answer, signed, low_bits, fits_signed, signed_answer}
+use Rattle.vax_word.proofs.OperandLemmas.{low_of_cast}
+use Rattle.vax_word.proofs.ProductLemmas.{signed_answer-v}
+use Rattle.vax_word.proofs.QuotientLemmas.{divisor_nonzero, cannot_divide, extended_overflow, extended_fit, or-of_not, not-true}
 use Rattle.vax_word.proofs.arithmetic.ediv.Goals as goal
 use Rattle.vax_word.proofs.arithmetic.ediv.Goals.{in-Some+else-not-codes, in_default}
 

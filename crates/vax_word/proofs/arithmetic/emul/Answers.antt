@@ -1,8 +1,7 @@
-use Rattle.std.proofs.Common.{◌≡◌, ◌∙◌, ◌+ℤ◌, ◌*ℤ◌, ap, not, false, w64, FitsSigned, rules, to_z, of_z, arith}
-use Rattle.std.proofs.lemmas.Int.{to_z-of_z, fits_signed_from_abs, fits_signed_mul}
-use Rattle.vax_word.specs.declared.Size.TheVariants.{Q}
-use Rattle.vax_word.specs.Arithmetic.{signed_answer, extended_product}
-use Rattle.vax_word.proofs.ArithmeticLemmas.{product_fits, extended_product_fits, fits_quadword, signed_answer-v}
+use Rattle.std.proofs.Common.{◌∙◌, ap, not, w64, FitsSigned, rules}
+use Rattle.std.proofs.lemmas.Int.{to_z-of_z}
+use Rattle.vax_word.specs.Arithmetic.{extended_product}
+use Rattle.vax_word.proofs.ProductLemmas.{product_fits, extended_product_fits, fits_quadword, signed_answer-v}
 use Rattle.vax_word.proofs.arithmetic.emul.Goals as goal
 
 pub returns-clause-exact : goal.returns-clause-exact

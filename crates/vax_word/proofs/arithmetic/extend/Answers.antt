@@ -1,7 +1,7 @@
-use Rattle.std.proofs.Common.{◌≡◌, ◌*◌, ◌%◌, ◌-◌, ◌^◌, ◌∙◌, rules, w64, FitsSigned, to_z, of_z}
+use Rattle.std.proofs.Common.{◌≡◌, ◌*◌, ◌%◌, ◌-◌, ◌^◌, rules, w64, FitsSigned, to_z, of_z}
 use Rattle.std.specs.Int.Signed.{shr_z}
 use Rattle.std.proofs.lemmas.Int.{to_z-of_z}
-use Rattle.vax_word.proofs.ArithmeticLemmas.{shifts_extend}
+use Rattle.vax_word.proofs.OperandLemmas.{shifts_extend}
 use Rattle.vax_word.specs.Arithmetic.{signed}
 use Rattle.vax_word.proofs.arithmetic.extend.Goals as goal
 

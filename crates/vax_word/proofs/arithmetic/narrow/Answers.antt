@@ -1,7 +1,7 @@
-use Rattle.std.proofs.Common.{◌≡◌, ◌∙◌, ap, not, false, nat_eq, w64, of_z}
+use Rattle.std.proofs.Common.{◌≡◌, ◌∙◌, nat_eq, w64, of_z}
 use Rattle.std.proofs.lemmas.Int.{to_z-of_z}
-use Rattle.vax_word.specs.Arithmetic.{answer, signed_answer, low_bits, fits_signed}
-use Rattle.vax_word.proofs.ArithmeticLemmas.{low_of_cast, overflow_seen}
+use Rattle.vax_word.specs.Arithmetic.{signed_answer, low_bits, fits_signed}
+use Rattle.vax_word.proofs.OperandLemmas.{low_of_cast, overflow_seen}
 use Rattle.vax_word.proofs.arithmetic.narrow.Goals as goal
 
 pub returns-clause-exact : goal.returns-clause-exact

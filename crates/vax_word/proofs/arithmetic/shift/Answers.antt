@@ -1,7 +1,7 @@
-use Rattle.std.proofs.Common.{◌≡◌, ap, ◌^◌, ◌*◌, ◌%◌, ◌∙◌, arith, rules, refl, true, false, min, pos, unsigned_abs, int_lt, w8, w64, FitsSigned, to_z, of_z}
+use Rattle.std.proofs.Common.{◌≡◌, ap, ◌^◌, ◌*◌, ◌%◌, ◌∙◌, arith, rules, true, false, pos, unsigned_abs, int_lt, w64, FitsSigned}
 use Rattle.std.proofs.lemmas.Int.{to_z-of_z}
 use Rattle.std.specs.Int.Signed.{shr_z, mag_shr}
-use Rattle.vax_word.specs.Arithmetic.{modulus, signed, answer, signed_answer}
+use Rattle.vax_word.specs.Arithmetic.{modulus, signed}
 use Rattle.vax_word.proofs.ShiftLemmas.{low_of_whole, right_answer, left_answer, far_answer}
 use Rattle.vax_word.proofs.arithmetic.shift.Goals as goal
 

@@ -1,5 +1,4 @@
-use Rattle.std.proofs.Common.{◌∙◌}
-use Rattle.vax_word.proofs.ArithmeticLemmas.{difference_answer}
+use Rattle.vax_word.proofs.SumLemmas.{difference_answer}
 use Rattle.vax_word.proofs.arithmetic.sub.Goals as goal
 
 pub returns-clause-exact : goal.returns-clause-exact
