@@ -1,5 +1,6 @@
 //! Integer arithmetic with the condition codes (VAX Architecture Reference Manual, integer arithmetic
-//! instructions). Operands and results are unsigned, and below 2 to the size's bits.
+//! and logical instructions). Operands and results are bit patterns below 2 to the size's bits.
+//! Each result is the exact one modulo 2 to those bits, and N and Z are read from it.
 
 ghost use Rattle.std.specs.Prelude.{◌≡◌, ◌+◌, ◌*◌, ◌/◌, ◌%◌, ◌^◌, ◌<◌, ◌≤◌, ◌≢◌, unsigned_abs, false};
 ghost use Rattle.vax_word.specs.Arithmetic.{bytes_of, modulus, sign_bit, is_negative, signed, low_bits, answer, signed_answer, sum, difference, product, quotient, shifted, converted, extended_product, extended_quotient};
@@ -11,12 +12,7 @@ use crate::{Codes, Size};
 fn bits(size: Size) -> u32
     ensures { result ≡ 8 * bytes_of size }
 {
-    match size {
-        Size::B => 8,
-        Size::W => 16,
-        Size::L => 32,
-        Size::Q => 64,
-    }
+    8 * size.bytes()
 }
 
 // The low bits of `x`.
@@ -72,9 +68,9 @@ fn narrow(size: Size, exact: i64) -> (u64, Codes)
     result(size, r, v, false)
 }
 
-/// `a + b`, and 1 more with `carry`. V is signed overflow, C the carry.
+/// `a + b`, and 1 more with `carry` (ADD, INC, ADWC). V where the signed sum does not fit, C where
+/// the unsigned one does not.
 #[inline]
-#[tactic(auto, unfolding(crate::specs::Arithmetic::sum))]
 pub fn add(size: Size, a: u64, b: u64, carry: bool) -> (u64, Codes)
     requires a_fits { a < 256 ^ bytes_of size }
     requires b_fits { b < 256 ^ bytes_of size }
@@ -92,9 +88,9 @@ pub fn add(size: Size, a: u64, b: u64, carry: bool) -> (u64, Codes)
     result(size, r, v, c)
 }
 
-/// `a - b`, and 1 less with `borrow`. V is signed overflow, C the borrow.
+/// `a - b`, and 1 less with `borrow` (SUB, DEC, SBWC, and MNEG from 0). V where the signed
+/// difference does not fit, C, the borrow, where the unsigned one does not.
 #[inline]
-#[tactic(auto, unfolding(crate::specs::Arithmetic::difference))]
 pub fn sub(size: Size, a: u64, b: u64, borrow: bool) -> (u64, Codes)
     requires a_fits { a < 256 ^ bytes_of size }
     requires b_fits { b < 256 ^ bytes_of size }
@@ -112,7 +108,7 @@ pub fn sub(size: Size, a: u64, b: u64, borrow: bool) -> (u64, Codes)
     result(size, r, v, c)
 }
 
-/// The low bits of the signed product, at `B`, `W` or `L`. V is signed overflow, C 0.
+/// The low bits of the signed product, at `B`, `W` or `L` (MUL). V where it does not fit, C 0.
 #[inline]
 #[tactic(auto, unfolding(crate::specs::Arithmetic::product))]
 pub fn mul(size: Size, a: u64, b: u64) -> (u64, Codes)
@@ -125,8 +121,8 @@ pub fn mul(size: Size, a: u64, b: u64) -> (u64, Codes)
     narrow(size, extend(size, a) * extend(size, b))
 }
 
-/// The signed quotient of `divd` by `divr`, truncated towards 0, at `B`, `W` or `L`. Where the divisor
-/// is 0 or the quotient does not fit, it is the dividend, with V 1. C is 0.
+/// The signed quotient of `divd` by `divr`, truncated towards 0, at `B`, `W` or `L` (DIV). Where the
+/// divisor is 0 or the quotient does not fit, it is the dividend, and V is 1. C is 0.
 #[inline]
 #[tactic(auto, unfolding(crate::specs::Arithmetic::quotient))]
 pub fn div(size: Size, divd: u64, divr: u64) -> (u64, Codes)
@@ -143,10 +139,9 @@ pub fn div(size: Size, divd: u64, divr: u64) -> (u64, Codes)
     narrow(size, extend(size, divd) / extend(size, divr))
 }
 
-/// `value` shifted arithmetically: left by `count`, and right, rounded down, by `-count` where it is
-/// negative. V where the signed product with 2 to `count` does not fit, C 0.
+/// `value` shifted arithmetically (ASH): times 2 to `count`, or, where `count` is negative, divided by
+/// 2 to `-count` and rounded down. V where the product does not fit, C 0.
 #[inline]
-#[tactic(auto, unfolding(crate::specs::Arithmetic::shifted))]
 pub fn shift(size: Size, count: i8, value: u64) -> (u64, Codes)
     requires fits { value < 256 ^ bytes_of size }
     ensures exact { result ≡ shifted size count value }
@@ -165,7 +160,7 @@ pub fn shift(size: Size, count: i8, value: u64) -> (u64, Codes)
     result(size, r, v, false)
 }
 
-/// `value` of size `from` as the same signed number of size `to`. V where it does not fit, C 0.
+/// The signed number that `value` is at size `from`, at size `to` (CVT). V where it does not fit, C 0.
 #[inline]
 #[tactic(auto, unfolding(crate::specs::Arithmetic::converted))]
 pub fn convert(from: Size, to: Size, value: u64) -> (u64, Codes)
@@ -176,9 +171,8 @@ pub fn convert(from: Size, to: Size, value: u64) -> (u64, Codes)
     narrow(to, extend(from, value))
 }
 
-/// The signed `a * b + add` of longwords, as a quadword, which it always fits. V 0, C 0.
+/// The signed `a * b + add` of longwords as a quadword (EMUL), which it always fits: V 0, C 0.
 #[inline]
-#[tactic(auto, unfolding(crate::specs::Arithmetic::extended_product))]
 pub fn emul(a: u32, b: u32, add: u32) -> (u64, Codes)
     ensures exact { result ≡ extended_product a b add }
     ensures no_overflow { result.1.v ≡ false }
@@ -187,11 +181,11 @@ pub fn emul(a: u32, b: u32, add: u32) -> (u64, Codes)
     narrow(Size::Q, product + extend(Size::L, add as u64))
 }
 
-/// The signed quadword `divd` divided by the signed longword `divr`: the quotient, truncated towards 0,
-/// the remainder, which has the dividend's sign, and the codes of the quotient. Where the divisor is 0
-/// or the quotient does not fit a longword, the dividend's low longword and 0, with V 1. C is 0.
+/// The signed quadword `divd` divided by the signed longword `divr` (EDIV): the quotient, truncated
+/// towards 0, the remainder, which has the dividend's sign, and the codes, N and Z from the quotient.
+/// Where the divisor is 0 or the quotient does not fit a longword, they are the dividend's low longword
+/// and 0, and V is 1. C is 0.
 #[inline]
-#[tactic(auto, unfolding(crate::specs::Arithmetic::extended_quotient))]
 pub fn ediv(divr: u32, divd: u64) -> (u32, u32, Codes)
     ensures { result ≡ extended_quotient divr divd }
 {

@@ -20,6 +20,25 @@ pub enum Size {
     Q,
 }
 
+impl Size {
+    ghost use Rattle.vax_word.specs.Arithmetic.{bytes_of};
+
+    /// The bytes of an operand: 1, 2, 4 or 8.
+    #[inline]
+    pub fn bytes(self) -> u32
+        ensures exact { result ≡ bytes_of self }
+        ensures some { 1 ≤ result }
+        ensures few { result ≤ 8 }
+    {
+        match self {
+            Size::B => 1,
+            Size::W => 2,
+            Size::L => 4,
+            Size::Q => 8,
+        }
+    }
+}
+
 /// The condition codes (VAX Architecture Reference Manual, processor status word): negative, zero,
 /// overflow and carry.
 #[derive(Clone, Copy, Debug, PartialEq, Eq)]
@@ -132,6 +151,14 @@ pub struct Core {
 #[cfg(test)]
 mod tests {
     use super::*;
+
+    #[test]
+    fn operand_bytes(rt: HostRuntime) {
+        assert_eq!(rt; Size::B.bytes(), 1);
+        assert_eq!(rt; Size::W.bytes(), 2);
+        assert_eq!(rt; Size::L.bytes(), 4);
+        assert_eq!(rt; Size::Q.bytes(), 8);
+    }
 
     #[test]
     fn status_fields(rt: HostRuntime) {
