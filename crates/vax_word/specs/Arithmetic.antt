@@ -4,10 +4,11 @@ use Rattle.vax_word.specs.declared.Size.{Size}
 use Rattle.vax_word.specs.declared.Size.TheVariants.{B, W, L, Q}
 use Rattle.vax_word.specs.declared.Codes.{Codes}
 
--- Exact integer arithmetic (VAX Architecture Reference Manual, integer arithmetic instructions).
+-- Exact integer arithmetic. Each definition names the entries of the VAX Architecture Reference Manual
+-- (integer arithmetic and logical instructions) whose results and codes it gives.
 -- A result is the unbounded one modulo 2 to the operand's bits.
 
--- the bytes of an operand (data types)
+-- the bytes of an operand (data types: byte, word, longword, quadword)
 abbrev pub bytes_of : Size → ℕ
 bytes_of B = 1
 bytes_of W = 2
@@ -22,6 +23,7 @@ modulus s = 256 ^ bytes_of s
 abbrev pub sign_bit : Size → ℕ
 sign_bit s = modulus s / 2
 
+-- whether the sign bit is 1
 abbrev pub is_negative : Size → ℕ → Bool
 is_negative s x = nat_le (sign_bit s) x
 
@@ -48,21 +50,21 @@ answer s r v c = (r, record { n = is_negative s r; z = r == 0; v = v; c = c })
 unfoldable pub signed_answer : Size → ℤ → ℕ × Codes
 signed_answer s z = answer s (low_bits s z) (not (fits_signed s z)) false
 
--- ADD, INC, ADWC: V where the signed sum does not fit, C where the unsigned one does not
+-- ADD, INC, ADWC, ADAWI: V where the signed sum does not fit, C where the unsigned one does not
 unfoldable pub sum : Size → ℕ → ℕ → Bool → ℕ × Codes
 sum s a b carry =
     let unsigned : ℤ = pos (a + b + from_bool carry) in
     let exact : ℤ = signed s a +ℤ signed s b +ℤ pos (from_bool carry) in
     answer s (low_bits s unsigned) (not (fits_signed s exact)) (not (fits_unsigned s unsigned))
 
--- SUB, DEC, SBWC, MNEG: V where the signed difference does not fit, C (borrow) where the unsigned one does not
+-- SUB, DEC, SBWC, and MNEG from 0: V where the signed difference does not fit, C (borrow) where the unsigned one does not
 unfoldable pub difference : Size → ℕ → ℕ → Bool → ℕ × Codes
 difference s a b borrow =
     let unsigned : ℤ = pos a -ℤ pos (b + from_bool borrow) in
     let exact : ℤ = signed s a -ℤ signed s b -ℤ pos (from_bool borrow) in
     answer s (low_bits s unsigned) (not (fits_signed s exact)) (not (fits_unsigned s unsigned))
 
--- MUL
+-- MUL: V where the signed product does not fit, C 0
 unfoldable pub product : Size → ℕ → ℕ → ℕ × Codes
 product s a b = signed_answer s (signed s a *ℤ signed s b)
 
@@ -77,11 +79,11 @@ unfoldable pub shifted : Size → ℤ → ℕ → ℕ × Codes
 shifted s (pos count) value = signed_answer s (signed s value *ℤ pos (2 ^ count))
 shifted s (negsuc count) value = signed_answer s (int_div_euclid (signed s value) (pos (2 ^ suc count)))
 
--- CVT
+-- CVT between integers: V where the signed number does not fit, C 0
 unfoldable pub converted : Size → Size → ℕ → ℕ × Codes
 converted from to value = signed_answer to (signed from value)
 
--- EMUL, whose quadword always fits
+-- EMUL: it always fits a quadword
 unfoldable pub extended_product : ℕ → ℕ → ℕ → ℕ × Codes
 extended_product a b add = signed_answer Q (signed L a *ℤ signed L b +ℤ signed L add)
 
