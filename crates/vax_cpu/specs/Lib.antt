@@ -1,2 +1,3 @@
 pub mod Tried
 pub mod Attempt
+pub mod Batch

@@ -1,9 +1,10 @@
 //! One attempt at a step, as a transaction that is kept or undone.
-ghost use Rattle.std.specs.Prelude.{◌≡◌, ◌≤◌, None};
-ghost use Rattle.vax_flat.specs.OverPort.{Follows};
+ghost use Rattle.std.specs.Prelude.{◌≡◌, ◌+◌, ◌<◌, ◌≤◌, None};
+ghost use Rattle.vax_flat.specs.OverPort.{Follows, Present};
 ghost use Rattle.vax_flat.specs.Step.{begun, delivery, finished, whole, whole_step, delivered, whole_delivery};
 ghost use Rattle.vax_undo.specs.Transaction.{present, room, state_of, Keeps};
 ghost use Rattle.vax_cpu.specs.Tried.{IsTried};
+ghost use Rattle.vax_cpu.specs.Batch.{Ran};
 
 use crate::interrupt::{requested, tick};
 use crate::rows::execute;
@@ -143,4 +144,70 @@ pub(crate) fn try_delivery<P: Port>(core: &mut Core, term: &mut Term, port: &mut
 {
     let mut txn = Txn::begin(core, term, port);
     conclude!(txn, work_delivery(&mut txn, exception))
+}
+
+/// Steps that were completed with no byte sent, and what the attempt after them came to.
+#[derive(Clone, Copy, Debug, PartialEq, Eq)]
+pub(crate) struct Several {
+    pub(crate) steps: u64,
+    pub(crate) last: Tried,
+}
+
+/// Makes at most `most` attempts at steps, up to the first that isn't completed or that sends a byte. They share one log.
+pub(crate) fn try_steps<P: Port>(core: &mut Core, term: &mut Term, port: &mut P, most: u64) -> Several
+    requires unsent { term.old.out ≡ None }
+    requires some { 1 ≤ most }
+    ensures ran { (mid : Present) × Ran result.steps (record { state = state_of core.old term.old; view = P.view port.old }) mid × IsTried whole_step mid result.last (record { state = state_of core.new term.new; view = P.view port.new }) }
+    ensures few { result.steps < most }
+    ensures all { result.last ≡ Tried.Step None → result.steps + 1 ≡ most }
+    ensures unsent { term.new.out ≡ None }
+    ensures input { term.new.input ≡ term.old.input }
+    ensures since { (start : P) → P.since start port.old → P.since start port.new }
+{
+    let mut txn = Txn::begin(core, term, port);
+    let mut steps = 0;
+    while steps + 1 < most {
+        match work(&mut txn) {
+            Ok(Flow::Done) => match txn.renew() {
+                None => steps += 1,
+                Some(byte) => {
+                    let _ = txn.commit();
+                    return Several {
+                        steps,
+                        last: Tried::Step(Some(byte)),
+                    };
+                }
+            },
+            Ok(Flow::Trap(_)) => {
+                txn.unwind();
+                return Several {
+                    steps,
+                    last: Tried::Ended(Ending::Unbuilt),
+                };
+            }
+            Ok(Flow::Ended(ending)) => {
+                txn.unwind();
+                return Several {
+                    steps,
+                    last: Tried::Ended(ending),
+                };
+            }
+            Err(Cut::Absent(page)) => {
+                txn.unwind();
+                return Several {
+                    steps,
+                    last: Tried::Absent(page),
+                };
+            }
+            Err(Cut::Event(exception)) => {
+                txn.unwind();
+                return Several {
+                    steps,
+                    last: Tried::Event(exception),
+                };
+            }
+        }
+    }
+    let last = conclude!(txn, work(&mut txn));
+    Several { steps, last }
 }

@@ -328,6 +328,23 @@ impl<'a, P: Port> Txn<'a, P> {
         self.port.write_run(addr, from, mode)
     }
 
+    /// Keeps all that was done so far, hands out the byte that was sent to the console, and begins anew with the same log, of which
+    /// nothing is cleared.
+    #[inline]
+    pub fn renew(&mut self) -> Option<u8>
+        ensures sent { result ≡ (present P.view self.old).state.sent }
+        ensures present { present P.view self.new ≡ with_state (present P.view self.old) (with_sent (present P.view self.old).state None) }
+        ensures undone { undone P.view self.new ≡ present P.view self.new }
+        ensures room { room self.new ≡ 96 }
+        ensures ready { IsReady P.view self.new }
+        ensures same { IsSame P.since self.old self.new }
+    {
+        self.log.clear();
+        let sent = self.term.out;
+        self.term.out = None;
+        sent
+    }
+
     /// Keeps all, and hands out the byte that was sent to the console.
     #[inline]
     pub fn commit(self) -> Option<u8>
