@@ -1,3 +1,4 @@
 pub mod Levels
 pub mod Attempts
 pub mod Steps
+pub mod Runs

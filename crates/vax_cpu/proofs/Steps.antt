@@ -73,6 +73,13 @@ module _ (view : View) (m : Flat) (running : m.ending ≡ None) (st : StandsFor 
       let a : whole_touches ≡ Some page = subst (λ x. Agrees view m.memory x whole_touches whole_outcome) t.0 (standing (whole_step (state_of m)) view m.memory st) in
       touches_are (Some page) whole_outcome a refl
 
+  -- a step that was completed, as the flat machine makes it
+  pub step_concluded : (s : State) (after : View) → over_port (whole_step (state_of m)) view ≡ Comes (Went flow.Done s) after →
+      (first_missing view.resident (step_touches m) ≡ None) × (memory : List Area) × (step m ≡ concluded m (Went flow.Done s) memory) × StandsFor after memory × (after.resident ≡ view.resident) × (after.areas ≡ view.areas)
+  step_concluded s after came =
+      let a = subst (λ x. Agrees view m.memory x whole_touches whole_outcome) came (standing (whole_step (state_of m)) view m.memory st) in
+      (nothing_more None (Went flow.Done s) a.3.0 a.0 a.3.1, a.3.0, step_is (Ends (Went flow.Done s) a.3.0) a.3.1, a.3.2, a.1, a.2)
+
   -- an instruction that was completed
   pub step_kept : (sent : Option ℕ) (cpu : Cpu) (after : View) → m.input ≡ cpu.term.input.items → IsTried whole_step (record { state = state_of m; view = view }) (tried.Step sent) (record { state = state_at cpu.core cpu.term; view = after }) →
       (first_missing view.resident (step_touches m) ≡ None) × IsStep view m sent cpu after

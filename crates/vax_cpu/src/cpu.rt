@@ -1,9 +1,9 @@
 //! The processor.
-ghost use Rattle.std.specs.Prelude.{◌≡◌, ℕ, List, [], None};
+ghost use Rattle.std.specs.Prelude.{◌≡◌, ◌+◌, ◌<◌, ◌≤◌, ℕ, List, [], None};
 ghost use Rattle.vax_space.specs.declared.Area.{Area};
 ghost use Rattle.vax_flat.specs.Port.{StandsFor};
 
-use crate::attempt::{Tried, try_delivery, try_step};
+use crate::attempt::{Tried, try_delivery, try_step, try_steps};
 use vax_flat::Ending;
 use vax_undo::{Port, Term};
 use vax_word::Core;
@@ -29,6 +29,13 @@ pub enum Attempt {
     Ended(Ending),
 }
 
+/// What a batch of attempts came to: how many steps were completed with no byte sent, and what the attempt after them came to.
+#[derive(Clone, Copy, Debug, PartialEq, Eq)]
+pub struct Batch {
+    pub steps: u64,
+    pub last: Attempt,
+}
+
 /// A processor: its registers, its console, and the string instruction that is open, if one is.
 #[derive(Drop)]
 pub struct Cpu {
@@ -39,6 +46,7 @@ pub struct Cpu {
 
 impl Cpu {
     ghost use Rattle.vax_cpu.specs.Attempt.{flat_of, Attempted, IsAsBefore};
+    ghost use Rattle.vax_cpu.specs.Batch.{AreAttempts};
 
     /// Makes one attempt at the instruction at PC, at which nothing that was sent to the console is left.
     ///
@@ -66,6 +74,63 @@ impl Cpu {
                     Tried::Absent(page) => Attempt::Absent(page),
                     Tried::Ended(ending) => Attempt::Ended(ending),
                     Tried::Event(_) => Attempt::Ended(Ending::Unbuilt),
+                }
+            }
+        }
+    }
+
+    /// Makes at most `most` attempts, at least one, up to the first that doesn't complete a step or that sends a byte to the console.
+    ///
+    /// It does what as many calls of [`Cpu::attempt`] do, and spends less on each.
+    pub fn attempts<P: Port>(&mut self, port: &mut P, most: u64) -> Batch
+        requires unsent { self.old.term.out ≡ None }
+        requires some { 1 ≤ most }
+        ensures steps { self.old.latch ≡ None → (memory : List Area) → (output : List ℕ) → StandsFor (P.view port.old) memory → AreAttempts (P.view port.old) (flat_of self.old memory output) result.steps result.last self.new (P.view port.new) }
+        ensures few { result.steps < most }
+        ensures latch { self.new.latch ≡ self.old.latch }
+        ensures unsent { self.new.term.out ≡ None }
+        ensures input { self.new.term.input ≡ self.old.term.input }
+        ensures since { (start : P) → P.since start port.old → P.since start port.new }
+    {
+        if self.latch.is_some() {
+            return Batch {
+                steps: 0,
+                last: Attempt::Ended(Ending::Unbuilt),
+            };
+        }
+        let several = try_steps(&mut self.core, &mut self.term, port, most);
+        let steps = several.steps;
+        match several.last {
+            Tried::Step(sent) => Batch {
+                steps,
+                last: Attempt::Step(sent),
+            },
+            Tried::Absent(page) => Batch {
+                steps,
+                last: Attempt::Absent(page),
+            },
+            Tried::Ended(ending) => Batch {
+                steps,
+                last: Attempt::Ended(ending),
+            },
+            Tried::Event(exception) => {
+                match try_delivery(&mut self.core, &mut self.term, port, exception) {
+                    Tried::Step(sent) => Batch {
+                        steps,
+                        last: Attempt::Step(sent),
+                    },
+                    Tried::Absent(page) => Batch {
+                        steps,
+                        last: Attempt::Absent(page),
+                    },
+                    Tried::Ended(ending) => Batch {
+                        steps,
+                        last: Attempt::Ended(ending),
+                    },
+                    Tried::Event(_) => Batch {
+                        steps,
+                        last: Attempt::Ended(Ending::Unbuilt),
+                    },
                 }
             }
         }

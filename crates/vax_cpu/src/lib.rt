@@ -6,4 +6,4 @@ mod cpu;
 mod interrupt;
 mod rows;
 
-pub use crate::cpu::{Attempt, Cpu, Open};
+pub use crate::cpu::{Attempt, Batch, Cpu, Open};
