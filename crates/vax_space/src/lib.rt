@@ -5,7 +5,8 @@
 //! region P0, the control region P1, the system region S0, or the fourth region, which has no pages.
 #![tactic(auto)]
 
-ghost use Rattle.std.specs.Prelude.{◌≡◌};
+ghost use Rattle.std.specs.Prelude.{◌≡◌, ◌≤◌};
+ghost use Rattle.vax_space.specs.Protection as spec;
 
 use std::alloc::AllocError;
 use std::marker::Model;
@@ -27,6 +28,62 @@ impl From<AllocError> for NoMemory {
 pub enum Access {
     Read,
     Write,
+}
+
+/// What one mode may do to a page.
+#[derive(Clone, Copy, PartialEq, Eq, Debug)]
+pub enum Right {
+    Nothing,
+    ReadOnly,
+    ReadWrite,
+}
+
+use Right::{Nothing, ReadOnly, ReadWrite};
+
+/// The rights of kernel, executive, supervisor and user mode, by protection code.
+const PROTECTION: [[Right; 4]; 16] = [
+    [Nothing, Nothing, Nothing, Nothing],
+    [Nothing, Nothing, Nothing, Nothing],
+    [ReadWrite, Nothing, Nothing, Nothing],
+    [ReadOnly, Nothing, Nothing, Nothing],
+    [ReadWrite, ReadWrite, ReadWrite, ReadWrite],
+    [ReadWrite, ReadWrite, Nothing, Nothing],
+    [ReadWrite, ReadOnly, Nothing, Nothing],
+    [ReadOnly, ReadOnly, Nothing, Nothing],
+    [ReadWrite, ReadWrite, ReadWrite, Nothing],
+    [ReadWrite, ReadWrite, ReadOnly, Nothing],
+    [ReadWrite, ReadOnly, ReadOnly, Nothing],
+    [ReadOnly, ReadOnly, ReadOnly, Nothing],
+    [ReadWrite, ReadWrite, ReadWrite, ReadOnly],
+    [ReadWrite, ReadWrite, ReadOnly, ReadOnly],
+    [ReadWrite, ReadOnly, ReadOnly, ReadOnly],
+    [ReadOnly, ReadOnly, ReadOnly, ReadOnly],
+];
+
+#[inline]
+#[tactic(auto, unfolding(crate::specs::Protection::right_of))]
+fn right_of(prot: u8, mode: u8) -> Right
+    requires of_code { prot ≤ 15 }
+    requires of_mode { mode ≤ 3 }
+    ensures { result ≡ spec.right_of prot mode }
+{
+    PROTECTION[prot as usize][mode as usize]
+}
+
+/// Whether a mode (0 kernel, 1 executive, 2 supervisor, 3 user) may make the access to a page with this protection
+/// code (VAX Architecture Reference Manual, memory management, access control). The reserved code 1 allows nothing.
+#[inline]
+#[tactic(auto, unfolding(crate::specs::Protection::allows))]
+pub fn allows(prot: u8, mode: u8, access: Access) -> bool
+    requires of_code { prot ≤ 15 }
+    requires of_mode { mode ≤ 3 }
+    ensures { result ≡ spec.allows prot mode access }
+{
+    match right_of(prot, mode) {
+        Nothing => false,
+        ReadOnly => access == Access::Read,
+        ReadWrite => true,
+    }
 }
 
 /// An access control violation (VAX Architecture Reference Manual, memory management faults).
