@@ -1,8 +1,9 @@
 -- Laws of what the output channels grew by.
-use Rattle.std.proofs.Common.{◌≡◌, ◌<◌, ℕ, ◌+◌, List, [], ◌∷◌, ◌++◌, Option, None, Some, Result, Ok, Err, OnErr, length, take, drop, get_or, refl, sym, ap, ◌∙◌, subst, append_assoc, append-nil, take-append-drop}
+use Rattle.std.proofs.Common.{◌≡◌, ◌<◌, ℕ, ◌+◌, List, [], ◌∷◌, ◌++◌, Option, None, Some, Result, Ok, Err, OnErr, length, take, drop, get_or, refl, sym, ap, ◌∙◌, subst, append_assoc, append-nil, take-append-drop, zero-add, arith, ◌≤◌}
 use Rattle.std.specs.Option.{option_map}
-use Rattle.std.specs.List.{flat_map}
-use Rattle.std.proofs.lemmas.List.{take_more}
+use Rattle.std.specs.List.{flat_map, range_with_len}
+use Rattle.std.proofs.lemmas.List.FromFn.{length-range_with_len, get_or-range_with_len}
+use Rattle.std.proofs.lemmas.List.{take_more, take_all}
 use Rattle.std.proofs.lemmas.Grind.{flat_map-append}
 use Rattle.vax_outside.specs.declared.traits.Chan.{Chan}
 use Rattle.vax_outside.specs.declared.traits.Chan.TheVariants.{Out, Report, Record}
@@ -143,6 +144,29 @@ pub prefix_next : {X : Type 0} (a b c : Option Channels) (chan : Chan) (f : X �
     Grew a b (only chan (flat_map f (take i xs))) → GrewByPrefix b c (only chan (f (get_or xs i d))) → GrewByPrefix a c (only chan (flat_map f xs))
 prefix_next a b c chan f xs i d l p q =
     prefix_within a b c chan (flat_map f (take i xs)) (f (get_or xs i d)) (flat_map f (drop (i + 1) xs)) (flat_map f xs) (flat_map-split f xs i d l) p q
+
+-- the same in a loop over the numbers below n
+number : (n k : ℕ) → k < n → get_or (range_with_len 0 n) k 0 ≡ k
+number n k l = get_or-range_with_len 0 n k 0 l ∙ zero-add k
+
+pub grew_next_number : (a b c : Option Channels) (chan : Chan) (f : ℕ → List ℕ) (n k : ℕ) → k < n →
+    Grew a b (only chan (flat_map f (take k (range_with_len 0 n)))) → Grew b c (only chan (f k)) → Grew a c (only chan (flat_map f (take (k + 1) (range_with_len 0 n))))
+grew_next_number a b c chan f n k l p q =
+    let P : ℕ → Type 0 = λ m. Grew b c (only chan (f m)) in
+    grew_next a b c chan f (range_with_len 0 n) k 0 (omega (arith, length-range_with_len 0 n)) p (subst P (sym (number n k l)) q)
+
+pub prefix_next_number : (a b c : Option Channels) (chan : Chan) (f : ℕ → List ℕ) (n k : ℕ) → k < n →
+    Grew a b (only chan (flat_map f (take k (range_with_len 0 n)))) → GrewByPrefix b c (only chan (f k)) → GrewByPrefix a c (only chan (flat_map f (range_with_len 0 n)))
+prefix_next_number a b c chan f n k l p q =
+    let P : ℕ → Type 0 = λ m. GrewByPrefix b c (only chan (f m)) in
+    prefix_next a b c chan f (range_with_len 0 n) k 0 (omega (arith, length-range_with_len 0 n)) p (subst P (sym (number n k l)) q)
+
+-- all of the numbers below n
+pub grew_numbers : (a b : Option Channels) (chan : Chan) (f : ℕ → List ℕ) (n k : ℕ) → n ≤ k →
+    Grew a b (only chan (flat_map f (take k (range_with_len 0 n)))) → Grew a b (only chan (flat_map f (range_with_len 0 n)))
+grew_numbers a b chan f n k l p =
+    let P : List ℕ → Type 0 = λ xs. Grew a b (only chan (flat_map f xs)) in
+    subst P (take_all k (range_with_len 0 n) (omega (arith, length-range_with_len 0 n))) p
 
 pub on_err : {T E P : Type 0} (r : Result T E) → P → OnErr r P
 on_err (Ok x) p = tt
