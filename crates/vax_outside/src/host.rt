@@ -1,7 +1,7 @@
 //! The files, streams and page file of the system. They tell no content, and count what fails.
 //!
 //! Nothing says that the system does what it is asked: this is the trusted edge.
-ghost use Rattle.std.specs.Prelude.{◌≡◌, None};
+ghost use Rattle.std.specs.Prelude.{◌≡◌, ◌≤◌, IfOk, None, length};
 
 use crate::faults::raised;
 use crate::{Chan, Failed, Files, FilesFault, PageFile, Sink};
@@ -32,7 +32,9 @@ impl<R: rt::Files> HostFiles<R> {
         HostFiles { rt, faults: 0 }
     }
 
-    fn load(&self, alloc: Global, name: &str, limit: u32) -> Result<Vec<u8>, FilesFault> {
+    fn load(&self, alloc: Global, name: &str, limit: u32) -> Result<Vec<u8>, FilesFault>
+        ensures { IfOk result (λ bytes. length bytes.items ≤ limit) }
+    {
         let file = match fs::open(&self.rt, name) {
             Ok(file) => file,
             Err(e) if e.kind() == ErrorKind::NotFound => return Err(FilesFault::Missing),

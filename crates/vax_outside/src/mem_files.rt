@@ -1,5 +1,5 @@
 //! Files in memory.
-ghost use Rattle.std.specs.Prelude.{◌≡◌, ◌≤◌, IsErrOf, Some};
+ghost use Rattle.std.specs.Prelude.{◌≡◌, ◌≤◌, IfOk, IsErrOf, Some, length};
 ghost use Rattle.std.specs.Option.{option_map};
 ghost use Rattle.vax_outside.specs.Directory.{bytes_of, directory, AnswersRead, is_failed};
 ghost use Rattle.vax_outside.specs.Faults.{raised, Rose};
@@ -58,6 +58,7 @@ impl Files for MemFiles {
 
     fn read(&mut self, alloc: Global, name: &str, limit: u32) -> Result<Vec<u8>, FilesFault>
         ensures answer { AnswersRead result (Some (directory_of self.old)) name.now limit }
+        ensures bound { IfOk result (λ bytes. length bytes.items ≤ limit) }
         ensures same { directory_of self.new ≡ directory_of self.old }
         ensures later { faults_of self.old ≤ faults_of self.new }
         ensures cause { IsErrOf result FilesFault.Failed → Rose (faults_of self.old) (faults_of self.new) }

@@ -30,6 +30,7 @@ impl Text {
         }
     }
 
+    /// The bytes so far.
     pub fn as_slice(&self) -> &[u8]
         ensures { result.now ≡ self.now }
     {

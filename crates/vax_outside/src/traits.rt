@@ -35,6 +35,7 @@ pub trait Files {
     /// Reads the file of this name, which may have at most `limit` bytes.
     fn read(&mut self, alloc: Global, name: &str, limit: u32) -> Result<Vec<u8>, FilesFault>
         ensures answer { AnswersRead result (contents self.old) name.now limit }
+        ensures bound { IfOk result (λ bytes. length bytes.items ≤ limit) }
         ensures same { contents self.new ≡ contents self.old }
         ensures later { faults self.old ≤ faults self.new }
         ensures cause { IsErrOf result FilesFault.Failed → Rose (faults self.old) (faults self.new) };
