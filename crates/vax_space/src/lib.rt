@@ -346,3 +346,6 @@ impl Space {
         pages::area_of(&self.areas, page)
     }
 }
+
+#[cfg(test)]
+mod tests;
