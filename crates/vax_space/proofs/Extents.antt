@@ -6,9 +6,10 @@ use Rattle.std.proofs.lemmas.Option.{slice_get_read}
 use Rattle.std.proofs.Math.Seq.{drop-cons}
 use Rattle.vax_space.specs.declared.Area.{Area}
 use Rattle.vax_space.specs.Areas.{end_of, has_page, area_of}
-use Rattle.vax_space.specs.Faults.{IsSpace, end_before, is_protection}
+use Rattle.vax_space.specs.Faults.{IsSpace, end_before, is_placed, is_protection}
 use Rattle.vax_space.specs.Reference.{program_end, control_start, end_in_program, start_in_control}
-use Rattle.vax_space.proofs.AreaFaults.{Fits, fits_here, placed_end, end_here}
+use Rattle.std.specs.Prelude.{slice_get}
+use Rattle.vax_space.proofs.AreaFaults.{placed_low, placed_high, Fits, fits_here, placed_end, end_here}
 
 pub rest_at : (areas : List Area) (i : ℕ) (area : Area) → i < length areas → area ≡ get_or areas i area → drop i areas ≡ area ∷ drop (i + 1) areas
 rest_at areas i area below is = rw add-one (drop-cons areas i area below ∙ ap (λ a. a ∷ drop (suc i) areas) (sym is))
@@ -69,3 +70,29 @@ has_last area page h = grind (arith, nat_tests)
 pub prot_small : (low : ℕ) (area : Area) → Fits low area → area.prot ≤ 15
 unfolding is_protection
 prot_small low area fits = let h = fits.prot in grind (arith, nat_tests)
+
+-- the lengths of the regions are within them
+program_placed : (areas : List Area) → ((k : ℕ) (area : Area) → slice_get areas k ≡ Some area → is_placed area ≡ true) → program_end areas ≤ 0x8000
+unfolding program_end
+program_placed [] placed = omega arith
+program_placed (area ∷ areas) placed =
+    let low = placed_low area (placed 0 area refl) in
+    let high = placed_high area (placed 0 area refl) in
+    let rest = program_placed areas (λ k a h. placed (suc k) a h) in
+    let here : end_in_program area ≤ 0x8000 = grind (arith, nat_tests) in
+    omega arith
+
+control_placed : (areas : List Area) → ((k : ℕ) (area : Area) → slice_get areas k ≡ Some area → is_placed area ≡ true) → 0x3F8000 ≤ control_start areas
+unfolding control_start
+control_placed [] placed = omega arith
+control_placed (area ∷ areas) placed =
+    let high = placed_high area (placed 0 area refl) in
+    let rest = control_placed areas (λ k a h. placed (suc k) a h) in
+    let here : 0x3F8000 ≤ start_in_control area = grind (arith, nat_tests) in
+    omega arith
+
+pub program_small : (areas : List Area) → IsSpace areas → program_end areas ≤ 0x8000
+program_small areas space = program_placed areas (λ k area h. (fits_here areas k area space h).placed)
+
+pub control_large : (areas : List Area) → IsSpace areas → 0x3F8000 ≤ control_start areas
+control_large areas space = control_placed areas (λ k area h. (fits_here areas k area space h).placed)

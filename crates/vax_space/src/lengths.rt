@@ -1,5 +1,5 @@
 //! The lengths of the regions.
-ghost use Rattle.std.specs.Prelude.{◌≡◌, ◌<◌, ◌^◌};
+ghost use Rattle.std.specs.Prelude.{◌≡◌, ◌<◌, ◌≤◌, ◌^◌};
 ghost use Rattle.vax_space.specs.Areas.{end_of};
 ghost use Rattle.vax_space.specs.Faults.{IsSpace};
 ghost use Rattle.vax_space.specs.Reference as spec;
@@ -19,9 +19,11 @@ fn end_in_program(area: &Area) -> u32
 }
 
 /// The page after the last that an area of P0 has.
-fn program_end(areas: &[Area]) -> u32
+#[tactic(auto, using(crate::proofs::Extents::program_small))]
+pub fn program_end(areas: &[Area]) -> u32
     requires { IsSpace areas.now }
-    ensures { result ≡ spec.program_end areas.now }
+    ensures end { result ≡ spec.program_end areas.now }
+    ensures within { result ≤ 0x8000 }
 {
     let mut end: u32 = 0;
     for area in areas {
@@ -42,8 +44,12 @@ fn start_in_control(area: &Area) -> u32
 }
 
 /// The first page that an area of P1 has, or the region's end.
-fn control_start(areas: &[Area]) -> u32
-    ensures { result ≡ spec.control_start areas.now }
+#[tactic(auto, using(crate::proofs::Extents::control_large, crate::proofs::Extents::control_small))]
+pub fn control_start(areas: &[Area]) -> u32
+    requires { IsSpace areas.now }
+    ensures start { result ≡ spec.control_start areas.now }
+    ensures low { 0x3F8000 ≤ result }
+    ensures high { result ≤ 0x400000 }
 {
     let mut start: u32 = 0x400000;
     for area in areas {

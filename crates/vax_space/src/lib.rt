@@ -16,7 +16,7 @@ mod pages;
 
 use codes::{NO_AREA, code_table, slot};
 use faults::first_fault;
-use lengths::is_past_region;
+use lengths::{control_start, is_past_region, program_end};
 use std::alloc::{AllocError, Global};
 use std::marker::Model;
 use thiserror::Error;
@@ -244,6 +244,24 @@ impl Space {
         ensures sound { IsSpace self.now }
     {
         &self.areas
+    }
+
+    /// The page after the last that an area of P0 has, which is P0's length; 0 where P0 has no area.
+    pub fn p0_end(&self) -> u32
+        ensures end { result ≡ reference.program_end self.now }
+        ensures within { result ≤ 0x8000 }
+    {
+        program_end(&self.areas)
+    }
+
+    /// The first page that an area of P1 has, from which on P1's pages are within its length; 400000 (hexadecimal),
+    /// the region's end, where P1 has no area.
+    pub fn p1_start(&self) -> u32
+        ensures start { result ≡ reference.control_start self.now }
+        ensures low { 0x3F8000 ≤ result }
+        ensures high { result ≤ 0x400000 }
+    {
+        control_start(&self.areas)
     }
 
     /// The protection code of a page, and the reserved code for a page in no area.

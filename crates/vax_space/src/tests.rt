@@ -173,6 +173,8 @@ fn no_area_in_a_region(rt: HostRuntime) -> Result<(), Fail> {
         bad(0x80000000, false, false)
     );
     assert_eq!(rt; space.areas().len(), 0);
+    assert_eq!(rt; space.p0_end(), 0);
+    assert_eq!(rt; space.p1_start(), 0x400000);
     Ok(())
 }
 
@@ -224,6 +226,8 @@ fn pages(rt: HostRuntime) -> Result<(), Fail> {
     let first = space.area_of(0x3FFFFF).map(|area| area.first);
     assert_eq!(rt; first, Some(0x3FFFFF));
     assert_eq!(rt; space.areas().len(), 6);
+    assert_eq!(rt; space.p0_end(), 0x8000);
+    assert_eq!(rt; space.p1_start(), 0x3F8000);
     Ok(())
 }
 

@@ -10,5 +10,5 @@ loop-area-preserved c =
     rw (c.min-start.ensures, c.start_in_control.ensures)
     (control_more _ _ _ _ (rw (rest_at _ _ _ c.loop-area-test.true c.area-item.is) at c.loop-area.invariant.0), omega (arith, c.loop-area.invariant.1))
 
-pub returns : goal.returns
-returns c = control_none _ _ c.loop-area.invariant.1 (rw (none_left _ _ c.loop-area-test.false) at c.loop-area.invariant.0)
+pub returns-clause-start : goal.returns-clause-start
+returns-clause-start c = control_none _ _ c.loop-area.invariant.1 (rw (none_left _ _ c.loop-area-test.false) at c.loop-area.invariant.0)

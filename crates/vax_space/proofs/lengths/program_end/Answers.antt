@@ -10,5 +10,5 @@ loop-area-preserved c =
     rw (c.max-end.ensures, c.end_in_program.ensures)
     (program_more _ _ _ _ (rw (rest_at _ _ _ c.loop-area-test.true c.area-item.is) at c.loop-area.invariant))
 
-pub returns : goal.returns
-returns c = program_none _ _ (rw (none_left _ _ c.loop-area-test.false) at c.loop-area.invariant)
+pub returns-clause-end : goal.returns-clause-end
+returns-clause-end c = program_none _ _ (rw (none_left _ _ c.loop-area-test.false) at c.loop-area.invariant)
