@@ -1,15 +1,15 @@
 use Rattle.std.proofs.Common.{◌≡◌, ◌+◌, ◌*◌, ◌/◌, ◌%◌, ◌^◌, ◌<◌, ℕ, zero, suc, ◌⊎◌, inl, inr, Bool, true, false, bit_and, bit_or, refl, ◌∙◌, ap, sym, arith, nat_eq}
 use Rattle.std.proofs.lemmas.Nat.{or_shifted}
 use Rattle.std.proofs.lemmas.Nat.Bits.{and_high_mask}
-use mir.Val.{bool_byte}
+use Rattle.std.specs.Int.{from_bool}
 use Rattle.vax_word.specs.declared.Psl.{Psl}
 use Rattle.vax_word.specs.declared.Codes.{Codes}
-use Rattle.vax_word.specs.Status.{bit_of, codes_of, codes_number}
+use Rattle.vax_word.specs.Status.{codes_of, codes_number}
 
 -- what the code's shifts make of the four codes
 pub bits_made : (n z v c : Bool) →
-    bit_or (bit_or (bit_or (bool_byte n * 8 % 4294967296) (bool_byte z * 4 % 4294967296)) (bool_byte v * 2 % 4294967296)) (bool_byte c)
-    ≡ 8 * bit_of n + 4 * bit_of z + 2 * bit_of v + bit_of c
+    bit_or (bit_or (bit_or (from_bool n * 8 % 4294967296) (from_bool z * 4 % 4294967296)) (from_bool v * 2 % 4294967296)) (from_bool c)
+    ≡ 8 * from_bool n + 4 * from_bool z + 2 * from_bool v + from_bool c
 bits_made true true true true = refl
 bits_made true true true false = refl
 bits_made true true false true = refl
@@ -28,13 +28,13 @@ bits_made false false false true = refl
 bits_made false false false false = refl
 
 -- a code is one bit
-bit_of_below : (b : Bool) → bit_of b < 2
-bit_of_below true = omega arith
-bit_of_below false = omega arith
+from_bool_below : (b : Bool) → from_bool b < 2
+from_bool_below true = omega arith
+from_bool_below false = omega arith
 
 pub codes_number_below : (k : Codes) → codes_number k < 16
 unfolding codes_number
-codes_number_below k = omega (arith, bit_of_below k.n, bit_of_below k.z, bit_of_below k.v, bit_of_below k.c)
+codes_number_below k = omega (arith, from_bool_below k.n, from_bool_below k.z, from_bool_below k.v, from_bool_below k.c)
 
 -- the code's mask and `|`
 pub low_replaced : (x k : ℕ) → x < 2 ^ 32 → k < 16 → bit_or (bit_and x 4294967280) k ≡ x / 16 * 16 + k
@@ -47,8 +47,8 @@ lt_two zero h = inl refl
 lt_two (suc zero) h = inr refl
 lt_two (suc (suc x)) h = absurd (omega arith)
 
-one_bit : (x : ℕ) → x < 2 → bit_of (nat_eq x 1) ≡ x
-one_bit x h = elim (lt_two x h) [ inl e ↦ ap (λ y. bit_of (nat_eq y 1)) e ∙ sym e | inr e ↦ ap (λ y. bit_of (nat_eq y 1)) e ∙ sym e ]
+one_bit : (x : ℕ) → x < 2 → from_bool (nat_eq x 1) ≡ x
+one_bit x h = elim (lt_two x h) [ inl e ↦ ap (λ y. from_bool (nat_eq y 1)) e ∙ sym e | inr e ↦ ap (λ y. from_bool (nat_eq y 1)) e ∙ sym e ]
 
 pub codes_number-codes_of : (p : Psl) → codes_number (codes_of p) ≡ p.0 % 16
 unfolding codes_number codes_of
@@ -59,7 +59,7 @@ codes_number-codes_of p =
 pub same_codes : {a b : Codes} → a.n ≡ b.n → a.z ≡ b.z → a.v ≡ b.v → a.c ≡ b.c → a ≡ b
 same_codes n z v c = λ i. record { n = n i; z = z i; v = v i; c = c i }
 
-bit_found : (x : ℕ) (b : Bool) → x ≡ bit_of b → nat_eq x 1 ≡ b
+bit_found : (x : ℕ) (b : Bool) → x ≡ from_bool b → nat_eq x 1 ≡ b
 bit_found x true e = ap (λ y. nat_eq y 1) e
 bit_found x false e = ap (λ y. nat_eq y 1) e
 
@@ -67,11 +67,11 @@ bit_found x false e = ap (λ y. nat_eq y 1) e
 pub codes_of-packed : (q : ℕ) (k : Codes) → codes_of (record { 0 = q * 16 + codes_number k }) ≡ k
 unfolding codes_number codes_of
 codes_of-packed q k =
-    let n_below = bit_of_below k.n in
-    let z_below = bit_of_below k.z in
-    let v_below = bit_of_below k.v in
-    let c_below = bit_of_below k.c in
-    let x : ℕ = q * 16 + (8 * bit_of k.n + 4 * bit_of k.z + 2 * bit_of k.v + bit_of k.c) in
+    let n_below = from_bool_below k.n in
+    let z_below = from_bool_below k.z in
+    let v_below = from_bool_below k.v in
+    let c_below = from_bool_below k.c in
+    let x : ℕ = q * 16 + (8 * from_bool k.n + 4 * from_bool k.z + 2 * from_bool k.v + from_bool k.c) in
     let n : nat_eq (x / 2 ^ 3 % 2) 1 ≡ k.n = bit_found _ _ (omega arith) in
     let z : nat_eq (x / 2 ^ 2 % 2) 1 ≡ k.z = bit_found _ _ (omega arith) in
     let v : nat_eq (x / 2 ^ 1 % 2) 1 ≡ k.v = bit_found _ _ (omega arith) in

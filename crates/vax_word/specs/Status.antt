@@ -1,4 +1,5 @@
-use Rattle.std.specs.Prelude.{ℕ, ◌+◌, ◌*◌, ◌/◌, ◌%◌, ◌^◌, ◌==◌, Bool, true, false}
+use Rattle.std.specs.Prelude.{ℕ, ◌+◌, ◌*◌, ◌/◌, ◌%◌, ◌^◌, ◌==◌, Bool}
+use Rattle.std.specs.Int.{from_bool}
 use Rattle.vax_word.specs.declared.Psl.{Psl}
 use Rattle.vax_word.specs.declared.Codes.{Codes}
 
@@ -11,11 +12,6 @@ field value first width = value / 2 ^ first % 2 ^ width
 -- whether a bit is 1
 abbrev pub is_one : ℕ → ℕ → Bool
 is_one value place = field value place 1 == 1
-
--- a code as a bit
-abbrev pub bit_of : Bool → ℕ
-bit_of true = 1
-bit_of false = 0
 
 -- bits 25:24, the current access mode
 unfoldable pub mode_of : Psl → ℕ
@@ -35,7 +31,7 @@ codes_of p = record { n = is_one p.0 3; z = is_one p.0 2; v = is_one p.0 1; c = 
 
 -- N, Z, V and C as a number of four bits
 unfoldable pub codes_number : Codes → ℕ
-codes_number k = 8 * bit_of k.n + 4 * bit_of k.z + 2 * bit_of k.v + bit_of k.c
+codes_number k = 8 * from_bool k.n + 4 * from_bool k.z + 2 * from_bool k.v + from_bool k.c
 
 -- bits 31:4 as they were, over the codes
 unfoldable pub with_codes : Psl → Codes → Psl

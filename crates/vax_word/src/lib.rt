@@ -6,6 +6,10 @@
 
 ghost use Rattle.std.specs.Prelude.{◌≡◌, ◌+◌, ◌*◌, ◌/◌, ◌^◌, ◌<◌, ◌≤◌};
 
+mod arithmetic;
+
+pub use arithmetic::{add, convert, div, ediv, emul, mul, shift, sub};
+
 /// The size of an operand: byte, word, longword or quadword, which have 8, 16, 32 and 64 bits
 /// (VAX Architecture Reference Manual, data types).
 #[derive(Clone, Copy, Debug, PartialEq, Eq)]
@@ -123,4 +127,79 @@ pub struct Core {
     pub iccs: u8,
     /// How far the interval clock has counted.
     pub clock: u16,
+}
+
+#[cfg(test)]
+mod tests {
+    use super::*;
+
+    #[test]
+    fn status_fields(rt: HostRuntime) {
+        let psl = Psl(0x0194_0005);
+        assert_eq!(rt; psl.mode(), 1);
+        assert_eq!(rt; psl.prev(), 2);
+        assert_eq!(rt; psl.ipl(), 0x14);
+        assert_eq!(rt;
+            psl.codes(),
+            Codes {
+                n: false,
+                z: true,
+                v: false,
+                c: true
+            }
+        );
+        assert_eq!(rt; Psl(0x0300_0000).mode(), 3);
+        assert_eq!(rt; Psl(0x00C0_0000).prev(), 3);
+        assert_eq!(rt; Psl(0x001F_0000).ipl(), 31);
+        assert_eq!(rt;
+            Psl(0xFCE0_FFF0).codes(),
+            Codes {
+                n: false,
+                z: false,
+                v: false,
+                c: false
+            }
+        );
+    }
+
+    #[test]
+    fn codes_are_replaced(rt: HostRuntime) {
+        let negative = Codes {
+            n: true,
+            z: false,
+            v: true,
+            c: false,
+        };
+        assert_eq!(rt; Psl(0xFFFF_FFFF).with_codes(negative), Psl(0xFFFF_FFFA));
+        let carry = Codes {
+            n: false,
+            z: false,
+            v: false,
+            c: true,
+        };
+        assert_eq!(rt; Psl(0x03C0_00EA).with_codes(carry), Psl(0x03C0_00E1));
+        let zero = Codes {
+            n: false,
+            z: true,
+            v: false,
+            c: false,
+        };
+        assert_eq!(rt; Psl(0).with_codes(zero), Psl(4));
+    }
+
+    #[test]
+    fn cores_are_compared(rt: HostRuntime) {
+        let start = Core {
+            regs: [0; 16],
+            psl: Psl(0),
+            stacks: [0; 5],
+            sisr: 0,
+            iccs: 0,
+            clock: 0,
+        };
+        let mut other = start;
+        assert_eq!(rt; other, start);
+        other.regs[15] = 0x200;
+        assert_ne!(rt; other, start);
+    }
 }
