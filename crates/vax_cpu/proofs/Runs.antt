@@ -132,44 +132,51 @@ module _ (view : View) (m : Flat) (count : ℕ) (mid : Present) (r : Reaches vie
       },
   )
 
-  all : (last : Attempt) → Attempted view r.here last cpu after → StaysAt r.here last cpu after → AreAttempts view m count last cpu after
-  all last attempted stays_at = record { here = r.here; steps = r.steps; resident = r.resident; silent = r.silent; attempted = attempted; stays = stays_at }
+  all : (last : Attempt) → Attempted view r.here last cpu after → StaysAt r.here last cpu after → after.resident ≡ view.resident → after.areas ≡ view.areas → AreAttempts view m count last cpu after
+  all last attempted stays_at pages areas = record { here = r.here; steps = r.steps; resident = r.resident; silent = r.silent; attempted = attempted; stays = stays_at; pages = pages; areas = areas }
+
+  -- where the last attempt made no step
+  none_made : (last : Attempt) → Attempted view r.here last cpu after → StaysAt r.here last cpu after → new ≡ mid → AreAttempts view m count last cpu after
+  none_made last attempted stays_at e = all last attempted stays_at (ap (λ (p : Present). p.view.resident) e ∙ r.is.resident) (ap (λ (p : Present). p.view.areas) e ∙ r.is.areas)
+
+  one_made : (sent : Option ℕ) → (first_missing view.resident (step_touches r.here) ≡ None) × IsStep view r.here sent cpu after → AreAttempts view m count (attempt.Step sent) cpu after
+  one_made sent k = all (attempt.Step sent) k tt k.1.resident k.1.areas
 
   module _ (from_here : mid ≡ record { state = state_of r.here; view = mid.view }) where
     pub last_kept : (sent : Option ℕ) → IsTried whole_step mid (tried.Step sent) new → AreAttempts view m count (attempt.Step sent) cpu after
-    last_kept sent t = all (attempt.Step sent)
-        (kept_here sent (step_kept mid.view r.here r.is.running r.is.stands sent cpu after input_here (subst (λ (p : Present). IsTried whole_step p (tried.Step sent) new) from_here t))) tt
+    last_kept sent t = one_made sent
+        (kept_here sent (step_kept mid.view r.here r.is.running r.is.stands sent cpu after input_here (subst (λ (p : Present). IsTried whole_step p (tried.Step sent) new) from_here t)))
 
     pub last_absent : (page : ℕ) → IsTried whole_step mid (tried.Absent page) new → AreAttempts view m count (attempt.Absent page) cpu after
-    last_absent page t = all (attempt.Absent page)
-        (first_here (Some page) (step_absent mid.view r.here r.is.running r.is.stands page new (subst (λ (p : Present). IsTried whole_step p (tried.Absent page) new) from_here t))) (stays t.1)
+    last_absent page t = none_made (attempt.Absent page)
+        (first_here (Some page) (step_absent mid.view r.here r.is.running r.is.stands page new (subst (λ (p : Present). IsTried whole_step p (tried.Absent page) new) from_here t))) (stays t.1) t.1
 
     pub last_ended : (e : Ending) → IsTried whole_step mid (tried.Ended e) new → AreAttempts view m count (attempt.Ended e) cpu after
     last_ended e t =
         let a = step_ended mid.view r.here r.is.running r.is.stands e new (subst (λ (p : Present). IsTried whole_step p (tried.Ended e) new) from_here t) in
-        all (attempt.Ended e) (first_here None a.0, a.1) (stays t.5)
+        none_made (attempt.Ended e) (first_here None a.0, a.1) (stays t.5) t.5
 
     module _ (x : Exception) (raised : Present) (came : IsTried whole_step mid (tried.Event x) raised) where
       at : over_port (whole_step (state_of r.here)) mid.view ≡ Stops (cut.Event x)
       at = (subst (λ (p : Present). IsTried whole_step p (tried.Event x) raised) from_here came).0
 
       pub delivery_last_kept : (sent : Option ℕ) → IsTried (whole_delivery x) mid (tried.Step sent) new → AreAttempts view m count (attempt.Step sent) cpu after
-      delivery_last_kept sent t = all (attempt.Step sent)
-          (kept_here sent (delivery_kept mid.view r.here r.is.running r.is.stands x at sent cpu after input_here (subst (λ (p : Present). IsTried (whole_delivery x) p (tried.Step sent) new) from_here t))) tt
+      delivery_last_kept sent t = one_made sent
+          (kept_here sent (delivery_kept mid.view r.here r.is.running r.is.stands x at sent cpu after input_here (subst (λ (p : Present). IsTried (whole_delivery x) p (tried.Step sent) new) from_here t)))
 
       pub delivery_last_absent : (page : ℕ) → IsTried (whole_delivery x) mid (tried.Absent page) new → AreAttempts view m count (attempt.Absent page) cpu after
-      delivery_last_absent page t = all (attempt.Absent page)
-          (first_here (Some page) (delivery_absent mid.view r.here r.is.running r.is.stands x at page new (subst (λ (p : Present). IsTried (whole_delivery x) p (tried.Absent page) new) from_here t))) (stays t.1)
+      delivery_last_absent page t = none_made (attempt.Absent page)
+          (first_here (Some page) (delivery_absent mid.view r.here r.is.running r.is.stands x at page new (subst (λ (p : Present). IsTried (whole_delivery x) p (tried.Absent page) new) from_here t))) (stays t.1) t.1
 
       pub delivery_last_ended : (e : Ending) → IsTried (whole_delivery x) mid (tried.Ended e) new → AreAttempts view m count (attempt.Ended e) cpu after
       delivery_last_ended e t =
           let a = delivery_ended mid.view r.here r.is.running r.is.stands x at e new (subst (λ (p : Present). IsTried (whole_delivery x) p (tried.Ended e) new) from_here t) in
-          all (attempt.Ended e) (first_here None a.0, a.1) (stays t.5)
+          none_made (attempt.Ended e) (first_here None a.0, a.1) (stays t.5) t.5
 
       pub delivery_last_raised : (y : Exception) → IsTried (whole_delivery x) mid (tried.Event y) new → AreAttempts view m count (attempt.Ended Unbuilt) cpu after
       delivery_last_raised y t =
           let a = delivery_raised mid.view r.here r.is.running r.is.stands x at y new (subst (λ (p : Present). IsTried (whole_delivery x) p (tried.Event y) new) from_here t) in
-          all (attempt.Ended Unbuilt) (first_here None a.0, a.1) (stays t.1)
+          none_made (attempt.Ended Unbuilt) (first_here None a.0, a.1) (stays t.1) t.1
 
 -- where a transaction is, said by the flat machine
 pub is_here : (view : View) (m : Flat) (p : Present) → IsWhere view p m → p ≡ record { state = state_of m; view = p.view }

@@ -32,3 +32,5 @@ pub record AreAttempts (before : View) (m : Flat) (count : ℕ) (last : Attempt)
   pub silent : here.output ≡ m.output
   pub attempted : Attempted before here last cpu after
   pub stays : StaysAt here last cpu after
+  pub pages : after.resident ≡ before.resident
+  pub areas : after.areas ≡ before.areas

@@ -4,3 +4,4 @@ pub mod Memory
 pub mod Standing
 pub mod Leaves
 pub mod Joined
+pub mod Runs

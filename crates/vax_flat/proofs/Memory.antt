@@ -104,6 +104,10 @@ allowed_first areas addr len mode access h =
       | inr bad ↦ let no : Some (violation_at areas addr access) ≡ None = rw bad at h in cc
     ]
 
+pub is_mapped-written : (memory : List Area) (addr len value page : ℕ) → is_mapped (written memory addr len value) page ≡ is_mapped memory page
+is_mapped-written memory addr len value page =
+    sym (is_mapped-layout (written memory addr len value) page) ∙ (ap (λ areas. is_mapped areas page) (layout-written memory addr len value) ∙ is_mapped-layout memory page)
+
 mapped_after : (memory : List Area) (addr len value page : ℕ) → is_mapped memory page ≡ true → is_mapped (written memory addr len value) page ≡ true
 mapped_after memory addr len value page h =
     sym (is_mapped-layout (written memory addr len value) page) ∙ (ap (λ areas. is_mapped areas page) (layout-written memory addr len value) ∙ (is_mapped-layout memory page ∙ h))
@@ -128,6 +132,10 @@ pub whole_written_run : (memory : List Area) (addr : ℕ) (bytes : List ℕ) →
 unfolding written_run
 whole_written_run memory addr [] w = w
 whole_written_run memory addr (b ∷ bs) w = whole_with_byte _ _ _ (whole_written_run memory (after addr) bs w)
+
+pub is_mapped-written_run : (memory : List Area) (addr : ℕ) (bytes : List ℕ) (page : ℕ) → is_mapped (written_run memory addr bytes) page ≡ is_mapped memory page
+is_mapped-written_run memory addr bytes page =
+    sym (is_mapped-layout (written_run memory addr bytes) page) ∙ (ap (λ areas. is_mapped areas page) (layout-written_run memory addr bytes) ∙ is_mapped-layout memory page)
 
 mapped_after_run : (memory : List Area) (addr : ℕ) (bytes : List ℕ) (page : ℕ) → is_mapped memory page ≡ true → is_mapped (written_run memory addr bytes) page ≡ true
 mapped_after_run memory addr bytes page h =
