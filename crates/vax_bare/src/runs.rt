@@ -1,0 +1,69 @@
+//! Runs.
+ghost use Rattle.std.specs.Prelude.{◌≡◌, ◌+◌, ◌<◌, ◌≤◌, ℕ, List, [], None, IfOk, OnErr};
+ghost use Rattle.vax_space.specs.declared.Area.{Area};
+ghost use Rattle.vax_outside.specs.Faults.{Rose};
+ghost use Rattle.vax_flat.specs.Port.{StandsFor};
+ghost use Rattle.vax_flat.proofs.Runs.{AllResident};
+ghost use Rattle.vax_cpu.specs.Attempt.{flat_of};
+ghost use Rattle.vax_bare.specs.Run.{IsRun, IsCutShort};
+
+use vax_cpu::{Attempt, Cpu};
+use vax_flat::Ending;
+use vax_outside::{Chan, Failed, Sink, put_all};
+use vax_undo::Port;
+
+/// How a run stopped: its ending, or none at the limit of steps; and the number of steps, of which the one that ended it is the last.
+#[derive(Clone, Copy, Debug, PartialEq, Eq)]
+pub struct Stopped {
+    pub ending: Option<Ending>,
+    pub steps: u64,
+}
+
+/// Runs a processor over a memory of which every page is resident, up to the first step that ends the run, or for `limit` steps. The bytes
+/// that the program sends to its console go to Out in order.
+///
+/// It fails where a write to Out failed, after a prefix of what the whole run sends.
+pub fn run<P: Port, K: Sink>(cpu: &mut Cpu, port: &mut P, limit: u64, sink: &mut K) -> Result<Stopped, Failed>
+    requires closed { cpu.old.latch ≡ None }
+    requires unsent { cpu.old.term.out ≡ None }
+    requires resident { AllResident (P.view port.old).resident (P.view port.old).areas }
+    ensures ok { (memory : List Area) → StandsFor (P.view port.old) memory → IfOk result (λ stopped. IsRun limit (flat_of cpu.old memory []) cpu.new (K.contents sink.old) (K.contents sink.new) stopped) }
+    ensures err { (memory : List Area) → StandsFor (P.view port.old) memory → OnErr result (IsCutShort limit (flat_of cpu.old memory []) (K.contents sink.old) (K.contents sink.new)) }
+    ensures later { K.faults sink.old ≤ K.faults sink.new }
+    ensures cause { OnErr result (Rose (K.faults sink.old) (K.faults sink.new)) }
+{
+    let mut steps = 0;
+    while steps < limit {
+        let batch = cpu.attempts(port, limit - steps);
+        steps += batch.steps + 1;
+        match batch.last {
+            Attempt::Step(sent) => match sent {
+                None => {}
+                Some(byte) => put_all(sink, Chan::Out, &[byte])?,
+            },
+            Attempt::Ended(ending) => {
+                return Ok(Stopped {
+                    ending: Some(ending),
+                    steps,
+                });
+            }
+            // Neither comes where every page is resident and no string instruction is open.
+            Attempt::Absent(_) => {
+                return Ok(Stopped {
+                    ending: Some(Ending::Unbuilt),
+                    steps,
+                });
+            }
+            Attempt::Part => {
+                return Ok(Stopped {
+                    ending: Some(Ending::Unbuilt),
+                    steps,
+                });
+            }
+        }
+    }
+    Ok(Stopped {
+        ending: None,
+        steps,
+    })
+}
