@@ -31,6 +31,10 @@ is_negative s x = nat_le (sign_bit s) x
 unfoldable pub signed : Size → ℕ → ℤ
 signed s x = if is_negative s x then pos x -ℤ pos (modulus s) else pos x
 
+-- CMP: N, whether one operand is below another as signed numbers
+unfoldable pub is_less : Size → ℕ → ℕ → Bool
+is_less s a b = int_lt (signed s a) (signed s b)
+
 -- an integer modulo 2 to the bits
 unfoldable pub low_bits : Size → ℤ → ℕ
 low_bits s z = unsigned_abs (int_rem_euclid z (pos (modulus s)))

@@ -3,7 +3,7 @@
 //! Each result is the exact one modulo 2 to those bits, and N and Z are read from it.
 
 ghost use Rattle.std.specs.Prelude.{◌≡◌, ◌+◌, ◌*◌, ◌/◌, ◌%◌, ◌^◌, ◌<◌, ◌≤◌, ◌≢◌, unsigned_abs, false};
-ghost use Rattle.vax_word.specs.Arithmetic.{bytes_of, modulus, sign_bit, is_negative, signed, low_bits, answer, signed_answer, sum, difference, product, quotient, shifted, converted, extended_product, extended_quotient};
+ghost use Rattle.vax_word.specs.Arithmetic.{bytes_of, modulus, sign_bit, is_negative, signed, is_less, low_bits, answer, signed_answer, sum, difference, product, quotient, shifted, converted, extended_product, extended_quotient};
 
 use crate::{Codes, Size};
 
@@ -42,6 +42,17 @@ fn extend(size: Size, x: u64) -> i64
 {
     let unused = 64 - bits(size);
     (x << unused).cast_signed() >> unused
+}
+
+/// Whether `a` is below `b` as signed numbers, which is N of CMP.
+#[inline]
+#[tactic(auto, unfolding(crate::specs::Arithmetic::is_less))]
+pub fn signed_less(size: Size, a: u64, b: u64) -> bool
+    requires a_fits { a < 256 ^ bytes_of size }
+    requires b_fits { b < 256 ^ bytes_of size }
+    ensures { result ≡ is_less size a b }
+{
+    extend(size, a) < extend(size, b)
 }
 
 // `r` as a result: N and Z are read from it.

@@ -8,7 +8,7 @@ ghost use Rattle.std.specs.Prelude.{◌≡◌, ◌+◌, ◌*◌, ◌/◌, ◌^�
 
 mod arithmetic;
 
-pub use arithmetic::{add, convert, div, ediv, emul, mul, shift, sub};
+pub use arithmetic::{add, convert, div, ediv, emul, mul, shift, signed_less, sub};
 
 /// The size of an operand: byte, word, longword or quadword, which have 8, 16, 32 and 64 bits
 /// (VAX Architecture Reference Manual, data types).

@@ -11,6 +11,18 @@ const fn codes(n: u8, z: u8, v: u8, c: u8) -> Codes {
 }
 
 #[test]
+fn signed_order(rt: HostRuntime) {
+    assert!(rt; signed_less(Size::B, 0x80, 0x7F));
+    assert!(rt; signed_less(Size::B, 0xFF, 0));
+    assert!(rt; !signed_less(Size::B, 0, 0xFF));
+    assert!(rt; !signed_less(Size::W, 0x8000, 0x8000));
+    assert!(rt; signed_less(Size::W, 0x80, 0x81));
+    assert!(rt; signed_less(Size::L, 0x8000_0000, 0xFFFF_FFFF));
+    assert!(rt; !signed_less(Size::L, 0x7FFF_FFFF, 0x8000_0000));
+    assert!(rt; signed_less(Size::Q, u64::MAX, 0));
+}
+
+#[test]
 fn sums(rt: HostRuntime) {
     assert_eq!(rt; add(Size::B, 0x7F, 1, false), (0x80, codes(1, 0, 1, 0)));
     assert_eq!(rt; add(Size::B, 0xFF, 1, false), (0, codes(0, 1, 0, 1)));
