@@ -250,6 +250,7 @@ impl Space {
     pub fn p0_end(&self) -> u32
         ensures end { result ≡ reference.program_end self.now }
         ensures within { result ≤ 0x8000 }
+        ensures sound { IsSpace self.now }
     {
         program_end(&self.areas)
     }
@@ -280,7 +281,8 @@ impl Space {
     /// The protection code of a page; none where no area has the page.
     #[inline]
     pub fn prot_of(&self, page: u32) -> Option<u8>
-        ensures { result ≡ areas_spec.prot_of self.now page }
+        ensures prot { result ≡ areas_spec.prot_of self.now page }
+        ensures small { IfSome result (λ code. code ≤ 15) }
     {
         match self.code(page) {
             NO_AREA => None,

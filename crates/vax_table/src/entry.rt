@@ -81,5 +81,5 @@ pub fn put_entry(bytes: &mut [u8], place: usize, entry: u32)
     ensures size { length bytes.new ≡ length bytes.old }
     ensures entries { (n : ℕ) → spec.entry_at bytes.new n ≡ changed (spec.entry_at bytes.old) place entry n }
 {
-    LittleEndian::write_u32(&mut bytes[4 * place..], entry);
+    LittleEndian::write_u32(&mut bytes[4 * place..4 * place + 4], entry);
 }
