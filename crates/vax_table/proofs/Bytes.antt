@@ -19,7 +19,7 @@ entry_same : (old new : List ℕ) (place : ℕ) → ((k : ℕ) → k < 4 → get
 unfolding entry_at
 entry_same old new place same =
     let at : (k : ℕ) → k < 4 → get_or (drop (4 * place) new) k 0 ≡ get_or (drop (4 * place) old) k 0 =
-      λ k h. byte_at new place k ∙ same k h ∙ sym (byte_at old place k) in
+    λ k h. byte_at new place k ∙ same k h ∙ sym (byte_at old place k) in
     let a = at 0 (omega arith) in
     let b = at 1 (omega arith) in
     let c = at 2 (omega arith) in
@@ -36,7 +36,7 @@ unfolding entry_at
 entry_here xs zs a place v e within fits =
     let size : length (take a xs) ≡ 4 * place = length-take-le a xs within ∙ e in
     let at : drop (4 * place) (take a xs ++ (little_bytes 4 v ++ zs)) ≡ little_bytes 4 v ++ zs =
-      ap (λ n. drop n (take a xs ++ (little_bytes 4 v ++ zs))) (sym size) ∙ drop-append_seam (take a xs) (little_bytes 4 v ++ zs) in
+    ap (λ n. drop n (take a xs ++ (little_bytes 4 v ++ zs))) (sym size) ∙ drop-append_seam (take a xs) (little_bytes 4 v ++ zs) in
     ap (little_number 4) at ∙ little_number-reads_back 4 v zs fits
 
 entry_after : (xs ys : List ℕ) (place n : ℕ) → place < n → 4 * place + 4 ≤ length xs → length ys ≡ 4 → entry_at (put_mid (4 * place) 4 xs ys) n ≡ entry_at xs n
@@ -46,20 +46,20 @@ entry_after xs ys place n later within size =
 
 entry_other : (xs ys : List ℕ) (place n : ℕ) → (n ≡ place → ⊥) → 4 * place + 4 ≤ length xs → length ys ≡ 4 → entry_at (put_mid (4 * place) 4 xs ys) n ≡ entry_at xs n
 entry_other xs ys place n ne within size = elim (cases_lt n place) [
-    inl below ↦ entry_before xs (ys ++ post_of (4 * place) 4 xs) (4 * place) n (omega arith) (omega arith)
+  | inl below ↦ entry_before xs (ys ++ post_of (4 * place) 4 xs) (4 * place) n (omega arith) (omega arith)
   | inr past ↦ entry_after xs ys place n (omega arith) within size
-  ]
+]
 
 entry_both : (xs ys rest : List ℕ) (place v n : ℕ) → 4 * place + 4 ≤ length xs → v < 2 ^ 32 → length ys ≡ 4 → ys ≡ little_bytes 4 v ++ rest → entry_at (put_mid (4 * place) 4 xs ys) n ≡ changed (entry_at xs) place v n
 unfolding changed
 entry_both xs ys rest place v n within fits size is = elim (cases_eq n place) [
-    inl e ↦
+  | inl e ↦
       let t : nat_eq n place ≡ true = grind (arith, nat_tests) in
       rw t (rw (e, is) (entry_here xs (rest ++ post_of (4 * place) 4 xs) (4 * place) place v refl (omega arith) fits))
   | inr ne ↦
       let t : nat_eq n place ≡ false = grind (arith, nat_tests) in
       rw t (entry_other xs ys place n ne within size)
-  ]
+]
 
 four : (xs : List ℕ) (a : ℕ) → a + 4 ≤ length xs → length (take 4 (drop a xs)) ≡ 4
 four xs a within = length-take-le 4 (drop a xs) (omega (arith, length-drop a xs))

@@ -79,9 +79,9 @@ said_marked old h =
 mapped_changed : (areas : List Area) (held : ℕ → Option Held) (page : ℕ) (x : Option Held) → changed (mapped areas held) page (inside (prot_of areas page) (is_past_region areas page) x) ≡ mapped areas (changed held page x)
 unfolding mapped
 mapped_changed areas held page x = fun_ext (λ q. elim (cases_eq q page) [
-    inl e ↦ changed_here _ page _ q e ∙ rw (changed_here held page x q e, e) refl
+  | inl e ↦ changed_here _ page _ q e ∙ rw (changed_here held page x q e, e) refl
   | inr ne ↦ changed_other _ page _ q ne ∙ rw (changed_other held page x q ne) refl
-  ])
+])
 
 pub change_mapped : (areas : List Area) (held : ℕ → Option Held) (old new : ℕ → Walk) (page : ℕ) (step : Walk → Walk) (x : Option Held) → new ≡ changed old page (step (old page)) → step (mapped areas held page) ≡ inside (prot_of areas page) (is_past_region areas page) x → old ≡ mapped areas held → new ≡ mapped areas (changed held page x)
 change_mapped areas held old new page step x is made e =

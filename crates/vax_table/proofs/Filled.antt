@@ -24,9 +24,9 @@ pub filled_more : (areas : List Area) (p0 p1 place entry : ℕ) (old new : List 
 filled_more areas p0 p1 place entry old new size put is filled = record {
   size = size ∙ filled.size;
   entries = λ n below. elim (cases_eq n place) [
-      inl e ↦ put n ∙ changed_here _ place entry n e ∙ is ∙ ap (first_entry areas p0 p1) (sym e)
+    | inl e ↦ put n ∙ changed_here _ place entry n e ∙ is ∙ ap (first_entry areas p0 p1) (sym e)
     | inr ne ↦ put n ∙ changed_other _ place entry n ne ∙ filled.entries n (omega arith)
-    ]
+  ];
 }
 
 first_table : (areas : List Area) (p0 p1 n : ℕ) → n < 512 → first_entry areas p0 p1 (4096 + n) ≡ table_page p0 p1 n
@@ -67,40 +67,40 @@ first_p1 areas p0 p1 page place within e =
 past_when : (areas : List Area) (page : ℕ) → place_of (program_end areas) (control_start areas) page ≡ None → is_past_region areas page ≡ true
 unfolding is_past_region
 past_when areas page none = elim (cases_lt page 0x200000) [
-    inl first ↦ elim (cases_lt page (program_end areas)) [
-        inl within ↦ absurd (none-some _ (sym none ∙ place_p0 _ _ page first within))
-      | inr past ↦ grind (arith, nat_tests)
-      ]
+  | inl first ↦ elim (cases_lt page (program_end areas)) [
+    | inl within ↦ absurd (none-some _ (sym none ∙ place_p0 _ _ page first within))
+    | inr past ↦ grind (arith, nat_tests)
+  ]
   | inr later ↦ elim (cases_lt page 0x400000) [
-      inl second ↦ elim (cases_lt page (control_start areas)) [
-          inl past ↦ grind (arith, nat_tests)
-        | inr within ↦ absurd (none-some _ (sym none ∙ place_p1 _ _ page later second within))
-        ]
+    | inl second ↦ elim (cases_lt page (control_start areas)) [
+      | inl past ↦ grind (arith, nat_tests)
+      | inr within ↦ absurd (none-some _ (sym none ∙ place_p1 _ _ page later second within))
+    ]
     | inr third ↦ elim (cases_lt page 0x401200) [
-          inl within ↦ absurd (none-some _ (sym none ∙ place_system _ _ page third within))
-        | inr past ↦ grind (arith, nat_tests)
-        ]
+      | inl within ↦ absurd (none-some _ (sym none ∙ place_system _ _ page third within))
+      | inr past ↦ grind (arith, nat_tests)
     ]
   ]
+]
 
 not_past : (areas : List Area) (page place : ℕ) → place_of (program_end areas) (control_start areas) page ≡ Some place → is_past_region areas page ≡ false
 unfolding is_past_region
 not_past areas page place some = elim (cases_lt page 0x200000) [
-    inl first ↦ elim (cases_lt page (program_end areas)) [
-        inl within ↦ grind (arith, nat_tests)
-      | inr past ↦ absurd (none-some _ (sym (place_p0_past _ _ page first past) ∙ some))
-      ]
+  | inl first ↦ elim (cases_lt page (program_end areas)) [
+    | inl within ↦ grind (arith, nat_tests)
+    | inr past ↦ absurd (none-some _ (sym (place_p0_past _ _ page first past) ∙ some))
+  ]
   | inr later ↦ elim (cases_lt page 0x400000) [
-      inl second ↦ elim (cases_lt page (control_start areas)) [
-          inl past ↦ absurd (none-some _ (sym (place_p1_past _ _ page later second past) ∙ some))
-        | inr within ↦ grind (arith, nat_tests)
-        ]
+    | inl second ↦ elim (cases_lt page (control_start areas)) [
+      | inl past ↦ absurd (none-some _ (sym (place_p1_past _ _ page later second past) ∙ some))
+      | inr within ↦ grind (arith, nat_tests)
+    ]
     | inr third ↦ elim (cases_lt page 0x401200) [
-          inl within ↦ grind (arith, nat_tests)
-        | inr past ↦ absurd (none-some _ (sym (place_past _ _ page past) ∙ some))
-        ]
+      | inl within ↦ grind (arith, nat_tests)
+      | inr past ↦ absurd (none-some _ (sym (place_past _ _ page past) ∙ some))
     ]
   ]
+]
 
 pub said_made : (valid : Bool) (prot : ℕ) (modified : Bool) (frame : ℕ) → prot ≤ 15 → (prot ≡ 1 → ⊥) → frame < 2 ^ 21 → said_by (entry_with valid prot modified frame) ≡ (if valid then Resident frame prot modified else Absent prot)
 unfolding said_by
@@ -129,11 +129,11 @@ outside_mapped areas page past none e = rw (none, e) refl
 
 entry_mapped : (areas : List Area) (page place : ℕ) → IsSpace areas → program_end areas ≤ 0x8000 → place_of (program_end areas) (control_start areas) page ≡ Some place → said_by (first_entry areas (program_end areas) (control_start areas) place) ≡ mapped areas all_absent page
 entry_mapped areas page place space high found = elim (place_cases (program_end areas) (control_start areas) page place found) [
-    inl a ↦ ap said_by (first_p0 areas _ _ page place a.within a.is) ∙ absent_mapped areas page place space found
+  | inl a ↦ ap said_by (first_p0 areas _ _ page place a.within a.is) ∙ absent_mapped areas page place space found
   | inr r ↦ elim r [
-      inl b ↦ ap said_by (first_p1 areas _ _ page place b.low b.is) ∙ absent_mapped areas page place space found
+    | inl b ↦ ap said_by (first_p1 areas _ _ page place b.low b.is) ∙ absent_mapped areas page place space found
     | inr c ↦ elim (cases_lt place 4096) [
-        inl low ↦ ap said_by (first_system areas _ _ page place low c.is) ∙ absent_mapped areas page place space found
+      | inl low ↦ ap said_by (first_system areas _ _ page place low c.is) ∙ absent_mapped areas page place space found
       | inr table ↦
           let n : ℕ = place - 4096 in
           let few : place - 4096 < 512 = omega (arith, c.high, c.is) in
@@ -141,9 +141,9 @@ entry_mapped areas page place space high found = elim (place_cases (program_end 
           ap (λ p. said_by (first_entry areas (program_end areas) (control_start areas) p)) e
           ∙ ap said_by (first_table areas _ _ (place - 4096) few) ∙ table_says (program_end areas) (control_start areas) (place - 4096) high few
           ∙ outside_mapped areas page false (tables_have_none areas page space (omega (arith, c.is))) (not_past areas page place found)
-      ]
     ]
   ]
+]
 
 place_mapped : (areas : List Area) (bytes : List ℕ) (page : ℕ) (place : Option ℕ) → IsSpace areas → program_end areas ≤ 0x8000 → 0x3F8000 ≤ control_start areas → IsFilled areas (program_end areas) (control_start areas) (total (program_end areas) (control_start areas)) bytes → place_of (program_end areas) (control_start areas) page ≡ place → said_at bytes place ≡ mapped areas all_absent page
 place_mapped areas bytes page None space high low filled found =
@@ -158,7 +158,7 @@ sound_new areas memory high low end filled = record {
   p1_low = low;
   p1_high = end;
   size = filled.size;
-  tables = λ n few. filled.entries (4096 + n) (omega arith) ∙ first_table areas memory.p0_end memory.p1_start n few
+  tables = λ n few. filled.entries (4096 + n) (omega arith) ∙ first_table areas memory.p0_end memory.p1_start n few;
 }
 
 pub walked_new : (areas : List Area) (memory : Memory) → IsSpace areas → memory.p0_end ≡ program_end areas → memory.p1_start ≡ control_start areas → memory.p0_end ≤ 0x8000 → 0x3F8000 ≤ memory.p1_start → memory.p1_start ≤ 0x400000 → IsFilled areas memory.p0_end memory.p1_start (total memory.p0_end memory.p1_start) memory.bytes.items → walked_in memory ≡ mapped areas all_absent
@@ -166,4 +166,4 @@ walked_new areas memory space e0 e1 high low end filled =
     let sound = sound_new areas memory high low end filled in
     let filled' : IsFilled areas (program_end areas) (control_start areas) (total (program_end areas) (control_start areas)) memory.bytes.items = rw (e0, e1) at filled in
     fun_ext (λ page. walked_at memory page sound ∙ rw (e0, e1)
-      (place_mapped areas memory.bytes.items page (place_of (program_end areas) (control_start areas) page) space (rw e0 at high) (rw e1 at low) filled' refl))
+    (place_mapped areas memory.bytes.items page (place_of (program_end areas) (control_start areas) page) space (rw e0 at high) (rw e1 at low) filled' refl))

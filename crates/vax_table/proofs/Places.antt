@@ -130,56 +130,56 @@ pub record InSystem (page place : ℕ) : Type 0 where
 pub place_cases : (p0 p1 page place : ℕ) → place_of p0 p1 page ≡ Some place → InP0 p0 page place ⊎ (InP1 p0 p1 page place ⊎ InSystem page place)
 unfolding place_of
 place_cases p0 p1 page place h = elim (cases_lt page 0x200000) [
-    inl first ↦
+  | inl first ↦
       let t : nat_lt page 0x200000 ≡ true = grind (arith, nat_tests) in
       let found = cond_some (nat_lt page p0) (4608 + page) place (rw t at h) in
       inl (record { within = ltb-true _ _ found.0; is = sym found.1 })
   | inr later ↦
       let t : nat_lt page 0x200000 ≡ false = grind (arith, nat_tests) in
       elim (cases_lt page 0x400000) [
-        inl second ↦
-          let u : nat_lt page 0x400000 ≡ true = grind (arith, nat_tests) in
-          let found = cond_some (nat_le p1 page) (p1_place p0 + (page - p1_first p1)) place (rw (t, u) at h) in
-          inr (inl (record { low = leb-true _ _ found.0; high = second; is = sym found.1 }))
-      | inr third ↦
-          let u : nat_lt page 0x400000 ≡ false = grind (arith, nat_tests) in
-          let found = cond_some (nat_lt page 0x401200) (page - 0x400000) place (rw (t, u) at h) in
-          let low = found.1 in
-          inr (inr (record { low = third; high = ltb-true _ _ found.0; is = omega arith }))
+        | inl second ↦
+            let u : nat_lt page 0x400000 ≡ true = grind (arith, nat_tests) in
+            let found = cond_some (nat_le p1 page) (p1_place p0 + (page - p1_first p1)) place (rw (t, u) at h) in
+            inr (inl (record { low = leb-true _ _ found.0; high = second; is = sym found.1 }))
+        | inr third ↦
+            let u : nat_lt page 0x400000 ≡ false = grind (arith, nat_tests) in
+            let found = cond_some (nat_lt page 0x401200) (page - 0x400000) place (rw (t, u) at h) in
+            let low = found.1 in
+            inr (inr (record { low = third; high = ltb-true _ _ found.0; is = omega arith }))
       ]
-  ]
+]
 
 -- where a place is within the tables, and what pages have it
 pub place_within : (p0 p1 page place : ℕ) → p0 ≤ 0x8000 → 0x3F8000 ≤ p1 → place_of p0 p1 page ≡ Some place → place < total p0 p1
 place_within p0 p1 page place high low h = elim (place_cases p0 p1 page place h) [
-    inl a ↦ omega (arith, a.within, a.is)
+  | inl a ↦ omega (arith, a.within, a.is)
   | inr r ↦ elim r [ inl b ↦ omega (arith, b.low, b.high, b.is) | inr c ↦ omega (arith, c.low, c.high, c.is) ]
-  ]
+]
 
 pub InP0_apart : (p0 p1 page place q : ℕ) → p0 ≤ 0x8000 → InP0 p0 page place → place_of p0 p1 q ≡ Some place → q ≡ page
 InP0_apart p0 p1 page place q high a h = elim (place_cases p0 p1 q place h) [
-    inl d ↦ omega (arith, a.within, a.is, d.within, d.is)
+  | inl d ↦ omega (arith, a.within, a.is, d.within, d.is)
   | inr r ↦ elim r [ inl d ↦ absurd (omega (arith, a.within, a.is, d.low, d.high, d.is)) | inr d ↦ absurd (omega (arith, a.within, a.is, d.low, d.high, d.is)) ]
-  ]
+]
 
 pub InP1_apart : (p0 p1 page place q : ℕ) → p0 ≤ 0x8000 → InP1 p0 p1 page place → place_of p0 p1 q ≡ Some place → q ≡ page
 InP1_apart p0 p1 page place q high a h = elim (place_cases p0 p1 q place h) [
-    inl d ↦ absurd (omega (arith, a.low, a.high, a.is, d.within, d.is))
+  | inl d ↦ absurd (omega (arith, a.low, a.high, a.is, d.within, d.is))
   | inr r ↦ elim r [ inl d ↦ omega (arith, a.low, a.high, a.is, d.low, d.high, d.is) | inr d ↦ absurd (omega (arith, a.low, a.high, a.is, d.low, d.high, d.is)) ]
-  ]
+]
 
 pub InSystem_apart : (p0 p1 page place q : ℕ) → InSystem page place → place_of p0 p1 q ≡ Some place → q ≡ page
 InSystem_apart p0 p1 page place q a h = elim (place_cases p0 p1 q place h) [
-    inl d ↦ absurd (omega (arith, a.low, a.high, a.is, d.within, d.is))
+  | inl d ↦ absurd (omega (arith, a.low, a.high, a.is, d.within, d.is))
   | inr r ↦ elim r [ inl d ↦ absurd (omega (arith, a.low, a.high, a.is, d.low, d.high, d.is)) | inr d ↦ omega (arith, a.low, a.high, a.is, d.low, d.high, d.is) ]
-  ]
+]
 
 -- no two pages have one place
 pub place_apart : (p0 p1 page place q : ℕ) → p0 ≤ 0x8000 → place_of p0 p1 page ≡ Some place → place_of p0 p1 q ≡ Some place → q ≡ page
 place_apart p0 p1 page place q high h = elim (place_cases p0 p1 page place h) [
-    inl a ↦ InP0_apart p0 p1 page place q high a
+  | inl a ↦ InP0_apart p0 p1 page place q high a
   | inr r ↦ elim r [ inl b ↦ InP1_apart p0 p1 page place q high b | inr c ↦ InSystem_apart p0 p1 page place q c ]
-  ]
+]
 
 pub bytes_within : (p0 p1 page place size : ℕ) → p0 ≤ 0x8000 → 0x3F8000 ≤ p1 → size ≡ 4 * total p0 p1 → place_of p0 p1 page ≡ Some place → 4 * place + 4 ≤ size
 bytes_within p0 p1 page place size high low e h = omega (arith, place_within p0 p1 page place high low h)

@@ -18,33 +18,33 @@ use Rattle.vax_table.proofs.Places.{found_p0, found_p1, place_cases, place_withi
 entry_found : (memory : Memory) (page : ℕ) → IsSound memory → entry_of memory page ≡ option_map (entry_at memory.bytes.items) (place_of memory.p0_end memory.p1_start page)
 unfolding entry_of place_of
 entry_found memory page sound = elim (cases_lt page 0x200000) [
-    inl first ↦
+  | inl first ↦
       let t : nat_lt page 0x200000 ≡ true = grind (arith, nat_tests) in
       rw t (elim (cases_lt page memory.p0_end) [
-        inl below ↦
-          let u : nat_lt page memory.p0_end ≡ true = grind (arith, nat_tests) in
-          rw u (ap (λ n. Some (entry_at memory.bytes.items n)) (found_p0 memory.bytes.items memory.p0_end memory.p1_start page sound.p0_high sound.tables below))
-      | inr past ↦ let u : nat_lt page memory.p0_end ≡ false = grind (arith, nat_tests) in rw u refl
+        | inl below ↦
+            let u : nat_lt page memory.p0_end ≡ true = grind (arith, nat_tests) in
+            rw u (ap (λ n. Some (entry_at memory.bytes.items n)) (found_p0 memory.bytes.items memory.p0_end memory.p1_start page sound.p0_high sound.tables below))
+        | inr past ↦ let u : nat_lt page memory.p0_end ≡ false = grind (arith, nat_tests) in rw u refl
       ])
   | inr later ↦
       let t : nat_lt page 0x200000 ≡ false = grind (arith, nat_tests) in
       rw t (elim (cases_lt page 0x400000) [
-        inl second ↦
-          let u : nat_lt page 0x400000 ≡ true = grind (arith, nat_tests) in
-          rw u (elim (cases_lt page memory.p1_start) [
-            inl before ↦ let w : nat_le memory.p1_start page ≡ false = grind (arith, nat_tests) in rw w refl
-          | inr there ↦
-              let w : nat_le memory.p1_start page ≡ true = grind (arith, nat_tests) in
-              rw w (ap (λ n. Some (entry_at memory.bytes.items n)) (found_p1 memory.bytes.items memory.p0_end memory.p1_start page sound.p0_high sound.p1_low sound.tables there second))
-          ])
-      | inr third ↦
-          let u : nat_lt page 0x400000 ≡ false = grind (arith, nat_tests) in
-          rw u (elim (cases_lt page 0x401200) [
-            inl below ↦ let w : nat_lt page 0x401200 ≡ true = grind (arith, nat_tests) in rw w refl
-          | inr past ↦ let w : nat_lt page 0x401200 ≡ false = grind (arith, nat_tests) in rw w refl
-          ])
+        | inl second ↦
+            let u : nat_lt page 0x400000 ≡ true = grind (arith, nat_tests) in
+            rw u (elim (cases_lt page memory.p1_start) [
+              | inl before ↦ let w : nat_le memory.p1_start page ≡ false = grind (arith, nat_tests) in rw w refl
+              | inr there ↦
+                  let w : nat_le memory.p1_start page ≡ true = grind (arith, nat_tests) in
+                  rw w (ap (λ n. Some (entry_at memory.bytes.items n)) (found_p1 memory.bytes.items memory.p0_end memory.p1_start page sound.p0_high sound.p1_low sound.tables there second))
+            ])
+        | inr third ↦
+            let u : nat_lt page 0x400000 ≡ false = grind (arith, nat_tests) in
+            rw u (elim (cases_lt page 0x401200) [
+              | inl below ↦ let w : nat_lt page 0x401200 ≡ true = grind (arith, nat_tests) in rw w refl
+              | inr past ↦ let w : nat_lt page 0x401200 ≡ false = grind (arith, nat_tests) in rw w refl
+            ])
       ])
-  ]
+]
 
 -- what the entry at a place, if there is one, says
 abbrev pub said_at : List ℕ → Option ℕ → Walk
@@ -86,8 +86,8 @@ table_says p0 p1 n high few = said_outside (table_page p0 p1 n) (table_prot p0 p
 inside_apart : (memory : Memory) (page place n : ℕ) → IsSound memory → n < 512 → place_of memory.p0_end memory.p1_start page ≡ Some place → is_inside (walked_in memory page) ≡ true → 4096 + n ≡ place → ⊥
 inside_apart memory page place n sound few found inside e =
     let is : walked_in memory page ≡ Outside false =
-      walked_at memory page sound ∙ ap (said_at memory.bytes.items) found
-      ∙ ap said_by (rw (← e) (sound.tables n few)) ∙ table_says memory.p0_end memory.p1_start n sound.p0_high few in
+    walked_at memory page sound ∙ ap (said_at memory.bytes.items) found
+    ∙ ap said_by (rw (← e) (sound.tables n few)) ∙ table_says memory.p0_end memory.p1_start n sound.p0_high few in
     false≢true (sym (ap is_inside is) ∙ inside)
 
 pub sound_put : (memory after : Memory) (page place entry : ℕ) → IsSound memory → after.p0_end ≡ memory.p0_end → after.p1_start ≡ memory.p1_start → length after.bytes.items ≡ length memory.bytes.items → ((n : ℕ) → entry_at after.bytes.items n ≡ changed (entry_at memory.bytes.items) place entry n) → place_of memory.p0_end memory.p1_start page ≡ Some place → is_inside (walked_in memory page) ≡ true → IsSound after
@@ -96,7 +96,7 @@ sound_put memory after page place entry sound e0 e1 size put found inside = reco
   p1_low = rw e1 sound.p1_low;
   p1_high = rw e1 sound.p1_high;
   size = rw (e0, e1) (size ∙ sound.size);
-  tables = λ n few. rw (e0, e1) (put (4096 + n) ∙ changed_other _ place entry (4096 + n) (inside_apart memory page place n sound few found inside) ∙ sound.tables n few)
+  tables = λ n few. rw (e0, e1) (put (4096 + n) ∙ changed_other _ place entry (4096 + n) (inside_apart memory page place n sound few found inside) ∙ sound.tables n few);
 }
 
 said_changed : (memory after : Memory) (place entry : ℕ) (q : Option ℕ) → ((n : ℕ) → entry_at after.bytes.items n ≡ changed (entry_at memory.bytes.items) place entry n) → (q ≡ Some place → ⊥) → said_at after.bytes.items q ≡ said_at memory.bytes.items q
@@ -107,10 +107,10 @@ pub walked_put : (memory after : Memory) (page place entry : ℕ) → IsSound me
 walked_put memory after page place entry sound e0 e1 size put found inside =
     let sound' = sound_put memory after page place entry sound e0 e1 size put found inside in
     fun_ext (λ q. elim (cases_eq q page) [
-      inl e ↦
-        let at : place_of after.p0_end after.p1_start q ≡ Some place = rw (e0, e1, e) found in
-        walked_at after q sound' ∙ ap (said_at after.bytes.items) at ∙ ap said_by (put place ∙ changed_here _ place entry place refl) ∙ sym (changed_here _ page _ q e)
-    | inr ne ↦
-        let other : place_of memory.p0_end memory.p1_start q ≡ Some place → ⊥ = λ h. ne (place_apart memory.p0_end memory.p1_start page place q sound.p0_high found h) in
-        walked_at after q sound' ∙ rw (e0, e1) (said_changed memory after place entry (place_of memory.p0_end memory.p1_start q) put other) ∙ sym (walked_at memory q sound) ∙ sym (changed_other _ page _ q ne)
+      | inl e ↦
+          let at : place_of after.p0_end after.p1_start q ≡ Some place = rw (e0, e1, e) found in
+          walked_at after q sound' ∙ ap (said_at after.bytes.items) at ∙ ap said_by (put place ∙ changed_here _ place entry place refl) ∙ sym (changed_here _ page _ q e)
+      | inr ne ↦
+          let other : place_of memory.p0_end memory.p1_start q ≡ Some place → ⊥ = λ h. ne (place_apart memory.p0_end memory.p1_start page place q sound.p0_high found h) in
+          walked_at after q sound' ∙ rw (e0, e1) (said_changed memory after place entry (place_of memory.p0_end memory.p1_start q) put other) ∙ sym (walked_at memory q sound) ∙ sym (changed_other _ page _ q ne)
     ])

@@ -3,13 +3,15 @@ ghost use Rattle.std.specs.Prelude.{◌≡◌, ℕ, ◌+◌, ◌*◌, ◌≤◌,
 ghost use Rattle.vax_table.specs.Entry as spec;
 ghost use Rattle.vax_table.specs.Mapping.{changed};
 
+use crate::Walk;
 use byteorder::{ByteOrder, LittleEndian};
 
-use crate::Walk;
-
 const VALID: u32 = 0x8000_0000;
+
 const PROTECTION: u32 = 0x0800_0000;
+
 const MODIFIED: u32 = 0x0400_0000;
+
 const FRAMES: u32 = 0x0020_0000;
 
 /// The protection code of the entries of pages in no area.

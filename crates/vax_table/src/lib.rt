@@ -12,21 +12,28 @@ ghost use Rattle.vax_table.specs.Mapping.{mapped, all_absent, changed, is_inside
 mod entry;
 mod memory;
 
-use std::alloc::Global;
-use vax_space::{NoMemory, Space};
-
 use entry::{entry_at, entry_with, frame_in, prot_in, said_by};
 use memory::{Memory, new_memory};
+use std::alloc::Global;
+use vax_space::{NoMemory, Space};
 
 /// What the page tables say of a page.
 #[derive(Clone, Copy, PartialEq, Eq, Debug)]
 pub enum Walk {
     /// It is in a frame. `modified` is its entry's modify bit.
-    Resident { frame: u32, prot: u8, modified: bool },
+    Resident {
+        frame: u32,
+        prot: u8,
+        modified: bool,
+    },
     /// An area has it, and it is in no frame.
-    Absent { prot: u8 },
+    Absent {
+        prot: u8,
+    },
     /// No area has it. `length` tells that it lies past the length of its region.
-    Outside { length: bool },
+    Outside {
+        length: bool,
+    },
 }
 
 /// The page tables of a space.

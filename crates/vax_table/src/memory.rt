@@ -8,10 +8,9 @@ ghost use Rattle.vax_space.specs.Faults.{IsSpace};
 ghost use Rattle.vax_space.specs.Areas.{prot_of};
 ghost use Rattle.vax_space.specs.Reference.{program_end, control_start};
 
+use crate::entry::{NO_AREA, entry_at, entry_with, frame_in, put_entry};
 use std::alloc::Global;
 use vax_space::{NoMemory, Space};
-
-use crate::entry::{NO_AREA, entry_at, entry_with, frame_in, put_entry};
 
 /// The system page table, at physical address 01000000, then the pages of P0's table that are needed for its length,
 /// and then those of P1's.
@@ -58,9 +57,17 @@ impl Memory {
         ensures within { IfSome result (λ place. 4 * place + 4 ≤ length self.now.bytes.items) }
     {
         if page < 0x20_0000 {
-            if page < self.p0_end { Some(self.translate(P0_BASE + 4 * page)) } else { None }
+            if page < self.p0_end {
+                Some(self.translate(P0_BASE + 4 * page))
+            } else {
+                None
+            }
         } else if page < 0x40_0000 {
-            if self.p1_start <= page { Some(self.translate(P1_BASE + 4 * (page - 0x20_0000))) } else { None }
+            if self.p1_start <= page {
+                Some(self.translate(P1_BASE + 4 * (page - 0x20_0000)))
+            } else {
+                None
+            }
         } else if page < 0x40_1200 {
             Some((page - 0x40_0000) as usize)
         } else {
@@ -109,7 +116,12 @@ fn table_page(p0_end: u32, p1_start: u32, number: u32) -> u32
     let p1_first = p1_start - p1_start % ENTRIES;
     if number < 256 {
         if number < p0_pages {
-            entry_with(true, NO_AREA, false, WIRED_FRAME + (SYSTEM_LENGTH + ENTRIES * number) / ENTRIES)
+            entry_with(
+                true,
+                NO_AREA,
+                false,
+                WIRED_FRAME + (SYSTEM_LENGTH + ENTRIES * number) / ENTRIES,
+            )
         } else {
             entry_with(false, NO_AREA, false, 0)
         }
@@ -154,7 +166,12 @@ fn first_entry(space: &Space, p0_end: u32, p1_start: u32, place: u32) -> u32
 }
 
 /// The bytes of new tables: all pages absent.
-fn first_bytes(alloc: Global, space: &Space, p0_end: u32, p1_start: u32) -> Result<Vec<u8>, NoMemory>
+fn first_bytes(
+    alloc: Global,
+    space: &Space,
+    p0_end: u32,
+    p1_start: u32,
+) -> Result<Vec<u8>, NoMemory>
     requires p0 { p0_end ≤ 0x8000 }
     requires low { 0x3F8000 ≤ p1_start }
     requires high { p1_start ≤ 0x400000 }
@@ -164,7 +181,11 @@ fn first_bytes(alloc: Global, space: &Space, p0_end: u32, p1_start: u32) -> Resu
     let total = SYSTEM_LENGTH + ENTRIES * p0_end.div_ceil(ENTRIES) + (0x40_0000 - p1_first);
     let mut bytes = vec![in alloc; 0; 4 * total as usize]?;
     for place in 0..total {
-        put_entry(&mut bytes, place as usize, first_entry(space, p0_end, p1_start, place));
+        put_entry(
+            &mut bytes,
+            place as usize,
+            first_entry(space, p0_end, p1_start, place),
+        );
     }
     Ok(bytes)
 }

@@ -24,6 +24,7 @@ fn space(alloc: Global) -> Result<Space, Fail> {
 }
 
 const PAST: Walk = Walk::Outside { length: true };
+
 const GAP: Walk = Walk::Outside { length: false };
 
 fn absent(prot: u8) -> Walk {
@@ -41,94 +42,98 @@ fn resident(frame: u32, prot: u8, modified: bool) -> Walk {
 #[test]
 fn new_tables(rt: HostRuntime) -> Result<(), Fail> {
     let tables = Tables::new(rt.alloc(), &space(rt.alloc())?)?;
-    assert_eq!(rt; tables.walk(0), absent(4));
-    assert_eq!(rt; tables.walk(1), absent(4));
-    assert_eq!(rt; tables.walk(2), GAP);
-    assert_eq!(rt; tables.walk(0x1FF), GAP);
-    assert_eq!(rt; tables.walk(0x2FF), absent(15));
-    assert_eq!(rt; tables.walk(0x300), PAST);
-    assert_eq!(rt; tables.walk(0x1FFFFF), PAST);
-    assert_eq!(rt; tables.walk(0x200000), PAST);
-    assert_eq!(rt; tables.walk(0x3F8000), PAST);
-    assert_eq!(rt; tables.walk(0x3FFFFC), PAST);
-    assert_eq!(rt; tables.walk(0x3FFFFD), absent(2));
-    assert_eq!(rt; tables.walk(0x3FFFFF), absent(2));
-    assert_eq!(rt; tables.walk(0x400000), absent(2));
-    assert_eq!(rt; tables.walk(0x400001), GAP);
-    assert_eq!(rt; tables.walk(0x400FFF), absent(14));
-    assert_eq!(rt; tables.walk(0x401000), GAP, "a page of P0's table");
-    assert_eq!(rt; tables.walk(0x4011FF), GAP, "a page of P1's table");
-    assert_eq!(rt; tables.walk(0x401200), PAST);
-    assert_eq!(rt; tables.walk(0x600000), PAST);
-    assert_eq!(rt; tables.walk(0xFFFFFFFF), PAST);
+    let rows = [
+        (0, absent(4)),
+        (1, absent(4)),
+        (2, GAP),
+        (0x1FF, GAP),
+        (0x2FF, absent(15)),
+        (0x300, PAST),
+        (0x1FFFFF, PAST),
+        (0x200000, PAST),
+        (0x3F8000, PAST),
+        (0x3FFFFC, PAST),
+        (0x3FFFFD, absent(2)),
+        (0x3FFFFF, absent(2)),
+        (0x400000, absent(2)),
+        (0x400001, GAP),
+        (0x400FFF, absent(14)),
+        // pages of P0's and of P1's table
+        (0x401000, GAP),
+        (0x4011FF, GAP),
+        (0x401200, PAST),
+        (0x600000, PAST),
+        (0xFFFFFFFF, PAST),
+    ];
+    for (page, want) in rows {
+        assert_eq!(rt; tables.walk(page), want, "page {page:X}");
+    }
     Ok(())
 }
 
-/// Tests as it goes what the tables say of a page at each of the calls, each of which a caller may make here.
-fn change(tables: &mut Tables, page: u32, frame: u32, mark: bool)
-    requires frame { frame < 32768 }
-{
-    if let Walk::Outside { length: _ } = tables.walk(page) {
-        return;
-    }
-    tables.set(page, frame);
-    if mark {
-        if let Walk::Resident { frame: _, prot: _, modified: _ } = tables.walk(page) {
-            tables.mark(page);
-        }
-    }
+#[derive(Clone, Copy)]
+enum Call {
+    Set(u32),
+    Mark,
+    Clear,
 }
 
-fn clear(tables: &mut Tables, page: u32) {
-    if let Walk::Outside { length: _ } = tables.walk(page) {
-        return;
+/// Makes a call where its conditions hold.
+fn make(tables: &mut Tables, page: u32, call: Call) {
+    match (tables.walk(page), call) {
+        (Walk::Outside { length: _ }, _) => {}
+        (_, Call::Set(frame)) => {
+            if frame < 32768 {
+                tables.set(page, frame);
+            }
+        }
+        (_, Call::Clear) => tables.clear(page),
+        (Walk::Resident { .. }, Call::Mark) => tables.mark(page),
+        (_, Call::Mark) => {}
     }
-    tables.clear(page);
 }
 
 #[test]
 fn last_call_counts(rt: HostRuntime) -> Result<(), Fail> {
     let mut tables = Tables::new(rt.alloc(), &space(rt.alloc())?)?;
-    change(&mut tables, 1, 7, false);
-    change(&mut tables, 0x2FF, 0x7FFF, true);
-    change(&mut tables, 0x3FFFFD, 5, true);
-    change(&mut tables, 0x3FFFFF, 6, false);
-    change(&mut tables, 0x400000, 0, true);
-    change(&mut tables, 0x400FFF, 9, false);
-    assert_eq!(rt; tables.walk(0), absent(4));
-    assert_eq!(rt; tables.walk(1), resident(7, 4, false));
-    assert_eq!(rt; tables.walk(2), GAP);
-    assert_eq!(rt; tables.walk(0x2FE), absent(15));
-    assert_eq!(rt; tables.walk(0x2FF), resident(0x7FFF, 15, true));
-    assert_eq!(rt; tables.walk(0x3FFFFD), resident(5, 2, true));
-    assert_eq!(rt; tables.walk(0x3FFFFE), absent(2));
-    assert_eq!(rt; tables.walk(0x3FFFFF), resident(6, 2, false));
-    assert_eq!(rt; tables.walk(0x400000), resident(0, 2, true));
-    assert_eq!(rt; tables.walk(0x400FFF), resident(9, 14, false));
-    change(&mut tables, 0x2FF, 3, false);
-    assert_eq!(rt; tables.walk(0x2FF), resident(3, 15, false));
-    clear(&mut tables, 0x2FF);
-    clear(&mut tables, 0x3FFFFD);
-    clear(&mut tables, 0x400000);
-    assert_eq!(rt; tables.walk(0x2FF), absent(15));
-    assert_eq!(rt; tables.walk(0x3FFFFD), absent(2));
-    assert_eq!(rt; tables.walk(0x3FFFFF), resident(6, 2, false));
-    assert_eq!(rt; tables.walk(0x400000), absent(2));
-    assert_eq!(rt; tables.walk(0x401000), GAP);
+    let calls = [
+        (1, Call::Set(7)),
+        (0x2FF, Call::Set(0x7FFF)),
+        (0x2FF, Call::Mark),
+        (0x2FF, Call::Set(3)),
+        (0x2FE, Call::Set(4)),
+        (0x2FE, Call::Clear),
+        (0x3FFFFD, Call::Set(5)),
+        (0x3FFFFD, Call::Mark),
+        (0x3FFFFF, Call::Set(6)),
+        (0x400000, Call::Set(0)),
+        (0x400000, Call::Mark),
+        (0x400FFF, Call::Set(9)),
+        (0x400FFF, Call::Clear),
+    ];
+    for (page, call) in calls {
+        make(&mut tables, page, call);
+    }
+    let rows = [
+        (0, absent(4)),
+        (1, resident(7, 4, false)),
+        (2, GAP),
+        (0x2FE, absent(15)),
+        (0x2FF, resident(3, 15, false)),
+        (0x3FFFFD, resident(5, 2, true)),
+        (0x3FFFFE, absent(2)),
+        (0x3FFFFF, resident(6, 2, false)),
+        (0x400000, resident(0, 2, true)),
+        (0x400FFF, absent(14)),
+        (0x401000, GAP),
+    ];
+    for (page, want) in rows {
+        assert_eq!(rt; tables.walk(page), want, "page {page:X}");
+    }
     Ok(())
 }
 
-#[test]
-fn empty_space(rt: HostRuntime) -> Result<(), Fail> {
-    let alloc = rt.alloc();
-    let tables = Tables::new(alloc, &Space::new(alloc, Vec::new(alloc))?)?;
-    assert_eq!(rt; tables.walk(0), PAST);
-    assert_eq!(rt; tables.walk(0x3FFFFF), PAST);
-    assert_eq!(rt; tables.walk(0x400000), GAP);
-    Ok(())
-}
-
-/// The largest space: all 69,632 pages. Its tables take 280,576 bytes.
+/// The largest space: all 69,632 pages.
 #[test]
 fn largest_space(rt: HostRuntime) -> Result<(), Fail> {
     let alloc = rt.alloc();
@@ -138,32 +143,42 @@ fn largest_space(rt: HostRuntime) -> Result<(), Fail> {
     areas.push(area(alloc, 0x400000, 0x1000, 2))?;
     let mut tables = Tables::new(alloc, &Space::new(alloc, areas)?)?;
     assert_eq!(rt; tables.memory.bytes.len(), 280_576);
-    change(&mut tables, 0, 1, true);
-    change(&mut tables, 0x7FFF, 2, false);
-    change(&mut tables, 0x3F8000, 3, false);
-    change(&mut tables, 0x3FFFFF, 4, true);
-    change(&mut tables, 0x400FFF, 5, false);
-    assert_eq!(rt; tables.walk(0), resident(1, 4, true));
-    assert_eq!(rt; tables.walk(0x7FFF), resident(2, 4, false));
-    assert_eq!(rt; tables.walk(0x3F8000), resident(3, 8, false));
-    assert_eq!(rt; tables.walk(0x3FFFFF), resident(4, 8, true));
-    assert_eq!(rt; tables.walk(0x400FFF), resident(5, 2, false));
-    assert_eq!(rt; tables.walk(0x8000), PAST);
-    assert_eq!(rt; tables.walk(0x3F7FFF), PAST);
-    assert_eq!(rt; tables.walk(0x401000), GAP);
+    for (page, frame) in [
+        (0, 1),
+        (0x7FFF, 2),
+        (0x3F8000, 3),
+        (0x3FFFFF, 4),
+        (0x400FFF, 5),
+    ] {
+        make(&mut tables, page, Call::Set(frame));
+    }
+    let rows = [
+        (0, resident(1, 4, false)),
+        (0x7FFF, resident(2, 4, false)),
+        (0x8000, PAST),
+        (0x3F7FFF, PAST),
+        (0x3F8000, resident(3, 8, false)),
+        (0x3FFFFF, resident(4, 8, false)),
+        (0x400FFF, resident(5, 2, false)),
+        (0x401000, GAP),
+    ];
+    for (page, want) in rows {
+        assert_eq!(rt; tables.walk(page), want, "page {page:X}");
+    }
     Ok(())
 }
 
-/// A process entry is found through the system's entry for the page of its table: the longword at 80200004, P0's second
-/// entry, lies in the wired memory right behind the system page table's 18,432 bytes.
+/// P0's second entry, at 80200004, lies in the wired memory right behind the system page table's 18,432 bytes and P0's
+/// first entry.
 #[test]
 fn real_entries(rt: HostRuntime) -> Result<(), Fail> {
     let mut tables = Tables::new(rt.alloc(), &space(rt.alloc())?)?;
-    change(&mut tables, 1, 0x1234, true);
+    make(&mut tables, 1, Call::Set(0x1234));
+    make(&mut tables, 1, Call::Mark);
     assert!(rt; tables.memory.bytes.len() > 18_440);
     // valid bit 31, protection 4 in bits 30:27, modify bit 26, frame 1234 (hexadecimal)
     assert_eq!(rt; entry_at(&tables.memory.bytes, 4609), 0xA400_1234);
-    // the system's entry for page 401000: frame 8024 behind the 36 frames of the system page table
+    // the system's entry for page 401000: valid, the reserved code, frame 8024 behind the system page table's 36
     assert_eq!(rt; entry_at(&tables.memory.bytes, 4096), 0x8800_8024);
     Ok(())
 }

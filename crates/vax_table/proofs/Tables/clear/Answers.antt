@@ -11,7 +11,7 @@ returns-clause-walked c =
     let entry = c.entry_with-entry.ensures ∙ ap (λ prot. entry_with false prot false 0) (c.prot_in.ensures.value ∙ ap prot_in old) in
     c.put.ensures.walked
     ∙ ap (changed _ c.args.page)
-      (ap said_by entry ∙ said_cleared _ (sym (ap is_inside says) ∙ c.requires.inside) ∙ ap cleared (sym says))
+    (ap said_by entry ∙ said_cleared _ (sym (ap is_inside says) ∙ c.requires.inside) ∙ ap cleared (sym says))
 
 pub returns-clause-mapped : goal.returns-clause-mapped
 returns-clause-mapped c areas held =

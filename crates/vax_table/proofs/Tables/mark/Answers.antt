@@ -13,7 +13,7 @@ returns-clause-walked c =
     let entry = c.entry_with-entry.ensures ∙ ap (λ p. entry_with true p true c.frame_in.result) prot ∙ ap (λ f. entry_with true (prot_in (entry_at c.args.self.now.memory.bytes.items c.place_inside-place.result)) true f) frame in
     c.put.ensures.walked
     ∙ ap (changed _ c.args.page)
-      (ap said_by entry ∙ said_marked _ (sym (ap is_resident says) ∙ c.requires.resident) ∙ ap marked (sym says))
+    (ap said_by entry ∙ said_marked _ (sym (ap is_resident says) ∙ c.requires.resident) ∙ ap marked (sym says))
 
 pub returns-clause-mapped : goal.returns-clause-mapped
 returns-clause-mapped c areas held =

@@ -11,7 +11,7 @@ returns-clause-walked c =
     let entry = c.entry_with-entry.ensures ∙ ap (λ prot. entry_with true prot false c.args.frame) (c.prot_in.ensures.value ∙ ap prot_in old) in
     c.put.ensures.walked
     ∙ ap (changed _ c.args.page)
-      (ap said_by entry ∙ said_set _ _ (sym (ap is_inside says) ∙ c.requires.inside) c.requires.frame ∙ ap (λ w. set_in w c.args.frame) (sym says))
+    (ap said_by entry ∙ said_set _ _ (sym (ap is_inside says) ∙ c.requires.inside) c.requires.frame ∙ ap (λ w. set_in w c.args.frame) (sym says))
 
 pub returns-clause-mapped : goal.returns-clause-mapped
 returns-clause-mapped c areas held =

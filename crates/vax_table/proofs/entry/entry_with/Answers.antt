@@ -6,6 +6,6 @@ use Rattle.vax_table.proofs.entry.entry_with.Goals as goal
 pub returns : goal.returns
 unfolding entry_with
 returns c = elim c.if-valid.branch [
-    then-valid v ↦ elim c.if-modified.branch [ then-modified m ↦ search rules | else-modified m ↦ search rules ]
+  | then-valid v ↦ elim c.if-modified.branch [ then-modified m ↦ search rules | else-modified m ↦ search rules ]
   | else-valid v ↦ elim c.if-modified.branch [ then-modified m ↦ search rules | else-modified m ↦ search rules ]
-  ]
+]
