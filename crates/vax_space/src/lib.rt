@@ -2,7 +2,7 @@
 //! every reference passes (VAX Architecture Reference Manual, memory management).
 //!
 //! A page has 512 bytes. The number of a page is an address shifted right by 9. Address bits 31:30 choose the program
-//! region P0, the control region P1, the system region S0, or the fourth region, which has no pages.
+//! region P0, the control region P1, the system region, or the fourth region, which has no pages.
 #![tactic(auto)]
 
 ghost use Rattle.std.specs.Prelude.{◌≡◌, ◌≢◌, ◌≤◌, ◌⊎◌, true, unwrap_or, ◌↔◌, IsOk, IfSome, option_copied, Some, IfOk, OnOk, IfErr};
