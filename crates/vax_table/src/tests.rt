@@ -71,49 +71,53 @@ fn new_tables(rt: HostRuntime) -> Result<(), Fail> {
     Ok(())
 }
 
-#[derive(Clone, Copy)]
-enum Call {
-    Set(u32),
-    Mark,
-    Clear,
+/// Sets the page where an area has it.
+fn set(tables: &mut Tables, page: u32, frame: u32) {
+    if frame >= 32768 {
+        return;
+    }
+    if let Walk::Outside { length: _ } = tables.walk(page) {
+        return;
+    }
+    tables.set(page, frame);
 }
 
-/// Makes a call where its conditions hold.
-fn make(tables: &mut Tables, page: u32, call: Call) {
-    match (tables.walk(page), call) {
-        (Walk::Outside { length: _ }, _) => {}
-        (_, Call::Set(frame)) => {
-            if frame < 32768 {
-                tables.set(page, frame);
-            }
-        }
-        (_, Call::Clear) => tables.clear(page),
-        (Walk::Resident { .. }, Call::Mark) => tables.mark(page),
-        (_, Call::Mark) => {}
+/// Marks the page where it is resident.
+fn mark(tables: &mut Tables, page: u32) {
+    if let Walk::Resident {
+        frame: _,
+        prot: _,
+        modified: _,
+    } = tables.walk(page)
+    {
+        tables.mark(page);
     }
+}
+
+/// Clears the page where an area has it.
+fn clear(tables: &mut Tables, page: u32) {
+    if let Walk::Outside { length: _ } = tables.walk(page) {
+        return;
+    }
+    tables.clear(page);
 }
 
 #[test]
 fn last_call_counts(rt: HostRuntime) -> Result<(), Fail> {
     let mut tables = Tables::new(rt.alloc(), &space(rt.alloc())?)?;
-    let calls = [
-        (1, Call::Set(7)),
-        (0x2FF, Call::Set(0x7FFF)),
-        (0x2FF, Call::Mark),
-        (0x2FF, Call::Set(3)),
-        (0x2FE, Call::Set(4)),
-        (0x2FE, Call::Clear),
-        (0x3FFFFD, Call::Set(5)),
-        (0x3FFFFD, Call::Mark),
-        (0x3FFFFF, Call::Set(6)),
-        (0x400000, Call::Set(0)),
-        (0x400000, Call::Mark),
-        (0x400FFF, Call::Set(9)),
-        (0x400FFF, Call::Clear),
-    ];
-    for (page, call) in calls {
-        make(&mut tables, page, call);
-    }
+    set(&mut tables, 1, 7);
+    set(&mut tables, 0x2FF, 0x7FFF);
+    mark(&mut tables, 0x2FF);
+    set(&mut tables, 0x2FF, 3);
+    set(&mut tables, 0x2FE, 4);
+    clear(&mut tables, 0x2FE);
+    set(&mut tables, 0x3FFFFD, 5);
+    mark(&mut tables, 0x3FFFFD);
+    set(&mut tables, 0x3FFFFF, 6);
+    set(&mut tables, 0x400000, 0);
+    mark(&mut tables, 0x400000);
+    set(&mut tables, 0x400FFF, 9);
+    clear(&mut tables, 0x400FFF);
     let rows = [
         (0, absent(4)),
         (1, resident(7, 4, false)),
@@ -150,7 +154,7 @@ fn largest_space(rt: HostRuntime) -> Result<(), Fail> {
         (0x3FFFFF, 4),
         (0x400FFF, 5),
     ] {
-        make(&mut tables, page, Call::Set(frame));
+        set(&mut tables, page, frame);
     }
     let rows = [
         (0, resident(1, 4, false)),
@@ -173,8 +177,8 @@ fn largest_space(rt: HostRuntime) -> Result<(), Fail> {
 #[test]
 fn real_entries(rt: HostRuntime) -> Result<(), Fail> {
     let mut tables = Tables::new(rt.alloc(), &space(rt.alloc())?)?;
-    make(&mut tables, 1, Call::Set(0x1234));
-    make(&mut tables, 1, Call::Mark);
+    set(&mut tables, 1, 0x1234);
+    mark(&mut tables, 1);
     assert!(rt; tables.memory.bytes.len() > 18_440);
     // valid bit 31, protection 4 in bits 30:27, modify bit 26, frame 1234 (hexadecimal)
     assert_eq!(rt; entry_at(&tables.memory.bytes, 4609), 0xA400_1234);
