@@ -1,6 +1,7 @@
 pub mod AreaFaults
 pub mod Blocks
 pub mod Extents
+pub mod PastRegions
 pub mod Protections
 pub mod References
 pub mod Tables

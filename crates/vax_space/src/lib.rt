@@ -2,7 +2,7 @@
 //! every reference passes (VAX Architecture Reference Manual, memory management).
 //!
 //! A page has 512 bytes. The number of a page is an address shifted right by 9. Address bits 31:30 choose the program
-//! region P0, the control region P1, the system region S0, or the fourth region, which has no pages.
+//! region P0, the control region P1, the system region, or the fourth region, which has no pages.
 #![tactic(auto)]
 
 ghost use Rattle.std.specs.Prelude.{◌≡◌, ◌≢◌, ◌≤◌, ◌⊎◌, true, unwrap_or, ◌↔◌, IsOk, IfSome, option_copied, Some, IfOk, OnOk, IfErr};
@@ -250,6 +250,7 @@ impl Space {
     pub fn p0_end(&self) -> u32
         ensures end { result ≡ reference.program_end self.now }
         ensures within { result ≤ 0x8000 }
+        ensures sound { IsSpace self.now }
     {
         program_end(&self.areas)
     }
@@ -280,7 +281,8 @@ impl Space {
     /// The protection code of a page; none where no area has the page.
     #[inline]
     pub fn prot_of(&self, page: u32) -> Option<u8>
-        ensures { result ≡ areas_spec.prot_of self.now page }
+        ensures prot { result ≡ areas_spec.prot_of self.now page }
+        ensures small { IfSome result (λ code. code ≤ 15) }
     {
         match self.code(page) {
             NO_AREA => None,

@@ -5,7 +5,7 @@ use Rattle.vax_space.specs.declared.Area.{Area}
 use Rattle.vax_space.specs.Areas.{prot_of}
 use Rattle.vax_table.specs.declared.Walk.{Walk}
 use Rattle.vax_table.specs.declared.Walk.TheVariants.{Outside}
-use Rattle.vax_table.specs.declared.Memory.{Memory}
+use Rattle.vax_table.specs.declared.memory.Memory.{Memory}
 use Rattle.vax_table.specs.Entry.{entry_at, entry_with, frame_in, said_by}
 
 -- the first frame of the wired memory, which begins with the system page table: its base register has 01000000
@@ -95,6 +95,11 @@ first_entry areas p0_end p1_start place =
     else (if nat_lt place 4608 then table_page p0_end p1_start (place - 4096)
     else (if nat_lt place (p1_place p0_end) then absent_entry areas (place - 4608)
     else absent_entry areas (p1_first p1_start + (place - p1_place p0_end))))
+
+-- the bytes hold the first entries of new tables, as far as a place
+pub record IsFilled (areas : List Area) (p0_end p1_start upto : ℕ) (bytes : List ℕ) : Type 0 where
+  pub size : length bytes ≡ 4 * total p0_end p1_start
+  pub entries : (n : ℕ) → n < upto → entry_at bytes n ≡ first_entry areas p0_end p1_start n
 
 -- the tables are whole, and the system's entries for their own pages stand
 pub record IsSound (memory : Memory) : Type 0 where

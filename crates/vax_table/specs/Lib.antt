@@ -1,3 +1,4 @@
 pub mod Entry
 pub mod Layout
 pub mod Mapping
+pub mod Tables

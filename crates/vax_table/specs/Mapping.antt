@@ -11,6 +11,9 @@ pub record Held : Type 0 where
   pub frame : ℕ
   pub modified : Bool
 
+abbrev pub dirty : Held → Held
+dirty held = record { frame = held.frame; modified = true }
+
 abbrev pub present : Option Held → ℕ → Walk
 present None prot = Absent prot
 present (Some held) prot = Resident held.frame prot held.modified

@@ -3,13 +3,15 @@ ghost use Rattle.std.specs.Prelude.{◌≡◌, ℕ, ◌+◌, ◌*◌, ◌≤◌,
 ghost use Rattle.vax_table.specs.Entry as spec;
 ghost use Rattle.vax_table.specs.Mapping.{changed};
 
+use crate::Walk;
 use byteorder::{ByteOrder, LittleEndian};
 
-use crate::Walk;
-
 const VALID: u32 = 0x8000_0000;
+
 const PROTECTION: u32 = 0x0800_0000;
+
 const MODIFIED: u32 = 0x0400_0000;
+
 const FRAMES: u32 = 0x0020_0000;
 
 /// The protection code of the entries of pages in no area.
@@ -81,5 +83,5 @@ pub fn put_entry(bytes: &mut [u8], place: usize, entry: u32)
     ensures size { length bytes.new ≡ length bytes.old }
     ensures entries { (n : ℕ) → spec.entry_at bytes.new n ≡ changed (spec.entry_at bytes.old) place entry n }
 {
-    LittleEndian::write_u32(&mut bytes[4 * place..], entry);
+    LittleEndian::write_u32(&mut bytes[4 * place..4 * place + 4], entry);
 }

@@ -5,27 +5,35 @@
 //! of theirs is found through the system's entry for the page of the table. All entries are longwords, low byte first.
 #![tactic(auto)]
 
-ghost use Rattle.std.specs.Prelude.{◌≡◌, ◌<◌, true, ℕ, IfOk, option_map};
-ghost use Rattle.vax_table.specs.Mapping.{mapped, all_absent, changed, is_inside, is_resident, set_in, cleared, marked, Held};
+ghost use Rattle.std.specs.Prelude.{◌≡◌, ◌<◌, true, false, ℕ, List, Option, Some, None, IfOk, option_map};
+ghost use Rattle.vax_table.specs.Layout.{IsSound};
+ghost use Rattle.vax_table.specs.Mapping.{mapped, all_absent, changed, is_inside, is_resident, set_in, cleared, marked, dirty, Held};
 
 mod entry;
 mod memory;
 
+use entry::{entry_at, entry_with, frame_in, prot_in, said_by};
+use memory::{Memory, new_memory};
 use std::alloc::Global;
 use vax_space::{NoMemory, Space};
-
-use entry::{entry_with, frame_in, prot_in, said_by};
-use memory::Memory;
 
 /// What the page tables say of a page.
 #[derive(Clone, Copy, PartialEq, Eq, Debug)]
 pub enum Walk {
     /// It is in a frame. `modified` is its entry's modify bit.
-    Resident { frame: u32, prot: u8, modified: bool },
+    Resident {
+        frame: u32,
+        prot: u8,
+        modified: bool,
+    },
     /// An area has it, and it is in no frame.
-    Absent { prot: u8 },
+    Absent {
+        prot: u8,
+    },
     /// No area has it. `length` tells that it lies past the length of its region.
-    Outside { length: bool },
+    Outside {
+        length: bool,
+    },
 }
 
 /// The page tables of a space.
@@ -34,3 +42,74 @@ pub struct Tables {
     memory: Memory,
     ghost sound: { IsSound memory },
 }
+
+impl Tables {
+    ghost use Rattle.vax_space.specs.declared.Area.{Area};
+    ghost use Rattle.vax_table.specs.Tables.{walked};
+
+    /// The tables of a space, all its pages absent. They take less than 300 KB: a longword for each of the 4,608 pages
+    /// of the system region and its tables, and one for each page within the lengths of P0 and P1, in whole pages.
+    pub fn new(alloc: Global, space: &Space) -> Result<Tables, NoMemory>
+        ensures { IfOk result (λ tables. walked tables ≡ mapped space.now all_absent) }
+    {
+        let memory = new_memory(alloc, space)?;
+        Ok(Tables { memory })
+    }
+
+    /// What the tables say of a page: `Outside` exactly where no area has the page.
+    #[inline]
+    pub fn walk(&self, page: u32) -> Walk
+        ensures { result ≡ walked self.now page }
+    {
+        match self.memory.place_of(page) {
+            Some(place) => said_by(entry_at(&self.memory.bytes, place)),
+            None => Walk::Outside { length: true },
+        }
+    }
+
+    /// Puts a page of an area into a frame, not modified, and leaves all other pages.
+    #[inline]
+    pub fn set(&mut self, page: u32, frame: u32)
+        requires inside { is_inside (walked self.old page) ≡ true }
+        requires frame { frame < 32768 }
+        ensures walked { walked self.new ≡ changed (walked self.old) page (set_in (walked self.old page) frame) }
+        ensures mapped { (areas : List Area) → (held : ℕ → Option Held) → walked self.old ≡ mapped areas held
+            → walked self.new ≡ mapped areas (changed held page (Some (record { frame = frame; modified = false }))) }
+    {
+        let place = self.memory.place_inside(page);
+        let old = entry_at(&self.memory.bytes, place);
+        let entry = entry_with(true, prot_in(old), false, frame);
+        self.memory.put(page, place, entry);
+    }
+
+    /// Makes a page of an area absent, and leaves all other pages.
+    #[inline]
+    pub fn clear(&mut self, page: u32)
+        requires inside { is_inside (walked self.old page) ≡ true }
+        ensures walked { walked self.new ≡ changed (walked self.old) page (cleared (walked self.old page)) }
+        ensures mapped { (areas : List Area) → (held : ℕ → Option Held) → walked self.old ≡ mapped areas held
+            → walked self.new ≡ mapped areas (changed held page None) }
+    {
+        let place = self.memory.place_inside(page);
+        let old = entry_at(&self.memory.bytes, place);
+        let entry = entry_with(false, prot_in(old), false, 0);
+        self.memory.put(page, place, entry);
+    }
+
+    /// Sets the modify bit of a resident page, and leaves all other pages.
+    #[inline]
+    pub fn mark(&mut self, page: u32)
+        requires resident { is_resident (walked self.old page) ≡ true }
+        ensures walked { walked self.new ≡ changed (walked self.old) page (marked (walked self.old page)) }
+        ensures mapped { (areas : List Area) → (held : ℕ → Option Held) → walked self.old ≡ mapped areas held
+            → walked self.new ≡ mapped areas (changed held page (option_map dirty (held page))) }
+    {
+        let place = self.memory.place_inside(page);
+        let old = entry_at(&self.memory.bytes, place);
+        let entry = entry_with(true, prot_in(old), true, frame_in(old));
+        self.memory.put(page, place, entry);
+    }
+}
+
+#[cfg(test)]
+mod tests;

@@ -1,0 +1,6 @@
+pub mod Bytes
+pub mod Changes
+pub mod Entries
+pub mod Filled
+pub mod Places
+pub mod Walks
