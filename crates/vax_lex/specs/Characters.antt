@@ -1,5 +1,6 @@
 -- The characters of a source (VAX MACRO and Instruction Set Reference Manual, "Character set" and "Numbers").
-use Rattle.std.specs.Prelude.{ℕ, ◌+◌, ◌*◌, Bool, true, false, not, ◌&&◌, ◌||◌, ◌==◌, nat_lt, List, [], ◌∷◌, if◌then◌else◌}
+use Rattle.std.specs.Prelude.{ℕ, ◌+◌, ◌*◌, Bool, true, false, not, ◌&&◌, ◌||◌, ◌==◌, nat_lt, List, [], ◌∷◌, map, drop, if◌then◌else◌}
+use Rattle.std.specs.List.{prefix_len}
 use Rattle.std.specs.Char.{is_ascii_alphabetic, is_ascii_digit, is_ascii_graphic, to_ascii_uppercase, digit_value}
 
 -- space, tab and form feed
@@ -42,3 +43,7 @@ spells [] [] = true
 spells (c ∷ word) (b ∷ text) = (to_ascii_uppercase b == c) && spells word text
 spells [] (b ∷ text) = false
 spells (c ∷ word) [] = false
+
+-- How a name is kept: in capitals, and the number of a local label without zeros before it.
+abbrev pub canonical_name : List ℕ → List ℕ
+canonical_name text = map to_ascii_uppercase (drop (prefix_len (λ b. b == 48) text) text)

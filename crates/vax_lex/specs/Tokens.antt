@@ -1,9 +1,9 @@
 -- The tokens of a line (VAX MACRO and Instruction Set Reference Manual, "Components of MACRO source statements",
 -- "Symbols", "Numbers" and "ASCII operator"): each is the longest that begins at its place.
-use Rattle.std.specs.Prelude.{◌≡◌, ℕ, zero, suc, ◌+◌, ◌-◌, ◌^◌, ◌<◌, ◌≤◌, min, Bool, true, false, not, ◌&&◌, ◌||◌, ◌==◌, nat_lt, nat_le, List, [], ◌∷◌, length, take, drop, position, Option, Some, None, Result, Ok, Err, if◌then◌else◌}
+use Rattle.std.specs.Prelude.{◌≡◌, ℕ, zero, suc, ◌+◌, ◌-◌, ◌^◌, ◌<◌, ◌≤◌, min, Bool, true, false, not, ◌&&◌, ◌||◌, ◌==◌, nat_lt, nat_le, List, [], ◌∷◌, length, take, drop, position, Option, Some, None, Result, Ok, Err, Vec, if◌then◌else◌}
 use Rattle.std.specs.List.{prefix_len}
 use Rattle.std.specs.Char.{is_ascii_graphic, to_ascii_uppercase}
-use Rattle.vax_lex.specs.Characters.{is_blank, is_digit, is_name_character, radix_of, number_of}
+use Rattle.vax_lex.specs.Characters.{is_blank, is_digit, is_name_character, radix_of, number_of, canonical_name}
 use Rattle.vax_lex.specs.Statements.{text_due, is_caret, is_size, context_after, context_after_blank, line_start}
 use Rattle.vax_lex.specs.declared.token.TokenKind.{TokenKind}
 use Rattle.vax_lex.specs.declared.token.TokenKind.TheVariants.{Name, Number, Mark, Text}
@@ -79,3 +79,56 @@ head_of c (b ∷ bytes) =
     else (if text_due c b then quoted b bytes
     else (if is_size c.before && (b == 94) then Begins (Mark 94) 1
     else plain (b ∷ bytes)))
+
+-- A token, and what is to come.
+abbrev pub with_first : Token → Result (List Token) LexError → Result (List Token) LexError
+with_first t (Ok tokens) = Ok (t ∷ tokens)
+with_first t (Err e) = Err e
+
+-- The tokens of a line from byte `at` on, where the first bytes to come may still be those of the token before.
+unfoldable pub tokens_from : Context → ℕ → ℕ → List ℕ → Result (List Token) LexError
+tokens_from c at inside [] = Ok []
+tokens_from c at (suc inside) (b ∷ bytes) = tokens_from c (at + 1) inside bytes
+tokens_from c at zero (b ∷ bytes) = elim (head_of c (b ∷ bytes)) [
+    Blank ↦ tokens_from (context_after_blank c) (at + 1) zero bytes
+  | End ↦ Ok []
+  | Begins kind n ↦ with_first (record { kind = kind; start = at; end = at + n })
+        (tokens_from (context_after c kind (take n (b ∷ bytes))) (at + 1) (n - 1) bytes)
+  | Wide ↦ Err (errors.Wide at)
+  | Nothing ↦ Err (errors.Token at) ]
+
+-- The tokens of a line, or the first place where there is none.
+unfoldable pub tokens_of : List ℕ → Result (List Token) LexError
+tokens_of line = tokens_from line_start 0 zero line
+
+-- What was answered is what the definition gives, unless memory was refused.
+abbrev pub Answers : {A : Type 0} → Result (Vec Token A) LexError → Result (List Token) LexError → Type 0
+Answers (Ok v) tokens = tokens ≡ Ok v.items
+Answers (Err errors.NoMemory) tokens = Unit {0}
+Answers (Err (errors.Token at)) tokens = tokens ≡ Err (errors.Token at)
+Answers (Err (errors.Wide at)) tokens = tokens ≡ Err (errors.Wide at)
+
+-- the bytes of a token
+abbrev pub token_text : List ℕ → Token → List ℕ
+token_text line t = take (t.end - t.start) (drop t.start line)
+
+-- what is known of the text of a token of some kind
+abbrev pub KindFits : TokenKind → List ℕ → Type 0
+KindFits Name text = length (canonical_name text) ≤ 31
+KindFits Text text = 2 ≤ length text
+KindFits (Number n) text = Unit {0}
+KindFits (Mark m) text = Unit {0}
+
+-- The token lies within the line. A name has at most 31 characters, and a text two delimiters.
+pub record IsTokenOf (line : List ℕ) (t : Token) : Type 0 where
+  pub some : t.start < t.end
+  pub within : t.end ≤ length line
+  pub kind : KindFits t.kind (token_text line t)
+
+-- what a line begins with lies within the line
+abbrev pub HeadFits : List ℕ → Head → Type 0
+HeadFits bytes (Begins kind n) = (0 < n) × (n ≤ length bytes) × KindFits kind (take n bytes)
+HeadFits bytes Blank = 0 < length bytes
+HeadFits bytes End = Unit {0}
+HeadFits bytes Wide = Unit {0}
+HeadFits bytes Nothing = Unit {0}

@@ -8,6 +8,8 @@
 mod character;
 mod context;
 mod head;
+mod line;
 mod token;
 
+pub use line::scan;
 pub use token::{LexError, Token, TokenKind};
