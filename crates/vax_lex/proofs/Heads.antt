@@ -13,7 +13,7 @@ use Rattle.vax_lex.specs.declared.token.TokenKind.TheVariants.{Name, Number, Mar
 use Rattle.vax_lex.specs.declared.context.Context.{Context}
 use Rattle.vax_lex.specs.declared.head.Head.{Head}
 use Rattle.vax_lex.specs.declared.head.Head.TheVariants.{Blank, End, Begins, Wide, Nothing}
-use Rattle.vax_lex.proofs.Names.{name_short, label_short}
+use Rattle.vax_lex.proofs.Canonical.{name_short, label_short}
 
 fits_if : (bytes : List ℕ) (t : Bool) (x y : Head) → (t ≡ true → HeadFits bytes x) → (t ≡ false → HeadFits bytes y) → HeadFits bytes (cond t x y)
 fits_if bytes true x y f g = f refl

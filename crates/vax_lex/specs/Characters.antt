@@ -44,6 +44,9 @@ spells (c ∷ word) (b ∷ text) = (to_ascii_uppercase b == c) && spells word te
 spells [] (b ∷ text) = false
 spells (c ∷ word) [] = false
 
+abbrev pub is_zero : ℕ → Bool
+is_zero b = b == 48
+
 -- How a name is kept: in capitals, and the number of a local label without zeros before it.
 abbrev pub canonical_name : List ℕ → List ℕ
-canonical_name text = map to_ascii_uppercase (drop (prefix_len (λ b. b == 48) text) text)
+canonical_name text = map to_ascii_uppercase (drop (prefix_len is_zero text) text)

@@ -2,6 +2,7 @@
 
 ghost use Rattle.std.specs.Prelude.{◌≡◌, ◌<◌};
 ghost use Rattle.std.specs.Char.{digit_value};
+ghost use Rattle.std.specs.Str.{bytes_eq};
 ghost use Rattle.vax_lex.specs.Characters.{is_blank, is_delimiter, is_name_character, radix_of, spells};
 
 /// Space, tab and form feed.
@@ -75,4 +76,11 @@ pub(crate) fn spells(word: &[u8], text: &[u8]) -> bool
         }
     }
     true
+}
+
+/// Whether a text is this word.
+pub(crate) fn is_word(text: &[u8], word: &[u8]) -> bool
+    ensures { result ≡ bytes_eq text.now word.now }
+{
+    text == word
 }

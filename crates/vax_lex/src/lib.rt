@@ -7,9 +7,14 @@
 
 mod character;
 mod context;
+mod expression;
 mod head;
 mod line;
+mod name;
 mod token;
+mod value;
 
+pub use expression::evaluate;
 pub use line::scan;
 pub use token::{LexError, Token, TokenKind};
+pub use value::{ExprError, Names, Value};

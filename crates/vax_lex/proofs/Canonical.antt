@@ -1,15 +1,12 @@
 -- The names that a scan finds have at most 31 characters, as they are kept.
-use Rattle.std.proofs.Common.{◌≡◌, ◌≢◌, ◌<◌, ◌≤◌, ℕ, zero, suc, ◌+◌, ◌-◌, ◌*◌, Bool, true, false, cond, List, [], ◌∷◌, ◌++◌, length, get_or, take, drop, refl, ap, arith, ◌∙◌, sym, subst}
+use Rattle.std.proofs.Common.{◌≡◌, ◌≢◌, ◌<◌, ◌≤◌, ℕ, zero, suc, ◌+◌, ◌-◌, ◌*◌, Bool, true, false, cond, List, [], ◌∷◌, ◌++◌, length, get_or, set, take, drop, refl, ap, arith, ◌∙◌, sym, subst}
 use Rattle.std.specs.Prelude.{map, ◌==◌}
 use Rattle.std.specs.List.{prefix_len}
 use Rattle.std.specs.Char.{digit_value, to_ascii_uppercase}
-use Rattle.std.proofs.lemmas.List.{length-map, length-drop, length-take, length-append, take_more}
+use Rattle.std.proofs.lemmas.List.{length-map, length-drop, length-take, length-append, take_more, take_more_set, take_all, map_more}
 use Rattle.std.proofs.lemmas.Bool.Decides.{nat_tests}
-use Rattle.vax_lex.specs.Characters.{canonical_name, number_after, number_of}
+use Rattle.vax_lex.specs.Characters.{canonical_name, is_zero, number_after, number_of}
 use Rattle.vax_lex.proofs.Runs.{number_grows}
-
-abbrev pub is_zero : ℕ → Bool
-is_zero b = b == 48
 
 -- without the zeros before it
 abbrev pub stripped : List ℕ → List ℕ
@@ -76,3 +73,20 @@ label_short bytes k h e n =
 -- a name that is cut at 31 characters
 pub name_short : (bytes : List ℕ) (n : ℕ) → n ≤ 31 → length (canonical_name (take n bytes)) ≤ 31
 name_short bytes n h = canonical_short (take n bytes) (omega (arith, length-take n bytes))
+
+-- one character more in capitals
+pub capital_more : (bytes text : List ℕ) (i : ℕ) → length bytes ≡ 31 → i < length text → length text ≤ 31 → take i bytes ≡ map to_ascii_uppercase (take i text)
+    → take (i + 1) (set bytes i (to_ascii_uppercase (get_or text i 0))) ≡ map to_ascii_uppercase (take (i + 1) text)
+capital_more bytes text i n h k e =
+    let room : i < length bytes = omega arith in
+    let new = take_more_set bytes i (to_ascii_uppercase (get_or text i 0)) room in
+    let old = map_more to_ascii_uppercase text i 0 h in
+    cc (new, old, e)
+
+-- all of them
+pub capital_all : (bytes text : List ℕ) (i : ℕ) → length text ≤ i → i ≤ length text → take i bytes ≡ map to_ascii_uppercase (take i text)
+    → take (length text) bytes ≡ map to_ascii_uppercase text
+capital_all bytes text i h k e =
+    let here : i ≡ length text = omega arith in
+    let whole : take i text ≡ text = take_all i text h in
+    ap (λ (n : ℕ). take n bytes) (sym here) ∙ e ∙ ap (map to_ascii_uppercase) whole

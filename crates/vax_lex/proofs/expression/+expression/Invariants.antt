@@ -1,0 +1,23 @@
+use Rattle.std.proofs.Common.{◌≡◌, ◌≤◌, ◌<◌, ◌+◌, ◌*◌, ◌-◌, ℕ, List, length, drop}
+use Rattle.vax_lex.specs.Grammar.{Symbol, Term, Joined, symbols_of, term_then, joined_then, term_value, joined_value}
+use Rattle.vax_lex.specs.Reading.{NotOperator}
+use Rattle.vax_lex.proofs.Parsing.{SoFar}
+use Rattle.vax_lex.proofs.expression.+expression.Given as goal
+
+abbrev pub decreases-bracketed : goal.decreases-bracketed
+decreases-bracketed g l = 3 * (length l.tokens.now - l.at)
+
+abbrev pub decreases-operated : goal.decreases-operated
+decreases-operated g l = 3 * (length l.tokens.now - l.at)
+
+abbrev pub decreases-term : goal.decreases-term
+decreases-term g l = 3 * (length l.tokens.now - l.at) + 1
+
+abbrev pub decreases-expression : goal.decreases-expression
+decreases-expression g l = 3 * (length l.tokens.now - l.at) + 2
+
+abbrev pub invariant-expression-loop-operator : goal.invariant-expression-loop-operator
+invariant-expression-loop-operator g l = SoFar (g.N.Names.entries l.names) (symbols_of l.line l.tokens) l.at l.answer l.end
+
+abbrev pub decreases-expression-loop-operator : goal.decreases-expression-loop-operator
+decreases-expression-loop-operator g l = length l.tokens - l.end
