@@ -76,12 +76,12 @@ bracket_only : (t : Term) (rest symbols : List Symbol) → term_then t rest ≡ 
 bracket_only (bracketed t more) rest symbols e h = h t more rest cc
 bracket_only _ rest symbols e h = absurd (omega (arith, ap first_code e))
 
--- what a term may begin with
+-- what a term may begin with: not with a text
 abbrev pub begins_term : TokenKind → Bool
 begins_term (Number n) = true
 begins_term Name = true
 begins_term Text = false
-begins_term (Mark m) = (m == 43) || (m == 45) || (m == 60) || (m == 94)
+begins_term (Mark m) = true
 
 -- no term begins with this symbol
 abbrev NoTermFirst : Symbol → Type 0
@@ -97,24 +97,21 @@ text_first text (minus t) rest symbols e = cc
 text_first text (complement t) rest symbols e = cc
 text_first text (bracketed t more) rest symbols e = cc
 
-not_one : (m k : ℕ) → k ≡ m → ((m == 43) || (m == 45) || (m == 60) || (m == 94)) ≡ false → (k ≢ 43) × (k ≢ 45) × (k ≢ 60) × (k ≢ 94)
-not_one m k i e = (λ j. grind (arith, nat_tests), λ j. grind (arith, nat_tests), λ j. grind (arith, nat_tests), λ j. grind (arith, nat_tests))
-
-mark_first : (m : ℕ) → ((m == 43) || (m == 45) || (m == 60) || (m == 94)) ≡ false → NoTermFirst (mark m)
-mark_first m h (constant n) rest symbols e = cc
-mark_first m h (named_by s) rest symbols e = cc
-mark_first m h (quoted x) rest symbols e = (not_one m 94 (ap first_code e) h).3 refl
-mark_first m h (mask names) rest symbols e = (not_one m 94 (ap first_code e) h).3 refl
-mark_first m h (plus t) rest symbols e = (not_one m 43 (ap first_code e) h).0 refl
-mark_first m h (minus t) rest symbols e = (not_one m 45 (ap first_code e) h).1 refl
-mark_first m h (complement t) rest symbols e = (not_one m 94 (ap first_code e) h).3 refl
-mark_first m h (bracketed t more) rest symbols e = (not_one m 60 (ap first_code e) h).2 refl
+other_mark : (m : ℕ) → m ≢ 43 → m ≢ 45 → m ≢ 60 → m ≢ 94 → NoTermFirst (mark m)
+other_mark m p q r s (constant n) rest symbols e = cc
+other_mark m p q r s (named_by x) rest symbols e = cc
+other_mark m p q r s (quoted x) rest symbols e = s (sym (ap first_code e))
+other_mark m p q r s (mask names) rest symbols e = s (sym (ap first_code e))
+other_mark m p q r s (plus t) rest symbols e = p (sym (ap first_code e))
+other_mark m p q r s (minus t) rest symbols e = q (sym (ap first_code e))
+other_mark m p q r s (complement t) rest symbols e = s (sym (ap first_code e))
+other_mark m p q r s (bracketed t more) rest symbols e = r (sym (ap first_code e))
 
 other_first : (kind : TokenKind) (text : List ℕ) → begins_term kind ≡ false → NoTermFirst (symbol kind text)
 other_first (Number n) text e = absurd cc
 other_first Name text e = absurd cc
 other_first Text text e = text_first (characters_in text)
-other_first (Mark m) text e = mark_first m e
+other_first (Mark m) text e = absurd cc
 
 module _ (line : List ℕ) (tokens : List Token) where
   abbrev pub all : List Symbol
@@ -300,6 +297,9 @@ module _ (line : List ℕ) (tokens : List Token) where
     no_term_other at u h k t rest e =
         let there : drop at all ≡ symbol_of line u ∷ drop (at + 1) all = (token_stands line tokens at u h).is in
         other_first u.kind (token_text line u) k t rest (drop (at + 1) all) (e ∙ there)
+
+    pub no_term_mark : (at m : ℕ) → is_that_mark m (slice_get tokens at) ≡ true → m ≢ 43 → m ≢ 45 → m ≢ 60 → m ≢ 94 → ReadsTerm names all at None
+    no_term_mark at m h p q r s t rest e = other_mark m p q r s t rest (drop (at + 1) all) (e ∙ (mark_stands line tokens at m h).is)
 
     -- ---- brackets
 

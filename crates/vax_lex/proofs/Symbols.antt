@@ -1,6 +1,7 @@
 -- What stands at a place of the tokens, as symbols.
 use Rattle.std.proofs.Common.{◌≡◌, ◌≢◌, ◌<◌, ◌≤◌, ℕ, zero, suc, ◌+◌, Bool, true, false, List, [], ◌∷◌, length, drop, Option, Some, None, refl, ap, arith, ◌∙◌, sym, subst}
 use Rattle.std.specs.Prelude.{slice_get, map, All, ◌==◌}
+use Rattle.std.specs.Bool.{MatchBool}
 use Rattle.std.proofs.lemmas.List.{length-map}
 use Rattle.std.proofs.lemmas.Bool.Decides.{nat_tests}
 use Rattle.vax_lex.specs.Statements.{is_mark}
@@ -138,3 +139,24 @@ no_operator line tokens at e operator rest i = by_token (slice_get tokens at) re
         let is : drop at (symbols_of line tokens) ≡ symbol_of line t ∷ drop (at + 1) (symbols_of line tokens) = (token_stands line tokens at t f).is in
         let same : symbol_of line t ≡ mark (operator_mark operator) = cc in
         no_operator_symbol t.kind (token_text line t) operator g same
+
+-- a token of a known kind
+pub kind_mark : (line : List ℕ) (tokens : List Token) (at m n : ℕ) → is_that_mark m (slice_get tokens at) ≡ true → m ≡ n → Stands line tokens at (mark n)
+kind_mark line tokens at m n e i = mark_stands line tokens at n (ap (λ (k : ℕ). is_that_mark k (slice_get tokens at)) (sym i) ∙ e)
+
+pub number_stands : (line : List ℕ) (tokens : List Token) (at : ℕ) (t : Token) (n : ℕ) → slice_get tokens at ≡ Some t → t.kind ≡ Number n → Stands line tokens at (number n)
+number_stands line tokens at t n e k =
+    let there = token_stands line tokens at t e in
+    record { room = there.room; is = there.is ∙ ap (λ (kind : TokenKind). symbol kind (token_text line t) ∷ drop (at + 1) (symbols_of line tokens)) k }
+
+-- the same name
+pub spelled_stands : (line : List ℕ) (tokens : List Token) (at : ℕ) (s word : List ℕ) → Stands line tokens at (name s) → s ≡ word → Stands line tokens at (name word)
+spelled_stands line tokens at s word a e = record { room = a.room; is = a.is ∙ ap (λ (w : List ℕ). name w ∷ drop (at + 1) (symbols_of line tokens)) e }
+
+pub word_yes : (b : Bool) (s word : List ℕ) → MatchBool b (s ≡ word) (s ≢ word) → b ≡ true → s ≡ word
+word_yes true s word m e = m
+word_yes false s word m e = absurd cc
+
+pub word_no : (b : Bool) (s word : List ℕ) → MatchBool b (s ≡ word) (s ≢ word) → b ≡ false → s ≢ word
+word_no true s word m e = absurd cc
+word_no false s word m e = m

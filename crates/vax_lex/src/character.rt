@@ -1,6 +1,7 @@
 // The characters of a source.
 
-ghost use Rattle.std.specs.Prelude.{◌≡◌, ◌<◌};
+ghost use Rattle.std.specs.Bool.{MatchBool};
+ghost use Rattle.std.specs.Prelude.{◌≡◌, ◌≢◌, ◌<◌};
 ghost use Rattle.std.specs.Char.{digit_value};
 ghost use Rattle.std.specs.Str.{bytes_eq};
 ghost use Rattle.vax_lex.specs.Characters.{is_blank, is_delimiter, is_name_character, radix_of, spells};
@@ -80,7 +81,8 @@ pub(crate) fn spells(word: &[u8], text: &[u8]) -> bool
 
 /// Whether a text is this word.
 pub(crate) fn is_word(text: &[u8], word: &[u8]) -> bool
-    ensures { result ≡ bytes_eq text.now word.now }
+    ensures value { result ≡ bytes_eq text.now word.now }
+    ensures is { MatchBool result (text.now ≡ word.now) (text.now ≢ word.now) }
 {
     text == word
 }

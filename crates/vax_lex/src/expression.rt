@@ -1,7 +1,8 @@
 // The value of an expression.
 
-ghost use Rattle.std.specs.Prelude.{◌≡◌, ◌≤◌, ◌<◌, ◌+◌, ◌^◌, All, Some, None, true, IfSome, slice_get, length, take};
+ghost use Rattle.std.specs.Prelude.{◌≡◌, ◌≤◌, ◌<◌, ◌+◌, ◌^◌, All, Some, None, Ok, true, IfSome, slice_get, length, take};
 ghost use Rattle.std.specs.Bool.{OnTrue};
+ghost use Rattle.std.specs.Int.{cast_signed, w64};
 ghost use Rattle.vax_lex.specs.Characters.{canonical_name};
 ghost use Rattle.vax_lex.specs.Tokens.{IsTokenOf, token_text};
 ghost use Rattle.vax_lex.specs.Grammar.{Evaluates, characters_in, Expression, spelling, value_of, symbols_of, with_bit, mask_outcome, is_that_mark, operator_in, operator_of};
@@ -234,6 +235,37 @@ fn bracketed<N: Names>(line: &[u8], tokens: &[Token], names: &N, at: usize) -> O
     }
 }
 
+/// The value of a number.
+fn constant(number: u64) -> Outcome
+    ensures { result ≡ Ok (Value.Absolute (cast_signed w64 number)) }
+{
+    Ok(Value::Absolute(number.cast_signed()))
+}
+
+/// The term that begins with a mark.
+#[cycle(expression)]
+fn marked<N: Names>(line: &[u8], tokens: &[Token], names: &N, at: usize, mark: u8) -> Option<Read>
+    requires tokens { All (IsTokenOf line.now) tokens.now }
+    requires mark { is_that_mark mark (slice_get tokens.now at) ≡ true }
+    requires room { at < length tokens.now }
+    ensures { ReadsTerm (N.entries names.now) (symbols_of line.now tokens.now) at result }
+{
+    if mark == b'+' {
+        term(line, tokens, names, at + 1)
+    } else if mark == b'-' {
+        let Some(read) = term(line, tokens, names, at + 1) else {
+            return None;
+        };
+        Some(Read { answer: negated(read.answer), end: read.end })
+    } else if mark == b'<' {
+        bracketed(line, tokens, names, at)
+    } else if mark == b'^' {
+        operated(line, tokens, names, at)
+    } else {
+        None
+    }
+}
+
 /// The term that begins at a place.
 #[cycle(expression)]
 fn term<N: Names>(line: &[u8], tokens: &[Token], names: &N, at: usize) -> Option<Read>
@@ -244,23 +276,13 @@ fn term<N: Names>(line: &[u8], tokens: &[Token], names: &N, at: usize) -> Option
         return None;
     };
     match token.kind {
-        TokenKind::Number(number) => {
-            Some(Read { answer: Ok(Value::Absolute(number.cast_signed())), end: at + 1 })
-        }
+        TokenKind::Number(number) => Some(Read { answer: constant(number), end: at + 1 }),
         TokenKind::Name => {
             let name = name_of(line, token);
             Some(Read { answer: named(names, name.as_bytes()), end: at + 1 })
         }
-        TokenKind::Mark(b'+') => term(line, tokens, names, at + 1),
-        TokenKind::Mark(b'-') => {
-            let Some(read) = term(line, tokens, names, at + 1) else {
-        return None;
-    };
-            Some(Read { answer: negated(read.answer), end: read.end })
-        }
-        TokenKind::Mark(b'<') => bracketed(line, tokens, names, at),
-        TokenKind::Mark(b'^') => operated(line, tokens, names, at),
-        _ => None,
+        TokenKind::Mark(mark) => marked(line, tokens, names, at, mark),
+        TokenKind::Text => None,
     }
 }
 
