@@ -21,10 +21,10 @@ condition_depth text = deep_if (compares_texts text) (Argument false false 0) _ 
 argument_depth : (last begun : Bool) (depth : ℕ) (kind : TokenKind) → open_brackets (argument_after last begun depth kind) ≤ depth + 1
 argument_depth last begun zero kind =
     deep_if (is_mark 44 kind) _ _ 1 (deep_if last Statement (Argument true false 0) 1 (omega arith) (omega arith))
-        (deep_if (is_mark 60 kind && not begun) (Argument last true 1) (Argument last true 0) 1 (omega arith) (omega arith))
+    (deep_if (is_mark 60 kind && not begun) (Argument last true 1) (Argument last true 0) 1 (omega arith) (omega arith))
 argument_depth last begun (suc depth) kind =
     deep_if (is_mark 60 kind) (Argument last true (suc depth + 1)) _ (suc depth + 1) (omega arith)
-        (deep_if (is_mark 62 kind) (Argument last true depth) (Argument last true (suc depth)) (suc depth + 1) (omega arith) (omega arith))
+    (deep_if (is_mark 62 kind) (Argument last true depth) (Argument last true (suc depth)) (suc depth + 1) (omega arith) (omega arith))
 
 operand_depth : (p : Place) (kind : TokenKind) (text : List ℕ) → open_brackets (operand_after p kind text) ≤ open_brackets p + 1
 operand_depth Statement kind text = omega arith
@@ -33,12 +33,12 @@ operand_depth AfterLabel kind text = omega arith
 operand_depth Piece kind text = deep_if (is_text kind) Piece _ 1 (omega arith) (deep_if (is_mark 60 kind) (Bracketed 1) Operands 1 (omega arith) (omega arith))
 operand_depth (Bracketed depth) kind text =
     deep_if (is_mark 60 kind) (Bracketed (depth + 1)) _ (depth + 1) (omega arith)
-        (deep_if (is_mark 62 kind) _ (Bracketed depth) (depth + 1) (deep_if (nat_le depth 1) Piece (Bracketed (depth - 1)) (depth + 1) (omega arith) (omega arith)) (omega arith))
+    (deep_if (is_mark 62 kind) _ (Bracketed depth) (depth + 1) (deep_if (nat_le depth 1) Piece (Bracketed (depth - 1)) (depth + 1) (omega arith) (omega arith)) (omega arith))
 operand_depth Condition kind text = deep_if (is_name kind) (condition_place text) Operands 1 (condition_depth text) (omega arith)
 operand_depth (Expression depth) kind text =
     deep_if (is_mark 60 kind) (Expression (depth + 1)) _ (depth + 1) (omega arith)
-        (deep_if (is_mark 62 kind) (Expression (depth - 1)) _ (depth + 1) (omega arith)
-            (deep_if (is_mark 44 kind && (depth == 0)) Statement (Expression depth) (depth + 1) (omega arith) (omega arith)))
+    (deep_if (is_mark 62 kind) (Expression (depth - 1)) _ (depth + 1) (omega arith)
+    (deep_if (is_mark 44 kind && (depth == 0)) Statement (Expression depth) (depth + 1) (omega arith) (omega arith)))
 operand_depth (Argument last begun depth) kind text = argument_depth last begun depth kind
 operand_depth BetweenArguments kind text = deep_if (is_mark 44 kind) (Argument true false 0) _ 1 (omega arith) (argument_depth true false 0 kind)
 operand_depth Operands kind text = omega arith
@@ -56,7 +56,7 @@ place_depth Statement b kind text = deep_if (is_name kind) (FirstName (operator_
 place_depth (FirstName operator) b kind text = deep_if (is_mark 58 kind) AfterLabel _ 1 (omega arith) (behind_operator operator kind text)
 place_depth AfterLabel b kind text =
     deep_if (is_name kind) (operand_place (operator_of text)) _ 1 (omega (arith, operator_depth (operator_of text)))
-        (deep_if (is_mark 58 kind && is_colon b) AfterLabel Operands 1 (omega arith) (omega arith))
+    (deep_if (is_mark 58 kind && is_colon b) AfterLabel Operands 1 (omega arith) (omega arith))
 place_depth Piece b kind text = operand_depth Piece kind text
 place_depth (Bracketed depth) b kind text = operand_depth (Bracketed depth) kind text
 place_depth Condition b kind text = operand_depth Condition kind text

@@ -31,9 +31,9 @@ numeral_fits : (bytes : List ℕ) → 0 < digit_run 10 bytes → HeadFits bytes 
 unfolding numeral
 numeral_fits bytes some = fits_if bytes (is_label_number (number_of 10 (take (digit_run 10 bytes) bytes)) (drop (digit_run 10 bytes) bytes)) _ _
     (λ e. let facts : (0 < length (drop (digit_run 10 bytes) bytes)) × (get_or (drop (digit_run 10 bytes) bytes) 0 0 ≡ 36) × (number_of 10 (take (digit_run 10 bytes) bytes) ≤ 65535) = label_facts _ _ e in
-        let room : digit_run 10 bytes < length bytes = omega (arith, length-drop (digit_run 10 bytes) bytes, facts.0) in
-        let dollar : get_or bytes (digit_run 10 bytes) 0 ≡ 36 = sym (get_or-drop (digit_run 10 bytes) bytes 0 0 ∙ ap (λ (k : ℕ). get_or bytes k 0) (omega arith)) ∙ facts.1 in
-        (omega arith, omega arith, label_short bytes (digit_run 10 bytes) room dollar facts.2))
+    let room : digit_run 10 bytes < length bytes = omega (arith, length-drop (digit_run 10 bytes) bytes, facts.0) in
+    let dollar : get_or bytes (digit_run 10 bytes) 0 ≡ 36 = sym (get_or-drop (digit_run 10 bytes) bytes 0 0 ∙ ap (λ (k : ℕ). get_or bytes k 0) (omega arith)) ∙ facts.1 in
+    (omega arith, omega arith, label_short bytes (digit_run 10 bytes) room dollar facts.2))
     (λ _. number_fits bytes _ (digit_run 10 bytes) some (prefix_len-le-length (is_digit 10) bytes))
 
 based_fits : (b c radix : ℕ) (bytes : List ℕ) → HeadFits (b ∷ c ∷ bytes) (based radix bytes)

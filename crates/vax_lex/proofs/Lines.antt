@@ -108,7 +108,7 @@ pub token_at : (front items : List Token) (c next : Context) (line : List ℕ) (
     → with_front items (tokens_from next (at + n) zero (drop (at + n) line)) ≡ all
 token_at front items c next line at kind n r all e i x p so_far =
     let step : with_front front (with_first (token kind at n) (tokens_from (context_after c kind (take n (drop at line))) (at + n) zero (drop n (drop at line)))) ≡ all
-        = steps_at front c line at r (Begins kind n) all e i so_far in
+    = steps_at front c line at r (Begins kind n) all e i so_far in
     let further : drop n (drop at line) ≡ drop (at + n) line = drop-drop n at line in
     let there : next ≡ context_after c kind (take n (drop at line)) = x ∙ ap (λ (bytes : List ℕ). context_after c kind (take n bytes)) (take_rest line at) in
     rw p (rw there (rw (← further) (sym (with_front-first front (token kind at n) _) ∙ step)))

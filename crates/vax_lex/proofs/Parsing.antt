@@ -148,11 +148,16 @@ module _ (line : List ℕ) (tokens : List Token) where
       no_more r (n ∷ names) rest e = h n names rest cc
   names_more bits at s (Some r) a b h =
       let more = h.2 in
-      let later : names_then (more.first ∷ more.others) (mark 62 ∷ drop r.end all) ≡ drop (at + 2) all = more.spells in
-      (omega (arith, h.0), h.1, record {
-          first = s; others = more.first ∷ more.others;
+      let later : names_then (more.first ∷ more.others) (mark 62 ∷ drop r.end all) ≡ drop (at + 2) all = more.spells in (
+        omega (arith, h.0),
+        h.1,
+        record {
+          first = s;
+          others = more.first ∷ more.others;
           spells = ap (λ (x : List Symbol). name s ∷ mark 44 ∷ x) later ∙ sym (two at (name s) (mark 44) a b);
-          gives = more.gives })
+          gives = more.gives;
+        },
+      )
 
   pub no_names_nothing : (bits : Option ℕ) (at : ℕ) → slice_get tokens at ≡ None → ReadsNames bits all at None
   no_names_nothing bits at h r [] rest e = let nothing : drop at all ≡ [] = nothing_stands line tokens at h in absurd cc
@@ -290,7 +295,7 @@ module _ (line : List ℕ) (tokens : List Token) where
     no_letter_other at s a b x y z t rest e =
         let there : drop (at + 1) all ≡ name s ∷ drop (at + 1 + 1) all = b.is in
         caret_only t rest (drop (at + 1) all) (e ∙ a.is) (λ u more i. let same : drop (at + 1) all ≡ name u ∷ more = i.0 in let here : s ≡ u = cc in
-            ⊎_elim (λ (p : u ≡ 67 ∷ []). x (here ∙ p)) (λ p. ⊎_elim (λ (q : u ≡ 65 ∷ []). y (here ∙ q)) (λ (q : u ≡ 77 ∷ []). z (here ∙ q)) p) i.1)
+        ⊎_elim (λ (p : u ≡ 67 ∷ []). x (here ∙ p)) (λ p. ⊎_elim (λ (q : u ≡ 65 ∷ []). y (here ∙ q)) (λ (q : u ≡ 77 ∷ []). z (here ∙ q)) p) i.1)
 
     -- a term that begins with none of these
     pub no_term_other : (at : ℕ) (u : Token) → slice_get tokens at ≡ Some u → begins_term u.kind ≡ false → ReadsTerm names all at None
@@ -305,11 +310,15 @@ module _ (line : List ℕ) (tokens : List Token) where
 
     pub bracket_read : (at : ℕ) (r : Read) → Stands line tokens at (mark 60) → ReadsExpression names all (at + 1) (Some r) → Stands line tokens r.end (mark 62)
         → ReadsTerm names all at (Some (record { answer = r.answer; end = r.end + 1 }))
-    bracket_read at r a h b = let x = h.2 in
-        (omega (arith, h.0), omega (arith, length-symbols line tokens, b.room), record {
-            term = bracketed x.term x.more;
-            spells = ap (λ (y : List Symbol). mark 60 ∷ term_then x.term (joined_then x.more y)) (sym b.is) ∙ ap (λ (y : List Symbol). mark 60 ∷ y) x.spells ∙ sym a.is;
-            gives = x.gives })
+    bracket_read at r a h b = let x = h.2 in (
+      omega (arith, h.0),
+      omega (arith, length-symbols line tokens, b.room),
+      record {
+        term = bracketed x.term x.more;
+        spells = ap (λ (y : List Symbol). mark 60 ∷ term_then x.term (joined_then x.more y)) (sym b.is) ∙ ap (λ (y : List Symbol). mark 60 ∷ y) x.spells ∙ sym a.is;
+        gives = x.gives;
+      },
+    )
 
     pub no_bracket : (at : ℕ) → Stands line tokens at (mark 60) → ReadsExpression names all (at + 1) None → ReadsTerm names all at None
     no_bracket at a h t rest e = bracket_only t rest (drop (at + 1) all) (e ∙ a.is) (λ u more behind i. h u more (mark 62 ∷ behind) (bracket_ends behind) i)
@@ -318,17 +327,19 @@ module _ (line : List ℕ) (tokens : List Token) where
         → is_that_mark 62 (slice_get tokens r.end) ≡ false → ReadsTerm names all at None
     no_bracket_end at r a h b t rest e = let x = h.2 in
         bracket_only t rest (drop (at + 1) all) (e ∙ a.is) (λ u more behind i.
-            let first = unique_term u x.term (joined_then more (mark 62 ∷ behind)) (joined_then x.more (drop r.end all)) (i ∙ sym x.spells) in
-            let second = unique_joined more x.more (mark 62 ∷ behind) (drop r.end all) (bracket_ends behind) x.whole first.1 in
-            no_mark line tokens r.end 62 b behind (sym second.1))
+        let first = unique_term u x.term (joined_then more (mark 62 ∷ behind)) (joined_then x.more (drop r.end all)) (i ∙ sym x.spells) in
+        let second = unique_joined more x.more (mark 62 ∷ behind) (drop r.end all) (bracket_ends behind) x.whole first.1 in
+        no_mark line tokens r.end 62 b behind (sym second.1))
 
     -- ---- terms joined by operators
 
     pub so_far_begin : (at : ℕ) (r : Read) → ReadsTerm names all at (Some r) → SoFar names all at r.answer r.end
     so_far_begin at r h = let x = h.2 in record {
-        begins = h.0; within = h.1;
-        continues = λ more rest e. (x.term, more, ap (term_then x.term) e ∙ x.spells, ap (λ (v : Result Value ExprError). joined_value names v more) (sym x.gives));
-        leaves = λ t whole rest q e. let same = unique_term t x.term (joined_then whole rest) (drop r.end all) (e ∙ sym x.spells) in (whole, same.1) }
+      begins = h.0;
+      within = h.1;
+      continues = λ more rest e. (x.term, more, ap (term_then x.term) e ∙ x.spells, ap (λ (v : Result Value ExprError). joined_value names v more) (sym x.gives));
+      leaves = λ t whole rest q e. let same = unique_term t x.term (joined_then whole rest) (drop r.end all) (e ∙ sym x.spells) in (whole, same.1);
+    }
 
     -- what is left behind an operator
     behind_operator : (operator : Binary) (symbols : List Symbol) (more : Joined) (rest : List Symbol) → NotOperator rest → joined_then more rest ≡ mark (operator_mark operator) ∷ symbols
@@ -339,17 +350,19 @@ module _ (line : List ℕ) (tokens : List Token) where
     pub so_far_more : (at end : ℕ) (answer new : Result Value ExprError) (operator : Binary) (r : Read) → SoFar names all at answer end → operator_in (slice_get tokens end) ≡ Some operator
         → ReadsTerm names all (end + 1) (Some r) → new ≡ combine operator answer r.answer → SoFar names all at new r.end
     so_far_more at end answer new operator r s o h v = let x = h.2 in let there = operator_stands line tokens end operator o in record {
-        begins = omega (arith, s.begins, h.0); within = h.1;
-        continues = λ more rest e.
-            let next : joined_then (joined operator x.term more) rest ≡ drop end all = ap (λ (y : List Symbol). mark (operator_mark operator) ∷ y) (ap (term_then x.term) e ∙ x.spells) ∙ sym there.is in
-            let before = s.continues (joined operator x.term more) rest next in
-            let value : combine operator answer (term_value names x.term) ≡ new = ap (combine operator answer) (sym x.gives) ∙ sym v in
-            (before.0, before.1, before.2, before.3 ∙ ap (λ (y : Result Value ExprError). joined_value names y more) value);
-        leaves = λ t whole rest q e.
-            let before = s.leaves t whole rest q e in
-            let left = behind_operator operator (drop (end + 1) all) before.0 rest q (before.1 ∙ there.is) in
-            let same = unique_term left.0 x.term (joined_then left.1 rest) (drop r.end all) (left.2 ∙ sym x.spells) in
-            (left.1, same.1) }
+      begins = omega (arith, s.begins, h.0);
+      within = h.1;
+      continues = λ more rest e.
+          let next : joined_then (joined operator x.term more) rest ≡ drop end all = ap (λ (y : List Symbol). mark (operator_mark operator) ∷ y) (ap (term_then x.term) e ∙ x.spells) ∙ sym there.is in
+          let before = s.continues (joined operator x.term more) rest next in
+          let value : combine operator answer (term_value names x.term) ≡ new = ap (combine operator answer) (sym x.gives) ∙ sym v in
+          (before.0, before.1, before.2, before.3 ∙ ap (λ (y : Result Value ExprError). joined_value names y more) value);
+      leaves = λ t whole rest q e.
+          let before = s.leaves t whole rest q e in
+          let left = behind_operator operator (drop (end + 1) all) before.0 rest q (before.1 ∙ there.is) in
+          let same = unique_term left.0 x.term (joined_then left.1 rest) (drop r.end all) (left.2 ∙ sym x.spells) in
+          (left.1, same.1);
+    }
 
     pub so_far_none : (at end : ℕ) (answer : Result Value ExprError) (operator : Binary) → SoFar names all at answer end → operator_in (slice_get tokens end) ≡ Some operator
         → ReadsTerm names all (end + 1) None → ReadsExpression names all at None
@@ -379,10 +392,13 @@ module _ (line : List ℕ) (tokens : List Token) where
         inl (record { first = x.term; more = x.more }, ap (λ (y : List Symbol). term_then x.term (joined_then x.more y)) (sym behind) ∙ x.spells, x.gives)
 
     pub not_whole : (r : Read) → ReadsExpression names all 0 (Some r) → r.end ≢ length tokens → Evaluates names all (Err Form)
-    not_whole r h n = let x = h.2 in inr (λ e i.
-        let first = unique_term e.first x.term (joined_then e.more []) (joined_then x.more (drop r.end all)) (i ∙ sym x.spells) in
-        let second = unique_joined e.more x.more [] (drop r.end all) nothing_more x.whole first.1 in
-        n (omega (arith, h.1, length-symbols line tokens, length-drop r.end all, ap length second.1)), refl)
+    not_whole r h n = let x = h.2 in inr (
+      λ e i.
+          let first = unique_term e.first x.term (joined_then e.more []) (joined_then x.more (drop r.end all)) (i ∙ sym x.spells) in
+          let second = unique_joined e.more x.more [] (drop r.end all) nothing_more x.whole first.1 in
+          n (omega (arith, h.1, length-symbols line tokens, length-drop r.end all, ap length second.1)),
+      refl,
+    )
 
     pub not_read : ReadsExpression names all 0 None → Evaluates names all (Err Form)
     not_read h = inr (λ e i. h e.first e.more [] nothing_more i, refl)
@@ -390,9 +406,9 @@ module _ (line : List ℕ) (tokens : List Token) where
     pub only_reading : (answer : Result Value ExprError) → Evaluates names all answer → (e : Expression) → spelling e ≡ all → answer ≡ value_of names e
     only_reading answer v e i = ⊎_elim
         (λ (p : (f : Expression) × (spelling f ≡ all) × (answer ≡ value_of names f)).
-            let first = unique_term p.0.first e.first (joined_then p.0.more []) (joined_then e.more []) (p.1 ∙ sym i) in
-            let second = unique_joined p.0.more e.more [] [] nothing_more nothing_more first.1 in
-            let here : p.0.first ≡ e.first = first.0 in
-            let there : p.0.more ≡ e.more = second.0 in
-            p.2 ∙ ap (λ (t : Term). joined_value names (term_value names t) p.0.more) here ∙ ap (joined_value names (term_value names e.first)) there)
+        let first = unique_term p.0.first e.first (joined_then p.0.more []) (joined_then e.more []) (p.1 ∙ sym i) in
+        let second = unique_joined p.0.more e.more [] [] nothing_more nothing_more first.1 in
+        let here : p.0.first ≡ e.first = first.0 in
+        let there : p.0.more ≡ e.more = second.0 in
+        p.2 ∙ ap (λ (t : Term). joined_value names (term_value names t) p.0.more) here ∙ ap (joined_value names (term_value names e.first)) there)
         (λ (p : ((f : Expression) → spelling f ≢ all) × (answer ≡ Err Form)). absurd (p.0 e i)) v

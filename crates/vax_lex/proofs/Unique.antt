@@ -65,22 +65,22 @@ mutual
   unique_term (named_by a) (named_by b) r s e = (cc, cc)
   unique_term (quoted a) (quoted b) r s e = (cc, cc)
   unique_term (mask a) (mask b) r s e =
-    let rest : names_then a (mark 62 ∷ r) ≡ names_then b (mark 62 ∷ s) = cc in
-    let same = unique_names a b r s rest in
-    (ap mask same.0, same.1)
+      let rest : names_then a (mark 62 ∷ r) ≡ names_then b (mark 62 ∷ s) = cc in
+      let same = unique_names a b r s rest in
+      (ap mask same.0, same.1)
   unique_term (plus t) (plus u) r s e =
-    let same = unique_term t u r s cc in (ap plus same.0, same.1)
+      let same = unique_term t u r s cc in (ap plus same.0, same.1)
   unique_term (minus t) (minus u) r s e =
-    let same = unique_term t u r s cc in (ap minus same.0, same.1)
+      let same = unique_term t u r s cc in (ap minus same.0, same.1)
   unique_term (complement t) (complement u) r s e =
-    let same = unique_term t u r s cc in (ap complement same.0, same.1)
+      let same = unique_term t u r s cc in (ap complement same.0, same.1)
   unique_term (bracketed t m) (bracketed u n) r s e =
-    let first = unique_term t u (joined_then m (mark 62 ∷ r)) (joined_then n (mark 62 ∷ s)) cc in
-    let more = unique_joined m n (mark 62 ∷ r) (mark 62 ∷ s) (bracket_ends r) (bracket_ends s) first.1 in
-    let here : t ≡ u = first.0 in
-    let there : m ≡ n = more.0 in
-    let rest : mark 62 ∷ r ≡ mark 62 ∷ s = more.1 in
-    (cc, cc)
+      let first = unique_term t u (joined_then m (mark 62 ∷ r)) (joined_then n (mark 62 ∷ s)) cc in
+      let more = unique_joined m n (mark 62 ∷ r) (mark 62 ∷ s) (bracket_ends r) (bracket_ends s) first.1 in
+      let here : t ≡ u = first.0 in
+      let there : m ≡ n = more.0 in
+      let rest : mark 62 ∷ r ≡ mark 62 ∷ s = more.1 in
+      (cc, cc)
   unique_term _ _ r s e = absurd (omega (arith, ap first_code e, ap letter_code e))
 
   pub unique_joined : (m n : Joined) (r s : List Symbol) → NotOperator r → NotOperator s → joined_then m r ≡ joined_then n s → (m ≡ n) × (r ≡ s)
@@ -88,10 +88,10 @@ mutual
   unique_joined finish (joined b u n) r s p q e = absurd (p b (term_then u (joined_then n s)) e)
   unique_joined (joined a t m) finish r s p q e = absurd (q a (term_then t (joined_then m r)) (sym e))
   unique_joined (joined a t m) (joined b u n) r s p q e =
-    let here : a ≡ b = operator_code a b (ap first_code e) in
-    let rest : term_then t (joined_then m r) ≡ term_then u (joined_then n s) = cc in
-    let first = unique_term t u (joined_then m r) (joined_then n s) rest in
-    let more = unique_joined m n r s p q first.1 in
-    let there : t ≡ u = first.0 in
-    let behind : m ≡ n = more.0 in
-    (cc, more.1)
+      let here : a ≡ b = operator_code a b (ap first_code e) in
+      let rest : term_then t (joined_then m r) ≡ term_then u (joined_then n s) = cc in
+      let first = unique_term t u (joined_then m r) (joined_then n s) rest in
+      let more = unique_joined m n r s p q first.1 in
+      let there : t ≡ u = first.0 in
+      let behind : m ≡ n = more.0 in
+      (cc, more.1)

@@ -90,12 +90,13 @@ unfoldable pub tokens_from : Context → ℕ → ℕ → List ℕ → Result (Li
 tokens_from c at inside [] = Ok []
 tokens_from c at (suc inside) (b ∷ bytes) = tokens_from c (at + 1) inside bytes
 tokens_from c at zero (b ∷ bytes) = elim (head_of c (b ∷ bytes)) [
-    Blank ↦ tokens_from (context_after_blank c) (at + 1) zero bytes
+  | Blank ↦ tokens_from (context_after_blank c) (at + 1) zero bytes
   | End ↦ Ok []
   | Begins kind n ↦ with_first (record { kind = kind; start = at; end = at + n })
-        (tokens_from (context_after c kind (take n (b ∷ bytes))) (at + 1) (n - 1) bytes)
+      (tokens_from (context_after c kind (take n (b ∷ bytes))) (at + 1) (n - 1) bytes)
   | Wide ↦ Err (errors.Wide at)
-  | Nothing ↦ Err (errors.Token at) ]
+  | Nothing ↦ Err (errors.Token at)
+]
 
 -- The tokens of a line, or the first place where there is none.
 unfoldable pub tokens_of : List ℕ → Result (List Token) LexError

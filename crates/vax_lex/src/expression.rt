@@ -13,7 +13,8 @@ use crate::character::is_word;
 use crate::name::CanonicalName;
 use crate::token::{Token, TokenKind};
 use crate::value::{
-    Binary, ExprError, Names, Outcome, Value, characters_value, combine, complemented, mask_bit, named, negated,
+    Binary, ExprError, Names, Outcome, Value, characters_value, combine, complemented, mask_bit,
+    named, negated,
 };
 
 /// What has been read: its value or error, and the place of the first token behind it.
@@ -154,7 +155,10 @@ fn names_from(line: &[u8], tokens: &[Token], at: usize, mask: Option<u16>) -> Op
     if is_mark_at(tokens, at + 1, b',') {
         names_from(line, tokens, at + 2, mask)
     } else if is_mark_at(tokens, at + 1, b'>') {
-        Some(Read { answer: mask_outcome(mask), end: at + 2 })
+        Some(Read {
+            answer: mask_outcome(mask),
+            end: at + 2,
+        })
     } else {
         None
     }
@@ -168,7 +172,10 @@ fn mask_at(line: &[u8], tokens: &[Token], at: usize) -> Option<Read>
     if !is_mark_at(tokens, at, b'<') {
         None
     } else if is_mark_at(tokens, at + 1, b'>') {
-        Some(Read { answer: mask_outcome(Some(0)), end: at + 2 })
+        Some(Read {
+            answer: mask_outcome(Some(0)),
+            end: at + 2,
+        })
     } else {
         names_from(line, tokens, at + 1, Some(0))
     }
@@ -184,7 +191,10 @@ fn quoted_at(line: &[u8], tokens: &[Token], at: usize) -> Option<Read>
     };
     match token.kind {
         TokenKind::Text => {
-            Some(Read { answer: characters_value(characters_of(line, token)), end: at + 1 })
+            Some(Read {
+                answer: characters_value(characters_of(line, token)),
+                end: at + 1,
+            })
         }
         _ => None,
     }
@@ -206,9 +216,12 @@ fn operated<N: Names>(line: &[u8], tokens: &[Token], names: &N, at: usize) -> Op
     let name = name_of(line, token);
     if is_word(name.as_bytes(), b"C") {
         let Some(read) = term(line, tokens, names, at + 2) else {
-        return None;
-    };
-        Some(Read { answer: complemented(read.answer), end: read.end })
+            return None;
+        };
+        Some(Read {
+            answer: complemented(read.answer),
+            end: read.end,
+        })
     } else if is_word(name.as_bytes(), b"A") {
         quoted_at(line, tokens, at + 2)
     } else if is_word(name.as_bytes(), b"M") {
@@ -229,7 +242,10 @@ fn bracketed<N: Names>(line: &[u8], tokens: &[Token], names: &N, at: usize) -> O
         return None;
     };
     if is_mark_at(tokens, read.end, b'>') {
-        Some(Read { answer: read.answer, end: read.end + 1 })
+        Some(Read {
+            answer: read.answer,
+            end: read.end + 1,
+        })
     } else {
         None
     }
@@ -256,7 +272,10 @@ fn marked<N: Names>(line: &[u8], tokens: &[Token], names: &N, at: usize, mark: u
         let Some(read) = term(line, tokens, names, at + 1) else {
             return None;
         };
-        Some(Read { answer: negated(read.answer), end: read.end })
+        Some(Read {
+            answer: negated(read.answer),
+            end: read.end,
+        })
     } else if mark == b'<' {
         bracketed(line, tokens, names, at)
     } else if mark == b'^' {
@@ -276,10 +295,16 @@ fn term<N: Names>(line: &[u8], tokens: &[Token], names: &N, at: usize) -> Option
         return None;
     };
     match token.kind {
-        TokenKind::Number(number) => Some(Read { answer: constant(number), end: at + 1 }),
+        TokenKind::Number(number) => Some(Read {
+            answer: constant(number),
+            end: at + 1,
+        }),
         TokenKind::Name => {
             let name = name_of(line, token);
-            Some(Read { answer: named(names, name.as_bytes()), end: at + 1 })
+            Some(Read {
+                answer: named(names, name.as_bytes()),
+                end: at + 1,
+            })
         }
         TokenKind::Mark(mark) => marked(line, tokens, names, at, mark),
         TokenKind::Text => None,
@@ -299,8 +324,8 @@ fn expression<N: Names>(line: &[u8], tokens: &[Token], names: &N, at: usize) -> 
     let mut end = first.end;
     while let Some(operator) = operator_at(tokens, end) {
         let Some(right) = term(line, tokens, names, end + 1) else {
-        return None;
-    };
+            return None;
+        };
         answer = combine(operator, answer, right.answer);
         end = right.end;
     }
@@ -329,5 +354,9 @@ pub fn evaluate<N: Names>(line: &[u8], tokens: &[Token], names: &N) -> Result<Va
     let Some(read) = expression(line, tokens, names, 0) else {
         return Err(ExprError::Form);
     };
-    if read.end == tokens.len() { read.answer } else { Err(ExprError::Form) }
+    if read.end == tokens.len() {
+        read.answer
+    } else {
+        Err(ExprError::Form)
+    }
 }

@@ -11,6 +11,8 @@ mod expression;
 mod head;
 mod line;
 mod name;
+#[cfg(test)]
+mod tests;
 mod token;
 mod value;
 

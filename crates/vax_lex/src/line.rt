@@ -3,11 +3,10 @@
 ghost use Rattle.std.specs.Prelude.{◌≡◌, ◌≤◌, length, All, IfOk};
 ghost use Rattle.vax_lex.specs.Tokens.{tokens_of, Answers, IsTokenOf};
 
-use std::alloc::Global;
-
 use crate::context::Context;
 use crate::head::{Head, head_of};
 use crate::token::{LexError, Token};
+use std::alloc::Global;
 
 /// The tokens of a line of at most 1,024 bytes, which has no line feed.
 ///
@@ -34,7 +33,11 @@ pub fn scan(alloc: Global, line: &[u8]) -> Result<Vec<Token>, LexError>
                 at += 1;
             }
             Head::Begins(kind, length) => {
-                let token = Token { kind, start: at as u32, end: (at + length) as u32 };
+                let token = Token {
+                    kind,
+                    start: at as u32,
+                    end: (at + length) as u32,
+                };
                 tokens.push(token).map_err(|_| LexError::NoMemory)?;
                 context = context.after(kind, &rest[..length]);
                 at += length;

@@ -37,7 +37,10 @@ impl CanonicalName {
         for i in 0..text.len() {
             bytes[i] = text[i].to_ascii_uppercase();
         }
-        CanonicalName { bytes, length: text.len() }
+        CanonicalName {
+            bytes,
+            length: text.len(),
+        }
     }
 
     /// How the name of this text is kept.

@@ -105,21 +105,41 @@ fn apply(operator: Binary, left: Value, right: Value) -> Outcome
         (_, Value::Absolute(x), Value::Absolute(y)) => arithmetic(operator, x, y),
         (Binary::Add, Value::Absolute(x), Value::Section { section, offset })
         | (Binary::Add, Value::Section { section, offset }, Value::Absolute(x)) => {
-            Ok(Value::Section { section, offset: offset.wrapping_add(x) })
+            Ok(Value::Section {
+                section,
+                offset: offset.wrapping_add(x),
+            })
         }
         (Binary::Add, Value::Absolute(x), Value::External { index, offset })
         | (Binary::Add, Value::External { index, offset }, Value::Absolute(x)) => {
-            Ok(Value::External { index, offset: offset.wrapping_add(x) })
+            Ok(Value::External {
+                index,
+                offset: offset.wrapping_add(x),
+            })
         }
         (Binary::Subtract, Value::Section { section, offset }, Value::Absolute(y)) => {
-            Ok(Value::Section { section, offset: offset.wrapping_sub(y) })
+            Ok(Value::Section {
+                section,
+                offset: offset.wrapping_sub(y),
+            })
         }
         (Binary::Subtract, Value::External { index, offset }, Value::Absolute(y)) => {
-            Ok(Value::External { index, offset: offset.wrapping_sub(y) })
+            Ok(Value::External {
+                index,
+                offset: offset.wrapping_sub(y),
+            })
         }
-        (Binary::Subtract, Value::Section { section: s, offset: x }, Value::Section { section: t, offset: y }) if s == t => {
-            Ok(Value::Absolute(x.wrapping_sub(y)))
-        }
+        (
+            Binary::Subtract,
+            Value::Section {
+                section: s,
+                offset: x,
+            },
+            Value::Section {
+                section: t,
+                offset: y,
+            },
+        ) if s == t => { Ok(Value::Absolute(x.wrapping_sub(y))) }
         _ => Err(ExprError::Form),
     }
 }

@@ -20,21 +20,21 @@ returns-then-is_mark_at t c =
     let bits = c.with_bit-mask.ensures ∙ ap (with_bit c.args.mask) (c.mask_bit.ensures.value ∙ ap mask_bit (c.as_bytes.ensures ∙ c.name_of-name.ensures)) in
     let P : Option ℕ → Type 0 = λ b. ReadsNames b (symbols_of c.args.line.now c.args.tokens.now) (c.args.at + 2) c.names_from.result in
     names_more c.args.line.now c.args.tokens.now c.args.mask c.args.at _ c.names_from.result
-        (name_stands c.args.line.now c.args.tokens.now c.args.at c.in-Some.token (sym c.token_at.ensures.value ∙ c.in-Some.is) c.in-Name.is)
-        (mark_stands c.args.line.now c.args.tokens.now (c.args.at + 1) 44 (sym c.is_mark_at.ensures.value ∙ c.if-is_mark_at.true))
-        (subst P bits c.names_from.ensures)
+    (name_stands c.args.line.now c.args.tokens.now c.args.at c.in-Some.token (sym c.token_at.ensures.value ∙ c.in-Some.is) c.in-Name.is)
+    (mark_stands c.args.line.now c.args.tokens.now (c.args.at + 1) 44 (sym c.is_mark_at.ensures.value ∙ c.if-is_mark_at.true))
+    (subst P bits c.names_from.ensures)
 
 pub returns-then-is_mark_at-2 : goal.returns-then-is_mark_at-2
 returns-then-is_mark_at-2 t c =
     let bits = c.with_bit-mask.ensures ∙ ap (with_bit c.args.mask) (c.mask_bit.ensures.value ∙ ap mask_bit (c.as_bytes.ensures ∙ c.name_of-name.ensures)) in
     names_end c.args.line.now c.args.tokens.now c.args.mask c.args.at _ c.mask_outcome.result
-        (name_stands c.args.line.now c.args.tokens.now c.args.at c.in-Some.token (sym c.token_at.ensures.value ∙ c.in-Some.is) c.in-Name.is)
-        (mark_stands c.args.line.now c.args.tokens.now (c.args.at + 1) 62 (sym c.is_mark_at-else-is_mark_at.ensures.value ∙ c.if-is_mark_at-2.true))
-        (c.mask_outcome.ensures ∙ ap mask_outcome bits)
+    (name_stands c.args.line.now c.args.tokens.now c.args.at c.in-Some.token (sym c.token_at.ensures.value ∙ c.in-Some.is) c.in-Name.is)
+    (mark_stands c.args.line.now c.args.tokens.now (c.args.at + 1) 62 (sym c.is_mark_at-else-is_mark_at.ensures.value ∙ c.if-is_mark_at-2.true))
+    (c.mask_outcome.ensures ∙ ap mask_outcome bits)
 
 pub returns-else-is_mark_at-2 : goal.returns-else-is_mark_at-2
 returns-else-is_mark_at-2 t c =
     no_names_else c.args.line.now c.args.tokens.now c.args.mask c.args.at _
-        (name_stands c.args.line.now c.args.tokens.now c.args.at c.in-Some.token (sym c.token_at.ensures.value ∙ c.in-Some.is) c.in-Name.is)
-        (sym c.is_mark_at.ensures.value ∙ c.if-is_mark_at.false)
-        (sym c.is_mark_at-else-is_mark_at.ensures.value ∙ c.if-is_mark_at-2.false)
+    (name_stands c.args.line.now c.args.tokens.now c.args.at c.in-Some.token (sym c.token_at.ensures.value ∙ c.in-Some.is) c.in-Name.is)
+    (sym c.is_mark_at.ensures.value ∙ c.if-is_mark_at.false)
+    (sym c.is_mark_at-else-is_mark_at.ensures.value ∙ c.if-is_mark_at-2.false)

@@ -9,13 +9,13 @@ returns-then-not-is_mark_at c = no_mask c.args.line.now c.args.tokens.now c.args
 pub returns-then-is_mark_at : goal.returns-then-is_mark_at
 returns-then-is_mark_at c =
     mask_empty c.args.line.now c.args.tokens.now c.args.at c.mask_outcome.result
-        (mark_stands c.args.line.now c.args.tokens.now c.args.at 60 (sym c.is_mark_at.ensures.value ∙ c.if-not-is_mark_at.false))
-        (mark_stands c.args.line.now c.args.tokens.now (c.args.at + 1) 62 (sym c.is_mark_at-else-not-is_mark_at.ensures.value ∙ c.if-is_mark_at.true))
-        c.mask_outcome.ensures
+    (mark_stands c.args.line.now c.args.tokens.now c.args.at 60 (sym c.is_mark_at.ensures.value ∙ c.if-not-is_mark_at.false))
+    (mark_stands c.args.line.now c.args.tokens.now (c.args.at + 1) 62 (sym c.is_mark_at-else-not-is_mark_at.ensures.value ∙ c.if-is_mark_at.true))
+    c.mask_outcome.ensures
 
 pub returns-else-is_mark_at : goal.returns-else-is_mark_at
 returns-else-is_mark_at c =
     mask_some c.args.line.now c.args.tokens.now c.args.at c.names_from.result
-        (mark_stands c.args.line.now c.args.tokens.now c.args.at 60 (sym c.is_mark_at.ensures.value ∙ c.if-not-is_mark_at.false))
-        (sym c.is_mark_at-else-not-is_mark_at.ensures.value ∙ c.if-is_mark_at.false)
-        c.names_from.ensures
+    (mark_stands c.args.line.now c.args.tokens.now c.args.at 60 (sym c.is_mark_at.ensures.value ∙ c.if-not-is_mark_at.false))
+    (sym c.is_mark_at-else-not-is_mark_at.ensures.value ∙ c.if-is_mark_at.false)
+    c.names_from.ensures

@@ -24,20 +24,22 @@ returns-in-Nothing-clause-exact c =
 
 pub loop-tokens-init : goal.loop-tokens-init
 loop-tokens-init c = record {
-    in_range = omega arith;
-    brackets = omega (arith, ap (λ (x : Context). open_brackets x.place) c.line_start-context.ensures);
-    within = λ k d h. absurd (omega (arith, ap length c.new-tokens.ensures.items, h));
-    so_far = start_at c.new-tokens.result.items c.line_start-context.result c.args.line.now c.new-tokens.ensures.items c.line_start-context.ensures }
+  in_range = omega arith;
+  brackets = omega (arith, ap (λ (x : Context). open_brackets x.place) c.line_start-context.ensures);
+  within = λ k d h. absurd (omega (arith, ap length c.new-tokens.ensures.items, h));
+  so_far = start_at c.new-tokens.result.items c.line_start-context.result c.args.line.now c.new-tokens.ensures.items c.line_start-context.ensures;
+}
 
 pub loop-tokens-smaller-in-Blank : goal.loop-tokens-smaller-in-Blank
 loop-tokens-smaller-in-Blank c = omega (arith, blank_room c.loop-tokens.context c.args.line.now c.loop-tokens.at c.head_of.result c.head_of.ensures c.in-Blank.is)
 
 pub loop-tokens-preserved-in-Blank : goal.loop-tokens-preserved-in-Blank
 loop-tokens-preserved-in-Blank c = record {
-    in_range = omega (arith, blank_room c.loop-tokens.context c.args.line.now c.loop-tokens.at c.head_of.result c.head_of.ensures c.in-Blank.is);
-    brackets = omega (arith, depth_after_blank c.loop-tokens.context c.after_blank-context.result c.after_blank-context.ensures, c.loop-tokens.invariant.brackets);
-    within = c.loop-tokens.invariant.within;
-    so_far = blank_at c.loop-tokens.tokens.items c.loop-tokens.context _ c.args.line.now c.loop-tokens.at _ _ c.head_of.ensures c.in-Blank.is c.after_blank-context.ensures c.loop-tokens.invariant.so_far }
+  in_range = omega (arith, blank_room c.loop-tokens.context c.args.line.now c.loop-tokens.at c.head_of.result c.head_of.ensures c.in-Blank.is);
+  brackets = omega (arith, depth_after_blank c.loop-tokens.context c.after_blank-context.result c.after_blank-context.ensures, c.loop-tokens.invariant.brackets);
+  within = c.loop-tokens.invariant.within;
+  so_far = blank_at c.loop-tokens.tokens.items c.loop-tokens.context _ c.args.line.now c.loop-tokens.at _ _ c.head_of.ensures c.in-Blank.is c.after_blank-context.ensures c.loop-tokens.invariant.so_far;
+}
 
 pub overflow_add-token : goal.overflow_add-token
 overflow_add-token c =
@@ -74,4 +76,5 @@ loop-tokens-preserved c =
       in_range = is.1;
       brackets = omega (arith, depth_after c.loop-tokens.context c.after-context.result c.in-Begins.kind _ c.after-context.ensures, c.loop-tokens.invariant.brackets, is.0);
       within = let P : List Token → Type 0 = λ tokens. All (IsTokenOf c.args.line.now) tokens in subst P (sym items) (All-push (IsTokenOf c.args.line.now) c.loop-tokens.tokens.items new c.loop-tokens.invariant.within is.2);
-      so_far = token_at c.loop-tokens.tokens.items c.push.new.self.items c.loop-tokens.context c.after-context.result c.args.line.now c.loop-tokens.at c.in-Begins.kind c.in-Begins.length c.head_of.result _ c.head_of.ensures c.in-Begins.is c.after-context.ensures items c.loop-tokens.invariant.so_far }
+      so_far = token_at c.loop-tokens.tokens.items c.push.new.self.items c.loop-tokens.context c.after-context.result c.args.line.now c.loop-tokens.at c.in-Begins.kind c.in-Begins.length c.head_of.result _ c.head_of.ensures c.in-Begins.is c.after-context.ensures items c.loop-tokens.invariant.so_far;
+    }

@@ -7,10 +7,11 @@ use Rattle.vax_lex.proofs.line.scan.Given as goal
 
 abbrev pub invariant-loop-tokens : goal.invariant-loop-tokens
 invariant-loop-tokens l = record {
-    in_range : l.at ≤ length l.line;
-    brackets : open_brackets l.context.place ≤ l.at;
-    within : All (IsTokenOf l.line) l.tokens.items;
-    so_far : with_front l.tokens.items (tokens_from l.context l.at 0 (drop l.at l.line)) ≡ tokens_of l.line }
+  in_range : l.at ≤ length l.line;
+  brackets : open_brackets l.context.place ≤ l.at;
+  within : All (IsTokenOf l.line) l.tokens.items;
+  so_far : with_front l.tokens.items (tokens_from l.context l.at 0 (drop l.at l.line)) ≡ tokens_of l.line;
+}
 
 abbrev pub decreases-loop-tokens : goal.decreases-loop-tokens
 decreases-loop-tokens l = length l.line - l.at

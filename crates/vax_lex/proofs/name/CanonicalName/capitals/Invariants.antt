@@ -5,5 +5,6 @@ use Rattle.vax_lex.proofs.name.CanonicalName.capitals.Given as goal
 
 abbrev pub invariant-loop-i : goal.invariant-loop-i
 invariant-loop-i l = record {
-    same_length : length l.bytes ≡ 31;
-    so_far : take l.i l.bytes ≡ map to_ascii_uppercase (take l.i l.text) }
+  same_length : length l.bytes ≡ 31;
+  so_far : take l.i l.bytes ≡ map to_ascii_uppercase (take l.i l.text);
+}
