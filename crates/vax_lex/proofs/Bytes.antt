@@ -1,5 +1,5 @@
 -- A number of up to eight bytes.
-use Rattle.std.proofs.Common.{◌≡◌, ◌<◌, ◌≤◌, ℕ, zero, suc, ◌+◌, ◌-◌, ◌*◌, ◌^◌, List, [], ◌∷◌, length, get_or, drop, refl, ap, arith, ◌∙◌, sym}
+use Rattle.std.proofs.Common.{◌≡◌, ◌<◌, ◌≤◌, ℕ, zero, suc, ◌+◌, ◌-◌, ◌*◌, ◌^◌, List, [], ◌∷◌, length, get_or, drop, ap, arith, ◌∙◌, sym}
 use Rattle.std.proofs.lemmas.List.{drop_more, drop_all, length-drop, get_or-drop}
 use Rattle.vax_lex.specs.Values.{little_endian}
 

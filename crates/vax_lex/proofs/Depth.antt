@@ -1,9 +1,8 @@
 -- A token opens at most one bracket.
-use Rattle.std.proofs.Common.{◌≡◌, ◌≤◌, ◌<◌, ℕ, zero, suc, ◌+◌, ◌-◌, Bool, true, false, not, cond, List, ap, arith}
+use Rattle.std.proofs.Common.{◌≡◌, ◌≤◌, ℕ, zero, suc, ◌+◌, ◌-◌, Bool, true, false, not, cond, List, ap, arith}
 use Rattle.std.specs.Prelude.{◌&&◌, ◌==◌, nat_le}
 use Rattle.vax_lex.specs.Statements.{open_brackets, context_after, context_after_blank, place_after, operand_after, operand_place, argument_after, condition_place, operator_of, compares_texts, tests_text, is_mark, is_name, is_text, is_colon}
 use Rattle.vax_lex.specs.declared.token.TokenKind.{TokenKind}
-use Rattle.vax_lex.specs.declared.token.TokenKind.TheVariants.{Name, Number, Mark, Text}
 use Rattle.vax_lex.specs.declared.context.Operator.{Operator}
 use Rattle.vax_lex.specs.declared.context.Operator.TheVariants as operators
 use Rattle.vax_lex.specs.declared.context.Place.{Place}

@@ -1,6 +1,6 @@
 -- What begins at a place of a line lies within the line.
-use Rattle.std.proofs.Common.{◌≡◌, ◌≢◌, ◌<◌, ◌≤◌, ◌^◌, ℕ, zero, suc, ◌+◌, Bool, true, false, not, cond, min, List, [], ◌∷◌, length, get_or, take, drop, Option, Some, None, refl, ap, arith, ◌∙◌, sym}
-use Rattle.std.specs.Prelude.{◌&&◌, ◌||◌, ◌==◌, nat_lt, nat_le, position}
+use Rattle.std.proofs.Common.{◌≡◌, ◌<◌, ◌≤◌, ◌^◌, ℕ, ◌+◌, Bool, true, false, cond, min, List, [], ◌∷◌, length, get_or, take, drop, Option, Some, None, refl, ap, arith, ◌∙◌, sym}
+use Rattle.std.specs.Prelude.{◌&&◌, ◌==◌, nat_lt, position}
 use Rattle.std.specs.List.{prefix_len}
 use Rattle.std.specs.Char.{is_ascii_graphic}
 use Rattle.std.proofs.lemmas.List.{length-take, length-drop, get_or-drop}
@@ -9,10 +9,10 @@ use Rattle.std.proofs.lemmas.Bool.Decides.{nat_tests}
 use Rattle.vax_lex.specs.Characters.{is_blank, is_digit, is_name_character, radix_of, number_of}
 use Rattle.vax_lex.specs.Statements.{text_due, is_caret, is_size}
 use Rattle.vax_lex.specs.Tokens.{HeadFits, head_of, plain, caret, based, numeral, quoted, text_head, number_head, digit_run, is_label_number, is_operator_letter}
-use Rattle.vax_lex.specs.declared.token.TokenKind.TheVariants.{Name, Number, Mark, Text}
+use Rattle.vax_lex.specs.declared.token.TokenKind.TheVariants.{Name, Number, Mark}
 use Rattle.vax_lex.specs.declared.context.Context.{Context}
 use Rattle.vax_lex.specs.declared.head.Head.{Head}
-use Rattle.vax_lex.specs.declared.head.Head.TheVariants.{Blank, End, Begins, Wide, Nothing}
+use Rattle.vax_lex.specs.declared.head.Head.TheVariants.{Blank, Begins, Wide}
 use Rattle.vax_lex.proofs.Canonical.{name_short, label_short}
 
 fits_if : (bytes : List ℕ) (t : Bool) (x y : Head) → (t ≡ true → HeadFits bytes x) → (t ≡ false → HeadFits bytes y) → HeadFits bytes (cond t x y)

@@ -1,7 +1,10 @@
 -- One step of a scan, and what has been scanned before it.
-use Rattle.std.proofs.Common.{◌≡◌, ◌<◌, ◌≤◌, ℕ, zero, suc, ◌+◌, ◌-◌, Bool, true, cond, List, [], ◌∷◌, ◌++◌, length, take, drop, Result, Ok, Err, refl, ap, arith, ◌∙◌, append_assoc, sym, subst}
-use Rattle.std.proofs.lemmas.List.{take_rest, drop-drop, length-drop, append-nil}
-use Rattle.vax_lex.specs.Tokens.{HeadFits, IsTokenOf, head_of, tokens_from, tokens_of, with_first}
+use Rattle.std.proofs.Common.{◌≡◌, ◌<◌, ◌≤◌, ℕ, zero, suc, ◌+◌, ◌-◌, Bool, true, cond, List, [], ◌∷◌, ◌++◌, length, get_or, take, drop, Result, Ok, Err, refl, ap, arith, ◌∙◌, append_assoc, sym, subst}
+use Rattle.std.specs.Prelude.{All, AllPairs}
+use Rattle.std.proofs.lemmas.List.Elements.{All-push}
+use Rattle.std.proofs.lemmas.List.Quantifiers.{all_pairs_push}
+use Rattle.std.proofs.lemmas.List.{take_rest, drop-drop, length-drop}
+use Rattle.vax_lex.specs.Tokens.{HeadFits, IsTokenOf, Precedes, head_of, tokens_from, tokens_of, with_first}
 use Rattle.vax_lex.proofs.Heads.{head_fits}
 use Rattle.vax_lex.specs.Statements.{context_after, context_after_blank, line_start}
 use Rattle.vax_lex.specs.declared.token.Token.{Token}
@@ -135,3 +138,16 @@ start_at items c line e i = rw e (rw i (with_front-nil (tokens_from line_start 0
 -- a push that succeeded
 pub pushed : (items front : List Token) (t : Token) (ok : Bool) → items ≡ cond ok (front ++ t ∷ []) front → ok ≡ true → items ≡ front ++ t ∷ []
 pushed items front t ok e i = rw i at e
+
+-- the token ends by this byte
+abbrev pub EndsBy : ℕ → Token → Type 0
+EndsBy at t = t.end ≤ at
+
+pub ends_later : (front : List Token) (at further : ℕ) → at ≤ further → All (EndsBy at) front → All (EndsBy further) front
+ends_later front at further h f k d i = let before : (get_or front k d).end ≤ at = f k d i in omega arith
+
+pub ends_push : (front : List Token) (kind : TokenKind) (at n : ℕ) → All (EndsBy at) front → All (EndsBy (at + n)) (front ++ token kind at n ∷ [])
+ends_push front kind at n f = All-push (EndsBy (at + n)) front (token kind at n) (ends_later front at (at + n) (omega arith) f) (omega arith)
+
+pub in_order_push : (front : List Token) (kind : TokenKind) (at n : ℕ) → AllPairs Precedes front → All (EndsBy at) front → AllPairs Precedes (front ++ token kind at n ∷ [])
+in_order_push front kind at n p f = all_pairs_push Precedes front (token kind at n) p (λ k d h. f k d h)

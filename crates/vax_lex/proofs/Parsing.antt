@@ -1,14 +1,13 @@
 -- What a reader of terms has read, from what stands at its places.
-use Rattle.std.proofs.Common.{◌≡◌, ◌≢◌, ◌<◌, ◌≤◌, ℕ, zero, suc, ◌+◌, Bool, true, false, List, [], ◌∷◌, length, drop, Option, Some, None, Result, Ok, Err, refl, ap, arith, ◌∙◌, sym, subst, inl, inr, ⊎_elim}
-use Rattle.std.specs.Prelude.{slice_get, ◌⊎◌, ◌||◌, ◌==◌}
+use Rattle.std.proofs.Common.{◌≡◌, ◌≢◌, ◌<◌, ◌≤◌, ℕ, ◌+◌, Bool, true, false, List, [], ◌∷◌, length, drop, Option, Some, None, Result, Ok, Err, refl, ap, arith, ◌∙◌, sym, inl, inr, ⊎_elim}
+use Rattle.std.specs.Prelude.{slice_get, ◌⊎◌}
 use Rattle.std.proofs.lemmas.List.{drop_all, length-drop}
-use Rattle.std.proofs.lemmas.Bool.Decides.{nat_tests}
 use Rattle.std.specs.Int.{w64, cast_signed}
 use Rattle.vax_lex.specs.Characters.{canonical_name}
 use Rattle.vax_lex.specs.Tokens.{token_text}
 use Rattle.vax_lex.specs.Values.{characters_value, mask_bit, combine, negated, complemented, named}
-use Rattle.vax_lex.specs.Grammar.{Symbol, number, name, characters, mark, characters_in, symbol, symbol_of, symbols_of, is_that_mark, operator_in, operator_of, operator_mark, names_then, term_then, joined_then, Term, constant, named_by, quoted, mask, plus, minus, complement, bracketed, Joined, finish, joined, with_bit, mask_with, mask_outcome, mask_value, term_value, joined_value, Expression, spelling, value_of, Evaluates}
-use Rattle.vax_lex.specs.Reading.{NoTerm, TermIs, ReadsTerm, NotOperator, NoExpression, ExpressionIs, ReadsExpression, NoNames, NamesAre, ReadsNames, ReadsQuoted, ReadsMask}
+use Rattle.vax_lex.specs.Grammar.{Symbol, number, name, characters, mark, characters_in, symbol, symbol_of, symbols_of, is_that_mark, operator_in, operator_mark, names_then, term_then, joined_then, Term, constant, named_by, quoted, mask, plus, minus, complement, bracketed, Joined, finish, joined, with_bit, mask_outcome, mask_value, term_value, joined_value, Expression, spelling, value_of, Evaluates}
+use Rattle.vax_lex.specs.Reading.{NoTerm, ReadsTerm, NotOperator, ReadsExpression, ReadsNames, ReadsQuoted, ReadsMask}
 use Rattle.vax_lex.specs.declared.expression.Read.{Read}
 use Rattle.vax_lex.specs.declared.token.Token.{Token}
 use Rattle.vax_lex.specs.declared.token.TokenKind.{TokenKind}

@@ -1,13 +1,13 @@
 -- What stands at a place of the tokens, as symbols.
 use Rattle.std.proofs.Common.{◌≡◌, ◌≢◌, ◌<◌, ◌≤◌, ℕ, zero, suc, ◌+◌, Bool, true, false, List, [], ◌∷◌, length, drop, Option, Some, None, refl, ap, arith, ◌∙◌, sym, subst}
-use Rattle.std.specs.Prelude.{slice_get, map, All, ◌==◌}
+use Rattle.std.specs.Prelude.{slice_get, All}
 use Rattle.std.specs.Bool.{MatchBool}
 use Rattle.std.proofs.lemmas.List.{length-map}
 use Rattle.std.proofs.lemmas.Bool.Decides.{nat_tests}
 use Rattle.vax_lex.specs.Statements.{is_mark}
 use Rattle.vax_lex.specs.Tokens.{token_text, IsTokenOf, KindFits}
 use Rattle.vax_lex.specs.Characters.{canonical_name}
-use Rattle.vax_lex.specs.Grammar.{Symbol, number, name, characters, mark, symbol, symbol_of, symbols_of, is_that_mark, operator_in, operator_of, operator_of_mark, operator_mark}
+use Rattle.vax_lex.specs.Grammar.{Symbol, number, name, mark, symbol, symbol_of, symbols_of, is_that_mark, operator_in, operator_of, operator_of_mark, operator_mark}
 use Rattle.vax_lex.specs.Reading.{NotOperator}
 use Rattle.vax_lex.specs.declared.token.Token.{Token}
 use Rattle.vax_lex.specs.declared.token.TokenKind.{TokenKind}

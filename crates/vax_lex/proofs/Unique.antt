@@ -1,5 +1,5 @@
 -- Symbols spell one term at most, and its length is seen from its front.
-use Rattle.std.proofs.Common.{◌≡◌, ◌≢◌, ◌<◌, ◌≤◌, ℕ, zero, suc, ◌+◌, Bool, true, false, List, [], ◌∷◌, length, refl, ap, arith, ◌∙◌, sym}
+use Rattle.std.proofs.Common.{◌≡◌, ℕ, List, [], ◌∷◌, refl, ap, arith, sym}
 use Rattle.vax_lex.specs.Grammar.{Symbol, number, name, characters, mark, Term, constant, named_by, quoted, mask, plus, minus, complement, bracketed, Joined, finish, joined, operator_mark, names_then, term_then, joined_then}
 use Rattle.vax_lex.specs.Reading.{NotOperator}
 use Rattle.vax_lex.specs.declared.value.Binary.{Binary}

@@ -1,6 +1,6 @@
 -- What is read of an expression from one of its symbols on.
-use Rattle.std.specs.Prelude.{◌≡◌, ℕ, ◌<◌, ◌≤◌, List, [], ◌∷◌, length, drop, Option, Some, None, Result}
-use Rattle.vax_lex.specs.Grammar.{Symbol, number, name, characters, mark, Term, Joined, operator_mark, term_then, joined_then, names_then, term_value, joined_value, mask_with, mask_outcome, mask_value}
+use Rattle.std.specs.Prelude.{◌≡◌, ℕ, ◌<◌, ◌≤◌, List, ◌∷◌, length, drop, Option, Some, None, Result}
+use Rattle.vax_lex.specs.Grammar.{Symbol, characters, mark, Term, Joined, operator_mark, term_then, joined_then, names_then, term_value, joined_value, mask_with, mask_outcome, mask_value}
 use Rattle.vax_lex.specs.Values.{characters_value}
 use Rattle.vax_lex.specs.declared.value.Value.{Value}
 use Rattle.vax_lex.specs.declared.value.ExprError.{ExprError}

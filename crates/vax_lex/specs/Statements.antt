@@ -1,7 +1,6 @@
 -- The parts of a statement, as far as they decide where a quoted text may stand (VAX MACRO and Instruction Set
 -- Reference Manual, "Components of MACRO source statements" and the directives `.ASCII` and `.IIF`).
-use Rattle.std.specs.Prelude.{ℕ, zero, suc, ◌+◌, ◌-◌, Bool, true, false, not, ◌&&◌, ◌||◌, ◌==◌, nat_le, List, [], ◌∷◌, if◌then◌else◌, codes}
-use Rattle.std.specs.Char.{to_ascii_uppercase}
+use Rattle.std.specs.Prelude.{ℕ, zero, suc, ◌+◌, ◌-◌, Bool, true, false, not, ◌&&◌, ◌||◌, ◌==◌, nat_le, List, if◌then◌else◌, codes}
 use Rattle.vax_lex.specs.Characters.{is_delimiter, spells}
 use Rattle.vax_lex.specs.declared.token.TokenKind.{TokenKind}
 use Rattle.vax_lex.specs.declared.token.TokenKind.TheVariants.{Name, Number, Mark, Text}

@@ -1,6 +1,6 @@
 -- The tokens of a line (VAX MACRO and Instruction Set Reference Manual, "Components of MACRO source statements",
 -- "Symbols", "Numbers" and "ASCII operator"): each is the longest that begins at its place.
-use Rattle.std.specs.Prelude.{◌≡◌, ℕ, zero, suc, ◌+◌, ◌-◌, ◌^◌, ◌<◌, ◌≤◌, min, Bool, true, false, not, ◌&&◌, ◌||◌, ◌==◌, nat_lt, nat_le, List, [], ◌∷◌, length, take, drop, position, Option, Some, None, Result, Ok, Err, Vec, if◌then◌else◌}
+use Rattle.std.specs.Prelude.{◌≡◌, ℕ, zero, suc, ◌+◌, ◌-◌, ◌^◌, ◌<◌, ◌≤◌, min, Bool, false, ◌&&◌, ◌||◌, ◌==◌, nat_lt, nat_le, List, [], ◌∷◌, length, take, drop, position, Option, Some, None, Result, Ok, Err, Vec, if◌then◌else◌}
 use Rattle.std.specs.List.{prefix_len}
 use Rattle.std.specs.Char.{is_ascii_graphic, to_ascii_uppercase}
 use Rattle.vax_lex.specs.Characters.{is_blank, is_digit, is_name_character, radix_of, number_of, canonical_name}
@@ -125,6 +125,10 @@ pub record IsTokenOf (line : List ℕ) (t : Token) : Type 0 where
   pub some : t.start < t.end
   pub within : t.end ≤ length line
   pub kind : KindFits t.kind (token_text line t)
+
+-- s ends before t begins
+abbrev pub Precedes : Token → Token → Type 0
+Precedes s t = s.end ≤ t.start
 
 -- what a line begins with lies within the line
 abbrev pub HeadFits : List ℕ → Head → Type 0

@@ -1,7 +1,7 @@
 // The tokens of a line.
 
-ghost use Rattle.std.specs.Prelude.{◌≡◌, ◌≤◌, length, All, IfOk};
-ghost use Rattle.vax_lex.specs.Tokens.{tokens_of, Answers, IsTokenOf};
+ghost use Rattle.std.specs.Prelude.{◌≡◌, ◌≤◌, length, All, AllPairs, IfOk};
+ghost use Rattle.vax_lex.specs.Tokens.{tokens_of, Answers, IsTokenOf, Precedes};
 
 use crate::context::Context;
 use crate::head::{Head, head_of};
@@ -20,6 +20,8 @@ pub fn scan(alloc: Global, line: &[u8]) -> Result<Vec<Token>, LexError>
     ensures exact { Answers result (tokens_of line.now) }
     // Each token lies within the line.
     ensures within { IfOk result (λ v. All (IsTokenOf line.now) v.items) }
+    // No token begins before one before it ends.
+    ensures in_order { IfOk result (λ v. AllPairs Precedes v.items) }
 {
     let mut tokens = Vec::new(alloc);
     let mut context = Context::line_start();

@@ -1,11 +1,10 @@
-use Rattle.std.proofs.Common.{arith, rules, sym, ap, subst, ◌∙◌, ◌≡◌, ◌≢◌, ◌+◌, Option, Some, None, Bool, true, false, Ok}
-use Rattle.std.specs.Bool.{MatchBool}
+use Rattle.std.proofs.Common.{sym, ap, subst, ◌∙◌, ◌+◌, Option}
 use Rattle.vax_lex.specs.Grammar.{symbols_of}
 use Rattle.vax_lex.specs.Values.{named}
 use Rattle.vax_lex.specs.Reading.{ReadsTerm, ReadsExpression}
 use Rattle.vax_lex.specs.declared.expression.Read.{Read}
-use Rattle.vax_lex.proofs.Symbols.{token_within, token_stands, mark_stands, kind_mark, number_stands, spelled_stands, word_yes, word_no}
-use Rattle.vax_lex.proofs.Parsing.{name_stands, constant_read, named_read, no_term_nothing, plus_read, minus_read, no_minus, complement_read, no_complement, quoted_read, mask_read, no_letter, no_letter_kind, no_letter_other, no_term_other, no_term_mark, begins_term, bracket_read, no_bracket, no_bracket_end, so_far_begin, so_far_more, so_far_none, so_far_end, no_first}
+use Rattle.vax_lex.proofs.Symbols.{token_within, mark_stands, kind_mark, number_stands, spelled_stands, word_yes, word_no}
+use Rattle.vax_lex.proofs.Parsing.{name_stands, constant_read, named_read, no_term_nothing, plus_read, minus_read, no_minus, complement_read, no_complement, quoted_read, mask_read, no_letter, no_letter_kind, no_letter_other, no_term_other, no_term_mark, begins_term, bracket_read, no_bracket, no_bracket_end, so_far_begin, so_far_more, so_far_none, so_far_end}
 use Rattle.vax_lex.proofs.expression.+expression.Goals as goal
 
 pub bracketed-returns-in_default : goal.bracketed-returns-in_default

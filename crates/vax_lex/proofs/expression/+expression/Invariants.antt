@@ -1,6 +1,5 @@
-use Rattle.std.proofs.Common.{◌≡◌, ◌≤◌, ◌<◌, ◌+◌, ◌*◌, ◌-◌, ℕ, List, length, drop}
-use Rattle.vax_lex.specs.Grammar.{Symbol, Term, Joined, symbols_of, term_then, joined_then, term_value, joined_value}
-use Rattle.vax_lex.specs.Reading.{NotOperator}
+use Rattle.std.proofs.Common.{◌+◌, ◌*◌, ◌-◌, length}
+use Rattle.vax_lex.specs.Grammar.{symbols_of}
 use Rattle.vax_lex.proofs.Parsing.{SoFar}
 use Rattle.vax_lex.proofs.expression.+expression.Given as goal
 

@@ -1,4 +1,4 @@
-use Rattle.std.proofs.Common.{arith, sym, ap, subst, ◌∙◌, ◌≡◌, ◌+◌, ℕ, Option}
+use Rattle.std.proofs.Common.{sym, ap, subst, ◌∙◌, ◌+◌, ℕ, Option}
 use Rattle.vax_lex.specs.Grammar.{with_bit, mask_outcome, symbols_of}
 use Rattle.vax_lex.specs.Reading.{ReadsNames}
 use Rattle.vax_lex.specs.Values.{mask_bit}

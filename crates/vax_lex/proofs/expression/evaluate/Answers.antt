@@ -1,5 +1,5 @@
-use Rattle.std.proofs.Common.{sym, ap, subst, ◌∙◌, ◌≡◌, Option, Some, None, Err}
-use Rattle.vax_lex.specs.Grammar.{symbols_of, Evaluates}
+use Rattle.std.proofs.Common.{subst, Option}
+use Rattle.vax_lex.specs.Grammar.{symbols_of}
 use Rattle.vax_lex.specs.Reading.{ReadsExpression}
 use Rattle.vax_lex.specs.declared.expression.Read.{Read}
 use Rattle.vax_lex.proofs.Parsing.{whole_read, not_whole, not_read, only_reading}

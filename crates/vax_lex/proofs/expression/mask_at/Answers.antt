@@ -1,4 +1,4 @@
-use Rattle.std.proofs.Common.{arith, sym, ap, ◌∙◌, ◌+◌}
+use Rattle.std.proofs.Common.{sym, ◌∙◌, ◌+◌}
 use Rattle.vax_lex.proofs.Symbols.{mark_stands}
 use Rattle.vax_lex.proofs.Parsing.{mask_empty, mask_some, no_mask}
 use Rattle.vax_lex.proofs.expression.mask_at.Goals as goal

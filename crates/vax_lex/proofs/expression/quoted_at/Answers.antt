@@ -1,6 +1,5 @@
-use Rattle.std.proofs.Common.{arith, sym, ap, ◌∙◌}
+use Rattle.std.proofs.Common.{sym, ap, ◌∙◌}
 use Rattle.vax_lex.specs.Values.{characters_value}
-use Rattle.vax_lex.proofs.Symbols.{token_within}
 use Rattle.vax_lex.proofs.Parsing.{text_read, no_text_nothing, no_text_kind}
 use Rattle.vax_lex.proofs.expression.quoted_at.Goals as goal
 

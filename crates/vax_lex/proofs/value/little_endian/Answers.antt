@@ -1,4 +1,4 @@
-use Rattle.std.proofs.Common.{arith, ◌<◌}
+use Rattle.std.proofs.Common.{arith}
 use Rattle.vax_lex.proofs.Bytes.{byte_fits}
 use Rattle.vax_lex.proofs.value.little_endian.Goals as goal
 
