@@ -1,0 +1,11 @@
+pub mod Bytes
+pub mod Canonical
+pub mod Depth
+pub mod Heads
+pub mod Lines
+pub mod Parsing
+pub mod Quotients
+pub mod Runs
+pub mod Spelling
+pub mod Symbols
+pub mod Unique

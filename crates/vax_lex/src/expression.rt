@@ -1,0 +1,362 @@
+// The value of an expression.
+
+ghost use Rattle.std.specs.Prelude.{◌≡◌, ◌≤◌, ◌<◌, ◌+◌, ◌^◌, All, Some, None, Ok, true, IfSome, slice_get, length, take};
+ghost use Rattle.std.specs.Bool.{OnTrue};
+ghost use Rattle.std.specs.Int.{cast_signed, w64};
+ghost use Rattle.vax_lex.specs.Characters.{canonical_name};
+ghost use Rattle.vax_lex.specs.Tokens.{IsTokenOf, token_text};
+ghost use Rattle.vax_lex.specs.Grammar.{Evaluates, characters_in, Expression, spelling, value_of, symbols_of, with_bit, mask_outcome, is_that_mark, operator_in, operator_of};
+ghost use Rattle.vax_lex.specs.Statements.{is_mark};
+ghost use Rattle.vax_lex.specs.Reading.{ReadsMask, ReadsQuoted, ReadsTerm, ReadsExpression, ReadsNames};
+
+use crate::character::is_word;
+use crate::name::CanonicalName;
+use crate::token::{Token, TokenKind};
+use crate::value::{
+    Binary, ExprError, Names, Outcome, Value, characters_value, combine, complemented, mask_bit,
+    named, negated,
+};
+
+/// What has been read: its value or error, and the place of the first token behind it.
+#[derive(Drop)]
+struct Read {
+    answer: Outcome,
+    end: usize,
+}
+
+/// The token at a place, if there is one.
+fn token_at(tokens: &[Token], at: usize) -> Option<Token>
+    ensures value { result ≡ slice_get tokens.now at }
+    ensures room { IfSome result (λ t. at < length tokens.now) }
+    ensures small { IfSome result (λ t. at + 2 < 2 ^ 64) }
+{
+    if at < tokens.len() {
+        Some(tokens[at])
+    } else {
+        None
+    }
+}
+
+/// The operator between two terms that a token is.
+fn operator_of(kind: TokenKind) -> Option<Binary>
+    ensures { result ≡ operator_of kind }
+{
+    match kind {
+        TokenKind::Mark(b'+') => Some(Binary::Add),
+        TokenKind::Mark(b'-') => Some(Binary::Subtract),
+        TokenKind::Mark(b'*') => Some(Binary::Multiply),
+        TokenKind::Mark(b'/') => Some(Binary::Divide),
+        TokenKind::Mark(b'@') => Some(Binary::Shift),
+        TokenKind::Mark(b'&') => Some(Binary::And),
+        TokenKind::Mark(b'!') => Some(Binary::Or),
+        TokenKind::Mark(b'\\') => Some(Binary::ExclusiveOr),
+        _ => None,
+    }
+}
+
+/// Whether a token is this mark.
+fn is_mark(kind: TokenKind, mark: u8) -> bool
+    ensures { result ≡ is_mark mark kind }
+{
+    match kind {
+        TokenKind::Mark(found) => found == mark,
+        _ => false,
+    }
+}
+
+/// The bytes of a token.
+fn text_of(line: &[u8], token: Token) -> &[u8]
+    requires { IsTokenOf line.now token }
+    ensures { result.now ≡ token_text line.now token }
+{
+    &line[token.start as usize..token.end as usize]
+}
+
+/// A name as it is kept.
+#[tactic(auto, using(crate::proofs::Symbols::name_fits))]
+fn name_of(line: &[u8], token: Token) -> CanonicalName
+    requires within { IsTokenOf line.now token }
+    requires kind { token.kind ≡ TokenKind.Name }
+    ensures { take result.length result.bytes ≡ canonical_name (token_text line.now token) }
+{
+    CanonicalName::of(text_of(line, token))
+}
+
+/// The characters between the delimiters of a text.
+#[tactic(auto, using(crate::proofs::Symbols::text_fits))]
+fn characters_of(line: &[u8], token: Token) -> &[u8]
+    requires within { IsTokenOf line.now token }
+    requires kind { token.kind ≡ TokenKind.Text }
+    ensures { result.now ≡ characters_in (token_text line.now token) }
+{
+    let text = text_of(line, token);
+    &text[1..text.len() - 1]
+}
+
+/// Whether this mark stands at a place.
+fn is_mark_at(tokens: &[Token], at: usize, mark: u8) -> bool
+    ensures value { result ≡ is_that_mark mark (slice_get tokens.now at) }
+    ensures room { OnTrue result (at < length tokens.now) }
+    ensures small { OnTrue result (at + 2 < 2 ^ 64) }
+{
+    match token_at(tokens, at) {
+        Some(token) => is_mark(token.kind, mark),
+        None => false,
+    }
+}
+
+/// The operator that stands at a place, if there is one.
+fn operator_at(tokens: &[Token], at: usize) -> Option<Binary>
+    ensures value { result ≡ operator_in (slice_get tokens.now at) }
+    ensures room { IfSome result (λ o. at < length tokens.now) }
+    ensures small { IfSome result (λ o. at + 2 < 2 ^ 64) }
+{
+    match token_at(tokens, at) {
+        Some(token) => operator_of(token.kind),
+        None => None,
+    }
+}
+
+/// A mask and one more bit, if both are known.
+fn with_bit(mask: Option<u16>, bit: Option<u8>) -> Option<u16>
+    requires { IfSome bit (λ b. b < 16) }
+    ensures { result ≡ with_bit mask bit }
+{
+    match (mask, bit) {
+        (Some(mask), Some(bit)) => Some(mask | 1 << bit),
+        _ => None,
+    }
+}
+
+/// The value of a mask.
+fn mask_outcome(mask: Option<u16>) -> Outcome
+    ensures { result ≡ mask_outcome mask }
+{
+    match mask {
+        Some(mask) => Ok(Value::Absolute(i64::from(mask))),
+        None => Err(ExprError::Form),
+    }
+}
+
+/// The names of a register mask from a place on and the bracket behind them. The mask has the bits of the names
+/// before them, or is none where one of those is no register.
+fn names_from(line: &[u8], tokens: &[Token], at: usize, mask: Option<u16>) -> Option<Read>
+    requires { All (IsTokenOf line.now) tokens.now }
+    ensures { ReadsNames mask (symbols_of line.now tokens.now) at result }
+{
+    let Some(token) = token_at(tokens, at) else {
+        return None;
+    };
+    let TokenKind::Name = token.kind else {
+        return None;
+    };
+    let name = name_of(line, token);
+    let mask = with_bit(mask, mask_bit(name.as_bytes()));
+    if is_mark_at(tokens, at + 1, b',') {
+        names_from(line, tokens, at + 2, mask)
+    } else if is_mark_at(tokens, at + 1, b'>') {
+        Some(Read {
+            answer: mask_outcome(mask),
+            end: at + 2,
+        })
+    } else {
+        None
+    }
+}
+
+/// The mask behind `^M`.
+fn mask_at(line: &[u8], tokens: &[Token], at: usize) -> Option<Read>
+    requires { All (IsTokenOf line.now) tokens.now }
+    ensures { ReadsMask (symbols_of line.now tokens.now) at result }
+{
+    if !is_mark_at(tokens, at, b'<') {
+        None
+    } else if is_mark_at(tokens, at + 1, b'>') {
+        Some(Read {
+            answer: mask_outcome(Some(0)),
+            end: at + 2,
+        })
+    } else {
+        names_from(line, tokens, at + 1, Some(0))
+    }
+}
+
+/// The text behind `^A`.
+fn quoted_at(line: &[u8], tokens: &[Token], at: usize) -> Option<Read>
+    requires { All (IsTokenOf line.now) tokens.now }
+    ensures { ReadsQuoted (symbols_of line.now tokens.now) at result }
+{
+    let Some(token) = token_at(tokens, at) else {
+        return None;
+    };
+    match token.kind {
+        TokenKind::Text => {
+            Some(Read {
+                answer: characters_value(characters_of(line, token)),
+                end: at + 1,
+            })
+        }
+        _ => None,
+    }
+}
+
+/// The term that begins with a `^`.
+#[cycle(expression)]
+fn operated<N: Names>(line: &[u8], tokens: &[Token], names: &N, at: usize) -> Option<Read>
+    requires tokens { All (IsTokenOf line.now) tokens.now }
+    requires caret { is_that_mark 94 (slice_get tokens.now at) ≡ true }
+    ensures { ReadsTerm (N.entries names.now) (symbols_of line.now tokens.now) at result }
+{
+    let Some(token) = token_at(tokens, at + 1) else {
+        return None;
+    };
+    let TokenKind::Name = token.kind else {
+        return None;
+    };
+    let name = name_of(line, token);
+    if is_word(name.as_bytes(), b"C") {
+        let Some(read) = term(line, tokens, names, at + 2) else {
+            return None;
+        };
+        Some(Read {
+            answer: complemented(read.answer),
+            end: read.end,
+        })
+    } else if is_word(name.as_bytes(), b"A") {
+        quoted_at(line, tokens, at + 2)
+    } else if is_word(name.as_bytes(), b"M") {
+        mask_at(line, tokens, at + 2)
+    } else {
+        None
+    }
+}
+
+/// The expression in brackets that begins with a `<`.
+#[cycle(expression)]
+fn bracketed<N: Names>(line: &[u8], tokens: &[Token], names: &N, at: usize) -> Option<Read>
+    requires tokens { All (IsTokenOf line.now) tokens.now }
+    requires bracket { is_that_mark 60 (slice_get tokens.now at) ≡ true }
+    ensures { ReadsTerm (N.entries names.now) (symbols_of line.now tokens.now) at result }
+{
+    let Some(read) = expression(line, tokens, names, at + 1) else {
+        return None;
+    };
+    if is_mark_at(tokens, read.end, b'>') {
+        Some(Read {
+            answer: read.answer,
+            end: read.end + 1,
+        })
+    } else {
+        None
+    }
+}
+
+/// The value of a number.
+fn constant(number: u64) -> Outcome
+    ensures { result ≡ Ok (Value.Absolute (cast_signed w64 number)) }
+{
+    Ok(Value::Absolute(number.cast_signed()))
+}
+
+/// The term that begins with a mark.
+#[cycle(expression)]
+fn marked<N: Names>(line: &[u8], tokens: &[Token], names: &N, at: usize, mark: u8) -> Option<Read>
+    requires tokens { All (IsTokenOf line.now) tokens.now }
+    requires mark { is_that_mark mark (slice_get tokens.now at) ≡ true }
+    requires room { at < length tokens.now }
+    ensures { ReadsTerm (N.entries names.now) (symbols_of line.now tokens.now) at result }
+{
+    if mark == b'+' {
+        term(line, tokens, names, at + 1)
+    } else if mark == b'-' {
+        let Some(read) = term(line, tokens, names, at + 1) else {
+            return None;
+        };
+        Some(Read {
+            answer: negated(read.answer),
+            end: read.end,
+        })
+    } else if mark == b'<' {
+        bracketed(line, tokens, names, at)
+    } else if mark == b'^' {
+        operated(line, tokens, names, at)
+    } else {
+        None
+    }
+}
+
+/// The term that begins at a place.
+#[cycle(expression)]
+fn term<N: Names>(line: &[u8], tokens: &[Token], names: &N, at: usize) -> Option<Read>
+    requires { All (IsTokenOf line.now) tokens.now }
+    ensures { ReadsTerm (N.entries names.now) (symbols_of line.now tokens.now) at result }
+{
+    let Some(token) = token_at(tokens, at) else {
+        return None;
+    };
+    match token.kind {
+        TokenKind::Number(number) => Some(Read {
+            answer: constant(number),
+            end: at + 1,
+        }),
+        TokenKind::Name => {
+            let name = name_of(line, token);
+            Some(Read {
+                answer: named(names, name.as_bytes()),
+                end: at + 1,
+            })
+        }
+        TokenKind::Mark(mark) => marked(line, tokens, names, at, mark),
+        TokenKind::Text => None,
+    }
+}
+
+/// The expression that begins at a place, as far as operators join terms to it.
+#[cycle(expression)]
+fn expression<N: Names>(line: &[u8], tokens: &[Token], names: &N, at: usize) -> Option<Read>
+    requires { All (IsTokenOf line.now) tokens.now }
+    ensures { ReadsExpression (N.entries names.now) (symbols_of line.now tokens.now) at result }
+{
+    let Some(first) = term(line, tokens, names, at) else {
+        return None;
+    };
+    let mut answer = first.answer;
+    let mut end = first.end;
+    while let Some(operator) = operator_at(tokens, end) {
+        let Some(right) = term(line, tokens, names, end + 1) else {
+            return None;
+        };
+        answer = combine(operator, answer, right.answer);
+        end = right.end;
+    }
+    Some(Read { answer, end })
+}
+
+/// The value of the expression that tokens of a line spell.
+///
+/// Its terms are numbers, names, `^A/text/`, `^M<R2,R3>`, terms behind `+`, `-` and `^C`, and expressions in `< >`.
+/// The operators `+ - * / @ & ! \` between terms have equal rank and apply from left to right; values have 64 bits
+/// and wrap. A relocatable or external value may be added to an absolute one, an absolute one may be taken from it,
+/// and two places of one section may be subtracted. (VAX MACRO and Instruction Set Reference Manual, "Terms and
+/// expressions".)
+///
+/// [`ExprError::Form`] where the tokens spell no expression or a value takes part where it may not,
+/// [`ExprError::Unknown`] where a name has no value, [`ExprError::Range`] at a division by 0; of several the first
+/// in this order.
+pub fn evaluate<N: Names>(line: &[u8], tokens: &[Token], names: &N) -> Result<Value, ExprError>
+    // The tokens are some of those that `scan` gives for the line.
+    requires { All (IsTokenOf line.now) tokens.now }
+    // The answer is the value of an expression that they spell, or they spell none.
+    ensures exact { Evaluates (N.entries names.now) (symbols_of line.now tokens.now) result }
+    // They spell no other expression.
+    ensures only { (e : Expression) → spelling e ≡ symbols_of line.now tokens.now → result ≡ value_of (N.entries names.now) e }
+{
+    let Some(read) = expression(line, tokens, names, 0) else {
+        return Err(ExprError::Form);
+    };
+    if read.end == tokens.len() {
+        read.answer
+    } else {
+        Err(ExprError::Form)
+    }
+}

@@ -1,0 +1,22 @@
+//! Tokens and expressions of the MACRO-32 assembler.
+//!
+//! [`scan`] cuts a line into its tokens, and [`evaluate`] finds the value of an expression among them.
+//! The rules are those of the VAX MACRO and Instruction Set Reference Manual, "Components of MACRO
+//! source statements", in the profile that docs/DECISIONS.md describes.
+#![tactic(auto)]
+
+mod character;
+mod context;
+mod expression;
+mod head;
+mod line;
+mod name;
+#[cfg(test)]
+mod tests;
+mod token;
+mod value;
+
+pub use expression::evaluate;
+pub use line::scan;
+pub use token::{LexError, Token, TokenKind};
+pub use value::{ExprError, Names, Value};
