@@ -1,0 +1,3 @@
+mod Lists
+mod Widths
+pub mod Laws
