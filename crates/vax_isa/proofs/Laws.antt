@@ -99,7 +99,7 @@ all_formed k d inside =
       capitals = All-agree (λ i. map to_ascii_uppercase i.name) (λ i. i.name) instructions all_capitals k d inside;
       count = counted;
       places = places_of i.operands counted;
-      kinds = kinds_of i.operands (replicate (6 - length i.operands) no_operand) (all_kinds k d inside)
+      kinds = kinds_of i.operands (replicate (6 - length i.operands) no_operand) (all_kinds k d inside);
     }
 
 -- what is found has the opcode and is formed
@@ -121,7 +121,7 @@ formed_with_name text = IfSome-find (λ i. IsFormed (row_of i)) (λ i. is_one_of
 pub slot_row : (slots : List (Option Entry)) → map (option_map entry_row) slots ≡ map row_at (counted 0 256) → (code : ℕ) (slot : Option Entry) → code < 256 → slice_index_or slots code None ≡ slot → option_map entry_row slot ≡ row_at code
 slot_row slots listed code slot inside is =
     subst (λ (s : Option Entry). option_map entry_row s ≡ row_at code) is
-      (at_counted (option_map entry_row) row_at slots 0 256 listed code None inside ∙ ap row_at (zero-add code))
+    (at_counted (option_map entry_row) row_at slots 0 256 listed code None inside ∙ ap row_at (zero-add code))
 
 pub row_first_named : (slots : List (Option Entry)) → map entry_listing (entries slots) ≡ map listing_of instructions → (text : List ℕ) → option_map entry_row (first_named slots text) ≡ option_map row_of (with_name text)
 unfolding with_name

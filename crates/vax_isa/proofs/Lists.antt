@@ -29,7 +29,7 @@ pub find_map : {X Y Z : Type 0} (f : X → Y) (value : Y → Z) (p : Y → Bool)
 find_map f value p [] = refl
 find_map f value p (x ∷ xs) =
     elim (p (f x)) as (λ b. option_map (λ x. value (f x)) (cond b (Some x) (find (λ x. p (f x)) xs)) ≡ option_map value (cond b (Some (f x)) (find p (map f xs))))
-      [ true ↦ refl | false ↦ find_map f value p xs ]
+    [ true ↦ refl | false ↦ find_map f value p xs ]
 
 -- an element that is found passes the test and is one of the list's
 pub IfSome-find : {X : Type 0} (P : X → Type 0) (p : X → Bool) (xs : List X) → All (λ x. p x ≡ true → P x) xs → IfSome (find p xs) P

@@ -31,5 +31,5 @@ kind_ok-IsKind kind e =
     let parts : (width_ok kind.width ≡ true) × (branch_ok kind.letter kind.width ≡ true) = both _ _ e in
     record {
       width = width_ok-IsWidth kind.width parts.0;
-      branch = λ is. branch_ok-IsBranchWidth kind.width (subst (λ (letter : Letter). branch_ok letter kind.width ≡ true) is parts.1)
+      branch = λ is. branch_ok-IsBranchWidth kind.width (subst (λ (letter : Letter). branch_ok letter kind.width ≡ true) is parts.1);
     }

@@ -1,11 +1,14 @@
 //! The instruction set: the kinds of operands and the table of the instructions
 //! (VAX Architecture Reference Manual, instruction set).
 #![tactic(auto)]
+
 ghost use Rattle.std.specs.Prelude.{◌≡◌, All, IfSome, IsTrue, option_map};
 ghost use Rattle.vax_isa.specs.Instructions.{instructions};
 ghost use Rattle.vax_isa.specs.Rows.{plain, row_of, with_opcode, with_name, is_one_of, names_of, IsFormed};
 
 mod table;
+#[cfg(test)]
+mod tests;
 
 /// What an instruction does with an operand (VAX MACRO and Instruction Set Reference Manual, operand specifier notation).
 #[derive(Clone, Copy, Debug, PartialEq, Eq)]
@@ -49,7 +52,7 @@ pub fn by_code(code: u8) -> Option<Row>
     ensures opcode { IfSome result (λ r. r.code ≡ code) }
     ensures formed { IfSome result (λ r. IsFormed (plain r)) }
 {
-    match table::slots()[code as usize] {
+    match &table::slots()[code as usize] {
         Some(entry) => Some(entry.row),
         None => None,
     }

@@ -49,26 +49,100 @@ pub(crate) fn named(slots: &[Option<Entry>], name: &str) -> Option<Row>
     None
 }
 
-const AB: OperandKind = OperandKind { letter: Letter::Address, width: 1 };
-const AW: OperandKind = OperandKind { letter: Letter::Address, width: 2 };
-const AL: OperandKind = OperandKind { letter: Letter::Address, width: 4 };
-const AQ: OperandKind = OperandKind { letter: Letter::Address, width: 8 };
-const BB: OperandKind = OperandKind { letter: Letter::Branch, width: 1 };
-const BW: OperandKind = OperandKind { letter: Letter::Branch, width: 2 };
-const MB: OperandKind = OperandKind { letter: Letter::Modify, width: 1 };
-const MW: OperandKind = OperandKind { letter: Letter::Modify, width: 2 };
-const ML: OperandKind = OperandKind { letter: Letter::Modify, width: 4 };
-const RB: OperandKind = OperandKind { letter: Letter::Read, width: 1 };
-const RW: OperandKind = OperandKind { letter: Letter::Read, width: 2 };
-const RL: OperandKind = OperandKind { letter: Letter::Read, width: 4 };
-const RQ: OperandKind = OperandKind { letter: Letter::Read, width: 8 };
-const VB: OperandKind = OperandKind { letter: Letter::Field, width: 1 };
-const WB: OperandKind = OperandKind { letter: Letter::Write, width: 1 };
-const WW: OperandKind = OperandKind { letter: Letter::Write, width: 2 };
-const WL: OperandKind = OperandKind { letter: Letter::Write, width: 4 };
-const WQ: OperandKind = OperandKind { letter: Letter::Write, width: 8 };
+const AB: OperandKind = OperandKind {
+    letter: Letter::Address,
+    width: 1,
+};
+
+const AW: OperandKind = OperandKind {
+    letter: Letter::Address,
+    width: 2,
+};
+
+const AL: OperandKind = OperandKind {
+    letter: Letter::Address,
+    width: 4,
+};
+
+const AQ: OperandKind = OperandKind {
+    letter: Letter::Address,
+    width: 8,
+};
+
+const BB: OperandKind = OperandKind {
+    letter: Letter::Branch,
+    width: 1,
+};
+
+const BW: OperandKind = OperandKind {
+    letter: Letter::Branch,
+    width: 2,
+};
+
+const MB: OperandKind = OperandKind {
+    letter: Letter::Modify,
+    width: 1,
+};
+
+const MW: OperandKind = OperandKind {
+    letter: Letter::Modify,
+    width: 2,
+};
+
+const ML: OperandKind = OperandKind {
+    letter: Letter::Modify,
+    width: 4,
+};
+
+const RB: OperandKind = OperandKind {
+    letter: Letter::Read,
+    width: 1,
+};
+
+const RW: OperandKind = OperandKind {
+    letter: Letter::Read,
+    width: 2,
+};
+
+const RL: OperandKind = OperandKind {
+    letter: Letter::Read,
+    width: 4,
+};
+
+const RQ: OperandKind = OperandKind {
+    letter: Letter::Read,
+    width: 8,
+};
+
+const VB: OperandKind = OperandKind {
+    letter: Letter::Field,
+    width: 1,
+};
+
+const WB: OperandKind = OperandKind {
+    letter: Letter::Write,
+    width: 1,
+};
+
+const WW: OperandKind = OperandKind {
+    letter: Letter::Write,
+    width: 2,
+};
+
+const WL: OperandKind = OperandKind {
+    letter: Letter::Write,
+    width: 4,
+};
+
+const WQ: OperandKind = OperandKind {
+    letter: Letter::Write,
+    width: 8,
+};
 // what stands past the last operand
-const NO: OperandKind = OperandKind { letter: Letter::Read, width: 0 };
+const NO: OperandKind = OperandKind {
+    letter: Letter::Read,
+    width: 0,
+};
 
 const RESERVED: Option<Entry> = None;
 

@@ -12,7 +12,7 @@ returns-in-Some c =
       row = listed;
       only = only_opcode c.args.code;
       opcode = IfSome-alike plain row_of (λ r. r.code ≡ c.args.code) (Some c.in-Some.entry.row) (with_opcode c.args.code) listed (opcode_found c.args.code);
-      formed = IfSome-alike plain row_of IsFormed (Some c.in-Some.entry.row) (with_opcode c.args.code) listed (formed_with_opcode c.args.code)
+      formed = IfSome-alike plain row_of IsFormed (Some c.in-Some.entry.row) (with_opcode c.args.code) listed (formed_with_opcode c.args.code);
     }
 
 pub returns-in-None : goal.returns-in-None

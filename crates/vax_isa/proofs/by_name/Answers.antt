@@ -7,9 +7,9 @@ use Rattle.vax_isa.proofs.by_name.Goals as goal
 pub returns : goal.returns
 returns c =
     let listed : option_map plain c.named.result ≡ option_map row_of (with_name c.args.name.now) =
-        c.named.ensures ∙ row_first_named c.slots.result.now c.slots.ensures.listed c.args.name.now in
+    c.named.ensures ∙ row_first_named c.slots.result.now c.slots.ensures.listed c.args.name.now in
     record {
       row = listed;
       only = only_name c.args.name.now;
-      formed = IfSome-alike plain row_of IsFormed c.named.result (with_name c.args.name.now) listed (formed_with_name c.args.name.now)
+      formed = IfSome-alike plain row_of IsFormed c.named.result (with_name c.args.name.now) listed (formed_with_name c.args.name.now);
     }
