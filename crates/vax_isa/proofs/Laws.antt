@@ -1,19 +1,18 @@
 -- What the list of the instructions keeps. Each law is computed once over the whole list.
-use Rattle.std.proofs.Common.{◌≡◌, ℕ, ◌+◌, ◌<◌, ◌≤◌, Bool, true, false, ◌||◌, List, [], ◌∷◌, ◌++◌, All, IfSome, Option, Some, None, find, length, map, option_map, refl, sym, ◌∙◌, ap, subst, arith, slice_index_or, replicate, length-append, nat_lt, nat_le, nat_eq, ◌-◌, zero-add}
-use Rattle.std.proofs.lemmas.Bool.{ltb-true, leb-true, eqb-true}
+use Rattle.std.proofs.Common.{◌≡◌, ℕ, ◌<◌, ◌≤◌, Bool, true, false, ◌||◌, List, [], ◌∷◌, ◌++◌, All, IfSome, Option, Some, None, find, length, map, option_map, refl, sym, ◌∙◌, ap, subst, arith, slice_index_or, replicate, length-append, nat_le, nat_eq, ◌-◌, zero-add}
+use Rattle.std.proofs.lemmas.Bool.{leb-true, eqb-true}
 use Rattle.std.proofs.lemmas.List.{get_or_append_left, length-replicate}
 use Rattle.std.proofs.lemmas.List.Sums.{AllPass-from_list_all}
 use Rattle.std.proofs.lemmas.Slice.Eq.{bytes_eq-Decides}
-use Rattle.std.specs.Char.{to_ascii_uppercase}
 use Rattle.std.specs.List.{AllPass, list_all}
 use Rattle.std.specs.Str.{bytes_eq, str_eq_ignore_ascii_case, str_to_ascii_lowercase}
 use Rattle.vax_isa.specs.declared.OperandKind.{OperandKind}
 use Rattle.vax_isa.specs.declared.table.Entry.{Entry}
 use Rattle.vax_isa.specs.Entries.{Listing, counted, entries, entry_listing, entry_row, first_named, listing_of, row_at}
 use Rattle.vax_isa.specs.Instructions.{Instruction, instructions}
-use Rattle.vax_isa.specs.Rows.{Plain, IsFormed, IsKind, row_of, with_opcode, with_name, is_one_of, names_of, no_operand}
+use Rattle.vax_isa.specs.Rows.{Plain, IsFormed, IsKind, IsName, row_of, with_opcode, with_name, is_one_of, names_of, no_operand}
 use Rattle.vax_isa.proofs.Lists.{All-agree, at_counted, find_agree, find_map, IfSome-find}
-use Rattle.vax_isa.proofs.Widths.{kind_ok, kind_ok-IsKind}
+use Rattle.vax_isa.proofs.Passed.{kind_ok, kind_ok-IsKind, name_ok, name_ok-IsName}
 
 -- no two instructions have one opcode
 
@@ -62,17 +61,14 @@ only_name text k d inside is =
 
 -- each instruction's row is formed
 
-all_named : AllPass (λ i. nat_lt 0 (length i.name)) instructions
+all_names_ok : AllPass (λ i. list_all name_ok (names_of i)) instructions
 unfolding instructions
-all_named = AllPass-from_list_all (λ i. nat_lt 0 (length i.name)) instructions refl
+all_names_ok = AllPass-from_list_all (λ i. list_all name_ok (names_of i)) instructions refl
 
-all_short : AllPass (λ i. nat_le (length i.name) 6) instructions
-unfolding instructions
-all_short = AllPass-from_list_all (λ i. nat_le (length i.name) 6) instructions refl
-
-all_capitals : map (λ i. map to_ascii_uppercase i.name) instructions ≡ map (λ i. i.name) instructions
-unfolding instructions
-all_capitals = refl
+pub all_names : All (λ i. All IsName (names_of i)) instructions
+all_names k d inside n e among =
+    let i = slice_index_or instructions k d in
+    name_ok-IsName (slice_index_or (names_of i) n e) (AllPass-from_list_all name_ok (names_of i) (all_names_ok k d inside) n e among)
 
 all_counted : AllPass (λ i. nat_le (length i.operands) 6) instructions
 unfolding instructions
@@ -94,9 +90,7 @@ all_formed k d inside =
     let i = slice_index_or instructions k d in
     let counted : length i.operands ≤ 6 = leb-true (length i.operands) 6 (all_counted k d inside) in
     record {
-      named = ltb-true 0 (length i.name) (all_named k d inside);
-      short = leb-true (length i.name) 6 (all_short k d inside);
-      capitals = All-agree (λ i. map to_ascii_uppercase i.name) (λ i. i.name) instructions all_capitals k d inside;
+      name = all_names k d inside 0 i.name (omega arith);
       count = counted;
       places = places_of i.operands counted;
       kinds = kinds_of i.operands (replicate (6 - length i.operands) no_operand) (all_kinds k d inside);

@@ -1,3 +1,3 @@
 mod Lists
-mod Widths
+mod Passed
 pub mod Laws

@@ -1,5 +1,5 @@
 -- Lists that agree place by place, and what `find` finds.
-use Rattle.std.proofs.Common.{◌≡◌, ℕ, zero, suc, ◌+◌, ◌<◌, Bool, true, false, cond, List, [], ◌∷◌, All, IfSome, Option, Some, None, find, get_or, length, map, option_map, refl, sym, ◌∙◌, ap, subst, add-zero, arith, slice_index_or}
+use Rattle.std.proofs.Common.{◌≡◌, ℕ, zero, suc, ◌+◌, ◌<◌, Bool, true, false, cond, List, [], ◌∷◌, All, IfSome, Option, Some, None, find, map, option_map, refl, sym, ◌∙◌, ap, subst, add-zero, arith, slice_index_or}
 use Rattle.std.proofs.lemmas.List.Elements.{All-nil, All-cons}
 use Rattle.vax_isa.specs.Entries.{counted}
 

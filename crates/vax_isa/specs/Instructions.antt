@@ -2,6 +2,7 @@
 use Rattle.std.specs.Prelude.{ℕ, List, [], ◌∷◌, codes}
 use Prim.Native.String.{String}
 use Rattle.vax_isa.specs.declared.OperandKind.{OperandKind}
+use Rattle.vax_isa.specs.declared.Letter.{Letter}
 use Rattle.vax_isa.specs.declared.Letter.TheVariants.{Read, Modify, Write, Address, Field, Branch}
 
 -- an instruction as the manual lists it
@@ -11,60 +12,63 @@ pub record Instruction : Type 0 where
   pub aliases : List (List ℕ)
   pub operands : List OperandKind
 
+abbrev pub kind : Letter → ℕ → OperandKind
+kind letter width = record { letter = letter; width = width }
+
 -- the manual's operand notation: the access's letter, then the width's
 abbrev pub Ab : OperandKind
-Ab = record { letter = Address; width = 1 }
+Ab = kind Address 1
 
 abbrev pub Aw : OperandKind
-Aw = record { letter = Address; width = 2 }
+Aw = kind Address 2
 
 abbrev pub Al : OperandKind
-Al = record { letter = Address; width = 4 }
+Al = kind Address 4
 
 abbrev pub Aq : OperandKind
-Aq = record { letter = Address; width = 8 }
+Aq = kind Address 8
 
 abbrev pub Bb : OperandKind
-Bb = record { letter = Branch; width = 1 }
+Bb = kind Branch 1
 
 abbrev pub Bw : OperandKind
-Bw = record { letter = Branch; width = 2 }
+Bw = kind Branch 2
 
 abbrev pub Mb : OperandKind
-Mb = record { letter = Modify; width = 1 }
+Mb = kind Modify 1
 
 abbrev pub Mw : OperandKind
-Mw = record { letter = Modify; width = 2 }
+Mw = kind Modify 2
 
 abbrev pub Ml : OperandKind
-Ml = record { letter = Modify; width = 4 }
+Ml = kind Modify 4
 
 abbrev pub Rb : OperandKind
-Rb = record { letter = Read; width = 1 }
+Rb = kind Read 1
 
 abbrev pub Rw : OperandKind
-Rw = record { letter = Read; width = 2 }
+Rw = kind Read 2
 
 abbrev pub Rl : OperandKind
-Rl = record { letter = Read; width = 4 }
+Rl = kind Read 4
 
 abbrev pub Rq : OperandKind
-Rq = record { letter = Read; width = 8 }
+Rq = kind Read 8
 
 abbrev pub Vb : OperandKind
-Vb = record { letter = Field; width = 1 }
+Vb = kind Field 1
 
 abbrev pub Wb : OperandKind
-Wb = record { letter = Write; width = 1 }
+Wb = kind Write 1
 
 abbrev pub Ww : OperandKind
-Ww = record { letter = Write; width = 2 }
+Ww = kind Write 2
 
 abbrev pub Wl : OperandKind
-Wl = record { letter = Write; width = 4 }
+Wl = kind Write 4
 
 abbrev pub Wq : OperandKind
-Wq = record { letter = Write; width = 8 }
+Wq = kind Write 8
 
 abbrev pub row : ℕ → String → List OperandKind → Instruction
 row opcode name operands = record { opcode = opcode; name = codes name; aliases = []; operands = operands }

@@ -1,7 +1,8 @@
 -- What is looked up in the list of the instructions.
-use Rattle.std.specs.Prelude.{◌≡◌, ℕ, List, [], ◌∷◌, ◌++◌, ◌-◌, ◌<◌, ◌≤◌, ◌==◌, Bool, false, ◌||◌, ◌⊎◌, Option, find, length, map, replicate, slice_index_or}
+use Rattle.std.specs.Prelude.{◌≡◌, ℕ, List, [], ◌∷◌, ◌++◌, ◌-◌, ◌<◌, ◌≤◌, ◌==◌, Bool, false, ◌||◌, ◌⊎◌, Option, find, length, replicate, slice_index, slice_index_or, true}
 use Rattle.std.specs.Str.{str_eq_ignore_ascii_case}
-use Rattle.std.specs.Char.{to_ascii_uppercase}
+use Rattle.std.specs.Char.{is_ascii_uppercase, is_ascii_digit}
+use Rattle.std.specs.List.{AllPass}
 use Rattle.vax_isa.specs.declared.OperandKind.{OperandKind}
 use Rattle.vax_isa.specs.declared.Letter.TheVariants.{Read, Branch}
 use Rattle.vax_isa.specs.declared.Row.{Row}
@@ -51,11 +52,19 @@ pub record IsKind (kind : OperandKind) : Type 0 where
   pub width : IsWidth kind.width
   pub branch : kind.letter ≡ Branch → IsBranchWidth kind.width
 
--- what each row keeps: a name of one to six capitals and digits, and six places, of which the first `count` have operands
+abbrev pub is_name_character : ℕ → Bool
+is_name_character c = is_ascii_uppercase c || is_ascii_digit c
+
+-- a name: one to six capitals and digits, a capital first
+pub record IsName (name : List ℕ) : Type 0 where
+  pub some : 0 < length name
+  pub short : length name ≤ 6
+  pub letter : is_ascii_uppercase (slice_index name 0) ≡ true
+  pub characters : AllPass is_name_character name
+
+-- what each row keeps: its name, and six places, of which the first `count` have operands
 pub record IsFormed (r : Plain) : Type 0 where
-  pub named : 0 < length r.name
-  pub short : length r.name ≤ 6
-  pub capitals : map to_ascii_uppercase r.name ≡ r.name
+  pub name : IsName r.name
   pub count : r.count ≤ 6
   pub places : length r.operands ≡ 6
   pub kinds : (k : ℕ) (d : OperandKind) → k < r.count → IsKind (slice_index_or r.operands k d)

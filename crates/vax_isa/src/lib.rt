@@ -4,7 +4,7 @@
 
 ghost use Rattle.std.specs.Prelude.{◌≡◌, All, IfSome, IsTrue, option_map};
 ghost use Rattle.vax_isa.specs.Instructions.{instructions};
-ghost use Rattle.vax_isa.specs.Rows.{plain, row_of, with_opcode, with_name, is_one_of, names_of, IsFormed};
+ghost use Rattle.vax_isa.specs.Rows.{plain, row_of, with_opcode, with_name, is_one_of, names_of, IsName, IsFormed};
 
 mod table;
 #[cfg(test)]
@@ -44,7 +44,8 @@ pub struct Row {
     pub operands: [OperandKind; 6],
 }
 
-/// The instruction with this opcode, None where the opcode is reserved.
+/// The instruction with this opcode, None where the opcode is reserved (VAX MACRO and Instruction Set Reference Manual,
+/// instruction summary). It is one look-up by index.
 #[inline]
 pub fn by_code(code: u8) -> Option<Row>
     ensures row { option_map plain result ≡ option_map row_of (with_opcode code) }
@@ -62,6 +63,7 @@ pub fn by_code(code: u8) -> Option<Row>
 pub fn by_name(name: &str) -> Option<Row>
     ensures row { option_map plain result ≡ option_map row_of (with_name name.now) }
     ensures only { All (λ i. IsTrue (is_one_of (names_of i) name.now) → with_name name.now ≡ Some i) instructions }
+    ensures names { All (λ i. All IsName (names_of i)) instructions }
     ensures formed { IfSome result (λ r. IsFormed (plain r)) }
 {
     table::named(table::slots(), name)

@@ -49,100 +49,52 @@ pub(crate) fn named(slots: &[Option<Entry>], name: &str) -> Option<Row>
     None
 }
 
-const AB: OperandKind = OperandKind {
-    letter: Letter::Address,
-    width: 1,
-};
+macro_rules! kind {
+    ($letter:ident $width:literal) => {
+        OperandKind {
+            letter: Letter::$letter,
+            width: $width,
+        }
+    };
+}
 
-const AW: OperandKind = OperandKind {
-    letter: Letter::Address,
-    width: 2,
-};
+const AB: OperandKind = kind!(Address 1);
 
-const AL: OperandKind = OperandKind {
-    letter: Letter::Address,
-    width: 4,
-};
+const AW: OperandKind = kind!(Address 2);
 
-const AQ: OperandKind = OperandKind {
-    letter: Letter::Address,
-    width: 8,
-};
+const AL: OperandKind = kind!(Address 4);
 
-const BB: OperandKind = OperandKind {
-    letter: Letter::Branch,
-    width: 1,
-};
+const AQ: OperandKind = kind!(Address 8);
 
-const BW: OperandKind = OperandKind {
-    letter: Letter::Branch,
-    width: 2,
-};
+const BB: OperandKind = kind!(Branch 1);
 
-const MB: OperandKind = OperandKind {
-    letter: Letter::Modify,
-    width: 1,
-};
+const BW: OperandKind = kind!(Branch 2);
 
-const MW: OperandKind = OperandKind {
-    letter: Letter::Modify,
-    width: 2,
-};
+const MB: OperandKind = kind!(Modify 1);
 
-const ML: OperandKind = OperandKind {
-    letter: Letter::Modify,
-    width: 4,
-};
+const MW: OperandKind = kind!(Modify 2);
 
-const RB: OperandKind = OperandKind {
-    letter: Letter::Read,
-    width: 1,
-};
+const ML: OperandKind = kind!(Modify 4);
 
-const RW: OperandKind = OperandKind {
-    letter: Letter::Read,
-    width: 2,
-};
+const RB: OperandKind = kind!(Read 1);
 
-const RL: OperandKind = OperandKind {
-    letter: Letter::Read,
-    width: 4,
-};
+const RW: OperandKind = kind!(Read 2);
 
-const RQ: OperandKind = OperandKind {
-    letter: Letter::Read,
-    width: 8,
-};
+const RL: OperandKind = kind!(Read 4);
 
-const VB: OperandKind = OperandKind {
-    letter: Letter::Field,
-    width: 1,
-};
+const RQ: OperandKind = kind!(Read 8);
 
-const WB: OperandKind = OperandKind {
-    letter: Letter::Write,
-    width: 1,
-};
+const VB: OperandKind = kind!(Field 1);
 
-const WW: OperandKind = OperandKind {
-    letter: Letter::Write,
-    width: 2,
-};
+const WB: OperandKind = kind!(Write 1);
 
-const WL: OperandKind = OperandKind {
-    letter: Letter::Write,
-    width: 4,
-};
+const WW: OperandKind = kind!(Write 2);
 
-const WQ: OperandKind = OperandKind {
-    letter: Letter::Write,
-    width: 8,
-};
+const WL: OperandKind = kind!(Write 4);
+
+const WQ: OperandKind = kind!(Write 8);
 // what stands past the last operand
-const NO: OperandKind = OperandKind {
-    letter: Letter::Read,
-    width: 0,
-};
+const NO: OperandKind = kind!(Read 0);
 
 const RESERVED: Option<Entry> = None;
 

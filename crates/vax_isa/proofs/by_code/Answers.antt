@@ -1,8 +1,8 @@
-use Rattle.std.proofs.Common.{◌≡◌, ◌<◌, None, Some, option_map, arith}
+use Rattle.std.proofs.Common.{◌≡◌, None, Some, option_map, arith}
 use Rattle.vax_isa.specs.Entries.{entry_row, row_at}
 use Rattle.vax_isa.specs.Rows.{plain, row_of, with_opcode, IsFormed}
 use Rattle.vax_isa.proofs.Laws.{only_opcode, opcode_found, formed_with_opcode, slot_row}
-use Rattle.vax_isa.proofs.Lists.{at_counted, IfSome-alike}
+use Rattle.vax_isa.proofs.Lists.{IfSome-alike}
 use Rattle.vax_isa.proofs.by_code.Goals as goal
 
 pub returns-in-Some : goal.returns-in-Some
