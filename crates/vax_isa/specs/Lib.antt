@@ -1,0 +1,3 @@
+pub mod Instructions
+pub mod Rows
+pub mod Entries

@@ -2,6 +2,14 @@
 //! (VAX Architecture Reference Manual, instruction set).
 #![tactic(auto)]
 
+ghost use Rattle.std.specs.Prelude.{◌≡◌, All, IfSome, IsTrue, option_map};
+ghost use Rattle.vax_isa.specs.Instructions.{instructions};
+ghost use Rattle.vax_isa.specs.Rows.{plain, row_of, with_opcode, with_name, is_one_of, names_of, IsName, IsFormed};
+
+mod table;
+#[cfg(test)]
+mod tests;
+
 /// What an instruction does with an operand (VAX MACRO and Instruction Set Reference Manual, operand specifier notation).
 #[derive(Clone, Copy, Debug, PartialEq, Eq)]
 pub enum Letter {
@@ -24,4 +32,39 @@ pub enum Letter {
 pub struct OperandKind {
     pub letter: Letter,
     pub width: u8,
+}
+
+/// An instruction: its opcode, its name, and its operands, of which there are `count`. What stands in `operands` from there
+/// on is a `Read` of width 0 (VAX MACRO and Instruction Set Reference Manual, instruction summary).
+#[derive(Clone, Copy, Debug, PartialEq)]
+pub struct Row {
+    pub code: u8,
+    pub name: &'static str,
+    pub count: u8,
+    pub operands: [OperandKind; 6],
+}
+
+/// The instruction with this opcode, None where the opcode is reserved (VAX MACRO and Instruction Set Reference Manual,
+/// instruction summary). It is one look-up by index.
+#[inline]
+pub fn by_code(code: u8) -> Option<Row>
+    ensures row { option_map plain result ≡ option_map row_of (with_opcode code) }
+    ensures only { All (λ i. i.opcode ≡ code → with_opcode code ≡ Some i) instructions }
+    ensures opcode { IfSome result (λ r. r.code ≡ code) }
+    ensures formed { IfSome result (λ r. IsFormed (plain r)) }
+{
+    match &table::slots()[code as usize] {
+        Some(entry) => Some(entry.row),
+        None => None,
+    }
+}
+
+/// The instruction with this name, or this alias, in letters of either case; None where none has it.
+pub fn by_name(name: &str) -> Option<Row>
+    ensures row { option_map plain result ≡ option_map row_of (with_name name.now) }
+    ensures only { All (λ i. IsTrue (is_one_of (names_of i) name.now) → with_name name.now ≡ Some i) instructions }
+    ensures names { All (λ i. All IsName (names_of i)) instructions }
+    ensures formed { IfSome result (λ r. IsFormed (plain r)) }
+{
+    table::named(table::slots(), name)
 }

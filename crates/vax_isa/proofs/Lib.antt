@@ -1,0 +1,3 @@
+mod Lists
+mod Passed
+pub mod Laws

@@ -1,0 +1,261 @@
+-- The instructions (VAX MACRO and Instruction Set Reference Manual, instruction summary).
+use Rattle.std.specs.Prelude.{ℕ, List, [], ◌∷◌, codes}
+use Prim.Native.String.{String}
+use Rattle.vax_isa.specs.declared.OperandKind.{OperandKind}
+use Rattle.vax_isa.specs.declared.Letter.{Letter}
+use Rattle.vax_isa.specs.declared.Letter.TheVariants.{Read, Modify, Write, Address, Field, Branch}
+
+-- an instruction as the manual lists it
+pub record Instruction : Type 0 where
+  pub opcode : ℕ
+  pub name : List ℕ
+  pub aliases : List (List ℕ)
+  pub operands : List OperandKind
+
+abbrev pub kind : Letter → ℕ → OperandKind
+kind letter width = record { letter = letter; width = width }
+
+-- the manual's operand notation: the access's letter, then the width's
+abbrev pub Ab : OperandKind
+Ab = kind Address 1
+
+abbrev pub Aw : OperandKind
+Aw = kind Address 2
+
+abbrev pub Al : OperandKind
+Al = kind Address 4
+
+abbrev pub Aq : OperandKind
+Aq = kind Address 8
+
+abbrev pub Bb : OperandKind
+Bb = kind Branch 1
+
+abbrev pub Bw : OperandKind
+Bw = kind Branch 2
+
+abbrev pub Mb : OperandKind
+Mb = kind Modify 1
+
+abbrev pub Mw : OperandKind
+Mw = kind Modify 2
+
+abbrev pub Ml : OperandKind
+Ml = kind Modify 4
+
+abbrev pub Rb : OperandKind
+Rb = kind Read 1
+
+abbrev pub Rw : OperandKind
+Rw = kind Read 2
+
+abbrev pub Rl : OperandKind
+Rl = kind Read 4
+
+abbrev pub Rq : OperandKind
+Rq = kind Read 8
+
+abbrev pub Vb : OperandKind
+Vb = kind Field 1
+
+abbrev pub Wb : OperandKind
+Wb = kind Write 1
+
+abbrev pub Ww : OperandKind
+Ww = kind Write 2
+
+abbrev pub Wl : OperandKind
+Wl = kind Write 4
+
+abbrev pub Wq : OperandKind
+Wq = kind Write 8
+
+abbrev pub row : ℕ → String → List OperandKind → Instruction
+row opcode name operands = record { opcode = opcode; name = codes name; aliases = []; operands = operands }
+
+-- the same instruction with an alias
+abbrev pub also : String → Instruction → Instruction
+also alias instruction = record instruction { aliases = codes alias ∷ [] }
+
+-- every instruction, in the order of the opcodes; the others are reserved
+unfoldable pub instructions : List Instruction
+instructions =
+    row 0x00 "HALT" [] ∷
+    row 0x01 "NOP" [] ∷
+    row 0x02 "REI" [] ∷
+    row 0x03 "BPT" [] ∷
+    row 0x04 "RET" [] ∷
+    row 0x05 "RSB" [] ∷
+    row 0x0A "INDEX" (Rl ∷ Rl ∷ Rl ∷ Rl ∷ Rl ∷ Wl ∷ []) ∷
+    row 0x0C "PROBER" (Rb ∷ Rw ∷ Ab ∷ []) ∷
+    row 0x0D "PROBEW" (Rb ∷ Rw ∷ Ab ∷ []) ∷
+    row 0x0E "INSQUE" (Ab ∷ Ab ∷ []) ∷
+    row 0x0F "REMQUE" (Ab ∷ Wl ∷ []) ∷
+    row 0x10 "BSBB" (Bb ∷ []) ∷
+    row 0x11 "BRB" (Bb ∷ []) ∷
+    also "BNEQU" (row 0x12 "BNEQ" (Bb ∷ [])) ∷
+    also "BEQLU" (row 0x13 "BEQL" (Bb ∷ [])) ∷
+    row 0x14 "BGTR" (Bb ∷ []) ∷
+    row 0x15 "BLEQ" (Bb ∷ []) ∷
+    row 0x16 "JSB" (Ab ∷ []) ∷
+    row 0x17 "JMP" (Ab ∷ []) ∷
+    row 0x18 "BGEQ" (Bb ∷ []) ∷
+    row 0x19 "BLSS" (Bb ∷ []) ∷
+    row 0x1A "BGTRU" (Bb ∷ []) ∷
+    row 0x1B "BLEQU" (Bb ∷ []) ∷
+    row 0x1C "BVC" (Bb ∷ []) ∷
+    row 0x1D "BVS" (Bb ∷ []) ∷
+    also "BGEQU" (row 0x1E "BCC" (Bb ∷ [])) ∷
+    also "BLSSU" (row 0x1F "BCS" (Bb ∷ [])) ∷
+    row 0x28 "MOVC3" (Rw ∷ Ab ∷ Ab ∷ []) ∷
+    row 0x29 "CMPC3" (Rw ∷ Ab ∷ Ab ∷ []) ∷
+    row 0x2A "SCANC" (Rw ∷ Ab ∷ Ab ∷ Rb ∷ []) ∷
+    row 0x2B "SPANC" (Rw ∷ Ab ∷ Ab ∷ Rb ∷ []) ∷
+    row 0x2C "MOVC5" (Rw ∷ Ab ∷ Rb ∷ Rw ∷ Ab ∷ []) ∷
+    row 0x2D "CMPC5" (Rw ∷ Ab ∷ Rb ∷ Rw ∷ Ab ∷ []) ∷
+    row 0x2E "MOVTC" (Rw ∷ Ab ∷ Rb ∷ Ab ∷ Rw ∷ Ab ∷ []) ∷
+    row 0x2F "MOVTUC" (Rw ∷ Ab ∷ Rb ∷ Ab ∷ Rw ∷ Ab ∷ []) ∷
+    row 0x30 "BSBW" (Bw ∷ []) ∷
+    row 0x31 "BRW" (Bw ∷ []) ∷
+    row 0x32 "CVTWL" (Rw ∷ Wl ∷ []) ∷
+    row 0x33 "CVTWB" (Rw ∷ Wb ∷ []) ∷
+    row 0x39 "MATCHC" (Rw ∷ Ab ∷ Rw ∷ Ab ∷ []) ∷
+    row 0x3A "LOCC" (Rb ∷ Rw ∷ Ab ∷ []) ∷
+    row 0x3B "SKPC" (Rb ∷ Rw ∷ Ab ∷ []) ∷
+    row 0x3C "MOVZWL" (Rw ∷ Wl ∷ []) ∷
+    row 0x3D "ACBW" (Rw ∷ Rw ∷ Mw ∷ Bw ∷ []) ∷
+    row 0x3E "MOVAW" (Aw ∷ Wl ∷ []) ∷
+    row 0x3F "PUSHAW" (Aw ∷ []) ∷
+    row 0x58 "ADAWI" (Rw ∷ Mw ∷ []) ∷
+    row 0x78 "ASHL" (Rb ∷ Rl ∷ Wl ∷ []) ∷
+    row 0x79 "ASHQ" (Rb ∷ Rq ∷ Wq ∷ []) ∷
+    row 0x7A "EMUL" (Rl ∷ Rl ∷ Rl ∷ Wq ∷ []) ∷
+    row 0x7B "EDIV" (Rl ∷ Rq ∷ Wl ∷ Wl ∷ []) ∷
+    row 0x7C "CLRQ" (Wq ∷ []) ∷
+    row 0x7D "MOVQ" (Rq ∷ Wq ∷ []) ∷
+    row 0x7E "MOVAQ" (Aq ∷ Wl ∷ []) ∷
+    row 0x7F "PUSHAQ" (Aq ∷ []) ∷
+    row 0x80 "ADDB2" (Rb ∷ Mb ∷ []) ∷
+    row 0x81 "ADDB3" (Rb ∷ Rb ∷ Wb ∷ []) ∷
+    row 0x82 "SUBB2" (Rb ∷ Mb ∷ []) ∷
+    row 0x83 "SUBB3" (Rb ∷ Rb ∷ Wb ∷ []) ∷
+    row 0x84 "MULB2" (Rb ∷ Mb ∷ []) ∷
+    row 0x85 "MULB3" (Rb ∷ Rb ∷ Wb ∷ []) ∷
+    row 0x86 "DIVB2" (Rb ∷ Mb ∷ []) ∷
+    row 0x87 "DIVB3" (Rb ∷ Rb ∷ Wb ∷ []) ∷
+    row 0x88 "BISB2" (Rb ∷ Mb ∷ []) ∷
+    row 0x89 "BISB3" (Rb ∷ Rb ∷ Wb ∷ []) ∷
+    row 0x8A "BICB2" (Rb ∷ Mb ∷ []) ∷
+    row 0x8B "BICB3" (Rb ∷ Rb ∷ Wb ∷ []) ∷
+    row 0x8C "XORB2" (Rb ∷ Mb ∷ []) ∷
+    row 0x8D "XORB3" (Rb ∷ Rb ∷ Wb ∷ []) ∷
+    row 0x8E "MNEGB" (Rb ∷ Wb ∷ []) ∷
+    row 0x8F "CASEB" (Rb ∷ Rb ∷ Rb ∷ []) ∷
+    row 0x90 "MOVB" (Rb ∷ Wb ∷ []) ∷
+    row 0x91 "CMPB" (Rb ∷ Rb ∷ []) ∷
+    row 0x92 "MCOMB" (Rb ∷ Wb ∷ []) ∷
+    row 0x93 "BITB" (Rb ∷ Rb ∷ []) ∷
+    row 0x94 "CLRB" (Wb ∷ []) ∷
+    row 0x95 "TSTB" (Rb ∷ []) ∷
+    row 0x96 "INCB" (Mb ∷ []) ∷
+    row 0x97 "DECB" (Mb ∷ []) ∷
+    row 0x98 "CVTBL" (Rb ∷ Wl ∷ []) ∷
+    row 0x99 "CVTBW" (Rb ∷ Ww ∷ []) ∷
+    row 0x9A "MOVZBL" (Rb ∷ Wl ∷ []) ∷
+    row 0x9B "MOVZBW" (Rb ∷ Ww ∷ []) ∷
+    row 0x9C "ROTL" (Rb ∷ Rl ∷ Wl ∷ []) ∷
+    row 0x9D "ACBB" (Rb ∷ Rb ∷ Mb ∷ Bw ∷ []) ∷
+    row 0x9E "MOVAB" (Ab ∷ Wl ∷ []) ∷
+    row 0x9F "PUSHAB" (Ab ∷ []) ∷
+    row 0xA0 "ADDW2" (Rw ∷ Mw ∷ []) ∷
+    row 0xA1 "ADDW3" (Rw ∷ Rw ∷ Ww ∷ []) ∷
+    row 0xA2 "SUBW2" (Rw ∷ Mw ∷ []) ∷
+    row 0xA3 "SUBW3" (Rw ∷ Rw ∷ Ww ∷ []) ∷
+    row 0xA4 "MULW2" (Rw ∷ Mw ∷ []) ∷
+    row 0xA5 "MULW3" (Rw ∷ Rw ∷ Ww ∷ []) ∷
+    row 0xA6 "DIVW2" (Rw ∷ Mw ∷ []) ∷
+    row 0xA7 "DIVW3" (Rw ∷ Rw ∷ Ww ∷ []) ∷
+    row 0xA8 "BISW2" (Rw ∷ Mw ∷ []) ∷
+    row 0xA9 "BISW3" (Rw ∷ Rw ∷ Ww ∷ []) ∷
+    row 0xAA "BICW2" (Rw ∷ Mw ∷ []) ∷
+    row 0xAB "BICW3" (Rw ∷ Rw ∷ Ww ∷ []) ∷
+    row 0xAC "XORW2" (Rw ∷ Mw ∷ []) ∷
+    row 0xAD "XORW3" (Rw ∷ Rw ∷ Ww ∷ []) ∷
+    row 0xAE "MNEGW" (Rw ∷ Ww ∷ []) ∷
+    row 0xAF "CASEW" (Rw ∷ Rw ∷ Rw ∷ []) ∷
+    row 0xB0 "MOVW" (Rw ∷ Ww ∷ []) ∷
+    row 0xB1 "CMPW" (Rw ∷ Rw ∷ []) ∷
+    row 0xB2 "MCOMW" (Rw ∷ Ww ∷ []) ∷
+    row 0xB3 "BITW" (Rw ∷ Rw ∷ []) ∷
+    row 0xB4 "CLRW" (Ww ∷ []) ∷
+    row 0xB5 "TSTW" (Rw ∷ []) ∷
+    row 0xB6 "INCW" (Mw ∷ []) ∷
+    row 0xB7 "DECW" (Mw ∷ []) ∷
+    row 0xB8 "BISPSW" (Rw ∷ []) ∷
+    row 0xB9 "BICPSW" (Rw ∷ []) ∷
+    row 0xBA "POPR" (Rw ∷ []) ∷
+    row 0xBB "PUSHR" (Rw ∷ []) ∷
+    row 0xBC "CHMK" (Rw ∷ []) ∷
+    row 0xBD "CHME" (Rw ∷ []) ∷
+    row 0xBE "CHMS" (Rw ∷ []) ∷
+    row 0xBF "CHMU" (Rw ∷ []) ∷
+    row 0xC0 "ADDL2" (Rl ∷ Ml ∷ []) ∷
+    row 0xC1 "ADDL3" (Rl ∷ Rl ∷ Wl ∷ []) ∷
+    row 0xC2 "SUBL2" (Rl ∷ Ml ∷ []) ∷
+    row 0xC3 "SUBL3" (Rl ∷ Rl ∷ Wl ∷ []) ∷
+    row 0xC4 "MULL2" (Rl ∷ Ml ∷ []) ∷
+    row 0xC5 "MULL3" (Rl ∷ Rl ∷ Wl ∷ []) ∷
+    row 0xC6 "DIVL2" (Rl ∷ Ml ∷ []) ∷
+    row 0xC7 "DIVL3" (Rl ∷ Rl ∷ Wl ∷ []) ∷
+    row 0xC8 "BISL2" (Rl ∷ Ml ∷ []) ∷
+    row 0xC9 "BISL3" (Rl ∷ Rl ∷ Wl ∷ []) ∷
+    row 0xCA "BICL2" (Rl ∷ Ml ∷ []) ∷
+    row 0xCB "BICL3" (Rl ∷ Rl ∷ Wl ∷ []) ∷
+    row 0xCC "XORL2" (Rl ∷ Ml ∷ []) ∷
+    row 0xCD "XORL3" (Rl ∷ Rl ∷ Wl ∷ []) ∷
+    row 0xCE "MNEGL" (Rl ∷ Wl ∷ []) ∷
+    row 0xCF "CASEL" (Rl ∷ Rl ∷ Rl ∷ []) ∷
+    row 0xD0 "MOVL" (Rl ∷ Wl ∷ []) ∷
+    row 0xD1 "CMPL" (Rl ∷ Rl ∷ []) ∷
+    row 0xD2 "MCOML" (Rl ∷ Wl ∷ []) ∷
+    row 0xD3 "BITL" (Rl ∷ Rl ∷ []) ∷
+    row 0xD4 "CLRL" (Wl ∷ []) ∷
+    row 0xD5 "TSTL" (Rl ∷ []) ∷
+    row 0xD6 "INCL" (Ml ∷ []) ∷
+    row 0xD7 "DECL" (Ml ∷ []) ∷
+    row 0xD8 "ADWC" (Rl ∷ Ml ∷ []) ∷
+    row 0xD9 "SBWC" (Rl ∷ Ml ∷ []) ∷
+    row 0xDA "MTPR" (Rl ∷ Rl ∷ []) ∷
+    row 0xDB "MFPR" (Rl ∷ Wl ∷ []) ∷
+    row 0xDC "MOVPSL" (Wl ∷ []) ∷
+    row 0xDD "PUSHL" (Rl ∷ []) ∷
+    row 0xDE "MOVAL" (Al ∷ Wl ∷ []) ∷
+    row 0xDF "PUSHAL" (Al ∷ []) ∷
+    row 0xE0 "BBS" (Rl ∷ Vb ∷ Bb ∷ []) ∷
+    row 0xE1 "BBC" (Rl ∷ Vb ∷ Bb ∷ []) ∷
+    row 0xE2 "BBSS" (Rl ∷ Vb ∷ Bb ∷ []) ∷
+    row 0xE3 "BBCS" (Rl ∷ Vb ∷ Bb ∷ []) ∷
+    row 0xE4 "BBSC" (Rl ∷ Vb ∷ Bb ∷ []) ∷
+    row 0xE5 "BBCC" (Rl ∷ Vb ∷ Bb ∷ []) ∷
+    row 0xE6 "BBSSI" (Rl ∷ Vb ∷ Bb ∷ []) ∷
+    row 0xE7 "BBCCI" (Rl ∷ Vb ∷ Bb ∷ []) ∷
+    row 0xE8 "BLBS" (Rl ∷ Bb ∷ []) ∷
+    row 0xE9 "BLBC" (Rl ∷ Bb ∷ []) ∷
+    row 0xEA "FFS" (Rl ∷ Rb ∷ Vb ∷ Wl ∷ []) ∷
+    row 0xEB "FFC" (Rl ∷ Rb ∷ Vb ∷ Wl ∷ []) ∷
+    row 0xEC "CMPV" (Rl ∷ Rb ∷ Vb ∷ Rl ∷ []) ∷
+    row 0xED "CMPZV" (Rl ∷ Rb ∷ Vb ∷ Rl ∷ []) ∷
+    row 0xEE "EXTV" (Rl ∷ Rb ∷ Vb ∷ Wl ∷ []) ∷
+    row 0xEF "EXTZV" (Rl ∷ Rb ∷ Vb ∷ Wl ∷ []) ∷
+    row 0xF0 "INSV" (Rl ∷ Rl ∷ Rb ∷ Vb ∷ []) ∷
+    row 0xF1 "ACBL" (Rl ∷ Rl ∷ Ml ∷ Bw ∷ []) ∷
+    row 0xF2 "AOBLSS" (Rl ∷ Ml ∷ Bb ∷ []) ∷
+    row 0xF3 "AOBLEQ" (Rl ∷ Ml ∷ Bb ∷ []) ∷
+    row 0xF4 "SOBGEQ" (Ml ∷ Bb ∷ []) ∷
+    row 0xF5 "SOBGTR" (Ml ∷ Bb ∷ []) ∷
+    row 0xF6 "CVTLB" (Rl ∷ Wb ∷ []) ∷
+    row 0xF7 "CVTLW" (Rl ∷ Ww ∷ []) ∷
+    row 0xFA "CALLG" (Ab ∷ Ab ∷ []) ∷
+    row 0xFB "CALLS" (Rl ∷ Ab ∷ []) ∷
+    row 0xFC "XFC" [] ∷
+    []
