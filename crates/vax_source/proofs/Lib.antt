@@ -1,0 +1,4 @@
+pub mod TokenLaws
+pub mod ModuleLaws
+pub mod LineLaws
+pub mod NumberLaws
