@@ -1,5 +1,5 @@
 -- The first line of a text.
-use Rattle.std.proofs.Common.{◌≡◌, ℕ, ◌+◌, ◌==◌, Bool, true, false, not, List, [], ◌∷◌, take, drop, suc, refl, sym, ap, ◌∙◌, cond, arith, length, min}
+use Rattle.std.proofs.Common.{◌≡◌, ℕ, ◌+◌, ◌==◌, Bool, true, false, not, List, [], ◌∷◌, take, drop, suc, refl, ap, ◌∙◌, arith, length, min}
 use Rattle.std.specs.List.{prefix_len}
 use Rattle.vax_source.specs.Lines.{Text, begun, lines}
 

@@ -2,16 +2,15 @@
 use Rattle.std.proofs.Common.{◌≡◌, ℕ, ◌+◌, Bool, true, false, List, [], ◌∷◌, ◌++◌, length, refl, sym, ap, ◌∙◌, cond, arith, append-nil}
 use Rattle.std.proofs.Common.{Option, Some, None}
 use Rattle.std.specs.Option.{is_some}
-use Rattle.std.proofs.Common.{rules, add-zero, add_assoc, length-append}
+use Rattle.std.proofs.Common.{rules, add-zero, length-append}
 use Rattle.std.proofs.lemmas.Slice.Eq.{bytes_eq-Decides}
-use Rattle.std.specs.List.{flat_map}
-use Rattle.std.specs.HashMap.{HashMap, get_by}
+use Rattle.std.specs.HashMap.{get_by}
 use Rattle.std.specs.Str.{bytes_eq}
 use Rattle.std.proofs.lemmas.Grind.{flat_map-append}
 use Rattle.vax_source.specs.Lines.{Text}
-use Rattle.vax_source.specs.Statements.{Operation, Reading, blank, instruction, ended, unknown, malformed, bytes_of}
-use Rattle.vax_source.specs.Program.{code_of, code, is_labelled, address_from, address_of, base, late, fault}
-use Rattle.vax_source.specs.Module.{IsModule, HasCode, HasLabel, Adds}
+use Rattle.vax_source.specs.Statements.{Operation, Reading, instruction, bytes_of}
+use Rattle.vax_source.specs.Program.{code_of, code, is_labelled, address_from, address_of, base, fault}
+use Rattle.vax_source.specs.Module.{IsModule, HasCode, HasLabel}
 use Rattle.std.proofs.Common.{◌⊎◌, inl, inr, Bor}
 use Rattle.vax_source.specs.Views.{reading}
 use Rattle.vax_source.specs.declared.line.Line.{Line}
@@ -61,9 +60,9 @@ or_none (Some a) = refl
 pub unlabelled_more : (old new : Module) (before : List Reading) (x : Reading) → IsModule old before → new.bytes.items ≡ old.bytes.items ++ code_of x → new.lines ≡ old.lines + 1 → new.labels ≡ old.labels → ((name : Text) → is_labelled name x ≡ false) → IsModule new (before ++ x ∷ [])
 unlabelled_more old new before x m b l same none =
     module_more old new before x m b l (λ name.
-        let kept : get_by (λ k. bytes_eq name k.now) new.labels ≡ get_by (λ k. bytes_eq name k.now) old.labels = rw same refl in
-        let nowhere : placed_at (base + length (code before)) name x ≡ None = rw (none name) refl in
-        kept ∙ m.labels name ∙ sym (or_none _) ∙ ap (or_else (address_of name before)) (sym nowhere))
+    let kept : get_by (λ k. bytes_eq name k.now) new.labels ≡ get_by (λ k. bytes_eq name k.now) old.labels = rw same refl in
+    let nowhere : placed_at (base + length (code before)) name x ≡ None = rw (none name) refl in
+    kept ∙ m.labels name ∙ sym (or_none _) ∙ ap (or_else (address_of name before)) (sym nowhere))
 
 not_there : (b : Bool) (e : Option ℕ) → is_some e ≡ b → (b ≡ true → ⊥) → e ≡ None
 not_there b None e n = refl
@@ -88,15 +87,15 @@ pub labelled_more : (old mid new : Module) (before : List Reading) (label : Text
 labelled_more old mid new before label operation m f same has more =
     let fresh : address_of label before ≡ None = not_there _ _ refl (new_label before label operation f (is_some (address_of label before)) refl) in
     module_more old new before (instruction (Some label) operation) m
-        (more.appended ∙ ap (λ v. v.items ++ bytes_of operation) same.0)
-        (more.counted ∙ ap (λ n. n + 1) same.1)
-        (λ name.
-            let kept : get_by (λ k. bytes_eq name k.now) new.labels ≡ get_by (λ k. bytes_eq name k.now) mid.labels = rw more.labels refl in
-            let at : base + length old.bytes.items ≡ base + length (code before) = ap (λ t. base + length t) m.bytes in
-            kept ∙ has name
-            ∙ ap (λ a. cond (bytes_eq label name) (Some a) (get_by (λ k. bytes_eq name k.now) old.labels)) at
-            ∙ ap (λ t. cond (bytes_eq label name) (Some (base + length (code before))) t) (m.labels name)
-            ∙ chosen (bytes_eq label name) label name before (Some (base + length (code before))) refl (λ e. same_text label name e) fresh)
+    (more.appended ∙ ap (λ v. v.items ++ bytes_of operation) same.0)
+    (more.counted ∙ ap (λ n. n + 1) same.1)
+    (λ name.
+    let kept : get_by (λ k. bytes_eq name k.now) new.labels ≡ get_by (λ k. bytes_eq name k.now) mid.labels = rw more.labels refl in
+    let at : base + length old.bytes.items ≡ base + length (code before) = ap (λ t. base + length t) m.bytes in
+    kept ∙ has name
+    ∙ ap (λ a. cond (bytes_eq label name) (Some a) (get_by (λ k. bytes_eq name k.now) old.labels)) at
+    ∙ ap (λ t. cond (bytes_eq label name) (Some (base + length (code before))) t) (m.labels name)
+    ∙ chosen (bytes_eq label name) label name before (Some (base + length (code before))) refl (λ e. same_text label name e) fresh)
 
 -- a line without an instruction
 pub record IsSilent (x : Reading) : Type 0 where

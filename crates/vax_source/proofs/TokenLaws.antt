@@ -1,8 +1,8 @@
 -- Spaces are passed over, and a word is as long as it can be.
-use Rattle.std.proofs.Common.{◌≡◌, ℕ, ◌+◌, ◌==◌, Bool, true, false, List, [], ◌∷◌, take, drop, suc, refl, sym, ap, ◌∙◌, cond, arith}
+use Rattle.std.proofs.Common.{◌≡◌, ℕ, ◌+◌, ◌==◌, Bool, true, false, List, [], ◌∷◌, take, drop, suc, refl, sym, ap, ◌∙◌, arith}
 use Rattle.std.specs.List.{prefix_len}
 use Rattle.vax_source.specs.Lines.{Text}
-use Rattle.vax_source.specs.Tokens.{Token, word, colon, is_word_byte, begins_word, longer, mark, tokens}
+use Rattle.vax_source.specs.Tokens.{Token, word, is_word_byte, begins_word, longer, mark, tokens}
 
 abbrev is_space : ℕ → Bool
 is_space c = c == 32

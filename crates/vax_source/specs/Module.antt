@@ -1,6 +1,6 @@
 -- What is kept of the lines that were read.
 use Rattle.std.specs.Prelude.{◌≡◌, ℕ, List, ◌+◌, ◌++◌, [], ◌∷◌, length, Option, Some, None, Result, Ok, Err, ⊤, if◌then◌else◌}
-use Rattle.std.specs.HashMap.{HashMap, get_by}
+use Rattle.std.specs.HashMap.{get_by}
 use Rattle.std.specs.Str.{bytes_eq}
 use Rattle.vax_source.specs.Lines.{Text}
 use Rattle.vax_source.specs.Statements.{Reading}

@@ -1,11 +1,11 @@
 -- What a source means: the bytes of its program and where that begins, or its first fault.
-use Rattle.std.specs.Prelude.{◌≡◌, ◌<◌, ◌⊎◌, ℕ, ◌+◌, Bool, true, false, not, ◌&&◌, nat_lt, List, [], ◌∷◌, length, map, take, slice_index_or, Option, None, Some, is_some, is_none, Result, Ok, Err, if◌then◌else◌, ⊤}
+use Rattle.std.specs.Prelude.{◌≡◌, ◌<◌, ◌⊎◌, ℕ, ◌+◌, Bool, true, false, not, ◌&&◌, nat_lt, List, [], ◌∷◌, length, map, take, slice_index_or, Option, None, Some, is_some, is_none, if◌then◌else◌}
 use Rattle.std.specs.List.{flat_map}
 use Rattle.std.specs.Char.{to_ascii_uppercase}
 use Rattle.std.specs.Str.{bytes_eq}
 use Rattle.vax_source.specs.Lines.{Text, lines}
 use Rattle.vax_source.specs.Tokens.{tokens}
-use Rattle.vax_source.specs.Statements.{Operation, Reading, blank, instruction, ended, unknown, malformed, line_of, bytes_of}
+use Rattle.vax_source.specs.Statements.{Reading, blank, instruction, ended, unknown, malformed, line_of, bytes_of}
 
 -- the lines of a text, each read by itself
 abbrev pub readings : Text → List Reading

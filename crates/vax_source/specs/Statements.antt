@@ -1,8 +1,8 @@
 -- What a line says, and the bytes of its instruction.
-use Rattle.std.specs.Prelude.{ℕ, ◌+◌, ◌/◌, ◌%◌, Bool, not, ◌&&◌, nat_lt, List, [], ◌∷◌, ◌++◌, codes, Option, None, Some, if◌then◌else◌}
+use Rattle.std.specs.Prelude.{ℕ, ◌+◌, ◌/◌, ◌%◌, not, ◌&&◌, nat_lt, List, [], ◌∷◌, ◌++◌, codes, Option, None, Some, if◌then◌else◌}
 use Rattle.std.specs.Str.{bytes_eq}
 use Rattle.vax_source.specs.Lines.{Text}
-use Rattle.vax_source.specs.Tokens.{Token, word, colon, comma, hash, other}
+use Rattle.vax_source.specs.Tokens.{Token, word, colon, comma, hash}
 use Rattle.vax_source.specs.Names.{is_name, is_label, number, register}
 
 -- `HALT`, and `MOVL #n,Rn`

@@ -1,5 +1,5 @@
 -- The words and marks of a line (VAX MACRO and Instruction Set Reference Manual, source statements).
-use Rattle.std.specs.Prelude.{ℕ, Bool, true, false, ◌&&◌, ◌||◌, ◌==◌, nat_le, List, [], ◌∷◌, if◌then◌else◌}
+use Rattle.std.specs.Prelude.{ℕ, Bool, false, ◌&&◌, ◌||◌, ◌==◌, nat_le, List, [], ◌∷◌, if◌then◌else◌}
 use Rattle.vax_source.specs.Lines.{Text}
 
 pub data Token : Type 0 where

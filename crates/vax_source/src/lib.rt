@@ -6,7 +6,8 @@ mod lines;
 mod module;
 mod program;
 mod read;
-mod tokens;
 mod statements;
+mod tokens;
+
 pub use program::{Program, SourceError};
 pub use read::read_source;

@@ -4,8 +4,8 @@ ghost use Rattle.vax_source.specs.Statements.{Reading, bytes_of};
 ghost use Rattle.vax_source.specs.Program.{address_of, fault};
 ghost use Rattle.vax_source.specs.Views.{operation, reading};
 
-use crate::program::{Program, SourceError};
 use crate::line::{Line, Operation};
+use crate::program::{Program, SourceError};
 use std::alloc::{AllocError, Global};
 use std::collections::HashMap;
 

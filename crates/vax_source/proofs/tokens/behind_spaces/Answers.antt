@@ -1,4 +1,4 @@
-use Rattle.std.proofs.Common.{◌≡◌, ◌∙◌, sym, ap, drop}
+use Rattle.std.proofs.Common.{◌∙◌, sym, ap, drop}
 use Rattle.vax_source.proofs.TokenLaws.{tokens-spaces, behind_spaces}
 use Rattle.vax_source.proofs.tokens.behind_spaces.Goals as goal
 

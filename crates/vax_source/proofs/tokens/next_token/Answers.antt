@@ -1,6 +1,4 @@
-use Rattle.std.proofs.Common.{◌≡◌, ◌∙◌, ◌∷◌, sym, ap, rules}
-use Rattle.vax_source.specs.Tokens.{tokens, mark, is_word_byte}
-use Rattle.vax_source.specs.Views.{token}
+use Rattle.std.proofs.Common.{◌≡◌, ◌∙◌, ◌∷◌, sym, rules}
 use Rattle.vax_source.proofs.TokenLaws.{mark_first, word_first}
 use Rattle.vax_source.proofs.tokens.next_token.Goals as goal
 

@@ -1,6 +1,6 @@
-use Rattle.std.proofs.Common.{◌≡◌, ◌∙◌, ◌+◌, ap, sym, refl, rules, arith, append-nil, ◌++◌, [], None, Some, true, false}
+use Rattle.std.proofs.Common.{◌≡◌, ◌∙◌, ap, sym, refl, rules, append-nil, ◌++◌, None, Some}
 use Rattle.vax_source.specs.Views.{reading, operation}
-use Rattle.vax_source.specs.Statements.{Reading, instruction}
+use Rattle.vax_source.specs.Statements.{instruction}
 use Rattle.vax_source.proofs.ModuleLaws.{unlabelled_more, labelled_more, silent_line}
 use Rattle.vax_source.proofs.module.Module.add.Goals as goal
 

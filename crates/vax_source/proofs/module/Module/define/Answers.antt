@@ -1,6 +1,5 @@
-use Rattle.std.proofs.Common.{refl, rules, Some, arith, ◌≡◌, ◌+◌, length, ap, ◌∙◌}
+use Rattle.std.proofs.Common.{refl, rules, ◌≡◌, length, ◌∙◌}
 use Rattle.std.proofs.lemmas.Map.Text.{hash_map_updates_str}
-use Rattle.vax_source.specs.Program.{base}
 use Rattle.vax_source.proofs.module.Module.define.Goals as goal
 
 pub returns-in-Ok-clause-labels : goal.returns-in-Ok-clause-labels

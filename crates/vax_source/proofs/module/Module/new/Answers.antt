@@ -1,4 +1,4 @@
-use Rattle.std.proofs.Common.{rules, refl}
+use Rattle.std.proofs.Common.{refl}
 use Rattle.vax_source.specs.Program.{address_from}
 use Rattle.vax_source.proofs.module.Module.new.Goals as goal
 
