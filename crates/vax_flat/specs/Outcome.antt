@@ -1,0 +1,69 @@
+-- What a tree of accesses does to the whole memory of the flat machine.
+use Rattle.std.specs.Prelude.{ℕ, Option, Some, None, Bool, true, false, List, [], ◌∷◌, length}
+use Rattle.vax_space.specs.declared.Access.TheVariants.{Read, Write}
+use Rattle.vax_space.specs.declared.Area.{Area}
+use Rattle.vax_space.specs.declared.Violation.{Violation}
+use Rattle.vax_flat.specs.declared.Exception.{Exception}
+use Rattle.vax_flat.specs.declared.Exception.TheVariants as exception
+use Rattle.vax_space.specs.Reference.{violation}
+use Rattle.vax_flat.specs.Memory.{byte_at, number, bytes_from, written, written_run}
+use Rattle.vax_flat.specs.Accesses.{Accesses, Done, Raises, Checks, Asks, Reads, Writes, ReadsRun, WritesRun}
+
+-- it comes to its end with this memory, or raises an exception
+pub data Outcome (A : Type 0) : Type 0 where
+  Ends : A → List Area → Outcome A
+  Raised : Exception → Outcome A
+
+abbrev pub unless_violated : {A : Type 0} → Option Violation → Outcome A → Outcome A
+unless_violated (Some v) outcome = Raised (exception.Access v)
+unless_violated None outcome = outcome
+
+abbrev pub is_allowed : Option Violation → Bool
+is_allowed (Some v) = false
+is_allowed None = true
+
+unfoldable pub outcome_of : {A : Type 0} → Accesses A → List Area → Outcome A
+outcome_of (Done x) memory = Ends x memory
+outcome_of (Raises e) memory = Raised e
+outcome_of (Checks addr len mode access next) memory =
+    unless_violated (violation memory addr len mode access) (outcome_of next memory)
+outcome_of (Asks addr len mode access next) memory =
+    outcome_of (next (is_allowed (violation memory addr len mode access))) memory
+outcome_of (Reads addr len mode next) memory =
+    unless_violated (violation memory addr len mode Read) (outcome_of (next (number (byte_at memory) addr len)) memory)
+outcome_of (Writes addr len value mode next) memory =
+    unless_violated (violation memory addr len mode Write) (outcome_of next (written memory addr len value))
+outcome_of (ReadsRun addr len mode next) memory =
+    unless_violated (violation memory addr len mode Read) (outcome_of (next (bytes_from (byte_at memory) addr len)) memory)
+outcome_of (WritesRun addr bytes mode next) memory =
+    unless_violated (violation memory addr (length bytes) mode Write) (outcome_of next (written_run memory addr bytes))
+
+-- a range of bytes
+pub record Range : Type 0 where
+  pub addr : ℕ
+  pub len : ℕ
+
+abbrev pub unless_stopped : Option Violation → List Range → List Range
+unless_stopped (Some v) ranges = []
+unless_stopped None ranges = ranges
+
+-- the ranges that it reads or writes, in order, up to its end or its exception
+unfoldable pub touches_of : {A : Type 0} → Accesses A → List Area → List Range
+touches_of (Done x) memory = []
+touches_of (Raises e) memory = []
+touches_of (Checks addr len mode access next) memory =
+    unless_stopped (violation memory addr len mode access) (touches_of next memory)
+touches_of (Asks addr len mode access next) memory =
+    touches_of (next (is_allowed (violation memory addr len mode access))) memory
+touches_of (Reads addr len mode next) memory =
+    unless_stopped (violation memory addr len mode Read)
+        (record { addr = addr; len = len } ∷ touches_of (next (number (byte_at memory) addr len)) memory)
+touches_of (Writes addr len value mode next) memory =
+    unless_stopped (violation memory addr len mode Write)
+        (record { addr = addr; len = len } ∷ touches_of next (written memory addr len value))
+touches_of (ReadsRun addr len mode next) memory =
+    unless_stopped (violation memory addr len mode Read)
+        (record { addr = addr; len = len } ∷ touches_of (next (bytes_from (byte_at memory) addr len)) memory)
+touches_of (WritesRun addr bytes mode next) memory =
+    unless_stopped (violation memory addr (length bytes) mode Write)
+        (record { addr = addr; len = length bytes } ∷ touches_of next (written_run memory addr bytes))

@@ -1,0 +1,72 @@
+//! The flat machine: a VAX with one whole memory, no frames and no absent pages. Its definitions say what each instruction does.
+//!
+//! `specs/` has them in this order: `State` (what an instruction may change beside memory), `Access` (an instruction as a tree of its
+//! accesses to memory), `Memory` (areas with their bytes), `Outcome` (what a tree does to that memory), `Operand` and `Rows` (the
+//! instructions as such trees), and `Step` (a whole step and a whole run).
+#![tactic(auto)]
+
+use vax_space::Violation;
+
+/// What interrupts an instruction (VAX Architecture Reference Manual, exceptions and interrupts).
+#[derive(Clone, Copy, Debug, PartialEq, Eq)]
+pub enum Exception {
+    /// A reserved or privileged instruction, vector 10 hexadecimal.
+    Privileged,
+    /// XFC, the instruction reserved to customers, vector 14.
+    Customer,
+    /// A reserved operand, vector 18.
+    Operand,
+    /// A reserved addressing mode, vector 1C.
+    Mode,
+    /// An access control violation, vector 20.
+    Access(Violation),
+    /// BPT, vector 2C.
+    Breakpoint,
+    /// An arithmetic trap of this type, vector 34.
+    Arithmetic(u8),
+    /// A change of mode: the mode that the instruction names, and its code.
+    Change { target: u8, code: u16 },
+}
+
+/// How a run ends.
+#[derive(Clone, Copy, Debug, PartialEq, Eq)]
+pub enum Ending {
+    /// HALT in kernel mode.
+    Halt,
+    /// The vector at this offset in the system control block has bits 1:0 that end the run.
+    Vector(u16),
+    /// The frame of an exception can't be pushed.
+    Stack,
+    /// The vector can't be read.
+    Scb,
+    /// A change of mode on the interrupt stack.
+    Change,
+    /// The instruction needs what isn't built yet.
+    Unbuilt,
+}
+
+/// Where an operand is, or what it is.
+#[derive(Clone, Copy, Debug, PartialEq, Eq)]
+pub enum Operand {
+    /// The value of an operand that is read.
+    Value(u64),
+    /// A register; of a quadword the lower one.
+    Register(u8),
+    /// An address in memory.
+    Memory(u32),
+    /// The register in which a field of bits begins.
+    FieldRegister(u8),
+    /// Where a branch goes.
+    Target(u32),
+}
+
+/// How an instruction went.
+#[derive(Clone, Copy, Debug, PartialEq, Eq)]
+pub enum Flow {
+    /// It was completed.
+    Done,
+    /// It was completed, and an arithmetic trap of this type follows.
+    Trap(u8),
+    /// It ends the run.
+    Ended(Ending),
+}

@@ -1,0 +1,16 @@
+use Rattle.std.proofs.Common.{arith}
+use Rattle.vax_outside.proofs.Growth.{prefix_stays, prefix_grows, on_err}
+use Rattle.vax_outside.proofs.put.put_all.Goals as goal
+
+pub returns-in_err-count-clause-prefix : goal.returns-in_err-count-clause-prefix
+returns-in_err-count-clause-prefix g c =
+    let inv = c.loop-rest.invariant.front in
+    on_err c.from_residual.result (prefix_stays _ _ _ c.args.chan inv.0 c.loop-rest.rest.now c.args.bytes.now inv.1 inv.2 c.in_err-count.ensures.err)
+
+pub loop-rest-preserved : goal.loop-rest-preserved
+loop-rest-preserved g c =
+    let inv = c.loop-rest.invariant.front in
+    record {
+      later = omega arith;
+      front = prefix_grows _ _ _ c.args.chan inv.0 c.loop-rest.rest.now _ _ c.in_ok-count.count inv.1 inv.2 c.in_ok-count.ensures.ok c.split_at.ensures.back;
+    }

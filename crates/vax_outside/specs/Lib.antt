@@ -1,0 +1,9 @@
+pub mod Blocks
+pub mod Channels
+pub mod Directory
+pub mod Fails
+pub mod Faults
+pub mod Hex
+pub mod MemFiles
+pub mod MemPages
+pub mod MemSink

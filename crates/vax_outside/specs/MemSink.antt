@@ -1,0 +1,49 @@
+-- What clauses read of a sink in memory.
+use Rattle.std.specs.Prelude.{ℕ, ◌-◌, Bool, ◌||◌, ◌==◌, List, length, min}
+use Rattle.std.specs.List.{list_any}
+use Rattle.vax_outside.specs.Channels.{Channels, bytes_on}
+use Rattle.vax_outside.specs.Fails.{names_write}
+use Rattle.vax_outside.specs.Faults.{raised}
+use Rattle.vax_outside.specs.declared.fails.Fail.{Fail}
+use Rattle.vax_outside.specs.declared.traits.Chan.{Chan}
+use Rattle.vax_outside.specs.declared.traits.Chan.TheVariants.{Out, Report, Record}
+use Rattle.vax_outside.specs.declared.mem_sink.MemSink.{MemSink}
+
+-- the room of each channel, the most bytes that one write takes, and the calls that are to fail
+pub record Limits : Type 0 where
+  pub out : ℕ
+  pub report : ℕ
+  pub recorded : ℕ
+  pub most : ℕ
+  pub fails : List Fail
+
+abbrev pub room : Limits → Chan → ℕ
+room limits Out = limits.out
+room limits Report = limits.report
+room limits Record = limits.recorded
+
+abbrev pub limits_of : MemSink → Limits
+limits_of m = record { out = m.out.room; report = m.report.room; recorded = m.recorded.room; most = m.most; fails = m.fails.items }
+
+abbrev pub channels_of : MemSink → Channels
+channels_of m = record { out = m.out.bytes.items; report = m.report.bytes.items; recorded = m.recorded.bytes.items }
+
+-- the number of calls so far
+abbrev pub calls_of : MemSink → ℕ
+calls_of m = m.calls
+
+-- the number of calls that failed
+abbrev pub faults_of : MemSink → ℕ
+faults_of m = m.faults
+
+-- the room that is left in a channel
+abbrev pub room_left : MemSink → Chan → ℕ
+room_left m chan = room (limits_of m) chan - length (bytes_on (channels_of m) chan)
+
+-- how many of so many bytes the next write takes
+abbrev pub taken : MemSink → Chan → ℕ → ℕ
+taken m chan count = min (min (limits_of m).most count) (room_left m chan)
+
+-- a write to this channel is to fail
+abbrev pub next_fails : MemSink → Chan → Bool
+next_fails m chan = list_any (names_write (raised m.calls) (raised m.calls)) m.fails.items || room_left m chan == 0

@@ -1,0 +1,29 @@
+//! What the program asks of the outside: files by name, three output channels, and a file of numbered blocks.
+//!
+//! Each is a trait with two meanings that contracts see. `contents` is what the object holds, where it tells that;
+//! an object that tells nothing answers None. `faults` counts the calls that failed. The count never falls, and a call
+//! answers a failure only where the count rose in that call. `Text` is a line on its way to a channel.
+#![tactic(auto)]
+
+mod fails;
+mod faults;
+mod host;
+#[cfg(test)]
+mod host_tests;
+mod mem_files;
+mod mem_pages;
+mod mem_sink;
+#[cfg(test)]
+mod mem_tests;
+mod put;
+mod text;
+mod traits;
+
+pub use fails::Fail;
+pub use host::{HostFiles, HostPages, HostSink};
+pub use mem_files::MemFiles;
+pub use mem_pages::MemPages;
+pub use mem_sink::MemSink;
+pub use put::put_all;
+pub use text::Text;
+pub use traits::{Chan, Failed, Files, FilesFault, PageFile, Sink};

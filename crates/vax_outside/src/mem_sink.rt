@@ -1,0 +1,148 @@
+//! Output channels in memory.
+ghost use Rattle.std.specs.Prelude.{◌≡◌, ◌-◌, ◌<◌, ◌≤◌, ◌++◌, ℕ, [], length, take, min, is_err, slice_index, vec_capacity, IfOk, OnErr, Some};
+ghost use Rattle.vax_outside.specs.Channels.{Grew, bytes_on, nothing, only};
+ghost use Rattle.vax_outside.specs.Faults.{raised, Rose};
+
+use crate::fails::is_write_named;
+use crate::faults::raised;
+use crate::{Chan, Fail, Failed, Sink};
+use std::alloc::Global;
+use vax_space::NoMemory;
+
+/// The bytes of one channel, and for how many there is room.
+#[derive(Drop)]
+struct Channel {
+    bytes: Vec<u8>,
+    room: usize,
+    ghost reserved: { room ≤ vec_capacity bytes },
+}
+
+impl Channel {
+    fn new(alloc: Global, room: u32) -> Result<Channel, NoMemory>
+        ensures bytes { IfOk result (λ c. c.bytes.items ≡ []) }
+        ensures room { IfOk result (λ c. c.room ≡ room) }
+    {
+        let bytes = Vec::with_capacity(alloc, room as usize)?;
+        Ok(Channel {
+            bytes,
+            room: room as usize,
+        })
+    }
+
+    /// Appends as many of the bytes as there is room for, at most `most`.
+    fn append(&mut self, bytes: &[u8], most: u32) -> usize
+        ensures count { result ≡ min (min most (length bytes.now)) (self.old.room - length self.old.bytes.items) }
+        ensures bytes { self.new.bytes.items ≡ self.old.bytes.items ++ take result bytes.now }
+        ensures room { self.new.room ≡ self.old.room }
+    {
+        let left = self.room.saturating_sub(self.bytes.len());
+        let count = bytes.len().min(most as usize).min(left);
+        let front = bytes.split_at(count).0;
+        self.bytes.extend_from_slice(front).unwrap();
+        count
+    }
+}
+
+/// Output channels in memory, which tell what was written.
+#[derive(Drop)]
+pub struct MemSink {
+    out: Channel,
+    report: Channel,
+    recorded: Channel,
+    most: u32,
+    fails: Vec<Fail>,
+    calls: u64,
+    faults: u64,
+    ghost some: { 1 ≤ most },
+}
+
+impl MemSink {
+    ghost use Rattle.vax_outside.specs.MemSink.{channels_of, limits_of, calls_of, faults_of, taken};
+
+    /// Empty channels with room for so many bytes of Out, Report and Record. A write takes at most `most` bytes. It
+    /// fails exactly where `fails` names it or its channel's room is used up.
+    pub fn new(
+        alloc: Global,
+        room: [u32; 3],
+        most: u32,
+        fails: Vec<Fail>,
+    ) -> Result<MemSink, NoMemory>
+        requires { 1 ≤ most }
+        ensures empty { IfOk result (λ m. channels_of m ≡ nothing) }
+        ensures limits { IfOk result (λ m. limits_of m ≡ record { out = slice_index room 0; report = slice_index room 1; recorded = slice_index room 2; most = most; fails = fails.items }) }
+        ensures calls { IfOk result (λ m. calls_of m ≡ 0) }
+        ensures faults { IfOk result (λ m. faults_of m ≡ 0) }
+    {
+        let out = Channel::new(alloc, room[0])?;
+        let report = Channel::new(alloc, room[1])?;
+        let recorded = Channel::new(alloc, room[2])?;
+        Ok(MemSink {
+            out,
+            report,
+            recorded,
+            most,
+            fails,
+            calls: 0,
+            faults: 0,
+        })
+    }
+
+    /// What was written to a channel.
+    pub fn bytes(&self, chan: Chan) -> &[u8]
+        ensures { result.now ≡ bytes_on (channels_of self.now) chan }
+    {
+        match chan {
+            Chan::Out => &self.out.bytes,
+            Chan::Report => &self.report.bytes,
+            Chan::Record => &self.recorded.bytes,
+        }
+    }
+
+    fn append(&mut self, chan: Chan, bytes: &[u8]) -> usize
+        ensures count { result ≡ taken self.old chan (length bytes.now) }
+        ensures bytes { Grew (Some (channels_of self.old)) (Some (channels_of self.new)) (only chan (take result bytes.now)) }
+        ensures limits { limits_of self.new ≡ limits_of self.old }
+        ensures calls { calls_of self.new ≡ calls_of self.old }
+        ensures faults { faults_of self.new ≡ faults_of self.old }
+    {
+        match chan {
+            Chan::Out => self.out.append(bytes, self.most),
+            Chan::Report => self.report.append(bytes, self.most),
+            Chan::Record => self.recorded.append(bytes, self.most),
+        }
+    }
+}
+
+impl Sink for MemSink {
+    ghost use Rattle.vax_outside.specs.MemSink.{channels_of, limits_of, calls_of, faults_of, taken, next_fails};
+
+    ghost contents = { λ m. Some (channels_of m) };
+
+    ghost faults = { λ m. faults_of m };
+
+    fn write(&mut self, chan: Chan, bytes: &[u8]) -> Result<usize, Failed>
+        requires { 0 < length bytes.now }
+        ensures some { IfOk result (λ n. 1 ≤ n) }
+        ensures bound { IfOk result (λ n. n ≤ length bytes.now) }
+        ensures ok { IfOk result (λ n. Grew (Some (channels_of self.old)) (Some (channels_of self.new)) (only chan (take n bytes.now))) }
+        ensures err { OnErr result (Some (channels_of self.new) ≡ Some (channels_of self.old)) }
+        ensures later { faults_of self.old ≤ faults_of self.new }
+        ensures cause { OnErr result (Rose (faults_of self.old) (faults_of self.new)) }
+        ensures failed { is_err result ≡ next_fails self.old chan }
+        ensures count { IfOk result (λ n. n ≡ taken self.old chan (length bytes.now)) }
+        ensures limits { limits_of self.new ≡ limits_of self.old }
+        ensures calls { calls_of self.new ≡ raised (calls_of self.old) }
+    {
+        self.calls = raised(self.calls);
+        if is_write_named(&self.fails, self.calls, self.calls) {
+            self.faults = raised(self.faults);
+            return Err(Failed);
+        }
+        let count = self.append(chan, bytes);
+        if count == 0 {
+            self.faults = raised(self.faults);
+            return Err(Failed);
+        }
+        Ok(count)
+    }
+}

@@ -1,0 +1,95 @@
+//! The traits of the outside, and what their calls answer.
+ghost use Rattle.std.specs.Prelude.{◌≡◌, ◌<◌, ◌≤◌, ℕ, length, take, IfOk, OnErr, OnOk, IsErrOf, Option};
+ghost use Rattle.vax_outside.specs.Blocks.{BlockFile, GivesBlock, CountsRead, PutsBlock};
+ghost use Rattle.vax_outside.specs.Channels.{Channels, Grew, only};
+ghost use Rattle.vax_outside.specs.Directory.{Directory, AnswersRead};
+ghost use Rattle.vax_outside.specs.Faults.{Rose};
+
+use std::alloc::Global;
+
+/// Why a file gave no bytes.
+#[derive(Clone, Copy, Debug, PartialEq, Eq)]
+pub enum FilesFault {
+    /// There is no file of this name.
+    Missing,
+    /// The file has more bytes than the limit.
+    Large,
+    /// The call failed.
+    Failed,
+    /// Memory was refused.
+    NoMemory,
+}
+
+/// A call to the outside failed.
+#[derive(Clone, Copy, Debug, PartialEq, Eq)]
+pub struct Failed;
+
+/// Files by name.
+pub trait Files {
+    /// The files' names and bytes, where the object tells them.
+    ghost contents: { Self → Option Directory };
+
+    /// How many calls have failed.
+    ghost faults: { Self → ℕ };
+
+    /// Reads the file of this name, which may have at most `limit` bytes.
+    fn read(&mut self, alloc: Global, name: &str, limit: u32) -> Result<Vec<u8>, FilesFault>
+        ensures answer { AnswersRead result (contents self.old) name.now limit }
+        ensures bound { IfOk result (λ bytes. length bytes.items ≤ limit) }
+        ensures same { contents self.new ≡ contents self.old }
+        ensures later { faults self.old ≤ faults self.new }
+        ensures cause { IsErrOf result FilesFault.Failed → Rose (faults self.old) (faults self.new) };
+}
+
+/// The output channels: the guest's output, the report, and the record of evicted pages.
+#[derive(Clone, Copy, Debug, PartialEq, Eq)]
+pub enum Chan {
+    Out,
+    Report,
+    Record,
+}
+
+/// Output channels.
+pub trait Sink {
+    /// What was written to each channel, where the object tells it.
+    ghost contents: { Self → Option Channels };
+
+    /// How many calls have failed.
+    ghost faults: { Self → ℕ };
+
+    /// Appends a prefix of the bytes to a channel and answers its length, at least 1. After a failure each channel is
+    /// as before.
+    fn write(&mut self, chan: Chan, bytes: &[u8]) -> Result<usize, Failed>
+        requires { 0 < length bytes.now }
+        ensures some { IfOk result (λ n. 1 ≤ n) }
+        ensures bound { IfOk result (λ n. n ≤ length bytes.now) }
+        ensures ok { IfOk result (λ n. Grew (contents self.old) (contents self.new) (only chan (take n bytes.now))) }
+        ensures err { OnErr result (contents self.new ≡ contents self.old) }
+        ensures later { faults self.old ≤ faults self.new }
+        ensures cause { OnErr result (Rose (faults self.old) (faults self.new)) };
+}
+
+/// A file of numbered blocks of 512 bytes.
+pub trait PageFile {
+    /// The blocks, the writes that succeeded and the number of reads that did, where the object tells them.
+    ghost contents: { Self → Option BlockFile };
+
+    /// How many calls have failed.
+    ghost faults: { Self → ℕ };
+
+    /// Reads block `n`. The bytes of a block that was never there are left open. After a failure `into` holds any
+    /// bytes.
+    fn read_block(&mut self, n: u32, into: &mut [u8; 512]) -> Result<(), Failed>
+        ensures bytes { OnOk result (GivesBlock (contents self.old) n into.new) }
+        ensures ok { OnOk result (CountsRead (contents self.old) (contents self.new)) }
+        ensures err { OnErr result (contents self.new ≡ contents self.old) }
+        ensures later { faults self.old ≤ faults self.new }
+        ensures cause { OnErr result (Rose (faults self.old) (faults self.new)) };
+
+    /// Writes block `n`, and no other.
+    fn write_block(&mut self, n: u32, from: &[u8; 512]) -> Result<(), Failed>
+        ensures ok { OnOk result (PutsBlock n from.now (contents self.old) (contents self.new)) }
+        ensures err { OnErr result (contents self.new ≡ contents self.old) }
+        ensures later { faults self.old ≤ faults self.new }
+        ensures cause { OnErr result (Rose (faults self.old) (faults self.new)) };
+}
