@@ -9,11 +9,12 @@ fn command_line<'a>(alloc: Global) -> Result<Command<'a>, AllocError> {
         .action(ArgAction::Set)
         .help("a MACRO-32 source");
     let bare = Command::new(alloc, "bare")
-        .bin_name("vax bare")
+        .bin_name("vax bare")?
         .about("Run a source in kernel mode and report the registers on standard error")
         .arg(file)?;
     Command::new(alloc, "vax")
         .version("0.1.0")
+        .bin_name("vax")?
         .about("An emulator of a VAX-11")
         .no_binary_name(true)
         .subcommand_required(true)

@@ -5,7 +5,7 @@ ghost use Rattle.vax_words.specs.Said.{said, texts};
 
 use crate::clap_words::read;
 use crate::words::{Command, plain_command};
-use clap::ErrorKind;
+use clap::error::ErrorKind;
 use std::alloc::Global;
 
 /// Why the words have no command.
@@ -40,8 +40,11 @@ pub fn command_of<'a>(alloc: Global, words: &'a [String]) -> Result<Command<'a>,
 /// The text that `clap` has for `--help`, `bare --help` or `--version`. Other words have none, which counts as want of
 /// memory.
 pub fn about(alloc: Global, words: &[String]) -> Result<String, WordsError> {
-    match read(alloc, words) {
-        Err(shown) if matches!(shown.kind(), ErrorKind::DisplayHelp | ErrorKind::DisplayVersion) => {
+    let Err(shown) = read(alloc, words) else {
+        return Err(WordsError::NoMemory);
+    };
+    match shown.kind() {
+        ErrorKind::DisplayHelp | ErrorKind::DisplayVersion => {
             format!(in alloc; "{shown}").map_err(|_| WordsError::NoMemory)
         }
         _ => Err(WordsError::NoMemory),

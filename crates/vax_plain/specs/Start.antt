@@ -1,0 +1,42 @@
+-- The memory and the registers with which a bare program starts (kernel mode, interrupt priority 31).
+use Rattle.std.specs.Prelude.{ℕ, ◌+◌, ◌*◌, ◌-◌, List, [], ◌∷◌, ◌++◌, length, replicate}
+use Rattle.std.specs.List.{concat}
+use Rattle.std.specs.Int.{div_ceil}
+use Rattle.vax_word.specs.declared.Core.{Core}
+use Rattle.vax_space.specs.declared.Area.{Area}
+
+-- pages that begin with these bytes, and hold 0 behind them
+unfoldable pub area : ℕ → ℕ → ℕ → List ℕ → Area
+area first pages prot bytes = record {
+  first = first;
+  pages = pages;
+  prot = prot;
+  bytes = bytes ++ replicate (512 * pages - length bytes) 0;
+}
+
+-- the system control block: each vector is the longword 2, which ends the run
+abbrev pub vectors : List ℕ
+vectors = concat (replicate 128 (2 ∷ 0 ∷ 0 ∷ 0 ∷ []))
+
+-- the executive, supervisor and user stacks, the system control block, the program, the kernel and the interrupt stack
+unfoldable pub memory : List ℕ → List Area
+memory bytes =
+    area 0x3FFF00 4 5 []
+    ∷ area 0x3FFF40 4 8 []
+    ∷ area 0x3FFFC0 64 4 []
+    ∷ area 0x400000 1 2 vectors
+    ∷ area 0x400001 (div_ceil (length bytes) 512) 14 bytes
+    ∷ area 0x400800 16 2 []
+    ∷ area 0x400880 4 2 []
+    ∷ []
+
+-- SP is the top of the kernel stack, PC the program's start
+abbrev pub core : ℕ → Core
+core start = record {
+  regs = replicate 14 0 ++ 0x80102000 ∷ start ∷ [];
+  psl = record { 0 = 0x001F0000 };
+  stacks = 0 ∷ 0x7FFE0800 ∷ 0x7FFE8800 ∷ 0x80000000 ∷ 0x80110800 ∷ [];
+  sisr = 0;
+  iccs = 0;
+  clock = 0;
+}

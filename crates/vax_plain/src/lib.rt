@@ -1,0 +1,10 @@
+//! Runs a program over plain memory: the whole of it, in the areas that a bare program starts with.
+//!
+//! `HALT` and `MOVL` from a literal or an immediate to a register are carried out. Whatever else an instruction needs
+//! ends the run.
+#![tactic(auto)]
+
+mod memory;
+mod start;
+
+pub use start::{Memory, core_at};
