@@ -1,10 +1,10 @@
 -- What the parts of a step do, seen from whatever comes next.
-use Rattle.std.specs.Prelude.{◌≡◌, ℕ, [], List, Option, None, Some}
+use Rattle.std.specs.Prelude.{◌≡◌, ℕ, true, false, [], List, Option, None, Some}
 use Rattle.vax_word.specs.declared.Core.{Core}
 use Rattle.vax_space.specs.declared.Access.TheVariants.{Read}
 use Rattle.vax_space.specs.declared.Area.{Area}
 use Rattle.vax_space.specs.declared.Violation.{Violation}
-use Rattle.vax_space.specs.Reference.{violation}
+use Rattle.vax_space.specs.Reference.{violation, may_access, page_of}
 use Rattle.vax_flat.specs.declared.Ending.TheVariants.{Unbuilt}
 use Rattle.vax_flat.specs.declared.Flow.{Flow}
 use Rattle.vax_flat.specs.declared.Flow.TheVariants as flow
@@ -25,6 +25,11 @@ state registers = record { core = registers; input = []; taken = 0; sent = None 
 -- a step that comes to this ends the run as one that isn't built
 abbrev pub IsUnbuilt : Outcome Leaf → Type 0
 IsUnbuilt outcome = (m : Flat) → completed m outcome ≡ ended m Unbuilt
+
+-- the byte at an address may be read and is this, or may not be read
+abbrev pub IsByte : List Area → ℕ → ℕ → Option ℕ → Type 0
+IsByte areas addr mode None = may_access areas (page_of addr) mode Read ≡ false
+IsByte areas addr mode (Some x) = (may_access areas (page_of addr) mode Read ≡ true) × (byte_at areas addr ≡ x)
 
 -- n bytes may be read at an address and are this number, or may not be read
 abbrev pub IsRead : List Area → ℕ → ℕ → ℕ → Option ℕ → Type 0

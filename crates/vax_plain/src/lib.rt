@@ -4,7 +4,9 @@
 //! ends the run.
 #![tactic(auto)]
 
+mod execute;
 mod memory;
 mod start;
 
+pub use execute::run;
 pub use start::{Memory, core_at};
