@@ -1,6 +1,6 @@
 -- The memory and the registers with which a bare program starts (kernel mode, interrupt priority 31).
 use Rattle.std.specs.Prelude.{ℕ, ◌+◌, ◌*◌, ◌-◌, List, [], ◌∷◌, ◌++◌, length, replicate}
-use Rattle.std.specs.List.{concat}
+use Rattle.std.specs.List.{flat_map}
 use Rattle.std.specs.Int.{div_ceil}
 use Rattle.vax_word.specs.declared.Core.{Core}
 use Rattle.vax_space.specs.declared.Area.{Area}
@@ -16,7 +16,7 @@ area first pages prot bytes = record {
 
 -- the system control block: each vector is the longword 2, which ends the run
 abbrev pub vectors : List ℕ
-vectors = concat (replicate 128 (2 ∷ 0 ∷ 0 ∷ 0 ∷ []))
+vectors = flat_map (λ vector. vector) (replicate 128 (2 ∷ 0 ∷ 0 ∷ 0 ∷ []))
 
 -- the executive, supervisor and user stacks, the system control block, the program, the kernel and the interrupt stack
 unfoldable pub memory : List ℕ → List Area

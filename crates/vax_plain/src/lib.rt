@@ -9,4 +9,4 @@ mod memory;
 mod start;
 
 pub use execute::run;
-pub use start::{Memory, core_at};
+pub use start::{Memory, core_at, memory_of};

@@ -26,6 +26,26 @@ fn area(alloc: Global, first: u32, pages: u32, prot: u8, bytes: &[u8]) -> Result
     })
 }
 
+/// The memory of a program: its bytes from 80000200 on, its stacks, and a system control block whose vectors end the
+/// run. The program has to end below the kernel stack.
+#[tactic(auto, unfolding(crate::specs::Start::memory))]
+pub fn memory_of(alloc: Global, bytes: &[u8]) -> Result<Memory, AllocError>
+    requires { length bytes.now ≤ 1048064 }
+    ensures { IfOk result (λ m. m ≡ memory bytes.now) }
+{
+    let pages = bytes.len().div_ceil(512) as u32;
+    let vectors = [[2, 0, 0, 0]; 128];
+    Ok([
+        area(alloc, 0x3F_FF00, 4, 5, &[])?,
+        area(alloc, 0x3F_FF40, 4, 8, &[])?,
+        area(alloc, 0x3F_FFC0, 64, 4, &[])?,
+        area(alloc, 0x40_0000, 1, 2, vectors.as_flattened())?,
+        area(alloc, 0x40_0001, pages, 14, bytes)?,
+        area(alloc, 0x40_0800, 16, 2, &[])?,
+        area(alloc, 0x40_0880, 4, 2, &[])?,
+    ])
+}
+
 /// The registers of a program that begins at an address.
 pub fn core_at(begin: u32) -> Core
     ensures { result ≡ core begin }

@@ -1,5 +1,5 @@
 //! What is kept of the lines that were read.
-ghost use Rattle.std.specs.Prelude.{◌≡◌, ◌<◌, ◌≤◌, ◌+◌, ◌*◌, ◌++◌, ◌∷◌, [], List, None, OnOk, OnErr, IfNone, IfOk, vec_len};
+ghost use Rattle.std.specs.Prelude.{◌≡◌, ◌<◌, ◌≤◌, ◌+◌, ◌*◌, ◌++◌, ◌∷◌, [], List, None, OnOk, OnErr, IfNone, IfOk, vec_len, length};
 ghost use Rattle.vax_source.specs.Statements.{Reading, bytes_of};
 ghost use Rattle.vax_source.specs.Program.{address_of, fault};
 ghost use Rattle.vax_source.specs.Views.{operation, reading};
@@ -126,7 +126,8 @@ impl<'a> Module<'a> {
 
     /// The program that begins at a label.
     pub(crate) fn program(self, name: &'a [u8]) -> Result<Program, SourceError>
-        ensures { (before : List Reading) → IsModule self.entry before → IsProgramOf before (address_of name.entry.now before) result }
+        ensures means { (before : List Reading) → IsModule self.entry before → IsProgramOf before (address_of name.entry.now before) result }
+        ensures short { IfOk result (λ p. length p.bytes.items ≤ 700000) }
     {
         let Some(start) = self.address(name) else {
             return Err(SourceError::Fault {

@@ -1,4 +1,5 @@
 //! Reads a source line by line.
+ghost use Rattle.std.specs.Prelude.{◌≤◌, IfOk, length};
 ghost use Rattle.vax_source.specs.Module.{Reads, ReadsText};
 
 use crate::line::Line;
@@ -10,7 +11,8 @@ use std::alloc::Global;
 
 /// The program of a text without small letters.
 fn read_text(alloc: Global, text: &[u8]) -> Result<Program, SourceError>
-    ensures { ReadsText text.now result }
+    ensures means { ReadsText text.now result }
+    ensures short { IfOk result (λ p. length p.bytes.items ≤ 700000) }
 {
     let mut module = Module::new(alloc);
     let mut rest = text;
@@ -37,7 +39,10 @@ fn read_text(alloc: Global, text: &[u8]) -> Result<Program, SourceError>
 /// Reads a source: its program, or its first fault. Takes time and memory in proportion to its length.
 #[tactic(auto, unfolding(crate::specs::Program::statements))]
 pub fn read_source(alloc: Global, source: &[u8]) -> Result<Program, SourceError>
-    ensures { Reads source.now result }
+    ensures means { Reads source.now result }
+
+    // A line has at most seven bytes.
+    ensures short { IfOk result (λ p. length p.bytes.items ≤ 700000) }
 {
     let capitals = source
         .iter()
