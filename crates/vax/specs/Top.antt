@@ -98,6 +98,14 @@ pub record IsRun (source : Text) (grown : Channels) : Type 0 where
 abbrev pub BareDoes : Text → Status → Channels → Type 0
 BareDoes source status grown = (IsRefused source status × (grown ≡ refusal_growth status)) ⊎ ((status ≡ Done) × IsRun source grown)
 
+-- a text about the program was shown, or memory was refused before
+abbrev pub IsAbout : Status → Channels → Type 0
+IsAbout status grown = ((status ≡ NoMemory) × (grown ≡ refusal_growth NoMemory)) ⊎ ((text : Text) × (status ≡ Done) × (grown ≡ only channel.Out text))
+
+-- `bare` went so, or memory was refused before the run
+abbrev pub IsBare : Text → Status → Channels → Type 0
+IsBare source status grown = ((status ≡ NoMemory) × (grown ≡ refusal_growth NoMemory)) ⊎ BareDoes source status grown
+
 -- what a command does with its files: the table of commands
 abbrev pub Does : Said → List Text → Status → Channels → Type 0
 Does (bare name) files status grown = (source : Text) × (files ≡ source ∷ []) × BareDoes source status grown

@@ -32,11 +32,11 @@ fn put_source_fault<K: Sink>(file: u8, line: u32, kind: u8, sink: &mut K) -> Res
 {
     let mut text = Text::new();
     text.push(b"vax: source ");
-    text.push_decimal(u64::from(file));
+    text.push_decimal(file as u64);
     text.push(b" line ");
-    text.push_decimal(u64::from(line));
+    text.push_decimal(line as u64);
     text.push(b" fault ");
-    text.push_decimal(u64::from(kind));
+    text.push_decimal(kind as u64);
     text.push(b"\n");
     put_all(sink, Chan::Report, text.as_slice())
 }
