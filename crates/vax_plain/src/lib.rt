@@ -7,6 +7,8 @@
 mod execute;
 mod memory;
 mod start;
+#[cfg(test)]
+mod tests;
 
 pub use execute::run;
 pub use start::{Memory, core_at, memory_of};

@@ -7,6 +7,8 @@ mod module;
 mod program;
 mod read;
 mod statements;
+#[cfg(test)]
+mod tests;
 mod tokens;
 
 pub use program::{Program, SourceError};
