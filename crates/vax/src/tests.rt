@@ -25,7 +25,10 @@ fn call(
         all.push(String::from_str(alloc, word)?)?;
     }
     let mut held = Vec::new(alloc);
-    held.push((String::from_str(alloc, "A")?, Vec::from_slice(alloc, source)?))?;
+    held.push((
+        String::from_str(alloc, "A")?,
+        Vec::from_slice(alloc, source)?,
+    ))?;
     let mut reads = Vec::new(alloc);
     if let Some(fail) = read_fails {
         reads.push(fail)?;

@@ -5,9 +5,20 @@ use std::test::Fail;
 #[test]
 fn reads_literals_and_immediates(rt: HostRuntime) -> Result<(), Fail> {
     let source = b"; no comment here\n";
-    assert!(rt; matches!(read_source(rt.alloc(), source), Err(SourceError::Fault { line: 1, kind: 4 })));
-    let program = read_source(rt.alloc(), b"HALT\n\nbegin: movl #5 , r1\n MOVL #^x40,R11\n.End Begin")?;
-    assert_eq!(rt; program.bytes.as_slice(), [0x00, 0xD0, 0x05, 0x51, 0xD0, 0x8F, 0x40, 0, 0, 0, 0x5B].as_slice());
+    assert!(rt;
+        matches!(
+            read_source(rt.alloc(), source),
+            Err(SourceError::Fault { line: 1, kind: 4 })
+        )
+    );
+    let program = read_source(
+        rt.alloc(),
+        b"HALT\n\nbegin: movl #5 , r1\n MOVL #^x40,R11\n.End Begin",
+    )?;
+    assert_eq!(rt;
+        program.bytes.as_slice(),
+        [0x00, 0xD0, 0x05, 0x51, 0xD0, 0x8F, 0x40, 0, 0, 0, 0x5B].as_slice()
+    );
     assert_eq!(rt; program.start, 0x8000_0201);
     Ok(())
 }

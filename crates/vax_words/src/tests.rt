@@ -13,14 +13,24 @@ fn words(rt: &HostRuntime, all: &[&str]) -> Result<Vec<String>, Fail> {
 #[test]
 fn reads_bare(rt: HostRuntime) -> Result<(), Fail> {
     let all = words(&rt, &["bare", "A"])?;
-    assert!(rt; matches!(command_of(rt.alloc(), all.as_slice()), Ok(Command::Bare("A"))));
+    assert!(rt;
+        matches!(
+            command_of(rt.alloc(), all.as_slice()),
+            Ok(Command::Bare("A"))
+        )
+    );
     Ok(())
 }
 
 #[test]
 fn refuses_other_words(rt: HostRuntime) -> Result<(), Fail> {
     let all = words(&rt, &["bare", "A", "--frames", "63"])?;
-    assert!(rt; matches!(command_of(rt.alloc(), all.as_slice()), Err(WordsError::Usage)));
+    assert!(rt;
+        matches!(
+            command_of(rt.alloc(), all.as_slice()),
+            Err(WordsError::Usage)
+        )
+    );
     Ok(())
 }
 

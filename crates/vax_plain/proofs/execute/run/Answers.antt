@@ -24,4 +24,4 @@ returns-in-Err-clause-stops c =
     let start = flat c.args.memory.now c.args.start None in
     let going = goes_on start c.args.memory.now c.loop-steps.core c.loop-steps.steps c.loop-steps.invariant.state c.loop-steps.invariant.going in
     stops_ended start c.args.memory.now c.loop-steps.core c.in-Err.ending (c.loop-steps.steps + 1) c.args.limit (omega arith) going
-        (one_more_step start _ _ c.loop-steps.steps c.loop-steps.invariant.state c.in-Err.ensures)
+    (one_more_step start _ _ c.loop-steps.steps c.loop-steps.invariant.state c.in-Err.ensures)
