@@ -1,0 +1,5 @@
+pub mod TokenLaws
+pub mod ReadLaws
+pub mod ModuleLaws
+pub mod LineLaws
+pub mod NumberLaws

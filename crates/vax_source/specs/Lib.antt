@@ -1,0 +1,7 @@
+pub mod Lines
+pub mod Tokens
+pub mod Names
+pub mod Statements
+pub mod Views
+pub mod Program
+pub mod Module

@@ -1,0 +1,15 @@
+//! Reads a source of the smallest language: lines with `HALT`, `MOVL #n,Rn`, labels and `.END`.
+#![tactic(auto)]
+
+mod line;
+mod lines;
+mod module;
+mod program;
+mod read;
+mod statements;
+#[cfg(test)]
+mod tests;
+mod tokens;
+
+pub use program::{Program, SourceError};
+pub use read::read_source;

@@ -1,0 +1,52 @@
+//! Words, as they were checked and as `clap` reads them.
+ghost use Rattle.std.specs.Prelude.{◌≡◌, IfOk, IsErrOf, None, Some};
+ghost use Rattle.vax_words.specs.Words.{command_of as said_of};
+ghost use Rattle.vax_words.specs.Said.{said, texts};
+
+use crate::clap_words::read;
+use crate::words::{Command, plain_command};
+use clap::error::ErrorKind;
+use std::alloc::Global;
+
+/// Why the words have no command.
+#[derive(Clone, Copy, Debug, PartialEq, Eq)]
+pub enum WordsError {
+    /// The words aren't plain words of the table of commands.
+    Usage,
+    NoMemory,
+}
+
+/// The name that `clap` finds behind `bare`.
+fn bare_name<'a>(alloc: Global, words: &'a [String]) -> Option<&'a str> {
+    let matches = read(alloc, words).ok()?;
+    matches.subcommand_matches("bare")?.get_str("FILE")
+}
+
+/// The command that the words name.
+pub fn command_of<'a>(alloc: Global, words: &'a [String]) -> Result<Command<'a>, WordsError>
+    ensures ok { IfOk result (λ c. said_of (texts words.entry.now) ≡ Some (said c)) }
+    ensures usage { IsErrOf result WordsError.Usage → said_of (texts words.entry.now) ≡ None }
+    ensures not_plain { said_of (texts words.entry.now) ≡ None → IsErrOf result WordsError.Usage }
+{
+    let Some(command) = plain_command(words) else {
+        return Err(WordsError::Usage);
+    };
+    match command {
+        Command::Bare(name) if bare_name(alloc, words) != Some(name) => Err(WordsError::NoMemory),
+        _ => Ok(command),
+    }
+}
+
+/// The text that `clap` has for `--help`, `bare --help` or `--version`. Other words have none, which counts as want of
+/// memory.
+pub fn about(alloc: Global, words: &[String]) -> Result<String, WordsError> {
+    let Err(shown) = read(alloc, words) else {
+        return Err(WordsError::NoMemory);
+    };
+    match shown.kind() {
+        ErrorKind::DisplayHelp | ErrorKind::DisplayVersion => {
+            format!(in alloc; "{shown}").map_err(|_| WordsError::NoMemory)
+        }
+        _ => Err(WordsError::NoMemory),
+    }
+}
