@@ -1,5 +1,5 @@
 -- Which lists of areas are spaces.
-use Rattle.std.specs.Prelude.{◌≡◌, ℕ, zero, suc, ◌+◌, ◌*◌, ◌<◌, Bool, not, ◌&&◌, ◌||◌, ◌==◌, if◌then◌else◌, nat_lt, nat_le, Option, Some, None, option_map, unwrap_or, option_and_then, List, length, slice_get}
+use Rattle.std.specs.Prelude.{◌≡◌, ℕ, zero, suc, ◌*◌, ◌<◌, Bool, not, ◌&&◌, ◌||◌, ◌==◌, if◌then◌else◌, nat_lt, nat_le, Option, Some, None, option_map, unwrap_or, option_and_then, List, length, slice_get}
 use Rattle.vax_space.specs.declared.Area.{Area}
 use Rattle.vax_space.specs.declared.SpaceError.{SpaceError}
 use Rattle.vax_space.specs.declared.SpaceError.TheVariants.{Order, Range, Prot, Length}

@@ -12,22 +12,22 @@ row kernel executive supervisor user = kernel ∷ executive ∷ supervisor ∷ u
 -- one row a code, with the rights of kernel, executive, supervisor and user mode; the reserved code allows nothing
 abbrev pub protection_table : List (List Right)
 protection_table =
-    row Nothing Nothing Nothing Nothing              -- 0 NA
-    ∷ row Nothing Nothing Nothing Nothing            -- 1 reserved
-    ∷ row ReadWrite Nothing Nothing Nothing          -- 2 KW
-    ∷ row ReadOnly Nothing Nothing Nothing           -- 3 KR
-    ∷ row ReadWrite ReadWrite ReadWrite ReadWrite    -- 4 UW
-    ∷ row ReadWrite ReadWrite Nothing Nothing        -- 5 EW
-    ∷ row ReadWrite ReadOnly Nothing Nothing         -- 6 ERKW
-    ∷ row ReadOnly ReadOnly Nothing Nothing          -- 7 ER
-    ∷ row ReadWrite ReadWrite ReadWrite Nothing      -- 8 SW
-    ∷ row ReadWrite ReadWrite ReadOnly Nothing       -- 9 SREW
-    ∷ row ReadWrite ReadOnly ReadOnly Nothing        -- A SRKW
-    ∷ row ReadOnly ReadOnly ReadOnly Nothing         -- B SR
-    ∷ row ReadWrite ReadWrite ReadWrite ReadOnly     -- C URSW
-    ∷ row ReadWrite ReadWrite ReadOnly ReadOnly      -- D UREW
-    ∷ row ReadWrite ReadOnly ReadOnly ReadOnly       -- E URKW
-    ∷ row ReadOnly ReadOnly ReadOnly ReadOnly        -- F UR
+    row Nothing Nothing Nothing Nothing  -- 0 NA
+    ∷ row Nothing Nothing Nothing Nothing  -- 1 reserved
+    ∷ row ReadWrite Nothing Nothing Nothing  -- 2 KW
+    ∷ row ReadOnly Nothing Nothing Nothing  -- 3 KR
+    ∷ row ReadWrite ReadWrite ReadWrite ReadWrite  -- 4 UW
+    ∷ row ReadWrite ReadWrite Nothing Nothing  -- 5 EW
+    ∷ row ReadWrite ReadOnly Nothing Nothing  -- 6 ERKW
+    ∷ row ReadOnly ReadOnly Nothing Nothing  -- 7 ER
+    ∷ row ReadWrite ReadWrite ReadWrite Nothing  -- 8 SW
+    ∷ row ReadWrite ReadWrite ReadOnly Nothing  -- 9 SREW
+    ∷ row ReadWrite ReadOnly ReadOnly Nothing  -- A SRKW
+    ∷ row ReadOnly ReadOnly ReadOnly Nothing  -- B SR
+    ∷ row ReadWrite ReadWrite ReadWrite ReadOnly  -- C URSW
+    ∷ row ReadWrite ReadWrite ReadOnly ReadOnly  -- D UREW
+    ∷ row ReadWrite ReadOnly ReadOnly ReadOnly  -- E URKW
+    ∷ row ReadOnly ReadOnly ReadOnly ReadOnly  -- F UR
     ∷ []
 
 abbrev pub permits : Right → Access → Bool

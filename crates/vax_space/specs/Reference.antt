@@ -1,6 +1,6 @@
 -- A reference to a range of bytes, and the access control violation that it meets
 -- (VAX Architecture Reference Manual, memory management: access control, length violations).
-use Rattle.std.specs.Prelude.{◌≡◌, ℕ, zero, suc, ◌+◌, ◌*◌, ◌/◌, ◌%◌, ◌^◌, ◌<◌, ◌≤◌, Bool, true, false, ◌&&◌, if◌then◌else◌, nat_lt, nat_le, Option, Some, None, List, [], ◌∷◌, max, min}
+use Rattle.std.specs.Prelude.{◌≡◌, ℕ, zero, suc, ◌+◌, ◌/◌, ◌%◌, ◌^◌, ◌<◌, Bool, true, false, ◌&&◌, if◌then◌else◌, nat_lt, nat_le, Option, Some, None, List, [], ◌∷◌, max, min}
 use Rattle.vax_space.specs.declared.Access.{Access}
 use Rattle.vax_space.specs.declared.Access.TheVariants.{Read, Write}
 use Rattle.vax_space.specs.declared.Area.{Area}
@@ -27,16 +27,23 @@ permitted (Some code) mode access = allows code mode access
 unfoldable pub may_access : List Area → ℕ → ℕ → Access → Bool
 may_access areas page mode access = permitted (prot_of areas page) mode access
 
+-- where an area of the program region ends
+abbrev pub end_in_program : Area → ℕ
+end_in_program area = if nat_lt area.first 0x200000 then end_of area else 0
+
 -- the page after the last that an area of the program region has
 unfoldable pub program_end : List Area → ℕ
 program_end [] = 0
-program_end (area ∷ areas) = if nat_lt area.first 0x200000 then max (end_of area) (program_end areas) else program_end areas
+program_end (area ∷ areas) = max (end_in_program area) (program_end areas)
+
+-- where an area of the control region begins
+abbrev pub start_in_control : Area → ℕ
+start_in_control area = if nat_le 0x200000 area.first && nat_lt area.first 0x400000 then area.first else 0x400000
 
 -- the first page that an area of the control region has, or the region's end
 unfoldable pub control_start : List Area → ℕ
 control_start [] = 0x400000
-control_start (area ∷ areas) =
-    if nat_le 0x200000 area.first && nat_lt area.first 0x400000 then min area.first (control_start areas) else control_start areas
+control_start (area ∷ areas) = min (start_in_control area) (control_start areas)
 
 -- the page lies past the length of its region: behind the last of P0, before the first of P1, behind the system
 -- page table's 1200 (hexadecimal) entries, or in the fourth region

@@ -1,0 +1,85 @@
+//! Page table entries.
+ghost use Rattle.std.specs.Prelude.{◌≡◌, ℕ, ◌+◌, ◌*◌, ◌≤◌, ◌<◌, ◌^◌, length};
+ghost use Rattle.vax_table.specs.Entry as spec;
+ghost use Rattle.vax_table.specs.Mapping.{changed};
+
+use byteorder::{ByteOrder, LittleEndian};
+
+use crate::Walk;
+
+const VALID: u32 = 0x8000_0000;
+const PROTECTION: u32 = 0x0800_0000;
+const MODIFIED: u32 = 0x0400_0000;
+const FRAMES: u32 = 0x0020_0000;
+
+/// The protection code of the entries of pages in no area.
+pub const NO_AREA: u8 = 1;
+
+/// The protection code in bits 30:27.
+#[inline]
+pub fn prot_in(entry: u32) -> u8
+    ensures value { result ≡ spec.prot_in entry }
+    ensures small { result ≤ 15 }
+{
+    (entry / PROTECTION % 16) as u8
+}
+
+/// The page frame number in bits 20:0.
+#[inline]
+pub fn frame_in(entry: u32) -> u32
+    ensures value { result ≡ spec.frame_in entry }
+    ensures small { result < 2 ^ 21 }
+{
+    entry % FRAMES
+}
+
+#[inline]
+pub fn entry_with(valid: bool, prot: u8, modified: bool, frame: u32) -> u32
+    requires prot { prot ≤ 15 }
+    requires frame { frame < 2 ^ 21 }
+    ensures { result ≡ spec.entry_with valid prot modified frame }
+{
+    let valid = if valid { VALID } else { 0 };
+    let modified = if modified { MODIFIED } else { 0 };
+    valid + u32::from(prot) * PROTECTION + modified + frame
+}
+
+/// What an entry says of its page.
+#[inline]
+#[tactic(auto, unfolding(crate::specs::Entry::said_by))]
+pub fn said_by(entry: u32) -> Walk
+    ensures { result ≡ spec.said_by entry }
+{
+    let prot = prot_in(entry);
+    if prot == NO_AREA {
+        Walk::Outside { length: false }
+    } else if entry / VALID % 2 == 1 {
+        Walk::Resident {
+            frame: frame_in(entry),
+            prot,
+            modified: entry / MODIFIED % 2 == 1,
+        }
+    } else {
+        Walk::Absent { prot }
+    }
+}
+
+/// The entry at a place, counted in longwords.
+#[inline]
+#[tactic(auto, unfolding(crate::specs::Entry::entry_at))]
+pub fn entry_at(bytes: &[u8], place: usize) -> u32
+    requires { 4 * place + 4 ≤ length bytes.now }
+    ensures { result ≡ spec.entry_at bytes.now place }
+{
+    LittleEndian::read_u32(&bytes[4 * place..])
+}
+
+/// Writes the entry at a place, and leaves all others.
+#[inline]
+pub fn put_entry(bytes: &mut [u8], place: usize, entry: u32)
+    requires { 4 * place + 4 ≤ length bytes.old }
+    ensures size { length bytes.new ≡ length bytes.old }
+    ensures entries { (n : ℕ) → spec.entry_at bytes.new n ≡ changed (spec.entry_at bytes.old) place entry n }
+{
+    LittleEndian::write_u32(&mut bytes[4 * place..], entry);
+}
