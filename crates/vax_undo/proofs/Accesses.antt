@@ -1,14 +1,13 @@
 -- What an access answers, within a page and over a page boundary.
-use Rattle.std.proofs.Common.{◌≡◌, ℕ, suc, zero, ◌+◌, ◌-◌, ◌*◌, ◌/◌, ◌%◌, ◌^◌, ◌<◌, ◌≤◌, Bool, true, false, Option, Some, None, Ok, List, [], ◌∷◌, ◌++◌, length, take, drop, refl, sym, ap, ◌∙◌, arith}
+use Rattle.std.proofs.Common.{◌≡◌, ℕ, suc, zero, ◌+◌, ◌-◌, ◌%◌, ◌^◌, ◌<◌, ◌≤◌, Bool, true, false, Some, None, Ok, List, [], ◌∷◌, ◌++◌, length, take, drop, refl, sym, ap, ◌∙◌, arith}
 use Rattle.std.specs.Int.{bytes_low_first}
-use Rattle.std.proofs.lemmas.List.{length-take-le}
 use Rattle.std.proofs.Math.Path.{fun_ext}
 use Rattle.vax_space.specs.declared.Access.{Access}
 use Rattle.vax_space.specs.declared.Access.TheVariants.{Read}
 use Rattle.vax_space.specs.Reference.{page_of, byte_after, violation}
 use Rattle.vax_flat.specs.declared.Stop.TheVariants.{NotResident}
 use Rattle.vax_flat.specs.Memory.{number, bytes_from}
-use Rattle.vax_flat.specs.Port.{View, put, put_run, first_absent, stop, stop_of, loaded, loaded_by}
+use Rattle.vax_flat.specs.Port.{View, put, put_run, first_absent, stop, loaded}
 use Rattle.vax_undo.specs.Blocks.{number_in, low_bytes}
 use Rattle.vax_undo.proofs.Numbers.{number_is, put_is, low_is, low_take, low-length}
 use Rattle.vax_undo.proofs.Ranges.{absent_here, resident_here, absent_parts, bytes_parts, run_parts}

@@ -1,23 +1,19 @@
 -- Areas and their blocks.
-use Rattle.std.proofs.Common.{◌≡◌, ℕ, suc, zero, ◌+◌, ◌-◌, ◌*◌, ◌/◌, ◌%◌, ◌^◌, ◌<◌, ◌≤◌, ◌⊎◌, Bool, true, false, cond, Option, Some, None, List, [], ◌∷◌, ◌++◌, length, get_or, take, drop, map, set, replicate, leb, ltb, refl, sym, ap, subst, ◌∙◌, arith, inl, inr, add-one, length-set, length-append}
-use Rattle.std.specs.Prelude.{is_some, slice_get, slice_index}
+use Rattle.std.proofs.Common.{◌≡◌, ℕ, suc, zero, ◌+◌, ◌-◌, ◌*◌, ◌%◌, ◌^◌, ◌<◌, ◌≤◌, ◌⊎◌, true, false, Some, None, List, [], ◌∷◌, ◌++◌, length, get_or, take, drop, map, set, leb, ltb, refl, sym, ap, subst, ◌∙◌, arith, inl, inr}
 use Rattle.std.proofs.lemmas.Bool.{cases_Bool, cases_lt, and_parts, leb-true, ltb-true, true≢false}
 use Rattle.std.proofs.lemmas.Bool.Decides.{nat_tests}
-use Rattle.std.proofs.lemmas.List.{get_or-set_same, get_or-take, get_or-drop, get_or-append_right, length-take-le, ext_get_or, length-drop}
+use Rattle.std.proofs.lemmas.List.{get_or-set_same, get_or-take, get_or-drop, length-take-le, ext_get_or, length-drop}
 use Rattle.std.proofs.lemmas.Grind.{common_steps}
 use Rattle.std.proofs.Math.Path.{fun_ext}
 use Rattle.vax_space.specs.declared.Area.{Area}
-use Rattle.vax_space.specs.Areas.{has_page, area_of}
-use Rattle.vax_space.specs.Faults.{IsSpace, is_placed, end_before}
+use Rattle.vax_space.specs.Areas.{has_page}
 use Rattle.vax_space.specs.Lookup.{slot}
 use Rattle.vax_space.specs.Reference.{page_of}
-use Rattle.vax_space.proofs.AreaFaults.{placed_some, placed_low, placed_high, placed_end, fits_here, end_here}
-use Rattle.vax_flat.specs.Memory.{byte_at, bytes_from, IsWhole}
-use Rattle.vax_flat.specs.Port.{put_run, layout, AreBytes}
-use Rattle.vax_flat.specs.Start.{filled, start_memory}
+use Rattle.vax_flat.specs.Memory.{byte_at, bytes_from}
+use Rattle.vax_flat.specs.Port.{put_run}
 use Rattle.vax_undo.specs.declared.block.Block.{Block}
-use Rattle.vax_undo.specs.Blocks.{memory_of, number_of_area, at_slot, owner_of, IsPlain, IsStart, AreStarts, IsFull}
-use Rattle.vax_undo.proofs.Ranges.{byte_within, bytes_length, run_within, run_outside, run_bytes}
+use Rattle.vax_undo.specs.Blocks.{memory_of, number_of_area}
+use Rattle.vax_undo.proofs.Ranges.{byte_within, bytes_length, run_within, run_outside}
 
 -- each area has its block, of all its bytes
 unfoldable pub AreBlocks : List Area → List Block → Type 0

@@ -1,5 +1,5 @@
 -- Numbers and their bytes, the lowest first.
-use Rattle.std.proofs.Common.{◌≡◌, ℕ, suc, zero, ◌+◌, ◌*◌, ◌/◌, ◌%◌, ◌^◌, ◌≤◌, cond, eqb, List, [], ◌∷◌, ◌++◌, length, get_or, take, drop, refl, sym, ap, ◌∙◌, arith}
+use Rattle.std.proofs.Common.{◌≡◌, ℕ, suc, zero, ◌+◌, ◌*◌, ◌/◌, ◌%◌, ◌^◌, ◌≤◌, cond, eqb, List, [], ◌∷◌, length, get_or, take, drop, refl, sym, ap, ◌∙◌, arith}
 use Rattle.std.proofs.lemmas.List.{drop_all}
 use Rattle.std.proofs.Math.Nat.{div-div-eq-div-mul, pow-suc}
 use Rattle.std.specs.Int.{bytes_low_first, byte_at as nth_byte}

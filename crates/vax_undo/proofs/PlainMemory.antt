@@ -1,10 +1,9 @@
 -- Plain memory: where the bytes of a resident page are, what a write leaves, and how it begins.
-use Rattle.std.proofs.Common.{◌≡◌, ℕ, suc, zero, ◌+◌, ◌-◌, ◌*◌, ◌/◌, ◌%◌, ◌^◌, ◌<◌, ◌≤◌, Bool, true, false, cond, eqb, Option, Some, None, Result, Ok, Err, List, [], ◌∷◌, ◌++◌, length, get_or, take, drop, set, refl, sym, ap, subst, ◌∙◌, arith, inl, inr, add-one, length-set, length-append, length-drop, nat_lt}
+use Rattle.std.proofs.Common.{◌≡◌, ℕ, suc, zero, ◌+◌, ◌-◌, ◌*◌, ◌%◌, ◌^◌, ◌<◌, ◌≤◌, Bool, true, false, cond, eqb, Option, Some, None, Result, Ok, Err, List, [], ◌∷◌, ◌++◌, length, get_or, take, drop, set, refl, sym, ap, subst, ◌∙◌, arith, inl, inr, length-set, length-append, length-drop, nat_lt}
 use Rattle.std.specs.Prelude.{is_some, is_ok, is_err, slice_get}
 use Rattle.std.proofs.lemmas.Bool.{cases_Bool, cases_eq, cases_lt, eq-eqb, ne_eqb}
 use Rattle.std.proofs.lemmas.Bool.Decides.{nat_tests}
 use Rattle.std.proofs.lemmas.List.{get_or-set_same, get_or-set_other, get_or_append_left, get_or-append_right, length-take-le, take_more}
-use Rattle.std.proofs.lemmas.Option.{slice_get_read}
 use Rattle.std.proofs.Math.Path.{fun_ext}
 use Rattle.std.specs.Vec.{with_items}
 use borrow.Rule.Slice.PartMut.{put_mid}
@@ -16,7 +15,7 @@ use Rattle.vax_space.specs.Reference.{page_of}
 use Rattle.vax_space.proofs.AreaFaults.{placed_some, placed_low, placed_high, placed_end, fits_here, end_here}
 use Rattle.vax_space.proofs.Tables.{written_back}
 use Rattle.vax_flat.specs.Memory.{byte_at, IsWhole}
-use Rattle.vax_flat.specs.Port.{put_run, layout, AreBytes}
+use Rattle.vax_flat.specs.Port.{put_run, layout}
 use Rattle.vax_flat.specs.Start.{start_memory}
 use Rattle.vax_undo.specs.declared.block.Block.{Block}
 use Rattle.vax_undo.specs.Blocks.{memory_of, number_of_area, at_slot, owner_of, IsPlain, IsStart, AreStarts, IsFull}

@@ -1,4 +1,4 @@
-use Rattle.std.proofs.Common.{arith, ◌≤◌, ◌+◌, ◌++◌, length, length-append}
+use Rattle.std.proofs.Common.{arith, ◌≤◌, ◌++◌, length, length-append}
 use Rattle.vax_undo.proofs.Numbers.{number_8}
 use Rattle.vax_undo.proofs.block.number_of_parts.Goals as goal
 

@@ -1,4 +1,4 @@
-use Rattle.std.proofs.Common.{arith, take, ◌≡◌, length, sym, ap, ◌∙◌, refl}
+use Rattle.std.proofs.Common.{arith, take, ◌≡◌, length, sym, ap, ◌∙◌}
 use Rattle.vax_undo.specs.Blocks.{low_bytes}
 use Rattle.vax_undo.proofs.Numbers.{sets_1, sets_2, sets_4, sets_8, low_is, low_take}
 use Rattle.vax_undo.proofs.block.put_number.Goals as goal

@@ -1,4 +1,4 @@
-use Rattle.std.proofs.Common.{sym, ◌∙◌, arith, refl, ◌≡◌, length, take}
+use Rattle.std.proofs.Common.{sym, ◌∙◌}
 use Rattle.std.proofs.lemmas.List.{take_all}
 use Rattle.vax_space.proofs.AreaFaults.{placed_end}
 use Rattle.vax_space.proofs.Extents.{fits_at}

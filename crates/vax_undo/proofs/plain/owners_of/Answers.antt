@@ -1,4 +1,4 @@
-use Rattle.std.proofs.Common.{sym, ap, ◌∙◌, refl, arith, ◌≡◌}
+use Rattle.std.proofs.Common.{sym, ◌∙◌, arith, ◌≡◌}
 use Rattle.vax_undo.proofs.PlainMemory.{pushed_on, owners_none, owners_more, owners_full, page_at, page_low, page_high}
 use Rattle.vax_undo.proofs.plain.owners_of.Goals.{then-place-lt32768, else-place-lt32768}
 use Rattle.vax_undo.proofs.plain.owners_of.Goals as goal

@@ -1,7 +1,7 @@
-use Rattle.std.proofs.Common.{◌≡◌, ℕ, Bool, None, ap, sym, ◌∙◌}
+use Rattle.std.proofs.Common.{ℕ, Bool, None, ap}
 use Rattle.vax_flat.specs.Port.{View}
 use Rattle.vax_undo.specs.Plain.{view_of}
-use Rattle.vax_undo.proofs.PlainMemory.{resident_set, resident_kept}
+use Rattle.vax_undo.proofs.PlainMemory.{resident_set}
 use Rattle.vax_undo.proofs.plain.Plain.hide.Goals as goal
 
 pub returns-in-Some : goal.returns-in-Some

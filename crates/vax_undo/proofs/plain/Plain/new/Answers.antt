@@ -1,4 +1,4 @@
-use Rattle.std.proofs.Common.{sym, ap, ◌∙◌, refl}
+use Rattle.std.proofs.Common.{ap, ◌∙◌, refl}
 use Rattle.std.specs.Prelude.{is_some}
 use Rattle.vax_flat.specs.Memory.{byte_at}
 use Rattle.vax_undo.specs.Blocks.{AreStarts, IsFull}

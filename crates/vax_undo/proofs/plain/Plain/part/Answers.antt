@@ -1,4 +1,4 @@
-use Rattle.std.proofs.Common.{◌≡◌, ℕ, ◌+◌, ◌-◌, ◌≤◌, length, arith, sym, ap, ◌∙◌, refl, take, drop}
+use Rattle.std.proofs.Common.{◌≡◌, ℕ, ◌+◌, ◌-◌, length, arith, sym, ap, ◌∙◌, refl}
 use Rattle.vax_undo.proofs.Blocks.{run_there}
 use Rattle.vax_undo.proofs.PlainMemory.{below_owner, room, shape_of, at_owner}
 use Rattle.vax_undo.proofs.plain.Plain.part.Goals as goal

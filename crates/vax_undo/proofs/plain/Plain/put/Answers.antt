@@ -1,7 +1,7 @@
-use Rattle.std.proofs.Common.{◌≡◌, ℕ, ◌+◌, ◌-◌, ◌≤◌, ◌%◌, length, take, drop, arith, sym, ap, ◌∙◌, refl, rules}
-use Rattle.vax_flat.specs.Port.{View, put}
+use Rattle.std.proofs.Common.{◌≡◌, ℕ, ◌+◌, ◌-◌, length, arith, ap}
+use Rattle.vax_flat.specs.Port.{View}
 use Rattle.vax_undo.specs.Plain.{view_of}
-use Rattle.vax_undo.proofs.PlainMemory.{below_owner, room, plain_put, view_put, part_length}
+use Rattle.vax_undo.proofs.PlainMemory.{below_owner, room, plain_put, view_put}
 use Rattle.vax_undo.proofs.plain.Plain.put.Goals as goal
 
 pub index_mut-block-requires : goal.index_mut-block-requires

@@ -1,5 +1,5 @@
-use Rattle.std.proofs.Common.{◌≡◌, ℕ, ◌+◌, ◌-◌, ◌≤◌, ◌%◌, length, take, drop, arith, sym, ap, ◌∙◌, refl, rules}
-use Rattle.vax_flat.specs.Port.{View, put}
+use Rattle.std.proofs.Common.{◌≡◌, ℕ, ◌+◌, ◌-◌, ◌≤◌, ◌%◌, length, arith, sym, ap, ◌∙◌}
+use Rattle.vax_flat.specs.Port.{View}
 use Rattle.vax_undo.specs.Plain.{view_of}
 use Rattle.vax_undo.proofs.PlainMemory.{below_owner, room, plain_put, view_put, part_length}
 use Rattle.std.proofs.Math.Path.{fun_ext}
