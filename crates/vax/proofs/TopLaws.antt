@@ -41,7 +41,7 @@ about_comes rose contents words status grown w (inl e) = rw w (no_memory rose co
 about_comes rose contents words status grown w (inr d) = rw w (inr ([], none_read contents, d))
 
 -- the machine at the start of a program
-started : (cpu : Cpu) (bytes : List ℕ) (begin : ℕ) → cpu.core ≡ core begin → cpu.term.input.items ≡ [] → cpu.term.place ≡ 0 → flat_of cpu (memory bytes) [] ≡ start_of bytes begin
+pub started : (cpu : Cpu) (bytes : List ℕ) (begin : ℕ) → cpu.core ≡ core begin → cpu.term.input.items ≡ [] → cpu.term.place ≡ 0 → flat_of cpu (memory bytes) [] ≡ start_of bytes begin
 started cpu bytes begin c i t k = record { core = c k; memory = memory bytes; input = i k; taken = t k; output = []; ending = None }
 
 -- what a run writes, by what it came to
@@ -51,10 +51,10 @@ unfolding run_report
 run_wrote m cpu old mid stopped last r l k =
     append (only Out (run stopped.steps m).output) (only Report (report (sym r.core k) ((l ∙ ap last_of (sym r.ending)) k) stopped.steps 0 (sym r.taken k) []))
 
-rose_later : (before mid now : ℕ) → before ≤ mid → Rose mid now → Rose before now
+pub rose_later : (before mid now : ℕ) → before ≤ mid → Rose mid now → Rose before now
 rose_later before mid now low rose = omega (arith, low, rose)
 
-rose_sooner : (before mid now : ℕ) → Rose before mid → mid ≤ now → Rose before now
+pub rose_sooner : (before mid now : ℕ) → Rose before mid → mid ≤ now → Rose before now
 rose_sooner before mid now rose low = omega (arith, low, rose)
 
 module _ (bytes : List ℕ) (begin : ℕ) (first cpu : Cpu) (is : flat_of first (memory bytes) [] ≡ start_of bytes begin) where

@@ -32,7 +32,7 @@ fn areas_of(alloc: Global, bytes: &[u8]) -> Result<Vec<Area>, AllocError>
 {
     let pages = bytes.len().div_ceil(512) as u32;
     let vectors = [[2, 0, 0, 0]; 128];
-    vec![in alloc;
+    let all = [
         area(alloc, 0x3F_FF00, 4, 5, &[])?,
         area(alloc, 0x3F_FF40, 4, 8, &[])?,
         area(alloc, 0x3F_FFC0, 64, 4, &[])?,
@@ -40,12 +40,12 @@ fn areas_of(alloc: Global, bytes: &[u8]) -> Result<Vec<Area>, AllocError>
         area(alloc, 0x40_0001, pages, 14, bytes)?,
         area(alloc, 0x40_0800, 16, 2, &[])?,
         area(alloc, 0x40_0880, 4, 2, &[])?,
-    ]
+    ];
+    Ok(Vec::from_array(alloc, all)?)
 }
 
 /// The memory of a program, with every page resident: its bytes from 80000200 on, its stacks, and a system control block whose vectors
 /// end the run. The program has to end below the kernel stack.
-#[tactic(auto, using(crate::proofs::Resident::all_resident))]
 pub fn memory_of(alloc: Global, bytes: &[u8]) -> Result<Plain, NoMemory>
     requires { length bytes.now ≤ 1048064 }
     ensures stands { IfOk result (λ p. StandsFor (view_of p) (memory bytes.now)) }
