@@ -2,6 +2,14 @@
 use clap::{Arg, ArgAction, ArgMatches, Command, Error};
 use std::alloc::{AllocError, Global};
 
+/// `--help`, without clap's short form, which isn't among the plain words.
+fn help<'a>(alloc: Global) -> Arg<'a> {
+    Arg::new(alloc, "help")
+        .long("help")
+        .action(ArgAction::Help)
+        .help("Print help")
+}
+
 /// The whole command line.
 fn command_line<'a>(alloc: Global) -> Result<Command<'a>, AllocError> {
     let file = Arg::new(alloc, "FILE")
@@ -11,13 +19,24 @@ fn command_line<'a>(alloc: Global) -> Result<Command<'a>, AllocError> {
     let bare = Command::new(alloc, "bare")
         .bin_name("vax bare")?
         .about("Run a source in kernel mode and report the registers on standard error")
+        .disable_help_flag(true)
+        .arg(help(alloc))?
         .arg(file)?;
+    let version = Arg::new(alloc, "version")
+        .long("version")
+        .action(ArgAction::Version)
+        .help("Print version");
     Command::new(alloc, "vax")
         .version("0.1.0")
         .bin_name("vax")?
         .about("An emulator of a VAX-11")
         .no_binary_name(true)
         .subcommand_required(true)
+        .disable_help_subcommand(true)
+        .disable_help_flag(true)
+        .disable_version_flag(true)
+        .arg(help(alloc))?
+        .arg(version)?
         .subcommand(bare)
 }
 

@@ -43,6 +43,8 @@ fn shows_help(rt: HostRuntime) -> Result<(), Fail> {
     let all = words(&rt, &["--help"])?;
     let help = about(rt.alloc(), all.as_slice())?;
     assert!(rt; help.as_str().contains("Usage: vax <COMMAND>"), "{help}");
+    assert!(rt; !help.as_str().contains("-h,"), "{help}");
+    assert!(rt; !help.as_str().contains("  help"), "{help}");
     let all = words(&rt, &["--version"])?;
     assert_eq!(rt; about(rt.alloc(), all.as_slice())?.as_str(), "vax 0.1.0\n");
     Ok(())
