@@ -67,10 +67,14 @@ module _ (bytes : List ℕ) (begin : ℕ) (first cpu : Cpu) (is : flat_of first 
   run_whole old mid new before now stopped last r l grew =
       let Q : Flat → Type 0 = λ m. (n : ℕ) × StopsAt n step_limit m × Ends before now old new Done (run_output m n) Done in
       let P : Channels → Type 0 = λ x. Grew old new x in
-      subst Q is (stopped.steps, r.stops, inl (record {
-        answer = refl;
-        grew = subst P (run_wrote at cpu old mid stopped last r l) (grew_more old mid new _ _ r.wrote grew);
-      }))
+      subst Q is (
+        stopped.steps,
+        r.stops,
+        inl (record {
+          answer = refl;
+          grew = subst P (run_wrote at cpu old mid stopped last r l) (grew_more old mid new _ _ r.wrote grew);
+        }),
+      )
 
   -- one whose report was cut short
   pub report_cut_short : (old mid new : Option Channels) (before now : ℕ) (stopped : Stopped) (last : Last) → IsRun step_limit at cpu old mid stopped → last ≡ last_of stopped.ending → GrewByPrefix mid new (only Report (report cpu.core last stopped.steps 0 cpu.term.place [])) → Rose before now →
@@ -78,20 +82,28 @@ module _ (bytes : List ℕ) (begin : ℕ) (first cpu : Cpu) (is : flat_of first 
   report_cut_short old mid new before now stopped last r l cut rose =
       let Q : Flat → Type 0 = λ m. (n : ℕ) × StopsAt n step_limit m × Ends before now old new Done (run_output m n) WriteFault in
       let text = only Report (report cpu.core last stopped.steps 0 cpu.term.place []) in
-      subst Q is (stopped.steps, r.stops, inr (record {
-        answer = refl;
-        prefix = prefix_in old mid new (only Out (run stopped.steps at).output) text nothing (run_output at stopped.steps)
-            (ap (append (only Out (run stopped.steps at).output)) (append-nothing text) ∙ run_wrote at cpu old mid stopped last r l) r.wrote cut;
-        cause = rose;
-      }))
+      subst Q is (
+        stopped.steps,
+        r.stops,
+        inr (record {
+          answer = refl;
+          prefix = prefix_in old mid new (only Out (run stopped.steps at).output) text nothing (run_output at stopped.steps)
+              (ap (append (only Out (run stopped.steps at).output)) (append-nothing text) ∙ run_wrote at cpu old mid stopped last r l) r.wrote cut;
+          cause = rose;
+        }),
+      )
 
   -- one of which the output was cut short
   pub output_cut_short : (old new : Option Channels) (before now : ℕ) → IsOutputCut step_limit at old new → Rose before now →
       (n : ℕ) × StopsAt n step_limit (start_of bytes begin) × Ends before now old new Done (run_output (start_of bytes begin) n) WriteFault
   output_cut_short old new before now r rose =
       let Q : Flat → Type 0 = λ m. (n : ℕ) × StopsAt n step_limit m × Ends before now old new Done (run_output m n) WriteFault in
-      subst Q is (r.steps, r.stops, inr (record {
-        answer = refl;
-        prefix = prefix_in old old new nothing (only Out (run r.steps at).output) (only Report (run_report at r.steps)) (run_output at r.steps) refl (grew_nothing old) r.wrote;
-        cause = rose;
-      }))
+      subst Q is (
+        r.steps,
+        r.stops,
+        inr (record {
+          answer = refl;
+          prefix = prefix_in old old new nothing (only Out (run r.steps at).output) (only Report (run_report at r.steps)) (run_output at r.steps) refl (grew_nothing old) r.wrote;
+          cause = rose;
+        }),
+      )

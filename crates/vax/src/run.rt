@@ -14,10 +14,10 @@ ghost use Rattle.vax.specs.Top.{IsBare, IsRefused, last_of, run_output, run_repo
 use crate::refuse::refuse;
 use crate::status::Status;
 use std::alloc::Global;
-use vax_flat::Ending;
-use vax_outside::{Failed, Sink};
 use vax_bare::{core_at, memory_of, run};
 use vax_cpu::Cpu;
+use vax_flat::Ending;
+use vax_outside::{Failed, Sink};
 use vax_report::{Last, write_report};
 use vax_source::{Program, SourceError, read_source};
 use vax_undo::{Plain, Term};

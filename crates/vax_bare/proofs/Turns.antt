@@ -111,26 +111,26 @@ Stops n limit m = (k : ℕ) × StopsAt k limit m × (n ≤ k)
 stops_or_goes_on : (n limit : ℕ) (m : Flat) (e : Option Ending) → n < limit → (run n m).ending ≡ None → (run (suc n) m).ending ≡ e → ((run (suc n) m).ending ≡ None → Stops (suc n) limit m) → Stops n limit m
 stops_or_goes_on n limit m None low going next rest = let r = rest next in (r.0, r.1, omega (arith, r.2))
 stops_or_goes_on n limit m (Some x) low going next rest = (
-    suc n,
-    record {
-      within = omega arith;
-      going = going_through n m going;
-      stopped = λ h. let no : Some x ≡ None = sym next ∙ h in cc;
-    },
-    omega arith,
+  suc n,
+  record {
+    within = omega arith;
+    going = going_through n m going;
+    stopped = λ h. let no : Some x ≡ None = sym next ∙ h in cc;
+  },
+  omega arith,
 )
 
 -- a machine that goes on after n steps stops later, or at the limit
 pub stops_later : (fuel n limit : ℕ) (m : Flat) → n + fuel ≡ limit → (run n m).ending ≡ None → Stops n limit m
 stops_later zero n limit m e going = (
-    n,
-    record { within = omega arith; going = going_below n m going; stopped = λ h. omega arith },
-    omega arith,
+  n,
+  record { within = omega arith; going = going_below n m going; stopped = λ h. omega arith },
+  omega arith,
 )
 stops_later (suc fuel) n limit m e going =
     let low : n < limit = omega arith in
     stops_or_goes_on n limit m (run (suc n) m).ending low going refl
-        (λ next. let s : suc n + fuel ≡ limit = omega arith in stops_later fuel (suc n) limit m s next)
+    (λ next. let s : suc n + fuel ≡ limit = omega arith in stops_later fuel (suc n) limit m s next)
 
 -- a run whose last batch ended it
 module _ (limit : ℕ) (m : Flat) (n : ℕ) (cpu next : Cpu) (view after : View) (old mid : Option Channels) (at : IsAt m n cpu view old mid) (count : ℕ) where
@@ -157,7 +157,7 @@ module _ (limit : ℕ) (m : Flat) (n : ℕ) (cpu next : Cpu) (view after : View)
   pub none_absent : (page : ℕ) → AreAttempts view (flat_of cpu at.memory (run n m).output) count (attempt.Absent page) next after → ⊥
   none_absent page a =
       let all : AllResident view.resident a.here.memory =
-          alike_resident view.resident view.resident at.memory a.here.memory refl (a.stays.1.areas ∙ (ap layout a.areas ∙ sym at.stands.areas)) at.resident in
+      alike_resident view.resident view.resident at.memory a.here.memory refl (a.stays.1.areas ∙ (ap layout a.areas ∙ sym at.stands.areas)) at.resident in
       let none = none_missing_step a.here view.resident all in
       let no : Some page ≡ None = sym a.attempted ∙ none in
       cc
@@ -172,7 +172,7 @@ module _ (limit : ℕ) (m : Flat) (n : ℕ) (cpu next : Cpu) (view after : View)
       let more = output_extends place (s.0 - place) m in
       let whole : (run s.0 m).output ≡ (run place m).output ++ more.more = ap (λ (i : ℕ). (run i m).output) far ∙ more.is in
       let parts : (run n m).output ++ (byte ∷ [] ++ more.more) ≡ (run s.0 m).output =
-          sym (whole ∙ (ap (λ o. o ++ more.more) (output_is m n cpu next view after old mid at count (Some byte) a) ∙ append_assoc (run n m).output (byte ∷ []) more.more)) in
+      sym (whole ∙ (ap (λ o. o ++ more.more) (output_is m n cpu next view after old mid at count (Some byte) a) ∙ append_assoc (run n m).output (byte ∷ []) more.more)) in
       record { steps = s.0; stops = s.1; wrote = prefix_within old mid new Out (run n m).output (byte ∷ []) more.more (run s.0 m).output parts at.wrote wrote }
 
 pub failed : {A E : Type 0} {P : Type 0} (r : Result A E) → P → OnErr r P

@@ -23,7 +23,12 @@ pub struct Stopped {
 /// that the program sends to its console go to Out in order.
 ///
 /// It fails where a write to Out failed, after a prefix of what the whole run sends.
-pub fn run<P: Port, K: Sink>(cpu: &mut Cpu, port: &mut P, limit: u64, sink: &mut K) -> Result<Stopped, Failed>
+pub fn run<P: Port, K: Sink>(
+    cpu: &mut Cpu,
+    port: &mut P,
+    limit: u64,
+    sink: &mut K,
+) -> Result<Stopped, Failed>
     requires closed { cpu.old.latch ≡ None }
     requires unsent { cpu.old.term.out ≡ None }
     requires resident { AllResident (P.view port.old).resident (P.view port.old).areas }

@@ -25,10 +25,10 @@ module _ (tree : State → (Flow → State → Accesses Leaf) → Accesses Leaf)
   -- a step that is kept
   pub kept : (sent : Option ℕ) → how ≡ flow.Done → new.state ≡ with_sent mid.state None → new.view ≡ mid.view → sent ≡ mid.state.sent → IsTried (λ s. tree s leaf) old (tried.Step sent) new
   kept sent is state view byte = (
-      mid.state,
-      came ∙ (ap (λ x. Comes (Went x mid.state) mid.view) is ∙ ap (λ v. Comes (Went flow.Done mid.state) v) (sym view)),
-      state,
-      byte,
+    mid.state,
+    came ∙ (ap (λ x. Comes (Went x mid.state) mid.view) is ∙ ap (λ v. Comes (Went flow.Done mid.state) v) (sym view)),
+    state,
+    byte,
   )
 
   -- one that ends the run

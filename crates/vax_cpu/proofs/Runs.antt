@@ -57,7 +57,7 @@ unfolding run
 reaches_more view m count mid next r t input =
     let here = r.here in
     let from_here : IsTried whole_step (record { state = state_of here; view = mid.view }) (tried.Step None) next =
-        subst (λ (s : State). IsTried whole_step (record { state = s; view = mid.view }) (tried.Step None) next) r.is.state t in
+    subst (λ (s : State). IsTried whole_step (record { state = s; view = mid.view }) (tried.Step None) next) r.is.state t in
     let one = step_concluded mid.view here r.is.running r.is.stands from_here.0 next.view from_here.1 in
     record {
       here = concluded here (Went flow.Done from_here.0) one.1;
@@ -103,8 +103,7 @@ module _ (view : View) (m : Flat) (count : ℕ) (mid : Present) (r : Reaches vie
   -- registers and memory are where they were
   stays : new ≡ mid → (flat_of cpu r.here.memory r.here.output ≡ r.here) × StandsFor after r.here.memory
   stays e =
-      let s : new.state ≡ state_of r.here = ap (λ (p : Present). p.state) e ∙ r.is.state in
-      (
+      let s : new.state ≡ state_of r.here = ap (λ (p : Present). p.state) e ∙ r.is.state in (
         λ k. record {
           core = ap (λ (x : State). x.core) s k;
           memory = r.here.memory;
@@ -121,15 +120,15 @@ module _ (view : View) (m : Flat) (count : ℕ) (mid : Present) (r : Reaches vie
 
   kept_here : (sent : Option ℕ) → (first_missing mid.view.resident (step_touches r.here) ≡ None) × IsStep mid.view r.here sent cpu after → (first_missing view.resident (step_touches r.here) ≡ None) × IsStep view r.here sent cpu after
   kept_here sent k = (
-      first_here None k.0,
-      record {
-        memory = k.1.memory;
-        step = k.1.step;
-        stands = k.1.stands;
-        absent = λ addr gone. k.1.absent addr (ap (λ (f : ℕ → Bool). f (page_of addr)) r.is.resident ∙ gone);
-        resident = k.1.resident ∙ r.is.resident;
-        areas = k.1.areas ∙ r.is.areas;
-      },
+    first_here None k.0,
+    record {
+      memory = k.1.memory;
+      step = k.1.step;
+      stands = k.1.stands;
+      absent = λ addr gone. k.1.absent addr (ap (λ (f : ℕ → Bool). f (page_of addr)) r.is.resident ∙ gone);
+      resident = k.1.resident ∙ r.is.resident;
+      areas = k.1.areas ∙ r.is.areas;
+    },
   )
 
   all : (last : Attempt) → Attempted view r.here last cpu after → StaysAt r.here last cpu after → after.resident ≡ view.resident → after.areas ≡ view.areas → AreAttempts view m count last cpu after

@@ -39,7 +39,7 @@ after_step : (m : Flat) (s : State) (memory : List Area) (cpu : Cpu) (sent : Opt
     cpu.core ≡ s.core → cpu.term.place ≡ s.taken → sent ≡ s.sent → concluded m (Went flow.Done s) memory ≡ flat_of cpu memory (with_byte_sent m.output sent)
 after_step m s memory cpu sent running input core taken byte =
     flat_alike s.core cpu.core memory m.input cpu.term.input.items s.taken cpu.term.place (with_byte_sent m.output s.sent) (with_byte_sent m.output sent) m.ending None
-        (sym core) input (sym taken) (ap (with_byte_sent m.output) (sym byte)) running
+    (sym core) input (sym taken) (ap (with_byte_sent m.output) (sym byte)) running
 
 -- a processor that has sent nothing
 pub unsent : (core : Core) (term : Term) (view : View) → term.out ≡ None →
@@ -84,8 +84,7 @@ module _ (view : View) (m : Flat) (running : m.ending ≡ None) (st : StandsFor 
   pub step_kept : (sent : Option ℕ) (cpu : Cpu) (after : View) → m.input ≡ cpu.term.input.items → IsTried whole_step (record { state = state_of m; view = view }) (tried.Step sent) (record { state = state_at cpu.core cpu.term; view = after }) →
       (first_missing view.resident (step_touches m) ≡ None) × IsStep view m sent cpu after
   step_kept sent cpu after input t =
-      let a = subst (λ x. Agrees view m.memory x whole_touches whole_outcome) t.1 (standing (whole_step (state_of m)) view m.memory st) in
-      (
+      let a = subst (λ x. Agrees view m.memory x whole_touches whole_outcome) t.1 (standing (whole_step (state_of m)) view m.memory st) in (
         nothing_more None (Went flow.Done t.0) a.3.0 a.0 a.3.1,
         record {
           memory = a.3.0;
@@ -94,14 +93,13 @@ module _ (view : View) (m : Flat) (running : m.ending ≡ None) (st : StandsFor 
           absent = a.3.3;
           resident = a.1;
           areas = a.2;
-        }
+        },
       )
 
   -- one that ends the run
   pub step_ended : (e : Ending) (new : Present) → IsTried whole_step (record { state = state_of m; view = view }) (tried.Ended e) new → (first_missing view.resident (step_touches m) ≡ None) × (step m ≡ ended m e)
   step_ended e new t =
-      let a = subst (λ x. Agrees view m.memory x whole_touches whole_outcome) t.3 (standing (whole_step (state_of m)) view m.memory st) in
-      (
+      let a = subst (λ x. Agrees view m.memory x whole_touches whole_outcome) t.3 (standing (whole_step (state_of m)) view m.memory st) in (
         nothing_more None (Went t.0 t.1) a.3.0 a.0 a.3.1,
         step_is (Ends (Went t.0 t.1) a.3.0) a.3.1 ∙ concluded_ends m t.0 t.1 a.3.0 e t.4,
       )
@@ -130,8 +128,7 @@ module _ (view : View) (m : Flat) (running : m.ending ≡ None) (st : StandsFor 
     pub delivery_kept : (sent : Option ℕ) (cpu : Cpu) (after : View) → m.input ≡ cpu.term.input.items → IsTried (whole_delivery x) (record { state = state_of m; view = view }) (tried.Step sent) (record { state = state_at cpu.core cpu.term; view = after }) →
         (first_missing view.resident (step_touches m) ≡ None) × IsStep view m sent cpu after
     delivery_kept sent cpu after input t =
-        let a = subst (λ y. Agrees view m.memory y delivery_touches delivery_outcome) t.1 (standing (whole_delivery x (state_of m)) view m.memory st) in
-        (
+        let a = subst (λ y. Agrees view m.memory y delivery_touches delivery_outcome) t.1 (standing (whole_delivery x (state_of m)) view m.memory st) in (
           touches_it ∙ a.0,
           record {
             memory = a.3.0;
@@ -140,13 +137,12 @@ module _ (view : View) (m : Flat) (running : m.ending ≡ None) (st : StandsFor 
             absent = a.3.3;
             resident = a.1;
             areas = a.2;
-          }
+          },
         )
 
     pub delivery_ended : (e : Ending) (new : Present) → IsTried (whole_delivery x) (record { state = state_of m; view = view }) (tried.Ended e) new → (first_missing view.resident (step_touches m) ≡ None) × (step m ≡ ended m e)
     delivery_ended e new t =
-        let a = subst (λ y. Agrees view m.memory y delivery_touches delivery_outcome) t.3 (standing (whole_delivery x (state_of m)) view m.memory st) in
-        (
+        let a = subst (λ y. Agrees view m.memory y delivery_touches delivery_outcome) t.3 (standing (whole_delivery x (state_of m)) view m.memory st) in (
           touches_it ∙ a.0,
           step_it (Ends (Went t.0 t.1) a.3.0) a.3.1 ∙ concluded_ends m t.0 t.1 a.3.0 e t.4,
         )

@@ -135,7 +135,12 @@ pub(crate) fn try_step<P: Port>(core: &mut Core, term: &mut Term, port: &mut P) 
 }
 
 /// Makes an attempt at the delivery of an exception, from the state at the start of the instruction.
-pub(crate) fn try_delivery<P: Port>(core: &mut Core, term: &mut Term, port: &mut P, exception: Exception) -> Tried
+pub(crate) fn try_delivery<P: Port>(
+    core: &mut Core,
+    term: &mut Term,
+    port: &mut P,
+    exception: Exception,
+) -> Tried
     requires { term.old.out ≡ None }
     ensures tried { IsTried (whole_delivery exception) (record { state = state_of core.old term.old; view = P.view port.old }) result (record { state = state_of core.new term.new; view = P.view port.new }) }
     ensures unsent { term.new.out ≡ None }
@@ -154,7 +159,12 @@ pub(crate) struct Several {
 }
 
 /// Makes at most `most` attempts at steps, up to the first that isn't completed or that sends a byte. They share one log.
-pub(crate) fn try_steps<P: Port>(core: &mut Core, term: &mut Term, port: &mut P, most: u64) -> Several
+pub(crate) fn try_steps<P: Port>(
+    core: &mut Core,
+    term: &mut Term,
+    port: &mut P,
+    most: u64,
+) -> Several
     requires unsent { term.old.out ≡ None }
     requires some { 1 ≤ most }
     ensures ran { (mid : Present) × Ran result.steps (record { state = state_of core.old term.old; view = P.view port.old }) mid × IsTried whole_step mid result.last (record { state = state_of core.new term.new; view = P.view port.new }) }

@@ -119,7 +119,7 @@ byte_at-written memory addr (suc len) value place mode access w h =
     let g = allowed_first memory addr len mode access h in
     let rest = written memory (after addr) len (value / 256) in
     byte_at-with_byte rest addr (value % 256) place (whole_written memory (after addr) len (value / 256) w)
-        (mapped_after memory (after addr) len (value / 256) (page_of addr) (mapped_where_accessible memory (page_of addr) mode access g.0))
+    (mapped_after memory (after addr) len (value / 256) (page_of addr) (mapped_where_accessible memory (page_of addr) mode access g.0))
     ∙ ap (cond (eqb place addr) (value % 256)) (byte_at-written memory (after addr) len (value / 256) place mode access w g.1)
 
 -- runs of bytes
@@ -147,5 +147,5 @@ byte_at-written_run memory addr [] place mode access w h = refl
 byte_at-written_run memory addr (b ∷ bs) place mode access w h =
     let g = allowed_first memory addr (length bs) mode access h in
     byte_at-with_byte (written_run memory (after addr) bs) addr b place (whole_written_run memory (after addr) bs w)
-        (mapped_after_run memory (after addr) bs (page_of addr) (mapped_where_accessible memory (page_of addr) mode access g.0))
+    (mapped_after_run memory (after addr) bs (page_of addr) (mapped_where_accessible memory (page_of addr) mode access g.0))
     ∙ ap (cond (eqb place addr) b) (byte_at-written_run memory (after addr) bs place mode access w g.1)

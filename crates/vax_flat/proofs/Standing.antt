@@ -91,27 +91,27 @@ standing (Done x) view memory st = (refl, refl, refl, (memory, refl, st, λ addr
 standing (Raises e) view memory st = (refl, refl)
 standing (Checks addr len mode access next) view memory st =
     rw (violation-alike view.areas memory addr len mode access (sym st.areas))
-        (allowed view memory _ _ (violation memory addr len mode access) _ (standing next view memory st))
+    (allowed view memory _ _ (violation memory addr len mode access) _ (standing next view memory st))
 standing (Asks addr len mode access next) view memory st =
     rw (violation-alike view.areas memory addr len mode access (sym st.areas))
-        (standing (next (is_allowed (violation memory addr len mode access))) view memory st)
+    (standing (next (is_allowed (violation memory addr len mode access))) view memory st)
 standing (Reads addr len mode next) view memory st =
     rw (violation-alike view.areas memory addr len mode Read (sym st.areas))
-        (used view memory _ _ (violation memory addr len mode Read) (first_absent view.resident addr len) (record { addr = addr; len = len }) _ refl
-            (λ fine here. rw (same_number view memory addr len st here) (standing (next (number (byte_at memory) addr len)) view memory st)))
+    (used view memory _ _ (violation memory addr len mode Read) (first_absent view.resident addr len) (record { addr = addr; len = len }) _ refl
+    (λ fine here. rw (same_number view memory addr len st here) (standing (next (number (byte_at memory) addr len)) view memory st)))
 standing (Writes addr len value mode next) view memory st =
     rw (violation-alike view.areas memory addr len mode Write (sym st.areas))
-        (used view memory _ _ (violation memory addr len mode Write) (first_absent view.resident addr len) (record { addr = addr; len = len }) _ refl
-            (λ fine here. agrees_before view memory (with_number view addr len value) (written memory addr len value) _ _ _ refl refl
-                (λ place gone. byte_at-written memory addr len value place mode Write st.whole fine ∙ put-absent view.resident (byte_at memory) addr len value place here gone)
-                (standing next (with_number view addr len value) (written memory addr len value) (stands_written view memory addr len value mode st fine))))
+    (used view memory _ _ (violation memory addr len mode Write) (first_absent view.resident addr len) (record { addr = addr; len = len }) _ refl
+    (λ fine here. agrees_before view memory (with_number view addr len value) (written memory addr len value) _ _ _ refl refl
+    (λ place gone. byte_at-written memory addr len value place mode Write st.whole fine ∙ put-absent view.resident (byte_at memory) addr len value place here gone)
+    (standing next (with_number view addr len value) (written memory addr len value) (stands_written view memory addr len value mode st fine))))
 standing (ReadsRun addr len mode next) view memory st =
     rw (violation-alike view.areas memory addr len mode Read (sym st.areas))
-        (used view memory _ _ (violation memory addr len mode Read) (first_absent view.resident addr len) (record { addr = addr; len = len }) _ refl
-            (λ fine here. rw (same_bytes view memory addr len st here) (standing (next (bytes_from (byte_at memory) addr len)) view memory st)))
+    (used view memory _ _ (violation memory addr len mode Read) (first_absent view.resident addr len) (record { addr = addr; len = len }) _ refl
+    (λ fine here. rw (same_bytes view memory addr len st here) (standing (next (bytes_from (byte_at memory) addr len)) view memory st)))
 standing (WritesRun addr bytes mode next) view memory st =
     rw (violation-alike view.areas memory addr (length bytes) mode Write (sym st.areas))
-        (used view memory _ _ (violation memory addr (length bytes) mode Write) (first_absent view.resident addr (length bytes)) (record { addr = addr; len = length bytes }) _ refl
-            (λ fine here. agrees_before view memory (with_run view addr bytes) (written_run memory addr bytes) _ _ _ refl refl
-                (λ place gone. byte_at-written_run memory addr bytes place mode Write st.whole fine ∙ put_run-absent view.resident (byte_at memory) addr bytes place here gone)
-                (standing next (with_run view addr bytes) (written_run memory addr bytes) (stands_written_run view memory addr bytes mode st fine))))
+    (used view memory _ _ (violation memory addr (length bytes) mode Write) (first_absent view.resident addr (length bytes)) (record { addr = addr; len = length bytes }) _ refl
+    (λ fine here. agrees_before view memory (with_run view addr bytes) (written_run memory addr bytes) _ _ _ refl refl
+    (λ place gone. byte_at-written_run memory addr bytes place mode Write st.whole fine ∙ put_run-absent view.resident (byte_at memory) addr bytes place here gone)
+    (standing next (with_run view addr bytes) (written_run memory addr bytes) (stands_written_run view memory addr bytes mode st fine))))

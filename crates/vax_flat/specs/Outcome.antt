@@ -58,16 +58,16 @@ touches_of (Asks addr len mode access next) memory =
     touches_of (next (is_allowed (violation memory addr len mode access))) memory
 touches_of (Reads addr len mode next) memory =
     unless_stopped (violation memory addr len mode Read)
-        (record { addr = addr; len = len } ∷ touches_of (next (number (byte_at memory) addr len)) memory)
+    (record { addr = addr; len = len } ∷ touches_of (next (number (byte_at memory) addr len)) memory)
 touches_of (Writes addr len value mode next) memory =
     unless_stopped (violation memory addr len mode Write)
-        (record { addr = addr; len = len } ∷ touches_of next (written memory addr len value))
+    (record { addr = addr; len = len } ∷ touches_of next (written memory addr len value))
 touches_of (ReadsRun addr len mode next) memory =
     unless_stopped (violation memory addr len mode Read)
-        (record { addr = addr; len = len } ∷ touches_of (next (bytes_from (byte_at memory) addr len)) memory)
+    (record { addr = addr; len = len } ∷ touches_of (next (bytes_from (byte_at memory) addr len)) memory)
 touches_of (WritesRun addr bytes mode next) memory =
     unless_stopped (violation memory addr (length bytes) mode Write)
-        (record { addr = addr; len = length bytes } ∷ touches_of next (written_run memory addr bytes))
+    (record { addr = addr; len = length bytes } ∷ touches_of next (written_run memory addr bytes))
 
 abbrev pub or_else : Option ℕ → Option ℕ → Option ℕ
 or_else (Some page) other = Some page

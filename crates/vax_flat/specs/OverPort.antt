@@ -69,6 +69,6 @@ abbrev pub Agrees : {A : Type 0} → View → List Area → Arrival A → Option
 Agrees view memory (Comes x after) first outcome =
     (first ≡ None) × (after.resident ≡ view.resident) × (after.areas ≡ view.areas)
     × ((now : List Area) × (outcome ≡ Ends x now) × StandsFor after now
-        × ((addr : ℕ) → view.resident (page_of addr) ≡ false → byte_at now addr ≡ byte_at memory addr))
+    × ((addr : ℕ) → view.resident (page_of addr) ≡ false → byte_at now addr ≡ byte_at memory addr))
 Agrees view memory (Stops (Absent page)) first outcome = first ≡ Some page
 Agrees view memory (Stops (Event e)) first outcome = (first ≡ None) × (outcome ≡ Raised e)

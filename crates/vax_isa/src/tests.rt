@@ -6,16 +6,16 @@ use super::*;
 /// The names by opcode, sixteen a line. The empty text stands for a reserved opcode.
 #[rattlefmt::skip]
 static NAMES: [&str; 256] = [
-    // 00
+    // 0x00
     "HALT", "NOP", "REI", "BPT", "RET", "RSB", "", "",
     "", "", "INDEX", "", "PROBER", "PROBEW", "INSQUE", "REMQUE",
-    // 10
+    // 0x10
     "BSBB", "BRB", "BNEQ", "BEQL", "BGTR", "BLEQ", "JSB", "JMP",
     "BGEQ", "BLSS", "BGTRU", "BLEQU", "BVC", "BVS", "BCC", "BCS",
-    // 20
+    // 0x20
     "", "", "", "", "", "", "", "",
     "MOVC3", "CMPC3", "SCANC", "SPANC", "MOVC5", "CMPC5", "MOVTC", "MOVTUC",
-    // 30
+    // 0x30
     "BSBW", "BRW", "CVTWL", "CVTWB", "", "", "", "",
     "", "MATCHC", "LOCC", "SKPC", "MOVZWL", "ACBW", "MOVAW", "PUSHAW",
     // 40: floating point
@@ -24,30 +24,30 @@ static NAMES: [&str; 256] = [
     "", "", "", "", "", "", "", "", "ADAWI", "", "", "", "", "", "", "",
     // 60: floating point
     "", "", "", "", "", "", "", "", "", "", "", "", "", "", "", "",
-    // 70
+    // 0x70
     "", "", "", "", "", "", "", "", "ASHL", "ASHQ", "EMUL", "EDIV", "CLRQ", "MOVQ", "MOVAQ", "PUSHAQ",
-    // 80
+    // 0x80
     "ADDB2", "ADDB3", "SUBB2", "SUBB3", "MULB2", "MULB3", "DIVB2", "DIVB3",
     "BISB2", "BISB3", "BICB2", "BICB3", "XORB2", "XORB3", "MNEGB", "CASEB",
-    // 90
+    // 0x90
     "MOVB", "CMPB", "MCOMB", "BITB", "CLRB", "TSTB", "INCB", "DECB",
     "CVTBL", "CVTBW", "MOVZBL", "MOVZBW", "ROTL", "ACBB", "MOVAB", "PUSHAB",
-    // A0
+    // 0xA0
     "ADDW2", "ADDW3", "SUBW2", "SUBW3", "MULW2", "MULW3", "DIVW2", "DIVW3",
     "BISW2", "BISW3", "BICW2", "BICW3", "XORW2", "XORW3", "MNEGW", "CASEW",
-    // B0
+    // 0xB0
     "MOVW", "CMPW", "MCOMW", "BITW", "CLRW", "TSTW", "INCW", "DECW",
     "BISPSW", "BICPSW", "POPR", "PUSHR", "CHMK", "CHME", "CHMS", "CHMU",
-    // C0
+    // 0xC0
     "ADDL2", "ADDL3", "SUBL2", "SUBL3", "MULL2", "MULL3", "DIVL2", "DIVL3",
     "BISL2", "BISL3", "BICL2", "BICL3", "XORL2", "XORL3", "MNEGL", "CASEL",
-    // D0
+    // 0xD0
     "MOVL", "CMPL", "MCOML", "BITL", "CLRL", "TSTL", "INCL", "DECL",
     "ADWC", "SBWC", "MTPR", "MFPR", "MOVPSL", "PUSHL", "MOVAL", "PUSHAL",
-    // E0
+    // 0xE0
     "BBS", "BBC", "BBSS", "BBCS", "BBSC", "BBCC", "BBSSI", "BBCCI",
     "BLBS", "BLBC", "FFS", "FFC", "CMPV", "CMPZV", "EXTV", "EXTZV",
-    // F0
+    // 0xF0
     "INSV", "ACBL", "AOBLSS", "AOBLEQ", "SOBGEQ", "SOBGTR", "CVTLB", "CVTLW",
     "", "", "CALLG", "CALLS", "XFC", "", "", "",
 ];

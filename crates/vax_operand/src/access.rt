@@ -102,6 +102,12 @@ pub fn next_value<P: Port>(txn: &mut Txn<P>, width: u8) -> Result<u64, Cut>
     ensures fits { IfOk result (λ x. x < 256 ^ width) }
     ensures keeps { Keeps P.view P.since 4 txn.old txn.new }
 {
-    let operand = next(txn, OperandKind { letter: Letter::Read, width })?;
+    let operand = next(
+        txn,
+        OperandKind {
+            letter: Letter::Read,
+            width,
+        },
+    )?;
     Ok(value_of(operand))
 }

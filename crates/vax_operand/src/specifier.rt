@@ -250,7 +250,12 @@ fn memory_operand<P: Port>(txn: &mut Txn<P>, kind: OperandKind, form: Form) -> R
 
 /// An operand of a base form, indexed by register `x`.
 #[tactic(auto, using(vax_flat::proofs::Leaves::over_port_raises), unfolding(vax_flat::specs::Operand::indexed))]
-fn indexed_operand<P: Port>(txn: &mut Txn<P>, kind: OperandKind, x: u8, base: Form) -> Result<Operand, Cut>
+fn indexed_operand<P: Port>(
+    txn: &mut Txn<P>,
+    kind: OperandKind,
+    x: u8,
+    base: Form,
+) -> Result<Operand, Cut>
     requires width { IsWidth kind.width }
     requires of_core { x < 16 }
     requires form { IsForm base }

@@ -29,42 +29,54 @@ loop-steps-preserved g c =
 
 pub returns-in-Some-clause-ran : goal.returns-in-Some-clause-ran
 returns-in-Some-clause-ran g c =
-    let now = present g.P.Port.view c.loop-steps.txn in
-    (now, c.loop-steps.invariant.ran,
+    let now = present g.P.Port.view c.loop-steps.txn in (
+      now,
+      c.loop-steps.invariant.ran,
       sent_step now (present g.P.Port.view c.work.new.txn) (present g.P.Port.view c.renew.new.self) (record { state = _; view = _ }) c.in-Ok-Done.field-0 c.in-Some.byte c.in-Ok-Done.ensures.exact c.in-Ok-Done.field-0-is
-        c.renew.ensures.present (search rules) (search rules) c.in-Some.ensures.sent)
+          c.renew.ensures.present (search rules) (search rules) c.in-Some.ensures.sent,
+    )
 
 pub returns-in-Ok-Trap-clause-ran : goal.returns-in-Ok-Trap-clause-ran
 returns-in-Ok-Trap-clause-ran g c =
-    let now = present g.P.Port.view c.loop-steps.txn in
-    (now, c.loop-steps.invariant.ran,
+    let now = present g.P.Port.view c.loop-steps.txn in (
+      now,
+      c.loop-steps.invariant.ran,
       finished whole now now (present g.P.Port.view c.work.new.txn) _ refl c.in-Ok-Trap.field-0 c.in-Ok-Trap.ensures.exact _ (ap ending_of c.in-Ok-Trap.field-0-is)
-        (present_of now _ _ (search rules) (search rules)))
+          (present_of now _ _ (search rules) (search rules)),
+    )
 
 pub returns-in-Ok-Ended-clause-ran : goal.returns-in-Ok-Ended-clause-ran
 returns-in-Ok-Ended-clause-ran g c =
-    let now = present g.P.Port.view c.loop-steps.txn in
-    (now, c.loop-steps.invariant.ran,
+    let now = present g.P.Port.view c.loop-steps.txn in (
+      now,
+      c.loop-steps.invariant.ran,
       finished whole now now (present g.P.Port.view c.work.new.txn) _ refl c.in-Ok-Ended.field-0 c.in-Ok-Ended.ensures.exact _ (ap ending_of c.in-Ok-Ended.field-0-is)
-        (present_of now _ _ (search rules) (search rules)))
+          (present_of now _ _ (search rules) (search rules)),
+    )
 
 pub returns-in-Ok-Trap-work-clause-ran : goal.returns-in-Ok-Trap-work-clause-ran
 returns-in-Ok-Trap-work-clause-ran g c =
-    let now = present g.P.Port.view c.loop-steps.txn in
-    (now, c.loop-steps.invariant.ran,
+    let now = present g.P.Port.view c.loop-steps.txn in (
+      now,
+      c.loop-steps.invariant.ran,
       finished whole now now (present g.P.Port.view c.work-2.new.txn) _ refl c.in-Ok-Trap-work.field-0 c.in-Ok-Trap-work.ensures.exact _ (ap ending_of c.in-Ok-Trap-work.field-0-is)
-        (present_of now _ _ (search rules) (search rules)))
+          (present_of now _ _ (search rules) (search rules)),
+    )
 
 pub returns-in-Ok-Ended-work-clause-ran : goal.returns-in-Ok-Ended-work-clause-ran
 returns-in-Ok-Ended-work-clause-ran g c =
-    let now = present g.P.Port.view c.loop-steps.txn in
-    (now, c.loop-steps.invariant.ran,
+    let now = present g.P.Port.view c.loop-steps.txn in (
+      now,
+      c.loop-steps.invariant.ran,
       finished whole now now (present g.P.Port.view c.work-2.new.txn) _ refl c.in-Ok-Ended-work.field-0 c.in-Ok-Ended-work.ensures.exact _ (ap ending_of c.in-Ok-Ended-work.field-0-is)
-        (present_of now _ _ (search rules) (search rules)))
+          (present_of now _ _ (search rules) (search rules)),
+    )
 
 pub returns-in-Ok-Done-work-clause-ran : goal.returns-in-Ok-Done-work-clause-ran
 returns-in-Ok-Done-work-clause-ran g c =
-    let now = present g.P.Port.view c.loop-steps.txn in
-    (now, c.loop-steps.invariant.ran,
+    let now = present g.P.Port.view c.loop-steps.txn in (
+      now,
+      c.loop-steps.invariant.ran,
       kept whole now now (present g.P.Port.view c.work-2.new.txn) (record { state = _; view = _ }) refl
-        c.in-Ok-Done-work.field-0 c.in-Ok-Done-work.ensures.exact c.commit-in-Ok-Done-work.result c.in-Ok-Done-work.field-0-is (search rules) (search rules) c.commit-in-Ok-Done-work.ensures.sent)
+          c.in-Ok-Done-work.field-0 c.in-Ok-Done-work.ensures.exact c.commit-in-Ok-Done-work.result c.in-Ok-Done-work.field-0-is (search rules) (search rules) c.commit-in-Ok-Done-work.ensures.sent,
+    )

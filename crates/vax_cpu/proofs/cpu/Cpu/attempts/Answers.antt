@@ -18,7 +18,7 @@ returns-in-Step-clause-steps g c = λ closed memory output st.
     let here = is_here _ r.here ran.0 r.is in
     let new : Present = record { state = state_of c.try_steps-several.new.core c.try_steps-several.new.term; view = g.P.Port.view c.try_steps-several.new.port } in
     last_kept view m c.try_steps-several.result.steps ran.0 r (record { core = c.try_steps-several.new.core; term = c.try_steps-several.new.term; latch = c.args.self.now.latch }) (g.P.Port.view c.try_steps-several.new.port) (ap (λ v. v.items) (sym c.try_steps-several.ensures.input)) here c.in-Step.sent
-        (subst (λ (t : Tried). IsTried whole_step ran.0 t new) c.in-Step.is ran.2)
+    (subst (λ (t : Tried). IsTried whole_step ran.0 t new) c.in-Step.is ran.2)
 
 pub returns-in-Absent-clause-steps : goal.returns-in-Absent-clause-steps
 returns-in-Absent-clause-steps g c = λ closed memory output st.
@@ -29,7 +29,7 @@ returns-in-Absent-clause-steps g c = λ closed memory output st.
     let here = is_here _ r.here ran.0 r.is in
     let new : Present = record { state = state_of c.try_steps-several.new.core c.try_steps-several.new.term; view = g.P.Port.view c.try_steps-several.new.port } in
     last_absent view m c.try_steps-several.result.steps ran.0 r (record { core = c.try_steps-several.new.core; term = c.try_steps-several.new.term; latch = c.args.self.now.latch }) (g.P.Port.view c.try_steps-several.new.port) (ap (λ v. v.items) (sym c.try_steps-several.ensures.input)) here c.in-Absent.page
-        (subst (λ (t : Tried). IsTried whole_step ran.0 t new) c.in-Absent.is ran.2)
+    (subst (λ (t : Tried). IsTried whole_step ran.0 t new) c.in-Absent.is ran.2)
 
 pub returns-in-Ended-clause-steps : goal.returns-in-Ended-clause-steps
 returns-in-Ended-clause-steps g c = λ closed memory output st.
@@ -40,7 +40,7 @@ returns-in-Ended-clause-steps g c = λ closed memory output st.
     let here = is_here _ r.here ran.0 r.is in
     let new : Present = record { state = state_of c.try_steps-several.new.core c.try_steps-several.new.term; view = g.P.Port.view c.try_steps-several.new.port } in
     last_ended view m c.try_steps-several.result.steps ran.0 r (record { core = c.try_steps-several.new.core; term = c.try_steps-several.new.term; latch = c.args.self.now.latch }) (g.P.Port.view c.try_steps-several.new.port) (ap (λ v. v.items) (sym c.try_steps-several.ensures.input)) here c.in-Ended.ending
-        (subst (λ (t : Tried). IsTried whole_step ran.0 t new) c.in-Ended.is ran.2)
+    (subst (λ (t : Tried). IsTried whole_step ran.0 t new) c.in-Ended.is ran.2)
 
 pub returns-in-Step-try_delivery-clause-steps : goal.returns-in-Step-try_delivery-clause-steps
 returns-in-Step-try_delivery-clause-steps g c = λ closed memory output st.
@@ -53,8 +53,8 @@ returns-in-Step-try_delivery-clause-steps g c = λ closed memory output st.
     let new : Present = record { state = state_of c.try_delivery.new.core c.try_delivery.new.term; view = g.P.Port.view c.try_delivery.new.port } in
     let came = subst (λ (t : Tried). IsTried whole_step ran.0 t mid) c.in-Event.is ran.2 in
     delivery_last_kept view m c.try_steps-several.result.steps ran.0 r (record { core = c.try_delivery.new.core; term = c.try_delivery.new.term; latch = c.args.self.now.latch }) (g.P.Port.view c.try_delivery.new.port)
-        (ap (λ v. v.items) (sym c.try_steps-several.ensures.input ∙ sym c.in-Step-try_delivery.ensures.input)) here c.in-Event.exception mid came c.in-Step-try_delivery.sent
-        (subst (λ (w : Present). IsTried (whole_delivery c.in-Event.exception) w (tried.Step c.in-Step-try_delivery.sent) new) came.1 c.in-Step-try_delivery.ensures.tried)
+    (ap (λ v. v.items) (sym c.try_steps-several.ensures.input ∙ sym c.in-Step-try_delivery.ensures.input)) here c.in-Event.exception mid came c.in-Step-try_delivery.sent
+    (subst (λ (w : Present). IsTried (whole_delivery c.in-Event.exception) w (tried.Step c.in-Step-try_delivery.sent) new) came.1 c.in-Step-try_delivery.ensures.tried)
 
 pub returns-in-Absent-try_delivery-clause-steps : goal.returns-in-Absent-try_delivery-clause-steps
 returns-in-Absent-try_delivery-clause-steps g c = λ closed memory output st.
@@ -67,8 +67,8 @@ returns-in-Absent-try_delivery-clause-steps g c = λ closed memory output st.
     let new : Present = record { state = state_of c.try_delivery.new.core c.try_delivery.new.term; view = g.P.Port.view c.try_delivery.new.port } in
     let came = subst (λ (t : Tried). IsTried whole_step ran.0 t mid) c.in-Event.is ran.2 in
     delivery_last_absent view m c.try_steps-several.result.steps ran.0 r (record { core = c.try_delivery.new.core; term = c.try_delivery.new.term; latch = c.args.self.now.latch }) (g.P.Port.view c.try_delivery.new.port)
-        (ap (λ v. v.items) (sym c.try_steps-several.ensures.input ∙ sym c.in-Absent-try_delivery.ensures.input)) here c.in-Event.exception mid came c.in-Absent-try_delivery.page
-        (subst (λ (w : Present). IsTried (whole_delivery c.in-Event.exception) w (tried.Absent c.in-Absent-try_delivery.page) new) came.1 c.in-Absent-try_delivery.ensures.tried)
+    (ap (λ v. v.items) (sym c.try_steps-several.ensures.input ∙ sym c.in-Absent-try_delivery.ensures.input)) here c.in-Event.exception mid came c.in-Absent-try_delivery.page
+    (subst (λ (w : Present). IsTried (whole_delivery c.in-Event.exception) w (tried.Absent c.in-Absent-try_delivery.page) new) came.1 c.in-Absent-try_delivery.ensures.tried)
 
 pub returns-in-Ended-try_delivery-clause-steps : goal.returns-in-Ended-try_delivery-clause-steps
 returns-in-Ended-try_delivery-clause-steps g c = λ closed memory output st.
@@ -81,8 +81,8 @@ returns-in-Ended-try_delivery-clause-steps g c = λ closed memory output st.
     let new : Present = record { state = state_of c.try_delivery.new.core c.try_delivery.new.term; view = g.P.Port.view c.try_delivery.new.port } in
     let came = subst (λ (t : Tried). IsTried whole_step ran.0 t mid) c.in-Event.is ran.2 in
     delivery_last_ended view m c.try_steps-several.result.steps ran.0 r (record { core = c.try_delivery.new.core; term = c.try_delivery.new.term; latch = c.args.self.now.latch }) (g.P.Port.view c.try_delivery.new.port)
-        (ap (λ v. v.items) (sym c.try_steps-several.ensures.input ∙ sym c.in-Ended-try_delivery.ensures.input)) here c.in-Event.exception mid came c.in-Ended-try_delivery.ending
-        (subst (λ (w : Present). IsTried (whole_delivery c.in-Event.exception) w (tried.Ended c.in-Ended-try_delivery.ending) new) came.1 c.in-Ended-try_delivery.ensures.tried)
+    (ap (λ v. v.items) (sym c.try_steps-several.ensures.input ∙ sym c.in-Ended-try_delivery.ensures.input)) here c.in-Event.exception mid came c.in-Ended-try_delivery.ending
+    (subst (λ (w : Present). IsTried (whole_delivery c.in-Event.exception) w (tried.Ended c.in-Ended-try_delivery.ending) new) came.1 c.in-Ended-try_delivery.ensures.tried)
 
 pub returns-in-Event-try_delivery-clause-steps : goal.returns-in-Event-try_delivery-clause-steps
 returns-in-Event-try_delivery-clause-steps g c = λ closed memory output st.
@@ -95,5 +95,5 @@ returns-in-Event-try_delivery-clause-steps g c = λ closed memory output st.
     let new : Present = record { state = state_of c.try_delivery.new.core c.try_delivery.new.term; view = g.P.Port.view c.try_delivery.new.port } in
     let came = subst (λ (t : Tried). IsTried whole_step ran.0 t mid) c.in-Event.is ran.2 in
     delivery_last_raised view m c.try_steps-several.result.steps ran.0 r (record { core = c.try_delivery.new.core; term = c.try_delivery.new.term; latch = c.args.self.now.latch }) (g.P.Port.view c.try_delivery.new.port)
-        (ap (λ v. v.items) (sym c.try_steps-several.ensures.input ∙ sym c.in-Event-try_delivery.ensures.input)) here c.in-Event.exception mid came c.in-Event-try_delivery.field-0
-        (subst (λ (w : Present). IsTried (whole_delivery c.in-Event.exception) w (tried.Event c.in-Event-try_delivery.field-0) new) came.1 c.in-Event-try_delivery.ensures.tried)
+    (ap (λ v. v.items) (sym c.try_steps-several.ensures.input ∙ sym c.in-Event-try_delivery.ensures.input)) here c.in-Event.exception mid came c.in-Event-try_delivery.field-0
+    (subst (λ (w : Present). IsTried (whole_delivery c.in-Event.exception) w (tried.Event c.in-Event-try_delivery.field-0) new) came.1 c.in-Event-try_delivery.ensures.tried)
