@@ -55,7 +55,7 @@ module _ (addr n first next : ℕ) where
   pub apart_number : (f : ℕ → ℕ) (v : ℕ) (low high : List ℕ) → IsApart → v ≡ number_in (low ++ high) → low ≡ bytes_from f addr first → high ≡ bytes_from f next (n - first) → v ≡ number f addr n
   apart_number f v low high h e one two =
       let parts : bytes_from f addr n ≡ bytes_from f addr first ++ bytes_from f next (n - first)
-          = ap (bytes_from f addr) (sum_is h) ∙ (bytes_parts f addr first (n - first) h.4 ∙ ap (λ a. bytes_from f addr first ++ bytes_from f a (n - first)) (sym h.1)) in
+      = ap (bytes_from f addr) (sum_is h) ∙ (bytes_parts f addr first (n - first) h.4 ∙ ap (λ a. bytes_from f addr first ++ bytes_from f a (n - first)) (sym h.1)) in
       e ∙ (ap (λ xs. number_in (xs ++ high)) one ∙ (ap (λ ys. number_in (bytes_from f addr first ++ ys)) two ∙ (ap number_in (sym parts) ∙ sym (number_is f addr n))))
 
 take_none : (b : ℕ) → take {A = ℕ} b [] ≡ []
@@ -74,7 +74,7 @@ module _ (addr n first next : ℕ) where
       let few : first ≤ 8 = omega (arith, h.0, h.2, h.3) in
       let size : length low ≡ first = ap length (one ∙ ap (take first) whole) ∙ (ap length (low_take first 8 value few) ∙ low-length first value) in
       let parts : low_bytes n value ≡ low ++ high
-          = sym (low_take n 8 value h.3) ∙ (ap (take n) (sym whole) ∙ (ap (λ k. take k all) (sum_is addr n first next h) ∙ (take_parts first (n - first) all ∙ rw (one, two) refl))) in
+      = sym (low_take n 8 value h.3) ∙ (ap (take n) (sym whole) ∙ (ap (λ k. take k all) (sum_is addr n first next h) ∙ (take_parts first (n - first) all ∙ rw (one, two) refl))) in
       let start : byte_after addr (length low) ≡ next = ap (byte_after addr) size ∙ sym h.1 in
       ap (λ (g : ℕ → ℕ). g place) last_is
       ∙ (ap (λ g. put_run g addr low place) (middle_is ∙ ap (λ a. put_run f a high) (sym start))

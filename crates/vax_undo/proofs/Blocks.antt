@@ -90,9 +90,9 @@ no_at (area ∷ areas) page zero = elim (cases_Bool (has_page area page)) [
 no_at (area ∷ areas) page (suc i) = elim (cases_Bool (has_page area page)) [
   | inl here ↦ inr (λ h. true≢false (sym here ∙ h.0))
   | inr not_here ↦ elim (no_at areas page i) [
-      | inl yes_it ↦ inl (not_here, yes_it)
-      | inr no_it ↦ inr (λ h. no_it h.1)
-    ]
+    | inl yes_it ↦ inl (not_here, yes_it)
+    | inr no_it ↦ inr (λ h. no_it h.1)
+  ]
 ]
 
 has_page_alike : (area : Area) (bytes : List ℕ) (page : ℕ) → has_page (record area { bytes = bytes }) page ≡ has_page area page
@@ -184,29 +184,29 @@ run_written areas blocks addr i xs old new shape at small within is start items 
           let l2 = lies areas blocks (page_of place) i old shape here in
           let li2 : Lies old (page_of place) = rw (← is) at l2.1 in
           let now : byte_at (memory_of areas (set blocks i new)) place ≡ get_or (overwritten (addr - old.start) xs old.bytes.items) (place - old.start) 0
-              = byte_there areas (set blocks i new) place i new shape' here ∙ rw (new_is, start, items) refl in
+          = byte_there areas (set blocks i new) place i new shape' here ∙ rw (new_is, start, items) refl in
           let before : byte_at (memory_of areas blocks) place ≡ get_or old.bytes.items (place - old.start) 0
-              = byte_there areas blocks place i old shape here ∙ rw (← is) refl in
+          = byte_there areas blocks place i old shape here ∙ rw (← is) refl in
           let from2 : old.start ≤ place = omega (arith, li2.low) in
           elim (cases_lt place addr) [
             | inl below ↦
                 now ∙ (overwritten_outside (addr - old.start) xs old.bytes.items (place - old.start) room (λ a b. omega arith)
                 ∙ (sym before ∙ sym (run_outside _ addr xs place small within (λ a b. omega arith))))
             | inr above ↦ elim (cases_lt place (addr + length xs)) [
-                | inl inside ↦
-                    let e : (place - old.start) - (addr - old.start) ≡ place - addr = omega arith in
-                    now ∙ (overwritten_inside (addr - old.start) xs old.bytes.items (place - old.start) room (omega arith) (omega arith)
-                    ∙ (ap (λ k. get_or xs k 0) e ∙ sym (run_within _ addr xs place small within above inside)))
-                | inr past ↦
-                    now ∙ (overwritten_outside (addr - old.start) xs old.bytes.items (place - old.start) room (λ a b. omega arith)
-                    ∙ (sym before ∙ sym (run_outside _ addr xs place small within (λ a b. omega arith))))
-              ]
+              | inl inside ↦
+                  let e : (place - old.start) - (addr - old.start) ≡ place - addr = omega arith in
+                  now ∙ (overwritten_inside (addr - old.start) xs old.bytes.items (place - old.start) room (omega arith) (omega arith)
+                  ∙ (ap (λ k. get_or xs k 0) e ∙ sym (run_within _ addr xs place small within above inside)))
+              | inr past ↦
+                  now ∙ (overwritten_outside (addr - old.start) xs old.bytes.items (place - old.start) room (λ a b. omega arith)
+                  ∙ (sym before ∙ sym (run_outside _ addr xs place small within (λ a b. omega arith))))
+            ]
           ]
       | inr elsewhere ↦
           byte_elsewhere areas blocks place i new elsewhere
           ∙ sym (run_outside _ addr xs place small within (λ a b.
-              let e : page_of addr ≡ page_of place = omega arith in
-              elsewhere (subst (λ p. IsAt areas p i) e at)))
+          let e : page_of addr ≡ page_of place = omega arith in
+          elsewhere (subst (λ p. IsAt areas p i) e at)))
     ]
 
 -- the bytes of a range within a page are a part of its block
@@ -218,13 +218,13 @@ run_there areas blocks addr len i block bytes shape at small within is e =
     let rest : len ≤ length (drop k block.bytes.items) = simp length-drop (omega (arith, li.low, li.high)) in
     let count : length (take len (drop k block.bytes.items)) ≡ len = length-take-le len _ rest in
     e ∙ ext_get_or 0 (take len (drop k block.bytes.items)) (bytes_from (byte_at (memory_of areas blocks)) addr len) (count ∙ sym (bytes_length _ addr len)) (λ j below.
-        let inside : j < len = omega (arith, count) in
-        let page : page_of addr ≡ page_of (addr + j) = omega arith in
-        let there = byte_there areas blocks (addr + j) i block shape (subst (λ p. IsAt areas p i) page at) in
-        let there' : byte_at (memory_of areas blocks) (addr + j) ≡ get_or block.bytes.items ((addr + j) - block.start) 0 = there ∙ rw (← is) refl in
-        let place : k + j ≡ (addr + j) - block.start = omega (arith, li.low) in
-        get_or-take len (drop k block.bytes.items) j 0 inside ∙ (get_or-drop k block.bytes.items j 0 ∙ (ap (λ x. get_or block.bytes.items x 0) place
-        ∙ (sym there' ∙ sym (byte_within _ addr len j small within inside)))))
+    let inside : j < len = omega (arith, count) in
+    let page : page_of addr ≡ page_of (addr + j) = omega arith in
+    let there = byte_there areas blocks (addr + j) i block shape (subst (λ p. IsAt areas p i) page at) in
+    let there' : byte_at (memory_of areas blocks) (addr + j) ≡ get_or block.bytes.items ((addr + j) - block.start) 0 = there ∙ rw (← is) refl in
+    let place : k + j ≡ (addr + j) - block.start = omega (arith, li.low) in
+    get_or-take len (drop k block.bytes.items) j 0 inside ∙ (get_or-drop k block.bytes.items j 0 ∙ (ap (λ x. get_or block.bytes.items x 0) place
+    ∙ (sym there' ∙ sym (byte_within _ addr len j small within inside)))))
 
 -- pages have slots of their own
 pub slots_differ : (p q k : ℕ) → slot p ≡ Some k → slot q ≡ Some k → p ≡ q

@@ -76,7 +76,7 @@ run_outside f addr (x ∷ y ∷ xs) place small within out =
     let n = next_within addr (length xs) small within in
     let small' : after addr < 2 ^ 32 = omega arith in
     rw (ne_eqb place addr (λ e. out (omega arith) (omega arith)))
-        (run_outside f (after addr) (y ∷ xs) place small' n.3 (λ low high. out (omega (arith, n.0)) (omega (arith, n.0))))
+    (run_outside f (after addr) (y ∷ xs) place small' n.3 (λ low high. out (omega (arith, n.0)) (omega (arith, n.0))))
 
 pub run_bytes : (f : ℕ → ℕ) (addr : ℕ) (xs : List ℕ) → AreBytes f → ((k : ℕ) → get_or xs k 0 < 256) → (place : ℕ) → put_run f addr xs place < 256
 unfolding put_run

@@ -76,7 +76,11 @@ fn owners_of(alloc: Global, areas: &[Area]) -> Result<Vec<Option<u32>>, NoMemory
 {
     let mut owners = Vec::with_capacity(alloc, PAGES)?;
     for place in 0..PAGES as u32 {
-        let page = if place < 0x8000 { place } else { place + 0x3F0000 };
+        let page = if place < 0x8000 {
+            place
+        } else {
+            place + 0x3F0000
+        };
         if owners.push(number_of_area(areas, page)).is_err() {
             return Err(NoMemory);
         }
@@ -299,7 +303,10 @@ impl Port for Plain {
     }
 
     fn write_run(&mut self, addr: u32, from: &[u8], mode: u8) -> Result<(), Stop> {
-        if let Err(violation) = self.space.check(addr, from.len() as u32, mode, Access::Write) {
+        if let Err(violation) = self
+            .space
+            .check(addr, from.len() as u32, mode, Access::Write)
+        {
             return Err(Stop::Violated(violation));
         }
         match self.owner(addr / PAGE_BYTES) {

@@ -87,12 +87,18 @@ fn numbers_in_memory(rt: HostRuntime) -> Result<(), Fail> {
 fn absent_pages(rt: HostRuntime) -> Result<(), Fail> {
     let mut memory = memory(rt.alloc())?;
     memory.hide(2);
-    assert_eq!(rt; memory.write(0x3FE, 4, 0x1111_1111, USER), Err(Stop::NotResident(2)));
+    assert_eq!(rt;
+        memory.write(0x3FE, 4, 0x1111_1111, USER),
+        Err(Stop::NotResident(2))
+    );
     assert_eq!(rt; memory.byte(0x3FE), Some(0));
     assert_eq!(rt; memory.byte(0x3FF), Some(0));
     assert_eq!(rt; memory.read(0x3FE, 4, USER), Err(Stop::NotResident(2)));
     assert_eq!(rt; memory.read(0x400, 4, USER), Err(Stop::NotResident(2)));
-    assert_eq!(rt; memory.write_run(0x400, &[1], USER), Err(Stop::NotResident(2)));
+    assert_eq!(rt;
+        memory.write_run(0x400, &[1], USER),
+        Err(Stop::NotResident(2))
+    );
     memory.hide(1);
     assert_eq!(rt; memory.read(0x3FE, 4, USER), Err(Stop::NotResident(1)));
     memory.show(2);
@@ -112,7 +118,10 @@ fn absent_pages(rt: HostRuntime) -> Result<(), Fail> {
         length: false,
         write: true,
     };
-    assert_eq!(rt; memory.write(0x800, 1, 0, USER), Err(Stop::Violated(violation)));
+    assert_eq!(rt;
+        memory.write(0x800, 1, 0, USER),
+        Err(Stop::Violated(violation))
+    );
     assert_eq!(rt; memory.check(0x800, 1, USER, Access::Write), Err(violation));
     assert_eq!(rt; memory.check(0x800, 1, KERNEL, Access::Write), Ok(()));
     Ok(())
@@ -135,7 +144,10 @@ fn changes_are_kept(rt: HostRuntime) -> Result<(), Fail> {
     txn.set_sisr(72);
     txn.set_iccs(73);
     txn.set_clock(74);
-    assert_eq!(rt; (txn.reg(3), txn.reg(2), txn.psl(), txn.stack(4)), (70, 7, Psl(8), 71));
+    assert_eq!(rt;
+        (txn.reg(3), txn.reg(2), txn.psl(), txn.stack(4)),
+        (70, 7, Psl(8), 71)
+    );
     assert_eq!(rt; (txn.sisr(), txn.iccs(), txn.clock()), (72, 73, 74));
     assert_eq!(rt; txn.check(0x800, 1, USER, Access::Read).is_err(), true);
     assert_eq!(rt; txn.write(0x3FE, 4, 0x4433_2211, USER), Ok(()));
@@ -145,7 +157,10 @@ fn changes_are_kept(rt: HostRuntime) -> Result<(), Fail> {
     assert_eq!(rt; bytes, [1, 2, 3]);
     assert_eq!(rt; txn.write_run(0x402, &[5, 6], USER), Ok(()));
     assert_eq!(rt; txn.commit(), Some(b'!'));
-    assert_eq!(rt; (core.regs[3], core.psl, core.stacks[4], core.clock), (70, Psl(8), 71, 74));
+    assert_eq!(rt;
+        (core.regs[3], core.psl, core.stacks[4], core.clock),
+        (70, Psl(8), 71, 74)
+    );
     assert_eq!(rt; memory.read(0x3FE, 8, USER), Ok(0x0605_4433_2211));
     assert_eq!(rt; term.out, None);
     Ok(())
@@ -194,8 +209,14 @@ fn changes_are_undone(rt: HostRuntime) -> Result<(), Fail> {
     assert_eq!(rt; txn.write(0x200, 8, 0x1111_1111_1111_1111, USER), Ok(()));
     txn.unwind();
     assert_eq!(rt; core.regs, [7; 16]);
-    assert_eq!(rt; (core.psl, core.stacks, core.sisr), (Psl(0x041F_0000), [10, 11, 12, 13, 14], 2));
-    assert_eq!(rt; (core.iccs, core.clock, term.out, term.place), (0x41, 5, None, 0));
+    assert_eq!(rt;
+        (core.psl, core.stacks, core.sisr),
+        (Psl(0x041F_0000), [10, 11, 12, 13, 14], 2)
+    );
+    assert_eq!(rt;
+        (core.iccs, core.clock, term.out, term.place),
+        (0x41, 5, None, 0)
+    );
     assert_eq!(rt; memory.read(0x3FE, 4, USER), Ok(0));
     assert_eq!(rt; memory.read(0x200, 8, USER), Ok(0x0003_0201));
     Ok(())

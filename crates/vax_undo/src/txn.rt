@@ -128,7 +128,8 @@ impl<'a, P: Port> Txn<'a, P> {
         ensures present { present P.view self.new ≡ with_state (present P.view self.old) (with_psl (present P.view self.old).state v) }
         ensures keeps { Keeps P.view P.since 1 self.old self.new }
     {
-        self.log.push(Entry::of(Kept::Status, 0, self.core.psl.0 as u64));
+        self.log
+            .push(Entry::of(Kept::Status, 0, self.core.psl.0 as u64));
         self.core.psl = v;
     }
 
@@ -167,7 +168,8 @@ impl<'a, P: Port> Txn<'a, P> {
         ensures present { present P.view self.new ≡ with_state (present P.view self.old) (with_requests (present P.view self.old).state v) }
         ensures keeps { Keeps P.view P.since 1 self.old self.new }
     {
-        self.log.push(Entry::of(Kept::Requests, 0, self.core.sisr as u64));
+        self.log
+            .push(Entry::of(Kept::Requests, 0, self.core.sisr as u64));
         self.core.sisr = v;
     }
 
@@ -185,7 +187,8 @@ impl<'a, P: Port> Txn<'a, P> {
         ensures present { present P.view self.new ≡ with_state (present P.view self.old) (with_timer (present P.view self.old).state v) }
         ensures keeps { Keeps P.view P.since 1 self.old self.new }
     {
-        self.log.push(Entry::of(Kept::Timer, 0, self.core.iccs as u64));
+        self.log
+            .push(Entry::of(Kept::Timer, 0, self.core.iccs as u64));
         self.core.iccs = v;
     }
 
@@ -203,7 +206,8 @@ impl<'a, P: Port> Txn<'a, P> {
         ensures present { present P.view self.new ≡ with_state (present P.view self.old) (with_clock (present P.view self.old).state v) }
         ensures keeps { Keeps P.view P.since 1 self.old self.new }
     {
-        self.log.push(Entry::of(Kept::Clock, 0, self.core.clock as u64));
+        self.log
+            .push(Entry::of(Kept::Clock, 0, self.core.clock as u64));
         self.core.clock = v;
     }
 

@@ -20,5 +20,5 @@ returns-in-Some-clause-bytes c =
     let k : ℕ = c.args.addr - c.index-block.result.now.start in
     let count : (k + c.args.len) - k ≡ c.args.len = omega arith in
     rw (c.deref.ensures.value, count)
-        (run_there c.args.self.now.space c.args.self.now.blocks.items c.args.addr c.args.len c.in-Some.owner c.index-block.result.now _
-            (shape_of _ _ _ c.args.self.now.sound) (at_owner _ _ _ _ _ c.args.self.now.sound h) c.ranges.addr.fits c.requires.one_page c.index-block.ensures refl)
+    (run_there c.args.self.now.space c.args.self.now.blocks.items c.args.addr c.args.len c.in-Some.owner c.index-block.result.now _
+    (shape_of _ _ _ c.args.self.now.sound) (at_owner _ _ _ _ _ c.args.self.now.sound h) c.ranges.addr.fits c.requires.one_page c.index-block.ensures refl)

@@ -19,10 +19,12 @@ pub invariant_of-self : goal.invariant_of-self
 invariant_of-self c =
     let k : ℕ = c.args.addr - c.index_mut-block.result.now.start in
     let count : (k + length c.args.from.now) - k ≡ length c.args.from.now = omega arith in
-    record { sound = plain_put c.args.self.now.space c.args.self.now.blocks.items c.args.self.now.owners.items c.args.addr c.args.owner c.args.from.now c.index_mut-block.result.now
-        ((k + length c.args.from.now) - k) c.deref_mut.result.now c.copy_from_slice.new.self
-        c.args.self.now.sound c.requires.owner c.ranges.addr.fits c.requires.one_page c.index_mut-block.ensures.value count c.deref_mut.ensures.value c.copy_from_slice.ensures.after
-        (λ j. omega (arith, c.type_inv.from j)) }
+    record {
+      sound = plain_put c.args.self.now.space c.args.self.now.blocks.items c.args.self.now.owners.items c.args.addr c.args.owner c.args.from.now c.index_mut-block.result.now
+          ((k + length c.args.from.now) - k) c.deref_mut.result.now c.copy_from_slice.new.self
+          c.args.self.now.sound c.requires.owner c.ranges.addr.fits c.requires.one_page c.index_mut-block.ensures.value count c.deref_mut.ensures.value c.copy_from_slice.ensures.after
+          (λ j. omega (arith, c.type_inv.from j));
+    }
 
 pub returns-clause-stored : goal.returns-clause-stored
 returns-clause-stored c =
@@ -30,5 +32,5 @@ returns-clause-stored c =
     let count : (k + length c.args.from.now) - k ≡ length c.args.from.now = omega arith in
     let view : (ℕ → ℕ) → View = λ f. record (view_of c.args.self.now) { byte = f } in
     ap view (view_put c.args.self.now.space c.args.self.now.blocks.items c.args.self.now.owners.items c.args.addr c.args.owner c.args.from.now c.index_mut-block.result.now
-        ((k + length c.args.from.now) - k) c.deref_mut.result.now c.copy_from_slice.new.self
-        c.args.self.now.sound c.requires.owner c.ranges.addr.fits c.requires.one_page c.index_mut-block.ensures.value count c.deref_mut.ensures.value c.copy_from_slice.ensures.after)
+    ((k + length c.args.from.now) - k) c.deref_mut.result.now c.copy_from_slice.new.self
+    c.args.self.now.sound c.requires.owner c.ranges.addr.fits c.requires.one_page c.index_mut-block.ensures.value count c.deref_mut.ensures.value c.copy_from_slice.ensures.after)

@@ -30,10 +30,12 @@ invariant_of-self c =
     let within : c.args.addr % 512 + length xs ≤ 512 = omega (arith, c.requires.one_page) in
     let r = room _ _ _ _ _ _ _ c.args.self.now.sound c.requires.owner c.requires.one_page c.index_mut-block.ensures.value in
     let after = c.put_number.ensures ∙ ap (λ j. low_bytes j c.args.value) (part_length k m c.args.n c.deref_mut.result.now _ even c.deref_mut.ensures.value r.1) in
-    record { sound = plain_put c.args.self.now.space c.args.self.now.blocks.items c.args.self.now.owners.items c.args.addr c.args.owner xs c.index_mut-block.result.now
-        m c.deref_mut.result.now c.put_number.new.bytes
-        c.args.self.now.sound c.requires.owner c.ranges.addr.fits within c.index_mut-block.ensures.value (even ∙ sym size) c.deref_mut.ensures.value after
-        (low_small c.args.n c.args.value) }
+    record {
+      sound = plain_put c.args.self.now.space c.args.self.now.blocks.items c.args.self.now.owners.items c.args.addr c.args.owner xs c.index_mut-block.result.now
+          m c.deref_mut.result.now c.put_number.new.bytes
+          c.args.self.now.sound c.requires.owner c.ranges.addr.fits within c.index_mut-block.ensures.value (even ∙ sym size) c.deref_mut.ensures.value after
+          (low_small c.args.n c.args.value);
+    }
 
 pub returns : goal.returns
 returns c =
@@ -48,6 +50,6 @@ returns c =
     let view : (ℕ → ℕ) → View = λ f. record (view_of c.args.self.now) { byte = f } in
     let before = byte_at (memory_of c.args.self.now.space c.args.self.now.blocks.items) in
     ap view (view_put c.args.self.now.space c.args.self.now.blocks.items c.args.self.now.owners.items c.args.addr c.args.owner xs c.index_mut-block.result.now
-        m c.deref_mut.result.now c.put_number.new.bytes
-        c.args.self.now.sound c.requires.owner c.ranges.addr.fits within c.index_mut-block.ensures.value (even ∙ sym size) c.deref_mut.ensures.value after
-        ∙ fun_ext (λ place. sym (put_is before c.args.addr c.args.n c.args.value place)))
+    m c.deref_mut.result.now c.put_number.new.bytes
+    c.args.self.now.sound c.requires.owner c.ranges.addr.fits within c.index_mut-block.ensures.value (even ∙ sym size) c.deref_mut.ensures.value after
+    ∙ fun_ext (λ place. sym (put_is before c.args.addr c.args.n c.args.value place)))

@@ -15,19 +15,19 @@ returns-in-Err-read-clause-present g c =
     let view = g.P.Port.view c.args.self.now.port.now in
     let stopped = stopped_read view c.args.addr c.args.n c.args.mode c.in-Err-read.stop c.in_default.ensures c.in-Err-read.ensures.answer in
     ap (with_view (present g.P.Port.view c.args.self.now))
-        (c.in-Err-read.ensures.same ∙ sym (stopped_store view c.args.addr c.args.n c.args.value c.args.mode c.in-Err-read.stop stopped))
+    (c.in-Err-read.ensures.same ∙ sym (stopped_store view c.args.addr c.args.n c.args.value c.args.mode c.in-Err-read.stop stopped))
 
 pub returns-in-Ok-write-clause-keeps : goal.returns-in-Ok-write-clause-keeps
 returns-in-Ok-write-clause-keeps g c =
     let view = g.P.Port.view c.args.self.now.port.now in
     let free : None ≡ stop view c.args.addr c.args.n c.args.mode Write = rw c.in-Ok.ensures.same at c.in-Ok-write.ensures.answer in
     let now : g.P.Port.view c.write.new.self ≡ with_number view c.args.addr c.args.n c.args.value =
-        c.in-Ok-write.ensures.stored ∙ (rw c.in-Ok.ensures.same (full_store view c.args.addr c.args.n c.args.value c.args.mode free)) in
+    c.in-Ok-write.ensures.stored ∙ (rw c.in-Ok.ensures.same (full_store view c.args.addr c.args.n c.args.value c.args.mode free)) in
     let parts = is_free view c.args.addr c.args.n c.args.mode free in
     logged g.P.Port.view g.P.Port.since c.args.self.now _ (record { old = c.in-Ok.old; addr = c.args.addr; number = c.args.n; mode = c.args.mode; kept = kept.Bytes; spare = 0 })
-        c.push.ensures.items
-        (record { core = refl; term = refl; port = refl; input = refl; since = λ start h. c.in-Ok-write.ensures.since start (c.in-Ok.ensures.since start h) })
-        (ap (with_view (present g.P.Port.view c.args.self.now))
-            (ap (λ v. with_number v c.args.addr c.args.n c.in-Ok.old) now ∙ bytes_back view c.args.addr c.args.n c.args.value c.in-Ok.old c.args.mode c.in-Ok.ensures.bytes c.in-Ok.ensures.answer))
-        (ap (λ v. v.areas) now) (ap (λ v. v.resident) now)
-        (c.requires.some, c.requires.few, c.requires.of_mode, old_fits view c.args.addr c.args.n c.in-Ok.old c.args.mode c.in-Ok.ensures.bytes c.in-Ok.ensures.answer, parts.0, parts.1)
+    c.push.ensures.items
+    (record { core = refl; term = refl; port = refl; input = refl; since = λ start h. c.in-Ok-write.ensures.since start (c.in-Ok.ensures.since start h) })
+    (ap (with_view (present g.P.Port.view c.args.self.now))
+    (ap (λ v. with_number v c.args.addr c.args.n c.in-Ok.old) now ∙ bytes_back view c.args.addr c.args.n c.args.value c.in-Ok.old c.args.mode c.in-Ok.ensures.bytes c.in-Ok.ensures.answer))
+    (ap (λ v. v.areas) now) (ap (λ v. v.resident) now)
+    (c.requires.some, c.requires.few, c.requires.of_mode, old_fits view c.args.addr c.args.n c.in-Ok.old c.args.mode c.in-Ok.ensures.bytes c.in-Ok.ensures.answer, parts.0, parts.1)
