@@ -16,3 +16,6 @@ pub use crate::port::Port;
 pub use crate::term::Term;
 pub use crate::txn::Txn;
 pub use vax_flat::Stop;
+
+#[cfg(test)]
+mod tests;
