@@ -7,3 +7,4 @@ pub mod OverPort
 pub mod Operand
 pub mod Rows
 pub mod Step
+pub mod Start

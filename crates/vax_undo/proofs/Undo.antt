@@ -1,5 +1,5 @@
 -- What keeps a transaction.
-use Rattle.std.proofs.Common.{Bool, true, false, zero, suc, inl, inr, ◌≡◌, ℕ, ◌+◌, ◌-◌, ◌^◌, ◌<◌, ◌≤◌, Option, Some, None, Result, Ok, Err, List, [], ◌∷◌, ◌++◌, length, refl, ap, sym, subst, ◌∙◌, arith, length-append}
+use Rattle.std.proofs.Common.{Bool, true, zero, suc, inl, inr, ◌≡◌, ℕ, ◌^◌, ◌<◌, Option, Some, None, Result, Ok, Err, List, [], ◌∷◌, ◌++◌, refl, ap, sym, subst, ◌∙◌, arith, length-append}
 use Rattle.std.proofs.lemmas.Bool.{cases_Bool}
 use Rattle.std.proofs.lemmas.List.{set-get_or, set-set}
 use Rattle.std.specs.Prelude.{slice_index, slice_set, IfOk}
@@ -20,7 +20,7 @@ use Rattle.vax_undo.specs.declared.entry.Entry.{Entry}
 use Rattle.vax_undo.specs.declared.entry.Kept.{Kept}
 use Rattle.vax_undo.specs.declared.entry.Kept.TheVariants as kept
 use Rattle.vax_undo.specs.declared.txn.Txn.{Txn as Transaction}
-use Rattle.vax_undo.specs.Transaction.{put_back, undo, undo_all, Allows, AllowsAll, present, IsReady, IsSame, Keeps}
+use Rattle.vax_undo.specs.Transaction.{put_back, undo, undo_all, Allows, AllowsAll, present, IsSame, Keeps}
 
 pub undo_all-append : (log : List Entry) (e : Entry) (p : Present) → undo_all (log ++ e ∷ []) p ≡ undo_all log (undo e p)
 undo_all-append [] e p = refl

@@ -1,2 +1,4 @@
 pub mod Answers
 pub mod Transaction
+pub mod Blocks
+pub mod Plain

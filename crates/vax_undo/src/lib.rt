@@ -4,12 +4,18 @@
 //! it changes, so that [`Txn::unwind`] leaves everything as it was.
 #![tactic(auto)]
 
+mod block;
 mod entry;
+mod plain;
 mod port;
 mod term;
 mod txn;
 
+pub use crate::plain::Plain;
 pub use crate::port::Port;
 pub use crate::term::Term;
 pub use crate::txn::Txn;
 pub use vax_flat::Stop;
+
+#[cfg(test)]
+mod tests;

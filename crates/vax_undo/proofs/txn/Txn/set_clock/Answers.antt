@@ -1,6 +1,6 @@
-use Rattle.std.proofs.Common.{rules, arith, refl, ◌^◌}
+use Rattle.std.proofs.Common.{rules, refl}
 use Rattle.vax_undo.specs.declared.entry.Kept.TheVariants as kept
-use Rattle.vax_undo.proofs.Undo.{logged, set_back}
+use Rattle.vax_undo.proofs.Undo.{logged}
 use Rattle.vax_undo.proofs.txn.Txn.set_clock.Goals as goal
 
 pub returns-clause-keeps : goal.returns-clause-keeps

@@ -1,4 +1,4 @@
-use Rattle.std.proofs.Common.{rules, arith, refl, ◌^◌}
+use Rattle.std.proofs.Common.{arith, refl}
 use Rattle.vax_undo.specs.declared.entry.Kept.TheVariants as kept
 use Rattle.vax_undo.proofs.Undo.{logged, set_back}
 use Rattle.vax_undo.proofs.txn.Txn.set_reg.Goals as goal

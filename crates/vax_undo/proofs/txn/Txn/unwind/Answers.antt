@@ -1,4 +1,4 @@
-use Rattle.std.proofs.Common.{◌∙◌, refl}
+use Rattle.std.proofs.Common.{◌∙◌}
 use Rattle.vax_flat.specs.OverPort.{Present}
 use Rattle.vax_undo.specs.Transaction.{state_of}
 use Rattle.vax_undo.proofs.Undo.{last_allowed, unwound, present_alike, still_allowed}

@@ -1,5 +1,4 @@
 use Rattle.std.proofs.Common.{◌≡◌, length}
-use Rattle.vax_flat.specs.OverPort.{Present}
 use Rattle.vax_undo.specs.Transaction.{state_of, undone, undo_all, AllowsAll}
 use Rattle.vax_undo.proofs.txn.Txn.unwind.Given as goal
 

@@ -1,5 +1,4 @@
 use Rattle.std.proofs.Common.{◌≡◌, None, refl, sym, ap, ◌∙◌}
-use Rattle.vax_space.specs.Reference.{violation}
 use Rattle.vax_space.specs.declared.Access.TheVariants.{Write}
 use Rattle.vax_flat.specs.Port.{stop, with_number}
 use Rattle.vax_undo.specs.Transaction.{present, with_view}
