@@ -5,5 +5,7 @@ mod attempt;
 mod cpu;
 mod interrupt;
 mod rows;
+#[cfg(test)]
+mod tests;
 
 pub use crate::cpu::{Attempt, Batch, Cpu, Open};

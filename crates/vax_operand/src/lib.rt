@@ -8,6 +8,8 @@
 mod access;
 mod memory;
 mod specifier;
+#[cfg(test)]
+mod tests;
 
 pub use crate::access::{load, next_value, store, value_of};
 pub use crate::memory::{check, fetch, read, write};
