@@ -1,9 +1,6 @@
 -- What a command comes to, from what its parts did.
-use Rattle.std.proofs.Common.{◌≡◌, ◌⊎◌, inl, inr, ℕ, List, [], ◌∷◌, Option, Some, Ok, refl}
+use Rattle.std.proofs.Common.{◌≡◌, inl, inr, ℕ, List, [], ◌∷◌, Option, Some, Ok, refl}
 use Rattle.std.proofs.Common.{sym, ap, subst, ◌∙◌, ◌≤◌, arith}
-use Rattle.vax_word.specs.declared.Core.{Core}
-use Rattle.vax_space.specs.declared.Area.{Area}
-use Rattle.vax_flat.specs.declared.Ending.{Ending}
 use Rattle.vax_flat.specs.Step.{Flat, run}
 use Rattle.vax_bare.specs.Start.{memory, core, start_of}
 use Rattle.vax_bare.specs.Run.{StopsAt, IsRun, IsCutShort as IsOutputCut}
@@ -16,7 +13,7 @@ use Rattle.vax_report.specs.declared.Last.{Last}
 use Rattle.vax_outside.specs.Channels.{Channels, only, nothing, append, Grew, GrewByPrefix}
 use Rattle.vax_outside.specs.Faults.{Rose}
 use Rattle.vax_outside.specs.declared.traits.Chan.TheVariants.{Out, Report}
-use Rattle.vax.specs.Ends.{Ends, IsWhole, IsCutShort}
+use Rattle.vax.specs.Ends.{Ends}
 use Rattle.vax_outside.specs.Directory.{Directory}
 use Rattle.vax_words.specs.Words.{Text, Said, bare, about, command_of}
 use Rattle.vax.specs.declared.status.Status.{Status}

@@ -1,5 +1,5 @@
 -- The answers of the program, their numbers, and the lines that refusals write.
-use Rattle.std.specs.Prelude.{ℕ, List, [], ◌∷◌, ◌++◌, codes, decimal, Option, None, Some}
+use Rattle.std.specs.Prelude.{ℕ, List, ◌++◌, codes, decimal, Option, None, Some}
 use Rattle.vax_outside.specs.Channels.{Channels, nothing, only}
 use Rattle.vax_outside.specs.declared.traits.Chan.TheVariants.{Report}
 use Rattle.vax.specs.declared.status.Status.{Status}

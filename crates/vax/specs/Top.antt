@@ -1,7 +1,7 @@
 -- What a call of the program comes to.
-use Rattle.std.specs.Prelude.{◌≡◌, ◌⊎◌, ℕ, List, [], ◌∷◌, Option, None, Some, IfSome, IsSomeAnd, MatchOption, Result, Ok, Err, ⊤}
+use Rattle.std.specs.Prelude.{◌≡◌, ◌⊎◌, ℕ, List, [], ◌∷◌, Option, None, Some, IfSome, MatchOption, Result, Ok, Err, ⊤}
 use Rattle.std.specs.Option.{option_map_or}
-use Rattle.vax_outside.specs.Channels.{Channels, only, append, Grew}
+use Rattle.vax_outside.specs.Channels.{Channels, only, append}
 use Rattle.vax_outside.specs.Directory.{Directory, read_result}
 use Rattle.vax_outside.specs.declared.traits.FilesFault.{FilesFault}
 use Rattle.vax_outside.specs.declared.traits.FilesFault.TheVariants as faults

@@ -1,21 +1,19 @@
 -- The turns of a run.
-use Rattle.std.proofs.Common.{◌≡◌, ◌<◌, ◌≤◌, ℕ, zero, suc, ◌+◌, ◌-◌, Bool, true, false, Option, Some, None, List, [], ◌∷◌, ◌++◌, refl, sym, ap, subst, ◌∙◌, arith, inl, inr, append-nil, append_assoc, Result, Ok, Err, OnErr}
+use Rattle.std.proofs.Common.{◌≡◌, ◌<◌, ◌≤◌, ℕ, zero, suc, ◌+◌, ◌-◌, Bool, Option, Some, None, List, [], ◌∷◌, ◌++◌, refl, sym, ap, subst, ◌∙◌, arith, append_assoc, Result, Ok, Err, OnErr}
 use Rattle.vax_space.specs.declared.Area.{Area}
 use Rattle.vax_flat.specs.declared.Ending.{Ending}
 use Rattle.vax_flat.specs.Port.{View, StandsFor, layout}
-use Rattle.vax_flat.specs.Outcome.{first_missing}
-use Rattle.vax_flat.specs.Step.{Flat, run, step, step_touches, ended, with_byte_sent}
+use Rattle.vax_flat.specs.Step.{Flat, run, step, ended, with_byte_sent}
 use Rattle.vax_flat.proofs.Memory.{is_mapped, is_mapped-layout}
-use Rattle.vax_flat.proofs.Runs.{AllResident, none_missing_step, run-run, going_back, Extends, output_extends}
+use Rattle.vax_flat.proofs.Runs.{AllResident, none_missing_step, run-run, going_back, output_extends}
 use Rattle.vax_outside.specs.Channels.{Channels, Grew, GrewByPrefix, only}
 use Rattle.vax_outside.specs.declared.traits.Chan.TheVariants.{Out}
-use Rattle.vax_outside.proofs.Growth.{grew_only, prefix_within}
+use Rattle.vax_outside.proofs.Growth.{prefix_within}
 use Rattle.vax_cpu.specs.declared.cpu.Attempt.{Attempt}
 use Rattle.vax_cpu.specs.declared.cpu.Attempt.TheVariants as attempt
 use Rattle.vax_cpu.specs.declared.cpu.Cpu.{Cpu}
 use Rattle.vax_cpu.specs.Attempt.{flat_of}
 use Rattle.vax_cpu.specs.Batch.{AreAttempts}
-use Rattle.vax_bare.specs.declared.runs.Stopped.{Stopped}
 use Rattle.vax_bare.specs.Run.{StopsAt, IsRun, IsCutShort}
 
 -- the pages of two lists of areas with one layout

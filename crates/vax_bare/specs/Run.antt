@@ -1,6 +1,5 @@
 -- Runs of a processor, by the flat machine.
-use Rattle.std.specs.Prelude.{◌≡◌, ◌<◌, ◌≤◌, ℕ, List, Option, None}
-use Rattle.vax_flat.specs.declared.Ending.{Ending}
+use Rattle.std.specs.Prelude.{◌≡◌, ◌<◌, ◌≤◌, ℕ, Option, None}
 use Rattle.vax_flat.specs.Step.{Flat, run}
 use Rattle.vax_outside.specs.Channels.{Channels, Grew, GrewByPrefix, only}
 use Rattle.vax_outside.specs.declared.traits.Chan.TheVariants.{Out}

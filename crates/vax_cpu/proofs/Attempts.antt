@@ -1,6 +1,5 @@
 -- From what a transaction followed to what an attempt came to.
-use Rattle.std.proofs.Common.{add-one, ◌+◌, ◌≡◌, ℕ, Option, Some, None, Result, Ok, refl, sym, ap, subst, ◌∙◌}
-use Rattle.vax_flat.specs.declared.Cut.{Cut}
+use Rattle.std.proofs.Common.{add-one, ◌+◌, ◌≡◌, ℕ, Option, Some, None, Ok, refl, sym, ap, subst, ◌∙◌}
 use Rattle.vax_flat.specs.declared.Ending.{Ending}
 use Rattle.vax_flat.specs.declared.Flow.{Flow}
 use Rattle.vax_flat.specs.declared.Flow.TheVariants as flow

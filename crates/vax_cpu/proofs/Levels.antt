@@ -1,6 +1,6 @@
 -- The highest requested level.
-use Rattle.std.proofs.Common.{◌≡◌, ◌≢◌, ℕ, zero, suc, ◌+◌, ◌-◌, ◌/◌, ◌%◌, ◌^◌, ◌<◌, Bool, true, false, refl, sub-one, ◌∙◌, arith, inl, inr, eqb}
-use Rattle.std.proofs.lemmas.Bool.{cases_Bool, ne_eqb}
+use Rattle.std.proofs.Common.{◌≡◌, ℕ, zero, suc, ◌-◌, ◌/◌, ◌%◌, ◌^◌, ◌<◌, true, false, refl, sub-one, arith}
+use Rattle.std.proofs.lemmas.Bool.{ne_eqb}
 use Rattle.vax_word.specs.Status.{is_one}
 use Rattle.vax_flat.specs.Step.{highest}
 

@@ -6,11 +6,10 @@ use Rattle.vax_space.specs.Reference.{page_of}
 use Rattle.vax_flat.specs.declared.Flow.TheVariants as flow
 use Rattle.vax_flat.specs.State.{State, with_sent}
 use Rattle.vax_flat.specs.Port.{View, StandsFor}
-use Rattle.vax_flat.specs.Accesses.{Leaf, Went}
-use Rattle.vax_flat.specs.Outcome.{Ends, outcome_of, touches_of, first_missing}
+use Rattle.vax_flat.specs.Accesses.{Went}
+use Rattle.vax_flat.specs.Outcome.{first_missing}
 use Rattle.vax_flat.specs.OverPort.{Present, Stops, over_port}
-use Rattle.vax_flat.specs.Step.{Flat, step, step_touches, run, state_of, whole_step, whole_delivery, concluded, ended, with_byte_sent}
-use Rattle.vax_flat.proofs.Standing.{standing}
+use Rattle.vax_flat.specs.Step.{Flat, step, step_touches, run, state_of, whole_step, whole_delivery, concluded, with_byte_sent}
 use Rattle.vax_cpu.specs.declared.attempt.Tried.TheVariants as tried
 use Rattle.vax_cpu.specs.Tried.{IsTried}
 use Rattle.vax_cpu.specs.Batch.{Ran}
@@ -25,7 +24,7 @@ use Rattle.vax_undo.specs.declared.term.Term.{Term}
 use Rattle.vax_undo.specs.Transaction.{state_of as state_at}
 use Rattle.vax_cpu.specs.Attempt.{flat_of, Attempted, IsStep}
 use Rattle.vax_cpu.specs.Batch.{AreAttempts, StaysAt}
-use Rattle.vax_cpu.proofs.Steps.{step_concluded, unsent, step_absent, step_kept, step_ended, delivery_absent, delivery_kept, delivery_ended, delivery_raised}
+use Rattle.vax_cpu.proofs.Steps.{step_concluded, step_absent, step_kept, step_ended, delivery_absent, delivery_kept, delivery_ended, delivery_raised}
 
 -- the flat machine is where a transaction is
 pub record IsWhere (view : View) (p : Present) (m : Flat) : Type 0 where

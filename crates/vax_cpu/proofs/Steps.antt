@@ -1,8 +1,7 @@
 -- What an attempt came to, said by the flat machine.
-use Rattle.std.proofs.Common.{◌≡◌, ℕ, Bool, false, Option, Some, None, List, [], ◌++◌, refl, sym, ap, subst, ◌∙◌}
+use Rattle.std.proofs.Common.{◌≡◌, ℕ, Option, Some, None, List, refl, sym, ap, subst, ◌∙◌}
 use Rattle.vax_word.specs.declared.Core.{Core}
 use Rattle.vax_space.specs.declared.Area.{Area}
-use Rattle.vax_space.specs.Reference.{page_of}
 use Rattle.vax_flat.specs.declared.Exception.{Exception}
 use Rattle.vax_flat.specs.declared.Cut.TheVariants as cut
 use Rattle.vax_flat.specs.declared.Ending.{Ending}
@@ -10,10 +9,9 @@ use Rattle.vax_flat.specs.declared.Ending.TheVariants.{Unbuilt}
 use Rattle.vax_flat.specs.declared.Flow.{Flow}
 use Rattle.vax_flat.specs.declared.Flow.TheVariants as flow
 use Rattle.vax_flat.specs.State.{State}
-use Rattle.vax_flat.specs.Memory.{byte_at}
 use Rattle.vax_flat.specs.Port.{View, StandsFor}
 use Rattle.vax_flat.specs.Accesses.{Leaf, Went}
-use Rattle.vax_flat.specs.Outcome.{Outcome, Range, Ends, Raised, outcome_of, touches_of, first_missing, or_else}
+use Rattle.vax_flat.specs.Outcome.{Outcome, Ends, Raised, outcome_of, touches_of, first_missing, or_else}
 use Rattle.vax_flat.specs.OverPort.{Present, Comes, Stops, Agrees, over_port}
 use Rattle.vax_flat.specs.Step.{Flat, step, step_from, step_touches, state_of, whole_step, whole_delivery, concluded, ended, after_instruction, after_delivery, touches_after, with_byte_sent}
 use Rattle.vax_flat.proofs.Standing.{standing}

@@ -1,5 +1,5 @@
 -- What an attempt does, by the flat machine.
-use Rattle.std.specs.Prelude.{◌≡◌, ℕ, Bool, false, Option, Some, None, List}
+use Rattle.std.specs.Prelude.{◌≡◌, ℕ, false, Option, Some, None, List}
 use Rattle.vax_space.specs.declared.Area.{Area}
 use Rattle.vax_space.specs.Reference.{page_of}
 use Rattle.vax_flat.specs.Memory.{byte_at}

@@ -1,5 +1,5 @@
 -- Several attempts, one after the other.
-use Rattle.std.specs.Prelude.{◌≡◌, ◌<◌, ℕ, zero, suc, Option, Some, None}
+use Rattle.std.specs.Prelude.{◌≡◌, ◌<◌, ℕ, zero, suc, None}
 use Rattle.vax_flat.specs.Port.{View, StandsFor}
 use Rattle.vax_flat.specs.OverPort.{Present}
 use Rattle.vax_flat.specs.Outcome.{first_missing}

@@ -1,11 +1,10 @@
 -- Violations depend on the areas alone, and not on their bytes.
-use Rattle.std.proofs.Common.{◌≡◌, ℕ, suc, zero, ◌+◌, Bool, true, false, cond, Option, Some, None, List, [], ◌∷◌, leb, ltb, ◌&&◌, refl, sym, ap, ◌∙◌, max, min, inl, inr}
+use Rattle.std.proofs.Common.{◌≡◌, ℕ, suc, zero, List, [], ◌∷◌, refl, sym, ap, ◌∙◌, inl, inr}
 use Rattle.std.proofs.lemmas.Bool.{cases_Bool}
-use Rattle.std.specs.Prelude.{option_map}
 use Rattle.vax_space.specs.declared.Access.{Access}
 use Rattle.vax_space.specs.declared.Area.{Area}
-use Rattle.vax_space.specs.Areas.{has_page, area_of, prot_of, end_of}
-use Rattle.vax_space.specs.Reference.{may_access, permitted, program_end, control_start, is_past_region, violation, violation_at, page_of, byte_after}
+use Rattle.vax_space.specs.Areas.{has_page, area_of, prot_of}
+use Rattle.vax_space.specs.Reference.{may_access, permitted, program_end, control_start, is_past_region, violation, page_of, byte_after}
 use Rattle.vax_flat.specs.Port.{layout}
 
 has_page-layout : (area : Area) (page : ℕ) → has_page (record area { bytes = [] }) page ≡ has_page area page

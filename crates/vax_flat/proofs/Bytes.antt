@@ -1,10 +1,10 @@
 -- Numbers and runs of bytes, written and read back.
-use Rattle.std.proofs.Common.{◌≡◌, ℕ, suc, zero, ◌+◌, ◌*◌, ◌/◌, ◌%◌, ◌^◌, ◌<◌, Bool, true, false, cond, Option, Some, None, List, [], ◌∷◌, length, eqb, refl, sym, ap, ◌∙◌, arith, inl, inr}
+use Rattle.std.proofs.Common.{◌≡◌, ℕ, suc, zero, ◌+◌, ◌*◌, ◌/◌, ◌%◌, ◌^◌, ◌<◌, Bool, true, false, cond, Some, None, List, [], ◌∷◌, length, eqb, refl, sym, ap, ◌∙◌, arith, inl, inr}
 use Rattle.std.proofs.lemmas.Bool.{cases_Bool, eqb-true}
 use Rattle.std.proofs.Math.Path.{fun_ext}
 use Rattle.std.proofs.Math.Nat.{pow-suc}
 use Rattle.vax_space.specs.Reference.{page_of}
-use Rattle.vax_flat.specs.Memory.{after, number, bytes_from}
+use Rattle.vax_flat.specs.Memory.{after, number}
 use Rattle.vax_flat.specs.Port.{put, put_run, first_absent, AreBytes}
 
 -- a place is one of so many from an address

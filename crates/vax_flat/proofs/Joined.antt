@@ -1,5 +1,5 @@
 -- The first absent page of two lists of ranges.
-use Rattle.std.proofs.Common.{◌≡◌, ℕ, Bool, Option, Some, None, List, [], ◌∷◌, ◌++◌, refl, ap, ◌∙◌}
+use Rattle.std.proofs.Common.{◌≡◌, ℕ, Bool, Option, Some, None, List, [], ◌∷◌, ◌++◌, refl}
 use Rattle.vax_flat.specs.Port.{first_absent}
 use Rattle.vax_flat.specs.Outcome.{Range, first_missing, or_else}
 

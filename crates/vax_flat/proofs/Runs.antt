@@ -1,6 +1,5 @@
 -- Runs of the flat machine.
-use Rattle.std.proofs.Common.{◌≡◌, ◌<◌, ◌≤◌, ℕ, zero, suc, ◌+◌, Bool, true, false, Option, Some, None, List, [], ◌∷◌, ◌++◌, length, refl, sym, ap, subst, ◌∙◌, arith, inl, inr, append_assoc, append-nil}
-use Rattle.std.proofs.lemmas.Bool.{cases_Bool}
+use Rattle.std.proofs.Common.{◌≡◌, ℕ, zero, suc, ◌+◌, Bool, true, Option, Some, None, List, [], ◌∷◌, ◌++◌, length, refl, sym, ap, ◌∙◌, arith, append_assoc, append-nil}
 use Rattle.vax_space.specs.declared.Access.{Access}
 use Rattle.vax_space.specs.declared.Access.TheVariants.{Read, Write}
 use Rattle.vax_space.specs.declared.Area.{Area}
@@ -12,7 +11,7 @@ use Rattle.vax_flat.specs.Memory.{after, byte_at, number, bytes_from, written, w
 use Rattle.vax_flat.specs.Port.{first_absent}
 use Rattle.vax_flat.specs.Accesses.{Accesses, Done, Raises, Checks, Asks, Reads, Writes, ReadsRun, WritesRun, Leaf, Went, Found}
 use Rattle.vax_flat.specs.Outcome.{Outcome, Ends, Raised, Range, outcome_of, touches_of, first_missing, unless_stopped, is_allowed, or_else}
-use Rattle.vax_flat.specs.Step.{Flat, step, step_from, run, state_of, whole_step, whole_delivery, concluded, ended, after_instruction, after_delivery, touches_after, step_touches, with_byte_sent}
+use Rattle.vax_flat.specs.Step.{Flat, step, step_from, run, state_of, whole_step, whole_delivery, concluded, after_instruction, after_delivery, touches_after, step_touches, with_byte_sent}
 use Rattle.vax_flat.proofs.Memory.{is_mapped, allowed_first, mapped_where_accessible, is_mapped-written, is_mapped-written_run}
 use Rattle.vax_flat.proofs.Joined.{first_missing-append}
 

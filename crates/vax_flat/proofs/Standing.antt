@@ -1,16 +1,15 @@
 -- What a tree of accesses comes to over a port is what it comes to on each memory that the port stands for, up to the first absent page.
-use Rattle.std.proofs.Common.{◌≡◌, ℕ, suc, zero, Bool, true, false, cond, eqb, Option, Some, None, List, [], ◌∷◌, length, refl, sym, ap, ◌∙◌, subst, inl, inr}
+use Rattle.std.proofs.Common.{◌≡◌, ℕ, suc, zero, Bool, true, false, cond, eqb, Option, Some, None, List, [], ◌∷◌, length, refl, sym, ap, ◌∙◌, inl, inr}
 use Rattle.std.proofs.lemmas.Bool.{cases_Bool}
-use Rattle.vax_space.specs.declared.Access.{Access}
 use Rattle.vax_space.specs.declared.Access.TheVariants.{Read, Write}
 use Rattle.vax_space.specs.declared.Area.{Area}
 use Rattle.vax_space.specs.declared.Violation.{Violation}
 use Rattle.vax_space.specs.Reference.{page_of, violation}
 use Rattle.vax_flat.specs.declared.Cut.TheVariants.{Absent, Event}
-use Rattle.vax_flat.specs.Memory.{after, byte_at, number, bytes_from, written, written_run, IsWhole}
-use Rattle.vax_flat.specs.Port.{View, StandsFor, first_absent, stop_of, put, put_run, with_number, with_run, layout}
+use Rattle.vax_flat.specs.Memory.{after, byte_at, number, bytes_from, written, written_run}
+use Rattle.vax_flat.specs.Port.{View, StandsFor, first_absent, stop_of, put, put_run, with_number, with_run}
 use Rattle.vax_flat.specs.Accesses.{Accesses, Done, Raises, Checks, Asks, Reads, Writes, ReadsRun, WritesRun}
-use Rattle.vax_flat.specs.Outcome.{Outcome, Range, outcome_of, touches_of, first_missing, unless_stopped, unless_violated, is_allowed, or_else}
+use Rattle.vax_flat.specs.Outcome.{Outcome, Range, outcome_of, touches_of, first_missing, unless_stopped, unless_violated, is_allowed}
 use Rattle.vax_flat.specs.OverPort.{Arrival, Comes, Stops, Agrees, over_port, unless_hindered, unless_forbidden}
 use Rattle.vax_flat.proofs.Bytes.{put-absent, put_run-absent}
 use Rattle.vax_flat.proofs.Alike.{violation-alike}

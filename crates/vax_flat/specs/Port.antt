@@ -10,7 +10,7 @@ use Rattle.vax_flat.specs.declared.Cut.TheVariants.{Absent, Event}
 use Rattle.vax_flat.specs.declared.Exception.TheVariants as exception
 use Rattle.vax_flat.specs.declared.Stop.{Stop}
 use Rattle.vax_flat.specs.declared.Stop.TheVariants.{NotResident, Violated}
-use Rattle.vax_flat.specs.Memory.{after, byte_at, number, bytes_from, IsWhole}
+use Rattle.vax_flat.specs.Memory.{after, byte_at, number, IsWhole}
 
 -- the areas, of which the bytes don't count here; which pages are resident; and the byte at each address of a resident page
 pub record View : Type 0 where

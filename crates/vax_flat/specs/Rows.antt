@@ -1,6 +1,5 @@
 -- The instructions (VAX Architecture Reference Manual, instruction descriptions).
-use Rattle.std.specs.Prelude.{ℕ, ◌+◌, ◌*◌, ◌/◌, ◌%◌, ◌^◌, ◌<◌, Bool, false, ◌==◌, nat_lt, if◌then◌else◌}
-use Rattle.vax_word.specs.declared.Codes.{Codes}
+use Rattle.std.specs.Prelude.{ℕ, ◌+◌, ◌*◌, ◌/◌, ◌%◌, ◌^◌, Bool, false, ◌==◌, if◌then◌else◌}
 use Rattle.vax_word.specs.declared.Size.TheVariants.{L}
 use Rattle.vax_word.specs.Arithmetic.{answer, sum}
 use Rattle.vax_word.specs.Status.{codes_of}

@@ -1,5 +1,5 @@
 -- A step of the flat machine, and a run (VAX Architecture Reference Manual, exceptions and interrupts).
-use Rattle.std.specs.Prelude.{ℕ, suc, zero, ◌+◌, ◌*◌, ◌/◌, ◌%◌, ◌^◌, ◌==◌, ◌&&◌, Bool, nat_lt, if◌then◌else◌, Option, Some, None, List, [], ◌∷◌, ◌++◌}
+use Rattle.std.specs.Prelude.{ℕ, suc, zero, ◌+◌, ◌%◌, ◌&&◌, nat_lt, if◌then◌else◌, Option, Some, None, List, [], ◌∷◌, ◌++◌}
 use Rattle.vax_word.specs.declared.Core.{Core}
 use Rattle.vax_word.specs.Status.{is_one}
 use Rattle.vax_space.specs.declared.Area.{Area}

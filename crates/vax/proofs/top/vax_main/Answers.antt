@@ -1,8 +1,6 @@
-use Rattle.std.proofs.Common.{◌≡◌, Some, rules, sym, ap, ◌∙◌, ◌∷◌, [], Ok}
-use Rattle.vax_outside.specs.Faults.{Rose}
-use Rattle.vax_words.specs.Words.{bare, command_of}
+use Rattle.std.proofs.Common.{Some, ap, ◌∙◌, ◌∷◌, [], Ok}
 use Rattle.vax_words.specs.Said.{said, texts}
-use Rattle.vax.specs.Top.{IsBare, Reads}
+use Rattle.vax.specs.Top.{Reads}
 use Rattle.vax.proofs.TopLaws.{bare_comes}
 use Rattle.vax.proofs.top.vax_main.Goals as goal
 

@@ -1,13 +1,12 @@
-use Rattle.std.proofs.Common.{◌≡◌, ◌≤◌, ◌+◌, ◌∙◌, [], ◌∷◌, ◌++◌, Option, Some, None, refl, ap, subst, sym, arith, rules}
+use Rattle.std.proofs.Common.{◌≡◌, ◌≤◌, ◌+◌, ◌∙◌, [], ◌∷◌, Some, None, ap, subst, arith}
 use Rattle.vax_outside.specs.declared.traits.Chan.TheVariants.{Out}
 use Rattle.vax_outside.proofs.Growth.{grew_nothing, grew_only}
-use Rattle.vax_flat.specs.Step.{run, with_byte_sent}
+use Rattle.vax_flat.specs.Step.{run}
 use Rattle.vax_cpu.specs.declared.cpu.Attempt.{Attempt}
 use Rattle.vax_cpu.specs.declared.cpu.Attempt.TheVariants as attempt
 use Rattle.vax_cpu.specs.Attempt.{flat_of}
 use Rattle.vax_cpu.specs.Batch.{AreAttempts}
-use Rattle.vax_bare.specs.Run.{IsCutShort}
-use Rattle.vax_bare.proofs.Turns.{IsAt, at_start, goes_on, at_limit, ends, none_absent, cut_short, failed}
+use Rattle.vax_bare.proofs.Turns.{at_start, goes_on, at_limit, ends, none_absent, cut_short, failed}
 use Rattle.vax_bare.proofs.runs.run.Goals as goal
 
 pub loop-steps-init : goal.loop-steps-init

@@ -1,4 +1,4 @@
-use Rattle.std.proofs.Common.{rules, ap, refl}
+use Rattle.std.proofs.Common.{rules, ap}
 use Rattle.vax_flat.specs.OverPort.{Present}
 use Rattle.vax_flat.specs.Step.{delivered}
 use Rattle.vax_undo.specs.Transaction.{present, state_of}

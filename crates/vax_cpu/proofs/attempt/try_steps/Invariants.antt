@@ -1,4 +1,4 @@
-use Rattle.std.proofs.Common.{◌≡◌, ◌+◌, ◌-◌, ◌<◌, ◌≤◌, None}
+use Rattle.std.proofs.Common.{◌≡◌, ◌-◌, ◌<◌, None}
 use Rattle.vax_undo.specs.Transaction.{present, undone, room, state_of, IsReady}
 use Rattle.vax_cpu.specs.Batch.{Ran}
 use Rattle.vax_cpu.proofs.attempt.try_steps.Given as goal
