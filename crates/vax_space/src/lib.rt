@@ -53,7 +53,7 @@ pub enum Right {
 use Right::{Nothing, ReadOnly, ReadWrite};
 
 /// The rights of kernel, executive, supervisor and user mode, by protection code.
-const PROTECTION: [[Right; 4]; 16] = [
+static PROTECTION: [[Right; 4]; 16] = [
     [Nothing, Nothing, Nothing, Nothing],
     [Nothing, Nothing, Nothing, Nothing],
     [ReadWrite, Nothing, Nothing, Nothing],
