@@ -5,6 +5,9 @@
 //! instructions as such trees), and `Step` (a whole step and a whole run).
 #![tactic(auto)]
 
+mod laws;
+
+pub use crate::laws::{arrival_agrees, joined_ranges};
 use vax_space::Violation;
 
 /// What interrupts an instruction (VAX Architecture Reference Manual, exceptions and interrupts).
