@@ -3,6 +3,7 @@ ghost use Rattle.std.specs.Prelude.{◌≡◌, ℕ, ◌+◌, ◌*◌, ◌%◌, �
 ghost use Rattle.vax_flat.specs.Operand.{form_of, extended, at_address, literal, in_register, register_value, addressed, is_reserved, is_no_base, is_result, reaches_pc, indexed, in_memory, after_prefix, formed, specified, branched, next_operand, IsWidth, IsTarget, Fits};
 ghost use Rattle.vax_flat.specs.OverPort.{Follows, Performs};
 ghost use Rattle.vax_undo.specs.Transaction.{present, room, Keeps};
+ghost use Rattle.vax_operand.specs.Located.{LocatesEverywhere};
 ghost use Rattle.vax_operand.specs.Form.{IsForm, IsDisplacement};
 
 use crate::memory::{check, fetch, read};
@@ -341,13 +342,10 @@ fn branch_target<P: Port>(txn: &mut Txn<P>, width: u8) -> Result<Operand, Cut>
     Ok(Operand::Target(txn.reg(15).wrapping_add(displacement)))
 }
 
-/// Reads one operand at PC, does its side effects and moves PC past it (VAX Architecture Reference Manual, operand specifiers).
-///
-/// An operand that is read is answered by its value; one that is modified is checked for writing, and where it lies is answered.
-/// The cut is the reserved addressing mode exception, an access violation, or the first page of the specifier that is absent.
+/// One operand, by its letter.
 #[inline]
 #[tactic(auto, unfolding(vax_flat::specs::Operand::next_operand))]
-pub fn next<P: Port>(txn: &mut Txn<P>, kind: OperandKind) -> Result<Operand, Cut>
+fn by_letter<P: Port>(txn: &mut Txn<P>, kind: OperandKind) -> Result<Operand, Cut>
     requires width { IsWidth kind.width }
     requires displacement { kind.letter ≡ Letter.Branch → IsDisplacement kind.width }
     requires room { 4 ≤ room txn.old }
@@ -363,4 +361,22 @@ pub fn next<P: Port>(txn: &mut Txn<P>, kind: OperandKind) -> Result<Operand, Cut
         Letter::Field => specified(txn, kind),
         Letter::Branch => branch_target(txn, kind.width),
     }
+}
+
+/// Reads one operand at PC, does its side effects and moves PC past it (VAX Architecture Reference Manual, operand specifiers).
+///
+/// An operand that is read is answered by its value; one that is modified is checked for writing, and where it lies is answered.
+/// The cut is the reserved addressing mode exception, an access violation, or the first page of the specifier that is absent. `exact`
+/// says what the call does to whatever comes next, `everywhere` the same of each memory that the port stands for.
+#[inline]
+pub fn next<P: Port>(txn: &mut Txn<P>, kind: OperandKind) -> Result<Operand, Cut>
+    requires width { IsWidth kind.width }
+    requires displacement { kind.letter ≡ Letter.Branch → IsDisplacement kind.width }
+    requires room { 4 ≤ room txn.old }
+    ensures exact { Follows (next_operand kind (present P.view txn.old).state) (present P.view txn.old) result (present P.view txn.new) }
+    ensures everywhere { LocatesEverywhere (next_operand kind (present P.view txn.old).state) (present P.view txn.old) result (present P.view txn.new) }
+    ensures fits { IfOk result (Fits kind) }
+    ensures keeps { Keeps P.view P.since 4 txn.old txn.new }
+{
+    by_letter(txn, kind)
 }
