@@ -6,5 +6,8 @@ pub mod Outcome
 pub mod OverPort
 pub mod Operand
 pub mod Rows
+pub mod Integer
+pub mod Control
+pub mod Instruction
 pub mod Step
 pub mod Start

@@ -1,19 +1,17 @@
--- The instructions (VAX Architecture Reference Manual, instruction descriptions).
-use Rattle.std.specs.Prelude.{ℕ, ◌+◌, ◌*◌, ◌/◌, ◌%◌, ◌^◌, Bool, false, ◌==◌, if◌then◌else◌}
-use Rattle.vax_word.specs.declared.Size.TheVariants.{L}
-use Rattle.vax_word.specs.Arithmetic.{answer, sum}
+-- What the instructions share: their operands' values, results, condition codes, traps and pushes
+-- (VAX Architecture Reference Manual, instruction descriptions; arithmetic exceptions).
+use Rattle.std.specs.Prelude.{ℕ, ◌+◌, ◌-◌, ◌*◌, ◌/◌, ◌%◌, ◌^◌, Bool, ◌==◌, ◌&&◌, if◌then◌else◌}
+use Rattle.vax_word.specs.declared.Codes.{Codes}
 use Rattle.vax_word.specs.Status.{codes_of}
 use Rattle.vax_isa.specs.declared.OperandKind.{OperandKind}
-use Rattle.vax_isa.specs.declared.Letter.TheVariants.{Read, Modify, Write}
-use Rattle.vax_flat.specs.declared.Exception.TheVariants.{Privileged}
+use Rattle.vax_isa.specs.declared.Letter.TheVariants.{Read, Modify, Write, Address, Branch}
 use Rattle.vax_flat.specs.declared.Operand.{Operand}
 use Rattle.vax_flat.specs.declared.Operand.TheVariants as operand
 use Rattle.vax_flat.specs.declared.Flow.{Flow}
 use Rattle.vax_flat.specs.declared.Flow.TheVariants as flow
-use Rattle.vax_flat.specs.declared.Ending.TheVariants as ending
-use Rattle.vax_flat.specs.State.{State, mode, register, with_register, with_conditions}
-use Rattle.vax_flat.specs.Accesses.{Accesses, Raises, Leaf}
-use Rattle.vax_flat.specs.Operand.{next_operand, fetched, register_value, read_at, write_at}
+use Rattle.vax_flat.specs.State.{State, register, with_register, with_conditions, overflow_enabled}
+use Rattle.vax_flat.specs.Accesses.{Accesses, Leaf}
+use Rattle.vax_flat.specs.Operand.{next_operand, register_value, plus, read_at, write_at}
 
 abbrev pub read_of : ℕ → OperandKind
 read_of width = record { letter = Read; width = width }
@@ -23,6 +21,12 @@ modify_of width = record { letter = Modify; width = width }
 
 abbrev pub write_of : ℕ → OperandKind
 write_of width = record { letter = Write; width = width }
+
+abbrev pub address_of : ℕ → OperandKind
+address_of width = record { letter = Address; width = width }
+
+abbrev pub branch_of : ℕ → OperandKind
+branch_of width = record { letter = Branch; width = width }
 
 -- the value at the place of an operand that is modified
 unfoldable pub value_at : ℕ → Operand → State → (ℕ → State → Accesses Leaf) → Accesses Leaf
@@ -55,43 +59,51 @@ value_of (operand.Memory addr) = 0
 value_of (operand.FieldRegister n) = 0
 value_of (operand.Target addr) = 0
 
+-- the address of an operand in memory, or that a branch goes to
+unfoldable pub address_in : Operand → ℕ
+address_in (operand.Value x) = 0
+address_in (operand.Register n) = 0
+address_in (operand.Memory addr) = addr
+address_in (operand.FieldRegister n) = 0
+address_in (operand.Target addr) = addr
+
 -- an operand that is read, and its value
 unfoldable pub read_value : ℕ → State → (ℕ → State → Accesses Leaf) → Accesses Leaf
 read_value width s next = next_operand (read_of width) s (λ o s. next (value_of o) s)
+
+-- an operand that is modified: its place, with the value there
+unfoldable pub modify_value : ℕ → State → (Operand × ℕ → State → Accesses Leaf) → Accesses Leaf
+modify_value width s next = next_operand (modify_of width) s (λ place s. value_at width place s (λ x s. next (place, x) s))
+
+-- an operand that is written: its place
+unfoldable pub write_place : ℕ → State → (Operand → State → Accesses Leaf) → Accesses Leaf
+write_place width s next = next_operand (write_of width) s next
+
+-- an operand of which the address is taken
+unfoldable pub address_value : ℕ → State → (ℕ → State → Accesses Leaf) → Accesses Leaf
+address_value width s next = next_operand (address_of width) s (λ o s. next (address_in o) s)
+
+-- where a branch goes
+unfoldable pub branch_target : ℕ → State → (ℕ → State → Accesses Leaf) → Accesses Leaf
+branch_target width s next = next_operand (branch_of width) s (λ o s. next (address_in o) s)
 
 -- the carry as it was
 abbrev pub carry_of : State → Bool
 carry_of s = (codes_of s.core.psl).c
 
--- MOVL source, destination: N and Z by the value, V 0, C as it was
-unfoldable pub movl : State → (Flow → State → Accesses Leaf) → Accesses Leaf
-movl s next =
-    read_value 4 s (λ x s.
-    next_operand (write_of 4) s (λ destination s.
-    stored 4 destination x s (λ s.
-    next flow.Done (with_conditions s (answer L x false (carry_of s)).1))))
+-- the arithmetic trap that follows a result, if one does: by a divisor of 0, or by an overflow where that is enabled
+unfoldable pub flow_of : Bool → Codes → State → Flow
+flow_of by_zero codes s = if by_zero then flow.Trap 2 else if codes.v && overflow_enabled s then flow.Trap 1 else flow.Done
 
--- ADDL2 addend, sum: C carry, V signed overflow
-unfoldable pub addl2 : State → (Flow → State → Accesses Leaf) → Accesses Leaf
-addl2 s next =
-    read_value 4 s (λ x s.
-    next_operand (modify_of 4) s (λ destination s.
-    value_at 4 destination s (λ y s.
-    stored 4 destination (sum L y x false).0 s (λ s.
-    next flow.Done (with_conditions s (sum L y x false).1)))))
+-- the codes are set, and a trap may follow
+unfoldable pub settled : Bool → Codes → State → (Flow → State → Accesses Leaf) → Accesses Leaf
+settled by_zero codes s next = next (flow_of by_zero codes s) (with_conditions s codes)
 
--- HALT, in kernel mode alone
-unfoldable pub halt : State → (Flow → State → Accesses Leaf) → Accesses Leaf
-halt s next = if mode s == 0 then next (flow.Ended ending.Halt) s else Raises Privileged
+-- a result is written and its codes are set
+unfoldable pub answered : ℕ → Operand → Bool → ℕ × Codes → State → (Flow → State → Accesses Leaf) → Accesses Leaf
+answered width place by_zero result s next = stored width place result.0 s (λ s. settled by_zero result.1 s next)
 
--- by the opcode
-unfoldable pub by_opcode : ℕ → State → (Flow → State → Accesses Leaf) → Accesses Leaf
-by_opcode opcode s next =
-    if opcode == 0xD0 then movl s next
-    else if opcode == 0xC0 then addl2 s next
-    else if opcode == 0x00 then halt s next
-    else next (flow.Ended ending.Unbuilt) s
-
--- the instruction at PC
-unfoldable pub instruction : State → (Flow → State → Accesses Leaf) → Accesses Leaf
-instruction s next = fetched 1 s (λ opcode s. by_opcode opcode s next)
+-- a longword is pushed onto the stack in use
+unfoldable pub pushed : ℕ → State → (State → Accesses Leaf) → Accesses Leaf
+pushed value s next =
+    write_at (plus (register s 14) (2 ^ 32 - 4)) 4 value s (λ after. next (with_register after 14 (plus (register s 14) (2 ^ 32 - 4))))

@@ -1,9 +1,9 @@
 -- What an instruction may change beside memory.
-use Rattle.std.specs.Prelude.{ℕ, Option, List, slice_index, slice_set}
+use Rattle.std.specs.Prelude.{ℕ, Bool, Option, List, slice_index, slice_set}
 use Rattle.vax_word.specs.declared.Core.{Core}
 use Rattle.vax_word.specs.declared.Codes.{Codes}
 use Rattle.vax_word.specs.declared.Psl.{Psl}
-use Rattle.vax_word.specs.Status.{mode_of, ipl_of, with_codes}
+use Rattle.vax_word.specs.Status.{is_one, mode_of, ipl_of, with_codes}
 
 -- the registers; the console's input, with the number of its bytes taken; and the byte that this instruction sent to the console
 pub record State : Type 0 where
@@ -33,6 +33,10 @@ with_conditions s codes = with_psl s (with_codes s.core.psl codes)
 -- the interrupt priority level
 abbrev pub priority : State → ℕ
 priority s = ipl_of s.core.psl
+
+-- whether an integer overflow traps (processor status word, IV)
+abbrev pub overflow_enabled : State → Bool
+overflow_enabled s = is_one s.core.psl.0 5
 
 abbrev pub with_stack : State → ℕ → ℕ → State
 with_stack s n value = record s { core = record s.core { stacks = slice_set s.core.stacks n value } }

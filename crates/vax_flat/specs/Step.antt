@@ -12,7 +12,7 @@ use Rattle.vax_flat.specs.declared.Flow.TheVariants as flow
 use Rattle.vax_flat.specs.State.{State, priority, with_timer, with_clock}
 use Rattle.vax_flat.specs.Accesses.{Accesses, Done, Leaf, Went, Found}
 use Rattle.vax_flat.specs.Outcome.{Outcome, Range, Ends, Raised, outcome_of, touches_of}
-use Rattle.vax_flat.specs.Rows.{instruction}
+use Rattle.vax_flat.specs.Instruction.{instruction}
 
 -- the flat machine: registers, memory, the whole input with the number of its bytes taken, the output so far, and how it ended, if it did
 pub record Flat : Type 0 where

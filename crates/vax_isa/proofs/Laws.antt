@@ -1,5 +1,5 @@
 -- What the list of the instructions keeps. Each law is computed once over the whole list.
-use Rattle.std.proofs.Common.{◌≡◌, ℕ, ◌<◌, ◌≤◌, Bool, true, false, ◌||◌, List, [], ◌∷◌, ◌++◌, All, IfSome, Option, Some, None, find, length, map, option_map, refl, sym, ◌∙◌, ap, subst, arith, slice_index_or, replicate, length-append, nat_le, nat_eq, ◌-◌, zero-add}
+use Rattle.std.proofs.Common.{◌≡◌, ℕ, ◌<◌, ◌≤◌, Bool, true, false, ◌||◌, List, [], ◌∷◌, ◌++◌, All, IfSome, Option, Some, None, find, length, map, option_map, refl, sym, ◌∙◌, ap, subst, arith, slice_index_or, unwrap_or, replicate, length-append, nat_le, nat_eq, ◌-◌, zero-add}
 use Rattle.std.proofs.lemmas.Bool.{leb-true, eqb-true}
 use Rattle.std.proofs.lemmas.List.{get_or_append_left, length-replicate}
 use Rattle.std.proofs.lemmas.List.Sums.{AllPass-from_list_all}
@@ -8,9 +8,10 @@ use Rattle.std.specs.List.{AllPass, list_all}
 use Rattle.std.specs.Str.{bytes_eq, str_eq_ignore_ascii_case, str_to_ascii_lowercase}
 use Rattle.vax_isa.specs.declared.OperandKind.{OperandKind}
 use Rattle.vax_isa.specs.declared.table.Entry.{Entry}
-use Rattle.vax_isa.specs.Entries.{Listing, counted, entries, entry_listing, entry_row, first_named, listing_of, row_at}
+use Rattle.vax_isa.specs.Entries.{Listing, counted, entries, entry_action, entry_listing, entry_row, first_named, listing_of, row_at}
+use Rattle.vax_isa.specs.Actions.{operands_of}
 use Rattle.vax_isa.specs.Instructions.{Instruction, instructions}
-use Rattle.vax_isa.specs.Rows.{Plain, IsFormed, IsKind, IsName, row_of, with_opcode, with_name, is_one_of, names_of, no_operand}
+use Rattle.vax_isa.specs.Rows.{Plain, action_of, IsFormed, IsKind, IsName, row_of, with_opcode, with_name, is_one_of, names_of, no_operand}
 use Rattle.vax_isa.proofs.Lists.{All-agree, at_counted, find_agree, find_map, IfSome-find}
 use Rattle.vax_isa.proofs.Passed.{kind_ok, kind_ok-IsKind, name_ok, name_ok-IsName}
 
@@ -110,7 +111,27 @@ pub formed_with_name : (text : List ℕ) → IfSome (with_name text) (λ i. IsFo
 unfolding with_name
 formed_with_name text = IfSome-find (λ i. IsFormed (row_of i)) (λ i. is_one_of (names_of i) text) instructions (λ k d inside _. all_formed k d inside)
 
+-- each instruction takes the operands of its row
+
+all_operands : map (λ i. unwrap_or (operands_of i.action) i.operands) instructions ≡ map (λ i. i.operands) instructions
+unfolding instructions
+all_operands = refl
+
+pub operands_agree : All (λ i. IfSome (operands_of i.action) (λ kinds. kinds ≡ i.operands)) instructions
+operands_agree k d inside =
+    let i = slice_index_or instructions k d in
+    taken (operands_of i.action) i.operands (All-agree (λ i. unwrap_or (operands_of i.action) i.operands) (λ i. i.operands) instructions all_operands k d inside)
+  where
+    taken : (kinds : Option (List OperandKind)) (operands : List OperandKind) → unwrap_or kinds operands ≡ operands → IfSome kinds (λ kinds. kinds ≡ operands)
+    taken None operands e = tt
+    taken (Some kinds) operands e = e
+
 -- the code's table
+
+pub slot_action : (slots : List (Option Entry)) → map (option_map entry_action) slots ≡ map action_of (counted 0 256) → (code : ℕ) (slot : Option Entry) → code < 256 → slice_index_or slots code None ≡ slot → option_map entry_action slot ≡ action_of code
+slot_action slots listed code slot inside is =
+    subst (λ (s : Option Entry). option_map entry_action s ≡ action_of code) is
+    (at_counted (option_map entry_action) action_of slots 0 256 listed code None inside ∙ ap action_of (zero-add code))
 
 pub slot_row : (slots : List (Option Entry)) → map (option_map entry_row) slots ≡ map row_at (counted 0 256) → (code : ℕ) (slot : Option Entry) → code < 256 → slice_index_or slots code None ≡ slot → option_map entry_row slot ≡ row_at code
 slot_row slots listed code slot inside is =

@@ -1,11 +1,15 @@
 -- The code's table: an entry in the slot of each opcode that isn't reserved.
 use Rattle.std.specs.Prelude.{ℕ, zero, suc, List, [], ◌∷◌, Option, find, filter_map, option_map, option_to_list}
 use Rattle.vax_isa.specs.declared.table.Entry.{Entry}
+use Rattle.vax_isa.specs.declared.actions.Action.{Action}
 use Rattle.vax_isa.specs.Instructions.{Instruction}
 use Rattle.vax_isa.specs.Rows.{Plain, plain, row_of, names_of, with_opcode, is_one_of}
 
 abbrev pub entry_row : Entry → Plain
 entry_row e = plain e.row
+
+abbrev pub entry_action : Entry → Action
+entry_action e = e.action
 
 -- the name and the alias
 abbrev pub entry_names : Entry → List (List ℕ)

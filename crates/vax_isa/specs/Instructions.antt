@@ -1,9 +1,20 @@
 -- The instructions (VAX MACRO and Instruction Set Reference Manual, instruction summary).
-use Rattle.std.specs.Prelude.{ℕ, List, [], ◌∷◌, codes}
+use Rattle.std.specs.Prelude.{ℕ, List, [], ◌∷◌, codes, true, false}
 use Prim.Native.String.{String}
+use Rattle.vax_word.specs.declared.Size.TheVariants as size
 use Rattle.vax_isa.specs.declared.OperandKind.{OperandKind}
 use Rattle.vax_isa.specs.declared.Letter.{Letter}
 use Rattle.vax_isa.specs.declared.Letter.TheVariants.{Read, Modify, Write, Address, Field, Branch}
+use Rattle.vax_isa.specs.declared.actions.Action.{Action}
+use Rattle.vax_isa.specs.declared.actions.Action.TheVariants as action
+use Rattle.vax_isa.specs.declared.actions.Narrow.TheVariants as narrow
+use Rattle.vax_isa.specs.declared.actions.Unary.TheVariants.{Move, Complement, Negate, ZeroExtend, Convert}
+use Rattle.vax_isa.specs.declared.actions.Binary.TheVariants.{Add, Subtract, Multiply, Divide, BitSet, BitClear, ExclusiveOr, AddWithCarry, SubtractWithCarry}
+use Rattle.vax_isa.specs.declared.actions.Integer.TheVariants as integer
+use Rattle.vax_isa.specs.declared.actions.Condition.TheVariants as condition
+use Rattle.vax_isa.specs.declared.actions.Relation.TheVariants as relation
+use Rattle.vax_isa.specs.declared.actions.Control.TheVariants as control
+use Rattle.vax_isa.specs.Actions.{unary, two, three, by_one, branch}
 
 -- an instruction as the manual lists it
 pub record Instruction : Type 0 where
@@ -11,6 +22,7 @@ pub record Instruction : Type 0 where
   pub name : List ℕ
   pub aliases : List (List ℕ)
   pub operands : List OperandKind
+  pub action : Action
 
 abbrev pub kind : Letter → ℕ → OperandKind
 kind letter width = record { letter = letter; width = width }
@@ -71,42 +83,46 @@ abbrev pub Wq : OperandKind
 Wq = kind Write 8
 
 abbrev pub row : ℕ → String → List OperandKind → Instruction
-row opcode name operands = record { opcode = opcode; name = codes name; aliases = []; operands = operands }
+row opcode name operands = record { opcode = opcode; name = codes name; aliases = []; operands = operands; action = action.Unbuilt }
 
 -- the same instruction with an alias
 abbrev pub also : String → Instruction → Instruction
 also alias instruction = record instruction { aliases = codes alias ∷ [] }
 
+-- the same instruction, which does this
+abbrev pub does : Action → Instruction → Instruction
+does what instruction = record instruction { action = what }
+
 -- every instruction, in the order of the opcodes; the others are reserved
 unfoldable pub instructions : List Instruction
 instructions =
-    row 0x00 "HALT" [] ∷
+    does (action.Halt) (row 0x00 "HALT" []) ∷
     row 0x01 "NOP" [] ∷
     row 0x02 "REI" [] ∷
     row 0x03 "BPT" [] ∷
     row 0x04 "RET" [] ∷
-    row 0x05 "RSB" [] ∷
-    row 0x0A "INDEX" (Rl ∷ Rl ∷ Rl ∷ Rl ∷ Rl ∷ Wl ∷ []) ∷
+    does (action.Control control.Return) (row 0x05 "RSB" []) ∷
+    does (action.Integer integer.Index) (row 0x0A "INDEX" (Rl ∷ Rl ∷ Rl ∷ Rl ∷ Rl ∷ Wl ∷ [])) ∷
     row 0x0C "PROBER" (Rb ∷ Rw ∷ Ab ∷ []) ∷
     row 0x0D "PROBEW" (Rb ∷ Rw ∷ Ab ∷ []) ∷
     row 0x0E "INSQUE" (Ab ∷ Ab ∷ []) ∷
     row 0x0F "REMQUE" (Ab ∷ Wl ∷ []) ∷
-    row 0x10 "BSBB" (Bb ∷ []) ∷
-    row 0x11 "BRB" (Bb ∷ []) ∷
-    also "BNEQU" (row 0x12 "BNEQ" (Bb ∷ [])) ∷
-    also "BEQLU" (row 0x13 "BEQL" (Bb ∷ [])) ∷
-    row 0x14 "BGTR" (Bb ∷ []) ∷
-    row 0x15 "BLEQ" (Bb ∷ []) ∷
-    row 0x16 "JSB" (Ab ∷ []) ∷
-    row 0x17 "JMP" (Ab ∷ []) ∷
-    row 0x18 "BGEQ" (Bb ∷ []) ∷
-    row 0x19 "BLSS" (Bb ∷ []) ∷
-    row 0x1A "BGTRU" (Bb ∷ []) ∷
-    row 0x1B "BLEQU" (Bb ∷ []) ∷
-    row 0x1C "BVC" (Bb ∷ []) ∷
-    row 0x1D "BVS" (Bb ∷ []) ∷
-    also "BGEQU" (row 0x1E "BCC" (Bb ∷ [])) ∷
-    also "BLSSU" (row 0x1F "BCS" (Bb ∷ [])) ∷
+    does (action.Control (control.BranchSubroutine narrow.B)) (row 0x10 "BSBB" (Bb ∷ [])) ∷
+    does (branch condition.Always narrow.B) (row 0x11 "BRB" (Bb ∷ [])) ∷
+    does (branch condition.NotEqual narrow.B) (also "BNEQU" (row 0x12 "BNEQ" (Bb ∷ []))) ∷
+    does (branch condition.Equal narrow.B) (also "BEQLU" (row 0x13 "BEQL" (Bb ∷ []))) ∷
+    does (branch condition.Greater narrow.B) (row 0x14 "BGTR" (Bb ∷ [])) ∷
+    does (branch condition.LessOrEqual narrow.B) (row 0x15 "BLEQ" (Bb ∷ [])) ∷
+    does (action.Control control.JumpSubroutine) (row 0x16 "JSB" (Ab ∷ [])) ∷
+    does (action.Control control.Jump) (row 0x17 "JMP" (Ab ∷ [])) ∷
+    does (branch condition.GreaterOrEqual narrow.B) (row 0x18 "BGEQ" (Bb ∷ [])) ∷
+    does (branch condition.Less narrow.B) (row 0x19 "BLSS" (Bb ∷ [])) ∷
+    does (branch condition.GreaterUnsigned narrow.B) (row 0x1A "BGTRU" (Bb ∷ [])) ∷
+    does (branch condition.LessOrEqualUnsigned narrow.B) (row 0x1B "BLEQU" (Bb ∷ [])) ∷
+    does (branch condition.OverflowClear narrow.B) (row 0x1C "BVC" (Bb ∷ [])) ∷
+    does (branch condition.OverflowSet narrow.B) (row 0x1D "BVS" (Bb ∷ [])) ∷
+    does (branch condition.CarryClear narrow.B) (also "BGEQU" (row 0x1E "BCC" (Bb ∷ []))) ∷
+    does (branch condition.CarrySet narrow.B) (also "BLSSU" (row 0x1F "BCS" (Bb ∷ []))) ∷
     row 0x28 "MOVC3" (Rw ∷ Ab ∷ Ab ∷ []) ∷
     row 0x29 "CMPC3" (Rw ∷ Ab ∷ Ab ∷ []) ∷
     row 0x2A "SCANC" (Rw ∷ Ab ∷ Ab ∷ Rb ∷ []) ∷
@@ -115,82 +131,82 @@ instructions =
     row 0x2D "CMPC5" (Rw ∷ Ab ∷ Rb ∷ Rw ∷ Ab ∷ []) ∷
     row 0x2E "MOVTC" (Rw ∷ Ab ∷ Rb ∷ Ab ∷ Rw ∷ Ab ∷ []) ∷
     row 0x2F "MOVTUC" (Rw ∷ Ab ∷ Rb ∷ Ab ∷ Rw ∷ Ab ∷ []) ∷
-    row 0x30 "BSBW" (Bw ∷ []) ∷
-    row 0x31 "BRW" (Bw ∷ []) ∷
-    row 0x32 "CVTWL" (Rw ∷ Wl ∷ []) ∷
-    row 0x33 "CVTWB" (Rw ∷ Wb ∷ []) ∷
+    does (action.Control (control.BranchSubroutine narrow.W)) (row 0x30 "BSBW" (Bw ∷ [])) ∷
+    does (branch condition.Always narrow.W) (row 0x31 "BRW" (Bw ∷ [])) ∷
+    does (unary Convert size.W size.L) (row 0x32 "CVTWL" (Rw ∷ Wl ∷ [])) ∷
+    does (unary Convert size.W size.B) (row 0x33 "CVTWB" (Rw ∷ Wb ∷ [])) ∷
     row 0x39 "MATCHC" (Rw ∷ Ab ∷ Rw ∷ Ab ∷ []) ∷
     row 0x3A "LOCC" (Rb ∷ Rw ∷ Ab ∷ []) ∷
     row 0x3B "SKPC" (Rb ∷ Rw ∷ Ab ∷ []) ∷
-    row 0x3C "MOVZWL" (Rw ∷ Wl ∷ []) ∷
-    row 0x3D "ACBW" (Rw ∷ Rw ∷ Mw ∷ Bw ∷ []) ∷
-    row 0x3E "MOVAW" (Aw ∷ Wl ∷ []) ∷
-    row 0x3F "PUSHAW" (Aw ∷ []) ∷
+    does (unary ZeroExtend size.W size.L) (row 0x3C "MOVZWL" (Rw ∷ Wl ∷ [])) ∷
+    does (action.Control (control.AddCompare narrow.W)) (row 0x3D "ACBW" (Rw ∷ Rw ∷ Mw ∷ Bw ∷ [])) ∷
+    does (action.Integer (integer.MoveAddress size.W)) (row 0x3E "MOVAW" (Aw ∷ Wl ∷ [])) ∷
+    does (action.Integer (integer.PushAddress size.W)) (row 0x3F "PUSHAW" (Aw ∷ [])) ∷
     row 0x58 "ADAWI" (Rw ∷ Mw ∷ []) ∷
-    row 0x78 "ASHL" (Rb ∷ Rl ∷ Wl ∷ []) ∷
-    row 0x79 "ASHQ" (Rb ∷ Rq ∷ Wq ∷ []) ∷
-    row 0x7A "EMUL" (Rl ∷ Rl ∷ Rl ∷ Wq ∷ []) ∷
-    row 0x7B "EDIV" (Rl ∷ Rq ∷ Wl ∷ Wl ∷ []) ∷
-    row 0x7C "CLRQ" (Wq ∷ []) ∷
-    row 0x7D "MOVQ" (Rq ∷ Wq ∷ []) ∷
-    row 0x7E "MOVAQ" (Aq ∷ Wl ∷ []) ∷
-    row 0x7F "PUSHAQ" (Aq ∷ []) ∷
-    row 0x80 "ADDB2" (Rb ∷ Mb ∷ []) ∷
-    row 0x81 "ADDB3" (Rb ∷ Rb ∷ Wb ∷ []) ∷
-    row 0x82 "SUBB2" (Rb ∷ Mb ∷ []) ∷
-    row 0x83 "SUBB3" (Rb ∷ Rb ∷ Wb ∷ []) ∷
-    row 0x84 "MULB2" (Rb ∷ Mb ∷ []) ∷
-    row 0x85 "MULB3" (Rb ∷ Rb ∷ Wb ∷ []) ∷
-    row 0x86 "DIVB2" (Rb ∷ Mb ∷ []) ∷
-    row 0x87 "DIVB3" (Rb ∷ Rb ∷ Wb ∷ []) ∷
-    row 0x88 "BISB2" (Rb ∷ Mb ∷ []) ∷
-    row 0x89 "BISB3" (Rb ∷ Rb ∷ Wb ∷ []) ∷
-    row 0x8A "BICB2" (Rb ∷ Mb ∷ []) ∷
-    row 0x8B "BICB3" (Rb ∷ Rb ∷ Wb ∷ []) ∷
-    row 0x8C "XORB2" (Rb ∷ Mb ∷ []) ∷
-    row 0x8D "XORB3" (Rb ∷ Rb ∷ Wb ∷ []) ∷
-    row 0x8E "MNEGB" (Rb ∷ Wb ∷ []) ∷
-    row 0x8F "CASEB" (Rb ∷ Rb ∷ Rb ∷ []) ∷
-    row 0x90 "MOVB" (Rb ∷ Wb ∷ []) ∷
-    row 0x91 "CMPB" (Rb ∷ Rb ∷ []) ∷
-    row 0x92 "MCOMB" (Rb ∷ Wb ∷ []) ∷
-    row 0x93 "BITB" (Rb ∷ Rb ∷ []) ∷
-    row 0x94 "CLRB" (Wb ∷ []) ∷
-    row 0x95 "TSTB" (Rb ∷ []) ∷
-    row 0x96 "INCB" (Mb ∷ []) ∷
-    row 0x97 "DECB" (Mb ∷ []) ∷
-    row 0x98 "CVTBL" (Rb ∷ Wl ∷ []) ∷
-    row 0x99 "CVTBW" (Rb ∷ Ww ∷ []) ∷
-    row 0x9A "MOVZBL" (Rb ∷ Wl ∷ []) ∷
-    row 0x9B "MOVZBW" (Rb ∷ Ww ∷ []) ∷
-    row 0x9C "ROTL" (Rb ∷ Rl ∷ Wl ∷ []) ∷
-    row 0x9D "ACBB" (Rb ∷ Rb ∷ Mb ∷ Bw ∷ []) ∷
-    row 0x9E "MOVAB" (Ab ∷ Wl ∷ []) ∷
-    row 0x9F "PUSHAB" (Ab ∷ []) ∷
-    row 0xA0 "ADDW2" (Rw ∷ Mw ∷ []) ∷
-    row 0xA1 "ADDW3" (Rw ∷ Rw ∷ Ww ∷ []) ∷
-    row 0xA2 "SUBW2" (Rw ∷ Mw ∷ []) ∷
-    row 0xA3 "SUBW3" (Rw ∷ Rw ∷ Ww ∷ []) ∷
-    row 0xA4 "MULW2" (Rw ∷ Mw ∷ []) ∷
-    row 0xA5 "MULW3" (Rw ∷ Rw ∷ Ww ∷ []) ∷
-    row 0xA6 "DIVW2" (Rw ∷ Mw ∷ []) ∷
-    row 0xA7 "DIVW3" (Rw ∷ Rw ∷ Ww ∷ []) ∷
-    row 0xA8 "BISW2" (Rw ∷ Mw ∷ []) ∷
-    row 0xA9 "BISW3" (Rw ∷ Rw ∷ Ww ∷ []) ∷
-    row 0xAA "BICW2" (Rw ∷ Mw ∷ []) ∷
-    row 0xAB "BICW3" (Rw ∷ Rw ∷ Ww ∷ []) ∷
-    row 0xAC "XORW2" (Rw ∷ Mw ∷ []) ∷
-    row 0xAD "XORW3" (Rw ∷ Rw ∷ Ww ∷ []) ∷
-    row 0xAE "MNEGW" (Rw ∷ Ww ∷ []) ∷
-    row 0xAF "CASEW" (Rw ∷ Rw ∷ Rw ∷ []) ∷
-    row 0xB0 "MOVW" (Rw ∷ Ww ∷ []) ∷
-    row 0xB1 "CMPW" (Rw ∷ Rw ∷ []) ∷
-    row 0xB2 "MCOMW" (Rw ∷ Ww ∷ []) ∷
-    row 0xB3 "BITW" (Rw ∷ Rw ∷ []) ∷
-    row 0xB4 "CLRW" (Ww ∷ []) ∷
-    row 0xB5 "TSTW" (Rw ∷ []) ∷
-    row 0xB6 "INCW" (Mw ∷ []) ∷
-    row 0xB7 "DECW" (Mw ∷ []) ∷
+    does (action.Integer (integer.Shift size.L)) (row 0x78 "ASHL" (Rb ∷ Rl ∷ Wl ∷ [])) ∷
+    does (action.Integer (integer.Shift size.Q)) (row 0x79 "ASHQ" (Rb ∷ Rq ∷ Wq ∷ [])) ∷
+    does (action.Integer integer.ExtendedMultiply) (row 0x7A "EMUL" (Rl ∷ Rl ∷ Rl ∷ Wq ∷ [])) ∷
+    does (action.Integer integer.ExtendedDivide) (row 0x7B "EDIV" (Rl ∷ Rq ∷ Wl ∷ Wl ∷ [])) ∷
+    does (action.Integer (integer.Clear size.Q)) (row 0x7C "CLRQ" (Wq ∷ [])) ∷
+    does (unary Move size.Q size.Q) (row 0x7D "MOVQ" (Rq ∷ Wq ∷ [])) ∷
+    does (action.Integer (integer.MoveAddress size.Q)) (row 0x7E "MOVAQ" (Aq ∷ Wl ∷ [])) ∷
+    does (action.Integer (integer.PushAddress size.Q)) (row 0x7F "PUSHAQ" (Aq ∷ [])) ∷
+    does (two Add narrow.B) (row 0x80 "ADDB2" (Rb ∷ Mb ∷ [])) ∷
+    does (three Add narrow.B) (row 0x81 "ADDB3" (Rb ∷ Rb ∷ Wb ∷ [])) ∷
+    does (two Subtract narrow.B) (row 0x82 "SUBB2" (Rb ∷ Mb ∷ [])) ∷
+    does (three Subtract narrow.B) (row 0x83 "SUBB3" (Rb ∷ Rb ∷ Wb ∷ [])) ∷
+    does (two Multiply narrow.B) (row 0x84 "MULB2" (Rb ∷ Mb ∷ [])) ∷
+    does (three Multiply narrow.B) (row 0x85 "MULB3" (Rb ∷ Rb ∷ Wb ∷ [])) ∷
+    does (two Divide narrow.B) (row 0x86 "DIVB2" (Rb ∷ Mb ∷ [])) ∷
+    does (three Divide narrow.B) (row 0x87 "DIVB3" (Rb ∷ Rb ∷ Wb ∷ [])) ∷
+    does (two BitSet narrow.B) (row 0x88 "BISB2" (Rb ∷ Mb ∷ [])) ∷
+    does (three BitSet narrow.B) (row 0x89 "BISB3" (Rb ∷ Rb ∷ Wb ∷ [])) ∷
+    does (two BitClear narrow.B) (row 0x8A "BICB2" (Rb ∷ Mb ∷ [])) ∷
+    does (three BitClear narrow.B) (row 0x8B "BICB3" (Rb ∷ Rb ∷ Wb ∷ [])) ∷
+    does (two ExclusiveOr narrow.B) (row 0x8C "XORB2" (Rb ∷ Mb ∷ [])) ∷
+    does (three ExclusiveOr narrow.B) (row 0x8D "XORB3" (Rb ∷ Rb ∷ Wb ∷ [])) ∷
+    does (unary Negate size.B size.B) (row 0x8E "MNEGB" (Rb ∷ Wb ∷ [])) ∷
+    does (action.Control (control.Case narrow.B)) (row 0x8F "CASEB" (Rb ∷ Rb ∷ Rb ∷ [])) ∷
+    does (unary Move size.B size.B) (row 0x90 "MOVB" (Rb ∷ Wb ∷ [])) ∷
+    does (action.Integer (integer.Compare narrow.B)) (row 0x91 "CMPB" (Rb ∷ Rb ∷ [])) ∷
+    does (unary Complement size.B size.B) (row 0x92 "MCOMB" (Rb ∷ Wb ∷ [])) ∷
+    does (action.Integer (integer.BitTest narrow.B)) (row 0x93 "BITB" (Rb ∷ Rb ∷ [])) ∷
+    does (action.Integer (integer.Clear size.B)) (row 0x94 "CLRB" (Wb ∷ [])) ∷
+    does (action.Integer (integer.Test narrow.B)) (row 0x95 "TSTB" (Rb ∷ [])) ∷
+    does (by_one Add narrow.B) (row 0x96 "INCB" (Mb ∷ [])) ∷
+    does (by_one Subtract narrow.B) (row 0x97 "DECB" (Mb ∷ [])) ∷
+    does (unary Convert size.B size.L) (row 0x98 "CVTBL" (Rb ∷ Wl ∷ [])) ∷
+    does (unary Convert size.B size.W) (row 0x99 "CVTBW" (Rb ∷ Ww ∷ [])) ∷
+    does (unary ZeroExtend size.B size.L) (row 0x9A "MOVZBL" (Rb ∷ Wl ∷ [])) ∷
+    does (unary ZeroExtend size.B size.W) (row 0x9B "MOVZBW" (Rb ∷ Ww ∷ [])) ∷
+    does (action.Integer integer.Rotate) (row 0x9C "ROTL" (Rb ∷ Rl ∷ Wl ∷ [])) ∷
+    does (action.Control (control.AddCompare narrow.B)) (row 0x9D "ACBB" (Rb ∷ Rb ∷ Mb ∷ Bw ∷ [])) ∷
+    does (action.Integer (integer.MoveAddress size.B)) (row 0x9E "MOVAB" (Ab ∷ Wl ∷ [])) ∷
+    does (action.Integer (integer.PushAddress size.B)) (row 0x9F "PUSHAB" (Ab ∷ [])) ∷
+    does (two Add narrow.W) (row 0xA0 "ADDW2" (Rw ∷ Mw ∷ [])) ∷
+    does (three Add narrow.W) (row 0xA1 "ADDW3" (Rw ∷ Rw ∷ Ww ∷ [])) ∷
+    does (two Subtract narrow.W) (row 0xA2 "SUBW2" (Rw ∷ Mw ∷ [])) ∷
+    does (three Subtract narrow.W) (row 0xA3 "SUBW3" (Rw ∷ Rw ∷ Ww ∷ [])) ∷
+    does (two Multiply narrow.W) (row 0xA4 "MULW2" (Rw ∷ Mw ∷ [])) ∷
+    does (three Multiply narrow.W) (row 0xA5 "MULW3" (Rw ∷ Rw ∷ Ww ∷ [])) ∷
+    does (two Divide narrow.W) (row 0xA6 "DIVW2" (Rw ∷ Mw ∷ [])) ∷
+    does (three Divide narrow.W) (row 0xA7 "DIVW3" (Rw ∷ Rw ∷ Ww ∷ [])) ∷
+    does (two BitSet narrow.W) (row 0xA8 "BISW2" (Rw ∷ Mw ∷ [])) ∷
+    does (three BitSet narrow.W) (row 0xA9 "BISW3" (Rw ∷ Rw ∷ Ww ∷ [])) ∷
+    does (two BitClear narrow.W) (row 0xAA "BICW2" (Rw ∷ Mw ∷ [])) ∷
+    does (three BitClear narrow.W) (row 0xAB "BICW3" (Rw ∷ Rw ∷ Ww ∷ [])) ∷
+    does (two ExclusiveOr narrow.W) (row 0xAC "XORW2" (Rw ∷ Mw ∷ [])) ∷
+    does (three ExclusiveOr narrow.W) (row 0xAD "XORW3" (Rw ∷ Rw ∷ Ww ∷ [])) ∷
+    does (unary Negate size.W size.W) (row 0xAE "MNEGW" (Rw ∷ Ww ∷ [])) ∷
+    does (action.Control (control.Case narrow.W)) (row 0xAF "CASEW" (Rw ∷ Rw ∷ Rw ∷ [])) ∷
+    does (unary Move size.W size.W) (row 0xB0 "MOVW" (Rw ∷ Ww ∷ [])) ∷
+    does (action.Integer (integer.Compare narrow.W)) (row 0xB1 "CMPW" (Rw ∷ Rw ∷ [])) ∷
+    does (unary Complement size.W size.W) (row 0xB2 "MCOMW" (Rw ∷ Ww ∷ [])) ∷
+    does (action.Integer (integer.BitTest narrow.W)) (row 0xB3 "BITW" (Rw ∷ Rw ∷ [])) ∷
+    does (action.Integer (integer.Clear size.W)) (row 0xB4 "CLRW" (Ww ∷ [])) ∷
+    does (action.Integer (integer.Test narrow.W)) (row 0xB5 "TSTW" (Rw ∷ [])) ∷
+    does (by_one Add narrow.W) (row 0xB6 "INCW" (Mw ∷ [])) ∷
+    does (by_one Subtract narrow.W) (row 0xB7 "DECW" (Mw ∷ [])) ∷
     row 0xB8 "BISPSW" (Rw ∷ []) ∷
     row 0xB9 "BICPSW" (Rw ∷ []) ∷
     row 0xBA "POPR" (Rw ∷ []) ∷
@@ -199,38 +215,38 @@ instructions =
     row 0xBD "CHME" (Rw ∷ []) ∷
     row 0xBE "CHMS" (Rw ∷ []) ∷
     row 0xBF "CHMU" (Rw ∷ []) ∷
-    row 0xC0 "ADDL2" (Rl ∷ Ml ∷ []) ∷
-    row 0xC1 "ADDL3" (Rl ∷ Rl ∷ Wl ∷ []) ∷
-    row 0xC2 "SUBL2" (Rl ∷ Ml ∷ []) ∷
-    row 0xC3 "SUBL3" (Rl ∷ Rl ∷ Wl ∷ []) ∷
-    row 0xC4 "MULL2" (Rl ∷ Ml ∷ []) ∷
-    row 0xC5 "MULL3" (Rl ∷ Rl ∷ Wl ∷ []) ∷
-    row 0xC6 "DIVL2" (Rl ∷ Ml ∷ []) ∷
-    row 0xC7 "DIVL3" (Rl ∷ Rl ∷ Wl ∷ []) ∷
-    row 0xC8 "BISL2" (Rl ∷ Ml ∷ []) ∷
-    row 0xC9 "BISL3" (Rl ∷ Rl ∷ Wl ∷ []) ∷
-    row 0xCA "BICL2" (Rl ∷ Ml ∷ []) ∷
-    row 0xCB "BICL3" (Rl ∷ Rl ∷ Wl ∷ []) ∷
-    row 0xCC "XORL2" (Rl ∷ Ml ∷ []) ∷
-    row 0xCD "XORL3" (Rl ∷ Rl ∷ Wl ∷ []) ∷
-    row 0xCE "MNEGL" (Rl ∷ Wl ∷ []) ∷
-    row 0xCF "CASEL" (Rl ∷ Rl ∷ Rl ∷ []) ∷
-    row 0xD0 "MOVL" (Rl ∷ Wl ∷ []) ∷
-    row 0xD1 "CMPL" (Rl ∷ Rl ∷ []) ∷
-    row 0xD2 "MCOML" (Rl ∷ Wl ∷ []) ∷
-    row 0xD3 "BITL" (Rl ∷ Rl ∷ []) ∷
-    row 0xD4 "CLRL" (Wl ∷ []) ∷
-    row 0xD5 "TSTL" (Rl ∷ []) ∷
-    row 0xD6 "INCL" (Ml ∷ []) ∷
-    row 0xD7 "DECL" (Ml ∷ []) ∷
-    row 0xD8 "ADWC" (Rl ∷ Ml ∷ []) ∷
-    row 0xD9 "SBWC" (Rl ∷ Ml ∷ []) ∷
+    does (two Add narrow.L) (row 0xC0 "ADDL2" (Rl ∷ Ml ∷ [])) ∷
+    does (three Add narrow.L) (row 0xC1 "ADDL3" (Rl ∷ Rl ∷ Wl ∷ [])) ∷
+    does (two Subtract narrow.L) (row 0xC2 "SUBL2" (Rl ∷ Ml ∷ [])) ∷
+    does (three Subtract narrow.L) (row 0xC3 "SUBL3" (Rl ∷ Rl ∷ Wl ∷ [])) ∷
+    does (two Multiply narrow.L) (row 0xC4 "MULL2" (Rl ∷ Ml ∷ [])) ∷
+    does (three Multiply narrow.L) (row 0xC5 "MULL3" (Rl ∷ Rl ∷ Wl ∷ [])) ∷
+    does (two Divide narrow.L) (row 0xC6 "DIVL2" (Rl ∷ Ml ∷ [])) ∷
+    does (three Divide narrow.L) (row 0xC7 "DIVL3" (Rl ∷ Rl ∷ Wl ∷ [])) ∷
+    does (two BitSet narrow.L) (row 0xC8 "BISL2" (Rl ∷ Ml ∷ [])) ∷
+    does (three BitSet narrow.L) (row 0xC9 "BISL3" (Rl ∷ Rl ∷ Wl ∷ [])) ∷
+    does (two BitClear narrow.L) (row 0xCA "BICL2" (Rl ∷ Ml ∷ [])) ∷
+    does (three BitClear narrow.L) (row 0xCB "BICL3" (Rl ∷ Rl ∷ Wl ∷ [])) ∷
+    does (two ExclusiveOr narrow.L) (row 0xCC "XORL2" (Rl ∷ Ml ∷ [])) ∷
+    does (three ExclusiveOr narrow.L) (row 0xCD "XORL3" (Rl ∷ Rl ∷ Wl ∷ [])) ∷
+    does (unary Negate size.L size.L) (row 0xCE "MNEGL" (Rl ∷ Wl ∷ [])) ∷
+    does (action.Control (control.Case narrow.L)) (row 0xCF "CASEL" (Rl ∷ Rl ∷ Rl ∷ [])) ∷
+    does (unary Move size.L size.L) (row 0xD0 "MOVL" (Rl ∷ Wl ∷ [])) ∷
+    does (action.Integer (integer.Compare narrow.L)) (row 0xD1 "CMPL" (Rl ∷ Rl ∷ [])) ∷
+    does (unary Complement size.L size.L) (row 0xD2 "MCOML" (Rl ∷ Wl ∷ [])) ∷
+    does (action.Integer (integer.BitTest narrow.L)) (row 0xD3 "BITL" (Rl ∷ Rl ∷ [])) ∷
+    does (action.Integer (integer.Clear size.L)) (row 0xD4 "CLRL" (Wl ∷ [])) ∷
+    does (action.Integer (integer.Test narrow.L)) (row 0xD5 "TSTL" (Rl ∷ [])) ∷
+    does (by_one Add narrow.L) (row 0xD6 "INCL" (Ml ∷ [])) ∷
+    does (by_one Subtract narrow.L) (row 0xD7 "DECL" (Ml ∷ [])) ∷
+    does (two AddWithCarry narrow.L) (row 0xD8 "ADWC" (Rl ∷ Ml ∷ [])) ∷
+    does (two SubtractWithCarry narrow.L) (row 0xD9 "SBWC" (Rl ∷ Ml ∷ [])) ∷
     row 0xDA "MTPR" (Rl ∷ Rl ∷ []) ∷
     row 0xDB "MFPR" (Rl ∷ Wl ∷ []) ∷
     row 0xDC "MOVPSL" (Wl ∷ []) ∷
-    row 0xDD "PUSHL" (Rl ∷ []) ∷
-    row 0xDE "MOVAL" (Al ∷ Wl ∷ []) ∷
-    row 0xDF "PUSHAL" (Al ∷ []) ∷
+    does (action.Integer integer.Push) (row 0xDD "PUSHL" (Rl ∷ [])) ∷
+    does (action.Integer (integer.MoveAddress size.L)) (row 0xDE "MOVAL" (Al ∷ Wl ∷ [])) ∷
+    does (action.Integer (integer.PushAddress size.L)) (row 0xDF "PUSHAL" (Al ∷ [])) ∷
     row 0xE0 "BBS" (Rl ∷ Vb ∷ Bb ∷ []) ∷
     row 0xE1 "BBC" (Rl ∷ Vb ∷ Bb ∷ []) ∷
     row 0xE2 "BBSS" (Rl ∷ Vb ∷ Bb ∷ []) ∷
@@ -239,8 +255,8 @@ instructions =
     row 0xE5 "BBCC" (Rl ∷ Vb ∷ Bb ∷ []) ∷
     row 0xE6 "BBSSI" (Rl ∷ Vb ∷ Bb ∷ []) ∷
     row 0xE7 "BBCCI" (Rl ∷ Vb ∷ Bb ∷ []) ∷
-    row 0xE8 "BLBS" (Rl ∷ Bb ∷ []) ∷
-    row 0xE9 "BLBC" (Rl ∷ Bb ∷ []) ∷
+    does (action.Control (control.LowBit true)) (row 0xE8 "BLBS" (Rl ∷ Bb ∷ [])) ∷
+    does (action.Control (control.LowBit false)) (row 0xE9 "BLBC" (Rl ∷ Bb ∷ [])) ∷
     row 0xEA "FFS" (Rl ∷ Rb ∷ Vb ∷ Wl ∷ []) ∷
     row 0xEB "FFC" (Rl ∷ Rb ∷ Vb ∷ Wl ∷ []) ∷
     row 0xEC "CMPV" (Rl ∷ Rb ∷ Vb ∷ Rl ∷ []) ∷
@@ -248,13 +264,13 @@ instructions =
     row 0xEE "EXTV" (Rl ∷ Rb ∷ Vb ∷ Wl ∷ []) ∷
     row 0xEF "EXTZV" (Rl ∷ Rb ∷ Vb ∷ Wl ∷ []) ∷
     row 0xF0 "INSV" (Rl ∷ Rl ∷ Rb ∷ Vb ∷ []) ∷
-    row 0xF1 "ACBL" (Rl ∷ Rl ∷ Ml ∷ Bw ∷ []) ∷
-    row 0xF2 "AOBLSS" (Rl ∷ Ml ∷ Bb ∷ []) ∷
-    row 0xF3 "AOBLEQ" (Rl ∷ Ml ∷ Bb ∷ []) ∷
-    row 0xF4 "SOBGEQ" (Ml ∷ Bb ∷ []) ∷
-    row 0xF5 "SOBGTR" (Ml ∷ Bb ∷ []) ∷
-    row 0xF6 "CVTLB" (Rl ∷ Wb ∷ []) ∷
-    row 0xF7 "CVTLW" (Rl ∷ Ww ∷ []) ∷
+    does (action.Control (control.AddCompare narrow.L)) (row 0xF1 "ACBL" (Rl ∷ Rl ∷ Ml ∷ Bw ∷ [])) ∷
+    does (action.Control (control.AddOne relation.Less)) (row 0xF2 "AOBLSS" (Rl ∷ Ml ∷ Bb ∷ [])) ∷
+    does (action.Control (control.AddOne relation.LessOrEqual)) (row 0xF3 "AOBLEQ" (Rl ∷ Ml ∷ Bb ∷ [])) ∷
+    does (action.Control (control.SubtractOne relation.GreaterOrEqual)) (row 0xF4 "SOBGEQ" (Ml ∷ Bb ∷ [])) ∷
+    does (action.Control (control.SubtractOne relation.Greater)) (row 0xF5 "SOBGTR" (Ml ∷ Bb ∷ [])) ∷
+    does (unary Convert size.L size.B) (row 0xF6 "CVTLB" (Rl ∷ Wb ∷ [])) ∷
+    does (unary Convert size.L size.W) (row 0xF7 "CVTLW" (Rl ∷ Ww ∷ [])) ∷
     row 0xFA "CALLG" (Ab ∷ Ab ∷ []) ∷
     row 0xFB "CALLS" (Rl ∷ Ab ∷ []) ∷
     row 0xFC "XFC" [] ∷

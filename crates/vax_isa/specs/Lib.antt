@@ -1,3 +1,4 @@
+pub mod Actions
 pub mod Instructions
 pub mod Rows
 pub mod Entries

@@ -1,11 +1,12 @@
 -- What is looked up in the list of the instructions.
-use Rattle.std.specs.Prelude.{◌≡◌, ℕ, List, [], ◌∷◌, ◌++◌, ◌-◌, ◌<◌, ◌≤◌, ◌==◌, Bool, false, ◌||◌, ◌⊎◌, Option, find, length, replicate, slice_index, slice_index_or, true}
+use Rattle.std.specs.Prelude.{◌≡◌, ℕ, List, [], ◌∷◌, ◌++◌, ◌-◌, ◌<◌, ◌≤◌, ◌==◌, Bool, false, ◌||◌, ◌⊎◌, Option, find, option_map, length, replicate, slice_index, slice_index_or, true}
 use Rattle.std.specs.Str.{str_eq_ignore_ascii_case}
 use Rattle.std.specs.Char.{is_ascii_uppercase, is_ascii_digit}
 use Rattle.std.specs.List.{AllPass}
 use Rattle.vax_isa.specs.declared.OperandKind.{OperandKind}
 use Rattle.vax_isa.specs.declared.Letter.TheVariants.{Read, Branch}
 use Rattle.vax_isa.specs.declared.Row.{Row}
+use Rattle.vax_isa.specs.declared.actions.Action.{Action}
 use Rattle.vax_isa.specs.Instructions.{Instruction, instructions}
 
 -- a row as its values
@@ -28,6 +29,10 @@ row_of i = record { code = i.opcode; name = i.name; count = length i.operands; o
 
 unfoldable pub with_opcode : ℕ → Option Instruction
 with_opcode code = find (λ i. i.opcode == code) instructions
+
+-- what the instruction with an opcode does; none where the opcode is reserved
+unfoldable pub action_of : ℕ → Option Action
+action_of code = option_map (λ i. i.action) (with_opcode code)
 
 abbrev pub names_of : Instruction → List (List ℕ)
 names_of i = i.name ∷ i.aliases

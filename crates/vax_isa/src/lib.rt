@@ -3,12 +3,16 @@
 #![tactic(auto)]
 
 ghost use Rattle.std.specs.Prelude.{◌≡◌, All, IfSome, IsTrue, option_map};
+ghost use Rattle.vax_isa.specs.Actions.{operands_of};
 ghost use Rattle.vax_isa.specs.Instructions.{instructions};
-ghost use Rattle.vax_isa.specs.Rows.{plain, row_of, with_opcode, with_name, is_one_of, names_of, IsName, IsFormed};
+ghost use Rattle.vax_isa.specs.Rows.{action_of, plain, row_of, with_opcode, with_name, is_one_of, names_of, IsName, IsFormed};
 
+mod actions;
 mod table;
 #[cfg(test)]
 mod tests;
+
+pub use crate::actions::{Action, Binary, Condition, Control, Integer, Narrow, Relation, Unary};
 
 /// What an instruction does with an operand (VAX MACRO and Instruction Set Reference Manual, operand specifier notation).
 #[derive(Clone, Copy, Debug, PartialEq, Eq)]
@@ -55,6 +59,19 @@ pub fn by_code(code: u8) -> Option<Row>
 {
     match &table::slots()[code as usize] {
         Some(entry) => Some(entry.row),
+        None => None,
+    }
+}
+
+/// What the instruction with this opcode does, None where the opcode is reserved. It is one look-up by index. The operands that it takes are those
+/// of the instruction's row.
+#[inline]
+pub fn action(code: u8) -> Option<Action>
+    ensures action { result ≡ action_of code }
+    ensures operands { All (λ i. IfSome (operands_of i.action) (λ kinds. kinds ≡ i.operands)) instructions }
+{
+    match &table::slots()[code as usize] {
+        Some(entry) => Some(entry.action),
         None => None,
     }
 }

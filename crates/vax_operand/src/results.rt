@@ -1,0 +1,94 @@
+//! What instructions do with their results: they are written or pushed, codes are set, and a trap may follow.
+ghost use Rattle.std.specs.Prelude.{◌≡◌, ℕ, ◌^◌, ◌<◌, ◌≤◌, Ok};
+ghost use Rattle.vax_word.specs.Arithmetic.{bytes_of};
+ghost use Rattle.vax_flat.specs.Operand.{IsPlace};
+ghost use Rattle.vax_flat.specs.Rows.{flow_of, settled, answered, pushed};
+ghost use Rattle.vax_flat.specs.OverPort.{Follows, Performs};
+ghost use Rattle.vax_flat.specs.State.{with_conditions, overflow_enabled};
+ghost use Rattle.vax_undo.specs.Transaction.{present, room, Keeps, with_state};
+
+use crate::access::store;
+use crate::memory::write;
+use vax_flat::{Cut, Flow, Operand};
+use vax_undo::{Port, Txn};
+use vax_word::{Codes, Psl, Size};
+
+/// The type of the trap of an integer overflow (VAX Architecture Reference Manual, arithmetic exceptions).
+const INTEGER_OVERFLOW: u8 = 1;
+
+/// The type of the trap of a division by 0.
+const INTEGER_DIVIDE_BY_ZERO: u8 = 2;
+
+/// Sets the condition codes.
+#[inline]
+pub fn set_codes<P: Port>(txn: &mut Txn<P>, codes: Codes)
+    requires { 1 ≤ room txn.old }
+    ensures exact { present P.view txn.new ≡ with_state (present P.view txn.old) (with_conditions (present P.view txn.old).state codes) }
+    ensures keeps { Keeps P.view P.since 1 txn.old txn.new }
+{
+    let psl = txn.psl().with_codes(codes);
+    txn.set_psl(psl);
+}
+
+/// Whether an integer overflow traps.
+#[inline]
+fn traps_overflow<P: Port>(txn: &Txn<P>) -> bool
+    ensures { result ≡ overflow_enabled (present P.view txn.now).state }
+{
+    let Psl(bits) = txn.psl();
+    bits >> 5 & 1 == 1
+}
+
+/// Sets the condition codes. A division by 0 traps then, and so does an overflow where that is enabled.
+#[inline]
+#[tactic(auto, unfolding(vax_flat::specs::Rows::settled, vax_flat::specs::Rows::flow_of))]
+pub fn settle<P: Port>(txn: &mut Txn<P>, by_zero: bool, codes: Codes) -> Result<Flow, Cut>
+    requires { 1 ≤ room txn.old }
+    ensures exact { Follows (settled by_zero codes (present P.view txn.old).state) (present P.view txn.old) result (present P.view txn.new) }
+    ensures keeps { Keeps P.view P.since 1 txn.old txn.new }
+{
+    let flow = if by_zero {
+        Flow::Trap(INTEGER_DIVIDE_BY_ZERO)
+    } else if codes.v && traps_overflow(txn) {
+        Flow::Trap(INTEGER_OVERFLOW)
+    } else {
+        Flow::Done
+    };
+    set_codes(txn, codes);
+    Ok(flow)
+}
+
+/// Writes a result to its place, and sets its codes.
+#[inline]
+#[tactic(auto, unfolding(vax_flat::specs::Rows::answered))]
+pub fn answer<P: Port>(
+    txn: &mut Txn<P>,
+    size: Size,
+    place: Operand,
+    by_zero: bool,
+    result_and_codes: (u64, Codes),
+) -> Result<Flow, Cut>
+    requires place { IsPlace (bytes_of size) place }
+    requires fits { result_and_codes.0 < 256 ^ bytes_of size }
+    requires room { 3 ≤ room txn.old }
+    ensures exact { Follows (answered (bytes_of size) place by_zero result_and_codes (present P.view txn.old).state) (present P.view txn.old) result (present P.view txn.new) }
+    ensures keeps { Keeps P.view P.since 3 txn.old txn.new }
+{
+    let (value, codes) = result_and_codes;
+    store(txn, size, place, value)?;
+    settle(txn, by_zero, codes)
+}
+
+/// Pushes a longword onto the stack in use.
+#[inline]
+#[tactic(auto, unfolding(vax_flat::specs::Rows::pushed))]
+pub fn push<P: Port>(txn: &mut Txn<P>, value: u32) -> Result<(), Cut>
+    requires { 2 ≤ room txn.old }
+    ensures exact { Performs (pushed value (present P.view txn.old).state) (present P.view txn.old) result (present P.view txn.new) }
+    ensures keeps { Keeps P.view P.since 2 txn.old txn.new }
+{
+    let top = txn.reg(14).wrapping_sub(4);
+    write(txn, top, 4, value as u64)?;
+    txn.set_reg(14, top);
+    Ok(())
+}
