@@ -62,7 +62,7 @@ compared size a b = record { n = is_less size a b; z = a == b; v = false; c = na
 
 -- a longword turned left by a count modulo 32
 unfoldable pub rotated : ℕ → ℕ → ℕ
-rotated count x = x * 2 ^ (count % 32) % 2 ^ 32 + x * 2 ^ (count % 32) / 2 ^ 32
+rotated count x = (x * 2 ^ (count % 32) + x * 2 ^ (count % 32) / 2 ^ 32) % 2 ^ 32
 
 -- MOV, MCOM, MNEG, MOVZ, CVT
 unfoldable pub unary : Unary → Size → Size → State → (Flow → State → Accesses Leaf) → Accesses Leaf

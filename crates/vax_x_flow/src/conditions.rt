@@ -1,0 +1,93 @@
+//! What decides whether control goes on at the target.
+ghost use Rattle.std.specs.Prelude.{◌≡◌, ◌^◌, ◌<◌};
+ghost use Rattle.vax_word.specs.Arithmetic.{bytes_of, is_negative};
+ghost use Rattle.vax_flat.specs.Control.{holds, compares, within};
+ghost use Rattle.vax_flat.specs.Integer.{compared};
+
+use vax_isa::{Condition, Relation};
+use vax_word::{Codes, Size, signed_less};
+
+/// Whether the condition codes are those for which a branch is taken.
+#[inline]
+#[tactic(auto, unfolding(vax_flat::specs::Control::holds))]
+pub(crate) fn holds(condition: Condition, codes: Codes) -> bool
+    ensures { result ≡ holds condition codes }
+{
+    match condition {
+        Condition::Always => true,
+        Condition::NotEqual => !codes.z,
+        Condition::Equal => codes.z,
+        Condition::Greater => !(codes.n || codes.z),
+        Condition::LessOrEqual => codes.n || codes.z,
+        Condition::GreaterOrEqual => !codes.n,
+        Condition::Less => codes.n,
+        Condition::GreaterUnsigned => !(codes.c || codes.z),
+        Condition::LessOrEqualUnsigned => codes.c || codes.z,
+        Condition::OverflowClear => !codes.v,
+        Condition::OverflowSet => codes.v,
+        Condition::CarryClear => !codes.c,
+        Condition::CarrySet => codes.c,
+    }
+}
+
+/// How two signed longwords compare.
+#[inline]
+#[tactic(auto, unfolding(vax_flat::specs::Control::compares))]
+pub(crate) fn compares(relation: Relation, a: u64, b: u64) -> bool
+    requires a { a < 256 ^ 4 }
+    requires b { b < 256 ^ 4 }
+    ensures { result ≡ compares relation a b }
+{
+    match relation {
+        Relation::Less => signed_less(Size::L, a, b),
+        Relation::LessOrEqual => !signed_less(Size::L, b, a),
+        Relation::Greater => signed_less(Size::L, b, a),
+        Relation::GreaterOrEqual => !signed_less(Size::L, a, b),
+    }
+}
+
+/// Whether the sign bit is 1.
+#[inline]
+fn is_negative(size: Size, x: u64) -> bool
+    requires { x < 256 ^ bytes_of size }
+    ensures { result ≡ is_negative size x }
+{
+    match size {
+        Size::B => x >= 0x80,
+        Size::W => x >= 0x8000,
+        Size::L => x >= 0x8000_0000,
+        Size::Q => x >= 0x8000_0000_0000_0000,
+    }
+}
+
+/// Whether an index that grew by the addend is not yet past the limit.
+#[inline]
+#[tactic(auto, unfolding(vax_flat::specs::Control::within))]
+pub(crate) fn within(size: Size, addend: u64, limit: u64, index: u64) -> bool
+    requires addend { addend < 256 ^ bytes_of size }
+    requires limit { limit < 256 ^ bytes_of size }
+    requires index { index < 256 ^ bytes_of size }
+    ensures { result ≡ within size addend limit index }
+{
+    if is_negative(size, addend) {
+        !signed_less(size, index, limit)
+    } else {
+        !signed_less(size, limit, index)
+    }
+}
+
+/// The codes of two operands compared.
+#[inline]
+#[tactic(auto, unfolding(vax_flat::specs::Integer::compared))]
+pub(crate) fn compared(size: Size, a: u64, b: u64) -> Codes
+    requires a { a < 256 ^ bytes_of size }
+    requires b { b < 256 ^ bytes_of size }
+    ensures { result ≡ compared size a b }
+{
+    Codes {
+        n: signed_less(size, a, b),
+        z: a == b,
+        v: false,
+        c: a < b,
+    }
+}
