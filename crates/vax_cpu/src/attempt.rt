@@ -7,7 +7,7 @@ ghost use Rattle.vax_cpu.specs.Tried.{IsTried};
 ghost use Rattle.vax_cpu.specs.Batch.{Ran};
 
 use crate::interrupt::{requested, tick};
-use crate::rows::execute;
+use crate::instruction::execute;
 use vax_flat::{Ending, Exception};
 use vax_operand::{Cut, Flow};
 use vax_undo::{Port, Term, Txn};
@@ -30,9 +30,9 @@ pub(crate) enum Tried {
 #[inline]
 #[tactic(auto, unfolding(vax_flat::specs::Step::begun, vax_flat::specs::Step::interrupt))]
 fn begin<P: Port>(txn: &mut Txn<P>) -> Result<Flow, Cut>
-    requires { 12 ≤ room txn.old }
+    requires { 28 ≤ room txn.old }
     ensures exact { Follows (begun (present P.view txn.old).state) (present P.view txn.old) result (present P.view txn.new) }
-    ensures keeps { Keeps P.view P.since 12 txn.old txn.new }
+    ensures keeps { Keeps P.view P.since 28 txn.old txn.new }
 {
     if txn.psl().ipl() < requested(txn) {
         return Ok(Flow::Ended(Ending::Unbuilt));
@@ -77,9 +77,9 @@ fn finish<P: Port>(txn: &mut Txn<P>, flow: Flow) -> Result<Flow, Cut>
 #[inline]
 #[tactic(auto, unfolding(vax_flat::specs::Step::whole))]
 fn work<P: Port>(txn: &mut Txn<P>) -> Result<Flow, Cut>
-    requires { 14 ≤ room txn.old }
+    requires { 30 ≤ room txn.old }
     ensures exact { Follows (whole (present P.view txn.old).state) (present P.view txn.old) result (present P.view txn.new) }
-    ensures keeps { Keeps P.view P.since 14 txn.old txn.new }
+    ensures keeps { Keeps P.view P.since 30 txn.old txn.new }
 {
     let flow = begin(txn)?;
     finish(txn, flow)

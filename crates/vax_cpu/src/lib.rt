@@ -3,8 +3,10 @@
 
 mod attempt;
 mod cpu;
+mod instruction;
 mod interrupt;
-mod rows;
+#[cfg(test)]
+mod instruction_tests;
 #[cfg(test)]
 mod tests;
 

@@ -19,11 +19,11 @@ fn memory(alloc: Global, bytes: &[u8]) -> Result<Plain, Fail> {
     Ok(Plain::new(alloc, Space::new(alloc, areas)?)?)
 }
 
-/// Registers of 0, in kernel mode, with this PC and these condition codes.
-fn registers(pc: u32, codes: u32) -> Core {
+/// Registers of 0 with this PC and this status longword.
+fn registers(pc: u32, psl: u32) -> Core {
     let mut core = Core {
         regs: [0; 16],
-        psl: Psl(codes),
+        psl: Psl(psl),
         stacks: [0; 5],
         sisr: 0,
         iccs: 0,
@@ -190,5 +190,141 @@ fn an_instruction_that_is_not_built(rt: HostRuntime) -> Result<(), Fail> {
         attempt(alloc, &mut port, core),
         (Attempt::Ended(Ending::Unbuilt), core)
     );
+    Ok(())
+}
+
+/// The pages of the code, which begins at 80000200 hexadecimal, and of two pages of data behind it.
+const CODE: u32 = 0x40_0001;
+const DATA: u32 = 0x40_0002;
+const MORE_DATA: u32 = 0x40_0003;
+
+/// Code and data in the system region, of which no page is resident.
+fn absent_memory(alloc: Global, code: &[u8], data: &[u8]) -> Result<Plain, Fail> {
+    let mut areas = Vec::new(alloc);
+    areas.push(Area {
+        first: CODE,
+        pages: 1,
+        prot: 14,
+        bytes: Bytes::from(code.to_vec(alloc)?),
+    })?;
+    areas.push(Area {
+        first: DATA,
+        pages: 2,
+        prot: 14,
+        bytes: Bytes::from(data.to_vec(alloc)?),
+    })?;
+    let mut port = Plain::new(alloc, Space::new(alloc, areas)?)?;
+    hide_all(&mut port);
+    Ok(port)
+}
+
+fn hide_all(port: &mut Plain) {
+    for page in [CODE, DATA, MORE_DATA] {
+        port.hide(page);
+    }
+}
+
+/// An attempt, after which the page is there that it needed.
+fn attempt_and_show(alloc: Global, port: &mut Plain, core: Core) -> (Attempt, Core) {
+    let (answer, core) = attempt(alloc, port, core);
+    if let Attempt::Absent(page) = answer {
+        port.show(page);
+    }
+    (answer, core)
+}
+
+#[test]
+fn a_move_over_the_end_of_a_page(rt: HostRuntime) -> Result<(), Fail> {
+    let alloc = rt.alloc();
+    // MOVAL @#D,R1; MOVL (R1)+,(R1)+; HALT, where D is the last longword of the first page of data
+    let code = [
+        0xDE, 0x9F, 0xFC, 0x05, 0x00, 0x80, 0x51, 0xD0, 0x81, 0x81, 0x00,
+    ];
+    let mut data = [0; 516];
+    data[508..512].copy_from_slice(&[0x44, 0x33, 0x22, 0x11]);
+    let mut port = absent_memory(alloc, &code, &data)?;
+    let mut core = registers(0x8000_0200, 0x1F_0000);
+    // each attempt's answer, and R1 after it
+    let turns = [
+        (Attempt::Absent(CODE), 0),
+        (Attempt::Step(None), 0x8000_05FC),
+        (Attempt::Absent(DATA), 0x8000_05FC),
+        (Attempt::Absent(MORE_DATA), 0x8000_05FC),
+        (Attempt::Step(None), 0x8000_0604),
+        (Attempt::Ended(Ending::Halt), 0x8000_0604),
+    ];
+    for (answer, r1) in turns {
+        let (came, after) = attempt_and_show(alloc, &mut port, core);
+        assert_eq!(rt; (came, after.regs[1]), (answer, r1));
+        core = after;
+    }
+    assert_eq!(rt; core.regs[15], 0x8000_020A);
+    for (addr, byte) in [(0x8000_0600, 0x44), (0x8000_0603, 0x11)] {
+        assert_eq!(rt; port.byte(addr), Some(byte));
+    }
+    Ok(())
+}
+
+#[test]
+fn a_loop_whose_pages_are_taken_away(rt: HostRuntime) -> Result<(), Fail> {
+    let alloc = rt.alloc();
+    // INCL @#D; BRB to it, where each page is taken away before every fourth attempt
+    let code = [0xD6, 0x9F, 0x00, 0x04, 0x00, 0x80, 0x11, 0xF8];
+    let mut port = absent_memory(alloc, &code, &[0; 4])?;
+    let mut core = registers(0x8000_0200, 0x1F_0000);
+    let turns = [
+        Attempt::Absent(CODE),
+        Attempt::Absent(DATA),
+        Attempt::Step(None),
+        Attempt::Absent(CODE),
+        Attempt::Step(None),
+        Attempt::Absent(DATA),
+        Attempt::Step(None),
+        Attempt::Absent(CODE),
+        Attempt::Step(None),
+        Attempt::Absent(DATA),
+        Attempt::Step(None),
+        Attempt::Absent(CODE),
+        Attempt::Step(None),
+    ];
+    for (turn, answer) in turns.iter().enumerate() {
+        if turn % 4 == 3 {
+            hide_all(&mut port);
+        }
+        let (came, after) = attempt_and_show(alloc, &mut port, core);
+        assert_eq!(rt; came, *answer, "turn {turn}");
+        core = after;
+    }
+    assert_eq!(rt;
+        (core.regs[15], port.byte(0x8000_0400)),
+        (0x8000_0200, Some(3))
+    );
+    Ok(())
+}
+
+#[test]
+fn a_quotient_and_a_case(rt: HostRuntime) -> Result<(), Fail> {
+    let alloc = rt.alloc();
+    // DIVL3 #-1,#^X80000000,R1; and CASEB #3,#1,#1, which is past its table
+    let rows = [
+        (
+            [
+                0xC7, 0x8F, 0xFF, 0xFF, 0xFF, 0xFF, 0x8F, 0x00, 0x00, 0x00, 0x80, 0x51,
+            ]
+            .as_slice(),
+            (0x8000_0000, 0x8000_020C, Psl(0x1F_000A)),
+        ),
+        (
+            [0x8F, 0x03, 0x01, 0x01].as_slice(),
+            (0, 0x8000_0208, Psl(0x1F_0000)),
+        ),
+    ];
+    for (code, (r1, pc, psl)) in rows {
+        let mut port = absent_memory(alloc, code, &[])?;
+        port.show(CODE);
+        let (answer, core) = attempt(alloc, &mut port, registers(0x8000_0200, 0x1F_0000));
+        assert_eq!(rt; answer, Attempt::Step(None));
+        assert_eq!(rt; (core.regs[1], core.regs[15], core.psl), (r1, pc, psl));
+    }
     Ok(())
 }

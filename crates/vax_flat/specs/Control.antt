@@ -3,7 +3,7 @@ use Rattle.std.specs.Prelude.{ℕ, ◌+◌, ◌*◌, ◌%◌, Bool, true, false,
 use Rattle.vax_word.specs.declared.Codes.{Codes}
 use Rattle.vax_word.specs.declared.Size.{Size}
 use Rattle.vax_word.specs.declared.Size.TheVariants.{L}
-use Rattle.vax_word.specs.Arithmetic.{bytes_of, is_negative, is_less, sum, difference}
+use Rattle.vax_word.specs.Arithmetic.{bytes_of, is_negative, is_less, compared, sum, difference}
 use Rattle.vax_word.specs.Status.{codes_of}
 use Rattle.vax_isa.specs.declared.actions.Condition.{Condition}
 use Rattle.vax_isa.specs.declared.actions.Condition.TheVariants.{Always, NotEqual, Equal, Greater, LessOrEqual, GreaterOrEqual, Less, GreaterUnsigned, LessOrEqualUnsigned, OverflowClear, OverflowSet, CarryClear, CarrySet}
@@ -19,7 +19,6 @@ use Rattle.vax_flat.specs.State.{State, register, with_register}
 use Rattle.vax_flat.specs.Accesses.{Accesses, Leaf}
 use Rattle.vax_flat.specs.Operand.{plus, extended, read_at}
 use Rattle.vax_flat.specs.Rows.{read_value, modify_value, address_value, branch_target, stored, settled, pushed, carry_of}
-use Rattle.vax_flat.specs.Integer.{compared}
 
 -- the condition codes for which a branch is taken
 unfoldable pub holds : Condition → Codes → Bool

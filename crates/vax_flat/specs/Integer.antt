@@ -1,11 +1,11 @@
 -- Integer arithmetic and logical instructions, and address instructions (VAX Architecture Reference Manual, instruction descriptions).
 -- One definition a shape of instruction; what it makes of its operands is named by the operation.
-use Rattle.std.specs.Prelude.{ℕ, suc, ◌+◌, ◌-◌, ◌*◌, ◌/◌, ◌%◌, ◌^◌, Bool, true, false, ◌==◌, ◌||◌, nat_lt, if◌then◌else◌}
+use Rattle.std.specs.Prelude.{ℕ, suc, ◌+◌, ◌-◌, ◌*◌, ◌/◌, ◌%◌, ◌^◌, Bool, true, false, ◌==◌, ◌||◌, if◌then◌else◌}
 use Rattle.std.specs.Int.Bits.{bit_and, bit_or, bit_xor}
 use Rattle.vax_word.specs.declared.Codes.{Codes}
 use Rattle.vax_word.specs.declared.Size.{Size}
 use Rattle.vax_word.specs.declared.Size.TheVariants.{B, L}
-use Rattle.vax_word.specs.Arithmetic.{bytes_of, modulus, signed, is_less, answer, sum, difference, product, quotient, shifted, converted, extended_product, extended_quotient}
+use Rattle.vax_word.specs.Arithmetic.{bytes_of, modulus, signed, is_less, compared, answer, sum, difference, product, quotient, shifted, converted, extended_product, extended_quotient}
 use Rattle.vax_isa.specs.declared.actions.Unary.{Unary}
 use Rattle.vax_isa.specs.declared.actions.Unary.TheVariants.{Move, Complement, Negate, ZeroExtend, Convert}
 use Rattle.vax_isa.specs.declared.actions.Binary.{Binary}
@@ -55,10 +55,6 @@ is_by_zero BitClear a = false
 is_by_zero ExclusiveOr a = false
 is_by_zero AddWithCarry a = false
 is_by_zero SubtractWithCarry a = false
-
--- the codes of two operands compared
-unfoldable pub compared : Size → ℕ → ℕ → Codes
-compared size a b = record { n = is_less size a b; z = a == b; v = false; c = nat_lt a b }
 
 -- a longword turned left by a count modulo 32
 unfoldable pub rotated : ℕ → ℕ → ℕ

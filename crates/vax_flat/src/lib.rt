@@ -1,8 +1,8 @@
 //! The flat machine: a VAX with one whole memory, no frames and no absent pages. Its definitions say what each instruction does.
 //!
-//! `specs/` has them in this order: `State` (what an instruction may change beside memory), `Access` (an instruction as a tree of its
-//! accesses to memory), `Memory` (areas with their bytes), `Outcome` (what a tree does to that memory), `Operand` and `Rows` (the
-//! instructions as such trees), and `Step` (a whole step and a whole run).
+//! `specs/` has them in this order: `State` (what an instruction may change beside memory), `Accesses` (an instruction as a tree of its
+//! accesses to memory), `Memory` (areas with their bytes), `Outcome` (what a tree does to that memory), `Operand` and `Rows` (operands,
+//! values and results), `Integer`, `Control` and `Instruction` (the instructions as such trees), and `Step` (a whole step and a whole run).
 #![tactic(auto)]
 
 mod laws;

@@ -1,4 +1,4 @@
-use Rattle.std.specs.Prelude.{ℕ, suc, ◌+◌, ◌/◌, ◌%◌, ◌^◌, ◌==◌, Bool, true, false, not, ◌&&◌, ◌||◌, if◌then◌else◌, nat_le, ℤ, pos, negsuc, ◌+ℤ◌, ◌-ℤ◌, ◌*ℤ◌, neg_ℤ, unsigned_abs, int_lt, int_le, int_div, int_rem}
+use Rattle.std.specs.Prelude.{ℕ, suc, ◌+◌, ◌/◌, ◌%◌, ◌^◌, ◌==◌, Bool, true, false, not, ◌&&◌, ◌||◌, if◌then◌else◌, nat_le, nat_lt, ℤ, pos, negsuc, ◌+ℤ◌, ◌-ℤ◌, ◌*ℤ◌, neg_ℤ, unsigned_abs, int_lt, int_le, int_div, int_rem}
 use Rattle.std.specs.Int.{int_rem_euclid, int_div_euclid, from_bool}
 use Rattle.vax_word.specs.declared.Size.{Size}
 use Rattle.vax_word.specs.declared.Size.TheVariants.{B, W, L, Q}
@@ -34,6 +34,10 @@ signed s x = if is_negative s x then pos x -ℤ pos (modulus s) else pos x
 -- CMP: N, whether one operand is below another as signed numbers
 unfoldable pub is_less : Size → ℕ → ℕ → Bool
 is_less s a b = int_lt (signed s a) (signed s b)
+
+-- CMP: the codes of two operands compared
+unfoldable pub compared : Size → ℕ → ℕ → Codes
+compared s a b = record { n = is_less s a b; z = a == b; v = false; c = nat_lt a b }
 
 -- an integer modulo 2 to the bits
 unfoldable pub low_bits : Size → ℤ → ℕ

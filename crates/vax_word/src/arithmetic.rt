@@ -3,7 +3,7 @@
 //! Each result is the exact one modulo 2 to those bits, and N and Z are read from it.
 
 ghost use Rattle.std.specs.Prelude.{◌≡◌, ◌+◌, ◌*◌, ◌/◌, ◌%◌, ◌^◌, ◌<◌, ◌≤◌, ◌≢◌, unsigned_abs, false};
-ghost use Rattle.vax_word.specs.Arithmetic.{bytes_of, modulus, sign_bit, is_negative, signed, is_less, low_bits, answer, signed_answer, sum, difference, product, quotient, shifted, converted, extended_product, extended_quotient};
+ghost use Rattle.vax_word.specs.Arithmetic.{bytes_of, modulus, sign_bit, is_negative, signed, is_less, compared, low_bits, answer, signed_answer, sum, difference, product, quotient, shifted, converted, extended_product, extended_quotient};
 
 use crate::{Codes, Size};
 
@@ -24,10 +24,10 @@ fn low(size: Size, x: u64) -> u64
     x & (u64::MAX >> (64 - bits(size)))
 }
 
-// The sign bit.
+/// Whether the sign bit is 1.
 #[inline]
-fn is_negative(size: Size, x: u64) -> bool
-    requires { x < modulus size }
+pub fn is_negative(size: Size, x: u64) -> bool
+    requires { x < 256 ^ bytes_of size }
     ensures { result ≡ is_negative size x }
 {
     (x >> (bits(size) - 1)) != 0
@@ -53,6 +53,23 @@ pub fn signed_less(size: Size, a: u64, b: u64) -> bool
     ensures { result ≡ is_less size a b }
 {
     extend(size, a) < extend(size, b)
+}
+
+/// The codes of two operands compared (CMP): N where the first is below as signed numbers, Z where they are equal, C where it is below as
+/// unsigned numbers, V 0.
+#[inline]
+#[tactic(auto, unfolding(crate::specs::Arithmetic::compared))]
+pub fn compare(size: Size, a: u64, b: u64) -> Codes
+    requires a_fits { a < 256 ^ bytes_of size }
+    requires b_fits { b < 256 ^ bytes_of size }
+    ensures { result ≡ compared size a b }
+{
+    Codes {
+        n: signed_less(size, a, b),
+        z: a == b,
+        v: false,
+        c: a < b,
+    }
 }
 
 // `r` as a result: N and Z are read from it.

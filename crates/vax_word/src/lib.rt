@@ -8,7 +8,9 @@ ghost use Rattle.std.specs.Prelude.{◌≡◌, ◌+◌, ◌*◌, ◌/◌, ◌^�
 
 mod arithmetic;
 
-pub use arithmetic::{add, convert, div, ediv, emul, mul, shift, signed_less, sub};
+pub use arithmetic::{
+    add, compare, convert, div, ediv, emul, is_negative, mul, shift, signed_less, sub,
+};
 
 /// The size of an operand: byte, word, longword or quadword, which have 8, 16, 32 and 64 bits
 /// (VAX Architecture Reference Manual, data types).

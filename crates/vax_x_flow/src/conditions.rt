@@ -1,11 +1,10 @@
 //! What decides whether control goes on at the target.
 ghost use Rattle.std.specs.Prelude.{◌≡◌, ◌^◌, ◌<◌};
-ghost use Rattle.vax_word.specs.Arithmetic.{bytes_of, is_negative};
+ghost use Rattle.vax_word.specs.Arithmetic.{bytes_of};
 ghost use Rattle.vax_flat.specs.Control.{holds, compares, within};
-ghost use Rattle.vax_flat.specs.Integer.{compared};
 
 use vax_isa::{Condition, Relation};
-use vax_word::{Codes, Size, signed_less};
+use vax_word::{Codes, Size, is_negative, signed_less};
 
 /// Whether the condition codes are those for which a branch is taken.
 #[inline]
@@ -46,20 +45,6 @@ pub(crate) fn compares(relation: Relation, a: u64, b: u64) -> bool
     }
 }
 
-/// Whether the sign bit is 1.
-#[inline]
-fn is_negative(size: Size, x: u64) -> bool
-    requires { x < 256 ^ bytes_of size }
-    ensures { result ≡ is_negative size x }
-{
-    match size {
-        Size::B => x >= 0x80,
-        Size::W => x >= 0x8000,
-        Size::L => x >= 0x8000_0000,
-        Size::Q => x >= 0x8000_0000_0000_0000,
-    }
-}
-
 /// Whether an index that grew by the addend is not yet past the limit.
 #[inline]
 #[tactic(auto, unfolding(vax_flat::specs::Control::within))]
@@ -73,21 +58,5 @@ pub(crate) fn within(size: Size, addend: u64, limit: u64, index: u64) -> bool
         !signed_less(size, index, limit)
     } else {
         !signed_less(size, limit, index)
-    }
-}
-
-/// The codes of two operands compared.
-#[inline]
-#[tactic(auto, unfolding(vax_flat::specs::Integer::compared))]
-pub(crate) fn compared(size: Size, a: u64, b: u64) -> Codes
-    requires a { a < 256 ^ bytes_of size }
-    requires b { b < 256 ^ bytes_of size }
-    ensures { result ≡ compared size a b }
-{
-    Codes {
-        n: signed_less(size, a, b),
-        z: a == b,
-        v: false,
-        c: a < b,
     }
 }

@@ -7,14 +7,14 @@ ghost use Rattle.vax_flat.specs.Operand.{IsPlace, extended};
 ghost use Rattle.vax_flat.specs.OverPort.{Follows};
 ghost use Rattle.vax_undo.specs.Transaction.{present, room, Keeps, with_state};
 
-use crate::conditions::{compared, compares, holds, within};
+use crate::conditions::{compares, holds, within};
 use vax_flat::{Cut, Flow, Operand};
 use vax_isa::{Condition, Control, Narrow, Relation};
 use vax_operand::{
     next_address, next_modified, next_target, next_value, push, read, settle, store,
 };
 use vax_undo::{Port, Txn};
-use vax_word::{Codes, Size, add, sub};
+use vax_word::{Codes, Size, add, compare, sub};
 
 /// Lets control go on at the target.
 #[inline]
@@ -223,7 +223,7 @@ fn choose<P: Port>(txn: &mut Txn<P>, size: Narrow, place: u64, limit: u64) -> Re
     ensures keeps { Keeps P.view P.since 2 txn.old txn.new }
 {
     let table = txn.reg(15);
-    let codes = compared(size.into(), place, limit);
+    let codes = compare(size.into(), place, limit);
     if place <= limit {
         let entry = table.wrapping_add((place as u32).wrapping_mul(2));
         let displacement = extend_word(read(txn, entry, 2)?);

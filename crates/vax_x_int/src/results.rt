@@ -1,11 +1,11 @@
 //! Results of one and of two operands, with their condition codes.
 ghost use Rattle.std.specs.Prelude.{◌≡◌, ◌+◌, ◌-◌, ◌*◌, ◌/◌, ◌%◌, ◌^◌, ◌<◌};
-ghost use Rattle.vax_word.specs.Arithmetic.{bytes_of, modulus, is_negative, answer};
+ghost use Rattle.vax_word.specs.Arithmetic.{bytes_of, modulus, answer};
 ghost use Rattle.vax_isa.specs.Actions.{size_of};
-ghost use Rattle.vax_flat.specs.Integer.{complement, of_one, of_two, is_by_zero, compared, rotated};
+ghost use Rattle.vax_flat.specs.Integer.{complement, of_one, of_two, is_by_zero, rotated};
 
 use vax_isa::{Binary, Narrow, Unary};
-use vax_word::{Codes, Size, add, convert, div, mul, signed_less, sub};
+use vax_word::{Codes, Size, add, convert, div, is_negative, mul, sub};
 
 /// The greatest value of a size.
 #[inline]
@@ -42,20 +42,6 @@ fn complement(size: Size, x: u64) -> u64
     ensures fits { result < 256 ^ bytes_of size }
 {
     greatest(size) - x
-}
-
-/// Whether the sign bit is 1.
-#[inline]
-fn is_negative(size: Size, x: u64) -> bool
-    requires { x < 256 ^ bytes_of size }
-    ensures { result ≡ is_negative size x }
-{
-    match size {
-        Size::B => x >= 0x80,
-        Size::W => x >= 0x8000,
-        Size::L => x >= 0x8000_0000,
-        Size::Q => x >= 0x8000_0000_0000_0000,
-    }
 }
 
 /// A result with codes that are read from it.
@@ -126,22 +112,6 @@ pub(crate) fn is_by_zero(operation: Binary, a: u64) -> bool
         Binary::ExclusiveOr => false,
         Binary::AddWithCarry => false,
         Binary::SubtractWithCarry => false,
-    }
-}
-
-/// The codes of two operands compared.
-#[inline]
-#[tactic(auto, unfolding(vax_flat::specs::Integer::compared))]
-pub(crate) fn compared(size: Size, a: u64, b: u64) -> Codes
-    requires a { a < 256 ^ bytes_of size }
-    requires b { b < 256 ^ bytes_of size }
-    ensures { result ≡ compared size a b }
-{
-    Codes {
-        n: signed_less(size, a, b),
-        z: a == b,
-        v: false,
-        c: a < b,
     }
 }
 

@@ -7,7 +7,7 @@ ghost use Rattle.vax_flat.specs.Rows.{carry_of};
 ghost use Rattle.vax_flat.specs.OverPort.{Follows};
 ghost use Rattle.vax_undo.specs.Transaction.{present, room, Keeps};
 
-use crate::results::{answer_of, compared, is_by_zero, of_one, of_two, rotated};
+use crate::results::{answer_of, is_by_zero, of_one, of_two, rotated};
 use vax_flat::{Cut, Flow};
 use vax_isa::{Binary, Integer, Narrow, Unary};
 use vax_operand::{
@@ -111,7 +111,7 @@ fn compare<P: Port>(txn: &mut Txn<P>, size: Size) -> Result<Flow, Cut>
 {
     let a = next_value(txn, size)?;
     let b = next_value(txn, size)?;
-    settle(txn, false, compared(size, a, b))
+    settle(txn, false, vax_word::compare(size, a, b))
 }
 
 /// BIT.

@@ -1,0 +1,147 @@
+//! Instructions one by one, with operands at the edges of each size. The expected values follow the manual's rules
+//! (VAX MACRO and Instruction Set Reference Manual, instruction descriptions).
+use crate::instruction::execute;
+use std::alloc::Global;
+use std::test::Fail;
+use vax_flat::Flow;
+use vax_space::{Area, Bytes, Space};
+use vax_undo::{Plain, Term, Txn};
+use vax_word::{Core, Psl};
+
+/// Where the bytes of a row's data begin; its code begins at 0.
+const DATA: usize = 0x400;
+
+/// An instruction at address 0, what it begins with, and what it leaves.
+struct Row {
+    name: &'static str,
+    code: &'static [u8],
+    /// R1, R2, R3, R4 and SP, the processor status longword, and the bytes of the data.
+    before: [u32; 5],
+    psl: u32,
+    data: &'static [u8],
+    after: [u32; 5],
+    psl_after: u32,
+    data_after: &'static [u8],
+    pc: u32,
+    flow: Flow,
+}
+
+macro_rules! row {
+    ($name:literal $code:expr, $before:expr, psl $psl:literal; $after:expr, psl $psl_after:literal, pc $pc:literal) => {
+        row!(@ $name $code, $before, $psl, &[]; $after, $psl_after, $pc, &[], Flow::Done)
+    };
+    ($name:literal $code:expr, $before:expr, psl $psl:literal; $after:expr, psl $psl_after:literal, pc $pc:literal, trap $trap:literal) => {
+        row!(@ $name $code, $before, $psl, &[]; $after, $psl_after, $pc, &[], Flow::Trap($trap))
+    };
+    ($name:literal $code:expr, $before:expr, psl $psl:literal, data $data:expr; $after:expr, psl $psl_after:literal, pc $pc:literal, data $data_after:expr) => {
+        row!(@ $name $code, $before, $psl, &$data; $after, $psl_after, $pc, &$data_after, Flow::Done)
+    };
+    (@ $name:literal $code:expr, $before:expr, $psl:literal, $data:expr; $after:expr, $psl_after:literal, $pc:literal, $data_after:expr, $flow:expr) => {
+        Row {
+            name: $name,
+            code: &$code,
+            before: $before,
+            psl: $psl,
+            data: $data,
+            after: $after,
+            psl_after: $psl_after,
+            data_after: $data_after,
+            pc: $pc,
+            flow: $flow,
+        }
+    };
+}
+
+mod control;
+mod integer;
+
+/// Eight pages from address 0 on that every mode may write, with a row's code and data.
+fn memory(alloc: Global, row: &Row) -> Result<Plain, Fail> {
+    let mut bytes = Vec::new(alloc);
+    bytes.extend_from_slice(row.code)?;
+    bytes.resize(DATA, 0)?;
+    bytes.extend_from_slice(row.data)?;
+    let mut areas = Vec::new(alloc);
+    areas.push(Area {
+        first: 0,
+        pages: 8,
+        prot: 4,
+        bytes: Bytes::from(bytes),
+    })?;
+    Ok(Plain::new(alloc, Space::new(alloc, areas)?)?)
+}
+
+/// R1 to R4 and SP.
+fn some_registers(core: &Core) -> [u32; 5] {
+    let regs = &core.regs;
+    [regs[1], regs[2], regs[3], regs[4], regs[14]]
+}
+
+/// Whether the data lies in memory.
+fn has_data(port: &Plain, data: &[u8]) -> bool {
+    let mut addr = DATA as u32;
+    for byte in data {
+        if port.byte(addr) != Some(*byte) {
+            return false;
+        }
+        addr = addr.wrapping_add(1);
+    }
+    true
+}
+
+/// What an instruction left: how it went, the registers, PC, the status longword, and whether the data are those of the row.
+type Left = (Option<Flow>, [u32; 5], u32, Psl, bool);
+
+fn left_by(alloc: Global, row: &Row) -> Result<Left, Fail> {
+    let mut port = memory(alloc, row)?;
+    let [r1, r2, r3, r4, sp] = row.before;
+    let mut core = Core {
+        regs: [0, r1, r2, r3, r4, 0, 0, 0, 0, 0, 0, 0, 0, 0, sp, 0],
+        psl: Psl(row.psl),
+        stacks: [0; 5],
+        sisr: 0,
+        iccs: 0,
+        clock: 0,
+    };
+    let mut term = Term {
+        input: Vec::new(alloc),
+        place: 0,
+        out: None,
+    };
+    let mut txn = Txn::begin(&mut core, &mut term, &mut port);
+    let flow = execute(&mut txn).ok();
+    let _ = txn.commit();
+    Ok((
+        flow,
+        some_registers(&core),
+        core.regs[15],
+        core.psl,
+        has_data(&port, row.data_after),
+    ))
+}
+
+fn expected(row: &Row) -> Left {
+    (
+        Some(row.flow),
+        row.after,
+        row.pc,
+        Psl(row.psl_after),
+        true,
+    )
+}
+
+#[test]
+fn integer_instructions(rt: HostRuntime) -> Result<(), Fail> {
+    for row in &integer::INTEGER {
+        assert_eq!(rt; left_by(rt.alloc(), row)?, expected(row), "{}", row.name);
+    }
+    Ok(())
+}
+
+#[test]
+fn control_instructions(rt: HostRuntime) -> Result<(), Fail> {
+    for row in &control::CONTROL {
+        assert_eq!(rt; left_by(rt.alloc(), row)?, expected(row), "{}", row.name);
+    }
+    Ok(())
+}
