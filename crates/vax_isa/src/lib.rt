@@ -70,7 +70,7 @@ pub fn action(code: u8) -> Option<Action>
     ensures action { result ≡ action_of code }
     ensures operands { All (λ i. IfSome (operands_of i.action) (λ kinds. kinds ≡ i.operands)) instructions }
 {
-    match &table::slots()[usize::from(code)] {
+    match &table::slots()[code as usize] {
         Some(entry) => Some(entry.action),
         None => None,
     }
