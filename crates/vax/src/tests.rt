@@ -6,13 +6,13 @@ use vax_outside::{Chan, Fail as Failing, MemFiles, MemPages, MemSink};
 
 /// What a call left behind: the exit status, Out and Report.
 #[derive(Drop)]
-struct Left {
+pub(crate) struct Left {
     code: u8,
     sink: MemSink,
 }
 
 /// Calls the program with words, one file, and calls of the files and of the sink that are to fail.
-fn call(
+pub(crate) fn call(
     rt: &HostRuntime,
     words: &[&str],
     source: &[u8],
@@ -58,7 +58,7 @@ const REPORT: &str = "ENDING HALT\nSTEPS 2\nUNITS 0\n\
     STACKS 00000000 7FFE0800 7FFE8800 80000000 80110800\n\
     INPUT 0\n";
 
-fn expect_report<R: Abort>(rt: &R, left: &Left, code: u8, report: &[u8]) {
+pub(crate) fn expect_report<R: Abort>(rt: &R, left: &Left, code: u8, report: &[u8]) {
     assert_eq!(rt; left.code, code);
     assert_eq!(rt; left.sink.bytes(Chan::Report), report);
     assert_eq!(rt; left.sink.bytes(Chan::Out), b"".as_slice());

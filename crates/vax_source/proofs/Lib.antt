@@ -1,4 +1,5 @@
 pub mod TokenLaws
+pub mod CommaLaws
 pub mod ReadLaws
 pub mod ModuleLaws
 pub mod LineLaws

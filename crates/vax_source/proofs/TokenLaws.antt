@@ -37,17 +37,17 @@ behind_spaces [] c rest e = cc
 behind_spaces (x ∷ xs) c rest e = behind_step x xs c rest (x == 32) refl e (λ f. behind_spaces xs c rest f)
 
 -- the word in front, and what stands behind it
-abbrev split_word : Text → List Token
+abbrev pub split_word : Text → List Token
 split_word cs = word (take (prefix_len is_word_byte cs) cs) ∷ tokens (drop (prefix_len is_word_byte cs) cs)
 
 -- a byte of a word is no space
 word_byte_is_no_space : (c : ℕ) → is_word_byte c ≡ true → (c == 32) ≡ false
 word_byte_is_no_space c e = grind arith
 
-tokens-longer : (c : ℕ) (cs : Text) → is_word_byte c ≡ true → begins_word cs ≡ true → tokens (c ∷ cs) ≡ longer c (tokens cs)
+pub tokens-longer : (c : ℕ) (cs : Text) → is_word_byte c ≡ true → begins_word cs ≡ true → tokens (c ∷ cs) ≡ longer c (tokens cs)
 tokens-longer c cs e f = rw (word_byte_is_no_space c e, e, f) refl
 
-tokens-alone : (c : ℕ) (cs : Text) → is_word_byte c ≡ true → begins_word cs ≡ false → tokens (c ∷ cs) ≡ word (c ∷ []) ∷ tokens cs
+pub tokens-alone : (c : ℕ) (cs : Text) → is_word_byte c ≡ true → begins_word cs ≡ false → tokens (c ∷ cs) ≡ word (c ∷ []) ∷ tokens cs
 tokens-alone c cs e f = rw (word_byte_is_no_space c e, e, f) refl
 
 split-longer : (c : ℕ) (cs : Text) → is_word_byte c ≡ true → longer c (split_word cs) ≡ split_word (c ∷ cs)

@@ -12,9 +12,13 @@ abbrev pub begins_name : Text → Bool
 begins_name [] = false
 begins_name (c ∷ cs) = not (is_digit c)
 
--- 1 to 31 letters, digits, `$`, `.` and `_`, and no digit first
+-- letters, digits, `$`, `.` and `_`, and no digit first
+abbrev pub is_symbol : Text → Bool
+is_symbol w = begins_name w && list_all is_name_byte w
+
+-- such a word of at most 31 characters
 abbrev pub is_name : Text → Bool
-is_name w = begins_name w && (nat_le (length w) 31 && list_all is_name_byte w)
+is_name w = nat_le (length w) 31 && is_symbol w
 
 -- a name but `.`, which is the place of the statement
 abbrev pub is_label : Text → Bool

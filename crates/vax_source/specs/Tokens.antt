@@ -2,11 +2,15 @@
 use Rattle.std.specs.Prelude.{ℕ, Bool, false, ◌&&◌, ◌||◌, ◌==◌, nat_le, List, [], ◌∷◌, if◌then◌else◌}
 use Rattle.vax_source.specs.Lines.{Text}
 
+-- a word, one of the marks `:` `,` `#` `(` `)` `+`, or another byte
 pub data Token : Type 0 where
   word : Text → Token
   colon : Token
   comma : Token
   hash : Token
+  opening : Token
+  closing : Token
+  plus : Token
   other : Token
 
 -- a capital letter
@@ -27,7 +31,14 @@ is_word_byte c = is_name_byte c || c == 94
 
 -- a byte that stands in no word
 abbrev pub mark : ℕ → Token
-mark c = if c == 58 then colon else if c == 44 then comma else if c == 35 then hash else other
+mark c =
+    if c == 58 then colon
+    else if c == 44 then comma
+    else if c == 35 then hash
+    else if c == 40 then opening
+    else if c == 41 then closing
+    else if c == 43 then plus
+    else other
 
 abbrev pub begins_word : Text → Bool
 begins_word [] = false

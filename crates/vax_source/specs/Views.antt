@@ -1,11 +1,18 @@
 -- Tokens and lines, without where they lie in memory.
 use Rattle.std.specs.Option.{option_copied}
-use Rattle.vax_source.specs.Tokens.{Token, word, colon, comma, hash, other}
-use Rattle.vax_source.specs.Statements.{Operation, halt, move, Reading, blank, instruction, ended, unknown, malformed}
+use Rattle.vax_source.specs.Tokens.{Token, word, colon, comma, hash, opening, closing, plus, other}
+use Rattle.vax_source.specs.Operands.{Place, in_register, autoincrement, Source, constant, located}
+use Rattle.vax_source.specs.Statements.{Operator, movl, addl2, Operation, halt, two_operand, Reading, blank, instruction, ended, unknown, malformed}
 use Rattle.vax_source.specs.declared.tokens.Token.{Token as Read}
-use Rattle.vax_source.specs.declared.tokens.Token.TheVariants.{Word, Colon, Comma, Hash, Other}
+use Rattle.vax_source.specs.declared.tokens.Token.TheVariants.{Word, Colon, Comma, Hash, Opening, Closing, Plus, Other}
+use Rattle.vax_source.specs.declared.line.Place.{Place as Spot}
+use Rattle.vax_source.specs.declared.line.Place.TheVariants.{Register, Autoincrement}
+use Rattle.vax_source.specs.declared.line.Source.{Source as Origin}
+use Rattle.vax_source.specs.declared.line.Source.TheVariants.{Constant, Located}
+use Rattle.vax_source.specs.declared.line.Operator.{Operator as Verb}
+use Rattle.vax_source.specs.declared.line.Operator.TheVariants.{Movl, Addl2}
 use Rattle.vax_source.specs.declared.line.Operation.{Operation as Code}
-use Rattle.vax_source.specs.declared.line.Operation.TheVariants.{Halt, Move}
+use Rattle.vax_source.specs.declared.line.Operation.TheVariants.{Halt, TwoOperand}
 use Rattle.vax_source.specs.declared.line.Line.{Line}
 use Rattle.vax_source.specs.declared.line.Line.TheVariants.{Blank, Instruction, End, Unknown, Malformed}
 
@@ -14,11 +21,26 @@ token (Word w) = word w.now
 token Colon = colon
 token Comma = comma
 token Hash = hash
+token Opening = opening
+token Closing = closing
+token Plus = plus
 token Other = other
+
+abbrev pub place : Spot → Place
+place (Register register) = in_register register.number
+place (Autoincrement register) = autoincrement register.number
+
+abbrev pub source : Origin → Source
+source (Constant value) = constant value
+source (Located at) = located (place at)
+
+abbrev pub operator : Verb → Operator
+operator Movl = movl
+operator Addl2 = addl2
 
 abbrev pub operation : Code → Operation
 operation Halt = halt
-operation (Move value register) = move value register.number
+operation (TwoOperand verb from to) = two_operand (operator verb) (source from) (place to)
 
 abbrev pub reading : Line → Reading
 reading Blank = blank

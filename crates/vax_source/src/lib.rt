@@ -1,9 +1,10 @@
-//! Reads a source of the smallest language: lines with `HALT`, `MOVL #n,Rn`, labels and `.END`.
+//! Reads a source of the smallest language: lines with `MOVL`, `ADDL2` and `HALT`, labels and `.END`.
 #![tactic(auto)]
 
 mod line;
 mod lines;
 mod module;
+mod operands;
 mod program;
 mod read;
 mod statements;

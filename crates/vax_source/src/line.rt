@@ -8,11 +8,32 @@ pub(crate) struct Register {
     ghost small: { number < 12 },
 }
 
+/// Where a destination lies: `Rn`, or `(Rn)+`.
+#[derive(Clone, Copy, Debug)]
+pub(crate) enum Place {
+    Register(Register),
+    Autoincrement(Register),
+}
+
+/// What a source is: `#n`, or what lies at a place.
+#[derive(Clone, Copy, Debug)]
+pub(crate) enum Source {
+    Constant(u32),
+    Located(Place),
+}
+
+/// An operator of two operands.
+#[derive(Clone, Copy, Debug)]
+pub(crate) enum Operator {
+    Movl,
+    Addl2,
+}
+
 /// An instruction.
 #[derive(Clone, Copy, Debug)]
 pub(crate) enum Operation {
     Halt,
-    Move { value: u32, register: Register },
+    TwoOperand(Operator, Source, Place),
 }
 
 /// A line.

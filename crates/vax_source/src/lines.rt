@@ -3,13 +3,13 @@ ghost use Rattle.std.specs.Prelude.{◌≡◌, ◌<◌, ◌≤◌, IfSome, ◌==
 ghost use Rattle.std.specs.List.{prefix_len};
 ghost use Rattle.vax_source.specs.Lines.{lines};
 
-/// How many bytes stand before the first LF.
-fn line_len(text: &[u8]) -> usize
-    ensures count { result ≡ prefix_len (λ c. not (c == 10)) text.now }
+/// How many bytes stand before the first of these.
+pub(crate) fn len_before(text: &[u8], stop: u8) -> usize
+    ensures count { result ≡ prefix_len (λ c. not (c == stop)) text.now }
     ensures within { result ≤ length text.now }
 {
     for (i, byte) in text.iter().enumerate() {
-        if *byte == b'\n' {
+        if *byte == stop {
             return i;
         }
     }
@@ -24,7 +24,7 @@ pub(crate) fn next_line<'a>(text: &'a [u8]) -> Option<(&'a [u8], &'a [u8])>
     if text.is_empty() {
         return None;
     }
-    let (line, rest) = text.split_at(line_len(text));
+    let (line, rest) = text.split_at(len_before(text, b'\n'));
     let behind = rest.split_at(1usize.min(rest.len())).1;
     Some((line, behind))
 }

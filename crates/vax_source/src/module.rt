@@ -1,10 +1,11 @@
 //! What is kept of the lines that were read.
 ghost use Rattle.std.specs.Prelude.{◌≡◌, ◌<◌, ◌≤◌, ◌+◌, ◌*◌, ◌++◌, ◌∷◌, [], List, None, OnOk, OnErr, IfNone, IfOk, vec_len, length};
-ghost use Rattle.vax_source.specs.Statements.{Reading, bytes_of};
+ghost use Rattle.vax_source.specs.Operands.{specifier};
+ghost use Rattle.vax_source.specs.Statements.{Reading, bytes_of, opcode};
 ghost use Rattle.vax_source.specs.Program.{address_of, fault};
-ghost use Rattle.vax_source.specs.Views.{operation, reading};
+ghost use Rattle.vax_source.specs.Views.{operation, operator as verb, place, reading};
 
-use crate::line::{Line, Operation};
+use crate::line::{Line, Operation, Operator, Place, Source};
 use crate::program::{Program, SourceError};
 use std::alloc::{AllocError, Global};
 use std::collections::HashMap;
@@ -25,21 +26,47 @@ pub(crate) struct Module<'a> {
     ghost short: { vec_len bytes ≤ 7 * lines },
 }
 
+/// The opcode of an operator.
+fn opcode(operator: Operator) -> u8
+    ensures { result ≡ opcode (verb operator) }
+{
+    match operator {
+        Operator::Movl => 0xD0,
+        Operator::Addl2 => 0xC0,
+    }
+}
+
+/// The specifier byte of a place.
+fn specifier(at: Place) -> u8
+    ensures { result ≡ specifier (place at) }
+{
+    match at {
+        Place::Register(register) => 0x50 + register.number,
+        Place::Autoincrement(register) => 0x80 + register.number,
+    }
+}
+
 /// Appends the bytes of an instruction.
 fn encode(bytes: &mut Vec<u8>, code: Operation) -> Result<(), AllocError>
     ensures ok { OnOk result (bytes.new.items ≡ bytes.old.items ++ bytes_of (operation code)) }
     ensures len { OnOk result (vec_len bytes.new ≤ vec_len bytes.old + 7) }
     ensures err { OnErr result (vec_len bytes.new ≡ vec_len bytes.old) }
 {
-    match code {
-        Operation::Halt => bytes.extend_from_slice(&[0x00]),
-        Operation::Move { value, register } if value < 64 => {
-            bytes.extend_from_slice(&[0xD0, value as u8, 0x50 + register.number])
+    let (operator, source, destination) = match code {
+        Operation::Halt => return bytes.extend_from_slice(&[0x00]),
+        Operation::TwoOperand(operator, source, destination) => (operator, source, destination),
+    };
+    let first = opcode(operator);
+    let last = specifier(destination);
+    match source {
+        Source::Constant(value) if value < 64 => {
+            bytes.extend_from_slice(&[first, value as u8, last])
         }
-        Operation::Move { value, register } => {
+        Source::Constant(value) => {
             let [a, b, c, d] = value.to_le_bytes();
-            bytes.extend_from_slice(&[0xD0, 0x8F, a, b, c, d, 0x50 + register.number])
+            bytes.extend_from_slice(&[first, 0x8F, a, b, c, d, last])
         }
+        Source::Located(place) => bytes.extend_from_slice(&[first, specifier(place), last]),
     }
 }
 

@@ -11,6 +11,9 @@ pub(crate) enum Token<'a> {
     Colon,
     Comma,
     Hash,
+    Opening,
+    Closing,
+    Plus,
     Other,
 }
 
@@ -45,6 +48,9 @@ fn mark<'a>(byte: u8) -> Token<'a>
         b':' => Token::Colon,
         b',' => Token::Comma,
         b'#' => Token::Hash,
+        b'(' => Token::Opening,
+        b')' => Token::Closing,
+        b'+' => Token::Plus,
         _ => Token::Other,
     }
 }

@@ -6,5 +6,5 @@ pub returns-clause-lines : goal.returns-clause-lines
 returns-clause-lines c =
     let some : length c.args.text.now ≡ 0 → ⊥ = grind arith in
     let one : c.min.result ≡ min 1 (length c.split_at.result.1.now) = search rules in
-    lines-split c.args.text.now c.split_at.result.0.now c.split_at.result.1.now c.split_at-2.result.1.now c.line_len.result
-    some c.line_len.ensures.count c.split_at.ensures.front c.split_at.ensures.back (c.split_at-2.ensures.back ∙ ap (λ n. drop n c.split_at.result.1.now) one)
+    lines-split c.args.text.now c.split_at.result.0.now c.split_at.result.1.now c.split_at-2.result.1.now c.len_before.result
+    some c.len_before.ensures.count c.split_at.ensures.front c.split_at.ensures.back (c.split_at-2.ensures.back ∙ ap (λ n. drop n c.split_at.result.1.now) one)

@@ -4,7 +4,7 @@ use Rattle.std.specs.Str.Parse.{digits_value}
 use Rattle.std.proofs.lemmas.Int.Digits.{digits_value_more}
 use Rattle.std.proofs.lemmas.Bool.Decides.{nat_tests}
 use Rattle.vax_source.proofs.NumberLaws.{too_large, list_all-next}
-use Rattle.vax_source.proofs.statements.number_in.Goals as goal
+use Rattle.vax_source.proofs.operands.number_in.Goals as goal
 
 pub returns-then-value-from : goal.returns-then-value-from
 returns-then-value-from c =

@@ -2,7 +2,7 @@ use Rattle.std.proofs.Common.{◌≡◌, ◌<◌, ◌^◌, drop, take, nat_lt}
 use Rattle.std.specs.List.{list_all}
 use Rattle.std.specs.Char.{digit_value}
 use Rattle.std.specs.Str.Parse.{digits_value}
-use Rattle.vax_source.proofs.statements.number_in.Given as goal
+use Rattle.vax_source.proofs.operands.number_in.Given as goal
 
 -- the value of the digits so far, and what is left decides
 abbrev pub invariant-loop-byte : goal.invariant-loop-byte
