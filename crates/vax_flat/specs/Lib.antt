@@ -5,6 +5,8 @@ pub mod Accesses
 pub mod Outcome
 pub mod OverPort
 pub mod Operand
+pub mod Grammar
+pub mod Evaluation
 pub mod Rows
 pub mod Step
 pub mod Start
