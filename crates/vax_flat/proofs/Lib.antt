@@ -5,3 +5,7 @@ pub mod Standing
 pub mod Leaves
 pub mod Joined
 pub mod Runs
+pub mod Specifiers
+pub mod Sequences
+pub mod Worked
+pub mod Fronts

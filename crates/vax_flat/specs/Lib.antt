@@ -9,5 +9,7 @@ pub mod Rows
 pub mod Integer
 pub mod Control
 pub mod Instruction
+pub mod Grammar
+pub mod Evaluation
 pub mod Step
 pub mod Start

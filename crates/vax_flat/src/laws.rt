@@ -1,10 +1,17 @@
 //! The laws of the flat machine, each the contract of a call that does nothing.
-ghost use Rattle.std.specs.Prelude.{◌≡◌, ℕ, Bool, List, ◌++◌};
+ghost use Rattle.std.specs.Prelude.{◌≡◌, ℕ, ◌≤◌, Bool, Some, IsSome, List, [], ◌∷◌, ◌++◌, length};
 ghost use Rattle.vax_space.specs.declared.Area.{Area};
 ghost use Rattle.vax_flat.specs.Accesses.{Accesses, Leaf};
 ghost use Rattle.vax_flat.specs.Port.{View, StandsFor};
 ghost use Rattle.vax_flat.specs.Outcome.{Range, first_missing, or_else, outcome_of, touches_of};
 ghost use Rattle.vax_flat.specs.OverPort.{Agrees, over_port};
+ghost use Rattle.vax_isa.specs.declared.OperandKind.{OperandKind};
+ghost use Rattle.vax_isa.specs.Instructions.{Instruction};
+ghost use Rattle.vax_flat.specs.declared.Operand.{Operand};
+ghost use Rattle.vax_flat.specs.State.{State};
+ghost use Rattle.vax_flat.specs.Operand.{next_operand};
+ghost use Rattle.vax_flat.specs.Grammar.{Specifier, Reading, Reads, Sequence, IsInstruction, read_operand, read_operands};
+ghost use Rattle.vax_flat.specs.Evaluation.{AreAhead, DoSame, comes_to, all_come_to, passed, next_operands, next_instruction};
 
 /// The first absent page of two lists of ranges joined is the first list's, and where this has none, the second's.
 pub fn joined_ranges()
@@ -15,4 +22,21 @@ pub fn joined_ranges()
 /// touches there, and else by its outcome there.
 pub fn arrival_agrees()
     ensures { (tree : Accesses Leaf) → (view : View) → (memory : List Area) → StandsFor view memory → Agrees view memory (over_port tree view) (first_missing view.resident (touches_of tree memory)) (outcome_of tree memory) }
+{}
+
+/// What the machine does at an operand is what the grammar reads of the bytes that stand there: it reads their pieces, and goes on with what the
+/// form comes to, or takes the reserved addressing mode fault. So also for operands one behind another, and for an opcode with its operands.
+pub fn grammar_agrees()
+    ensures operand { (kind : OperandKind) → (memory : List Area) → (s : State) → (bytes : List ℕ) → (reading : Reading) → (next : Operand → State → Accesses Leaf) → AreAhead memory s bytes → read_operand kind bytes ≡ Some reading → DoSame memory (next_operand kind s next) (comes_to kind reading s next) }
+    ensures operands { (kinds : List OperandKind) → (memory : List Area) → (s : State) → (bytes : List ℕ) → (sequence : Sequence) → (next : List (Operand × ℕ) → State → Accesses Leaf) → AreAhead memory s bytes → read_operands kinds bytes ≡ Some sequence → DoSame memory (next_operands kinds s next) (all_come_to sequence s next) }
+    ensures instruction { (memory : List Area) → (s : State) → (bytes : List ℕ) → (row : Instruction) → (operands : Sequence) → (count : ℕ) → (next : List (Operand × ℕ) → State → Accesses Leaf) → AreAhead memory s bytes → IsInstruction bytes row operands count → DoSame memory (next_instruction s next) (passed (1 ∷ []) s (λ t. all_come_to operands t next)) }
+{}
+
+/// A reading rests on the bytes at the front alone: it stays with more bytes behind, takes no more than there are, and nine bytes are enough
+/// for one operand.
+pub fn grammar_reads()
+    ensures front { (kind : OperandKind) → (bytes more : List ℕ) → (reading : Reading) → read_operand kind bytes ≡ Some reading → read_operand kind (bytes ++ more) ≡ Some reading }
+    ensures fronts { (kinds : List OperandKind) → (bytes more : List ℕ) → (sequence : Sequence) → read_operands kinds bytes ≡ Some sequence → read_operands kinds (bytes ++ more) ≡ Some sequence }
+    ensures within { (kind : OperandKind) → (bytes : List ℕ) → (specifier : Specifier) → (count : ℕ) → read_operand kind bytes ≡ Some (Reads specifier count) → count ≤ length bytes }
+    ensures enough { (kind : OperandKind) → (bytes : List ℕ) → kind.width ≤ 8 → 9 ≤ length bytes → IsSome (read_operand kind bytes) }
 {}

@@ -2,12 +2,13 @@
 //!
 //! `specs/` has them in this order: `State` (what an instruction may change beside memory), `Accesses` (an instruction as a tree of its
 //! accesses to memory), `Memory` (areas with their bytes), `Outcome` (what a tree does to that memory), `Operand` and `Rows` (operands,
-//! values and results), `Integer`, `Control` and `Instruction` (the instructions as such trees), and `Step` (a whole step and a whole run).
+//! values and results), `Integer`, `Control` and `Instruction` (the instructions as such trees), `Grammar` and `Evaluation` (what bytes are
+//! as operands, and what those come to), and `Step` (a whole step and a whole run).
 #![tactic(auto)]
 
 mod laws;
 
-pub use crate::laws::{arrival_agrees, joined_ranges};
+pub use crate::laws::{arrival_agrees, grammar_agrees, grammar_reads, joined_ranges};
 use vax_space::Violation;
 
 /// What interrupts an instruction (VAX Architecture Reference Manual, exceptions and interrupts).
