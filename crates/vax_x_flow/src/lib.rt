@@ -12,6 +12,7 @@ ghost use Rattle.std.specs.Prelude.{◌≡◌, ◌≤◌};
 ghost use Rattle.vax_flat.specs.Control.{performed};
 ghost use Rattle.vax_flat.specs.OverPort.{Follows};
 ghost use Rattle.vax_undo.specs.Transaction.{present, room, Keeps};
+ghost use Rattle.vax_operand.specs.Located.{GoesEverywhere};
 
 use vax_flat::{Cut, Flow};
 use vax_isa::Control;
@@ -25,6 +26,7 @@ use vax_undo::{Port, Txn};
 pub fn run<P: Port>(txn: &mut Txn<P>, instruction: Control) -> Result<Flow, Cut>
     requires { 20 ≤ room txn.old }
     ensures exact { Follows (performed instruction (present P.view txn.old).state) (present P.view txn.old) result (present P.view txn.new) }
+    ensures everywhere { GoesEverywhere (performed instruction (present P.view txn.old).state) (present P.view txn.old) result (present P.view txn.new) }
     ensures keeps { Keeps P.view P.since 20 txn.old txn.new }
 {
     shapes::perform(txn, instruction)
