@@ -2,6 +2,7 @@
 //! (VAX MACRO and Instruction Set Reference Manual, instruction descriptions).
 use crate::instruction::execute;
 use std::alloc::Global;
+use std::process::Abort;
 use std::test::Fail;
 use vax_flat::Flow;
 use vax_space::{Area, Bytes, Space};
@@ -52,8 +53,12 @@ macro_rules! row {
     };
 }
 
-mod control;
-mod integer;
+mod branches;
+mod logic;
+mod loops;
+mod moves;
+mod products;
+mod sums;
 
 /// Eight pages from address 0 on that every mode may write, with a row's code and data.
 fn memory(alloc: Global, row: &Row) -> Result<Plain, Fail> {
@@ -130,18 +135,39 @@ fn expected(row: &Row) -> Left {
     )
 }
 
-#[test]
-fn integer_instructions(rt: HostRuntime) -> Result<(), Fail> {
-    for row in &integer::INTEGER {
-        assert_eq!(rt; left_by(rt.alloc(), row)?, expected(row), "{}", row.name);
+fn compare(rt: &impl Abort, alloc: Global, rows: &[Row]) -> Result<(), Fail> {
+    for row in rows {
+        assert_eq!(rt; left_by(alloc, row)?, expected(row), "{}", row.name);
     }
     Ok(())
 }
 
 #[test]
-fn control_instructions(rt: HostRuntime) -> Result<(), Fail> {
-    for row in &control::CONTROL {
-        assert_eq!(rt; left_by(rt.alloc(), row)?, expected(row), "{}", row.name);
-    }
-    Ok(())
+fn sums_and_differences(rt: HostRuntime) -> Result<(), Fail> {
+    compare(&rt, rt.alloc(), &sums::ROWS)
+}
+
+#[test]
+fn products_and_quotients(rt: HostRuntime) -> Result<(), Fail> {
+    compare(&rt, rt.alloc(), &products::ROWS)
+}
+
+#[test]
+fn logic_and_comparisons(rt: HostRuntime) -> Result<(), Fail> {
+    compare(&rt, rt.alloc(), &logic::ROWS)
+}
+
+#[test]
+fn moves_shifts_and_addresses(rt: HostRuntime) -> Result<(), Fail> {
+    compare(&rt, rt.alloc(), &moves::ROWS)
+}
+
+#[test]
+fn branches_and_subroutines(rt: HostRuntime) -> Result<(), Fail> {
+    compare(&rt, rt.alloc(), &branches::ROWS)
+}
+
+#[test]
+fn loops_and_cases(rt: HostRuntime) -> Result<(), Fail> {
+    compare(&rt, rt.alloc(), &loops::ROWS)
 }
