@@ -18,8 +18,9 @@ use Rattle.vax_flat.specs.State.{State, register, with_register}
 use Rattle.vax_flat.specs.Accesses.{Accesses, Leaf}
 use Rattle.vax_flat.specs.Outcome.{outcome_of, touches_of}
 use Rattle.vax_flat.specs.Operand.{form_of, extended, plus, read_at, check_at, at_address, in_register, reaches_pc, is_reserved, is_no_base}
+use Rattle.vax_flat.specs.Rows.{value_at}
 use Rattle.vax_flat.specs.Grammar.{Place, Deferred, Decrement, Increment, IncrementDeferred, Absolute, Displaced, DisplacedDeferred, Specifier, Literal, Register, Immediate, InMemory, Indexed, BranchBy, Reading, Reads, Reserved, piece, placed, based, unindexed, incremented, is_read, takes_register, in_a_register, read_form, read_specifier, read_displacement, read_operand, Sequence, End, ReservedHere, Next, followed, read_operands, IsInstruction}
-use Rattle.vax_flat.specs.Evaluation.{past, place_pieces, pieces, passed, address_of, immediate, evaluated, comes_to, all_come_to, next_operands, kinds_of, next_instruction, AreAhead, DoSame}
+use Rattle.vax_flat.specs.Evaluation.{past, place_pieces, pieces, passed, place_address, immediate, evaluated, taken, comes_to, all_come_to, next_operands, kinds_of, next_instruction, AreAhead, DoSame}
 use Rattle.vax_flat.proofs.Specifiers.{ahead_past, same_itself, same_then, same_either, same_first, after_pieces, operand_agrees}
 
 -- a place whose side effect isn't on PC
@@ -93,8 +94,8 @@ same_register l width n memory t f g same =
       | inr other ↦ same_letter l width n memory t f g other same
     ]
 
-same_place : (memory : List Area) (width : ℕ) (place : Place) (t : State) (rest : List ℕ) (f g : ℕ → State → Accesses Leaf) → KeepsPc place → AreAhead memory t rest → ((addr : ℕ) (u : State) → AreAhead memory u rest → DoSame memory (f addr u) (g addr u)) → DoSame memory (address_of width place t f) (address_of width place t g)
-unfolding address_of
+same_place : (memory : List Area) (width : ℕ) (place : Place) (t : State) (rest : List ℕ) (f g : ℕ → State → Accesses Leaf) → KeepsPc place → AreAhead memory t rest → ((addr : ℕ) (u : State) → AreAhead memory u rest → DoSame memory (f addr u) (g addr u)) → DoSame memory (place_address width place t f) (place_address width place t g)
+unfolding place_address
 same_place memory width (Deferred n) t rest f g keeps a same = same _ t a
 same_place memory width (Decrement n) t rest f g keeps a same = same _ _ (ahead_other memory t rest n _ keeps a)
 same_place memory width (Increment n) t rest f g keeps a same = same _ _ (ahead_other memory t rest n _ keeps a)
@@ -128,6 +129,23 @@ same_evaluated kind memory (Indexed place x) t rest f g leaves a same =
     same_place memory kind.width place t rest (λ addr (u : State). at_address kind (plus addr (kind.width * register u x)) u f) (λ addr (u : State). at_address kind (plus addr (kind.width * register u x)) u g) leaves a
     (λ addr u b. same_at kind.letter kind.width memory _ u f g (λ o. same o u b))
 same_evaluated kind memory (BranchBy displacement) t rest f g leaves a same = same _ t a
+
+same_value : (memory : List Area) (width : ℕ) (o : Operand) (t : State) (f g : ℕ → State → Accesses Leaf) → ((x : ℕ) → DoSame memory (f x t) (g x t)) → DoSame memory (value_at width o t f) (value_at width o t g)
+unfolding value_at
+same_value memory width (operand.Value x) t f g same = same 0
+same_value memory width (operand.Register n) t f g same = same _
+same_value memory width (operand.Memory addr) t f g same = same_read memory addr width t f g same
+same_value memory width (operand.FieldRegister n) t f g same = same 0
+same_value memory width (operand.Target addr) t f g same = same 0
+
+same_taken : (l : Letter) (width : ℕ) (memory : List Area) (o : Operand) (t : State) (f g : Operand × ℕ → State → Accesses Leaf) → ((x : Operand × ℕ) → DoSame memory (f x t) (g x t)) → DoSame memory (taken (record { letter = l; width = width }) o t f) (taken (record { letter = l; width = width }) o t g)
+unfolding taken
+same_taken letter.Read width memory o t f g same = same _
+same_taken letter.Modify width memory o t f g same = same_value memory width o t (λ x u. f (o, x) u) (λ x u. g (o, x) u) (λ x. same (o, x))
+same_taken letter.Write width memory o t f g same = same _
+same_taken letter.Address width memory o t f g same = same _
+same_taken letter.Field width memory o t f g same = same _
+same_taken letter.Branch width memory o t f g same = same _
 
 same_passed : (memory : List Area) (front : List ℕ) (s : State) (f g : State → Accesses Leaf) → DoSame memory (f (after_pieces front s)) (g (after_pieces front s)) → DoSame memory (passed front s f) (passed front s g)
 unfolding passed after_pieces
@@ -380,10 +398,10 @@ mapped make None q e = let none : None ≡ Some q = e in cc
 mapped make (Some rest) q e = let same : make rest ≡ q = cc in (rest, refl, same)
 
 -- one operand, and those behind it
-module _ (kind : OperandKind) (kinds : List OperandKind) (memory : List Area) (s : State) (bytes : List ℕ) (next : List Operand → State → Accesses Leaf) where
+module _ (kind : OperandKind) (kinds : List OperandKind) (memory : List Area) (s : State) (bytes : List ℕ) (next : List (Operand × ℕ) → State → Accesses Leaf) where
   abbrev Others : Type 0
   Others =
-      (count : ℕ) (u : State) (more : List Operand → State → Accesses Leaf) → AreAhead memory u (drop count bytes) → (rest : Sequence) → read_operands kinds (drop count bytes) ≡ Some rest
+      (count : ℕ) (u : State) (more : List (Operand × ℕ) → State → Accesses Leaf) → AreAhead memory u (drop count bytes) → (rest : Sequence) → read_operands kinds (drop count bytes) ≡ Some rest
       → DoSame memory (next_operands kinds u more) (all_come_to rest u more)
 
   one_agrees : (specifier : Specifier) (count : ℕ) (rest : Sequence) → AreAhead memory s bytes → Others → read_operand kind bytes ≡ Some (Reads specifier count) → read_operands kinds (drop count bytes) ≡ Some rest → DoSame memory (next_operands (kind ∷ kinds) s next) (all_come_to (Next kind specifier count rest) s next)
@@ -394,24 +412,24 @@ module _ (kind : OperandKind) (kinds : List OperandKind) (memory : List Area) (s
       let fits : widths (pieces kind specifier) + unread kind specifier ≤ length bytes = let within = good.within in omega arith in
       let ahead : AreAhead memory (behind kind specifier (after_pieces (pieces kind specifier) s)) (drop count bytes) =
       subst (λ c. AreAhead memory (behind kind specifier (after_pieces (pieces kind specifier) s)) (drop c bytes)) (sym size) (ahead_behind memory kind specifier s bytes a fits) in
-      same_then memory _ _ _ (operand_agrees kind memory s (λ o u. next_operands kinds u (λ os u. next (o ∷ os) u)) bytes a (Reads specifier count) read)
+      same_then memory _ _ _ (operand_agrees kind memory s (λ o u. taken kind o u (λ x u. next_operands kinds u (λ xs u. next (x ∷ xs) u))) bytes a (Reads specifier count) read)
       (same_passed memory (pieces kind specifier) s _ _
-      (same_evaluated kind memory specifier (after_pieces (pieces kind specifier) s) (drop count bytes) (λ o u. next_operands kinds u (λ os u. next (o ∷ os) u)) (λ o u. all_come_to rest u (λ os u. next (o ∷ os) u)) good.leaves ahead
-      (λ o u b. others count u (λ os u. next (o ∷ os) u) b rest behind_it)))
+      (same_evaluated kind memory specifier (after_pieces (pieces kind specifier) s) (drop count bytes) (λ o u. taken kind o u (λ x u. next_operands kinds u (λ xs u. next (x ∷ xs) u))) (λ o u. taken kind o u (λ x u. all_come_to rest u (λ xs u. next (x ∷ xs) u))) good.leaves ahead
+      (λ o u b. same_taken kind.letter kind.width memory o u _ _ (λ x. others count u (λ xs u. next (x ∷ xs) u) b rest behind_it))))
 
   step_agrees : (found : Option Reading) → read_operand kind bytes ≡ found → AreAhead memory s bytes → Others → (q : Sequence) → followed kind found (λ count. read_operands kinds (drop count bytes)) ≡ Some q → DoSame memory (next_operands (kind ∷ kinds) s next) (all_come_to q s next)
   unfolding next_operands all_come_to comes_to followed
   step_agrees None read a others q e = let none : None ≡ Some q = e in cc
   step_agrees (Some (Reserved count)) read a others q e =
       let same : ReservedHere count ≡ q = cc in
-      rw (← same) (operand_agrees kind memory s (λ o u. next_operands kinds u (λ os u. next (o ∷ os) u)) bytes a (Reserved count) read)
+      rw (← same) (operand_agrees kind memory s (λ o u. taken kind o u (λ x u. next_operands kinds u (λ xs u. next (x ∷ xs) u))) bytes a (Reserved count) read)
   step_agrees (Some (Reads specifier count)) read a others q e =
       let found = mapped (Next kind specifier count) (read_operands kinds (drop count bytes)) q e in
       let same = found.2 in
       rw (← same) (one_agrees specifier count found.0 a others read found.1)
 
 -- operands of these kinds
-pub operands_agree : (kinds : List OperandKind) (memory : List Area) (s : State) (bytes : List ℕ) (next : List Operand → State → Accesses Leaf) → AreAhead memory s bytes → (q : Sequence) → read_operands kinds bytes ≡ Some q → DoSame memory (next_operands kinds s next) (all_come_to q s next)
+pub operands_agree : (kinds : List OperandKind) (memory : List Area) (s : State) (bytes : List ℕ) (next : List (Operand × ℕ) → State → Accesses Leaf) → AreAhead memory s bytes → (q : Sequence) → read_operands kinds bytes ≡ Some q → DoSame memory (next_operands kinds s next) (all_come_to q s next)
 unfolding next_operands all_come_to read_operands
 operands_agree [] memory s bytes next a q e =
     let same : End ≡ q = cc in
@@ -421,7 +439,7 @@ operands_agree (kind ∷ kinds) memory s bytes next a q e =
     (λ count u more b rest f. operands_agree kinds memory u (drop count bytes) more b rest f) q e
 
 -- an opcode and its operands
-pub instruction_agrees : (memory : List Area) (s : State) (bytes : List ℕ) (row : Instruction) (operands : Sequence) (count : ℕ) (next : List Operand → State → Accesses Leaf) → AreAhead memory s bytes → IsInstruction bytes row operands count → DoSame memory (next_instruction s next) (passed (1 ∷ []) s (λ t. all_come_to operands t next))
+pub instruction_agrees : (memory : List Area) (s : State) (bytes : List ℕ) (row : Instruction) (operands : Sequence) (count : ℕ) (next : List (Operand × ℕ) → State → Accesses Leaf) → AreAhead memory s bytes → IsInstruction bytes row operands count → DoSame memory (next_instruction s next) (passed (1 ∷ []) s (λ t. all_come_to operands t next))
 unfolding next_instruction passed
 instruction_agrees memory s bytes row operands count next a i =
     let ahead : AreAhead memory s (i.opcode ∷ i.rest) = rw i.split at a in

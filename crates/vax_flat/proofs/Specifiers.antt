@@ -17,7 +17,7 @@ use Rattle.vax_flat.specs.Accesses.{Accesses, Raises, Leaf}
 use Rattle.vax_flat.specs.Outcome.{outcome_of, touches_of}
 use Rattle.vax_flat.specs.Operand.{form_of, extended, plus, read_at, fetched, at_address, literal, in_register, reaches_pc, addressed, is_reserved, is_no_base, indexed, in_memory, after_prefix, formed, specified, branched, next_operand}
 use Rattle.vax_flat.specs.Grammar.{Place, Deferred, Decrement, Increment, IncrementDeferred, Absolute, Displaced, DisplacedDeferred, Specifier, Literal, Register, Immediate, InMemory, Indexed, BranchBy, Reading, Reads, Reserved, value_of_bytes, piece, placed, based, unindexed, incremented, is_read, in_a_register, read_form, read_specifier, read_displacement, read_operand}
-use Rattle.vax_flat.specs.Evaluation.{past, place_pieces, pieces, passed, address_of, immediate, evaluated, comes_to, AreAhead, DoSame}
+use Rattle.vax_flat.specs.Evaluation.{past, place_pieces, pieces, passed, place_address, immediate, evaluated, comes_to, AreAhead, DoSame}
 
 -- PC
 pub pc_past : (count : ℕ) (s : State) → length s.core.regs ≡ 16 → register (past count s) 15 ≡ plus (register s 15) count
@@ -114,14 +114,14 @@ module _ (kind : OperandKind) (memory : List Area) (s : State) (next : Operand �
   -- a memory form
   abbrev IsMadeAs : ℕ → (Place → Specifier) → (ℕ → State → Accesses Leaf) → Type 0
   IsMadeAs count make found =
-      (place : Place) (c : ℕ) → passed (replicate count 1 ++ place_pieces place) s (λ t. address_of kind.width place t found) ≡ comes_to kind (Reads (make place) c) s next
+      (place : Place) (c : ℕ) → passed (replicate count 1 ++ place_pieces place) s (λ t. place_address kind.width place t found) ≡ comes_to kind (Reads (make place) c) s next
 
-  alone : (count : ℕ) (place : Place) (make : Place → Specifier) (found : ℕ → State → Accesses Leaf) → place_pieces place ≡ [] → IsMadeAs count make found → IsRead kind memory s next (replicate count 1) (Some (Reads (make place) count)) (λ t. address_of kind.width place t found)
+  alone : (count : ℕ) (place : Place) (make : Place → Specifier) (found : ℕ → State → Accesses Leaf) → place_pieces place ≡ [] → IsMadeAs count make found → IsRead kind memory s next (replicate count 1) (Some (Reads (make place) count)) (λ t. place_address kind.width place t found)
   alone count place make found none law =
-      known (replicate count 1) _ _ (ap (λ front. passed front s (λ t. address_of kind.width place t found)) (sym (append-nil (replicate count 1)) ∙ ap (λ l. replicate count 1 ++ l) (sym none)) ∙ law place count)
+      known (replicate count 1) _ _ (ap (λ front. passed front s (λ t. place_address kind.width place t found)) (sym (append-nil (replicate count 1)) ∙ ap (λ l. replicate count 1 ++ l) (sym none)) ∙ law place count)
 
   placed_agrees : (shape : Form) (make : Place → Specifier) (count : ℕ) (bytes : List ℕ) (found : ℕ → State → Accesses Leaf) → AreAhead memory (after_pieces (replicate count 1) s) bytes → IsMadeAs count make found → IsRead kind memory s next (replicate count 1) (placed shape make count bytes) (λ t. addressed kind.width shape t found)
-  unfolding placed addressed address_of place_pieces fetched
+  unfolding placed addressed place_address place_pieces fetched
   placed_agrees (form.Literal value) make count bytes found a law = raises count
   placed_agrees (form.Index x) make count bytes found a law = raises count
   placed_agrees (form.Register n) make count bytes found a law = raises count
@@ -227,7 +227,7 @@ immediate_agrees letter.Field width memory s next bytes a = immediate_unread (re
 immediate_agrees letter.Branch width memory s next bytes a = immediate_unread (record { letter = letter.Branch; width = width }) memory s next bytes refl
 
 incremented_agrees : (kind : OperandKind) (memory : List Area) (s : State) (next : Operand → State → Accesses Leaf) (n : ℕ) (bytes : List ℕ) → AreAhead memory (past 1 s) bytes → IsRead kind memory s next (1 ∷ []) (incremented kind n bytes) (λ t. in_memory kind (form.Increment n) t next)
-unfolding incremented in_memory addressed address_of evaluated comes_to pieces place_pieces
+unfolding incremented in_memory addressed place_address evaluated comes_to pieces place_pieces
 incremented_agrees kind memory s next n bytes a =
     elim (cases_Bool (is_reserved kind.letter (form.Increment n))) [
       | inl here ↦ rw here (raises kind memory s next 1)

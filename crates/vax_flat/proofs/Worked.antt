@@ -1,16 +1,17 @@
 -- The grammar at worked rows, with what the manual's table of addressing modes gives for each.
 use Rattle.std.proofs.Common.{◌≡◌, Some, None, [], ◌∷◌, refl}
-use Rattle.vax_isa.specs.Instructions.{Al, Bb, Bw, Ml, Rb, Rl, Rq, Vb, Wl, row, instructions}
+use Rattle.vax_isa.specs.Instructions.{Al, Bb, Bw, Ml, Rb, Rl, Rq, Vb, Wl, instructions}
 use Rattle.vax_isa.specs.Rows.{with_opcode}
 use Rattle.vax_flat.specs.Operand.{form_of, extended, is_reserved, is_no_base}
-use Rattle.vax_flat.specs.Grammar.{Deferred, Decrement, Increment, IncrementDeferred, Absolute, Displaced, DisplacedDeferred, Literal, Register, Immediate, InMemory, Indexed, BranchBy, Reads, Reserved, IsInstruction, Next, End, value_of_bytes, piece, placed, based, unindexed, incremented, in_a_register, read_form, read_specifier, read_displacement, read_operand, read_operands, followed, total}
+use Rattle.vax_flat.specs.Evaluation.{kinds_of}
+use Rattle.vax_flat.specs.Grammar.{Deferred, Decrement, Increment, IncrementDeferred, Absolute, Displaced, DisplacedDeferred, Literal, Register, Immediate, InMemory, Indexed, BranchBy, Reads, Reserved, Next, End, value_of_bytes, piece, placed, based, unindexed, incremented, in_a_register, read_form, read_specifier, read_displacement, read_operand, read_operands, followed}
 
--- MOVL S^#5,R1
-movl : IsInstruction (0xD0 ∷ 0x05 ∷ 0x51 ∷ []) (row 0xD0 "MOVL" (Rl ∷ Wl ∷ [])) (Next Rl (Literal 5) 1 (Next Wl (Register 1) 1 End)) 3
-unfolding form_of with_opcode instructions read_operands followed total in_a_register read_form read_specifier read_operand
-movl = record { opcode = 0xD0; rest = 0x05 ∷ 0x51 ∷ []; split = refl; listed = refl; read = refl; unreserved = tt; counted = refl }
+-- MOVL S^#5,R1 behind its opcode
+movl : read_operands (kinds_of (with_opcode 0xD0)) (0x05 ∷ 0x51 ∷ []) ≡ Some (Next Rl (Literal 5) 1 (Next Wl (Register 1) 1 End))
+unfolding form_of with_opcode instructions read_operands followed in_a_register read_form read_specifier read_operand
+movl = refl
 
--- SOBGTR R2,.-3: the word behind the opcode is a register and a displacement of one byte
+-- SOBGTR R2 behind its opcode, with a displacement of -3
 sobgtr : read_operands (Ml ∷ Bb ∷ []) (0x52 ∷ 0xFD ∷ []) ≡ Some (Next Ml (Register 2) 1 (Next Bb (BranchBy 0xFFFFFFFD) 1 End))
 unfolding form_of extended read_operands followed value_of_bytes piece in_a_register read_form read_specifier read_displacement read_operand
 sobgtr = refl

@@ -2,6 +2,7 @@
 use Rattle.std.specs.Prelude.{◌≡◌, ℕ, ◌-◌, ◌*◌, ◌^◌, ◌<◌, if◌then◌else◌, Option, Some, None, List, [], ◌∷◌, length, replicate}
 use Rattle.vax_space.specs.declared.Area.{Area}
 use Rattle.vax_isa.specs.declared.OperandKind.{OperandKind}
+use Rattle.vax_isa.specs.declared.Letter.TheVariants as letter
 use Rattle.vax_isa.specs.Instructions.{Instruction}
 use Rattle.vax_isa.specs.Rows.{with_opcode}
 use Rattle.vax_flat.specs.declared.Exception.TheVariants.{Mode}
@@ -12,6 +13,7 @@ use Rattle.vax_flat.specs.State.{State, register, with_register}
 use Rattle.vax_flat.specs.Accesses.{Accesses, Raises, Leaf}
 use Rattle.vax_flat.specs.Outcome.{outcome_of, touches_of}
 use Rattle.vax_flat.specs.Operand.{plus, read_at, fetched, at_address, in_register, next_operand}
+use Rattle.vax_flat.specs.Rows.{value_at, value_of}
 use Rattle.vax_flat.specs.Grammar.{Place, Deferred, Decrement, Increment, IncrementDeferred, Absolute, Displaced, DisplacedDeferred, Specifier, Literal, Register, Immediate, InMemory, Indexed, BranchBy, Reading, Reads, Reserved, Sequence, End, ReservedHere, Next, is_read}
 
 -- the pieces in which what follows the specifier byte is read
@@ -39,16 +41,16 @@ passed [] s next = next s
 passed (width ∷ widths) s next = fetched width s (λ value s. passed widths s next)
 
 -- the address of a place, with what that does to a register
-unfoldable pub address_of : ℕ → Place → State → (ℕ → State → Accesses Leaf) → Accesses Leaf
-address_of width (Deferred n) s next = next (register s n) s
-address_of width (Decrement n) s next =
+unfoldable pub place_address : ℕ → Place → State → (ℕ → State → Accesses Leaf) → Accesses Leaf
+place_address width (Deferred n) s next = next (register s n) s
+place_address width (Decrement n) s next =
     next (plus (register s n) (2 ^ 32 - width)) (with_register s n (plus (register s n) (2 ^ 32 - width)))
-address_of width (Increment n) s next = next (register s n) (with_register s n (plus (register s n) width))
-address_of width (IncrementDeferred n) s next =
+place_address width (Increment n) s next = next (register s n) (with_register s n (plus (register s n) width))
+place_address width (IncrementDeferred n) s next =
     read_at (register s n) 4 s (λ pointer s. next pointer (with_register s n (plus (register s n) 4)))
-address_of width (Absolute addr) s next = next addr s
-address_of width (Displaced bytes displacement n) s next = next (plus (register s n) displacement) s
-address_of width (DisplacedDeferred bytes displacement n) s next =
+place_address width (Absolute addr) s next = next addr s
+place_address width (Displaced bytes displacement n) s next = next (plus (register s n) displacement) s
+place_address width (DisplacedDeferred bytes displacement n) s next =
     read_at (plus (register s n) displacement) 4 s next
 
 -- PC moved past so many bytes
@@ -66,9 +68,9 @@ unfoldable pub evaluated : OperandKind → Specifier → State → (Operand → 
 evaluated kind (Literal value) s next = next (operand.Value value) s
 evaluated kind (Register n) s next = in_register kind n s next
 evaluated kind (Immediate value) s next = immediate kind value s next
-evaluated kind (InMemory place) s next = address_of kind.width place s (λ addr s. at_address kind addr s next)
+evaluated kind (InMemory place) s next = place_address kind.width place s (λ addr s. at_address kind addr s next)
 evaluated kind (Indexed place x) s next =
-    address_of kind.width place s (λ addr s. at_address kind (plus addr (kind.width * register s x)) s next)
+    place_address kind.width place s (λ addr s. at_address kind (plus addr (kind.width * register s x)) s next)
 evaluated kind (BranchBy displacement) s next = next (operand.Target (plus (register s 15) displacement)) s
 
 -- what bytes at PC come to as an operand
@@ -77,18 +79,34 @@ comes_to kind (Reads specifier count) s next =
     passed (pieces kind specifier) s (λ s. evaluated kind specifier s next)
 comes_to kind (Reserved count) s next = passed (replicate count 1) s (λ s. Raises Mode)
 
+-- an operand as an instruction takes it: with its value, if it is read or modified, which is read before the operand behind it
+unfoldable pub taken : OperandKind → Operand → State → (Operand × ℕ → State → Accesses Leaf) → Accesses Leaf
+taken kind o s next = elim kind.letter [
+  | letter.Read ↦ next (o, value_of o) s
+  | letter.Modify ↦ value_at kind.width o s (λ x s. next (o, x) s)
+  | letter.Write ↦ next (o, 0) s
+  | letter.Address ↦ next (o, 0) s
+  | letter.Field ↦ next (o, 0) s
+  | letter.Branch ↦ next (o, 0) s
+]
+
 -- what bytes at PC come to as operands, from left to right
-unfoldable pub all_come_to : Sequence → State → (List Operand → State → Accesses Leaf) → Accesses Leaf
+unfoldable pub all_come_to : Sequence → State → (List (Operand × ℕ) → State → Accesses Leaf) → Accesses Leaf
 all_come_to End s next = next [] s
 all_come_to (ReservedHere count) s next = passed (replicate count 1) s (λ s. Raises Mode)
 all_come_to (Next kind specifier count rest) s next =
-    passed (pieces kind specifier) s (λ s. evaluated kind specifier s
-    (λ o s. all_come_to rest s (λ os s. next (o ∷ os) s)))
+    passed (pieces kind specifier) s (λ s.
+    evaluated kind specifier s (λ o s.
+    taken kind o s (λ x s.
+    all_come_to rest s (λ xs s. next (x ∷ xs) s))))
 
 -- the machine's own way to operands of these kinds
-unfoldable pub next_operands : List OperandKind → State → (List Operand → State → Accesses Leaf) → Accesses Leaf
+unfoldable pub next_operands : List OperandKind → State → (List (Operand × ℕ) → State → Accesses Leaf) → Accesses Leaf
 next_operands [] s next = next [] s
-next_operands (kind ∷ kinds) s next = next_operand kind s (λ o s. next_operands kinds s (λ os s. next (o ∷ os) s))
+next_operands (kind ∷ kinds) s next =
+    next_operand kind s (λ o s.
+    taken kind o s (λ x s.
+    next_operands kinds s (λ xs s. next (x ∷ xs) s)))
 
 -- the operands that an opcode lists
 abbrev pub kinds_of : Option Instruction → List OperandKind
@@ -96,7 +114,7 @@ kinds_of None = []
 kinds_of (Some row) = row.operands
 
 -- the machine's own way to an opcode and its operands
-unfoldable pub next_instruction : State → (List Operand → State → Accesses Leaf) → Accesses Leaf
+unfoldable pub next_instruction : State → (List (Operand × ℕ) → State → Accesses Leaf) → Accesses Leaf
 next_instruction s next = fetched 1 s (λ opcode s. next_operands (kinds_of (with_opcode opcode)) s next)
 
 -- these bytes stand at PC, in a state with the registers of a core

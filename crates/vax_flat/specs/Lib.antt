@@ -5,8 +5,8 @@ pub mod Accesses
 pub mod Outcome
 pub mod OverPort
 pub mod Operand
+pub mod Rows
 pub mod Grammar
 pub mod Evaluation
-pub mod Rows
 pub mod Step
 pub mod Start

@@ -28,8 +28,8 @@ pub fn arrival_agrees()
 /// form comes to, or takes the reserved addressing mode fault. So also for operands one behind another, and for an opcode with its operands.
 pub fn grammar_agrees()
     ensures operand { (kind : OperandKind) → (memory : List Area) → (s : State) → (bytes : List ℕ) → (reading : Reading) → (next : Operand → State → Accesses Leaf) → AreAhead memory s bytes → read_operand kind bytes ≡ Some reading → DoSame memory (next_operand kind s next) (comes_to kind reading s next) }
-    ensures operands { (kinds : List OperandKind) → (memory : List Area) → (s : State) → (bytes : List ℕ) → (sequence : Sequence) → (next : List Operand → State → Accesses Leaf) → AreAhead memory s bytes → read_operands kinds bytes ≡ Some sequence → DoSame memory (next_operands kinds s next) (all_come_to sequence s next) }
-    ensures instruction { (memory : List Area) → (s : State) → (bytes : List ℕ) → (row : Instruction) → (operands : Sequence) → (count : ℕ) → (next : List Operand → State → Accesses Leaf) → AreAhead memory s bytes → IsInstruction bytes row operands count → DoSame memory (next_instruction s next) (passed (1 ∷ []) s (λ t. all_come_to operands t next)) }
+    ensures operands { (kinds : List OperandKind) → (memory : List Area) → (s : State) → (bytes : List ℕ) → (sequence : Sequence) → (next : List (Operand × ℕ) → State → Accesses Leaf) → AreAhead memory s bytes → read_operands kinds bytes ≡ Some sequence → DoSame memory (next_operands kinds s next) (all_come_to sequence s next) }
+    ensures instruction { (memory : List Area) → (s : State) → (bytes : List ℕ) → (row : Instruction) → (operands : Sequence) → (count : ℕ) → (next : List (Operand × ℕ) → State → Accesses Leaf) → AreAhead memory s bytes → IsInstruction bytes row operands count → DoSame memory (next_instruction s next) (passed (1 ∷ []) s (λ t. all_come_to operands t next)) }
 {}
 
 /// A reading rests on the bytes at the front alone: it stays with more bytes behind, takes no more than there are, and nine bytes are enough
