@@ -11,5 +11,7 @@ pub mod Control
 pub mod Instruction
 pub mod Grammar
 pub mod Evaluation
+pub mod Grammar
+pub mod Evaluation
 pub mod Step
 pub mod Start
