@@ -11,7 +11,5 @@ pub mod Control
 pub mod Instruction
 pub mod Grammar
 pub mod Evaluation
-pub mod Grammar
-pub mod Evaluation
 pub mod Step
 pub mod Start
