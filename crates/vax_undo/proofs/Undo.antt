@@ -32,12 +32,12 @@ allows_one_more areas resident (x ∷ xs) e all one = (all.0, allows_one_more ar
 
 -- one more entry, which undoes what was done
 pub logged : {P : Type 0} (view : P → View) (along : P → P → Type 0) (old new : Transaction P) (e : Entry) →
-    new.log.items ≡ old.log.items ++ e ∷ [] → IsSame along old new → undo e (present view new) ≡ present view old →
+    new.log ≡ old.log ++ e ∷ [] → IsSame along old new → undo e (present view new) ≡ present view old →
     (view new.port.now).areas ≡ (view old.port.now).areas → (view new.port.now).resident ≡ (view old.port.now).resident →
     Allows (view old.port.now).areas (view old.port.now).resident e.kept e → Keeps view along 1 old new
 logged view along old new e items same back areas resident one = record {
-  undone = ap (λ log. undo_all log (present view new)) items ∙ (undo_all-append old.log.items e (present view new) ∙ ap (undo_all old.log.items) back);
-  ready = λ ready. rw (items, areas, resident) (allows_one_more (view old.port.now).areas (view old.port.now).resident old.log.items e ready one);
+  undone = ap (λ log. undo_all log (present view new)) items ∙ (undo_all-append old.log e (present view new) ∙ ap (undo_all old.log) back);
+  ready = λ ready. rw (items, areas, resident) (allows_one_more (view old.port.now).areas (view old.port.now).resident old.log e ready one);
   room = rw items (simp length-append (omega arith));
   same = same;
 }

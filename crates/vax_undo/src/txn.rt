@@ -3,9 +3,9 @@ ghost use Rattle.std.specs.Prelude.{◌≡◌, ℕ, ◌+◌, ◌%◌, ◌^◌, �
 ghost use Rattle.vax_undo.specs.Answers.{err_of};
 
 use crate::entry::{Entry, Kept};
+use crate::log::Log;
 use crate::port::Port;
 use crate::term::Term;
-use arrayvec::ArrayVec;
 use vax_flat::Stop;
 use vax_space::{Access, Violation};
 use vax_word::{Core, Psl};
@@ -17,7 +17,7 @@ pub struct Txn<'a, P: Port> {
     core: &'a mut Core,
     term: &'a mut Term,
     port: &'a mut P,
-    log: ArrayVec<Entry, 96>,
+    log: Log,
 }
 
 /// A register behind a shared reference.
@@ -88,7 +88,7 @@ impl<'a, P: Port> Txn<'a, P> {
             core,
             term,
             port,
-            log: ArrayVec::new(),
+            log: Log::new(),
         }
     }
 
@@ -278,12 +278,15 @@ impl<'a, P: Port> Txn<'a, P> {
         ensures present { present P.view self.new ≡ with_view (present P.view self.old) (stored (present P.view self.old).view addr n value mode) }
         ensures keeps { Keeps P.view P.since 1 self.old self.new }
     {
-        if let Err(violation) = self.port.check(addr, n, mode, Access::Write) {
-            return Err(Stop::Violated(violation));
-        }
         let old = match self.port.read(addr, n, mode) {
             Ok(old) => old,
-            Err(stop) => return Err(stop),
+            Err(stop) => {
+                // A range that may not be written is told before a page that is absent.
+                if let Err(violation) = self.port.check(addr, n, mode, Access::Write) {
+                    return Err(Stop::Violated(violation));
+                }
+                return Err(stop);
+            }
         };
         match self.port.write(addr, n, value, mode) {
             Ok(()) => {
