@@ -26,8 +26,8 @@ pub fn read<P: Port>(txn: &mut Txn<P>, addr: u32, n: u32) -> Result<u64, Cut>
     }
 }
 
-/// Writes the `n` bytes of a number.
-#[inline]
+/// Writes the `n` bytes of a number. It stays a call, since most operands that are written are registers.
+#[inline(never)]
 #[tactic(auto, unfolding(vax_flat::specs::OverPort::over_port, vax_flat::specs::Operand::write_at))]
 pub fn write<P: Port>(txn: &mut Txn<P>, addr: u32, n: u32, value: u64) -> Result<(), Cut>
     requires some { 1 ≤ n }

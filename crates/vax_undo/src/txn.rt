@@ -110,8 +110,8 @@ impl<'a, P: Port> Txn<'a, P> {
         ensures keeps { Keeps P.view P.since 1 self.old self.new }
     {
         let old = register_of(self.core, n);
-        self.log.push(Entry::of(Kept::Register, n, old as u64));
         self.core.regs[n as usize] = v;
+        self.log.push(Entry::of(Kept::Register, n, old as u64));
     }
 
     /// The processor status longword.
@@ -128,9 +128,9 @@ impl<'a, P: Port> Txn<'a, P> {
         ensures present { present P.view self.new ≡ with_state (present P.view self.old) (with_psl (present P.view self.old).state v) }
         ensures keeps { Keeps P.view P.since 1 self.old self.new }
     {
-        self.log
-            .push(Entry::of(Kept::Status, 0, self.core.psl.0 as u64));
+        let old = self.core.psl.0;
         self.core.psl = v;
+        self.log.push(Entry::of(Kept::Status, 0, old as u64));
     }
 
     /// The kept pointer of stack `i`, below 5.
