@@ -18,6 +18,26 @@ pub struct Txn<'a, P: Port> {
     term: &'a mut Term,
     port: &'a mut P,
     log: Log,
+    origin: Origin,
+}
+
+/// PC and the status longword as they were at the start. Every instruction changes both, so they are kept here and not in the log.
+#[derive(Clone, Copy)]
+pub(crate) struct Origin {
+    pub(crate) pc: u32,
+    pub(crate) psl: Psl,
+}
+
+ghost use Rattle.vax_undo.specs.declared.txn.Origin.{Origin};
+
+#[inline]
+fn origin_of(core: &Core) -> Origin
+    ensures { result ≡ record { pc = slice_index core.now.regs 15; psl = core.now.psl } }
+{
+    Origin {
+        pc: register_of(core, 15),
+        psl: core.psl,
+    }
 }
 
 /// A register behind a shared reference.
@@ -50,7 +70,6 @@ fn put_back<P: Port>(entry: Entry, core: &mut Core, term: &mut Term, port: &mut 
 {
     match entry.kept {
         Kept::Register => core.regs[entry.number as usize] = entry.old as u32,
-        Kept::Status => core.psl = Psl(entry.old as u32),
         Kept::Stack => core.stacks[entry.number as usize] = entry.old as u32,
         Kept::Requests => core.sisr = entry.old as u16,
         Kept::Timer => core.iccs = entry.old as u8,
@@ -84,11 +103,13 @@ impl<'a, P: Port> Txn<'a, P> {
         ensures room { room result ≡ 96 }
         ensures ready { IsReady P.view result }
     {
+        let origin = origin_of(core);
         Txn {
             core,
             term,
             port,
             log: Log::new(),
+            origin,
         }
     }
 
@@ -109,6 +130,10 @@ impl<'a, P: Port> Txn<'a, P> {
         ensures present { present P.view self.new ≡ with_state (present P.view self.old) (with_register (present P.view self.old).state n v) }
         ensures keeps { Keeps P.view P.since 1 self.old self.new }
     {
+        if n == 15 {
+            self.core.regs[15] = v;
+            return;
+        }
         let old = register_of(self.core, n);
         self.core.regs[n as usize] = v;
         self.log.push(Entry::of(Kept::Register, n, old as u64));
@@ -128,9 +153,7 @@ impl<'a, P: Port> Txn<'a, P> {
         ensures present { present P.view self.new ≡ with_state (present P.view self.old) (with_psl (present P.view self.old).state v) }
         ensures keeps { Keeps P.view P.since 1 self.old self.new }
     {
-        let old = self.core.psl.0;
         self.core.psl = v;
-        self.log.push(Entry::of(Kept::Status, 0, old as u64));
     }
 
     /// The kept pointer of stack `i`, below 5.
@@ -347,6 +370,7 @@ impl<'a, P: Port> Txn<'a, P> {
         ensures same { IsSame P.since self.old self.new }
     {
         self.log.clear();
+        self.origin = origin_of(self.core);
         let sent = self.term.out;
         self.term.out = None;
         sent
@@ -365,6 +389,7 @@ impl<'a, P: Port> Txn<'a, P> {
             term,
             port: _,
             log: _,
+            origin: _,
         } = self;
         let sent = term.out;
         term.out = None;
@@ -384,9 +409,12 @@ impl<'a, P: Port> Txn<'a, P> {
             term,
             port,
             mut log,
+            origin,
         } = self;
         while let Some(entry) = log.pop() {
             put_back(entry, core, term, port);
         }
+        core.regs[15] = origin.pc;
+        core.psl = origin.psl;
     }
 }
