@@ -334,13 +334,7 @@ impl Space {
 
     /// Checks a reference page by page.
     #[cold]
-    fn check_pages(
-        &self,
-        addr: u32,
-        len: u32,
-        mode: u8,
-        access: Access,
-    ) -> Result<(), Violation>
+    fn check_pages(&self, addr: u32, len: u32, mode: u8, access: Access) -> Result<(), Violation>
         requires of_mode { mode ≤ 3 }
         ensures answer { result_err result ≡ reference.violation self.now addr len mode access }
         ensures accessible { IsOk result ↔ reference.IsAccessible self.now addr len mode access }
