@@ -12,7 +12,7 @@ use vax_word::{Core, Psl};
 
 /// Work on the registers, the console and a port, with a log of the old values of all that it changed.
 ///
-/// A transaction ends by [`Txn::commit`] or by [`Txn::unwind`]. Its log takes 96 entries; a call that changes something takes one.
+/// A transaction ends by [`Txn::commit`] or by [`Txn::unwind`]. Its log takes 96 entries; a call that changes something takes at most one.
 pub struct Txn<'a, P: Port> {
     core: &'a mut Core,
     term: &'a mut Term,
