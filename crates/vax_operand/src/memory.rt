@@ -26,8 +26,8 @@ pub fn read<P: Port>(txn: &mut Txn<P>, addr: u32, n: u32) -> Result<u64, Cut>
     }
 }
 
-/// Writes the `n` bytes of a number.
-#[inline]
+/// Writes the `n` bytes of a number. It stays a call, since most operands that are written are registers.
+#[inline(never)]
 #[tactic(auto, unfolding(vax_flat::specs::OverPort::over_port, vax_flat::specs::Operand::write_at))]
 pub fn write<P: Port>(txn: &mut Txn<P>, addr: u32, n: u32, value: u64) -> Result<(), Cut>
     requires some { 1 ≤ n }
@@ -62,7 +62,7 @@ pub fn check<P: Port>(txn: &mut Txn<P>, addr: u32, n: u32, access: Access) -> Re
 
 /// The number that the next `n` bytes of the instruction are. PC moves past them.
 #[inline]
-#[tactic(auto, unfolding(vax_flat::specs::Operand::fetched))]
+#[tactic(auto, unfolding(vax_flat::specs::OverPort::over_port, vax_flat::specs::Operand::fetched, vax_flat::specs::Operand::read_at))]
 pub fn fetch<P: Port>(txn: &mut Txn<P>, n: u32) -> Result<u64, Cut>
     requires some { 1 ≤ n }
     requires few { n ≤ 8 }
@@ -72,7 +72,12 @@ pub fn fetch<P: Port>(txn: &mut Txn<P>, n: u32) -> Result<u64, Cut>
     ensures keeps { Keeps P.view P.since 1 txn.old txn.new }
 {
     let pc = txn.reg(15);
-    let value = read(txn, pc, n)?;
-    txn.set_reg(15, pc.wrapping_add(n));
-    Ok(value)
+    let mode = txn.psl().mode();
+    match txn.read(pc, n, mode) {
+        Ok(value) => {
+            txn.set_reg(15, pc.wrapping_add(n));
+            Ok(value)
+        }
+        Err(stop) => Err(Cut::from(stop)),
+    }
 }

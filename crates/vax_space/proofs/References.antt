@@ -143,3 +143,9 @@ violation_step areas addr len step mode access all fits e good h =
     let parts : len ≡ step + (len - step) = omega arith in
     let few : step ≤ 512 - addr % 512 = omega arith in
     sym (violation_within areas addr step (len - step) mode access fits few good) ∙ ap (λ n. violation areas addr n mode access) (sym parts) ∙ h
+
+-- a range within a page that may be accessed
+pub violation_in_page : (areas : List Area) (addr len mode : ℕ) (access : Access) → addr < 2 ^ 32 → len ≤ 512 - addr % 512 → may_access areas (page_of addr) mode access ≡ true → violation areas addr len mode access ≡ None
+violation_in_page areas addr len mode access fits few good =
+    let e : len ≡ len + 0 = omega arith in
+    ap (λ n. violation areas addr n mode access) e ∙ (violation_within areas addr len 0 mode access fits few good ∙ violation_none areas (byte_after addr len) mode access)

@@ -5,7 +5,7 @@
 //! region P0, the control region P1, the system region, or the fourth region, which has no pages.
 #![tactic(auto)]
 
-ghost use Rattle.std.specs.Prelude.{◌≡◌, ◌≢◌, ◌≤◌, ◌⊎◌, true, unwrap_or, ◌↔◌, IsOk, IfSome, option_copied, Some, IfOk, OnOk, IfErr};
+ghost use Rattle.std.specs.Prelude.{◌≡◌, ◌≢◌, ◌+◌, ◌%◌, ◌≤◌, ◌⊎◌, true, unwrap_or, ◌↔◌, IsOk, IfSome, option_copied, Some, None, IfOk, OnOk, IfErr};
 ghost use Rattle.std.specs.Result.{result_err};
 ghost use Rattle.vax_space.specs.Protection as spec;
 
@@ -300,12 +300,41 @@ impl Space {
         allows(self.code(page), mode, access)
     }
 
+    /// Whether the range lies within one page, to which the mode may make the access.
+    #[inline]
+    #[tactic(auto, using(crate::proofs::References::violation_in_page))]
+    pub fn is_free_page(&self, addr: u32, len: u32, mode: u8, access: Access) -> bool
+        requires of_mode { mode ≤ 3 }
+        ensures one_page { result ≡ true → addr % 512 + len ≤ 512 }
+        ensures free { result ≡ true → reference.violation self.now addr len mode access ≡ None }
+    {
+        len <= PAGE_BYTES - addr % PAGE_BYTES && self.may_access(addr / PAGE_BYTES, mode, access)
+    }
+
     /// Checks a reference to `len` bytes from `addr` on. The range may go on from FFFFFFFF to 0. A length of 0 is
     /// allowed everywhere. The violation tells the first byte that may not be accessed; `length` is set where its page
     /// lies past its region: at or past the end of the last area of P0, before the first area of P1, from page 401200
     /// (hexadecimal) on in the system region, and in the fourth region.
     #[inline]
     pub fn check(&self, addr: u32, len: u32, mode: u8, access: Access) -> Result<(), Violation>
+        requires of_mode { mode ≤ 3 }
+        ensures answer { result_err result ≡ reference.violation self.now addr len mode access }
+        ensures accessible { IsOk result ↔ reference.IsAccessible self.now addr len mode access }
+        ensures first { IfErr result (reference.IsFirstViolation self.now addr len mode access) }
+        ensures readable { reference.WritableIsReadable self.now }
+    {
+        if self.is_free_page(addr, len, mode, access) {
+            return Ok(());
+        }
+        match self.check_pages(addr, len, mode, access) {
+            Ok(()) => Ok(()),
+            Err(violation) => Err(violation),
+        }
+    }
+
+    /// Checks a reference page by page.
+    #[cold]
+    fn check_pages(&self, addr: u32, len: u32, mode: u8, access: Access) -> Result<(), Violation>
         requires of_mode { mode ≤ 3 }
         ensures answer { result_err result ≡ reference.violation self.now addr len mode access }
         ensures accessible { IsOk result ↔ reference.IsAccessible self.now addr len mode access }

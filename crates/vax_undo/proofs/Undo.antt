@@ -15,12 +15,14 @@ use Rattle.vax_flat.specs.declared.Stop.{Stop}
 use Rattle.vax_flat.specs.Memory.{number}
 use Rattle.vax_flat.specs.Port.{View, AreBytes, first_absent, stop, stop_of, loaded, loaded_by, stored, with_number}
 use Rattle.vax_flat.specs.OverPort.{Present}
+use Rattle.vax_flat.specs.State.{with_register}
 use Rattle.vax_flat.proofs.Bytes.{put_back as put-put, number-below}
 use Rattle.vax_undo.specs.declared.entry.Entry.{Entry}
 use Rattle.vax_undo.specs.declared.entry.Kept.{Kept}
 use Rattle.vax_undo.specs.declared.entry.Kept.TheVariants as kept
 use Rattle.vax_undo.specs.declared.txn.Txn.{Txn as Transaction}
-use Rattle.vax_undo.specs.Transaction.{put_back, undo, undo_all, Allows, AllowsAll, present, IsSame, Keeps}
+use Rattle.vax_undo.specs.declared.txn.Origin.{Origin}
+use Rattle.vax_undo.specs.Transaction.{put_back, undo, undo_all, restart, with_state, Allows, AllowsAll, present, IsSame, Keeps}
 
 pub undo_all-append : (log : List Entry) (e : Entry) (p : Present) → undo_all (log ++ e ∷ []) p ≡ undo_all log (undo e p)
 undo_all-append [] e p = refl
@@ -32,15 +34,58 @@ allows_one_more areas resident (x ∷ xs) e all one = (all.0, allows_one_more ar
 
 -- one more entry, which undoes what was done
 pub logged : {P : Type 0} (view : P → View) (along : P → P → Type 0) (old new : Transaction P) (e : Entry) →
-    new.log.items ≡ old.log.items ++ e ∷ [] → IsSame along old new → undo e (present view new) ≡ present view old →
+    new.log ≡ old.log ++ e ∷ [] → new.origin ≡ old.origin → IsSame along old new → undo e (present view new) ≡ present view old →
     (view new.port.now).areas ≡ (view old.port.now).areas → (view new.port.now).resident ≡ (view old.port.now).resident →
     Allows (view old.port.now).areas (view old.port.now).resident e.kept e → Keeps view along 1 old new
-logged view along old new e items same back areas resident one = record {
-  undone = ap (λ log. undo_all log (present view new)) items ∙ (undo_all-append old.log.items e (present view new) ∙ ap (undo_all old.log.items) back);
-  ready = λ ready. rw (items, areas, resident) (allows_one_more (view old.port.now).areas (view old.port.now).resident old.log.items e ready one);
+logged view along old new e items origin same back areas resident one = record {
+  undone = ap (λ o. restart o (undo_all new.log (present view new))) origin
+      ∙ ap (restart old.origin) (ap (λ log. undo_all log (present view new)) items ∙ (undo_all-append old.log e (present view new) ∙ ap (undo_all old.log) back));
+  ready = λ ready. rw (items, areas, resident) (allows_one_more (view old.port.now).areas (view old.port.now).resident old.log e ready one);
   room = rw items (simp length-append (omega arith));
   same = same;
 }
+
+-- a register that is put back at the end may have been anything before
+sets_over : (xs : List ℕ) (n m v w : ℕ) → slice_set (slice_set xs n v) m w ≡ slice_set (slice_set (slice_set xs m w) n v) m w
+sets_over [] n m v w = refl
+sets_over (x ∷ xs) zero zero v w = refl
+sets_over (x ∷ xs) zero (suc m) v w = ap (λ ys. v ∷ ys) (sym (set-set xs m w w))
+sets_over (x ∷ xs) (suc n) zero v w = refl
+sets_over (x ∷ xs) (suc n) (suc m) v w = ap (λ ys. x ∷ ys) (sets_over xs n m v w)
+
+abbrev with_registers : Present → List ℕ → Present
+with_registers p regs = with_state p (record p.state { core = record p.state.core { regs = regs } })
+
+restart_once : (o : Origin) (p : Present) → restart o p ≡ restart o (restart o p)
+restart_once o p = sym (ap (λ regs. with_state p (record p.state { core = record p.state.core { regs = regs; psl = o.psl } })) (set-set p.state.core.regs 15 o.pc o.pc))
+
+put_back-restart : (k : Kept) (e : Entry) (o : Origin) (p : Present) → restart o (put_back k e p) ≡ restart o (put_back k e (restart o p))
+put_back-restart kept.Register e o p = ap (λ regs. with_state p (record p.state { core = record p.state.core { regs = regs; psl = o.psl } })) (sets_over p.state.core.regs e.number 15 e.old o.pc)
+put_back-restart kept.Stack e o p = restart_once o (put_back kept.Stack e p)
+put_back-restart kept.Requests e o p = restart_once o (put_back kept.Requests e p)
+put_back-restart kept.Timer e o p = restart_once o (put_back kept.Timer e p)
+put_back-restart kept.Clock e o p = restart_once o (put_back kept.Clock e p)
+put_back-restart kept.Taken e o p = restart_once o (put_back kept.Taken e p)
+put_back-restart kept.Sent e o p = restart_once o (put_back kept.Sent e p)
+put_back-restart kept.Bytes e o p = restart_once o (put_back kept.Bytes e p)
+
+undo_all-restart : (o : Origin) (log : List Entry) (p : Present) → restart o (undo_all log p) ≡ restart o (undo_all log (restart o p))
+undo_all-restart o [] p = restart_once o p
+undo_all-restart o (e ∷ es) p =
+    put_back-restart e.kept e o (undo_all es p)
+    ∙ (ap (λ q. restart o (undo e q)) (undo_all-restart o es p) ∙ sym (put_back-restart e.kept e o (undo_all es (restart o p))))
+
+-- what is alike but for PC and the status longword is undone alike
+pub undone_alike : (o : Origin) (log : List Entry) (p q : Present) → restart o p ≡ restart o q → restart o (undo_all log p) ≡ restart o (undo_all log q)
+undone_alike o log p q h = undo_all-restart o log p ∙ (ap (λ r. restart o (undo_all log r)) h ∙ sym (undo_all-restart o log q))
+
+-- PC was set
+pub pc_set : (o : Origin) (p : Present) (v : ℕ) → restart o (with_state p (with_register p.state 15 v)) ≡ restart o p
+pc_set o p v = ap (λ regs. with_state p (record p.state { core = record p.state.core { regs = regs; psl = o.psl } })) (set-set p.state.core.regs 15 v o.pc)
+
+-- where a transaction begins, nothing is left to put back
+pub restart_here : (p : Present) → restart (record { pc = slice_index p.state.core.regs 15; psl = p.state.core.psl }) p ≡ p
+restart_here p = ap (with_registers p) (set-get_or p.state.core.regs 15 0)
 
 -- a value that was overwritten is put back
 pub set_back : (xs : List ℕ) (n v : ℕ) → slice_set (slice_set xs n v) n (slice_index xs n) ≡ xs
@@ -140,7 +185,6 @@ present_alike p q s v = ap (λ x. record { state = x; view = p.view }) s ∙ ap 
 -- undoing an entry leaves the areas and the resident pages
 put_back-areas : (k : Kept) (e : Entry) (p : Present) → (put_back k e p).view.areas ≡ p.view.areas
 put_back-areas kept.Register e p = refl
-put_back-areas kept.Status e p = refl
 put_back-areas kept.Stack e p = refl
 put_back-areas kept.Requests e p = refl
 put_back-areas kept.Timer e p = refl
@@ -151,7 +195,6 @@ put_back-areas kept.Bytes e p = refl
 
 put_back-resident : (k : Kept) (e : Entry) (p : Present) → (put_back k e p).view.resident ≡ p.view.resident
 put_back-resident kept.Register e p = refl
-put_back-resident kept.Status e p = refl
 put_back-resident kept.Stack e p = refl
 put_back-resident kept.Requests e p = refl
 put_back-resident kept.Timer e p = refl

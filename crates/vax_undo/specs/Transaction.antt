@@ -9,8 +9,9 @@ use Rattle.vax_flat.specs.Port.{View, first_absent, with_number}
 use Rattle.vax_flat.specs.OverPort.{Present}
 use Rattle.vax_undo.specs.declared.entry.Entry.{Entry}
 use Rattle.vax_undo.specs.declared.entry.Kept.{Kept}
-use Rattle.vax_undo.specs.declared.entry.Kept.TheVariants.{Register, Status, Stack, Requests, Timer, Clock, Taken, Sent, Bytes}
+use Rattle.vax_undo.specs.declared.entry.Kept.TheVariants.{Register, Stack, Requests, Timer, Clock, Taken, Sent, Bytes}
 use Rattle.vax_undo.specs.declared.term.Term.{Term}
+use Rattle.vax_undo.specs.declared.txn.Origin.{Origin}
 use Rattle.vax_undo.specs.declared.txn.Txn.{Txn as Transaction}
 
 -- registers and console as an instruction sees them
@@ -37,7 +38,6 @@ after_take s = if_some (next_byte s) s (with_taken s (s.taken + 1))
 -- the old value of an entry is put back
 abbrev pub put_back : Kept → Entry → Present → Present
 put_back Register e p = with_state p (with_register p.state e.number e.old)
-put_back Status e p = with_state p (with_psl p.state (record { 0 = e.old }))
 put_back Stack e p = with_state p (with_stack p.state e.number e.old)
 put_back Requests e p = with_state p (with_requests p.state e.old)
 put_back Timer e p = with_state p (with_timer p.state e.old)
@@ -54,10 +54,13 @@ abbrev pub undo_all : List Entry → Present → Present
 undo_all [] p = p
 undo_all (e ∷ es) p = undo e (undo_all es p)
 
+-- PC and the status longword, which aren't logged, are put back last
+abbrev pub restart : Origin → Present → Present
+restart origin p = with_state p (with_psl (with_register p.state 15 origin.pc) origin.psl)
+
 -- what undoing an entry needs of the areas and of the resident pages: bytes are put back where the mode may write and the pages are there
 abbrev pub Allows : List Area → (ℕ → Bool) → Kept → Entry → Type 0
 Allows areas resident Register e = (e.number < 16) × (e.old < 2 ^ 32)
-Allows areas resident Status e = e.old < 2 ^ 32
 Allows areas resident Stack e = (e.number < 5) × (e.old < 2 ^ 32)
 Allows areas resident Requests e = e.old < 2 ^ 16
 Allows areas resident Timer e = e.old < 2 ^ 8
@@ -79,15 +82,15 @@ module _ {P : Type 0} where
 
   -- what comes out when the log is undone
   abbrev pub undone : (P → View) → Transaction P → Present
-  undone view t = undo_all t.log.items (present view t)
+  undone view t = restart t.origin (undo_all t.log (present view t))
 
   -- how many more entries the log takes
   abbrev pub room : Transaction P → ℕ
-  room t = 96 - length t.log.items
+  room t = 96 - length t.log
 
   -- the log can be undone
   abbrev pub IsReady : (P → View) → Transaction P → Type 0
-  IsReady view t = AllowsAll (view t.port.now).areas (view t.port.now).resident t.log.items
+  IsReady view t = AllowsAll (view t.port.now).areas (view t.port.now).resident t.log
 
   -- the transaction is over the same registers, console and port, and the console's input is as it was
   pub record IsSame (along : P → P → Type 0) (old new : Transaction P) : Type 0 where
@@ -99,7 +102,7 @@ module _ {P : Type 0} where
 
   -- A call leaves the transaction so that undoing its log gives what it gave before, and used at most so many entries.
   pub record Keeps (view : P → View) (along : P → P → Type 0) (count : ℕ) (old new : Transaction P) : Type 0 where
-    pub undone : undo_all new.log.items (present view new) ≡ undo_all old.log.items (present view old)
+    pub undone : restart new.origin (undo_all new.log (present view new)) ≡ restart old.origin (undo_all old.log (present view old))
     pub ready : IsReady view old → IsReady view new
     pub room : room old ≤ room new + count
     pub same : IsSame along old new

@@ -6,6 +6,7 @@
 
 mod block;
 mod entry;
+mod log;
 mod plain;
 mod port;
 mod term;

@@ -93,7 +93,7 @@ impl Plain {
     ghost use Rattle.vax_space.specs.Reference.{page_of};
     ghost use Rattle.vax_flat.specs.Memory.{bytes_from};
     ghost use Rattle.vax_flat.specs.Memory.{number, byte_at};
-    ghost use Rattle.vax_flat.specs.Port.{StandsFor, first_absent, loaded_by, stop_of, unless_cut, with_run, with_number};
+    ghost use Rattle.vax_flat.specs.Port.{StandsFor, first_absent, loaded, loaded_by, stop, stop_of, stored, unless_cut, with_run, with_number};
     ghost use Rattle.vax_flat.specs.Start.{start_memory};
     ghost use Rattle.vax_space.specs.Areas.{area_of};
     ghost use Rattle.vax_undo.specs.Answers.{err_of};
@@ -196,6 +196,50 @@ impl Plain {
         Ok(())
     }
 
+    /// Reads any number: one that may not be read, lies in an absent page or goes on in the next page.
+    #[cold]
+    fn read_slowly(&self, addr: u32, n: u32, mode: u8) -> Result<u64, Stop>
+        requires some { 1 ≤ n }
+        requires few { n ≤ 8 }
+        requires of_mode { mode ≤ 3 }
+        ensures { result ≡ loaded (view_of self.now) addr n mode }
+    {
+        if let Err(violation) = self.space.check(addr, n, mode, Access::Read) {
+            return Err(Stop::Violated(violation));
+        }
+        if addr % PAGE_BYTES + n > PAGE_BYTES {
+            return self.read_apart(addr, n);
+        }
+        match self.part(addr, n) {
+            Some(bytes) => Ok(number_of(bytes)),
+            None => Err(Stop::NotResident(addr / PAGE_BYTES)),
+        }
+    }
+
+    /// Writes any number: one that may not be written, lies in an absent page or goes on in the next page.
+    #[cold]
+    fn write_slowly(&mut self, addr: u32, n: u32, value: u64, mode: u8) -> Result<(), Stop>
+        requires some { 1 ≤ n }
+        requires few { n ≤ 8 }
+        requires of_mode { mode ≤ 3 }
+        ensures answer { err_of result ≡ stop (view_of self.old) addr n mode Access.Write }
+        ensures stored { view_of self.new ≡ stored (view_of self.old) addr n value mode }
+    {
+        if let Err(violation) = self.space.check(addr, n, mode, Access::Write) {
+            return Err(Stop::Violated(violation));
+        }
+        if addr % PAGE_BYTES + n > PAGE_BYTES {
+            return self.write_apart(addr, n, value);
+        }
+        match self.owner(addr / PAGE_BYTES) {
+            Some(owner) => {
+                self.put_value(owner, addr, n, value);
+                Ok(())
+            }
+            None => Err(Stop::NotResident(addr / PAGE_BYTES)),
+        }
+    }
+
     /// Makes a page absent, if it is resident.
     pub fn hide(&mut self, page: u32)
         ensures { view_of self.new ≡ with_page (view_of self.old) page false }
@@ -259,32 +303,28 @@ impl Port for Plain {
 
     #[inline]
     fn read(&mut self, addr: u32, n: u32, mode: u8) -> Result<u64, Stop> {
-        if let Err(violation) = self.space.check(addr, n, mode, Access::Read) {
-            return Err(Stop::Violated(violation));
+        if self.space.is_free_page(addr, n, mode, Access::Read) {
+            if let Some(bytes) = self.part(addr, n) {
+                return Ok(number_of(bytes));
+            }
         }
-        if addr % PAGE_BYTES + n > PAGE_BYTES {
-            return self.read_apart(addr, n);
-        }
-        match self.part(addr, n) {
-            Some(bytes) => Ok(number_of(bytes)),
-            None => Err(Stop::NotResident(addr / PAGE_BYTES)),
+        match self.read_slowly(addr, n, mode) {
+            Ok(value) => Ok(value),
+            Err(stop) => Err(stop),
         }
     }
 
     #[inline]
     fn write(&mut self, addr: u32, n: u32, value: u64, mode: u8) -> Result<(), Stop> {
-        if let Err(violation) = self.space.check(addr, n, mode, Access::Write) {
-            return Err(Stop::Violated(violation));
-        }
-        if addr % PAGE_BYTES + n > PAGE_BYTES {
-            return self.write_apart(addr, n, value);
-        }
-        match self.owner(addr / PAGE_BYTES) {
-            Some(owner) => {
+        if self.space.is_free_page(addr, n, mode, Access::Write) {
+            if let Some(owner) = self.owner(addr / PAGE_BYTES) {
                 self.put_value(owner, addr, n, value);
-                Ok(())
+                return Ok(());
             }
-            None => Err(Stop::NotResident(addr / PAGE_BYTES)),
+        }
+        match self.write_slowly(addr, n, value, mode) {
+            Ok(()) => Ok(()),
+            Err(stop) => Err(stop),
         }
     }
 

@@ -3,21 +3,41 @@ ghost use Rattle.std.specs.Prelude.{◌≡◌, ℕ, ◌+◌, ◌%◌, ◌^◌, �
 ghost use Rattle.vax_undo.specs.Answers.{err_of};
 
 use crate::entry::{Entry, Kept};
+use crate::log::Log;
 use crate::port::Port;
 use crate::term::Term;
-use arrayvec::ArrayVec;
 use vax_flat::Stop;
 use vax_space::{Access, Violation};
 use vax_word::{Core, Psl};
 
 /// Work on the registers, the console and a port, with a log of the old values of all that it changed.
 ///
-/// A transaction ends by [`Txn::commit`] or by [`Txn::unwind`]. Its log takes 96 entries; a call that changes something takes one.
+/// A transaction ends by [`Txn::commit`] or by [`Txn::unwind`]. Its log takes 96 entries; a call that changes something takes at most one.
 pub struct Txn<'a, P: Port> {
     core: &'a mut Core,
     term: &'a mut Term,
     port: &'a mut P,
-    log: ArrayVec<Entry, 96>,
+    log: Log,
+    origin: Origin,
+}
+
+/// PC and the status longword as they were at the start. Every instruction changes both, so they are kept here and not in the log.
+#[derive(Clone, Copy)]
+pub(crate) struct Origin {
+    pub(crate) pc: u32,
+    pub(crate) psl: Psl,
+}
+
+ghost use Rattle.vax_undo.specs.declared.txn.Origin.{Origin};
+
+#[inline]
+fn origin_of(core: &Core) -> Origin
+    ensures { result ≡ record { pc = slice_index core.now.regs 15; psl = core.now.psl } }
+{
+    Origin {
+        pc: register_of(core, 15),
+        psl: core.psl,
+    }
 }
 
 /// A register behind a shared reference.
@@ -50,7 +70,6 @@ fn put_back<P: Port>(entry: Entry, core: &mut Core, term: &mut Term, port: &mut 
 {
     match entry.kept {
         Kept::Register => core.regs[entry.number as usize] = entry.old as u32,
-        Kept::Status => core.psl = Psl(entry.old as u32),
         Kept::Stack => core.stacks[entry.number as usize] = entry.old as u32,
         Kept::Requests => core.sisr = entry.old as u16,
         Kept::Timer => core.iccs = entry.old as u8,
@@ -84,11 +103,13 @@ impl<'a, P: Port> Txn<'a, P> {
         ensures room { room result ≡ 96 }
         ensures ready { IsReady P.view result }
     {
+        let origin = origin_of(core);
         Txn {
             core,
             term,
             port,
-            log: ArrayVec::new(),
+            log: Log::new(),
+            origin,
         }
     }
 
@@ -109,9 +130,13 @@ impl<'a, P: Port> Txn<'a, P> {
         ensures present { present P.view self.new ≡ with_state (present P.view self.old) (with_register (present P.view self.old).state n v) }
         ensures keeps { Keeps P.view P.since 1 self.old self.new }
     {
+        if n == 15 {
+            self.core.regs[15] = v;
+            return;
+        }
         let old = register_of(self.core, n);
-        self.log.push(Entry::of(Kept::Register, n, old as u64));
         self.core.regs[n as usize] = v;
+        self.log.push(Entry::of(Kept::Register, n, old as u64));
     }
 
     /// The processor status longword.
@@ -128,8 +153,6 @@ impl<'a, P: Port> Txn<'a, P> {
         ensures present { present P.view self.new ≡ with_state (present P.view self.old) (with_psl (present P.view self.old).state v) }
         ensures keeps { Keeps P.view P.since 1 self.old self.new }
     {
-        self.log
-            .push(Entry::of(Kept::Status, 0, self.core.psl.0 as u64));
         self.core.psl = v;
     }
 
@@ -278,12 +301,15 @@ impl<'a, P: Port> Txn<'a, P> {
         ensures present { present P.view self.new ≡ with_view (present P.view self.old) (stored (present P.view self.old).view addr n value mode) }
         ensures keeps { Keeps P.view P.since 1 self.old self.new }
     {
-        if let Err(violation) = self.port.check(addr, n, mode, Access::Write) {
-            return Err(Stop::Violated(violation));
-        }
         let old = match self.port.read(addr, n, mode) {
             Ok(old) => old,
-            Err(stop) => return Err(stop),
+            Err(stop) => {
+                // A range that may not be written is told before a page that is absent.
+                if let Err(violation) = self.port.check(addr, n, mode, Access::Write) {
+                    return Err(Stop::Violated(violation));
+                }
+                return Err(stop);
+            }
         };
         match self.port.write(addr, n, value, mode) {
             Ok(()) => {
@@ -344,6 +370,7 @@ impl<'a, P: Port> Txn<'a, P> {
         ensures same { IsSame P.since self.old self.new }
     {
         self.log.clear();
+        self.origin = origin_of(self.core);
         let sent = self.term.out;
         self.term.out = None;
         sent
@@ -362,6 +389,7 @@ impl<'a, P: Port> Txn<'a, P> {
             term,
             port: _,
             log: _,
+            origin: _,
         } = self;
         let sent = term.out;
         term.out = None;
@@ -381,9 +409,12 @@ impl<'a, P: Port> Txn<'a, P> {
             term,
             port,
             mut log,
+            origin,
         } = self;
         while let Some(entry) = log.pop() {
             put_back(entry, core, term, port);
         }
+        core.regs[15] = origin.pc;
+        core.psl = origin.psl;
     }
 }

@@ -1,10 +1,7 @@
-use Rattle.std.proofs.Common.{◌≡◌, Option, length, arith, sym, ap, ◌∙◌}
+use Rattle.std.proofs.Common.{◌≡◌, length, arith, sym, ap, ◌∙◌}
 use Rattle.vax_space.specs.declared.Access.TheVariants.{Read}
-use Rattle.vax_flat.specs.declared.Stop.{Stop}
-use Rattle.vax_flat.specs.Memory.{number}
-use Rattle.vax_flat.specs.Port.{loaded_by}
 use Rattle.vax_undo.specs.Plain.{view_of}
-use Rattle.vax_undo.proofs.Accesses.{fine, gone, read_number}
+use Rattle.vax_undo.proofs.Accesses.{fine, read_number}
 use Rattle.vax_undo.proofs.Ranges.{bytes_length}
 use Rattle.vax_undo.proofs.plain.PlainPort.read.Goals as goal
 
@@ -20,9 +17,5 @@ number_of-requires-clause-few c =
 
 pub returns-in-Some-clause-answer : goal.returns-in-Some-clause-answer
 returns-in-Some-clause-answer c =
-    let free = (fine (view_of c.args.self.now) c.args.addr c.args.n c.args.mode Read c.in_default.ensures.answer c.ranges.addr.fits c.if-addr-n-gt-PAGE_BYTES.false (sym c.in-Some.ensures.resident)) in
+    let free = (fine (view_of c.args.self.now) c.args.addr c.args.n c.args.mode Read (sym (c.is_free_page.ensures.free c.if-is_free_page.true)) c.ranges.addr.fits (c.is_free_page.ensures.one_page c.if-is_free_page.true) (sym c.in-Some.ensures.resident)) in
     read_number (view_of c.args.self.now) c.args.addr c.args.n c.args.mode _ c.in-Some.bytes.now free c.number_of.ensures.value c.in-Some.ensures.bytes
-
-pub returns-in-None-clause-answer : goal.returns-in-None-clause-answer
-returns-in-None-clause-answer c =
-    sym (ap (λ (s : Option Stop). loaded_by s (number (view_of c.args.self.now).byte c.args.addr c.args.n)) (gone (view_of c.args.self.now) c.args.addr c.args.n c.args.mode Read c.in_default.ensures.answer c.requires.some (sym c.in-None.ensures.resident)))
