@@ -34,13 +34,13 @@ allows_one_more areas resident (x ∷ xs) e all one = (all.0, allows_one_more ar
 
 -- one more entry, which undoes what was done
 pub logged : {P : Type 0} (view : P → View) (along : P → P → Type 0) (old new : Transaction P) (e : Entry) →
-    new.log ≡ old.log ++ e ∷ [] → new.origin ≡ old.origin → IsSame along old new → undo e (present view new) ≡ present view old →
+    new.log.items ≡ old.log.items ++ e ∷ [] → new.origin ≡ old.origin → IsSame along old new → undo e (present view new) ≡ present view old →
     (view new.port.now).areas ≡ (view old.port.now).areas → (view new.port.now).resident ≡ (view old.port.now).resident →
     Allows (view old.port.now).areas (view old.port.now).resident e.kept e → Keeps view along 1 old new
 logged view along old new e items origin same back areas resident one = record {
-  undone = ap (λ o. restart o (undo_all new.log (present view new))) origin
-      ∙ ap (restart old.origin) (ap (λ log. undo_all log (present view new)) items ∙ (undo_all-append old.log e (present view new) ∙ ap (undo_all old.log) back));
-  ready = λ ready. rw (items, areas, resident) (allows_one_more (view old.port.now).areas (view old.port.now).resident old.log e ready one);
+  undone = ap (λ o. restart o (undo_all new.log.items (present view new))) origin
+      ∙ ap (restart old.origin) (ap (λ log. undo_all log (present view new)) items ∙ (undo_all-append old.log.items e (present view new) ∙ ap (undo_all old.log.items) back));
+  ready = λ ready. rw (items, areas, resident) (allows_one_more (view old.port.now).areas (view old.port.now).resident old.log.items e ready one);
   room = rw items (simp length-append (omega arith));
   same = same;
 }

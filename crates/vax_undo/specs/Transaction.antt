@@ -82,15 +82,15 @@ module _ {P : Type 0} where
 
   -- what comes out when the log is undone
   abbrev pub undone : (P → View) → Transaction P → Present
-  undone view t = restart t.origin (undo_all t.log (present view t))
+  undone view t = restart t.origin (undo_all t.log.items (present view t))
 
   -- how many more entries the log takes
   abbrev pub room : Transaction P → ℕ
-  room t = 96 - length t.log
+  room t = 96 - length t.log.items
 
   -- the log can be undone
   abbrev pub IsReady : (P → View) → Transaction P → Type 0
-  IsReady view t = AllowsAll (view t.port.now).areas (view t.port.now).resident t.log
+  IsReady view t = AllowsAll (view t.port.now).areas (view t.port.now).resident t.log.items
 
   -- the transaction is over the same registers, console and port, and the console's input is as it was
   pub record IsSame (along : P → P → Type 0) (old new : Transaction P) : Type 0 where
@@ -102,7 +102,7 @@ module _ {P : Type 0} where
 
   -- A call leaves the transaction so that undoing its log gives what it gave before, and used at most so many entries.
   pub record Keeps (view : P → View) (along : P → P → Type 0) (count : ℕ) (old new : Transaction P) : Type 0 where
-    pub undone : restart new.origin (undo_all new.log (present view new)) ≡ restart old.origin (undo_all old.log (present view old))
+    pub undone : restart new.origin (undo_all new.log.items (present view new)) ≡ restart old.origin (undo_all old.log.items (present view old))
     pub ready : IsReady view old → IsReady view new
     pub room : room old ≤ room new + count
     pub same : IsSame along old new

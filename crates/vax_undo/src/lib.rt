@@ -6,7 +6,6 @@
 
 mod block;
 mod entry;
-mod log;
 mod plain;
 mod port;
 mod term;

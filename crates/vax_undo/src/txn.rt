@@ -1,11 +1,11 @@
 //! Transactions.
-ghost use Rattle.std.specs.Prelude.{◌≡◌, ℕ, ◌+◌, ◌%◌, ◌^◌, ◌<◌, ◌≤◌, None, Some, length, slice_index, IfOk, OnOk, OnErr};
+ghost use Rattle.std.specs.Prelude.{◌≡◌, ℕ, ◌+◌, ◌%◌, ◌^◌, ◌<◌, ◌≤◌, None, Some, [], length, slice_index, IfOk, OnOk, OnErr};
 ghost use Rattle.vax_undo.specs.Answers.{err_of};
 
 use crate::entry::{Entry, Kept};
-use crate::log::Log;
 use crate::port::Port;
 use crate::term::Term;
+use arrayvec::ArrayVec;
 use vax_flat::Stop;
 use vax_space::{Access, Violation};
 use vax_word::{Core, Psl};
@@ -17,7 +17,7 @@ pub struct Txn<'a, P: Port> {
     core: &'a mut Core,
     term: &'a mut Term,
     port: &'a mut P,
-    log: Log,
+    log: ArrayVec<Entry, 96>,
     origin: Origin,
 }
 
@@ -56,6 +56,14 @@ fn stack_of(core: &Core, i: u8) -> u32
     ensures { result ≡ slice_index core.now.stacks i }
 {
     core.stacks[i as usize]
+}
+
+/// Takes a log back to empty. It has one or two entries as a rule, so nothing is filled.
+#[inline]
+fn forget(log: &mut ArrayVec<Entry, 96>)
+    ensures { log.new.items ≡ [] }
+{
+    while log.pop().is_some() {}
 }
 
 ghost use Rattle.vax_undo.specs.Transaction.{state_of, undo, Allows};
@@ -108,7 +116,7 @@ impl<'a, P: Port> Txn<'a, P> {
             core,
             term,
             port,
-            log: Log::new(),
+            log: ArrayVec::new(),
             origin,
         }
     }
@@ -369,7 +377,7 @@ impl<'a, P: Port> Txn<'a, P> {
         ensures ready { IsReady P.view self.new }
         ensures same { IsSame P.since self.old self.new }
     {
-        self.log.clear();
+        forget(&mut self.log);
         self.origin = origin_of(self.core);
         let sent = self.term.out;
         self.term.out = None;

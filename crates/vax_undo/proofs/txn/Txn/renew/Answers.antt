@@ -7,4 +7,4 @@ use Rattle.vax_undo.proofs.txn.Txn.renew.Goals as goal
 pub returns-clause-undone : goal.returns-clause-undone
 returns-clause-undone g c =
     let before = present g.P.Port.view c.args.self.now in
-    rw (c.clear.ensures, c.origin_of-self.ensures) (restart_here (with_state before (with_sent before.state None)))
+    rw (c.forget.ensures, c.origin_of-self.ensures) (restart_here (with_state before (with_sent before.state None)))

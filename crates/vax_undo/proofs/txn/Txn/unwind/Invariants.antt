@@ -5,11 +5,11 @@ use Rattle.vax_undo.proofs.txn.Txn.unwind.Given as goal
 -- what is left of the log, undone from here, gives what the whole log gives from the start
 abbrev pub invariant-loop-entry : goal.invariant-loop-entry
 invariant-loop-entry g l = record {
-  undone : undo_all l.log (record { state = state_of l.core l.term; view = g.P.Port.view l.port }) ≡ undo_all l.fn.self.log (present g.P.Port.view l.fn.self);
-  ready : AllowsAll (g.P.Port.view l.port).areas (g.P.Port.view l.port).resident l.log;
+  undone : undo_all l.log.items (record { state = state_of l.core l.term; view = g.P.Port.view l.port }) ≡ undo_all l.fn.self.log.items (present g.P.Port.view l.fn.self);
+  ready : AllowsAll (g.P.Port.view l.port).areas (g.P.Port.view l.port).resident l.log.items;
   input : l.term.input ≡ l.fn.self.term.now.input;
   since : (start : _) → g.P.Port.since start l.fn.self.port.now → g.P.Port.since start l.port;
 }
 
 abbrev pub decreases-loop-entry : goal.decreases-loop-entry
-decreases-loop-entry g l = length l.log
+decreases-loop-entry g l = length l.log.items
