@@ -7,5 +7,6 @@ pub mod Joined
 pub mod Runs
 pub mod Specifiers
 pub mod Sequences
+pub mod Listed
 pub mod Worked
 pub mod Fronts

@@ -8,6 +8,7 @@ use Rattle.vax_isa.specs.Rows.{with_opcode}
 use Rattle.vax_flat.specs.declared.Exception.TheVariants.{Mode}
 use Rattle.vax_flat.specs.declared.Operand.{Operand}
 use Rattle.vax_flat.specs.declared.Operand.TheVariants as operand
+use Rattle.vax_flat.specs.declared.Flow.{Flow}
 use Rattle.vax_flat.specs.Memory.{byte_at, bytes_from}
 use Rattle.vax_flat.specs.State.{State, register, with_register}
 use Rattle.vax_flat.specs.Accesses.{Accesses, Raises, Leaf}
@@ -127,3 +128,8 @@ pub record AreAhead (memory : List Area) (s : State) (bytes : List ℕ) : Type 0
 pub record DoSame (memory : List Area) (tree other : Accesses Leaf) : Type 0 where
   pub outcome : outcome_of tree memory ≡ outcome_of other memory
   pub touches : touches_of tree memory ≡ touches_of other memory
+
+-- a tree that goes from operand to operand of these kinds, and behind the last has a part of its own
+pub record Takes (kinds : List OperandKind) (tree : State → (Flow → State → Accesses Leaf) → Accesses Leaf) : Type 0 where
+  pub rest : List (Operand × ℕ) → State → (Flow → State → Accesses Leaf) → Accesses Leaf
+  pub takes : (s : State) (next : Flow → State → Accesses Leaf) → tree s next ≡ next_operands kinds s (λ xs s. rest xs s next)

@@ -1,17 +1,21 @@
 //! The laws of the flat machine, each the contract of a call that does nothing.
-ghost use Rattle.std.specs.Prelude.{◌≡◌, ℕ, ◌≤◌, Bool, Some, IsSome, List, [], ◌∷◌, ◌++◌, length};
+ghost use Rattle.std.specs.Prelude.{◌≡◌, ℕ, ◌≤◌, Bool, Some, IsSome, IfSome, List, [], ◌∷◌, ◌++◌, length};
 ghost use Rattle.vax_space.specs.declared.Area.{Area};
 ghost use Rattle.vax_flat.specs.Accesses.{Accesses, Leaf};
 ghost use Rattle.vax_flat.specs.Port.{View, StandsFor};
 ghost use Rattle.vax_flat.specs.Outcome.{Range, first_missing, or_else, outcome_of, touches_of};
 ghost use Rattle.vax_flat.specs.OverPort.{Agrees, over_port};
 ghost use Rattle.vax_isa.specs.declared.OperandKind.{OperandKind};
+ghost use Rattle.vax_isa.specs.declared.actions.Action.{Action};
+ghost use Rattle.vax_isa.specs.Actions.{operands_of};
 ghost use Rattle.vax_isa.specs.Instructions.{Instruction};
 ghost use Rattle.vax_flat.specs.declared.Operand.{Operand};
+ghost use Rattle.vax_flat.specs.declared.Flow.{Flow};
 ghost use Rattle.vax_flat.specs.State.{State};
 ghost use Rattle.vax_flat.specs.Operand.{next_operand};
+ghost use Rattle.vax_flat.specs.Instruction.{acted, instruction};
 ghost use Rattle.vax_flat.specs.Grammar.{Specifier, Reading, Reads, Sequence, IsInstruction, read_operand, read_operands};
-ghost use Rattle.vax_flat.specs.Evaluation.{AreAhead, DoSame, comes_to, all_come_to, passed, next_operands, next_instruction};
+ghost use Rattle.vax_flat.specs.Evaluation.{AreAhead, DoSame, Takes, comes_to, all_come_to, passed, next_operands, next_instruction};
 
 /// The first absent page of two lists of ranges joined is the first list's, and where this has none, the second's.
 pub fn joined_ranges()
@@ -30,6 +34,14 @@ pub fn grammar_agrees()
     ensures operand { (kind : OperandKind) → (memory : List Area) → (s : State) → (bytes : List ℕ) → (reading : Reading) → (next : Operand → State → Accesses Leaf) → AreAhead memory s bytes → read_operand kind bytes ≡ Some reading → DoSame memory (next_operand kind s next) (comes_to kind reading s next) }
     ensures operands { (kinds : List OperandKind) → (memory : List Area) → (s : State) → (bytes : List ℕ) → (sequence : Sequence) → (next : List (Operand × ℕ) → State → Accesses Leaf) → AreAhead memory s bytes → read_operands kinds bytes ≡ Some sequence → DoSame memory (next_operands kinds s next) (all_come_to sequence s next) }
     ensures instruction { (memory : List Area) → (s : State) → (bytes : List ℕ) → (row : Instruction) → (operands : Sequence) → (count : ℕ) → (next : List (Operand × ℕ) → State → Accesses Leaf) → AreAhead memory s bytes → IsInstruction bytes row operands count → DoSame memory (next_instruction s next) (passed (1 ∷ []) s (λ t. all_come_to operands t next)) }
+{}
+
+/// Every action that is built takes the operands that `operands_of` gives it, in order, and then does a part of its own on what they came to. So
+/// where the bytes at PC are an instruction whose action takes its row's operands, the machine does what these come to as the grammar reads them,
+/// and then that part.
+pub fn operands_are_listed()
+    ensures listed { (action : Action) → IfSome (operands_of action) (λ kinds. Takes kinds (acted action)) }
+    ensures instruction { (memory : List Area) → (s : State) → (bytes : List ℕ) → (row : Instruction) → (operands : Sequence) → (count : ℕ) → (takes : Takes row.operands (acted row.action)) → (next : Flow → State → Accesses Leaf) → AreAhead memory s bytes → IsInstruction bytes row operands count → DoSame memory (instruction s next) (passed (1 ∷ []) s (λ t. all_come_to operands t (λ xs u. takes.rest xs u next))) }
 {}
 
 /// A reading rests on the bytes at the front alone: it stays with more bytes behind, takes no more than there are, and nine bytes are enough

@@ -8,7 +8,9 @@
 
 mod laws;
 
-pub use crate::laws::{arrival_agrees, grammar_agrees, grammar_reads, joined_ranges};
+pub use crate::laws::{
+    arrival_agrees, grammar_agrees, grammar_reads, joined_ranges, operands_are_listed,
+};
 use vax_space::Violation;
 
 /// What interrupts an instruction (VAX Architecture Reference Manual, exceptions and interrupts).

@@ -1,0 +1,141 @@
+-- The operands that an action takes are those that its instruction lists: its tree goes from one to the next, and then does its own part.
+use Rattle.std.proofs.Common.{◌≡◌, ℕ, ◌%◌, false, List, [], ◌∷◌, refl, arith}
+use Rattle.std.specs.Prelude.{◌==◌, if◌then◌else◌, slice_index_or, IfSome}
+use Rattle.std.specs.Int.Bits.{bit_and}
+use Rattle.vax_space.specs.declared.Area.{Area}
+use Rattle.vax_word.specs.declared.Size.TheVariants.{B, L}
+use Rattle.vax_word.specs.Arithmetic.{bytes_of, signed, compared, answer, sum, difference, shifted, extended_product, extended_quotient}
+use Rattle.vax_word.specs.Status.{codes_of}
+use Rattle.vax_isa.specs.declared.actions.Action.{Action}
+use Rattle.vax_isa.specs.declared.actions.Action.TheVariants as action
+use Rattle.vax_isa.specs.declared.actions.Integer.{Integer}
+use Rattle.vax_isa.specs.declared.actions.Integer.TheVariants as integer
+use Rattle.vax_isa.specs.declared.actions.Control.{Control}
+use Rattle.vax_isa.specs.declared.actions.Control.TheVariants as control
+use Rattle.vax_isa.specs.Actions.{size_of, of_integer, of_control, operands_of}
+use Rattle.vax_isa.specs.Instructions.{Instruction}
+use Rattle.vax_isa.specs.Rows.{action_of}
+use Rattle.vax_flat.specs.declared.Operand.{Operand}
+use Rattle.vax_flat.specs.declared.Operand.TheVariants as operand
+use Rattle.vax_flat.specs.declared.Flow.{Flow}
+use Rattle.vax_flat.specs.declared.Flow.TheVariants.{Done}
+use Rattle.vax_flat.specs.State.{State, with_conditions}
+use Rattle.vax_flat.specs.Accesses.{Accesses, Leaf}
+use Rattle.vax_flat.specs.Rows.{read_value, modify_value, write_place, address_value, branch_target, address_in, stored, settled, answered, carry_of}
+use Rattle.vax_flat.specs.Integer.{of_one, of_two, is_by_zero, rotated, unary, two, three, by_one, clear, test, compare, bit_test, shift, rotate, move_address, pushed_result, push_address, push, extended_multiply, extended_divide, subscript_flow, index_of, index, performed as integer_performed}
+use Rattle.vax_flat.specs.Control.{holds, compares, jumped, jumped_if, branch, called, branch_subroutine, jump, jump_subroutine, return_subroutine, low_bit, looped, add_one, subtract_one, within, add_compare, chosen, case_of, performed as control_performed}
+use Rattle.vax_flat.specs.Instruction.{halt, acted, acted_if, instruction}
+use Rattle.vax_flat.specs.Grammar.{Sequence, IsInstruction}
+use Rattle.vax_flat.specs.Evaluation.{past, passed, taken, all_come_to, next_operands, AreAhead, DoSame, Takes}
+use Rattle.vax_flat.proofs.Specifiers.{ahead_past, same_first}
+use Rattle.vax_flat.proofs.Sequences.{operands_agree}
+
+-- an operand that was taken, by its place in the list
+abbrev place : ℕ → List (Operand × ℕ) → Operand
+place k xs = (slice_index_or xs k (operand.Value 0, 0)).0
+
+-- its value
+abbrev value : ℕ → List (Operand × ℕ) → ℕ
+value k xs = (slice_index_or xs k (operand.Value 0, 0)).1
+
+-- where it is in memory, or where it goes
+abbrev target : ℕ → List (Operand × ℕ) → ℕ
+target k xs = address_in (place k xs)
+
+abbrev Rest : Type 0
+Rest = List (Operand × ℕ) → State → (Flow → State → Accesses Leaf) → Accesses Leaf
+
+-- what an integer instruction does behind its last operand
+unfoldable of_integers : Integer → Rest
+of_integers (integer.Unary operation from to) xs s next =
+    answered (bytes_of to) (place 1 xs) false (of_one operation from to (value 0 xs) (carry_of s)) s next
+of_integers (integer.Two operation size) xs s next =
+    answered (bytes_of (size_of size)) (place 1 xs) (is_by_zero operation (value 0 xs)) (of_two operation (size_of size) (value 0 xs) (value 1 xs) (carry_of s)) s next
+of_integers (integer.Three operation size) xs s next =
+    answered (bytes_of (size_of size)) (place 2 xs) (is_by_zero operation (value 0 xs)) (of_two operation (size_of size) (value 0 xs) (value 1 xs) (carry_of s)) s next
+of_integers (integer.ByOne operation size) xs s next =
+    answered (bytes_of (size_of size)) (place 0 xs) (is_by_zero operation 1) (of_two operation (size_of size) 1 (value 0 xs) (carry_of s)) s next
+of_integers (integer.Clear size) xs s next = answered (bytes_of size) (place 0 xs) false (answer size 0 false (carry_of s)) s next
+of_integers (integer.Test size) xs s next = settled false (answer (size_of size) (value 0 xs) false false).1 s next
+of_integers (integer.Compare size) xs s next = settled false (compared (size_of size) (value 0 xs) (value 1 xs)) s next
+of_integers (integer.BitTest size) xs s next =
+    settled false (answer (size_of size) (bit_and (value 1 xs) (value 0 xs)) false (carry_of s)).1 s next
+of_integers (integer.Shift size) xs s next =
+    answered (bytes_of size) (place 2 xs) false (shifted size (signed B (value 0 xs)) (value 1 xs)) s next
+of_integers integer.Rotate xs s next = answered 4 (place 2 xs) false (answer L (rotated (value 0 xs) (value 1 xs)) false (carry_of s)) s next
+of_integers (integer.MoveAddress size) xs s next = answered 4 (place 1 xs) false (answer L (target 0 xs) false (carry_of s)) s next
+of_integers (integer.PushAddress size) xs s next = pushed_result (target 0 xs) s next
+of_integers integer.Push xs s next = pushed_result (value 0 xs) s next
+of_integers integer.ExtendedMultiply xs s next =
+    answered 8 (place 3 xs) false (extended_product (value 0 xs) (value 1 xs) (value 2 xs)) s next
+of_integers integer.ExtendedDivide xs s next =
+    stored 4 (place 2 xs) (extended_quotient (value 0 xs) (value 1 xs)).0 s (λ s.
+    stored 4 (place 3 xs) (extended_quotient (value 0 xs) (value 1 xs)).1 s (λ s.
+    settled (value 0 xs == 0) (extended_quotient (value 0 xs) (value 1 xs)).2 s next))
+of_integers integer.Index xs s next =
+    stored 4 (place 5 xs) (index_of (value 0 xs) (value 3 xs) (value 4 xs)) s (λ s.
+    next (subscript_flow (value 0 xs) (value 1 xs) (value 2 xs)) (with_conditions s (answer L (index_of (value 0 xs) (value 3 xs) (value 4 xs)) false false).1))
+
+-- what a control instruction does behind its last operand
+unfoldable of_controls : Control → Rest
+of_controls (control.Branch condition size) xs s next = next Done (jumped_if (holds condition (codes_of s.core.psl)) (target 0 xs) s)
+of_controls (control.BranchSubroutine size) xs s next = called (target 0 xs) s next
+of_controls control.Jump xs s next = next Done (jumped (target 0 xs) s)
+of_controls control.JumpSubroutine xs s next = called (target 0 xs) s next
+of_controls control.Return xs s next = return_subroutine s next
+of_controls (control.LowBit set) xs s next =
+    next Done (jumped_if (if set then value 0 xs % 2 == 1 else value 0 xs % 2 == 0) (target 1 xs) s)
+of_controls (control.AddOne r) xs s next =
+    looped L (place 1 xs) (sum L (value 1 xs) 1 false) (compares r (sum L (value 1 xs) 1 false).0 (value 0 xs)) (target 2 xs) s next
+of_controls (control.SubtractOne r) xs s next =
+    looped L (place 0 xs) (difference L (value 0 xs) 1 false) (compares r (difference L (value 0 xs) 1 false).0 0) (target 1 xs) s next
+of_controls (control.AddCompare size) xs s next =
+    looped (size_of size) (place 2 xs) (sum (size_of size) (value 2 xs) (value 1 xs) false) (within (size_of size) (value 1 xs) (value 0 xs) (sum (size_of size) (value 2 xs) (value 1 xs) false).0) (target 3 xs) s next
+of_controls (control.Case size) xs s next = chosen (size_of size) (difference (size_of size) (value 0 xs) (value 1 xs) false).0 (value 2 xs) s next
+
+integer_takes : (i : Integer) (s : State) (next : Flow → State → Accesses Leaf) → integer_performed i s next ≡ next_operands (of_integer i) s (λ xs s. of_integers i xs s next)
+unfolding integer_performed unary two three by_one clear test compare bit_test shift rotate move_address push_address push extended_multiply extended_divide index read_value modify_value write_place address_value next_operands taken of_integers
+integer_takes (integer.Unary operation from to) s next = refl
+integer_takes (integer.Two operation size) s next = refl
+integer_takes (integer.Three operation size) s next = refl
+integer_takes (integer.ByOne operation size) s next = refl
+integer_takes (integer.Clear size) s next = refl
+integer_takes (integer.Test size) s next = refl
+integer_takes (integer.Compare size) s next = refl
+integer_takes (integer.BitTest size) s next = refl
+integer_takes (integer.Shift size) s next = refl
+integer_takes integer.Rotate s next = refl
+integer_takes (integer.MoveAddress size) s next = refl
+integer_takes (integer.PushAddress size) s next = refl
+integer_takes integer.Push s next = refl
+integer_takes integer.ExtendedMultiply s next = refl
+integer_takes integer.ExtendedDivide s next = refl
+integer_takes integer.Index s next = refl
+
+control_takes : (c : Control) (s : State) (next : Flow → State → Accesses Leaf) → control_performed c s next ≡ next_operands (of_control c) s (λ xs s. of_controls c xs s next)
+unfolding control_performed branch branch_subroutine jump jump_subroutine low_bit add_one subtract_one add_compare case_of read_value modify_value address_value branch_target next_operands taken of_controls
+control_takes (control.Branch condition size) s next = refl
+control_takes (control.BranchSubroutine size) s next = refl
+control_takes control.Jump s next = refl
+control_takes control.JumpSubroutine s next = refl
+control_takes control.Return s next = refl
+control_takes (control.LowBit set) s next = refl
+control_takes (control.AddOne r) s next = refl
+control_takes (control.SubtractOne r) s next = refl
+control_takes (control.AddCompare size) s next = refl
+control_takes (control.Case size) s next = refl
+
+pub action_takes : (a : Action) → IfSome (operands_of a) (λ kinds. Takes kinds (acted a))
+unfolding acted next_operands
+action_takes (action.Integer i) = record { rest = of_integers i; takes = λ s next. integer_takes i s next }
+action_takes (action.Control c) = record { rest = of_controls c; takes = λ s next. control_takes c s next }
+action_takes action.Halt = record { rest = λ xs s next. halt s next; takes = λ s next. refl }
+action_takes action.Unbuilt = tt
+
+-- an instruction whose action takes the operands that its row lists
+pub listed_agrees : (memory : List Area) (s : State) (bytes : List ℕ) (row : Instruction) (operands : Sequence) (count : ℕ) (t : Takes row.operands (acted row.action)) (next : Flow → State → Accesses Leaf) → AreAhead memory s bytes → IsInstruction bytes row operands count → DoSame memory (instruction s next) (passed (1 ∷ []) s (λ u. all_come_to operands u (λ xs u. t.rest xs u next)))
+unfolding instruction acted_if action_of passed
+listed_agrees memory s bytes row operands count t next a i =
+    let ahead : AreAhead memory s (i.opcode ∷ i.rest) = rw i.split at a in
+    same_first memory s i.opcode i.rest (λ opcode u. acted_if (action_of opcode) u next) (λ u. all_come_to operands u (λ xs u. t.rest xs u next)) ahead
+    (rw (i.listed, t.takes (past 1 s) next) (operands_agree row.operands memory (past 1 s) i.rest (λ xs u. t.rest xs u next) (ahead_past memory s (i.opcode ∷ i.rest) 1 ahead (omega arith)) operands i.read))

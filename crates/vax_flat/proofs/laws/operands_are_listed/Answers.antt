@@ -1,0 +1,8 @@
+use Rattle.vax_flat.proofs.Listed.{action_takes, listed_agrees}
+use Rattle.vax_flat.proofs.laws.operands_are_listed.Goals as goal
+
+pub returns : goal.returns
+returns c = record {
+  listed = λ action. action_takes action;
+  instruction = λ memory s bytes row operands count takes next ahead is. listed_agrees memory s bytes row operands count takes next ahead is;
+}
