@@ -6,8 +6,8 @@ ghost use Rattle.vax_undo.specs.Transaction.{present, room, state_of, Keeps};
 ghost use Rattle.vax_cpu.specs.Tried.{IsTried};
 ghost use Rattle.vax_cpu.specs.Batch.{Ran};
 
-use crate::interrupt::{requested, tick};
 use crate::instruction::execute;
+use crate::interrupt::{requested, tick};
 use vax_flat::{Ending, Exception};
 use vax_operand::{Cut, Flow};
 use vax_undo::{Port, Term, Txn};

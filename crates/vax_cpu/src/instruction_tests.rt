@@ -126,13 +126,7 @@ fn left_by(alloc: Global, row: &Row) -> Result<Left, Fail> {
 }
 
 fn expected(row: &Row) -> Left {
-    (
-        Some(row.flow),
-        row.after,
-        row.pc,
-        Psl(row.psl_after),
-        true,
-    )
+    (Some(row.flow), row.after, row.pc, Psl(row.psl_after), true)
 }
 
 fn compare(rt: &impl Abort, alloc: Global, rows: &[Row]) -> Result<(), Fail> {

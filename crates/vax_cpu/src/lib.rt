@@ -4,9 +4,9 @@
 mod attempt;
 mod cpu;
 mod instruction;
-mod interrupt;
 #[cfg(test)]
 mod instruction_tests;
+mod interrupt;
 #[cfg(test)]
 mod tests;
 

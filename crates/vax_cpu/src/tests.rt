@@ -195,7 +195,9 @@ fn an_instruction_that_is_not_built(rt: HostRuntime) -> Result<(), Fail> {
 
 /// The pages of the code, which begins at 80000200 hexadecimal, and of two pages of data behind it.
 const CODE: u32 = 0x40_0001;
+
 const DATA: u32 = 0x40_0002;
+
 const MORE_DATA: u32 = 0x40_0003;
 
 /// Code and data in the system region, of which no page is resident.

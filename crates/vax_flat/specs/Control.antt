@@ -121,7 +121,7 @@ unfoldable pub chosen : Size → ℕ → ℕ → State → (Flow → State → A
 chosen size place limit s next =
     if nat_le place limit
     then read_at (plus (register s 15) (2 * place)) 2 s (λ displacement s.
-         settled false (compared size place limit) (jumped (plus (register s 15) (extended 2 displacement)) s) next)
+    settled false (compared size place limit) (jumped (plus (register s 15) (extended 2 displacement)) s) next)
     else settled false (compared size place limit) (jumped (plus (register s 15) (2 * limit + 2)) s) next
 
 -- CASE

@@ -1,6 +1,6 @@
 -- Integer arithmetic and logical instructions, and address instructions (VAX Architecture Reference Manual, instruction descriptions).
 -- One definition a shape of instruction; what it makes of its operands is named by the operation.
-use Rattle.std.specs.Prelude.{ℕ, suc, ◌+◌, ◌-◌, ◌*◌, ◌/◌, ◌%◌, ◌^◌, Bool, true, false, ◌==◌, ◌||◌, if◌then◌else◌}
+use Rattle.std.specs.Prelude.{ℕ, ◌+◌, ◌-◌, ◌*◌, ◌/◌, ◌%◌, ◌^◌, Bool, false, ◌==◌, ◌||◌, if◌then◌else◌}
 use Rattle.std.specs.Int.Bits.{bit_and, bit_or, bit_xor}
 use Rattle.vax_word.specs.declared.Codes.{Codes}
 use Rattle.vax_word.specs.declared.Size.{Size}
@@ -10,7 +10,6 @@ use Rattle.vax_isa.specs.declared.actions.Unary.{Unary}
 use Rattle.vax_isa.specs.declared.actions.Unary.TheVariants.{Move, Complement, Negate, ZeroExtend, Convert}
 use Rattle.vax_isa.specs.declared.actions.Binary.{Binary}
 use Rattle.vax_isa.specs.declared.actions.Binary.TheVariants.{Add, Subtract, Multiply, Divide, BitSet, BitClear, ExclusiveOr, AddWithCarry, SubtractWithCarry}
-use Rattle.vax_isa.specs.declared.actions.Narrow.{Narrow}
 use Rattle.vax_isa.specs.declared.actions.Integer.{Integer}
 use Rattle.vax_isa.specs.declared.actions.Integer.TheVariants as integer
 use Rattle.vax_isa.specs.Actions.{size_of}

@@ -1,5 +1,5 @@
 -- What instructions do, by the shapes that they share (VAX MACRO and Instruction Set Reference Manual, instruction descriptions).
-use Rattle.std.specs.Prelude.{ℕ, List, [], ◌∷◌, Bool, Option, Some, None}
+use Rattle.std.specs.Prelude.{List, [], ◌∷◌, Option, Some, None}
 use Rattle.vax_word.specs.declared.Size.{Size}
 use Rattle.vax_word.specs.declared.Size.TheVariants as size
 use Rattle.vax_word.specs.Arithmetic.{bytes_of}
@@ -15,7 +15,6 @@ use Rattle.vax_isa.specs.declared.actions.Binary.{Binary}
 use Rattle.vax_isa.specs.declared.actions.Integer.{Integer}
 use Rattle.vax_isa.specs.declared.actions.Integer.TheVariants as integer
 use Rattle.vax_isa.specs.declared.actions.Condition.{Condition}
-use Rattle.vax_isa.specs.declared.actions.Relation.{Relation}
 use Rattle.vax_isa.specs.declared.actions.Control.{Control}
 use Rattle.vax_isa.specs.declared.actions.Control.TheVariants as control
 

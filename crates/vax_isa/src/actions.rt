@@ -74,11 +74,20 @@ pub enum Integer {
         to: Size,
     },
     /// ADDx2, SUBx2, MULx2, DIVx2, BISx2, BICx2, XORx2, ADWC, SBWC: operand, place of the other operand and of the result.
-    Two { operation: Binary, size: Narrow },
+    Two {
+        operation: Binary,
+        size: Narrow,
+    },
     /// ADDx3, SUBx3, MULx3, DIVx3, BISx3, BICx3, XORx3: two operands, destination.
-    Three { operation: Binary, size: Narrow },
+    Three {
+        operation: Binary,
+        size: Narrow,
+    },
     /// INC, DEC: place.
-    ByOne { operation: Binary, size: Narrow },
+    ByOne {
+        operation: Binary,
+        size: Narrow,
+    },
     /// CLR: destination.
     Clear(Size),
     /// TST: source.

@@ -1,12 +1,12 @@
 -- From what a call follows over a port to what it comes to on each memory that the port stands for.
-use Rattle.std.proofs.Common.{◌≡◌, ℕ, Option, Some, None, List, Result, Ok, Err, refl, subst}
+use Rattle.std.proofs.Common.{◌≡◌, ℕ, Option, List, Result, Ok, Err, refl, subst}
 use Rattle.vax_space.specs.declared.Area.{Area}
 use Rattle.vax_flat.specs.declared.Cut.{Cut}
 use Rattle.vax_flat.specs.declared.Cut.TheVariants.{Absent, Event}
 use Rattle.vax_flat.specs.State.{State}
-use Rattle.vax_flat.specs.Port.{View, StandsFor}
+use Rattle.vax_flat.specs.Port.{View}
 use Rattle.vax_flat.specs.Accesses.{Accesses, Leaf}
-use Rattle.vax_flat.specs.Outcome.{Outcome, outcome_of, touches_of, first_missing}
+use Rattle.vax_flat.specs.Outcome.{Outcome}
 use Rattle.vax_flat.specs.OverPort.{Present, Comes, Stops, Agrees, Follows, over_port}
 use Rattle.vax_flat.proofs.Standing.{standing}
 use Rattle.vax_operand.specs.Located.{at_end, Lands, LandsEverywhere}

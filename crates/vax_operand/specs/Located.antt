@@ -6,7 +6,7 @@ use Rattle.vax_flat.specs.declared.Cut.TheVariants.{Absent, Event}
 use Rattle.vax_flat.specs.declared.Flow.{Flow}
 use Rattle.vax_flat.specs.declared.Operand.{Operand}
 use Rattle.vax_flat.specs.State.{State}
-use Rattle.vax_flat.specs.Port.{View, StandsFor}
+use Rattle.vax_flat.specs.Port.{StandsFor}
 use Rattle.vax_flat.specs.Accesses.{Accesses, Leaf, Done, Found, Went}
 use Rattle.vax_flat.specs.Outcome.{Outcome, Ends, Raised, outcome_of, touches_of, first_missing}
 use Rattle.vax_flat.specs.OverPort.{Present}

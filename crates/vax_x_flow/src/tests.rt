@@ -48,7 +48,11 @@ fn after(alloc: Global, code: &[u8]) -> Result<(Option<Flow>, u32, Psl), Fail> {
 fn where_control_goes_on(rt: HostRuntime) -> Result<(), Fail> {
     // CASEB #3,#1,#1, which is past its table of two; SOBGTR R1, which counts down to 0; BRB to itself
     let rows = [
-        ([0x8F, 0x03, 0x01, 0x01].as_slice(), START + 8, Psl(0x1F_0000)),
+        (
+            [0x8F, 0x03, 0x01, 0x01].as_slice(),
+            START + 8,
+            Psl(0x1F_0000),
+        ),
         ([0xF5, 0x51, 0x10].as_slice(), START + 3, Psl(0x1F_0004)),
         ([0x11, 0xFE].as_slice(), START, Psl(0x1F_0000)),
     ];

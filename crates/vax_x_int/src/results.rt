@@ -53,7 +53,15 @@ pub(crate) fn answer_of(size: Size, value: u64, v: bool, c: bool) -> (u64, Codes
     ensures fits { result.0 < 256 ^ bytes_of size }
 {
     let n = is_negative(size, value);
-    (value, Codes { n, z: value == 0, v, c })
+    (
+        value,
+        Codes {
+            n,
+            z: value == 0,
+            v,
+            c,
+        },
+    )
 }
 
 /// A result of one operand; `carry` is the carry as it was.

@@ -64,7 +64,13 @@ fn three<P: Port>(txn: &mut Txn<P>, operation: Binary, size: Narrow) -> Result<F
     let b = next_value(txn, size.into())?;
     let destination = next_place(txn, size.into())?;
     let made = of_two(operation, size, a, b, carry(txn));
-    answer(txn, size.into(), destination, is_by_zero(operation, a), made)
+    answer(
+        txn,
+        size.into(),
+        destination,
+        is_by_zero(operation, a),
+        made,
+    )
 }
 
 /// INC, DEC.

@@ -1,6 +1,4 @@
-use Rattle.std.proofs.Common.{◌≡◌, None, Some, option_map, arith}
-use Rattle.vax_isa.specs.Entries.{entry_action}
-use Rattle.vax_isa.specs.Rows.{action_of}
+use Rattle.std.proofs.Common.{None, Some, arith}
 use Rattle.vax_isa.proofs.Laws.{operands_agree, slot_action}
 use Rattle.vax_isa.proofs.action.Goals as goal
 
