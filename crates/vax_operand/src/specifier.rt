@@ -288,12 +288,7 @@ fn incremented<P: Port>(txn: &mut Txn<P>, kind: OperandKind, n: u8) -> Result<Op
 /// An operand at a displacement from a register.
 #[inline(never)]
 #[tactic(auto, using(vax_flat::proofs::Leaves::over_port_raises), unfolding(vax_flat::specs::Operand::in_memory, vax_flat::specs::Operand::is_reserved, vax_flat::specs::Operand::addressed))]
-fn displaced<P: Port>(
-    txn: &mut Txn<P>,
-    kind: OperandKind,
-    width: u8,
-    n: u8,
-) -> Result<Operand, Cut>
+fn displaced<P: Port>(txn: &mut Txn<P>, kind: OperandKind, width: u8, n: u8) -> Result<Operand, Cut>
     requires width { IsWidth kind.width }
     requires displacement { IsDisplacement width }
     requires of_core { n < 16 }
@@ -373,11 +368,32 @@ fn by_byte<P: Port>(txn: &mut Txn<P>, kind: OperandKind, byte: u8) -> Result<Ope
         8 => incremented(txn, kind, n),
         9 => memory_operand(txn, kind, Form::IncrementDeferred(n)),
         10 => displaced(txn, kind, 1, n),
-        11 => memory_operand(txn, kind, Form::DisplacementDeferred { width: 1, register: n }),
+        11 => memory_operand(
+            txn,
+            kind,
+            Form::DisplacementDeferred {
+                width: 1,
+                register: n,
+            },
+        ),
         12 => displaced(txn, kind, 2, n),
-        13 => memory_operand(txn, kind, Form::DisplacementDeferred { width: 2, register: n }),
+        13 => memory_operand(
+            txn,
+            kind,
+            Form::DisplacementDeferred {
+                width: 2,
+                register: n,
+            },
+        ),
         14 => displaced(txn, kind, 4, n),
-        _ => memory_operand(txn, kind, Form::DisplacementDeferred { width: 4, register: n }),
+        _ => memory_operand(
+            txn,
+            kind,
+            Form::DisplacementDeferred {
+                width: 4,
+                register: n,
+            },
+        ),
     }
 }
 
