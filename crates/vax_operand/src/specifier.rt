@@ -62,14 +62,14 @@ fn locate<P: Port>(txn: &mut Txn<P>, kind: OperandKind, addr: u32) -> Result<Ope
     ensures keeps { Keeps P.view P.since 0 txn.old txn.new }
 {
     match kind.letter {
-        Letter::Read => {
-            let value = read(txn, addr, kind.width as u32)?;
-            Ok(Operand::Value(value))
-        }
-        Letter::Modify => {
-            check(txn, addr, kind.width as u32, Access::Write)?;
-            Ok(Operand::Memory(addr))
-        }
+        Letter::Read => match read(txn, addr, kind.width as u32) {
+            Ok(value) => Ok(Operand::Value(value)),
+            Err(cut) => Err(cut),
+        },
+        Letter::Modify => match check(txn, addr, kind.width as u32, Access::Write) {
+            Ok(()) => Ok(Operand::Memory(addr)),
+            Err(cut) => Err(cut),
+        },
         Letter::Write => Ok(Operand::Memory(addr)),
         Letter::Address => Ok(Operand::Memory(addr)),
         Letter::Field => Ok(Operand::Memory(addr)),
@@ -232,7 +232,7 @@ fn is_no_base(x: u8, form: Form) -> bool
 }
 
 /// An operand of a memory form.
-#[inline]
+#[inline(never)]
 #[tactic(auto, using(vax_flat::proofs::Leaves::over_port_raises), unfolding(vax_flat::specs::Operand::in_memory))]
 fn memory_operand<P: Port>(txn: &mut Txn<P>, kind: OperandKind, form: Form) -> Result<Operand, Cut>
     requires width { IsWidth kind.width }
@@ -247,6 +247,63 @@ fn memory_operand<P: Port>(txn: &mut Txn<P>, kind: OperandKind, form: Form) -> R
     }
     let addr = address(txn, kind.width, form)?;
     locate(txn, kind, addr)
+}
+
+/// An operand at the address in a register.
+#[inline(never)]
+#[tactic(auto, using(vax_flat::proofs::Leaves::over_port_raises), unfolding(vax_flat::specs::Operand::in_memory, vax_flat::specs::Operand::is_reserved, vax_flat::specs::Operand::addressed))]
+fn deferred<P: Port>(txn: &mut Txn<P>, kind: OperandKind, n: u8) -> Result<Operand, Cut>
+    requires width { IsWidth kind.width }
+    requires of_core { n < 16 }
+    ensures exact { Follows (in_memory kind (Form.Deferred n) (present P.view txn.old).state) (present P.view txn.old) result (present P.view txn.new) }
+    ensures fits { IfOk result (Fits kind) }
+    ensures keeps { Keeps P.view P.since 0 txn.old txn.new }
+{
+    if n == 15 {
+        return Err(Cut::Event(Exception::Mode));
+    }
+    let addr = txn.reg(n);
+    locate(txn, kind, addr)
+}
+
+/// An operand at the address in a register, which then moves past it. With PC it is an immediate.
+#[inline(never)]
+#[tactic(auto, using(vax_flat::proofs::Leaves::over_port_raises), unfolding(vax_flat::specs::Operand::in_memory, vax_flat::specs::Operand::is_reserved, vax_flat::specs::Operand::addressed))]
+fn incremented<P: Port>(txn: &mut Txn<P>, kind: OperandKind, n: u8) -> Result<Operand, Cut>
+    requires width { IsWidth kind.width }
+    requires of_core { n < 16 }
+    requires room { 1 ≤ room txn.old }
+    ensures exact { Follows (in_memory kind (Form.Increment n) (present P.view txn.old).state) (present P.view txn.old) result (present P.view txn.new) }
+    ensures fits { IfOk result (Fits kind) }
+    ensures keeps { Keeps P.view P.since 1 txn.old txn.new }
+{
+    if is_reserved(kind.letter, Form::Increment(n)) {
+        return Err(Cut::Event(Exception::Mode));
+    }
+    let addr = txn.reg(n);
+    txn.set_reg(n, addr.wrapping_add(kind.width as u32));
+    locate(txn, kind, addr)
+}
+
+/// An operand at a displacement from a register.
+#[inline(never)]
+#[tactic(auto, using(vax_flat::proofs::Leaves::over_port_raises), unfolding(vax_flat::specs::Operand::in_memory, vax_flat::specs::Operand::is_reserved, vax_flat::specs::Operand::addressed))]
+fn displaced<P: Port>(txn: &mut Txn<P>, kind: OperandKind, width: u8, n: u8) -> Result<Operand, Cut>
+    requires width { IsWidth kind.width }
+    requires displacement { IsDisplacement width }
+    requires of_core { n < 16 }
+    requires room { 1 ≤ room txn.old }
+    ensures exact { Follows (in_memory kind (Form.Displacement width n) (present P.view txn.old).state) (present P.view txn.old) result (present P.view txn.new) }
+    ensures fits { IfOk result (Fits kind) }
+    ensures keeps { Keeps P.view P.since 1 txn.old txn.new }
+{
+    match fetch(txn, width as u32) {
+        Ok(value) => {
+            let addr = txn.reg(n).wrapping_add(extend(width, value));
+            locate(txn, kind, addr)
+        }
+        Err(cut) => Err(cut),
+    }
 }
 
 /// An operand of a base form, indexed by register `x`.
@@ -274,6 +331,7 @@ fn indexed_operand<P: Port>(
 }
 
 /// What follows the prefix of an index by register `x`.
+#[inline(never)]
 #[tactic(auto, using(vax_flat::proofs::Leaves::over_port_raises), unfolding(vax_flat::specs::Operand::after_prefix))]
 fn after_prefix<P: Port>(txn: &mut Txn<P>, kind: OperandKind, x: u8) -> Result<Operand, Cut>
     requires width { IsWidth kind.width }
@@ -290,27 +348,52 @@ fn after_prefix<P: Port>(txn: &mut Txn<P>, kind: OperandKind, x: u8) -> Result<O
     indexed_operand(txn, kind, x, decode(byte))
 }
 
-/// An operand of a form.
+/// An operand of a specifier byte. The usual ones are told from the byte alone: a form is made for the others.
 #[inline]
-#[tactic(auto, unfolding(vax_flat::specs::Operand::formed))]
-fn by_form<P: Port>(txn: &mut Txn<P>, kind: OperandKind, form: Form) -> Result<Operand, Cut>
+#[tactic(auto, unfolding(vax_flat::specs::Operand::formed, vax_flat::specs::Operand::form_of))]
+fn by_byte<P: Port>(txn: &mut Txn<P>, kind: OperandKind, byte: u8) -> Result<Operand, Cut>
     requires width { IsWidth kind.width }
-    requires form { IsForm form }
     requires room { 3 ≤ room txn.old }
-    ensures exact { Follows (formed kind form (present P.view txn.old).state) (present P.view txn.old) result (present P.view txn.new) }
+    ensures exact { Follows (formed kind (form_of byte) (present P.view txn.old).state) (present P.view txn.old) result (present P.view txn.new) }
     ensures fits { IfOk result (Fits kind) }
     ensures keeps { Keeps P.view P.since 3 txn.old txn.new }
 {
-    match form {
-        Form::Literal(value) => short_literal(txn, kind, value),
-        Form::Index(x) => after_prefix(txn, kind, x),
-        Form::Register(n) => register_operand(txn, kind, n),
-        Form::Deferred(_) => memory_operand(txn, kind, form),
-        Form::Decrement(_) => memory_operand(txn, kind, form),
-        Form::Increment(_) => memory_operand(txn, kind, form),
-        Form::IncrementDeferred(_) => memory_operand(txn, kind, form),
-        Form::Displacement { .. } => memory_operand(txn, kind, form),
-        Form::DisplacementDeferred { .. } => memory_operand(txn, kind, form),
+    let n = byte & 15;
+    match byte >> 4 {
+        5 => register_operand(txn, kind, n),
+        0 | 1 | 2 | 3 => short_literal(txn, kind, byte),
+        4 => after_prefix(txn, kind, n),
+        6 => deferred(txn, kind, n),
+        7 => memory_operand(txn, kind, Form::Decrement(n)),
+        8 => incremented(txn, kind, n),
+        9 => memory_operand(txn, kind, Form::IncrementDeferred(n)),
+        10 => displaced(txn, kind, 1, n),
+        11 => memory_operand(
+            txn,
+            kind,
+            Form::DisplacementDeferred {
+                width: 1,
+                register: n,
+            },
+        ),
+        12 => displaced(txn, kind, 2, n),
+        13 => memory_operand(
+            txn,
+            kind,
+            Form::DisplacementDeferred {
+                width: 2,
+                register: n,
+            },
+        ),
+        14 => displaced(txn, kind, 4, n),
+        _ => memory_operand(
+            txn,
+            kind,
+            Form::DisplacementDeferred {
+                width: 4,
+                register: n,
+            },
+        ),
     }
 }
 
@@ -324,8 +407,10 @@ fn specified<P: Port>(txn: &mut Txn<P>, kind: OperandKind) -> Result<Operand, Cu
     ensures fits { IfOk result (Fits kind) }
     ensures keeps { Keeps P.view P.since 4 txn.old txn.new }
 {
-    let byte = fetch(txn, 1)? as u8;
-    by_form(txn, kind, decode(byte))
+    match fetch(txn, 1) {
+        Ok(byte) => by_byte(txn, kind, byte as u8),
+        Err(cut) => Err(cut),
+    }
 }
 
 /// A branch displacement at PC.
@@ -338,8 +423,13 @@ fn branch_target<P: Port>(txn: &mut Txn<P>, width: u8) -> Result<Operand, Cut>
     ensures target { IfOk result IsTarget }
     ensures keeps { Keeps P.view P.since 1 txn.old txn.new }
 {
-    let displacement = extend(width, fetch(txn, width as u32)?);
-    Ok(Operand::Target(txn.reg(15).wrapping_add(displacement)))
+    match fetch(txn, width as u32) {
+        Ok(value) => {
+            let displacement = extend(width, value);
+            Ok(Operand::Target(txn.reg(15).wrapping_add(displacement)))
+        }
+        Err(cut) => Err(cut),
+    }
 }
 
 /// One operand, by its letter.
