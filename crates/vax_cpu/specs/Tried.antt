@@ -15,7 +15,9 @@ use Rattle.vax_cpu.specs.declared.attempt.Tried.TheVariants.{Step, Absent, Ended
 -- how an instruction that went so ends the run, if it does
 abbrev pub ending_of : Flow → Option Ending
 ending_of flow.Done = None
+ending_of flow.Clocked = Some Unbuilt
 ending_of (flow.Trap kind) = Some Unbuilt
+ending_of (flow.More opcode units) = Some Unbuilt
 ending_of (flow.Ended e) = Some e
 
 -- it was kept where the tree is completed, and else all is as before

@@ -69,6 +69,8 @@ fn finish<P: Port>(txn: &mut Txn<P>, flow: Flow) -> Result<Flow, Cut>
             tick(txn);
             Ok(how)
         }
+        Flow::Clocked => Ok(Flow::Done),
+        Flow::More { opcode, units } => Ok(Flow::More { opcode, units }),
         Flow::Ended(ending) => Ok(Flow::Ended(ending)),
     }
 }
@@ -102,7 +104,15 @@ macro_rules! conclude {
     ($txn:ident, $work:expr) => {
         match $work {
             Ok(Flow::Done) => Tried::Step($txn.commit()),
+            Ok(Flow::Clocked) => {
+                $txn.unwind();
+                Tried::Ended(Ending::Unbuilt)
+            }
             Ok(Flow::Trap(_)) => {
+                $txn.unwind();
+                Tried::Ended(Ending::Unbuilt)
+            }
+            Ok(Flow::More { .. }) => {
                 $txn.unwind();
                 Tried::Ended(Ending::Unbuilt)
             }
@@ -188,7 +198,21 @@ pub(crate) fn try_steps<P: Port>(
                     };
                 }
             },
+            Ok(Flow::Clocked) => {
+                txn.unwind();
+                return Several {
+                    steps,
+                    last: Tried::Ended(Ending::Unbuilt),
+                };
+            }
             Ok(Flow::Trap(_)) => {
+                txn.unwind();
+                return Several {
+                    steps,
+                    last: Tried::Ended(Ending::Unbuilt),
+                };
+            }
+            Ok(Flow::More { .. }) => {
                 txn.unwind();
                 return Several {
                     steps,

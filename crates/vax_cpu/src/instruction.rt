@@ -1,17 +1,18 @@
 //! The instruction at PC, by the action that the table gives its opcode.
 ghost use Rattle.std.specs.Prelude.{◌≡◌, ◌≤◌};
-ghost use Rattle.vax_flat.specs.Instruction.{halt, acted, acted_if, instruction};
+ghost use Rattle.vax_flat.specs.System.{halt, performed};
+ghost use Rattle.vax_flat.specs.Instruction.{acted, acted_if, instruction};
 ghost use Rattle.vax_flat.specs.OverPort.{Follows};
 ghost use Rattle.vax_undo.specs.Transaction.{present, room, Keeps};
 
 use vax_flat::{Ending, Exception};
-use vax_isa::{Action, action};
+use vax_isa::{Action, System, action};
 use vax_operand::{Cut, Flow, fetch};
 use vax_undo::{Port, Txn};
 
 /// HALT, in kernel mode alone (VAX MACRO and Instruction Set Reference Manual, HALT).
 #[inline]
-#[tactic(auto, using(vax_flat::proofs::Leaves::over_port_raises), unfolding(vax_flat::specs::Instruction::halt))]
+#[tactic(auto, using(vax_flat::proofs::Leaves::over_port_raises), unfolding(vax_flat::specs::System::halt))]
 fn halt<P: Port>(txn: &mut Txn<P>) -> Result<Flow, Cut>
     ensures exact { Follows (halt (present P.view txn.old).state) (present P.view txn.old) result (present P.view txn.new) }
     ensures keeps { Keeps P.view P.since 0 txn.old txn.new }
@@ -20,6 +21,19 @@ fn halt<P: Port>(txn: &mut Txn<P>) -> Result<Flow, Cut>
         Ok(Flow::Ended(Ending::Halt))
     } else {
         Err(Cut::Event(Exception::Privileged))
+    }
+}
+
+/// The instructions on access modes, exceptions and the processor's registers, of which only HALT is built yet.
+#[inline]
+#[tactic(auto, unfolding(vax_flat::specs::System::performed))]
+fn system<P: Port>(txn: &mut Txn<P>, instruction: System) -> Result<Flow, Cut>
+    ensures exact { Follows (performed instruction (present P.view txn.old).state) (present P.view txn.old) result (present P.view txn.new) }
+    ensures keeps { Keeps P.view P.since 0 txn.old txn.new }
+{
+    match instruction {
+        System::Halt => halt(txn),
+        _ => Ok(Flow::Ended(Ending::Unbuilt)),
     }
 }
 
@@ -34,8 +48,10 @@ fn act<P: Port>(txn: &mut Txn<P>, action: Action) -> Result<Flow, Cut>
     match action {
         Action::Integer(instruction) => vax_x_int::run(txn, instruction),
         Action::Control(instruction) => vax_x_flow::run(txn, instruction),
-        Action::Halt => halt(txn),
-        Action::Unbuilt => Ok(Flow::Ended(Ending::Unbuilt)),
+        Action::System(instruction) => system(txn, instruction),
+        Action::Field(_) | Action::Call(_) | Action::Queue(_) | Action::Text(_) => {
+            Ok(Flow::Ended(Ending::Unbuilt))
+        }
     }
 }
 
