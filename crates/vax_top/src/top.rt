@@ -5,9 +5,9 @@ ghost use Rattle.vax_outside.specs.Channels.{Channels, Grew, only};
 ghost use Rattle.vax_words.specs.Words.{command_of as said_of, bare};
 ghost use Rattle.vax_words.specs.Said.{texts};
 ghost use Rattle.vax_source.specs.Program.{Faults};
-ghost use Rattle.vax.specs.Status.{refusal, refusal_growth, IsBuilt};
-ghost use Rattle.vax.specs.Ends.{Ends};
-ghost use Rattle.vax.specs.Top.{Comes, IsAbout, Reads, ReadEnds, reads};
+ghost use Rattle.vax_top.specs.Status.{refusal, refusal_growth, IsBuilt};
+ghost use Rattle.vax_top.specs.Ends.{Ends};
+ghost use Rattle.vax_top.specs.Top.{Comes, IsAbout, Reads, ReadEnds, reads};
 
 use crate::name::Name;
 use crate::refuse::refuse;

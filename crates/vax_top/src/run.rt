@@ -7,9 +7,9 @@ ghost use Rattle.vax_undo.specs.Plain.{view_of};
 ghost use Rattle.vax_bare.specs.Start.{start_of, core, memory as memory_at_start};
 ghost use Rattle.vax_bare.specs.Run.{StopsAt};
 ghost use Rattle.vax_source.specs.Program.{Assembles};
-ghost use Rattle.vax.specs.Status.{refusal_growth};
-ghost use Rattle.vax.specs.Ends.{Ends};
-ghost use Rattle.vax.specs.Top.{IsBare, IsRefused, last_of, run_output, run_report, step_limit};
+ghost use Rattle.vax_top.specs.Status.{refusal_growth};
+ghost use Rattle.vax_top.specs.Ends.{Ends};
+ghost use Rattle.vax_top.specs.Top.{IsBare, IsRefused, last_of, run_output, run_report, step_limit};
 
 use crate::refuse::refuse;
 use crate::status::Status;

@@ -35,7 +35,7 @@ pub enum Status {
 }
 
 impl Status {
-    ghost use Rattle.vax.specs.Status.{code};
+    ghost use Rattle.vax_top.specs.Status.{code};
 
     /// The exit status of the process.
     pub fn code(&self) -> u8

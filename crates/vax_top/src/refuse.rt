@@ -2,8 +2,8 @@
 ghost use Rattle.std.specs.Prelude.{◌≡◌, ◌≤◌, ◌≢◌, ◌++◌, codes, OnErr, OnOk, None};
 ghost use Rattle.vax_outside.specs.Channels.{Grew, GrewByPrefix, only};
 ghost use Rattle.vax_outside.specs.Faults.{Rose};
-ghost use Rattle.vax.specs.Status.{named, refusal, refusal_growth, source_fault};
-ghost use Rattle.vax.specs.Ends.{Ends};
+ghost use Rattle.vax_top.specs.Status.{named, refusal, refusal_growth, source_fault};
+ghost use Rattle.vax_top.specs.Ends.{Ends};
 
 use crate::status::Status;
 use vax_outside::{Chan, Failed, Sink, Text, put_all};

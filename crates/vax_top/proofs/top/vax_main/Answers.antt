@@ -1,8 +1,8 @@
 use Rattle.std.proofs.Common.{Some, ap, ◌∙◌, ◌∷◌, [], Ok}
 use Rattle.vax_words.specs.Said.{said, texts}
-use Rattle.vax.specs.Top.{Reads}
-use Rattle.vax.proofs.TopLaws.{bare_comes}
-use Rattle.vax.proofs.top.vax_main.Goals as goal
+use Rattle.vax_top.specs.Top.{Reads}
+use Rattle.vax_top.proofs.TopLaws.{bare_comes}
+use Rattle.vax_top.proofs.top.vax_main.Goals as goal
 
 pub returns-in-Ok-clause-headline : goal.returns-in-Ok-clause-headline
 returns-in-Ok-clause-headline g c =

@@ -1,6 +1,6 @@
 use Rattle.vax_bare.specs.Start.{memory}
-use Rattle.vax.proofs.TopLaws.{started, run_whole, report_cut_short, output_cut_short, rose_later}
-use Rattle.vax.proofs.run.execute.Goals as goal
+use Rattle.vax_top.proofs.TopLaws.{started, run_whole, report_cut_short, output_cut_short, rose_later}
+use Rattle.vax_top.proofs.run.execute.Goals as goal
 
 pub returns-in-Ok-write_report : goal.returns-in-Ok-write_report
 returns-in-Ok-write_report g c =

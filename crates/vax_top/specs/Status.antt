@@ -2,8 +2,8 @@
 use Rattle.std.specs.Prelude.{ℕ, List, ◌++◌, codes, decimal, Option, None, Some}
 use Rattle.vax_outside.specs.Channels.{Channels, nothing, only}
 use Rattle.vax_outside.specs.declared.traits.Chan.TheVariants.{Report}
-use Rattle.vax.specs.declared.status.Status.{Status}
-use Rattle.vax.specs.declared.status.Status.TheVariants.{Done, Usage, Missing, Large, Refused, Link, Schedule, Image, Turns, PageFault, ReadFault, WriteFault, NoMemory}
+use Rattle.vax_top.specs.declared.status.Status.{Status}
+use Rattle.vax_top.specs.declared.status.Status.TheVariants.{Done, Usage, Missing, Large, Refused, Link, Schedule, Image, Turns, PageFault, ReadFault, WriteFault, NoMemory}
 
 -- the exit status of the process
 abbrev pub code : Status → ℕ

@@ -13,14 +13,14 @@ use Rattle.vax_report.specs.declared.Last.{Last}
 use Rattle.vax_outside.specs.Channels.{Channels, only, nothing, append, Grew, GrewByPrefix}
 use Rattle.vax_outside.specs.Faults.{Rose}
 use Rattle.vax_outside.specs.declared.traits.Chan.TheVariants.{Out, Report}
-use Rattle.vax.specs.Ends.{Ends}
+use Rattle.vax_top.specs.Ends.{Ends}
 use Rattle.vax_outside.specs.Directory.{Directory}
 use Rattle.vax_words.specs.Words.{Text, Said, bare, about, command_of}
-use Rattle.vax.specs.declared.status.Status.{Status}
-use Rattle.vax.specs.declared.status.Status.TheVariants.{NoMemory, Done, WriteFault}
+use Rattle.vax_top.specs.declared.status.Status.{Status}
+use Rattle.vax_top.specs.declared.status.Status.TheVariants.{NoMemory, Done, WriteFault}
 use Rattle.std.proofs.Common.{None}
-use Rattle.vax.specs.Status.{refusal_growth}
-use Rattle.vax.specs.Top.{Reads, Comes, CommandComes, IsAbout, IsBare, last_of, run_report, run_output, step_limit}
+use Rattle.vax_top.specs.Status.{refusal_growth}
+use Rattle.vax_top.specs.Top.{Reads, Comes, CommandComes, IsAbout, IsBare, last_of, run_report, run_output, step_limit}
 
 no_memory : (rose : Type 0) (contents : Option Directory) (said : Said) (status : Status) (grown : Channels) → (status ≡ NoMemory) × (grown ≡ refusal_growth NoMemory) → CommandComes rose contents said status grown
 no_memory rose contents said status grown e = let is : status ≡ NoMemory = e.0 in rw is (inl (tt, e.1))

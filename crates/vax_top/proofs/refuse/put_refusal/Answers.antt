@@ -1,4 +1,4 @@
-use Rattle.vax.proofs.refuse.put_refusal.Goals as goal
+use Rattle.vax_top.proofs.refuse.put_refusal.Goals as goal
 
 pub returns-in-Large-clause-ok : goal.returns-in-Large-clause-ok
 returns-in-Large-clause-ok g c = rw (c.in-Large.is, ← c.as_str-in-Large.ensures) c.put_named-in-Large.ensures.ok

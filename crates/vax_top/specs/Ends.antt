@@ -2,8 +2,8 @@
 use Rattle.std.specs.Prelude.{◌≡◌, ◌⊎◌, ℕ, Option}
 use Rattle.vax_outside.specs.Faults.{Rose}
 use Rattle.vax_outside.specs.Channels.{Channels, Grew, GrewByPrefix}
-use Rattle.vax.specs.declared.status.Status.{Status}
-use Rattle.vax.specs.declared.status.Status.TheVariants.{WriteFault}
+use Rattle.vax_top.specs.declared.status.Status.{Status}
+use Rattle.vax_top.specs.declared.status.Status.TheVariants.{WriteFault}
 
 -- all was written, and the answer is the one that was meant
 pub record IsWhole (old new : Option Channels) (meant : Status) (grown : Channels) (result : Status) : Type 0 where

@@ -15,9 +15,9 @@ use Rattle.vax_bare.specs.Run.{StopsAt}
 use Rattle.vax_report.specs.Report.{report}
 use Rattle.vax_report.specs.declared.Last.{Last}
 use Rattle.vax_report.specs.declared.Last.TheVariants as last
-use Rattle.vax.specs.Status.{refusal_growth}
-use Rattle.vax.specs.declared.status.Status.{Status}
-use Rattle.vax.specs.declared.status.Status.TheVariants.{Done, Usage, Missing, Large, Refused, Link, Schedule, Image, Turns, PageFault, ReadFault, WriteFault, NoMemory}
+use Rattle.vax_top.specs.Status.{refusal_growth}
+use Rattle.vax_top.specs.declared.status.Status.{Status}
+use Rattle.vax_top.specs.declared.status.Status.TheVariants.{Done, Usage, Missing, Large, Refused, Link, Schedule, Image, Turns, PageFault, ReadFault, WriteFault, NoMemory}
 
 -- the most bytes of a file
 abbrev pub file_limit : ℕ
