@@ -59,9 +59,9 @@ module _ (bytes : List ℕ) (begin : ℕ) (first cpu : Cpu) (is : flat_of first 
   at = flat_of first (memory bytes) []
 
   -- a run whose report was written
-  pub run_whole : (old mid new : Option Channels) (before now : ℕ) (stopped : Stopped) (last : Last) → IsRun step_limit at cpu old mid stopped → last ≡ last_of stopped.ending → Grew mid new (only Report (report cpu.core last stopped.steps 0 cpu.term.place [])) →
+  pub run_whole : (old mid new : Option Channels) (before now : ℕ) (stopped : Stopped) (last : Last) → IsRun step_limit at cpu old mid stopped → last ≡ last_of stopped.ending → Grew mid new (only Report (report cpu.core last stopped.steps 0 cpu.term.place [])) → now ≡ before →
       (n : ℕ) × StopsAt n step_limit (start_of bytes begin) × Ends before now old new Done (run_output (start_of bytes begin) n) Done
-  run_whole old mid new before now stopped last r l grew =
+  run_whole old mid new before now stopped last r l grew quiet =
       let Q : Flat → Type 0 = λ m. (n : ℕ) × StopsAt n step_limit m × Ends before now old new Done (run_output m n) Done in
       let P : Channels → Type 0 = λ x. Grew old new x in
       subst Q is (
@@ -70,6 +70,7 @@ module _ (bytes : List ℕ) (begin : ℕ) (first cpu : Cpu) (is : flat_of first 
         inl (record {
           answer = refl;
           grew = subst P (run_wrote at cpu old mid stopped last r l) (grew_more old mid new _ _ r.wrote grew);
+          quiet = quiet;
         }),
       )
 

@@ -15,6 +15,7 @@ fn put_named<K: Sink>(label: &[u8], name: &str, sink: &mut K) -> Result<(), Fail
     ensures prefix { OnErr result (GrewByPrefix (K.contents sink.old) (K.contents sink.new) (only Chan.Report (named label.now name.now))) }
     ensures later { K.faults sink.old ≤ K.faults sink.new }
     ensures cause { OnErr result (Rose (K.faults sink.old) (K.faults sink.new)) }
+    ensures quiet { OnOk result (K.faults sink.new ≡ K.faults sink.old) }
 {
     put_all(sink, Chan::Report, label)?;
     put_all(sink, Chan::Report, name.as_bytes())?;
@@ -29,6 +30,7 @@ fn put_source_fault<K: Sink>(file: u8, line: u32, kind: u8, sink: &mut K) -> Res
     ensures prefix { OnErr result (GrewByPrefix (K.contents sink.old) (K.contents sink.new) (only Chan.Report (source_fault file line kind))) }
     ensures later { K.faults sink.old ≤ K.faults sink.new }
     ensures cause { OnErr result (Rose (K.faults sink.old) (K.faults sink.new)) }
+    ensures quiet { OnOk result (K.faults sink.new ≡ K.faults sink.old) }
 {
     let mut text = Text::new();
     text.push(b"vax: source ");
@@ -47,6 +49,7 @@ fn put_refusal<K: Sink>(status: &Status, sink: &mut K) -> Result<(), Failed>
     ensures prefix { OnErr result (GrewByPrefix (K.contents sink.old) (K.contents sink.new) (refusal_growth status.now)) }
     ensures later { K.faults sink.old ≤ K.faults sink.new }
     ensures cause { OnErr result (Rose (K.faults sink.old) (K.faults sink.new)) }
+    ensures quiet { OnOk result (K.faults sink.new ≡ K.faults sink.old) }
 {
     match status {
         Status::Usage => put_all(sink, Chan::Report, b"vax: usage\n"),

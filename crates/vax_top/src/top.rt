@@ -1,5 +1,5 @@
 //! The top call.
-ghost use Rattle.std.specs.Prelude.{◌≡◌, ◌⊎◌, ◌≤◌, ℕ, List, [], ◌∷◌, None, Some, Ok, Err, IfSome, IfOk, IfErr};
+ghost use Rattle.std.specs.Prelude.{◌≡◌, ◌≢◌, ◌⊎◌, ◌≤◌, ℕ, List, [], ◌∷◌, None, Some, Ok, Err, IfSome, IfOk, IfErr, IsErrOf};
 ghost use Rattle.vax_outside.specs.Faults.{Rose};
 ghost use Rattle.vax_outside.specs.Channels.{Channels, Grew, only};
 ghost use Rattle.vax_words.specs.Words.{command_of as said_of, bare};
@@ -43,6 +43,7 @@ fn large(alloc: Global, name: &str) -> Status
 /// Reads a source.
 fn load<S: Files>(alloc: Global, name: &str, files: &mut S) -> Result<Vec<u8>, Status>
     ensures later { S.faults files.old ≤ S.faults files.new }
+    ensures failed { S.faults files.new ≢ S.faults files.old → IsErrOf result Status.ReadFault }
     ensures ok { IfOk result (λ v. Reads (S.contents files.old) (name.now ∷ []) (Ok (v.items ∷ []))) }
     ensures ends { IfErr result (λ status. ReadEnds (Rose (S.faults files.old) (S.faults files.new)) (S.contents files.old) (name.now ∷ []) status) }
 {
@@ -95,6 +96,8 @@ pub fn vax_main<S: Files, K: Sink, F: PageFile>(
     ensures large { (name : List ℕ) → result ≡ Status.Large name → Reads (S.contents files.old) (reads (texts words.now)) (Err (name, FilesFault.Large)) }
     ensures read { result ≡ Status.ReadFault → Rose (S.faults files.old) (S.faults files.new) }
     ensures write { result ≡ Status.WriteFault → Rose (K.faults sink.old) (K.faults sink.new) }
+    ensures read_failed { S.faults files.new ≢ S.faults files.old → (result ≡ Status.ReadFault) ⊎ (result ≡ Status.WriteFault) }
+    ensures write_failed { K.faults sink.new ≢ K.faults sink.old → result ≡ Status.WriteFault }
     ensures refused { IfSome (refusal result) (λ text. Grew (K.contents sink.old) (K.contents sink.new) (only Chan.Report text)) }
     ensures built { IsBuilt result }
 {
