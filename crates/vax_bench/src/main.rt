@@ -1,6 +1,8 @@
 //! Makes steps of a small loop over plain memory, to be timed from outside: `vax_bench LOOP STEPS`.
 #![tactic(auto)]
 
+ghost use Rattle.std.specs.Prelude.{◌≡◌, None};
+
 mod loops;
 
 use anyhow::bail;
