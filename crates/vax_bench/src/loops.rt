@@ -1,4 +1,5 @@
 //! The loops, in machine code from 80000200 on.
+ghost use Rattle.std.specs.Prelude.{◌≤◌, IfSome, length};
 
 /// `A: SOBGTR R0,A`
 const COUNT: [u8; 3] = [0xF5, 0x50, 0xFD];
@@ -17,7 +18,9 @@ const MEMORY: [u8; 16] = [
 const CALLS: [u8; 6] = [0x10, 0x03, 0xF5, 0x50, 0xFB, 0x05];
 
 /// The code of a loop.
-pub(crate) fn code_of(name: &str) -> Option<&'static [u8]> {
+pub(crate) fn code_of(name: &str) -> Option<&'static [u8]>
+    ensures { IfSome result (λ code. length code.now ≤ 16) }
+{
     match name {
         "count" => Some(&COUNT),
         "registers" => Some(&REGISTERS),

@@ -1,16 +1,18 @@
 //! One attempt at a step, as a transaction that is kept or undone.
-ghost use Rattle.std.specs.Prelude.{◌≡◌, ◌+◌, ◌<◌, ◌≤◌, None};
+ghost use Rattle.std.specs.Prelude.{◌≡◌, ◌+◌, ◌<◌, ◌≤◌, ℕ, Option, None, Ok};
+ghost use Rattle.vax_flat.specs.Accesses.{Accesses, Leaf};
+ghost use Rattle.vax_flat.specs.State.{State};
 ghost use Rattle.vax_flat.specs.OverPort.{Follows, Present};
-ghost use Rattle.vax_flat.specs.Step.{begun, delivery, finished, whole, whole_step, delivered, whole_delivery};
-ghost use Rattle.vax_undo.specs.Transaction.{present, room, state_of, Keeps};
-ghost use Rattle.vax_cpu.specs.Tried.{IsTried};
+ghost use Rattle.vax_flat.specs.Step.{begun, delivery, finished, leaf, whole, whole_step, delivered, whole_delivery};
+ghost use Rattle.vax_undo.specs.Transaction.{bare, present, room, state_of, told, undone, IsReady, Keeps};
+ghost use Rattle.vax_cpu.specs.Tried.{IsFinal, IsTried, Made, is_done};
 ghost use Rattle.vax_cpu.specs.Batch.{Ran};
 
 use crate::instruction::execute;
 use crate::interrupt::{requested, tick};
 use vax_flat::{Ending, Exception};
 use vax_operand::{Cut, Flow};
-use vax_undo::{Port, Term, Txn};
+use vax_undo::{CutShort, Port, Term, Txn};
 use vax_word::Core;
 
 /// What an attempt at a step, or at the delivery of an exception, came to.
@@ -29,9 +31,9 @@ pub(crate) enum Tried {
 /// An interrupt above the priority, or the instruction at PC.
 #[inline]
 #[tactic(auto, unfolding(vax_flat::specs::Step::begun, vax_flat::specs::Step::interrupt))]
-fn begin<P: Port>(txn: &mut Txn<P>) -> Result<Flow, Cut>
+fn begin<P: Port>(txn: &mut Txn<P>) -> Result<Flow, CutShort>
     requires { 28 ≤ room txn.old }
-    ensures exact { Follows (begun (present P.view txn.old).state) (present P.view txn.old) result (present P.view txn.new) }
+    ensures exact { Follows (begun (present P.view txn.old).state) (present P.view txn.old) (told txn.new result) (present P.view txn.new) }
     ensures keeps { Keeps P.view P.since 28 txn.old txn.new }
 {
     if txn.psl().ipl() < requested(txn) {
@@ -43,8 +45,8 @@ fn begin<P: Port>(txn: &mut Txn<P>) -> Result<Flow, Cut>
 /// Delivers an exception, which isn't built yet.
 #[inline]
 #[tactic(auto, unfolding(vax_flat::specs::Step::delivery))]
-fn deliver<P: Port>(_txn: &mut Txn<P>, exception: Exception) -> Result<Flow, Cut>
-    ensures exact { Follows (delivery exception (present P.view _txn.old).state) (present P.view _txn.old) result (present P.view _txn.new) }
+fn deliver<P: Port>(_txn: &mut Txn<P>, exception: Exception) -> Result<Flow, CutShort>
+    ensures exact { Follows (delivery exception (present P.view _txn.old).state) (present P.view _txn.old) (told _txn.new result) (present P.view _txn.new) }
     ensures keeps { Keeps P.view P.since 0 _txn.old _txn.new }
 {
     let _ = exception;
@@ -54,9 +56,9 @@ fn deliver<P: Port>(_txn: &mut Txn<P>, exception: Exception) -> Result<Flow, Cut
 /// What follows an instruction: a trap's delivery, and the clock.
 #[inline]
 #[tactic(auto, unfolding(vax_flat::specs::Step::finished))]
-fn finish<P: Port>(txn: &mut Txn<P>, flow: Flow) -> Result<Flow, Cut>
+fn finish<P: Port>(txn: &mut Txn<P>, flow: Flow) -> Result<Flow, CutShort>
     requires { 2 ≤ room txn.old }
-    ensures exact { Follows (finished flow (present P.view txn.old).state) (present P.view txn.old) result (present P.view txn.new) }
+    ensures exact { Follows (finished flow (present P.view txn.old).state) (present P.view txn.old) (told txn.new result) (present P.view txn.new) }
     ensures keeps { Keeps P.view P.since 2 txn.old txn.new }
 {
     match flow {
@@ -76,9 +78,9 @@ fn finish<P: Port>(txn: &mut Txn<P>, flow: Flow) -> Result<Flow, Cut>
 /// A step up to its exception, if it raises one.
 #[inline]
 #[tactic(auto, unfolding(vax_flat::specs::Step::whole))]
-fn work<P: Port>(txn: &mut Txn<P>) -> Result<Flow, Cut>
+fn work<P: Port>(txn: &mut Txn<P>) -> Result<Flow, CutShort>
     requires { 30 ≤ room txn.old }
-    ensures exact { Follows (whole (present P.view txn.old).state) (present P.view txn.old) result (present P.view txn.new) }
+    ensures exact { Follows (whole (present P.view txn.old).state) (present P.view txn.old) (told txn.new result) (present P.view txn.new) }
     ensures keeps { Keeps P.view P.since 30 txn.old txn.new }
 {
     let flow = begin(txn)?;
@@ -88,38 +90,62 @@ fn work<P: Port>(txn: &mut Txn<P>) -> Result<Flow, Cut>
 /// The delivery of an exception, and the clock.
 #[inline]
 #[tactic(auto, unfolding(vax_flat::specs::Step::delivered))]
-fn work_delivery<P: Port>(txn: &mut Txn<P>, exception: Exception) -> Result<Flow, Cut>
+fn work_delivery<P: Port>(txn: &mut Txn<P>, exception: Exception) -> Result<Flow, CutShort>
     requires { 2 ≤ room txn.old }
-    ensures exact { Follows (delivered exception (present P.view txn.old).state) (present P.view txn.old) result (present P.view txn.new) }
+    ensures exact { Follows (delivered exception (present P.view txn.old).state) (present P.view txn.old) (told txn.new result) (present P.view txn.new) }
     ensures keeps { Keeps P.view P.since 2 txn.old txn.new }
 {
     let flow = deliver(txn, exception)?;
     finish(txn, flow)
 }
 
+/// Whether the work was completed.
+#[inline]
+fn is_done(work: Result<Flow, CutShort>) -> bool
+    ensures { result ≡ is_done work }
+{
+    match work {
+        Ok(flow) => match flow {
+            Flow::Done => true,
+            Flow::Trap(_) => false,
+            Flow::Ended(_) => false,
+        },
+        Err(CutShort) => false,
+    }
+}
+
 /// Keeps a transaction whose work was completed, and undoes any other.
-macro_rules! conclude {
-    ($txn:ident, $work:expr) => {
-        match $work {
-            Ok(Flow::Done) => Tried::Step($txn.commit()),
-            Ok(Flow::Trap(_)) => {
-                $txn.unwind();
+#[inline]
+fn conclude<P: Port>(txn: Txn<P>, work: Result<Flow, CutShort>) -> Tried
+    requires ready { IsReady P.view txn }
+    requires unsent { (undone P.view txn).state.sent ≡ None }
+    ensures tried { (old : Present) → (tree : State → (Flow → State → Accesses Leaf) → Accesses Leaf) → Follows (tree old.state) old (told txn.entry work) (present P.view txn.entry) → undone P.view txn.entry ≡ bare old → IsTried (λ s. tree s leaf) old result (record { state = state_of txn.exit.0.now txn.exit.1.0.now; view = P.view txn.exit.1.1.0.now }) }
+    ensures completed { (sent : Option ℕ) → result ≡ Tried.Step sent → work ≡ Ok Flow.Done }
+    ensures unsent { txn.exit.1.0.now.out ≡ None }
+    ensures input { txn.exit.1.0.now.input ≡ txn.entry.term.now.input }
+    ensures since { (start : P) → P.since start txn.entry.port.now → P.since start txn.exit.1.1.0.now }
+{
+    let why = txn.why();
+    match work {
+        Ok(flow) => match flow {
+            Flow::Done => Tried::Step(txn.commit()),
+            Flow::Trap(_) => {
+                txn.unwind();
                 Tried::Ended(Ending::Unbuilt)
             }
-            Ok(Flow::Ended(ending)) => {
-                $txn.unwind();
+            Flow::Ended(ending) => {
+                txn.unwind();
                 Tried::Ended(ending)
             }
-            Err(Cut::Absent(page)) => {
-                $txn.unwind();
-                Tried::Absent(page)
-            }
-            Err(Cut::Event(exception)) => {
-                $txn.unwind();
-                Tried::Event(exception)
+        },
+        Err(CutShort) => {
+            txn.unwind();
+            match why {
+                Cut::Absent(page) => Tried::Absent(page),
+                Cut::Event(exception) => Tried::Event(exception),
             }
         }
-    };
+    }
 }
 
 /// Makes an attempt at a step, which is undone where it isn't completed.
@@ -131,11 +157,13 @@ pub(crate) fn try_step<P: Port>(core: &mut Core, term: &mut Term, port: &mut P) 
     ensures since { (start : P) → P.since start port.old → P.since start port.new }
 {
     let mut txn = Txn::begin(core, term, port);
-    conclude!(txn, work(&mut txn))
+    let done = work(&mut txn);
+    conclude(txn, done)
 }
 
 /// Makes an attempt at the delivery of an exception, from the state at the start of the instruction.
-pub(crate) fn try_delivery<P: Port>(
+#[cold]
+fn try_delivery<P: Port>(
     core: &mut Core,
     term: &mut Term,
     port: &mut P,
@@ -148,7 +176,24 @@ pub(crate) fn try_delivery<P: Port>(
     ensures since { (start : P) → P.since start port.old → P.since start port.new }
 {
     let mut txn = Txn::begin(core, term, port);
-    conclude!(txn, work_delivery(&mut txn, exception))
+    let done = work_delivery(&mut txn, exception);
+    conclude(txn, done)
+}
+
+/// Delivers the exception that an attempt at a step raised, if it raised one.
+#[inline]
+pub(crate) fn settle<P: Port>(core: &mut Core, term: &mut Term, port: &mut P, tried: Tried) -> Tried
+    requires { term.old.out ≡ None }
+    ensures kept { IsFinal tried → result ≡ tried }
+    ensures made { (old : Present) → IsTried whole_step old tried (record { state = state_of core.old term.old; view = P.view port.old }) → Made old result (record { state = state_of core.new term.new; view = P.view port.new }) }
+    ensures unsent { term.new.out ≡ None }
+    ensures input { term.new.input ≡ term.old.input }
+    ensures since { (start : P) → P.since start port.old → P.since start port.new }
+{
+    match tried {
+        Tried::Event(exception) => try_delivery(core, term, port, exception),
+        _ => tried,
+    }
 }
 
 /// Steps that were completed with no byte sent, and what the attempt after them came to.
@@ -177,47 +222,23 @@ pub(crate) fn try_steps<P: Port>(
     let mut txn = Txn::begin(core, term, port);
     let mut steps = 0;
     while steps + 1 < most {
-        match work(&mut txn) {
-            Ok(Flow::Done) => match txn.renew() {
-                None => steps += 1,
-                Some(byte) => {
-                    let _ = txn.commit();
-                    return Several {
-                        steps,
-                        last: Tried::Step(Some(byte)),
-                    };
-                }
-            },
-            Ok(Flow::Trap(_)) => {
-                txn.unwind();
+        let done = work(&mut txn);
+        if !is_done(done) {
+            let last = conclude(txn, done);
+            return Several { steps, last };
+        }
+        match txn.renew() {
+            None => steps += 1,
+            Some(byte) => {
+                let _ = txn.commit();
                 return Several {
                     steps,
-                    last: Tried::Ended(Ending::Unbuilt),
-                };
-            }
-            Ok(Flow::Ended(ending)) => {
-                txn.unwind();
-                return Several {
-                    steps,
-                    last: Tried::Ended(ending),
-                };
-            }
-            Err(Cut::Absent(page)) => {
-                txn.unwind();
-                return Several {
-                    steps,
-                    last: Tried::Absent(page),
-                };
-            }
-            Err(Cut::Event(exception)) => {
-                txn.unwind();
-                return Several {
-                    steps,
-                    last: Tried::Event(exception),
+                    last: Tried::Step(Some(byte)),
                 };
             }
         }
     }
-    let last = conclude!(txn, work(&mut txn));
+    let done = work(&mut txn);
+    let last = conclude(txn, done);
     Several { steps, last }
 }

@@ -2,6 +2,8 @@ pub mod Bytes
 pub mod Alike
 pub mod Memory
 pub mod Standing
+pub mod Marks
+pub mod Inside
 pub mod Leaves
 pub mod Joined
 pub mod Runs

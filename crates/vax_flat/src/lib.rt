@@ -10,6 +10,7 @@ mod laws;
 
 pub use crate::laws::{
     arrival_agrees, grammar_agrees, grammar_reads, joined_ranges, operands_are_listed,
+    stops_for_missing_pages,
 };
 use vax_space::Violation;
 

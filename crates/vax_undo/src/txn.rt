@@ -6,9 +6,13 @@ use crate::entry::{Entry, Kept};
 use crate::port::Port;
 use crate::term::Term;
 use arrayvec::ArrayVec;
-use vax_flat::Stop;
+use vax_flat::{Cut, Stop};
 use vax_space::{Access, Violation};
 use vax_word::{Core, Psl};
+
+/// The work was cut short. The transaction says by what ([`Txn::why`]), so that a result that isn't cut short stays small.
+#[derive(Clone, Copy, Debug, PartialEq, Eq)]
+pub struct CutShort;
 
 /// Work on the registers, the console and a port, with a log of the old values of all that it changed.
 ///
@@ -19,6 +23,8 @@ pub struct Txn<'a, P: Port> {
     port: &'a mut P,
     log: ArrayVec<Entry, 96>,
     origin: Origin,
+    /// What cut the work short, if something did.
+    why: Cut,
 }
 
 /// PC and the status longword as they were at the start. Every instruction changes both, so they are kept here and not in the log.
@@ -69,8 +75,9 @@ fn forget(log: &mut ArrayVec<Entry, 96>)
 ghost use Rattle.vax_undo.specs.Transaction.{state_of, undo, Allows};
 
 /// Puts the old value of an entry back.
+#[tactic(auto, using(crate::proofs::Undo::put_again))]
 fn put_back<P: Port>(entry: Entry, core: &mut Core, term: &mut Term, port: &mut P)
-    requires { Allows (P.view port.old).areas (P.view port.old).resident entry.kept entry }
+    requires { Allows (P.view port.old).areas (P.view port.old).resident (P.view port.old).marked entry.kept entry }
     ensures state { state_of core.new term.new ≡ (undo entry (record { state = state_of core.old term.old; view = P.view port.old })).state }
     ensures view { P.view port.new ≡ (undo entry (record { state = state_of core.old term.old; view = P.view port.old })).view }
     ensures input { term.new.input ≡ term.old.input }
@@ -94,8 +101,8 @@ impl<'a, P: Port> Txn<'a, P> {
     ghost use Rattle.vax_space.specs.Reference.{violation};
     ghost use Rattle.vax_flat.specs.State.{register, with_register, with_psl, with_stack, with_requests, with_timer, with_clock, with_taken, with_sent};
     ghost use Rattle.vax_flat.specs.Memory.{bytes_from};
-    ghost use Rattle.vax_flat.specs.Port.{loaded, stored, stored_run, stop};
-    ghost use Rattle.vax_undo.specs.Transaction.{state_of, present, undone, room, IsReady, IsSame, Keeps, with_state, with_view, next_byte, after_take};
+    ghost use Rattle.vax_flat.specs.Port.{loaded, stored, stored_run, stop, unmarked};
+    ghost use Rattle.vax_undo.specs.Transaction.{bare, state_of, present, undone, room, IsReady, IsSame, Keeps, with_state, with_view, next_byte, after_take};
 
     /// Begins a transaction, at which nothing is sent to the console yet.
     #[inline]
@@ -107,7 +114,7 @@ impl<'a, P: Port> Txn<'a, P> {
         ensures present { present P.view result ≡ record { state = state_of core.old term.old; view = P.view port.old } }
         ensures lent { result.port.now ≡ port.old }
         ensures console { result.term.now ≡ term.old }
-        ensures undone { undone P.view result ≡ present P.view result }
+        ensures undone { undone P.view result ≡ bare (present P.view result) }
         ensures room { room result ≡ 96 }
         ensures ready { IsReady P.view result }
     {
@@ -118,7 +125,27 @@ impl<'a, P: Port> Txn<'a, P> {
             port,
             log: ArrayVec::new(),
             origin,
+            why: Cut::Absent(0),
         }
+    }
+
+    /// Says what cuts the work short.
+    #[cold]
+    pub fn cut(&mut self, why: Cut) -> CutShort
+        ensures why { self.new.why ≡ why }
+        ensures present { present P.view self.new ≡ present P.view self.old }
+        ensures keeps { Keeps P.view P.since 0 self.old self.new }
+    {
+        self.why = why;
+        CutShort
+    }
+
+    /// What cut the work short, where something did.
+    #[inline]
+    pub fn why(&self) -> Cut
+        ensures { result ≡ self.now.why }
+    {
+        self.why
     }
 
     /// Register `n`, below 16.
@@ -372,7 +399,7 @@ impl<'a, P: Port> Txn<'a, P> {
     pub fn renew(&mut self) -> Option<u8>
         ensures sent { result ≡ (present P.view self.old).state.sent }
         ensures present { present P.view self.new ≡ with_state (present P.view self.old) (with_sent (present P.view self.old).state None) }
-        ensures undone { undone P.view self.new ≡ present P.view self.new }
+        ensures undone { undone P.view self.new ≡ bare (present P.view self.new) }
         ensures room { room self.new ≡ 96 }
         ensures ready { IsReady P.view self.new }
         ensures same { IsSame P.since self.old self.new }
@@ -398,17 +425,19 @@ impl<'a, P: Port> Txn<'a, P> {
             port: _,
             log: _,
             origin: _,
+            why: _,
         } = self;
         let sent = term.out;
         term.out = None;
         sent
     }
 
-    /// Puts everything back as it was when the transaction began.
+    /// Puts everything back as it was when the transaction began. Pages that were written to stay marked.
     pub fn unwind(self)
         requires { IsReady P.view self }
         ensures state { state_of self.exit.0.now self.exit.1.0.now ≡ (undone P.view self.entry).state }
-        ensures view { P.view self.exit.1.1.0.now ≡ (undone P.view self.entry).view }
+        ensures view { unmarked (P.view self.exit.1.1.0.now) ≡ (undone P.view self.entry).view }
+        ensures marks { (P.view self.exit.1.1.0.now).marked ≡ (P.view self.entry.port.now).marked }
         ensures input { self.exit.1.0.now.input ≡ self.entry.term.now.input }
         ensures since { (start : P) → P.since start self.entry.port.now → P.since start self.exit.1.1.0.now }
     {
@@ -418,6 +447,7 @@ impl<'a, P: Port> Txn<'a, P> {
             port,
             mut log,
             origin,
+            why: _,
         } = self;
         while let Some(entry) = log.pop() {
             put_back(entry, core, term, port);
