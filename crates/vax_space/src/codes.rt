@@ -12,7 +12,7 @@ pub const PAGES: usize = 69_632;
 /// What stands for a page in no area: the reserved protection code, which allows nothing.
 pub const NO_AREA: u8 = 1;
 
-#[inline]
+#[inline(always)]
 fn place_of(page: u32) -> u32
     requires { 0x8000 ≤ page → 0x3F0000 ≤ page }
     ensures { result ≡ spec.place_of page }
@@ -22,7 +22,7 @@ fn place_of(page: u32) -> u32
 
 /// A page's place, from 0, among the pages that an area may have: P0's first, then P1's and the system region's, which
 /// follow each other. None for a page that no area may have.
-#[inline]
+#[inline(always)]
 #[tactic(auto, unfolding(crate::specs::Lookup::slot))]
 pub fn slot(page: u32) -> Option<usize>
     ensures place { result ≡ spec.slot page }

@@ -73,7 +73,7 @@ static PROTECTION: [[Right; 4]; 16] = [
     [ReadOnly, ReadOnly, ReadOnly, ReadOnly],
 ];
 
-#[inline]
+#[inline(always)]
 #[tactic(auto, unfolding(crate::specs::Protection::right_of))]
 fn right_of(prot: u8, mode: u8) -> Right
     requires of_code { prot ≤ 15 }
@@ -85,7 +85,7 @@ fn right_of(prot: u8, mode: u8) -> Right
 
 /// Whether a mode (0 kernel, 1 executive, 2 supervisor, 3 user) may make the access to a page with this protection
 /// code (VAX Architecture Reference Manual, memory management, access control). The reserved code 1 allows nothing.
-#[inline]
+#[inline(always)]
 #[tactic(auto, using(crate::proofs::Protections::allows_read), unfolding(crate::specs::Protection::allows))]
 pub fn allows(prot: u8, mode: u8, access: Access) -> bool
     requires of_code { prot ≤ 15 }
@@ -267,7 +267,7 @@ impl Space {
     }
 
     /// The protection code of a page, and the reserved code for a page in no area.
-    #[inline]
+    #[inline(always)]
     fn code(&self, page: u32) -> u8
         ensures code { result ≡ unwrap_or (areas_spec.prot_of self.now page) 1 }
         ensures valid { result ≤ 15 }
@@ -292,7 +292,7 @@ impl Space {
     }
 
     /// Whether a mode may make the access to a page.
-    #[inline]
+    #[inline(always)]
     #[tactic(auto, using(crate::proofs::Tables::may_access_by), unfolding(crate::specs::Reference::may_access))]
     fn may_access(&self, page: u32, mode: u8, access: Access) -> bool
         requires of_mode { mode ≤ 3 }
@@ -302,7 +302,7 @@ impl Space {
     }
 
     /// Whether the range lies within one page, to which the mode may make the access.
-    #[inline]
+    #[inline(always)]
     #[tactic(auto, using(crate::proofs::References::violation_in_page), unfolding(crate::specs::Reference::is_free_page))]
     pub fn is_free_page(&self, addr: u32, len: u32, mode: u8, access: Access) -> bool
         requires of_mode { mode ≤ 3 }
