@@ -1,5 +1,5 @@
 //! Runs.
-ghost use Rattle.std.specs.Prelude.{◌≡◌, ◌+◌, ◌<◌, ◌≤◌, ℕ, List, [], None, IfOk, OnErr};
+ghost use Rattle.std.specs.Prelude.{◌≡◌, ◌+◌, ◌<◌, ◌≤◌, ℕ, List, [], None, IfOk, OnErr, OnOk};
 ghost use Rattle.vax_space.specs.declared.Area.{Area};
 ghost use Rattle.vax_outside.specs.Faults.{Rose};
 ghost use Rattle.vax_flat.specs.Port.{StandsFor};
@@ -36,6 +36,7 @@ pub fn run<P: Port, K: Sink>(
     ensures err { (memory : List Area) → StandsFor (P.view port.old) memory → OnErr result (IsCutShort limit (flat_of cpu.old memory []) (K.contents sink.old) (K.contents sink.new)) }
     ensures later { K.faults sink.old ≤ K.faults sink.new }
     ensures cause { OnErr result (Rose (K.faults sink.old) (K.faults sink.new)) }
+    ensures quiet { OnOk result (K.faults sink.new ≡ K.faults sink.old) }
 {
     let mut steps = 0;
     while steps < limit {

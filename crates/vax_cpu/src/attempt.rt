@@ -29,7 +29,7 @@ pub(crate) enum Tried {
 }
 
 /// An interrupt above the priority, or the instruction at PC.
-#[inline]
+#[inline(always)]
 #[tactic(auto, using(vax_undo::proofs::Left::always), unfolding(vax_flat::specs::Step::begun, vax_flat::specs::Step::interrupt))]
 fn begin<P: Port>(txn: &mut Txn<P>) -> Result<Flow, CutShort>
     requires { 28 ≤ room txn.old }
@@ -55,7 +55,7 @@ fn deliver<P: Port>(_txn: &mut Txn<P>, exception: Exception) -> Result<Flow, Cut
 }
 
 /// What follows an instruction: a trap's delivery, and the clock.
-#[inline]
+#[inline(always)]
 #[tactic(auto, using(vax_undo::proofs::Left::always, vax_undo::proofs::Left::kept_through, vax_undo::proofs::Left::left_then), unfolding(vax_flat::specs::Step::finished))]
 fn finish<P: Port>(txn: &mut Txn<P>, flow: Flow) -> Result<Flow, CutShort>
     requires { 2 ≤ room txn.old }
@@ -80,7 +80,7 @@ fn finish<P: Port>(txn: &mut Txn<P>, flow: Flow) -> Result<Flow, CutShort>
 }
 
 /// A step up to its exception, if it raises one.
-#[inline]
+#[inline(always)]
 #[tactic(auto, unfolding(vax_flat::specs::Step::whole))]
 fn work<P: Port>(txn: &mut Txn<P>) -> Result<Flow, CutShort>
     requires { 30 ≤ room txn.old }
@@ -90,6 +90,17 @@ fn work<P: Port>(txn: &mut Txn<P>) -> Result<Flow, CutShort>
 {
     let flow = begin(txn)?;
     finish(txn, flow)
+}
+
+/// [`work`] as a call of its own, for the attempts outside the loop.
+#[inline(never)]
+fn work_once<P: Port>(txn: &mut Txn<P>) -> Result<Flow, CutShort>
+    requires { 30 ≤ room txn.old }
+    ensures exact { Follows (whole (present P.view txn.old).state) (present P.view txn.old) (told txn.new result) (present P.view txn.new) }
+    ensures keeps { KeepsUnlessDone P.view P.since 30 result txn.old txn.new }
+    ensures same { IsSame P.since txn.old txn.new }
+{
+    work(txn)
 }
 
 /// The delivery of an exception, and the clock.
@@ -169,7 +180,7 @@ pub(crate) fn try_step<P: Port>(core: &mut Core, term: &mut Term, port: &mut P) 
     ensures since { (start : P) → P.since start port.old → P.since start port.new }
 {
     let mut txn = Txn::begin(core, term, port);
-    let done = work(&mut txn);
+    let done = work_once(&mut txn);
     conclude(txn, done)
 }
 
@@ -250,7 +261,7 @@ pub(crate) fn try_steps<P: Port>(
             }
         }
     }
-    let done = work(&mut txn);
+    let done = work_once(&mut txn);
     let last = conclude(txn, done);
     Several { steps, last }
 }

@@ -11,7 +11,7 @@ use vax_operand::{Cut, Flow, fetch};
 use vax_undo::{CutShort, Port, Txn};
 
 /// HALT, in kernel mode alone (VAX MACRO and Instruction Set Reference Manual, HALT).
-#[inline]
+#[inline(never)]
 #[tactic(auto, using(vax_flat::proofs::Leaves::over_port_raises), unfolding(vax_flat::specs::System::halt))]
 fn halt<P: Port>(txn: &mut Txn<P>) -> Result<Flow, CutShort>
     ensures exact { Follows (halt (present P.view txn.old).state) (present P.view txn.old) (told txn.new result) (present P.view txn.new) }
@@ -38,7 +38,7 @@ fn system<P: Port>(txn: &mut Txn<P>, instruction: System) -> Result<Flow, CutSho
 }
 
 /// What the instruction does whose opcode PC is past.
-#[inline]
+#[inline(always)]
 #[tactic(auto, using(vax_undo::proofs::Left::always), unfolding(vax_flat::specs::Instruction::acted))]
 fn act<P: Port>(txn: &mut Txn<P>, action: Action) -> Result<Flow, CutShort>
     requires { 27 ≤ room txn.old }
@@ -57,7 +57,7 @@ fn act<P: Port>(txn: &mut Txn<P>, action: Action) -> Result<Flow, CutShort>
 }
 
 /// What an opcode does; one that the table hasn't is reserved.
-#[inline]
+#[inline(always)]
 #[tactic(auto, using(vax_flat::proofs::Leaves::over_port_raises, vax_undo::proofs::Left::always), unfolding(vax_flat::specs::Instruction::acted_if))]
 fn act_if<P: Port>(txn: &mut Txn<P>, action: Option<Action>) -> Result<Flow, CutShort>
     requires { 27 ≤ room txn.old }
@@ -72,7 +72,7 @@ fn act_if<P: Port>(txn: &mut Txn<P>, action: Option<Action>) -> Result<Flow, Cut
 }
 
 /// The instruction at PC.
-#[inline]
+#[inline(always)]
 #[tactic(auto, using(vax_undo::proofs::Left::behind), unfolding(vax_flat::specs::Instruction::instruction))]
 pub(crate) fn execute<P: Port>(txn: &mut Txn<P>) -> Result<Flow, CutShort>
     requires { 28 ≤ room txn.old }

@@ -6,6 +6,7 @@ ghost use Rattle.vax_undo.specs.Transaction.{present, room, Keeps, with_state};
 use vax_undo::{Port, Txn};
 
 /// The highest software interrupt level that is requested, or 0.
+#[cold]
 #[tactic(auto, using(crate::proofs::Levels::highest_none, crate::proofs::Levels::highest_step, crate::proofs::Levels::highest_here), unfolding(vax_flat::specs::Step::highest))]
 fn highest(requests: u16) -> u8
     ensures exact { result ≡ highest 15 requests }
@@ -21,7 +22,7 @@ fn highest(requests: u16) -> u8
 }
 
 /// The level of the interrupt that is requested, or 0.
-#[inline]
+#[inline(always)]
 #[tactic(auto, unfolding(vax_flat::specs::Step::level))]
 pub(crate) fn requested<P: Port>(txn: &Txn<P>) -> u8
     ensures { result ≡ level (present P.view txn.now).state.core }
@@ -30,12 +31,15 @@ pub(crate) fn requested<P: Port>(txn: &Txn<P>) -> u8
     if timer / 0x40 % 2 == 1 && timer / 0x80 % 2 == 1 {
         22
     } else {
-        highest(txn.sisr())
+        match txn.sisr() {
+            0 => 0,
+            requests => highest(requests),
+        }
     }
 }
 
 /// The interval clock counts a step, where it is on.
-#[inline]
+#[inline(always)]
 #[tactic(auto, unfolding(vax_flat::specs::Step::ticked))]
 pub(crate) fn tick<P: Port>(txn: &mut Txn<P>)
     requires { 2 ≤ room txn.old }

@@ -68,7 +68,7 @@ pub fn by_code(code: u8) -> Option<Row>
 
 /// What the instruction with this opcode does, None where the opcode is reserved. It is one look-up by index. The operands that it takes are those
 /// of the instruction's row.
-#[inline]
+#[inline(always)]
 pub fn action(code: u8) -> Option<Action>
     ensures action { result ≡ action_of code }
     ensures operands { All (λ i. operands_of i.action ≡ i.operands) instructions }

@@ -2,21 +2,27 @@
 ghost use Rattle.std.specs.Prelude.{◌≡◌, ℕ, ◌+◌, ◌*◌, ◌/◌, ◌%◌, ◌^◌, ◌<◌, ◌≤◌, IfOk};
 ghost use Rattle.vax_word.specs.Arithmetic.{bytes_of};
 ghost use Rattle.vax_isa.specs.Actions.{size_of};
-ghost use Rattle.vax_flat.specs.Operand.{IsWidth, IsPlace};
-ghost use Rattle.vax_flat.specs.Rows.{value_at, value_of, address_in, with_value, stored, read_value, modify_value, write_place, address_value, branch_target};
+ghost use Rattle.vax_space.specs.declared.Access.TheVariants as access;
+ghost use Rattle.vax_isa.specs.declared.Letter.TheVariants as letter;
+ghost use Rattle.vax_flat.specs.declared.Operand.TheVariants as operand;
+ghost use Rattle.vax_flat.specs.Operand.{form_of, formed, in_register, read_at, check_at, IsWidth, IsPlace};
+ghost use Rattle.vax_flat.specs.Rows.{read_of, modify_of, write_of, value_at, value_of, address_in, with_value, stored, read_value, modify_value, write_place, address_value, branch_target};
 ghost use Rattle.vax_flat.specs.OverPort.{Follows, Performs};
 ghost use Rattle.vax_undo.specs.Transaction.{present, room, Keeps, with_state, told};
+ghost use Rattle.vax_operand.specs.Addressed.{located, checked, modified, modified_there, IsMemory};
+ghost use Rattle.vax_flat.specs.declared.Form.TheVariants as form;
 ghost use Rattle.vax_operand.specs.Form.{IsDisplacement};
 
-use crate::memory::{read, write};
-use crate::specifier::{next, value_in};
-use vax_flat::Operand;
+use crate::memory::{check, fetch, read, write};
+use crate::specifier::{address_near, extend, next, reaches_pc, value_in};
+use vax_flat::{Cut, Exception, Operand};
 use vax_isa::{Letter, Narrow, OperandKind};
+use vax_space::Access;
 use vax_undo::{CutShort, Port, Txn};
 use vax_word::Size;
 
 /// The bytes of a size, as an operand's kind has them.
-#[inline]
+#[inline(always)]
 fn width_of(size: Size) -> u8
     ensures exact { result ≡ bytes_of size }
     ensures width { IsWidth result }
@@ -30,7 +36,7 @@ fn width_of(size: Size) -> u8
 }
 
 /// The bytes of a displacement to branch by.
-#[inline]
+#[inline(always)]
 fn displacement_width(size: Narrow) -> u8
     ensures exact { result ≡ bytes_of (size_of size) }
     ensures displacement { IsDisplacement result }
@@ -40,21 +46,6 @@ fn displacement_width(size: Narrow) -> u8
         Narrow::B => 1,
         Narrow::W => 2,
         Narrow::L => 4,
-    }
-}
-
-/// The value of an operand that was read.
-#[inline]
-#[tactic(auto, unfolding(vax_flat::specs::Rows::value_of))]
-fn value_of(operand: Operand) -> u64
-    ensures { result ≡ value_of operand }
-{
-    match operand {
-        Operand::Value(value) => value,
-        Operand::Register(_) => 0,
-        Operand::Memory(_) => 0,
-        Operand::FieldRegister(_) => 0,
-        Operand::Target(_) => 0,
     }
 }
 
@@ -73,27 +64,8 @@ fn address_in(operand: Operand) -> u32
     }
 }
 
-/// The value at the place of an operand of so many bytes, which is read where it lies in memory.
-#[inline]
-#[tactic(auto, unfolding(vax_flat::specs::Rows::value_at))]
-fn value_at<P: Port>(txn: &mut Txn<P>, width: u8, operand: Operand) -> Result<u64, CutShort>
-    requires width { IsWidth width }
-    requires place { IsPlace width operand }
-    ensures exact { Follows (value_at width operand (present P.view txn.old).state) (present P.view txn.old) (told txn.new result) (present P.view txn.new) }
-    ensures fits { IfOk result (λ x. x < 256 ^ width) }
-    ensures keeps { Keeps P.view P.since 0 txn.old txn.new }
-{
-    match operand {
-        Operand::Register(n) => Ok(value_in(txn, width, n)),
-        Operand::Memory(addr) => read(txn, addr, width as u32),
-        Operand::Value(_) => Ok(0),
-        Operand::FieldRegister(_) => Ok(0),
-        Operand::Target(_) => Ok(0),
-    }
-}
-
 /// Sets a register, or the pair of a quadword. A byte or a word leaves the register's other bits.
-#[inline]
+#[inline(always)]
 #[tactic(auto, unfolding(vax_flat::specs::Rows::with_value))]
 fn set_value<P: Port>(txn: &mut Txn<P>, width: u8, n: u8, value: u64)
     requires width { IsWidth width }
@@ -116,7 +88,7 @@ fn set_value<P: Port>(txn: &mut Txn<P>, width: u8, n: u8, value: u64)
 }
 
 /// Writes a value of so many bytes to an operand.
-#[inline]
+#[inline(always)]
 #[tactic(auto, unfolding(vax_flat::specs::Rows::stored))]
 fn store_at<P: Port>(
     txn: &mut Txn<P>,
@@ -144,7 +116,7 @@ fn store_at<P: Port>(
 }
 
 /// Writes a value to an operand.
-#[inline]
+#[inline(always)]
 pub fn store<P: Port>(
     txn: &mut Txn<P>,
     size: Size,
@@ -160,26 +132,264 @@ pub fn store<P: Port>(
     store_at(txn, width_of(size), operand, value)
 }
 
+/// The value at the address of a specifier byte.
+#[inline(never)]
+fn value_there<P: Port>(txn: &mut Txn<P>, width: u8, byte: u8) -> Result<u64, CutShort>
+    requires width { IsWidth width }
+    requires room { 3 ≤ room txn.old }
+    ensures exact { Follows (λ next. located letter.Read width (form_of byte) (present P.view txn.old).state (λ addr s. read_at addr width s next)) (present P.view txn.old) (told txn.new result) (present P.view txn.new) }
+    ensures fits { IfOk result (λ x. x < 256 ^ width) }
+    ensures keeps { Keeps P.view P.since 3 txn.old txn.new }
+{
+    let addr = address_near(txn, Letter::Read, width, byte)?;
+    read(txn, addr, width as u32)
+}
+
+/// The value of an operand that lies in memory.
+#[inline(always)]
+fn value_beyond<P: Port>(txn: &mut Txn<P>, width: u8, byte: u8) -> Result<u64, CutShort>
+    requires width { IsWidth width }
+    requires memory { IsMemory (form_of byte) }
+    requires room { 3 ≤ room txn.old }
+    ensures exact { Follows (λ next. formed (read_of width) (form_of byte) (present P.view txn.old).state (λ o s. next (value_of o) s)) (present P.view txn.old) (told txn.new result) (present P.view txn.new) }
+    ensures fits { IfOk result (λ x. x < 256 ^ width) }
+    ensures keeps { Keeps P.view P.since 3 txn.old txn.new }
+{
+    value_there(txn, width, byte)
+}
+
+/// The address of a specifier byte, checked for writing.
+#[inline(never)]
+#[tactic(auto, unfolding(crate::specs::Addressed::checked))]
+fn checked_address<P: Port>(txn: &mut Txn<P>, width: u8, byte: u8) -> Result<u32, CutShort>
+    requires width { IsWidth width }
+    requires room { 3 ≤ room txn.old }
+    ensures exact { Follows (checked width (form_of byte) (present P.view txn.old).state) (present P.view txn.old) (told txn.new result) (present P.view txn.new) }
+    ensures keeps { Keeps P.view P.since 3 txn.old txn.new }
+{
+    let addr = address_near(txn, Letter::Modify, width, byte)?;
+    check(txn, addr, width as u32, Access::Write)?;
+    Ok(addr)
+}
+
+/// The place at the address of a specifier byte, checked for writing, and the value there.
+#[inline(always)]
+#[tactic(auto, unfolding(crate::specs::Addressed::modified_there))]
+fn modified_there<P: Port>(
+    txn: &mut Txn<P>,
+    width: u8,
+    byte: u8,
+) -> Result<(Operand, u64), CutShort>
+    requires width { IsWidth width }
+    requires room { 3 ≤ room txn.old }
+    ensures exact { Follows (modified_there width (form_of byte) (present P.view txn.old).state) (present P.view txn.old) (told txn.new result) (present P.view txn.new) }
+    ensures place { IfOk result (λ m. IsPlace width m.0) }
+    ensures fits { IfOk result (λ m. m.1 < 256 ^ width) }
+    ensures keeps { Keeps P.view P.since 3 txn.old txn.new }
+{
+    let addr = checked_address(txn, width, byte)?;
+    let value = read(txn, addr, width as u32)?;
+    Ok((Operand::Memory(addr), value))
+}
+
+/// An operand that lies in memory and is modified, and the value there.
+#[inline(always)]
+fn modified_beyond<P: Port>(
+    txn: &mut Txn<P>,
+    width: u8,
+    byte: u8,
+) -> Result<(Operand, u64), CutShort>
+    requires width { IsWidth width }
+    requires memory { IsMemory (form_of byte) }
+    requires room { 3 ≤ room txn.old }
+    ensures exact { Follows (modified width (form_of byte) (present P.view txn.old).state) (present P.view txn.old) (told txn.new result) (present P.view txn.new) }
+    ensures place { IfOk result (λ m. IsPlace width m.0) }
+    ensures fits { IfOk result (λ m. m.1 < 256 ^ width) }
+    ensures keeps { Keeps P.view P.since 3 txn.old txn.new }
+{
+    modified_there(txn, width, byte)
+}
+
+/// The address of an operand that is written.
+#[inline(never)]
+fn written_address<P: Port>(txn: &mut Txn<P>, width: u8, byte: u8) -> Result<u32, CutShort>
+    requires width { IsWidth width }
+    requires room { 3 ≤ room txn.old }
+    ensures exact { Follows (located letter.Write width (form_of byte) (present P.view txn.old).state) (present P.view txn.old) (told txn.new result) (present P.view txn.new) }
+    ensures keeps { Keeps P.view P.since 3 txn.old txn.new }
+{
+    address_near(txn, Letter::Write, width, byte)
+}
+
+/// The place at the address of a specifier byte.
+#[inline(always)]
+fn place_there<P: Port>(txn: &mut Txn<P>, width: u8, byte: u8) -> Result<Operand, CutShort>
+    requires width { IsWidth width }
+    requires room { 3 ≤ room txn.old }
+    ensures exact { Follows (λ next. located letter.Write width (form_of byte) (present P.view txn.old).state (λ addr s. next (operand.Memory addr) s)) (present P.view txn.old) (told txn.new result) (present P.view txn.new) }
+    ensures place { IfOk result (IsPlace width) }
+    ensures keeps { Keeps P.view P.since 3 txn.old txn.new }
+{
+    let addr = written_address(txn, width, byte)?;
+    Ok(Operand::Memory(addr))
+}
+
+/// An operand that lies in memory and is written.
+#[inline(always)]
+fn place_beyond<P: Port>(txn: &mut Txn<P>, width: u8, byte: u8) -> Result<Operand, CutShort>
+    requires width { IsWidth width }
+    requires memory { IsMemory (form_of byte) }
+    requires room { 3 ≤ room txn.old }
+    ensures exact { Follows (formed (write_of width) (form_of byte) (present P.view txn.old).state) (present P.view txn.old) (told txn.new result) (present P.view txn.new) }
+    ensures place { IfOk result (IsPlace width) }
+    ensures keeps { Keeps P.view P.since 3 txn.old txn.new }
+{
+    place_there(txn, width, byte)
+}
+
+/// The value of an operand in a register.
+#[inline(always)]
+#[tactic(auto, using(vax_flat::proofs::Leaves::over_port_raises), unfolding(vax_flat::specs::Operand::in_register, vax_flat::specs::Rows::value_of))]
+fn value_of_register<P: Port>(txn: &mut Txn<P>, width: u8, n: u8) -> Result<u64, CutShort>
+    requires width { IsWidth width }
+    requires of_core { n < 16 }
+    ensures exact { Follows (λ next. in_register (read_of width) n (present P.view txn.old).state (λ o s. next (value_of o) s)) (present P.view txn.old) (told txn.new result) (present P.view txn.new) }
+    ensures fits { IfOk result (λ x. x < 256 ^ width) }
+    ensures keeps { Keeps P.view P.since 0 txn.old txn.new }
+{
+    if reaches_pc(width, n) {
+        return Err(txn.cut(Cut::Event(Exception::Mode)));
+    }
+    Ok(value_in(txn, width, n))
+}
+
+/// A register that is modified, and the value there.
+#[inline(always)]
+#[tactic(auto, using(vax_flat::proofs::Leaves::over_port_raises), unfolding(crate::specs::Addressed::modified, vax_flat::specs::Operand::formed, vax_flat::specs::Operand::in_register, vax_flat::specs::Rows::value_at))]
+fn modified_register<P: Port>(
+    txn: &mut Txn<P>,
+    width: u8,
+    n: u8,
+) -> Result<(Operand, u64), CutShort>
+    requires width { IsWidth width }
+    requires of_core { n < 16 }
+    ensures exact { Follows (modified width (form.Register n) (present P.view txn.old).state) (present P.view txn.old) (told txn.new result) (present P.view txn.new) }
+    ensures place { IfOk result (λ m. IsPlace width m.0) }
+    ensures fits { IfOk result (λ m. m.1 < 256 ^ width) }
+    ensures keeps { Keeps P.view P.since 0 txn.old txn.new }
+{
+    if reaches_pc(width, n) {
+        return Err(txn.cut(Cut::Event(Exception::Mode)));
+    }
+    Ok((Operand::Register(n), value_in(txn, width, n)))
+}
+
+/// A register that is written.
+#[inline(always)]
+#[tactic(auto, using(vax_flat::proofs::Leaves::over_port_raises), unfolding(vax_flat::specs::Operand::in_register))]
+fn place_register<P: Port>(txn: &mut Txn<P>, width: u8, n: u8) -> Result<Operand, CutShort>
+    requires width { IsWidth width }
+    requires of_core { n < 16 }
+    ensures exact { Follows (in_register (write_of width) n (present P.view txn.old).state) (present P.view txn.old) (told txn.new result) (present P.view txn.new) }
+    ensures place { IfOk result (IsPlace width) }
+    ensures keeps { Keeps P.view P.since 0 txn.old txn.new }
+{
+    if reaches_pc(width, n) {
+        return Err(txn.cut(Cut::Event(Exception::Mode)));
+    }
+    Ok(Operand::Register(n))
+}
+
+/// A literal is no operand that is modified.
+#[cold]
+#[tactic(auto, using(vax_flat::proofs::Leaves::over_port_raises), unfolding(crate::specs::Addressed::modified, vax_flat::specs::Operand::formed, vax_flat::specs::Operand::literal))]
+fn modified_literal<P: Port>(
+    txn: &mut Txn<P>,
+    width: u8,
+    byte: u8,
+) -> Result<(Operand, u64), CutShort>
+    ensures exact { Follows (modified width (form.Literal byte) (present P.view txn.old).state) (present P.view txn.old) (told txn.new result) (present P.view txn.new) }
+    ensures place { IfOk result (λ m. IsPlace width m.0) }
+    ensures fits { IfOk result (λ m. m.1 < 256 ^ width) }
+    ensures keeps { Keeps P.view P.since 0 txn.old txn.new }
+{
+    let _ = (width, byte);
+    Err(txn.cut(Cut::Event(Exception::Mode)))
+}
+
+/// The value of an operand by its specifier byte.
+#[inline(always)]
+#[tactic(auto, unfolding(vax_flat::specs::Operand::formed, vax_flat::specs::Operand::form_of, vax_flat::specs::Operand::literal, vax_flat::specs::Rows::value_of))]
+fn value_by_byte<P: Port>(txn: &mut Txn<P>, width: u8, byte: u8) -> Result<u64, CutShort>
+    requires width { IsWidth width }
+    requires room { 3 ≤ room txn.old }
+    ensures exact { Follows (λ next. formed (read_of width) (form_of byte) (present P.view txn.old).state (λ o s. next (value_of o) s)) (present P.view txn.old) (told txn.new result) (present P.view txn.new) }
+    ensures fits { IfOk result (λ x. x < 256 ^ width) }
+    ensures keeps { Keeps P.view P.since 3 txn.old txn.new }
+{
+    match byte >> 4 {
+        0 | 1 | 2 | 3 => Ok(byte as u64),
+        5 => value_of_register(txn, width, byte & 15),
+        _ => value_beyond(txn, width, byte),
+    }
+}
+
+/// An operand that is modified, and the value there, by its specifier byte.
+#[inline(always)]
+#[tactic(auto, unfolding(vax_flat::specs::Operand::form_of))]
+fn modified_by_byte<P: Port>(
+    txn: &mut Txn<P>,
+    width: u8,
+    byte: u8,
+) -> Result<(Operand, u64), CutShort>
+    requires width { IsWidth width }
+    requires room { 3 ≤ room txn.old }
+    ensures exact { Follows (modified width (form_of byte) (present P.view txn.old).state) (present P.view txn.old) (told txn.new result) (present P.view txn.new) }
+    ensures place { IfOk result (λ m. IsPlace width m.0) }
+    ensures fits { IfOk result (λ m. m.1 < 256 ^ width) }
+    ensures keeps { Keeps P.view P.since 3 txn.old txn.new }
+{
+    match byte >> 4 {
+        0 | 1 | 2 | 3 => modified_literal(txn, width, byte),
+        5 => modified_register(txn, width, byte & 15),
+        _ => modified_beyond(txn, width, byte),
+    }
+}
+
+/// An operand that is written, by its specifier byte.
+#[inline(always)]
+#[tactic(auto, using(vax_flat::proofs::Leaves::over_port_raises), unfolding(vax_flat::specs::Operand::formed, vax_flat::specs::Operand::form_of, vax_flat::specs::Operand::literal))]
+fn place_by_byte<P: Port>(txn: &mut Txn<P>, width: u8, byte: u8) -> Result<Operand, CutShort>
+    requires width { IsWidth width }
+    requires room { 3 ≤ room txn.old }
+    ensures exact { Follows (formed (write_of width) (form_of byte) (present P.view txn.old).state) (present P.view txn.old) (told txn.new result) (present P.view txn.new) }
+    ensures place { IfOk result (IsPlace width) }
+    ensures keeps { Keeps P.view P.since 3 txn.old txn.new }
+{
+    match byte >> 4 {
+        0 | 1 | 2 | 3 => Err(txn.cut(Cut::Event(Exception::Mode))),
+        5 => place_register(txn, width, byte & 15),
+        _ => place_beyond(txn, width, byte),
+    }
+}
+
 /// Reads one operand at PC and its value.
-#[inline]
-#[tactic(auto, using(crate::proofs::Values::value_of_fits), unfolding(vax_flat::specs::Rows::read_value))]
+#[inline(always)]
+#[tactic(auto, unfolding(vax_flat::specs::Rows::read_value, vax_flat::specs::Operand::next_operand, vax_flat::specs::Operand::specified))]
 pub fn next_value<P: Port>(txn: &mut Txn<P>, size: Size) -> Result<u64, CutShort>
     requires room { 4 ≤ room txn.old }
     ensures exact { Follows (read_value (bytes_of size) (present P.view txn.old).state) (present P.view txn.old) (told txn.new result) (present P.view txn.new) }
     ensures fits { IfOk result (λ x. x < 256 ^ bytes_of size) }
     ensures keeps { Keeps P.view P.since 4 txn.old txn.new }
 {
-    let kind = OperandKind {
-        letter: Letter::Read,
-        width: width_of(size),
-    };
-    let operand = next(txn, kind)?;
-    Ok(value_of(operand))
+    let width = width_of(size);
+    let byte = fetch(txn, 1)? as u8;
+    value_by_byte(txn, width, byte)
 }
 
 /// Reads one operand at PC that is modified: where it is, checked for writing, and the value there.
-#[inline]
-#[tactic(auto, unfolding(vax_flat::specs::Rows::modify_value))]
+#[inline(always)]
+#[tactic(auto, unfolding(crate::specs::Addressed::modified, vax_flat::specs::Rows::modify_value, vax_flat::specs::Operand::next_operand, vax_flat::specs::Operand::specified))]
 pub fn next_modified<P: Port>(txn: &mut Txn<P>, size: Size) -> Result<(Operand, u64), CutShort>
     requires room { 4 ≤ room txn.old }
     ensures exact { Follows (modify_value (bytes_of size) (present P.view txn.old).state) (present P.view txn.old) (told txn.new result) (present P.view txn.new) }
@@ -187,29 +397,23 @@ pub fn next_modified<P: Port>(txn: &mut Txn<P>, size: Size) -> Result<(Operand, 
     ensures fits { IfOk result (λ m. m.1 < 256 ^ bytes_of size) }
     ensures keeps { Keeps P.view P.since 4 txn.old txn.new }
 {
-    let kind = OperandKind {
-        letter: Letter::Modify,
-        width: width_of(size),
-    };
-    let place = next(txn, kind)?;
-    let value = value_at(txn, kind.width, place)?;
-    Ok((place, value))
+    let width = width_of(size);
+    let byte = fetch(txn, 1)? as u8;
+    modified_by_byte(txn, width, byte)
 }
 
 /// Reads one operand at PC that is written: where it is.
-#[inline]
-#[tactic(auto, unfolding(vax_flat::specs::Rows::write_place))]
+#[inline(always)]
+#[tactic(auto, unfolding(vax_flat::specs::Rows::write_place, vax_flat::specs::Operand::next_operand, vax_flat::specs::Operand::specified))]
 pub fn next_place<P: Port>(txn: &mut Txn<P>, size: Size) -> Result<Operand, CutShort>
     requires room { 4 ≤ room txn.old }
     ensures exact { Follows (write_place (bytes_of size) (present P.view txn.old).state) (present P.view txn.old) (told txn.new result) (present P.view txn.new) }
     ensures place { IfOk result (IsPlace (bytes_of size)) }
     ensures keeps { Keeps P.view P.since 4 txn.old txn.new }
 {
-    let kind = OperandKind {
-        letter: Letter::Write,
-        width: width_of(size),
-    };
-    next(txn, kind)
+    let width = width_of(size);
+    let byte = fetch(txn, 1)? as u8;
+    place_by_byte(txn, width, byte)
 }
 
 /// Reads one operand at PC of which the address is taken.
@@ -229,17 +433,15 @@ pub fn next_address<P: Port>(txn: &mut Txn<P>, size: Size) -> Result<u32, CutSho
 }
 
 /// Reads the displacement at PC that a branch has: where the branch goes.
-#[inline]
-#[tactic(auto, unfolding(vax_flat::specs::Rows::branch_target))]
+#[inline(always)]
+#[tactic(auto, unfolding(vax_flat::specs::Rows::branch_target, vax_flat::specs::Operand::next_operand, vax_flat::specs::Operand::branched, vax_flat::specs::Rows::address_in))]
 pub fn next_target<P: Port>(txn: &mut Txn<P>, size: Narrow) -> Result<u32, CutShort>
     requires room { 4 ≤ room txn.old }
     ensures exact { Follows (branch_target (bytes_of (size_of size)) (present P.view txn.old).state) (present P.view txn.old) (told txn.new result) (present P.view txn.new) }
     ensures keeps { Keeps P.view P.since 4 txn.old txn.new }
 {
-    let kind = OperandKind {
-        letter: Letter::Branch,
-        width: displacement_width(size),
-    };
-    let operand = next(txn, kind)?;
-    Ok(address_in(operand))
+    let width = displacement_width(size);
+    let value = fetch(txn, width as u32)?;
+    let displacement = extend(width, value);
+    Ok(txn.reg(15).wrapping_add(displacement))
 }

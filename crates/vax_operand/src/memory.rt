@@ -9,7 +9,7 @@ use vax_space::Access;
 use vax_undo::{CutShort, Port, Txn};
 
 /// The number that `n` bytes are.
-#[inline]
+#[inline(always)]
 #[tactic(auto, unfolding(vax_flat::specs::OverPort::over_port, vax_flat::specs::Operand::read_at))]
 pub fn read<P: Port>(txn: &mut Txn<P>, addr: u32, n: u32) -> Result<u64, CutShort>
     requires some { 1 ≤ n }
@@ -45,7 +45,7 @@ pub fn write<P: Port>(txn: &mut Txn<P>, addr: u32, n: u32, value: u64) -> Result
 }
 
 /// Checks that `n` bytes may be used so, resident or not.
-#[inline]
+#[inline(always)]
 #[tactic(auto, unfolding(vax_flat::specs::OverPort::over_port, vax_flat::specs::Operand::check_at))]
 pub fn check<P: Port>(txn: &mut Txn<P>, addr: u32, n: u32, access: Access) -> Result<(), CutShort>
     requires short { n ≤ 65536 }
@@ -61,7 +61,7 @@ pub fn check<P: Port>(txn: &mut Txn<P>, addr: u32, n: u32, access: Access) -> Re
 }
 
 /// The number that the next `n` bytes of the instruction are. PC moves past them.
-#[inline]
+#[inline(always)]
 #[tactic(auto, unfolding(vax_flat::specs::OverPort::over_port, vax_flat::specs::Operand::fetched, vax_flat::specs::Operand::read_at))]
 pub fn fetch<P: Port>(txn: &mut Txn<P>, n: u32) -> Result<u64, CutShort>
     requires some { 1 ≤ n }

@@ -14,7 +14,7 @@ use vax_undo::{CutShort, Port, Txn};
 use vax_word::{Codes, Psl, Size};
 
 /// Sets the condition codes.
-#[inline]
+#[inline(always)]
 pub fn set_codes<P: Port>(txn: &mut Txn<P>, codes: Codes)
     requires { 1 ≤ room txn.old }
     ensures exact { present P.view txn.new ≡ with_state (present P.view txn.old) (with_conditions (present P.view txn.old).state codes) }
@@ -25,7 +25,7 @@ pub fn set_codes<P: Port>(txn: &mut Txn<P>, codes: Codes)
 }
 
 /// Whether an integer overflow traps.
-#[inline]
+#[inline(always)]
 fn traps_overflow<P: Port>(txn: &Txn<P>) -> bool
     ensures { result ≡ overflow_enabled (present P.view txn.now).state }
 {
@@ -34,7 +34,7 @@ fn traps_overflow<P: Port>(txn: &Txn<P>) -> bool
 }
 
 /// Sets the condition codes. A division by 0 traps then, and so does an overflow where that is enabled.
-#[inline]
+#[inline(always)]
 #[tactic(auto, unfolding(vax_flat::specs::Rows::settled, vax_flat::specs::Rows::flow_of))]
 pub fn settle<P: Port>(txn: &mut Txn<P>, by_zero: bool, codes: Codes) -> Result<Flow, CutShort>
     requires { 1 ≤ room txn.old }
@@ -53,7 +53,7 @@ pub fn settle<P: Port>(txn: &mut Txn<P>, by_zero: bool, codes: Codes) -> Result<
 }
 
 /// Writes a result to its place, and sets its codes.
-#[inline]
+#[inline(always)]
 #[tactic(auto, unfolding(vax_flat::specs::Rows::answered))]
 pub fn answer<P: Port>(
     txn: &mut Txn<P>,
@@ -74,7 +74,7 @@ pub fn answer<P: Port>(
 }
 
 /// Pushes a longword onto the stack in use.
-#[inline]
+#[inline(always)]
 #[tactic(auto, unfolding(vax_flat::specs::Rows::pushed))]
 pub fn push<P: Port>(txn: &mut Txn<P>, value: u32) -> Result<(), CutShort>
     requires { 2 ≤ room txn.old }

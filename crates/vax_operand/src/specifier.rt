@@ -1,9 +1,10 @@
 //! Operand specifiers.
 ghost use Rattle.std.specs.Prelude.{◌≡◌, ℕ, ◌+◌, ◌*◌, ◌%◌, ◌^◌, ◌<◌, ◌≤◌, IfOk};
-ghost use Rattle.vax_flat.specs.Operand.{form_of, extended, at_address, literal, in_register, register_value, addressed, is_reserved, is_no_base, is_result, reaches_pc, indexed, in_memory, after_prefix, formed, specified, branched, next_operand, IsWidth, IsTarget, Fits};
+ghost use Rattle.vax_flat.specs.Operand.{form_of, extended, at_address, literal, in_register, register_value, addressed, is_reserved, is_no_base, is_result, reaches_pc, formed, specified, branched, next_operand, IsWidth, IsTarget, Fits};
 ghost use Rattle.vax_flat.specs.OverPort.{Follows, Performs};
 ghost use Rattle.vax_undo.specs.Transaction.{present, room, Keeps, told};
 ghost use Rattle.vax_operand.specs.Located.{LocatesEverywhere};
+ghost use Rattle.vax_operand.specs.Addressed.{direct, based, prefixed, located, IsMemory};
 ghost use Rattle.vax_operand.specs.Form.{IsForm, IsDisplacement};
 
 use crate::memory::{check, fetch, read};
@@ -38,9 +39,9 @@ fn decode(byte: u8) -> Form
 }
 
 /// A displacement of 1, 2 or 4 bytes, sign-extended to 32 bits.
-#[inline]
+#[inline(always)]
 #[tactic(auto, unfolding(vax_flat::specs::Operand::extended))]
-fn extend(width: u8, value: u64) -> u32
+pub(crate) fn extend(width: u8, value: u64) -> u32
     requires width { IsDisplacement width }
     requires fits { value < 256 ^ width }
     ensures { result ≡ extended width value }
@@ -102,7 +103,7 @@ fn short_literal<P: Port>(
 }
 
 /// The value of a register, or of the pair of a quadword.
-#[inline]
+#[inline(always)]
 #[tactic(auto, unfolding(vax_flat::specs::Operand::register_value))]
 pub(crate) fn value_in<P: Port>(txn: &Txn<P>, width: u8, n: u8) -> u64
     requires width { IsWidth width }
@@ -120,6 +121,14 @@ pub(crate) fn value_in<P: Port>(txn: &Txn<P>, width: u8, n: u8) -> u64
     }
 }
 
+/// Whether a register is PC, or has PC as the upper half of a quadword: it holds no operand.
+#[inline(always)]
+pub(crate) fn reaches_pc(width: u8, n: u8) -> bool
+    ensures { result ≡ reaches_pc width n }
+{
+    n == 15 || (width == 8 && n == 14)
+}
+
 /// A register as an operand.
 #[inline]
 #[tactic(auto, using(vax_flat::proofs::Leaves::over_port_raises), unfolding(vax_flat::specs::Operand::in_register))]
@@ -134,7 +143,7 @@ fn register_operand<P: Port>(
     ensures fits { IfOk result (Fits kind) }
     ensures keeps { Keeps P.view P.since 0 txn.old txn.new }
 {
-    if n == 15 || (kind.width == 8 && n == 14) {
+    if reaches_pc(kind.width, n) {
         return Err(txn.cut(Cut::Event(Exception::Mode)));
     }
     match kind.letter {
@@ -239,133 +248,188 @@ fn is_no_base(x: u8, form: Form) -> bool
     }
 }
 
-/// An operand of a memory form.
-#[inline(never)]
-#[tactic(auto, using(vax_flat::proofs::Leaves::over_port_raises), unfolding(vax_flat::specs::Operand::in_memory))]
-fn memory_operand<P: Port>(
+/// The address of a form that is no index.
+#[inline]
+#[tactic(auto, using(vax_flat::proofs::Leaves::over_port_raises), unfolding(crate::specs::Addressed::direct))]
+fn direct_address<P: Port>(
     txn: &mut Txn<P>,
-    kind: OperandKind,
+    letter: Letter,
+    width: u8,
     form: Form,
-) -> Result<Operand, CutShort>
-    requires width { IsWidth kind.width }
+) -> Result<u32, CutShort>
+    requires width { IsWidth width }
     requires form { IsForm form }
     requires room { 2 ≤ room txn.old }
-    ensures exact { Follows (in_memory kind form (present P.view txn.old).state) (present P.view txn.old) (told txn.new result) (present P.view txn.new) }
-    ensures fits { IfOk result (Fits kind) }
+    ensures exact { Follows (direct letter width form (present P.view txn.old).state) (present P.view txn.old) (told txn.new result) (present P.view txn.new) }
     ensures keeps { Keeps P.view P.since 2 txn.old txn.new }
 {
-    if is_reserved(kind.letter, form) {
+    if is_reserved(letter, form) {
         return Err(txn.cut(Cut::Event(Exception::Mode)));
     }
-    let addr = address(txn, kind.width, form)?;
-    locate(txn, kind, addr)
+    address(txn, width, form)
 }
 
-/// An operand at the address in a register.
-#[inline(never)]
-#[tactic(auto, using(vax_flat::proofs::Leaves::over_port_raises), unfolding(vax_flat::specs::Operand::in_memory, vax_flat::specs::Operand::is_reserved, vax_flat::specs::Operand::addressed))]
-fn deferred<P: Port>(txn: &mut Txn<P>, kind: OperandKind, n: u8) -> Result<Operand, CutShort>
-    requires width { IsWidth kind.width }
-    requires of_core { n < 16 }
-    ensures exact { Follows (in_memory kind (Form.Deferred n) (present P.view txn.old).state) (present P.view txn.old) (told txn.new result) (present P.view txn.new) }
-    ensures fits { IfOk result (Fits kind) }
-    ensures keeps { Keeps P.view P.since 0 txn.old txn.new }
-{
-    if n == 15 {
-        return Err(txn.cut(Cut::Event(Exception::Mode)));
-    }
-    let addr = txn.reg(n);
-    locate(txn, kind, addr)
-}
-
-/// An operand at the address in a register, which then moves past it. With PC it is an immediate.
-#[inline(never)]
-#[tactic(auto, using(vax_flat::proofs::Leaves::over_port_raises), unfolding(vax_flat::specs::Operand::in_memory, vax_flat::specs::Operand::is_reserved, vax_flat::specs::Operand::addressed))]
-fn incremented<P: Port>(txn: &mut Txn<P>, kind: OperandKind, n: u8) -> Result<Operand, CutShort>
-    requires width { IsWidth kind.width }
-    requires of_core { n < 16 }
-    requires room { 1 ≤ room txn.old }
-    ensures exact { Follows (in_memory kind (Form.Increment n) (present P.view txn.old).state) (present P.view txn.old) (told txn.new result) (present P.view txn.new) }
-    ensures fits { IfOk result (Fits kind) }
-    ensures keeps { Keeps P.view P.since 1 txn.old txn.new }
-{
-    if is_reserved(kind.letter, Form::Increment(n)) {
-        return Err(txn.cut(Cut::Event(Exception::Mode)));
-    }
-    let addr = txn.reg(n);
-    txn.set_reg(n, addr.wrapping_add(kind.width as u32));
-    locate(txn, kind, addr)
-}
-
-/// An operand at a displacement from a register.
-#[inline(never)]
-#[tactic(auto, using(vax_flat::proofs::Leaves::over_port_raises), unfolding(vax_flat::specs::Operand::in_memory, vax_flat::specs::Operand::is_reserved, vax_flat::specs::Operand::addressed))]
-fn displaced<P: Port>(
-    txn: &mut Txn<P>,
-    kind: OperandKind,
-    width: u8,
-    n: u8,
-) -> Result<Operand, CutShort>
-    requires width { IsWidth kind.width }
-    requires displacement { IsDisplacement width }
-    requires of_core { n < 16 }
-    requires room { 1 ≤ room txn.old }
-    ensures exact { Follows (in_memory kind (Form.Displacement width n) (present P.view txn.old).state) (present P.view txn.old) (told txn.new result) (present P.view txn.new) }
-    ensures fits { IfOk result (Fits kind) }
-    ensures keeps { Keeps P.view P.since 1 txn.old txn.new }
-{
-    match fetch(txn, width as u32) {
-        Ok(value) => {
-            let addr = txn.reg(n).wrapping_add(extend(width, value));
-            locate(txn, kind, addr)
-        }
-        Err(short) => Err(short),
-    }
-}
-
-/// An operand of a base form, indexed by register `x`.
-#[tactic(auto, using(vax_flat::proofs::Leaves::over_port_raises), unfolding(vax_flat::specs::Operand::indexed))]
-fn indexed_operand<P: Port>(
-    txn: &mut Txn<P>,
-    kind: OperandKind,
-    x: u8,
-    base: Form,
-) -> Result<Operand, CutShort>
-    requires width { IsWidth kind.width }
+/// The address of a base form, indexed by register `x`.
+#[inline]
+#[tactic(auto, using(vax_flat::proofs::Leaves::over_port_raises), unfolding(crate::specs::Addressed::based))]
+fn based_address<P: Port>(txn: &mut Txn<P>, width: u8, x: u8, base: Form) -> Result<u32, CutShort>
+    requires width { IsWidth width }
     requires of_core { x < 16 }
     requires form { IsForm base }
     requires room { 2 ≤ room txn.old }
-    ensures exact { Follows (indexed kind x base (present P.view txn.old).state) (present P.view txn.old) (told txn.new result) (present P.view txn.new) }
-    ensures fits { IfOk result (Fits kind) }
+    ensures exact { Follows (based width x base (present P.view txn.old).state) (present P.view txn.old) (told txn.new result) (present P.view txn.new) }
     ensures keeps { Keeps P.view P.since 2 txn.old txn.new }
 {
     if is_no_base(x, base) {
         return Err(txn.cut(Cut::Event(Exception::Mode)));
     }
-    let addr = address(txn, kind.width, base)?;
-    let offset = (kind.width as u32).wrapping_mul(txn.reg(x));
-    locate(txn, kind, addr.wrapping_add(offset))
+    let addr = address(txn, width, base)?;
+    let offset = (width as u32).wrapping_mul(txn.reg(x));
+    Ok(addr.wrapping_add(offset))
 }
 
-/// What follows the prefix of an index by register `x`.
+/// The address behind the prefix of an index by register `x`.
 #[inline(never)]
-#[tactic(auto, using(vax_flat::proofs::Leaves::over_port_raises), unfolding(vax_flat::specs::Operand::after_prefix))]
-fn after_prefix<P: Port>(txn: &mut Txn<P>, kind: OperandKind, x: u8) -> Result<Operand, CutShort>
-    requires width { IsWidth kind.width }
+#[tactic(auto, using(vax_flat::proofs::Leaves::over_port_raises), unfolding(crate::specs::Addressed::prefixed))]
+fn prefixed_address<P: Port>(txn: &mut Txn<P>, width: u8, x: u8) -> Result<u32, CutShort>
+    requires width { IsWidth width }
     requires of_core { x < 16 }
     requires room { 3 ≤ room txn.old }
-    ensures exact { Follows (after_prefix kind x (present P.view txn.old).state) (present P.view txn.old) (told txn.new result) (present P.view txn.new) }
-    ensures fits { IfOk result (Fits kind) }
+    ensures exact { Follows (prefixed width x (present P.view txn.old).state) (present P.view txn.old) (told txn.new result) (present P.view txn.new) }
     ensures keeps { Keeps P.view P.since 3 txn.old txn.new }
 {
     if x == 15 {
         return Err(txn.cut(Cut::Event(Exception::Mode)));
     }
     let byte = fetch(txn, 1)? as u8;
-    indexed_operand(txn, kind, x, decode(byte))
+    based_address(txn, width, x, decode(byte))
 }
 
-/// An operand of a specifier byte. The usual ones are told from the byte alone: a form is made for the others.
+/// The address of any form. One that has none is reserved.
+#[inline(never)]
+#[tactic(auto, unfolding(crate::specs::Addressed::located))]
+fn address_of<P: Port>(
+    txn: &mut Txn<P>,
+    letter: Letter,
+    width: u8,
+    form: Form,
+) -> Result<u32, CutShort>
+    requires width { IsWidth width }
+    requires form { IsForm form }
+    requires room { 3 ≤ room txn.old }
+    ensures exact { Follows (located letter width form (present P.view txn.old).state) (present P.view txn.old) (told txn.new result) (present P.view txn.new) }
+    ensures keeps { Keeps P.view P.since 3 txn.old txn.new }
+{
+    match form {
+        Form::Literal(_) => direct_address(txn, letter, width, form),
+        Form::Index(x) => prefixed_address(txn, width, x),
+        Form::Register(_) => direct_address(txn, letter, width, form),
+        Form::Deferred(_) => direct_address(txn, letter, width, form),
+        Form::Decrement(_) => direct_address(txn, letter, width, form),
+        Form::Increment(_) => direct_address(txn, letter, width, form),
+        Form::IncrementDeferred(_) => direct_address(txn, letter, width, form),
+        Form::Displacement { .. } => direct_address(txn, letter, width, form),
+        Form::DisplacementDeferred { .. } => direct_address(txn, letter, width, form),
+    }
+}
+
+/// The address in a register.
+#[inline(always)]
+#[tactic(auto, using(vax_flat::proofs::Leaves::over_port_raises), unfolding(crate::specs::Addressed::located, crate::specs::Addressed::direct, vax_flat::specs::Operand::is_reserved, vax_flat::specs::Operand::addressed))]
+fn deferred_address<P: Port>(
+    txn: &mut Txn<P>,
+    letter: Letter,
+    width: u8,
+    n: u8,
+) -> Result<u32, CutShort>
+    requires of_core { n < 16 }
+    ensures exact { Follows (located letter width (Form.Deferred n) (present P.view txn.old).state) (present P.view txn.old) (told txn.new result) (present P.view txn.new) }
+    ensures keeps { Keeps P.view P.since 0 txn.old txn.new }
+{
+    let _ = (letter, width);
+    if n == 15 {
+        return Err(txn.cut(Cut::Event(Exception::Mode)));
+    }
+    Ok(txn.reg(n))
+}
+
+/// The address at a displacement of one byte from a register.
+#[inline(always)]
+#[tactic(auto, using(vax_flat::proofs::Leaves::over_port_raises), unfolding(crate::specs::Addressed::located, crate::specs::Addressed::direct, vax_flat::specs::Operand::is_reserved, vax_flat::specs::Operand::addressed))]
+fn near_address<P: Port>(
+    txn: &mut Txn<P>,
+    letter: Letter,
+    width: u8,
+    n: u8,
+) -> Result<u32, CutShort>
+    requires of_core { n < 16 }
+    requires room { 1 ≤ room txn.old }
+    ensures exact { Follows (located letter width (Form.Displacement 1 n) (present P.view txn.old).state) (present P.view txn.old) (told txn.new result) (present P.view txn.new) }
+    ensures keeps { Keeps P.view P.since 1 txn.old txn.new }
+{
+    let _ = (letter, width);
+    let displacement = extend(1, fetch(txn, 1)?);
+    Ok(txn.reg(n).wrapping_add(displacement))
+}
+
+/// The address of an operand that lies in memory, by its specifier byte. The two commonest forms are told from the byte alone.
+#[inline(always)]
+#[tactic(auto, unfolding(vax_flat::specs::Operand::form_of))]
+pub(crate) fn address_near<P: Port>(
+    txn: &mut Txn<P>,
+    letter: Letter,
+    width: u8,
+    byte: u8,
+) -> Result<u32, CutShort>
+    requires width { IsWidth width }
+    requires room { 3 ≤ room txn.old }
+    ensures exact { Follows (located letter width (form_of byte) (present P.view txn.old).state) (present P.view txn.old) (told txn.new result) (present P.view txn.new) }
+    ensures keeps { Keeps P.view P.since 3 txn.old txn.new }
+{
+    match byte >> 4 {
+        6 => deferred_address(txn, letter, width, byte & 15),
+        10 => near_address(txn, letter, width, byte & 15),
+        _ => address_of(txn, letter, width, decode(byte)),
+    }
+}
+
+/// What lies at the address of a specifier byte.
+#[inline(never)]
+fn operand_there<P: Port>(
+    txn: &mut Txn<P>,
+    kind: OperandKind,
+    byte: u8,
+) -> Result<Operand, CutShort>
+    requires width { IsWidth kind.width }
+    requires room { 3 ≤ room txn.old }
+    ensures exact { Follows (λ next. located kind.letter kind.width (form_of byte) (present P.view txn.old).state (λ addr s. at_address kind addr s next)) (present P.view txn.old) (told txn.new result) (present P.view txn.new) }
+    ensures fits { IfOk result (Fits kind) }
+    ensures keeps { Keeps P.view P.since 3 txn.old txn.new }
+{
+    match address_near(txn, kind.letter, kind.width, byte) {
+        Ok(addr) => locate(txn, kind, addr),
+        Err(short) => Err(short),
+    }
+}
+
+/// An operand that lies in memory, by its specifier byte.
+#[inline(always)]
+fn memory_operand<P: Port>(
+    txn: &mut Txn<P>,
+    kind: OperandKind,
+    byte: u8,
+) -> Result<Operand, CutShort>
+    requires width { IsWidth kind.width }
+    requires memory { IsMemory (form_of byte) }
+    requires room { 3 ≤ room txn.old }
+    ensures exact { Follows (formed kind (form_of byte) (present P.view txn.old).state) (present P.view txn.old) (told txn.new result) (present P.view txn.new) }
+    ensures fits { IfOk result (Fits kind) }
+    ensures keeps { Keeps P.view P.since 3 txn.old txn.new }
+{
+    operand_there(txn, kind, byte)
+}
+
+/// An operand of a specifier byte: a literal, a register, or one that lies in memory.
 #[inline]
 #[tactic(auto, unfolding(vax_flat::specs::Operand::formed, vax_flat::specs::Operand::form_of))]
 fn by_byte<P: Port>(txn: &mut Txn<P>, kind: OperandKind, byte: u8) -> Result<Operand, CutShort>
@@ -375,42 +439,10 @@ fn by_byte<P: Port>(txn: &mut Txn<P>, kind: OperandKind, byte: u8) -> Result<Ope
     ensures fits { IfOk result (Fits kind) }
     ensures keeps { Keeps P.view P.since 3 txn.old txn.new }
 {
-    let n = byte & 15;
     match byte >> 4 {
-        5 => register_operand(txn, kind, n),
+        5 => register_operand(txn, kind, byte & 15),
         0 | 1 | 2 | 3 => short_literal(txn, kind, byte),
-        4 => after_prefix(txn, kind, n),
-        6 => deferred(txn, kind, n),
-        7 => memory_operand(txn, kind, Form::Decrement(n)),
-        8 => incremented(txn, kind, n),
-        9 => memory_operand(txn, kind, Form::IncrementDeferred(n)),
-        10 => displaced(txn, kind, 1, n),
-        11 => memory_operand(
-            txn,
-            kind,
-            Form::DisplacementDeferred {
-                width: 1,
-                register: n,
-            },
-        ),
-        12 => displaced(txn, kind, 2, n),
-        13 => memory_operand(
-            txn,
-            kind,
-            Form::DisplacementDeferred {
-                width: 2,
-                register: n,
-            },
-        ),
-        14 => displaced(txn, kind, 4, n),
-        _ => memory_operand(
-            txn,
-            kind,
-            Form::DisplacementDeferred {
-                width: 4,
-                register: n,
-            },
-        ),
+        _ => memory_operand(txn, kind, byte),
     }
 }
 

@@ -181,11 +181,14 @@ impl<R: rt::Files<File = File>> PageFile for HostPages<R> {
 
     fn read_block(&mut self, n: u32, into: &mut [u8; 512]) -> Result<(), Failed> {
         self.open();
+        // A read that fails may have changed the bytes that it was given.
+        let mut block = [0; 512];
         let done = match &self.file {
-            Some(file) => file.read_exact_at(into, offset(n)).is_ok(),
+            Some(file) => file.read_exact_at(&mut block, offset(n)).is_ok(),
             None => false,
         };
         if done {
+            *into = block;
             return Ok(());
         }
         self.faults = raised(self.faults);

@@ -1,8 +1,8 @@
 //! What the program asks of the outside: files by name, three output channels, and a file of numbered blocks.
 //!
 //! Each is a trait with two meanings that contracts see. `contents` is what the object holds, where it tells that;
-//! an object that tells nothing answers None. `faults` counts the calls that failed. The count never falls, and a call
-//! answers a failure only where the count rose in that call. `Text` is a line on its way to a channel.
+//! an object that tells nothing answers None. `faults` counts the calls that failed: a call that answers a failure
+//! raises the count, and a call that answers otherwise leaves it. `Text` is a line on its way to a channel.
 #![tactic(auto)]
 
 mod fails;

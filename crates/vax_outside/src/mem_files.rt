@@ -1,5 +1,5 @@
 //! Files in memory.
-ghost use Rattle.std.specs.Prelude.{◌≡◌, ◌≤◌, IfOk, IsErrOf, Some, length};
+ghost use Rattle.std.specs.Prelude.{◌≡◌, ◌≤◌, IfOk, IsErrOf, Some, false, length};
 ghost use Rattle.std.specs.Option.{option_map};
 ghost use Rattle.vax_outside.specs.Directory.{bytes_of, directory, AnswersRead, is_failed};
 ghost use Rattle.vax_outside.specs.Faults.{raised, Rose};
@@ -62,6 +62,7 @@ impl Files for MemFiles {
         ensures same { directory_of self.new ≡ directory_of self.old }
         ensures later { faults_of self.old ≤ faults_of self.new }
         ensures cause { IsErrOf result FilesFault.Failed → Rose (faults_of self.old) (faults_of self.new) }
+        ensures quiet { is_failed result ≡ false → faults_of self.new ≡ faults_of self.old }
         ensures failed { is_failed result ≡ next_fails self.old }
         ensures fails { fails_of self.new ≡ fails_of self.old }
         ensures calls { calls_of self.new ≡ raised (calls_of self.old) }

@@ -101,8 +101,10 @@ impl PageFile for MemPages {
         ensures bytes { OnOk result (GivesBlock (Some (file_of self.old)) n into.new) }
         ensures ok { OnOk result (CountsRead (Some (file_of self.old)) (Some (file_of self.new))) }
         ensures err { OnErr result (Some (file_of self.new) ≡ Some (file_of self.old)) }
+        ensures unread { OnErr result (into.new ≡ into.old) }
         ensures later { faults_of self.old ≤ faults_of self.new }
         ensures cause { OnErr result (Rose (faults_of self.old) (faults_of self.new)) }
+        ensures quiet { OnOk result (faults_of self.new ≡ faults_of self.old) }
         ensures failed { is_err result ≡ read_fails self.old n }
         ensures limits { limits_of self.new ≡ limits_of self.old }
         ensures calls { calls_of self.new ≡ read_more (calls_of self.old) }
@@ -124,6 +126,7 @@ impl PageFile for MemPages {
         ensures err { OnErr result (Some (file_of self.new) ≡ Some (file_of self.old)) }
         ensures later { faults_of self.old ≤ faults_of self.new }
         ensures cause { OnErr result (Rose (faults_of self.old) (faults_of self.new)) }
+        ensures quiet { OnOk result (faults_of self.new ≡ faults_of self.old) }
         ensures failed { is_err result ≡ write_fails self.old n }
         ensures limits { limits_of self.new ≡ limits_of self.old }
         ensures calls { calls_of self.new ≡ write_more (calls_of self.old) }

@@ -1,5 +1,5 @@
 //! Output channels in memory.
-ghost use Rattle.std.specs.Prelude.{◌≡◌, ◌-◌, ◌<◌, ◌≤◌, ◌++◌, ℕ, [], length, take, min, is_err, slice_index, vec_capacity, IfOk, OnErr, Some};
+ghost use Rattle.std.specs.Prelude.{◌≡◌, ◌-◌, ◌<◌, ◌≤◌, ◌++◌, ℕ, [], length, take, min, is_err, slice_index, vec_capacity, IfOk, OnErr, OnOk, Some};
 ghost use Rattle.vax_outside.specs.Channels.{Grew, bytes_on, nothing, only};
 ghost use Rattle.vax_outside.specs.Faults.{raised, Rose};
 
@@ -128,6 +128,7 @@ impl Sink for MemSink {
         ensures err { OnErr result (Some (channels_of self.new) ≡ Some (channels_of self.old)) }
         ensures later { faults_of self.old ≤ faults_of self.new }
         ensures cause { OnErr result (Rose (faults_of self.old) (faults_of self.new)) }
+        ensures quiet { OnOk result (faults_of self.new ≡ faults_of self.old) }
         ensures failed { is_err result ≡ next_fails self.old chan }
         ensures count { IfOk result (λ n. n ≡ taken self.old chan (length bytes.now)) }
         ensures limits { limits_of self.new ≡ limits_of self.old }

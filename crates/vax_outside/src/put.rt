@@ -1,5 +1,5 @@
 //! Writing all of some bytes.
-ghost use Rattle.std.specs.Prelude.{◌≤◌, OnErr, OnOk};
+ghost use Rattle.std.specs.Prelude.{◌≡◌, ◌≤◌, OnErr, OnOk};
 ghost use Rattle.vax_outside.specs.Channels.{Grew, GrewByPrefix, only};
 ghost use Rattle.vax_outside.specs.Faults.{Rose};
 
@@ -11,6 +11,7 @@ pub fn put_all<K: Sink>(sink: &mut K, chan: Chan, bytes: &[u8]) -> Result<(), Fa
     ensures prefix { OnErr result (GrewByPrefix (K.contents sink.old) (K.contents sink.new) (only chan bytes.now)) }
     ensures later { K.faults sink.old ≤ K.faults sink.new }
     ensures cause { OnErr result (Rose (K.faults sink.old) (K.faults sink.new)) }
+    ensures quiet { OnOk result (K.faults sink.new ≡ K.faults sink.old) }
 {
     let mut rest = bytes;
     while !rest.is_empty() {

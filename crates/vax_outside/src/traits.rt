@@ -1,8 +1,8 @@
 //! The traits of the outside, and what their calls answer.
-ghost use Rattle.std.specs.Prelude.{◌≡◌, ◌<◌, ◌≤◌, ℕ, length, take, IfOk, OnErr, OnOk, IsErrOf, Option};
+ghost use Rattle.std.specs.Prelude.{◌≡◌, ◌<◌, ◌≤◌, ℕ, length, take, IfOk, OnErr, OnOk, IsErrOf, Option, false};
 ghost use Rattle.vax_outside.specs.Blocks.{BlockFile, GivesBlock, CountsRead, PutsBlock};
 ghost use Rattle.vax_outside.specs.Channels.{Channels, Grew, only};
-ghost use Rattle.vax_outside.specs.Directory.{Directory, AnswersRead};
+ghost use Rattle.vax_outside.specs.Directory.{Directory, AnswersRead, is_failed};
 ghost use Rattle.vax_outside.specs.Faults.{Rose};
 
 use std::alloc::Global;
@@ -38,7 +38,8 @@ pub trait Files {
         ensures bound { IfOk result (λ bytes. length bytes.items ≤ limit) }
         ensures same { contents self.new ≡ contents self.old }
         ensures later { faults self.old ≤ faults self.new }
-        ensures cause { IsErrOf result FilesFault.Failed → Rose (faults self.old) (faults self.new) };
+        ensures cause { IsErrOf result FilesFault.Failed → Rose (faults self.old) (faults self.new) }
+        ensures quiet { is_failed result ≡ false → faults self.new ≡ faults self.old };
 }
 
 /// The output channels: the guest's output, the report, and the record of evicted pages.
@@ -66,7 +67,8 @@ pub trait Sink {
         ensures ok { IfOk result (λ n. Grew (contents self.old) (contents self.new) (only chan (take n bytes.now))) }
         ensures err { OnErr result (contents self.new ≡ contents self.old) }
         ensures later { faults self.old ≤ faults self.new }
-        ensures cause { OnErr result (Rose (faults self.old) (faults self.new)) };
+        ensures cause { OnErr result (Rose (faults self.old) (faults self.new)) }
+        ensures quiet { OnOk result (faults self.new ≡ faults self.old) };
 }
 
 /// A file of numbered blocks of 512 bytes.
@@ -77,19 +79,22 @@ pub trait PageFile {
     /// How many calls have failed.
     ghost faults: { Self → ℕ };
 
-    /// Reads block `n`. The bytes of a block that was never there are left open. After a failure `into` holds any
-    /// bytes.
+    /// Reads block `n`. The bytes of a block that was never there are left open. After a failure `into` holds
+    /// what it held before.
     fn read_block(&mut self, n: u32, into: &mut [u8; 512]) -> Result<(), Failed>
         ensures bytes { OnOk result (GivesBlock (contents self.old) n into.new) }
         ensures ok { OnOk result (CountsRead (contents self.old) (contents self.new)) }
         ensures err { OnErr result (contents self.new ≡ contents self.old) }
+        ensures unread { OnErr result (into.new ≡ into.old) }
         ensures later { faults self.old ≤ faults self.new }
-        ensures cause { OnErr result (Rose (faults self.old) (faults self.new)) };
+        ensures cause { OnErr result (Rose (faults self.old) (faults self.new)) }
+        ensures quiet { OnOk result (faults self.new ≡ faults self.old) };
 
     /// Writes block `n`, and no other.
     fn write_block(&mut self, n: u32, from: &[u8; 512]) -> Result<(), Failed>
         ensures ok { OnOk result (PutsBlock n from.now (contents self.old) (contents self.new)) }
         ensures err { OnErr result (contents self.new ≡ contents self.old) }
         ensures later { faults self.old ≤ faults self.new }
-        ensures cause { OnErr result (Rose (faults self.old) (faults self.new)) };
+        ensures cause { OnErr result (Rose (faults self.old) (faults self.new)) }
+        ensures quiet { OnOk result (faults self.new ≡ faults self.old) };
 }

@@ -27,6 +27,7 @@ pub fn write_report<K: Sink>(
     ensures prefix { OnErr result (GrewByPrefix (K.contents sink.old) (K.contents sink.new) (only Chan.Report (report core.now last steps units taken dumps.now))) }
     ensures later { K.faults sink.old ≤ K.faults sink.new }
     ensures cause { OnErr result (Rose (K.faults sink.old) (K.faults sink.new)) }
+    ensures quiet { OnOk result (K.faults sink.new ≡ K.faults sink.old) }
 {
     write_head(core, last, steps, units, taken, sink)?;
     write_dumps(shown(last, dumps), sink)?;
@@ -55,6 +56,7 @@ fn write_head<K: Sink>(
     ensures prefix { OnErr result (GrewByPrefix (K.contents sink.old) (K.contents sink.new) (only Chan.Report (head core.now last steps units taken))) }
     ensures later { K.faults sink.old ≤ K.faults sink.new }
     ensures cause { OnErr result (Rose (K.faults sink.old) (K.faults sink.new)) }
+    ensures quiet { OnOk result (K.faults sink.new ≡ K.faults sink.old) }
 {
     let mut text = Text::new();
     push_head(&mut text, core, last, steps, units, taken);
@@ -66,6 +68,7 @@ fn write_dumps<K: Sink>(dumps: &[Dump], sink: &mut K) -> Result<(), Failed>
     ensures prefix { OnErr result (GrewByPrefix (K.contents sink.old) (K.contents sink.new) (only Chan.Report (flat_map dump_text dumps.now))) }
     ensures later { K.faults sink.old ≤ K.faults sink.new }
     ensures cause { OnErr result (Rose (K.faults sink.old) (K.faults sink.new)) }
+    ensures quiet { OnOk result (K.faults sink.new ≡ K.faults sink.old) }
 {
     for dump in dumps {
         write_dump(dump, sink)?;
@@ -79,6 +82,7 @@ fn write_dump<K: Sink>(dump: &Dump, sink: &mut K) -> Result<(), Failed>
     ensures prefix { OnErr result (GrewByPrefix (K.contents sink.old) (K.contents sink.new) (only Chan.Report (dump_text dump.now))) }
     ensures later { K.faults sink.old ≤ K.faults sink.new }
     ensures cause { OnErr result (Rose (K.faults sink.old) (K.faults sink.new)) }
+    ensures quiet { OnOk result (K.faults sink.new ≡ K.faults sink.old) }
 {
     let total = dump.bytes.as_slice().len();
     for line in 0..total.div_ceil(16) {
@@ -94,6 +98,7 @@ fn write_dump_line<K: Sink>(dump: &Dump, start: usize, sink: &mut K) -> Result<(
     ensures prefix { OnErr result (GrewByPrefix (K.contents sink.old) (K.contents sink.new) (only Chan.Report (dump_line dump.now start))) }
     ensures later { K.faults sink.old ≤ K.faults sink.new }
     ensures cause { OnErr result (Rose (K.faults sink.old) (K.faults sink.new)) }
+    ensures quiet { OnOk result (K.faults sink.new ≡ K.faults sink.old) }
 {
     let rest = dump.bytes.as_slice().split_at(start).1;
     let bytes = rest.split_at(16usize.min(rest.len())).0;

@@ -8,8 +8,8 @@ use Rattle.vax_space.specs.declared.Area.{Area}
 use Rattle.vax_space.specs.Areas.{end_of, has_page, area_of}
 use Rattle.vax_space.specs.Faults.{IsSpace, end_before, is_placed, is_protection}
 use Rattle.vax_space.specs.Reference.{program_end, control_start, end_in_program, start_in_control}
-use Rattle.std.specs.Prelude.{slice_get}
-use Rattle.vax_space.proofs.AreaFaults.{placed_low, placed_high, Fits, fits_here, placed_end, end_here}
+use Rattle.std.specs.Prelude.{slice_get, if◌then◌else◌, nat_le, ◌-◌}
+use Rattle.vax_space.proofs.AreaFaults.{placed_some, placed_low, placed_high, Fits, fits_here, placed_end, end_here}
 
 pub rest_at : (areas : List Area) (i : ℕ) (area : Area) → i < length areas → area ≡ get_or areas i area → drop i areas ≡ area ∷ drop (i + 1) areas
 rest_at areas i area below is = rw add-one (drop-cons areas i area below ∙ ap (λ a. a ∷ drop (suc i) areas) (sym is))
@@ -96,3 +96,33 @@ program_small areas space = program_placed areas (λ k area h. (fits_here areas 
 
 pub control_large : (areas : List Area) → IsSpace areas → 0x3F8000 ≤ control_start areas
 control_large areas space = control_placed areas (λ k area h. (fits_here areas k area space h).placed)
+
+-- how many pages that an area may have lie below a page, at the end of an area
+unfoldable pub reach : ℕ → ℕ
+reach end = if nat_le end 0x8000 then end else (end - 0x3F0000)
+
+-- an area adds its pages to those below it
+reach_more : (low : ℕ) (area : Area) → Fits low area → reach low + area.pages ≤ reach (end_of area)
+unfolding reach
+reach_more low area fits =
+    let order = fits.order in
+    let some = placed_some area fits.placed in
+    let program = placed_low area fits.placed in
+    let high = placed_high area fits.placed in
+    grind (arith, nat_tests)
+
+reach_end : (low : ℕ) (area : Area) → Fits low area → reach (end_of area) ≤ 69632
+unfolding reach
+reach_end low area fits =
+    let end = placed_end area fits.placed in
+    grind (arith, nat_tests)
+
+pub record Reaches (areas : List Area) (i : ℕ) (area : Area) : Type 0 where
+  pub more : reach (end_before areas i) + area.pages ≤ reach (end_before areas (i + 1))
+  pub end : reach (end_before areas (i + 1)) ≤ 69632
+
+pub reach_at : (areas : List Area) (i : ℕ) (area : Area) → IsSpace areas → i < length areas → area ≡ get_or areas i area → Reaches areas i area
+reach_at areas i area space below is =
+    let fits = fits_at areas i area space below is in
+    let end = end_at areas i area below is in
+    record { more = rw end (reach_more _ area fits); end = rw end (reach_end _ area fits); }

@@ -27,6 +27,10 @@ permitted (Some code) mode access = allows code mode access
 unfoldable pub may_access : List Area → ℕ → ℕ → Access → Bool
 may_access areas page mode access = permitted (prot_of areas page) mode access
 
+-- the range lies within one page, which the mode may access
+unfoldable pub is_free_page : List Area → ℕ → ℕ → ℕ → Access → Bool
+is_free_page areas addr len mode access = nat_le (addr % 512 + len) 512 && may_access areas (page_of addr) mode access
+
 -- where an area of the program region ends
 abbrev pub end_in_program : Area → ℕ
 end_in_program area = if nat_lt area.first 0x200000 then end_of area else 0

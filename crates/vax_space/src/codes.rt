@@ -6,13 +6,13 @@ ghost use Rattle.vax_space.specs.Lookup as spec;
 use crate::{Area, NoMemory};
 use std::alloc::Global;
 
-/// How many pages can be in an area: 32,768 in P0, 32,768 in P1 and 4,096 in the system region.
+/// How many pages an area may have: 32,768 in P0, 32,768 in P1 and 4,096 in the system region.
 pub const PAGES: usize = 69_632;
 
 /// What stands for a page in no area: the reserved protection code, which allows nothing.
 pub const NO_AREA: u8 = 1;
 
-#[inline]
+#[inline(always)]
 fn place_of(page: u32) -> u32
     requires { 0x8000 ≤ page → 0x3F0000 ≤ page }
     ensures { result ≡ spec.place_of page }
@@ -20,8 +20,9 @@ fn place_of(page: u32) -> u32
     if page < 0x8000 { page } else { page - 0x3F0000 }
 }
 
-/// A page's place in the table: P0's pages first, then P1's and the system region's, which follow each other.
-#[inline]
+/// A page's place, from 0, among the pages that an area may have: P0's first, then P1's and the system region's, which
+/// follow each other. None for a page that no area may have.
+#[inline(always)]
 #[tactic(auto, unfolding(crate::specs::Lookup::slot))]
 pub fn slot(page: u32) -> Option<usize>
     ensures place { result ≡ spec.slot page }

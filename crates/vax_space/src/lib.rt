@@ -5,7 +5,7 @@
 //! region P0, the control region P1, the system region, or the fourth region, which has no pages.
 #![tactic(auto)]
 
-ghost use Rattle.std.specs.Prelude.{◌≡◌, ◌≢◌, ◌+◌, ◌%◌, ◌≤◌, ◌⊎◌, true, unwrap_or, ◌↔◌, IsOk, IfSome, option_copied, Some, None, IfOk, OnOk, IfErr};
+ghost use Rattle.std.specs.Prelude.{◌≡◌, ◌≢◌, ◌+◌, ◌%◌, ◌<◌, ◌≤◌, ◌⊎◌, true, unwrap_or, ◌↔◌, IsOk, IfSome, option_copied, Some, None, IfOk, OnOk, IfErr};
 ghost use Rattle.std.specs.Result.{result_err};
 ghost use Rattle.vax_space.specs.Protection as spec;
 
@@ -14,7 +14,8 @@ mod faults;
 mod lengths;
 mod pages;
 
-use codes::{NO_AREA, code_table, slot};
+pub use codes::{PAGES, slot};
+use codes::{NO_AREA, code_table};
 use faults::first_fault;
 use lengths::{control_start, is_past_region, program_end};
 use std::alloc::{AllocError, Global};
@@ -72,7 +73,7 @@ static PROTECTION: [[Right; 4]; 16] = [
     [ReadOnly, ReadOnly, ReadOnly, ReadOnly],
 ];
 
-#[inline]
+#[inline(always)]
 #[tactic(auto, unfolding(crate::specs::Protection::right_of))]
 fn right_of(prot: u8, mode: u8) -> Right
     requires of_code { prot ≤ 15 }
@@ -84,7 +85,7 @@ fn right_of(prot: u8, mode: u8) -> Right
 
 /// Whether a mode (0 kernel, 1 executive, 2 supervisor, 3 user) may make the access to a page with this protection
 /// code (VAX Architecture Reference Manual, memory management, access control). The reserved code 1 allows nothing.
-#[inline]
+#[inline(always)]
 #[tactic(auto, using(crate::proofs::Protections::allows_read), unfolding(crate::specs::Protection::allows))]
 pub fn allows(prot: u8, mode: u8, access: Access) -> bool
     requires of_code { prot ≤ 15 }
@@ -266,7 +267,7 @@ impl Space {
     }
 
     /// The protection code of a page, and the reserved code for a page in no area.
-    #[inline]
+    #[inline(always)]
     fn code(&self, page: u32) -> u8
         ensures code { result ≡ unwrap_or (areas_spec.prot_of self.now page) 1 }
         ensures valid { result ≤ 15 }
@@ -291,7 +292,7 @@ impl Space {
     }
 
     /// Whether a mode may make the access to a page.
-    #[inline]
+    #[inline(always)]
     #[tactic(auto, using(crate::proofs::Tables::may_access_by), unfolding(crate::specs::Reference::may_access))]
     fn may_access(&self, page: u32, mode: u8, access: Access) -> bool
         requires of_mode { mode ≤ 3 }
@@ -301,10 +302,11 @@ impl Space {
     }
 
     /// Whether the range lies within one page, to which the mode may make the access.
-    #[inline]
-    #[tactic(auto, using(crate::proofs::References::violation_in_page))]
+    #[inline(always)]
+    #[tactic(auto, using(crate::proofs::References::violation_in_page), unfolding(crate::specs::Reference::is_free_page))]
     pub fn is_free_page(&self, addr: u32, len: u32, mode: u8, access: Access) -> bool
         requires of_mode { mode ≤ 3 }
+        ensures answer { result ≡ reference.is_free_page self.now addr len mode access }
         ensures one_page { result ≡ true → addr % 512 + len ≤ 512 }
         ensures free { result ≡ true → reference.violation self.now addr len mode access ≡ None }
     {
@@ -366,10 +368,11 @@ impl Space {
     }
 
     /// The number of a page's block in a page file: its rank, from 0, among the pages that some mode may write. None
-    /// for a page that no mode may write, and for a page in no area.
+    /// for a page that no mode may write, and for a page in no area. It is below the number of pages.
     pub fn block_of(&self, page: u32) -> Option<u32>
         ensures rank { result ≡ areas_spec.block_of self.now page }
         ensures page { IfSome result (λ block. areas_spec.page_of_block self.now block ≡ Some page) }
+        ensures few { IfSome result (λ block. block < PAGES) }
     {
         pages::block_of(&self.areas, page)
     }

@@ -1,9 +1,9 @@
 //! What a list of areas says of a page.
-ghost use Rattle.std.specs.Prelude.{◌≡◌, true, Some, IfSome, option_copied};
+ghost use Rattle.std.specs.Prelude.{◌≡◌, ◌<◌, true, Some, IfSome, option_copied};
 ghost use Rattle.vax_space.specs.Areas as spec;
 ghost use Rattle.vax_space.specs.Faults.{IsSpace};
 
-use crate::{Access, Area, allows};
+use crate::{Access, Area, PAGES, allows};
 
 /// The area that has a page.
 pub fn area_of(areas: &[Area], page: u32) -> Option<&Area>
@@ -23,6 +23,7 @@ pub fn block_of(areas: &[Area], page: u32) -> Option<u32>
     requires { IsSpace areas.now }
     ensures rank { result ≡ spec.block_of areas.now page }
     ensures page { IfSome result (λ block. spec.page_of_block areas.now block ≡ Some page) }
+    ensures few { IfSome result (λ block. block < PAGES) }
 {
     let mut rank = 0;
     for area in areas {

@@ -15,7 +15,7 @@ pub(crate) struct Block {
 }
 
 /// The number that 1 to 8 bytes are.
-#[inline]
+#[inline(always)]
 pub fn number_of(bytes: &[u8]) -> u64
     requires some { 1 ≤ length bytes.now }
     requires few { length bytes.now ≤ 8 }
@@ -62,7 +62,7 @@ pub fn number_of_parts(low: &[u8], high: &[u8]) -> u64
 }
 
 /// Makes 1 to 8 bytes those of a number.
-#[inline]
+#[inline(always)]
 pub fn put_number(bytes: &mut [u8], value: u64)
     requires some { 1 ≤ length bytes.old }
     requires few { length bytes.old ≤ 8 }

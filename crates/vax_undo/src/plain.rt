@@ -25,7 +25,7 @@ pub struct Plain {
 }
 
 /// A page's place in the table of owners: P0's pages first, then P1's and the system region's, which follow each other.
-#[inline]
+#[inline(always)]
 #[tactic(auto, unfolding(vax_space::specs::Lookup::slot))]
 fn slot_of(page: u32) -> Option<usize>
     ensures place { result ≡ slot page }
@@ -101,7 +101,7 @@ impl Plain {
     ghost use Rattle.vax_undo.specs.Plain.{view_of, with_page};
 
     /// The number of the area that has a page, where the page is resident.
-    #[inline]
+    #[inline(always)]
     fn owner(&self, page: u32) -> Option<u32>
         ensures { result ≡ owner_of self.now.owners.items page }
     {
@@ -112,7 +112,7 @@ impl Plain {
     }
 
     /// The bytes of a range within a page; none where the page is absent.
-    #[inline]
+    #[inline(always)]
     fn part(&self, addr: u32, len: u32) -> Option<&[u8]>
         requires some { 1 ≤ len }
         requires one_page { addr % 512 + len ≤ 512 }
@@ -143,7 +143,7 @@ impl Plain {
     }
 
     /// Writes a number within a page that is resident.
-    #[inline]
+    #[inline(always)]
     fn put_value(&mut self, owner: u32, addr: u32, n: u32, value: u64)
         requires owner { owner_of self.old.owners.items (page_of addr) ≡ Some owner }
         requires some { 1 ≤ n }
@@ -198,6 +198,7 @@ impl Plain {
 
     /// Reads any number: one that may not be read, lies in an absent page or goes on in the next page.
     #[cold]
+    #[inline(never)]
     fn read_slowly(&self, addr: u32, n: u32, mode: u8) -> Result<u64, Stop>
         requires some { 1 ≤ n }
         requires few { n ≤ 8 }
@@ -218,6 +219,7 @@ impl Plain {
 
     /// Writes any number: one that may not be written, lies in an absent page or goes on in the next page.
     #[cold]
+    #[inline(never)]
     fn write_slowly(&mut self, addr: u32, n: u32, value: u64, mode: u8) -> Result<(), Stop>
         requires some { 1 ≤ n }
         requires few { n ≤ 8 }
@@ -296,12 +298,12 @@ impl Port for Plain {
 
     ghost since = { λ a b. Unit {0} };
 
-    #[inline]
+    #[inline(always)]
     fn check(&self, addr: u32, len: u32, mode: u8, access: Access) -> Result<(), Violation> {
         self.space.check(addr, len, mode, access)
     }
 
-    #[inline]
+    #[inline(always)]
     fn read(&mut self, addr: u32, n: u32, mode: u8) -> Result<u64, Stop> {
         if self.space.is_free_page(addr, n, mode, Access::Read) {
             if let Some(bytes) = self.part(addr, n) {
@@ -314,7 +316,7 @@ impl Port for Plain {
         }
     }
 
-    #[inline]
+    #[inline(always)]
     fn write(&mut self, addr: u32, n: u32, value: u64, mode: u8) -> Result<(), Stop> {
         if self.space.is_free_page(addr, n, mode, Access::Write) {
             if let Some(owner) = self.owner(addr / PAGE_BYTES) {

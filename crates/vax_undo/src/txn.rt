@@ -36,7 +36,7 @@ pub(crate) struct Origin {
 
 ghost use Rattle.vax_undo.specs.declared.txn.Origin.{Origin};
 
-#[inline]
+#[inline(always)]
 fn origin_of(core: &Core) -> Origin
     ensures { result ≡ record { pc = slice_index core.now.regs 15; psl = core.now.psl } }
 {
@@ -47,7 +47,7 @@ fn origin_of(core: &Core) -> Origin
 }
 
 /// A register behind a shared reference.
-#[inline]
+#[inline(always)]
 fn register_of(core: &Core, n: u8) -> u32
     requires { n < 16 }
     ensures { result ≡ slice_index core.now.regs n }
@@ -65,7 +65,7 @@ fn stack_of(core: &Core, i: u8) -> u32
 }
 
 /// Takes a log back to empty. It has one or two entries as a rule, so nothing is filled.
-#[inline]
+#[inline(always)]
 fn forget(log: &mut ArrayVec<Entry, 96>)
     ensures { log.new.items ≡ [] }
 {
@@ -149,7 +149,7 @@ impl<'a, P: Port> Txn<'a, P> {
     }
 
     /// Register `n`, below 16.
-    #[inline]
+    #[inline(always)]
     pub fn reg(&self, n: u8) -> u32
         requires { n < 16 }
         ensures { result ≡ register (present P.view self.now).state n }
@@ -158,7 +158,7 @@ impl<'a, P: Port> Txn<'a, P> {
     }
 
     /// Sets register `n`, below 16.
-    #[inline]
+    #[inline(always)]
     pub fn set_reg(&mut self, n: u8, v: u32)
         requires of_core { n < 16 }
         requires room { 1 ≤ room self.old }
@@ -175,14 +175,14 @@ impl<'a, P: Port> Txn<'a, P> {
     }
 
     /// The processor status longword.
-    #[inline]
+    #[inline(always)]
     pub fn psl(&self) -> Psl
         ensures { result ≡ (present P.view self.now).state.core.psl }
     {
         self.core.psl
     }
 
-    #[inline]
+    #[inline(always)]
     pub fn set_psl(&mut self, v: Psl)
         requires { 1 ≤ room self.old }
         ensures present { present P.view self.new ≡ with_state (present P.view self.old) (with_psl (present P.view self.old).state v) }
@@ -213,7 +213,7 @@ impl<'a, P: Port> Txn<'a, P> {
     }
 
     /// The software interrupt summary register.
-    #[inline]
+    #[inline(always)]
     pub fn sisr(&self) -> u16
         ensures { result ≡ (present P.view self.now).state.core.sisr }
     {
@@ -232,7 +232,7 @@ impl<'a, P: Port> Txn<'a, P> {
     }
 
     /// The interval clock's control and status.
-    #[inline]
+    #[inline(always)]
     pub fn iccs(&self) -> u8
         ensures { result ≡ (present P.view self.now).state.core.iccs }
     {
@@ -301,7 +301,7 @@ impl<'a, P: Port> Txn<'a, P> {
     }
 
     /// [`Port::check`].
-    #[inline]
+    #[inline(always)]
     pub fn check(&self, addr: u32, len: u32, mode: u8, access: Access) -> Result<(), Violation>
         requires short { len ≤ 65536 }
         requires of_mode { mode ≤ 3 }
@@ -311,7 +311,7 @@ impl<'a, P: Port> Txn<'a, P> {
     }
 
     /// [`Port::read`].
-    #[inline]
+    #[inline(always)]
     pub fn read(&mut self, addr: u32, n: u32, mode: u8) -> Result<u64, Stop>
         requires some { 1 ≤ n }
         requires few { n ≤ 8 }
@@ -325,7 +325,7 @@ impl<'a, P: Port> Txn<'a, P> {
     }
 
     /// [`Port::write`], with the old bytes logged.
-    #[inline]
+    #[inline(always)]
     pub fn write(&mut self, addr: u32, n: u32, value: u64, mode: u8) -> Result<(), Stop>
         requires some { 1 ≤ n }
         requires few { n ≤ 8 }
@@ -395,7 +395,7 @@ impl<'a, P: Port> Txn<'a, P> {
 
     /// Keeps all that was done so far, hands out the byte that was sent to the console, and begins anew with the same log, of which
     /// nothing is cleared.
-    #[inline]
+    #[inline(always)]
     pub fn renew(&mut self) -> Option<u8>
         ensures sent { result ≡ (present P.view self.old).state.sent }
         ensures present { present P.view self.new ≡ with_state (present P.view self.old) (with_sent (present P.view self.old).state None) }

@@ -8,7 +8,7 @@ ghost use Rattle.vax_word.specs.Arithmetic.{bytes_of, modulus, sign_bit, is_nega
 use crate::{Codes, Size};
 
 // 8, 16, 32 or 64.
-#[inline]
+#[inline(always)]
 fn bits(size: Size) -> u32
     ensures { result ≡ 8 * bytes_of size }
 {
@@ -16,7 +16,7 @@ fn bits(size: Size) -> u32
 }
 
 // The low bits of `x`.
-#[inline]
+#[inline(always)]
 fn low(size: Size, x: u64) -> u64
     ensures exact { result ≡ x % modulus size }
     ensures within { result < modulus size }
@@ -25,7 +25,7 @@ fn low(size: Size, x: u64) -> u64
 }
 
 /// Whether the sign bit is 1.
-#[inline]
+#[inline(always)]
 pub fn is_negative(size: Size, x: u64) -> bool
     requires { x < 256 ^ bytes_of size }
     ensures { result ≡ is_negative size x }
@@ -34,7 +34,7 @@ pub fn is_negative(size: Size, x: u64) -> bool
 }
 
 // `x` as two's complement.
-#[inline]
+#[inline(always)]
 fn extend(size: Size, x: u64) -> i64
     requires { x < modulus size }
     ensures exact { result ≡ signed size x }
@@ -45,7 +45,7 @@ fn extend(size: Size, x: u64) -> i64
 }
 
 /// Whether `a` is below `b` as signed numbers, which is N of CMP.
-#[inline]
+#[inline(always)]
 #[tactic(auto, unfolding(crate::specs::Arithmetic::is_less))]
 pub fn signed_less(size: Size, a: u64, b: u64) -> bool
     requires a_fits { a < 256 ^ bytes_of size }
@@ -57,7 +57,7 @@ pub fn signed_less(size: Size, a: u64, b: u64) -> bool
 
 /// The codes of two operands compared (CMP): N where the first is below as signed numbers, Z where they are equal, C where it is below as
 /// unsigned numbers, V 0.
-#[inline]
+#[inline(always)]
 #[tactic(auto, unfolding(crate::specs::Arithmetic::compared))]
 pub fn compare(size: Size, a: u64, b: u64) -> Codes
     requires a_fits { a < 256 ^ bytes_of size }
@@ -73,7 +73,7 @@ pub fn compare(size: Size, a: u64, b: u64) -> Codes
 }
 
 // `r` as a result: N and Z are read from it.
-#[inline]
+#[inline(always)]
 #[tactic(auto, unfolding(crate::specs::Arithmetic::answer))]
 fn result(size: Size, r: u64, v: bool, c: bool) -> (u64, Codes)
     requires { r < modulus size }
@@ -85,7 +85,7 @@ fn result(size: Size, r: u64, v: bool, c: bool) -> (u64, Codes)
 }
 
 // The low bits of `exact`: V where they are not all of it, and C 0.
-#[inline]
+#[inline(always)]
 #[tactic(auto, unfolding(crate::specs::Arithmetic::signed_answer))]
 fn narrow(size: Size, exact: i64) -> (u64, Codes)
     ensures exact { result ≡ signed_answer size exact }
@@ -98,7 +98,7 @@ fn narrow(size: Size, exact: i64) -> (u64, Codes)
 
 /// `a + b`, and 1 more with `carry` (ADD, INC, ADWC). V where the signed sum does not fit, C where
 /// the unsigned one does not.
-#[inline]
+#[inline(always)]
 pub fn add(size: Size, a: u64, b: u64, carry: bool) -> (u64, Codes)
     requires a_fits { a < 256 ^ bytes_of size }
     requires b_fits { b < 256 ^ bytes_of size }
@@ -118,7 +118,7 @@ pub fn add(size: Size, a: u64, b: u64, carry: bool) -> (u64, Codes)
 
 /// `a - b`, and 1 less with `borrow` (SUB, DEC, SBWC, and MNEG from 0). V where the signed
 /// difference does not fit, C, the borrow, where the unsigned one does not.
-#[inline]
+#[inline(always)]
 pub fn sub(size: Size, a: u64, b: u64, borrow: bool) -> (u64, Codes)
     requires a_fits { a < 256 ^ bytes_of size }
     requires b_fits { b < 256 ^ bytes_of size }

@@ -77,7 +77,7 @@ impl Psl {
     ghost use Rattle.vax_word.specs.Status.{mode_of, prev_of, ipl_of, codes_of, with_codes};
 
     /// The current access mode: 0 kernel, 1 executive, 2 supervisor, 3 user.
-    #[inline]
+    #[inline(always)]
     #[tactic(auto, unfolding(crate::specs::Status::mode_of))]
     pub fn mode(self) -> u8
         ensures exact { result ≡ mode_of self }
@@ -97,7 +97,7 @@ impl Psl {
     }
 
     /// The interrupt priority level.
-    #[inline]
+    #[inline(always)]
     #[tactic(auto, unfolding(crate::specs::Status::ipl_of))]
     pub fn ipl(self) -> u8
         ensures exact { result ≡ ipl_of self }
@@ -107,7 +107,7 @@ impl Psl {
     }
 
     /// The condition codes, from bits 3:0.
-    #[inline]
+    #[inline(always)]
     #[tactic(auto, unfolding(crate::specs::Status::codes_of))]
     pub fn codes(self) -> Codes
         ensures { result ≡ codes_of self }
@@ -121,7 +121,7 @@ impl Psl {
     }
 
     /// This longword with `codes` in bits 3:0, and every other bit as it was.
-    #[inline]
+    #[inline(always)]
     pub fn with_codes(self, codes: Codes) -> Psl
         ensures exact { result ≡ with_codes self codes }
         ensures read_back { codes_of result ≡ codes }

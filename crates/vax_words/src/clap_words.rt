@@ -2,6 +2,9 @@
 use clap::{Arg, ArgAction, ArgMatches, Command, Error};
 use std::alloc::{AllocError, Global};
 
+/// What stands below each help.
+const WHERE_TO_READ: &str = "Sources, reports, exit statuses and kinds of faults: docs/MACHINE.md";
+
 /// `--help`, without clap's short form, which isn't among the plain words.
 fn help<'a>(alloc: Global) -> Arg<'a> {
     Arg::new(alloc, "help")
@@ -15,10 +18,11 @@ fn command_line<'a>(alloc: Global) -> Result<Command<'a>, AllocError> {
     let file = Arg::new(alloc, "FILE")
         .required(true)
         .action(ArgAction::Set)
-        .help("a MACRO-32 source");
+        .help("A source: labels, MOVL, ADDL2, HALT and .END");
     let bare = Command::new(alloc, "bare")
         .bin_name("vax bare")?
         .about("Run a source in kernel mode and report the registers on standard error")
+        .after_help(WHERE_TO_READ)
         .disable_help_flag(true)
         .arg(help(alloc))?
         .arg(file)?;
@@ -30,6 +34,7 @@ fn command_line<'a>(alloc: Global) -> Result<Command<'a>, AllocError> {
         .version("0.1.0")
         .bin_name("vax")?
         .about("An emulator of a VAX-11")
+        .after_help(WHERE_TO_READ)
         .no_binary_name(true)
         .subcommand_required(true)
         .disable_help_subcommand(true)

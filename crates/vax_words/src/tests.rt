@@ -40,6 +40,7 @@ fn shows_help(rt: HostRuntime) -> Result<(), Fail> {
     assert!(rt; matches!(command_of(rt.alloc(), all.as_slice()), Ok(Command::About)));
     let help = about(rt.alloc(), all.as_slice())?;
     assert!(rt; help.as_str().contains("Usage: vax bare <FILE>"), "{help}");
+    assert!(rt; help.as_str().contains("docs/MACHINE.md"), "{help}");
     let all = words(&rt, &["--help"])?;
     let help = about(rt.alloc(), all.as_slice())?;
     assert!(rt; help.as_str().contains("Usage: vax <COMMAND>"), "{help}");

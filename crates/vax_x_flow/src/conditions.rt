@@ -7,7 +7,7 @@ use vax_isa::{Condition, Relation};
 use vax_word::{Codes, Size, is_negative, signed_less};
 
 /// Whether the condition codes are those for which a branch is taken.
-#[inline]
+#[inline(always)]
 #[tactic(auto, unfolding(vax_flat::specs::Control::holds))]
 pub(crate) fn holds(condition: Condition, codes: Codes) -> bool
     ensures { result ≡ holds condition codes }
@@ -30,7 +30,7 @@ pub(crate) fn holds(condition: Condition, codes: Codes) -> bool
 }
 
 /// How two signed longwords compare.
-#[inline]
+#[inline(always)]
 #[tactic(auto, unfolding(vax_flat::specs::Control::compares))]
 pub(crate) fn compares(relation: Relation, a: u64, b: u64) -> bool
     requires a { a < 256 ^ 4 }

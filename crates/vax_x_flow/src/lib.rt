@@ -23,6 +23,7 @@ use vax_undo::{CutShort, Port, Txn};
 /// The cut is the first exception of its operands, its stack or its table, or the first page that it needs and that is absent. A trap is
 /// answered where the index of a loop overflowed (type 1) while the processor status word enables that trap; control then goes on
 /// where the instruction says.
+#[inline(always)]
 pub fn run<P: Port>(txn: &mut Txn<P>, instruction: Control) -> Result<Flow, CutShort>
     requires { 20 ≤ room txn.old }
     ensures exact { Follows (performed instruction (present P.view txn.old).state) (present P.view txn.old) (told txn.new result) (present P.view txn.new) }

@@ -17,7 +17,7 @@ use vax_undo::{CutShort, Port, Txn};
 use vax_word::{Codes, Size, add, compare, sub};
 
 /// Lets control go on at the target.
-#[inline]
+#[inline(always)]
 fn jump_to<P: Port>(txn: &mut Txn<P>, target: u32)
     requires { 1 ≤ room txn.old }
     ensures exact { present P.view txn.new ≡ with_state (present P.view txn.old) (control.jumped target (present P.view txn.old).state) }
@@ -27,7 +27,7 @@ fn jump_to<P: Port>(txn: &mut Txn<P>, target: u32)
 }
 
 /// Lets control go on at the target, if the branch is taken.
-#[inline]
+#[inline(always)]
 #[tactic(auto, unfolding(vax_flat::specs::Control::jumped_if))]
 fn jump_if<P: Port>(txn: &mut Txn<P>, taken: bool, target: u32)
     requires { 1 ≤ room txn.old }
@@ -40,6 +40,7 @@ fn jump_if<P: Port>(txn: &mut Txn<P>, taken: bool, target: u32)
 }
 
 /// BRB, BRW, and the branches on the condition codes.
+#[inline(always)]
 #[tactic(auto, unfolding(vax_flat::specs::Control::branch))]
 fn branch<P: Port>(txn: &mut Txn<P>, condition: Condition, size: Narrow) -> Result<Flow, CutShort>
     requires { 5 ≤ room txn.old }
@@ -53,7 +54,7 @@ fn branch<P: Port>(txn: &mut Txn<P>, condition: Condition, size: Narrow) -> Resu
 }
 
 /// Pushes PC, and lets control go on at the target.
-#[inline]
+#[inline(always)]
 #[tactic(auto, unfolding(vax_flat::specs::Control::called))]
 fn call<P: Port>(txn: &mut Txn<P>, target: u32) -> Result<Flow, CutShort>
     requires { 3 ≤ room txn.old }
@@ -66,6 +67,7 @@ fn call<P: Port>(txn: &mut Txn<P>, target: u32) -> Result<Flow, CutShort>
 }
 
 /// BSBB, BSBW.
+#[inline(always)]
 #[tactic(auto, unfolding(vax_flat::specs::Control::branch_subroutine))]
 fn branch_subroutine<P: Port>(txn: &mut Txn<P>, size: Narrow) -> Result<Flow, CutShort>
     requires { 7 ≤ room txn.old }
@@ -77,6 +79,7 @@ fn branch_subroutine<P: Port>(txn: &mut Txn<P>, size: Narrow) -> Result<Flow, Cu
 }
 
 /// JMP.
+#[inline(never)]
 #[tactic(auto, unfolding(vax_flat::specs::Control::jump))]
 fn jump<P: Port>(txn: &mut Txn<P>) -> Result<Flow, CutShort>
     requires { 5 ≤ room txn.old }
@@ -89,6 +92,7 @@ fn jump<P: Port>(txn: &mut Txn<P>) -> Result<Flow, CutShort>
 }
 
 /// JSB.
+#[inline(never)]
 #[tactic(auto, unfolding(vax_flat::specs::Control::jump_subroutine))]
 fn jump_subroutine<P: Port>(txn: &mut Txn<P>) -> Result<Flow, CutShort>
     requires { 7 ≤ room txn.old }
@@ -100,6 +104,7 @@ fn jump_subroutine<P: Port>(txn: &mut Txn<P>) -> Result<Flow, CutShort>
 }
 
 /// RSB.
+#[inline(always)]
 #[tactic(auto, unfolding(vax_flat::specs::Control::return_subroutine))]
 fn return_subroutine<P: Port>(txn: &mut Txn<P>) -> Result<Flow, CutShort>
     requires { 2 ≤ room txn.old }
@@ -114,6 +119,7 @@ fn return_subroutine<P: Port>(txn: &mut Txn<P>) -> Result<Flow, CutShort>
 }
 
 /// BLBS, BLBC.
+#[inline(always)]
 #[tactic(auto, unfolding(vax_flat::specs::Control::low_bit))]
 fn low_bit<P: Port>(txn: &mut Txn<P>, set: bool) -> Result<Flow, CutShort>
     requires { 9 ≤ room txn.old }
@@ -128,7 +134,7 @@ fn low_bit<P: Port>(txn: &mut Txn<P>, set: bool) -> Result<Flow, CutShort>
 }
 
 /// Writes a loop's index, sets its codes but C, and lets control go on at the target or behind.
-#[inline]
+#[inline(always)]
 #[tactic(auto, unfolding(vax_flat::specs::Control::looped))]
 fn go_on<P: Port>(
     txn: &mut Txn<P>,
@@ -155,6 +161,7 @@ fn go_on<P: Port>(
 }
 
 /// AOBLSS, AOBLEQ.
+#[inline(always)]
 #[tactic(auto, unfolding(vax_flat::specs::Control::add_one))]
 fn add_one<P: Port>(txn: &mut Txn<P>, relation: Relation) -> Result<Flow, CutShort>
     requires { 16 ≤ room txn.old }
@@ -170,6 +177,7 @@ fn add_one<P: Port>(txn: &mut Txn<P>, relation: Relation) -> Result<Flow, CutSho
 }
 
 /// SOBGEQ, SOBGTR.
+#[inline(always)]
 #[tactic(auto, unfolding(vax_flat::specs::Control::subtract_one))]
 fn subtract_one<P: Port>(txn: &mut Txn<P>, relation: Relation) -> Result<Flow, CutShort>
     requires { 12 ≤ room txn.old }
@@ -184,6 +192,7 @@ fn subtract_one<P: Port>(txn: &mut Txn<P>, relation: Relation) -> Result<Flow, C
 }
 
 /// ACB.
+#[inline(never)]
 #[tactic(auto, unfolding(vax_flat::specs::Control::add_compare))]
 fn add_compare<P: Port>(txn: &mut Txn<P>, size: Size) -> Result<Flow, CutShort>
     requires { 20 ≤ room txn.old }
@@ -236,6 +245,7 @@ fn choose<P: Port>(txn: &mut Txn<P>, size: Narrow, place: u64, limit: u64) -> Re
 }
 
 /// CASE.
+#[inline(never)]
 #[tactic(auto, unfolding(vax_flat::specs::Control::case_of))]
 fn case_of<P: Port>(txn: &mut Txn<P>, size: Narrow) -> Result<Flow, CutShort>
     requires { 14 ≤ room txn.old }
@@ -250,7 +260,7 @@ fn case_of<P: Port>(txn: &mut Txn<P>, size: Narrow) -> Result<Flow, CutShort>
 }
 
 /// The instruction by its shape.
-#[inline]
+#[inline(always)]
 #[tactic(auto, unfolding(vax_flat::specs::Control::performed))]
 pub(crate) fn perform<P: Port>(txn: &mut Txn<P>, instruction: Control) -> Result<Flow, CutShort>
     requires { 20 ≤ room txn.old }

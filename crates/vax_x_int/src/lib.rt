@@ -24,6 +24,7 @@ use vax_undo::{CutShort, Port, Txn};
 /// The cut is the first exception of its operands and results, or the first page that it needs and that is absent. A trap is answered where
 /// the instruction was completed with a divisor of 0 (type 2), with a subscript out of range (type 7), or with an integer overflow while
 /// the processor status word enables that trap (type 1).
+#[inline(always)]
 pub fn run<P: Port>(txn: &mut Txn<P>, instruction: Integer) -> Result<Flow, CutShort>
     requires { 27 ≤ room txn.old }
     ensures exact { Follows (performed instruction (present P.view txn.old).state) (present P.view txn.old) (told txn.new result) (present P.view txn.new) }

@@ -8,7 +8,7 @@ use vax_isa::{Binary, Narrow, Unary};
 use vax_word::{Codes, Size, add, convert, div, is_negative, mul, sub};
 
 /// The greatest value of a size.
-#[inline]
+#[inline(always)]
 fn greatest(size: Size) -> u64
     ensures { result ≡ modulus size - 1 }
 {
@@ -21,7 +21,7 @@ fn greatest(size: Size) -> u64
 }
 
 /// The low bits of a value.
-#[inline]
+#[inline(always)]
 fn low(size: Size, x: u64) -> u64
     ensures exact { result ≡ x % modulus size }
     ensures fits { result < 256 ^ bytes_of size }
@@ -35,7 +35,7 @@ fn low(size: Size, x: u64) -> u64
 }
 
 /// The other bits.
-#[inline]
+#[inline(always)]
 fn complement(size: Size, x: u64) -> u64
     requires { x < 256 ^ bytes_of size }
     ensures exact { result ≡ complement size x }
@@ -45,7 +45,7 @@ fn complement(size: Size, x: u64) -> u64
 }
 
 /// A result with codes that are read from it.
-#[inline]
+#[inline(always)]
 #[tactic(auto, unfolding(vax_word::specs::Arithmetic::answer))]
 pub(crate) fn answer_of(size: Size, value: u64, v: bool, c: bool) -> (u64, Codes)
     requires { value < 256 ^ bytes_of size }
@@ -65,7 +65,7 @@ pub(crate) fn answer_of(size: Size, value: u64, v: bool, c: bool) -> (u64, Codes
 }
 
 /// A result of one operand; `carry` is the carry as it was.
-#[inline]
+#[inline(always)]
 #[tactic(auto, unfolding(vax_flat::specs::Integer::of_one))]
 pub(crate) fn of_one(operation: Unary, from: Size, to: Size, x: u64, carry: bool) -> (u64, Codes)
     requires { x < 256 ^ bytes_of from }
@@ -82,7 +82,7 @@ pub(crate) fn of_one(operation: Unary, from: Size, to: Size, x: u64, carry: bool
 }
 
 /// A result of two operands, of which `a` is the first; `carry` is the carry as it was.
-#[inline]
+#[inline(always)]
 #[tactic(auto, using(crate::proofs::Sizes::or_fits, crate::proofs::Sizes::xor_fits, crate::proofs::Sizes::and_fits, crate::proofs::Sizes::narrow_is_short), unfolding(vax_flat::specs::Integer::of_two))]
 pub(crate) fn of_two(operation: Binary, size: Narrow, a: u64, b: u64, carry: bool) -> (u64, Codes)
     requires a { a < 256 ^ bytes_of (size_of size) }
@@ -105,7 +105,7 @@ pub(crate) fn of_two(operation: Binary, size: Narrow, a: u64, b: u64, carry: boo
 }
 
 /// Whether this is a division by 0.
-#[inline]
+#[inline(always)]
 #[tactic(auto, unfolding(vax_flat::specs::Integer::is_by_zero))]
 pub(crate) fn is_by_zero(operation: Binary, a: u64) -> bool
     ensures { result ≡ is_by_zero operation a }

@@ -17,7 +17,7 @@ use vax_undo::{CutShort, Port, Txn};
 use vax_word::{Size, add, ediv, emul, mul, shift, signed_less};
 
 /// The carry as it is.
-#[inline]
+#[inline(always)]
 fn carry<P: Port>(txn: &Txn<P>) -> bool
     ensures { result ≡ carry_of (present P.view txn.now).state }
 {
@@ -25,6 +25,7 @@ fn carry<P: Port>(txn: &Txn<P>) -> bool
 }
 
 /// MOV, MCOM, MNEG, MOVZ, CVT.
+#[inline(always)]
 #[tactic(auto, unfolding(vax_flat::specs::Integer::unary))]
 fn unary<P: Port>(
     txn: &mut Txn<P>,
@@ -43,6 +44,7 @@ fn unary<P: Port>(
 }
 
 /// ADDx2, SUBx2, MULx2, DIVx2, BISx2, BICx2, XORx2, ADWC, SBWC.
+#[inline(always)]
 #[tactic(auto, unfolding(vax_flat::specs::Integer::two))]
 fn two<P: Port>(txn: &mut Txn<P>, operation: Binary, size: Narrow) -> Result<Flow, CutShort>
     requires { 11 ≤ room txn.old }
@@ -56,6 +58,7 @@ fn two<P: Port>(txn: &mut Txn<P>, operation: Binary, size: Narrow) -> Result<Flo
 }
 
 /// ADDx3, SUBx3, MULx3, DIVx3, BISx3, BICx3, XORx3.
+#[inline(never)]
 #[tactic(auto, unfolding(vax_flat::specs::Integer::three))]
 fn three<P: Port>(txn: &mut Txn<P>, operation: Binary, size: Narrow) -> Result<Flow, CutShort>
     requires { 15 ≤ room txn.old }
@@ -76,6 +79,7 @@ fn three<P: Port>(txn: &mut Txn<P>, operation: Binary, size: Narrow) -> Result<F
 }
 
 /// INC, DEC.
+#[inline(always)]
 #[tactic(auto, unfolding(vax_flat::specs::Integer::by_one))]
 fn by_one<P: Port>(txn: &mut Txn<P>, operation: Binary, size: Narrow) -> Result<Flow, CutShort>
     requires { 7 ≤ room txn.old }
@@ -88,6 +92,7 @@ fn by_one<P: Port>(txn: &mut Txn<P>, operation: Binary, size: Narrow) -> Result<
 }
 
 /// CLR.
+#[inline(always)]
 #[tactic(auto, unfolding(vax_flat::specs::Integer::clear))]
 fn clear<P: Port>(txn: &mut Txn<P>, size: Size) -> Result<Flow, CutShort>
     requires { 7 ≤ room txn.old }
@@ -100,6 +105,7 @@ fn clear<P: Port>(txn: &mut Txn<P>, size: Size) -> Result<Flow, CutShort>
 }
 
 /// TST.
+#[inline(always)]
 #[tactic(auto, unfolding(vax_flat::specs::Integer::test))]
 fn test<P: Port>(txn: &mut Txn<P>, size: Size) -> Result<Flow, CutShort>
     requires { 5 ≤ room txn.old }
@@ -111,6 +117,7 @@ fn test<P: Port>(txn: &mut Txn<P>, size: Size) -> Result<Flow, CutShort>
 }
 
 /// CMP.
+#[inline(always)]
 #[tactic(auto, unfolding(vax_flat::specs::Integer::compare))]
 fn compare<P: Port>(txn: &mut Txn<P>, size: Size) -> Result<Flow, CutShort>
     requires { 9 ≤ room txn.old }
@@ -123,6 +130,7 @@ fn compare<P: Port>(txn: &mut Txn<P>, size: Size) -> Result<Flow, CutShort>
 }
 
 /// BIT.
+#[inline(never)]
 #[tactic(auto, using(crate::proofs::Sizes::and_fits), unfolding(vax_flat::specs::Integer::bit_test))]
 fn bit_test<P: Port>(txn: &mut Txn<P>, size: Size) -> Result<Flow, CutShort>
     requires { 9 ≤ room txn.old }
@@ -136,6 +144,7 @@ fn bit_test<P: Port>(txn: &mut Txn<P>, size: Size) -> Result<Flow, CutShort>
 }
 
 /// ASH.
+#[inline(never)]
 #[tactic(auto, using(crate::proofs::Sizes::signed_count), unfolding(vax_flat::specs::Integer::shift))]
 fn shift_by<P: Port>(txn: &mut Txn<P>, size: Size) -> Result<Flow, CutShort>
     requires { 15 ≤ room txn.old }
@@ -150,6 +159,7 @@ fn shift_by<P: Port>(txn: &mut Txn<P>, size: Size) -> Result<Flow, CutShort>
 }
 
 /// ROTL.
+#[inline(never)]
 #[tactic(auto, unfolding(vax_flat::specs::Integer::rotate))]
 fn rotate<P: Port>(txn: &mut Txn<P>) -> Result<Flow, CutShort>
     requires { 15 ≤ room txn.old }
@@ -164,6 +174,7 @@ fn rotate<P: Port>(txn: &mut Txn<P>) -> Result<Flow, CutShort>
 }
 
 /// MOVA.
+#[inline(never)]
 #[tactic(auto, unfolding(vax_flat::specs::Integer::move_address))]
 fn move_address<P: Port>(txn: &mut Txn<P>, size: Size) -> Result<Flow, CutShort>
     requires { 11 ≤ room txn.old }
@@ -177,7 +188,7 @@ fn move_address<P: Port>(txn: &mut Txn<P>, size: Size) -> Result<Flow, CutShort>
 }
 
 /// A longword pushed as a result.
-#[inline]
+#[inline(always)]
 #[tactic(auto, unfolding(vax_flat::specs::Integer::pushed_result))]
 fn push_result<P: Port>(txn: &mut Txn<P>, x: u32) -> Result<Flow, CutShort>
     requires { 3 ≤ room txn.old }
@@ -190,6 +201,7 @@ fn push_result<P: Port>(txn: &mut Txn<P>, x: u32) -> Result<Flow, CutShort>
 }
 
 /// PUSHA.
+#[inline(never)]
 #[tactic(auto, unfolding(vax_flat::specs::Integer::push_address))]
 fn push_address<P: Port>(txn: &mut Txn<P>, size: Size) -> Result<Flow, CutShort>
     requires { 7 ≤ room txn.old }
@@ -201,6 +213,7 @@ fn push_address<P: Port>(txn: &mut Txn<P>, size: Size) -> Result<Flow, CutShort>
 }
 
 /// PUSHL.
+#[inline(always)]
 #[tactic(auto, unfolding(vax_flat::specs::Integer::push))]
 fn push_long<P: Port>(txn: &mut Txn<P>) -> Result<Flow, CutShort>
     requires { 7 ≤ room txn.old }
@@ -212,6 +225,7 @@ fn push_long<P: Port>(txn: &mut Txn<P>) -> Result<Flow, CutShort>
 }
 
 /// EMUL.
+#[inline(never)]
 #[tactic(auto, using(crate::proofs::Sizes::product_fits), unfolding(vax_flat::specs::Integer::extended_multiply))]
 fn extended_multiply<P: Port>(txn: &mut Txn<P>) -> Result<Flow, CutShort>
     requires { 19 ≤ room txn.old }
@@ -227,6 +241,7 @@ fn extended_multiply<P: Port>(txn: &mut Txn<P>) -> Result<Flow, CutShort>
 }
 
 /// EDIV.
+#[inline(never)]
 #[tactic(auto, unfolding(vax_flat::specs::Integer::extended_divide))]
 fn extended_divide<P: Port>(txn: &mut Txn<P>) -> Result<Flow, CutShort>
     requires { 21 ≤ room txn.old }
@@ -274,6 +289,7 @@ fn subscript_flow(subscript: u64, low: u64, high: u64) -> Flow
 }
 
 /// INDEX.
+#[inline(never)]
 #[tactic(auto, unfolding(vax_flat::specs::Integer::index))]
 fn index<P: Port>(txn: &mut Txn<P>) -> Result<Flow, CutShort>
     requires { 27 ≤ room txn.old }
@@ -293,7 +309,7 @@ fn index<P: Port>(txn: &mut Txn<P>) -> Result<Flow, CutShort>
 }
 
 /// The instruction by its shape.
-#[inline]
+#[inline(always)]
 #[tactic(auto, unfolding(vax_flat::specs::Integer::performed))]
 pub(crate) fn perform<P: Port>(txn: &mut Txn<P>, instruction: Integer) -> Result<Flow, CutShort>
     requires { 27 ≤ room txn.old }

@@ -1,4 +1,4 @@
-use Rattle.std.proofs.Common.{◌≡◌, ◌≤◌, ◌+◌, ◌∙◌, [], ◌∷◌, Some, None, ap, subst, arith}
+use Rattle.std.proofs.Common.{◌≡◌, ◌≤◌, ◌+◌, ◌∙◌, [], ◌∷◌, Some, None, ap, subst, refl, arith}
 use Rattle.vax_outside.specs.declared.traits.Chan.TheVariants.{Out}
 use Rattle.vax_outside.proofs.Growth.{grew_nothing, grew_only}
 use Rattle.vax_flat.specs.Step.{run}
@@ -15,7 +15,7 @@ loop-steps-init g c = record {
   within = omega arith;
   closed = c.requires.closed;
   unsent = c.requires.unsent;
-  later = omega arith;
+  quiet = refl;
 }
 
 pub loop-steps-preserved-in-None : goal.loop-steps-preserved-in-None
@@ -33,7 +33,7 @@ loop-steps-preserved-in-None g c =
       within = omega arith;
       closed = c.attempts-batch.ensures.latch ∙ c.loop-steps.invariant.closed;
       unsent = c.attempts-batch.ensures.unsent;
-      later = c.loop-steps.invariant.later;
+      quiet = c.loop-steps.invariant.quiet;
     }
 
 pub loop-steps-preserved : goal.loop-steps-preserved
@@ -50,7 +50,7 @@ loop-steps-preserved g c = record {
   within = omega arith;
   closed = c.attempts-batch.ensures.latch ∙ c.loop-steps.invariant.closed;
   unsent = c.attempts-batch.ensures.unsent;
-  later = omega (arith, c.loop-steps.invariant.later, c.in_ok-put_all-in-Some.ensures.later);
+  quiet = c.in_ok-put_all-in-Some.ensures.quiet ∙ c.loop-steps.invariant.quiet;
 }
 
 pub returns-in_err-put_all-in-Some-clause-err : goal.returns-in_err-put_all-in-Some-clause-err

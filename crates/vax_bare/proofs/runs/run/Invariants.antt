@@ -12,7 +12,7 @@ invariant-loop-steps g l = record {
   within : l.steps ≤ l.limit;
   closed : l.cpu.latch ≡ None;
   unsent : l.cpu.term.out ≡ None;
-  later : g.K.Sink.faults l.fn.sink ≤ g.K.Sink.faults l.sink;
+  quiet : g.K.Sink.faults l.sink ≡ g.K.Sink.faults l.fn.sink;
 }
 
 abbrev pub decreases-loop-steps : goal.decreases-loop-steps

@@ -1,4 +1,4 @@
-use Rattle.std.proofs.Common.{arith}
+use Rattle.std.proofs.Common.{◌∙◌}
 use Rattle.vax_outside.proofs.Growth.{prefix_stays, prefix_grows, on_err}
 use Rattle.vax_outside.proofs.put.put_all.Goals as goal
 
@@ -11,6 +11,6 @@ pub loop-rest-preserved : goal.loop-rest-preserved
 loop-rest-preserved g c =
     let inv = c.loop-rest.invariant.front in
     record {
-      later = omega arith;
+      quiet = c.in_ok-count.ensures.quiet ∙ c.loop-rest.invariant.quiet;
       front = prefix_grows _ _ _ c.args.chan inv.0 c.loop-rest.rest.now _ _ c.in_ok-count.count inv.1 inv.2 c.in_ok-count.ensures.ok c.split_at.ensures.back;
     }

@@ -1,11 +1,11 @@
-use Rattle.std.proofs.Common.{◌≡◌, ◌≤◌, ℕ, List, ◌++◌, length}
+use Rattle.std.proofs.Common.{◌≡◌, ℕ, List, ◌++◌, length}
 use Rattle.vax_outside.specs.Channels.{Grew, only}
 use Rattle.vax_outside.proofs.put.put_all.Given as goal
 
 -- a prefix of the bytes was written, and the rest is left
 abbrev pub invariant-loop-rest : goal.invariant-loop-rest
 invariant-loop-rest g l = record {
-  later : g.K.Sink.faults l.fn.sink ≤ g.K.Sink.faults l.sink;
+  quiet : g.K.Sink.faults l.sink ≡ g.K.Sink.faults l.fn.sink;
   front : (front : List ℕ) × (front ++ l.rest ≡ l.bytes) × Grew (g.K.Sink.contents l.fn.sink) (g.K.Sink.contents l.sink) (only l.chan front);
 }
 

@@ -1,4 +1,4 @@
-use Rattle.std.proofs.Common.{◌≡◌, ◌*◌, length, ap, arith}
+use Rattle.std.proofs.Common.{◌≡◌, ◌*◌, length, ap, ◌∙◌, arith}
 use Rattle.std.specs.Int.{div_ceil}
 use Rattle.vax_outside.proofs.Growth.{grew_next_number, prefix_next_number, grew_numbers, on_err}
 use Rattle.vax_outside.specs.declared.traits.Chan.TheVariants.{Report}
@@ -15,7 +15,7 @@ pub loop-line-preserved : goal.loop-line-preserved
 loop-line-preserved g c =
     let total : length c.as_slice-total.result.now ≡ length c.args.dump.now.bytes = ap length c.as_slice-total.ensures in
     record {
-      later = omega arith;
+      quiet = c.in_ok-write_dump_line.ensures.quiet ∙ c.loop-line.invariant.quiet;
       grew = grew_next_number _ _ _ Report (λ k. dump_line c.args.dump.now (16 * k)) (div_ceil (length c.args.dump.now.bytes) 16) c.loop-line.line (omega arith) c.loop-line.invariant.grew c.in_ok-write_dump_line.ensures.ok;
     }
 

@@ -1,4 +1,4 @@
-use Rattle.std.proofs.Common.{◌≤◌, take}
+use Rattle.std.proofs.Common.{◌≡◌, take}
 use Rattle.std.specs.List.{flat_map}
 use Rattle.vax_outside.specs.Channels.{Grew, only}
 use Rattle.vax_outside.specs.declared.traits.Chan.TheVariants.{Report}
@@ -8,6 +8,6 @@ use Rattle.vax_report.proofs.write.write_dumps.Given as goal
 -- the dumps so far were written
 abbrev pub invariant-loop-dump : goal.invariant-loop-dump
 invariant-loop-dump g l = record {
-  later : g.K.Sink.faults l.fn.sink ≤ g.K.Sink.faults l.sink;
+  quiet : g.K.Sink.faults l.sink ≡ g.K.Sink.faults l.fn.sink;
   grew : Grew (g.K.Sink.contents l.fn.sink) (g.K.Sink.contents l.sink) (only Report (flat_map dump_text (take l.dump-index l.dumps)));
 }

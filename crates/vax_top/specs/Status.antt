@@ -1,0 +1,70 @@
+-- The answers of the program, their numbers, and the lines that refusals write.
+use Rattle.std.specs.Prelude.{ℕ, List, ◌++◌, codes, decimal, Option, None, Some}
+use Rattle.vax_outside.specs.Channels.{Channels, nothing, only}
+use Rattle.vax_outside.specs.declared.traits.Chan.TheVariants.{Report}
+use Rattle.vax_top.specs.declared.status.Status.{Status}
+use Rattle.vax_top.specs.declared.status.Status.TheVariants.{Done, Usage, Missing, Large, Refused, Link, Schedule, Image, Turns, PageFault, ReadFault, WriteFault, NoMemory}
+
+-- the exit status of the process
+abbrev pub code : Status → ℕ
+code Done = 0
+code Usage = 1
+code (Missing name) = 2
+code (Large name) = 3
+code (Refused file line kind) = 4
+code (Link kind name place) = 5
+code (Schedule line kind) = 6
+code (Image place kind) = 7
+code Turns = 8
+code PageFault = 9
+code ReadFault = 10
+code WriteFault = 11
+code NoMemory = 12
+
+-- a label and a name, which end with a line feed
+abbrev pub named : List ℕ → List ℕ → List ℕ
+named label name = label ++ name ++ codes "\n"
+
+-- the place of a fault in a source
+unfoldable pub source_fault : ℕ → ℕ → ℕ → List ℕ
+source_fault file line kind = codes "vax: source " ++ decimal file ++ codes " line " ++ decimal line ++ codes " fault " ++ decimal kind ++ codes "\n"
+
+-- the line that an answer before the run writes to Report, if it is a refusal
+abbrev pub refusal : Status → Option (List ℕ)
+refusal Done = None
+refusal Usage = Some (codes "vax: usage\n")
+refusal (Missing name) = Some (named (codes "vax: missing ") name)
+refusal (Large name) = Some (named (codes "vax: large ") name)
+refusal (Refused file line kind) = Some (source_fault file line kind)
+refusal (Link kind name place) = None
+refusal (Schedule line kind) = None
+refusal (Image place kind) = None
+refusal Turns = None
+refusal PageFault = None
+refusal ReadFault = Some (codes "vax: read\n")
+refusal WriteFault = None
+refusal NoMemory = Some (codes "vax: memory\n")
+
+-- what the channels grow by at a refusal
+abbrev pub growth_of : Option (List ℕ) → Channels
+growth_of None = nothing
+growth_of (Some text) = only Report text
+
+abbrev pub refusal_growth : Status → Channels
+refusal_growth status = growth_of (refusal status)
+
+-- an answer that has a cause so far
+abbrev pub IsBuilt : Status → Type 0
+IsBuilt Done = Unit {0}
+IsBuilt Usage = Unit {0}
+IsBuilt (Missing name) = Unit {0}
+IsBuilt (Large name) = Unit {0}
+IsBuilt (Refused file line kind) = Unit {0}
+IsBuilt (Link kind name place) = ⊥
+IsBuilt (Schedule line kind) = ⊥
+IsBuilt (Image place kind) = ⊥
+IsBuilt Turns = ⊥
+IsBuilt PageFault = ⊥
+IsBuilt ReadFault = Unit {0}
+IsBuilt WriteFault = Unit {0}
+IsBuilt NoMemory = Unit {0}
