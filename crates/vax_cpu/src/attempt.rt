@@ -104,15 +104,7 @@ macro_rules! conclude {
     ($txn:ident, $work:expr) => {
         match $work {
             Ok(Flow::Done) => Tried::Step($txn.commit()),
-            Ok(Flow::Clocked) => {
-                $txn.unwind();
-                Tried::Ended(Ending::Unbuilt)
-            }
-            Ok(Flow::Trap(_)) => {
-                $txn.unwind();
-                Tried::Ended(Ending::Unbuilt)
-            }
-            Ok(Flow::More { .. }) => {
+            Ok(Flow::Trap(_) | Flow::Clocked | Flow::More { .. }) => {
                 $txn.unwind();
                 Tried::Ended(Ending::Unbuilt)
             }
@@ -198,21 +190,7 @@ pub(crate) fn try_steps<P: Port>(
                     };
                 }
             },
-            Ok(Flow::Clocked) => {
-                txn.unwind();
-                return Several {
-                    steps,
-                    last: Tried::Ended(Ending::Unbuilt),
-                };
-            }
-            Ok(Flow::Trap(_)) => {
-                txn.unwind();
-                return Several {
-                    steps,
-                    last: Tried::Ended(Ending::Unbuilt),
-                };
-            }
-            Ok(Flow::More { .. }) => {
+            Ok(Flow::Trap(_) | Flow::Clocked | Flow::More { .. }) => {
                 txn.unwind();
                 return Several {
                     steps,

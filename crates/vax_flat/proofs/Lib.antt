@@ -8,5 +8,11 @@ pub mod Runs
 pub mod Specifiers
 pub mod Sequences
 pub mod Listed
+pub mod Quiet
+pub mod Closed
+pub mod Windows
+pub mod OperandBounds
+pub mod Bounds
+pub mod Steps
 pub mod Worked
 pub mod Fronts

@@ -5,7 +5,9 @@ pub mod Accesses
 pub mod Outcome
 pub mod OverPort
 pub mod Operand
+pub mod Quiet
 pub mod Rows
+pub mod Delivery
 pub mod Integer
 pub mod Control
 pub mod System
@@ -13,4 +15,5 @@ pub mod Instruction
 pub mod Grammar
 pub mod Evaluation
 pub mod Step
+pub mod Bound
 pub mod Start

@@ -1,5 +1,5 @@
 -- What a transaction means, and how its log is undone.
-use Rattle.std.specs.Prelude.{◌≡◌, ℕ, ◌+◌, ◌-◌, ◌^◌, ◌<◌, ◌≤◌, Bool, Option, Some, None, List, [], ◌∷◌, length, slice_get}
+use Rattle.std.specs.Prelude.{◌≡◌, ℕ, ◌+◌, ◌-◌, ◌^◌, ◌<◌, ◌≤◌, Bool, nat_lt, if◌then◌else◌, Option, Some, None, List, [], ◌∷◌, length, slice_get}
 use Rattle.vax_word.specs.declared.Core.{Core}
 use Rattle.vax_space.specs.declared.Access.TheVariants.{Write}
 use Rattle.vax_space.specs.declared.Area.{Area}
@@ -35,6 +35,10 @@ if_some (Some a) x y = y
 abbrev pub after_take : State → State
 after_take s = if_some (next_byte s) s (with_taken s (s.taken + 1))
 
+-- what was sent to the console, from a number that is 256 where nothing was
+abbrev pub sent_of : ℕ → Option ℕ
+sent_of number = if nat_lt number 256 then Some number else None
+
 -- the old value of an entry is put back
 abbrev pub put_back : Kept → Entry → Present → Present
 put_back Register e p = with_state p (with_register p.state e.number e.old)
@@ -43,7 +47,7 @@ put_back Requests e p = with_state p (with_requests p.state e.old)
 put_back Timer e p = with_state p (with_timer p.state e.old)
 put_back Clock e p = with_state p (with_clock p.state e.old)
 put_back Taken e p = with_state p (with_taken p.state e.old)
-put_back Sent e p = with_state p (with_sent p.state None)
+put_back Sent e p = with_state p (with_sent p.state (sent_of e.old))
 put_back Bytes e p = with_view p (with_number p.view e.addr e.number e.old)
 
 abbrev pub undo : Entry → Present → Present

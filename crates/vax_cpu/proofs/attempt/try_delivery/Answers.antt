@@ -19,20 +19,6 @@ returns-in-Ok-Trap-clause-tried g c =
     c.in-Ok-Trap.field-0 c.in-Ok-Trap.ensures.exact _ (ap ending_of c.in-Ok-Trap.field-0-is)
     (present_of old _ _ (search rules) (search rules))
 
-pub returns-in-Ok-Clocked-clause-tried : goal.returns-in-Ok-Clocked-clause-tried
-returns-in-Ok-Clocked-clause-tried g c =
-    let old : Present = record { state = state_of c.args.core.now c.args.term.now; view = g.P.Port.view c.args.port.now } in
-    finished (delivered c.args.exception) old (present g.P.Port.view c.begin-txn.result) (present g.P.Port.view c.work_delivery.new.txn) _ c.begin-txn.ensures.present
-    c.in-Ok-Clocked.field-0 c.in-Ok-Clocked.ensures.exact _ (ap ending_of c.in-Ok-Clocked.field-0-is)
-    (present_of old _ _ (search rules) (search rules))
-
-pub returns-in-Ok-More-clause-tried : goal.returns-in-Ok-More-clause-tried
-returns-in-Ok-More-clause-tried g c =
-    let old : Present = record { state = state_of c.args.core.now c.args.term.now; view = g.P.Port.view c.args.port.now } in
-    finished (delivered c.args.exception) old (present g.P.Port.view c.begin-txn.result) (present g.P.Port.view c.work_delivery.new.txn) _ c.begin-txn.ensures.present
-    c.in-Ok-More.field-0 c.in-Ok-More.ensures.exact _ (ap ending_of c.in-Ok-More.field-0-is)
-    (present_of old _ _ (search rules) (search rules))
-
 pub returns-in-Ok-Ended-clause-tried : goal.returns-in-Ok-Ended-clause-tried
 returns-in-Ok-Ended-clause-tried g c =
     let old : Present = record { state = state_of c.args.core.now c.args.term.now; view = g.P.Port.view c.args.port.now } in

@@ -45,24 +45,6 @@ returns-in-Ok-Trap-clause-ran g c =
           (present_of now _ _ (search rules) (search rules)),
     )
 
-pub returns-in-Ok-Clocked-clause-ran : goal.returns-in-Ok-Clocked-clause-ran
-returns-in-Ok-Clocked-clause-ran g c =
-    let now = present g.P.Port.view c.loop-steps.txn in (
-      now,
-      c.loop-steps.invariant.ran,
-      finished whole now now (present g.P.Port.view c.work.new.txn) _ refl c.in-Ok-Clocked.field-0 c.in-Ok-Clocked.ensures.exact _ (ap ending_of c.in-Ok-Clocked.field-0-is)
-          (present_of now _ _ (search rules) (search rules)),
-    )
-
-pub returns-in-Ok-More-clause-ran : goal.returns-in-Ok-More-clause-ran
-returns-in-Ok-More-clause-ran g c =
-    let now = present g.P.Port.view c.loop-steps.txn in (
-      now,
-      c.loop-steps.invariant.ran,
-      finished whole now now (present g.P.Port.view c.work.new.txn) _ refl c.in-Ok-More.field-0 c.in-Ok-More.ensures.exact _ (ap ending_of c.in-Ok-More.field-0-is)
-          (present_of now _ _ (search rules) (search rules)),
-    )
-
 pub returns-in-Ok-Ended-clause-ran : goal.returns-in-Ok-Ended-clause-ran
 returns-in-Ok-Ended-clause-ran g c =
     let now = present g.P.Port.view c.loop-steps.txn in (
@@ -78,24 +60,6 @@ returns-in-Ok-Trap-work-clause-ran g c =
       now,
       c.loop-steps.invariant.ran,
       finished whole now now (present g.P.Port.view c.work-2.new.txn) _ refl c.in-Ok-Trap-work.field-0 c.in-Ok-Trap-work.ensures.exact _ (ap ending_of c.in-Ok-Trap-work.field-0-is)
-          (present_of now _ _ (search rules) (search rules)),
-    )
-
-pub returns-in-Ok-Clocked-work-clause-ran : goal.returns-in-Ok-Clocked-work-clause-ran
-returns-in-Ok-Clocked-work-clause-ran g c =
-    let now = present g.P.Port.view c.loop-steps.txn in (
-      now,
-      c.loop-steps.invariant.ran,
-      finished whole now now (present g.P.Port.view c.work-2.new.txn) _ refl c.in-Ok-Clocked-work.field-0 c.in-Ok-Clocked-work.ensures.exact _ (ap ending_of c.in-Ok-Clocked-work.field-0-is)
-          (present_of now _ _ (search rules) (search rules)),
-    )
-
-pub returns-in-Ok-More-work-clause-ran : goal.returns-in-Ok-More-work-clause-ran
-returns-in-Ok-More-work-clause-ran g c =
-    let now = present g.P.Port.view c.loop-steps.txn in (
-      now,
-      c.loop-steps.invariant.ran,
-      finished whole now now (present g.P.Port.view c.work-2.new.txn) _ refl c.in-Ok-More-work.field-0 c.in-Ok-More-work.ensures.exact _ (ap ending_of c.in-Ok-More-work.field-0-is)
           (present_of now _ _ (search rules) (search rules)),
     )
 

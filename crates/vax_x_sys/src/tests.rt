@@ -1,0 +1,1 @@
+//! Instructions over plain memory, with results worked by hand.
