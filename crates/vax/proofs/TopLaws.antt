@@ -3,6 +3,7 @@ use Rattle.std.proofs.Common.{◌≡◌, inl, inr, ℕ, List, [], ◌∷◌, Opt
 use Rattle.std.proofs.Common.{sym, ap, subst, ◌∙◌, ◌≤◌, arith}
 use Rattle.vax_flat.specs.Step.{Flat, run}
 use Rattle.vax_bare.specs.Start.{memory, core, start_of}
+use Rattle.vax_flat.specs.Port.{View}
 use Rattle.vax_bare.specs.Run.{StopsAt, IsRun, IsCutShort as IsOutputCut}
 use Rattle.vax_bare.specs.declared.runs.Stopped.{Stopped}
 use Rattle.vax_cpu.specs.declared.cpu.Cpu.{Cpu}
@@ -42,7 +43,7 @@ pub started : (cpu : Cpu) (bytes : List ℕ) (begin : ℕ) → cpu.core ≡ core
 started cpu bytes begin c i t k = record { core = c k; memory = memory bytes; input = i k; taken = t k; output = []; ending = None }
 
 -- what a run writes, by what it came to
-run_wrote : (m : Flat) (cpu : Cpu) (old mid : Option Channels) (stopped : Stopped) (last : Last) → IsRun step_limit m cpu old mid stopped → last ≡ last_of stopped.ending →
+run_wrote : {view : View} (m : Flat) (cpu : Cpu) (old mid : Option Channels) (stopped : Stopped) (last : Last) → IsRun step_limit m cpu view old mid stopped → last ≡ last_of stopped.ending →
     append (only Out (run stopped.steps m).output) (only Report (report cpu.core last stopped.steps 0 cpu.term.place [])) ≡ run_output m stopped.steps
 unfolding run_report
 run_wrote m cpu old mid stopped last r l k =
@@ -59,7 +60,7 @@ module _ (bytes : List ℕ) (begin : ℕ) (first cpu : Cpu) (is : flat_of first 
   at = flat_of first (memory bytes) []
 
   -- a run whose report was written
-  pub run_whole : (old mid new : Option Channels) (before now : ℕ) (stopped : Stopped) (last : Last) → IsRun step_limit at cpu old mid stopped → last ≡ last_of stopped.ending → Grew mid new (only Report (report cpu.core last stopped.steps 0 cpu.term.place [])) →
+  pub run_whole : {view : View} (old mid new : Option Channels) (before now : ℕ) (stopped : Stopped) (last : Last) → IsRun step_limit at cpu view old mid stopped → last ≡ last_of stopped.ending → Grew mid new (only Report (report cpu.core last stopped.steps 0 cpu.term.place [])) →
       (n : ℕ) × StopsAt n step_limit (start_of bytes begin) × Ends before now old new Done (run_output (start_of bytes begin) n) Done
   run_whole old mid new before now stopped last r l grew =
       let Q : Flat → Type 0 = λ m. (n : ℕ) × StopsAt n step_limit m × Ends before now old new Done (run_output m n) Done in
@@ -74,7 +75,7 @@ module _ (bytes : List ℕ) (begin : ℕ) (first cpu : Cpu) (is : flat_of first 
       )
 
   -- one whose report was cut short
-  pub report_cut_short : (old mid new : Option Channels) (before now : ℕ) (stopped : Stopped) (last : Last) → IsRun step_limit at cpu old mid stopped → last ≡ last_of stopped.ending → GrewByPrefix mid new (only Report (report cpu.core last stopped.steps 0 cpu.term.place [])) → Rose before now →
+  pub report_cut_short : {view : View} (old mid new : Option Channels) (before now : ℕ) (stopped : Stopped) (last : Last) → IsRun step_limit at cpu view old mid stopped → last ≡ last_of stopped.ending → GrewByPrefix mid new (only Report (report cpu.core last stopped.steps 0 cpu.term.place [])) → Rose before now →
       (n : ℕ) × StopsAt n step_limit (start_of bytes begin) × Ends before now old new Done (run_output (start_of bytes begin) n) WriteFault
   report_cut_short old mid new before now stopped last r l cut rose =
       let Q : Flat → Type 0 = λ m. (n : ℕ) × StopsAt n step_limit m × Ends before now old new Done (run_output m n) WriteFault in

@@ -2,7 +2,7 @@
 ghost use Rattle.std.specs.Prelude.{◌≡◌, ◌⊎◌, ◌≤◌, ℕ, [], None, IfOk, IfErr, length};
 ghost use Rattle.vax_outside.specs.Channels.{Channels};
 ghost use Rattle.vax_flat.specs.Port.{StandsFor};
-ghost use Rattle.vax_flat.proofs.Runs.{AllResident};
+ghost use Rattle.vax_flat.specs.Memory.{AllResident};
 ghost use Rattle.vax_undo.specs.Plain.{view_of};
 ghost use Rattle.vax_bare.specs.Start.{start_of, core, memory as memory_at_start};
 ghost use Rattle.vax_bare.specs.Run.{StopsAt};

@@ -4,8 +4,7 @@ use Rattle.std.proofs.lemmas.Bool.{cases_Bool}
 use Rattle.std.specs.Prelude.{is_some, IfOk}
 use Rattle.vax_space.specs.declared.Area.{Area}
 use Rattle.vax_space.specs.Areas.{has_page, area_of}
-use Rattle.vax_flat.proofs.Memory.{is_mapped}
-use Rattle.vax_flat.proofs.Runs.{AllResident}
+use Rattle.vax_flat.specs.Memory.{is_mapped, AllResident}
 use Rattle.vax_space.specs.declared.NoMemory.{NoMemory}
 use Rattle.vax_undo.specs.declared.plain.Plain.{Plain}
 use Rattle.vax_undo.specs.Plain.{view_of}

@@ -4,8 +4,9 @@ use Rattle.vax_space.specs.declared.Area.{Area}
 use Rattle.vax_flat.specs.declared.Ending.{Ending}
 use Rattle.vax_flat.specs.Port.{View, StandsFor, layout}
 use Rattle.vax_flat.specs.Step.{Flat, run, step, ended, with_byte_sent}
-use Rattle.vax_flat.proofs.Memory.{is_mapped, is_mapped-layout}
-use Rattle.vax_flat.proofs.Runs.{AllResident, none_missing_step, run-run, going_back, output_extends}
+use Rattle.vax_flat.specs.Memory.{is_mapped, AllResident}
+use Rattle.vax_flat.proofs.Memory.{is_mapped-layout}
+use Rattle.vax_flat.proofs.Runs.{none_missing_step, run-run, going_back, output_extends}
 use Rattle.vax_outside.specs.Channels.{Channels, Grew, GrewByPrefix, only}
 use Rattle.vax_outside.specs.declared.traits.Chan.TheVariants.{Out}
 use Rattle.vax_outside.proofs.Growth.{prefix_within}
@@ -84,10 +85,11 @@ module _ (limit : ℕ) (m : Flat) (n : ℕ) (cpu : Cpu) (view : View) (old now :
       going_back k (n - k) m (ap (λ (i : ℕ). (run i m).ending) (sym e) ∙ going)
 
   -- at the limit
-  pub at_limit : n ≤ limit → limit ≤ n → IsRun limit m cpu old now (record { ending = None; steps = n })
+  pub at_limit : n ≤ limit → limit ≤ n → IsRun limit m cpu view old now (record { ending = None; steps = n })
   at_limit low high = record {
     stops = record { within = low; going = going_until; stopped = λ e. omega arith };
     core = ap (λ (x : Flat). x.core) at.here;
+    stands = subst (StandsFor view) (sym (ap (λ (x : Flat). x.memory) at.here)) at.stands;
     taken = ap (λ (x : Flat). x.taken) at.here;
     ending = going;
     wrote = at.wrote;
@@ -132,7 +134,7 @@ stops_later (suc fuel) n limit m e going =
 
 -- a run whose last batch ended it
 module _ (limit : ℕ) (m : Flat) (n : ℕ) (cpu next : Cpu) (view after : View) (old mid : Option Channels) (at : IsAt m n cpu view old mid) (count : ℕ) where
-  pub ends : (e : Ending) → AreAttempts view (flat_of cpu at.memory (run n m).output) count (attempt.Ended e) next after → n + (count + 1) ≤ limit → IsRun limit m next old mid (record { ending = Some e; steps = n + (count + 1) })
+  pub ends : (e : Ending) → AreAttempts view (flat_of cpu at.memory (run n m).output) count (attempt.Ended e) next after → n + (count + 1) ≤ limit → IsRun limit m next after old mid (record { ending = Some e; steps = n + (count + 1) })
   unfolding run
   ends e a low =
       let is : run (n + (count + 1)) m ≡ ended a.here e = turn m n cpu next view after old mid at count (attempt.Ended e) a ∙ a.attempted.1 in
@@ -146,6 +148,7 @@ module _ (limit : ℕ) (m : Flat) (n : ℕ) (cpu next : Cpu) (view after : View)
           stopped = λ h. let no : Some e ≡ None = sym (ap (λ (x : Flat). x.ending) is) ∙ h in cc;
         };
         core = ap (λ (x : Flat). x.core) is ∙ ap (λ (x : Flat). x.core) stays;
+        stands = subst (StandsFor after) (sym (ap (λ (x : Flat). x.memory) is)) a.stays.1;
         taken = ap (λ (x : Flat). x.taken) is ∙ ap (λ (x : Flat). x.taken) stays;
         ending = ap (λ (x : Flat). x.ending) is;
         wrote = subst (λ o. Grew old mid (only Out o)) (sym (ap (λ (x : Flat). x.output) is ∙ a.silent)) at.wrote;
@@ -157,7 +160,7 @@ module _ (limit : ℕ) (m : Flat) (n : ℕ) (cpu next : Cpu) (view after : View)
       let all : AllResident view.resident a.here.memory =
       alike_resident view.resident view.resident at.memory a.here.memory refl (a.stays.1.areas ∙ (ap layout a.areas ∙ sym at.stands.areas)) at.resident in
       let none = none_missing_step a.here view.resident all in
-      let no : Some page ≡ None = sym a.attempted ∙ none in
+      let no : Some page ≡ None = sym a.attempted.0 ∙ none in
       cc
 
   -- a byte that couldn't be written

@@ -3,7 +3,7 @@ ghost use Rattle.std.specs.Prelude.{◌≡◌, ◌+◌, ◌<◌, ◌≤◌, ℕ,
 ghost use Rattle.vax_space.specs.declared.Area.{Area};
 ghost use Rattle.vax_outside.specs.Faults.{Rose};
 ghost use Rattle.vax_flat.specs.Port.{StandsFor};
-ghost use Rattle.vax_flat.proofs.Runs.{AllResident};
+ghost use Rattle.vax_flat.specs.Memory.{AllResident};
 ghost use Rattle.vax_cpu.specs.Attempt.{flat_of};
 ghost use Rattle.vax_bare.specs.Run.{IsRun, IsCutShort};
 
@@ -20,7 +20,7 @@ pub struct Stopped {
 }
 
 /// Runs a processor over a memory of which every page is resident, up to the first step that ends the run, or for `limit` steps. The bytes
-/// that the program sends to its console go to Out in order.
+/// that the program sends to its console go to Out in order. The port then stands for the memory that the run leaves.
 ///
 /// It fails where a write to Out failed, after a prefix of what the whole run sends.
 pub fn run<P: Port, K: Sink>(
@@ -32,7 +32,7 @@ pub fn run<P: Port, K: Sink>(
     requires closed { cpu.old.latch ≡ None }
     requires unsent { cpu.old.term.out ≡ None }
     requires resident { AllResident (P.view port.old).resident (P.view port.old).areas }
-    ensures ok { (memory : List Area) → StandsFor (P.view port.old) memory → IfOk result (λ stopped. IsRun limit (flat_of cpu.old memory []) cpu.new (K.contents sink.old) (K.contents sink.new) stopped) }
+    ensures ok { (memory : List Area) → StandsFor (P.view port.old) memory → IfOk result (λ stopped. IsRun limit (flat_of cpu.old memory []) cpu.new (P.view port.new) (K.contents sink.old) (K.contents sink.new) stopped) }
     ensures err { (memory : List Area) → StandsFor (P.view port.old) memory → OnErr result (IsCutShort limit (flat_of cpu.old memory []) (K.contents sink.old) (K.contents sink.new)) }
     ensures later { K.faults sink.old ≤ K.faults sink.new }
     ensures cause { OnErr result (Rose (K.faults sink.old) (K.faults sink.new)) }

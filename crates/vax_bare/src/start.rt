@@ -2,7 +2,7 @@
 ghost use Rattle.std.specs.Prelude.{◌≡◌, ◌≤◌, ◌*◌, IfOk, length};
 ghost use Rattle.vax_flat.specs.Port.{StandsFor};
 ghost use Rattle.vax_flat.specs.Start.{start_memory};
-ghost use Rattle.vax_flat.proofs.Runs.{AllResident};
+ghost use Rattle.vax_flat.specs.Memory.{AllResident};
 ghost use Rattle.vax_undo.specs.Plain.{view_of};
 ghost use Rattle.vax_bare.specs.Start.{area, areas, core, memory, vectors};
 

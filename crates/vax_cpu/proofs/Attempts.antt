@@ -1,51 +1,126 @@
 -- From what a transaction followed to what an attempt came to.
-use Rattle.std.proofs.Common.{add-one, ◌+◌, ◌≡◌, ℕ, Option, Some, None, Ok, refl, sym, ap, subst, ◌∙◌}
+use Rattle.std.proofs.Common.{Bool, true, false, Result, add-one, ◌+◌, ◌≡◌, ℕ, Option, Some, None, Ok, Err, refl, sym, ap, subst, ◌∙◌}
+use Rattle.vax_flat.specs.declared.Cut.{Cut}
+use Rattle.vax_flat.specs.declared.Cut.TheVariants as cut
 use Rattle.vax_flat.specs.declared.Ending.{Ending}
+use Rattle.vax_flat.specs.declared.Exception.{Exception}
 use Rattle.vax_flat.specs.declared.Flow.{Flow}
 use Rattle.vax_flat.specs.declared.Flow.TheVariants as flow
 use Rattle.vax_flat.specs.State.{State, with_sent}
-use Rattle.vax_flat.specs.Port.{View}
+use Rattle.vax_flat.specs.Port.{View, unmarked, with_marks}
 use Rattle.vax_flat.specs.Accesses.{Accesses, Leaf, Went}
-use Rattle.vax_flat.specs.OverPort.{Present, Comes, over_port, Follows}
+use Rattle.vax_flat.specs.OverPort.{Present, Comes, Stops, over_port, Follows}
 use Rattle.vax_flat.specs.Step.{leaf, whole, whole_step}
+use Rattle.std.specs.Prelude.{is_none}
+use Rattle.vax_undo.specs.declared.txn.CutShort.{CutShort}
+use Rattle.vax_undo.specs.declared.txn.Txn.{Txn as Transaction}
+use Rattle.vax_undo.specs.Transaction.{bare, undone, IsReady, Keeps, KeepsUnlessDone}
+use Rattle.vax_cpu.specs.declared.attempt.Tried.{Tried}
 use Rattle.vax_cpu.specs.declared.attempt.Tried.TheVariants as tried
-use Rattle.vax_cpu.specs.Tried.{IsTried, ending_of}
+use Rattle.vax_cpu.specs.Tried.{IsTried, UnlessDone, UnlessEnded, ending_of, is_done, marked_as}
 use Rattle.vax_cpu.specs.Batch.{Ran}
 
--- three values are those of a present
-pub present_of : (old : Present) (state : State) (view : View) → state ≡ old.state → view ≡ old.view → record { state = state; view = view } ≡ old
-present_of old state view s v = ap (λ x. record { state = x; view = view }) s ∙ ap (λ x. record { state = old.state; view = x }) v
+-- what was undone is as before, but for the marks
+pub undone_as : (old back : Present) (state : State) (view : View) → state ≡ back.state → unmarked view ≡ back.view → back ≡ bare old → record { state = state; view = view } ≡ marked_as old view
+undone_as old back state view s v e =
+    let here : state ≡ old.state = s ∙ ap (λ (p : Present). p.state) e in
+    let there : view ≡ with_marks old.view view.marked = ap (λ (x : View). with_marks x view.marked) (v ∙ ap (λ (p : Present). p.view) e) in
+    ap (λ x. record { state = x; view = view }) here ∙ ap (λ x. record { state = old.state; view = x }) there
 
-module _ (tree : State → (Flow → State → Accesses Leaf) → Accesses Leaf) (old start mid new : Present) (begun : start ≡ old) (how : Flow) (follows : Follows (tree start.state) start (Ok how) mid) where
-  came : over_port (tree old.state leaf) old.view ≡ Comes (Went how mid.state) mid.view
+module _ (tree : State → (Flow → State → Accesses Leaf) → Accesses Leaf) (old mid new : Present) where
+  came : (how : Flow) → Follows (tree old.state) old (Ok how) mid → over_port (tree old.state leaf) old.view ≡ Comes (Went how mid.state) mid.view
   unfolding over_port
-  came = subst (λ (p : Present). over_port (tree p.state leaf) p.view ≡ Comes (Went how mid.state) mid.view) begun (follows leaf)
+  came how follows = follows leaf
+
+  stopped : (why : Cut) → Follows (tree old.state) old (Err why) mid → over_port (tree old.state leaf) old.view ≡ Stops why mid.view.marked
+  stopped why follows = follows leaf
 
   -- a step that is kept
-  pub kept : (sent : Option ℕ) → how ≡ flow.Done → new.state ≡ with_sent mid.state None → new.view ≡ mid.view → sent ≡ mid.state.sent → IsTried (λ s. tree s leaf) old (tried.Step sent) new
-  kept sent is state view byte = (
+  pub kept : (how : Flow) (sent : Option ℕ) → Follows (tree old.state) old (Ok how) mid → how ≡ flow.Done → new.state ≡ with_sent mid.state None → new.view ≡ mid.view → sent ≡ mid.state.sent → IsTried (λ s. tree s leaf) old (tried.Step sent) new
+  kept how sent follows is state view byte = (
     mid.state,
-    came ∙ (ap (λ x. Comes (Went x mid.state) mid.view) is ∙ ap (λ v. Comes (Went flow.Done mid.state) v) (sym view)),
+    came how follows ∙ (ap (λ x. Comes (Went x mid.state) mid.view) is ∙ ap (λ v. Comes (Went flow.Done mid.state) v) (sym view)),
     state,
     byte,
   )
 
   -- one that ends the run
-  pub finished : (e : Ending) → ending_of how ≡ Some e → new ≡ old → IsTried (λ s. tree s leaf) old (tried.Ended e) new
-  finished e is same = (how, mid.state, mid.view, came, is, same)
+  pub finished : (how : Flow) (e : Ending) → Follows (tree old.state) old (Ok how) mid → ending_of how ≡ Some e → new.view.marked ≡ mid.view.marked → new ≡ marked_as old new.view → IsTried (λ s. tree s leaf) old (tried.Ended e) new
+  finished how e follows is marks same = (how, mid.state, mid.view, came how follows, is, sym marks, same)
+
+  -- one that was cut short
+  pub missed : (page : ℕ) → Follows (tree old.state) old (Err (cut.Absent page)) mid → new.view.marked ≡ mid.view.marked → new ≡ marked_as old new.view → IsTried (λ s. tree s leaf) old (tried.Absent page) new
+  missed page follows marks same = (stopped (cut.Absent page) follows ∙ ap (λ x. Stops (cut.Absent page) x) (sym marks), same)
+
+  pub raised : (e : Exception) → Follows (tree old.state) old (Err (cut.Event e)) mid → new.view.marked ≡ mid.view.marked → new ≡ marked_as old new.view → IsTried (λ s. tree s leaf) old (tried.Event e) new
+  raised e follows marks same = (stopped (cut.Event e) follows ∙ ap (λ x. Stops (cut.Event e) x) (sym marks), same)
+
+-- the same of what a present is made of
+pub tried_at : (tree : State → Accesses Leaf) (old : Present) (t : Tried) (mid : Present) (state : State) (view : View) → state ≡ mid.state → view ≡ mid.view → IsTried tree old t mid → IsTried tree old t (record { state = state; view = view })
+tried_at tree old t mid state view s v h = subst (IsTried tree old t) (λ k. record { state = sym s k; view = sym v k }) h
+
+-- what was completed, and what wasn't
+pub done_from : (how : Flow) → ending_of how ≡ None → how ≡ flow.Done
+done_from flow.Done h = refl
+done_from flow.Clocked h = cc
+done_from (flow.Trap trap) h = cc
+done_from (flow.More opcode units) h = cc
+done_from (flow.Ended e) h = cc
+
+none_of : (e : Option Ending) → is_none e ≡ true → e ≡ None
+none_of None h = refl
+none_of (Some e) h = cc
+
+pub done_of : (work : Result Flow CutShort) → is_done work ≡ true → work ≡ Ok flow.Done
+done_of (Ok how) h = ap (λ x. Ok x) (done_from how (none_of (ending_of how) h))
+done_of (Err short) h = cc
+
+pub not_done : (work : Result Flow CutShort) → is_done work ≡ false → work ≡ Ok flow.Done → ⊥
+not_done work h is = let no : true ≡ false = sym (ap is_done is) ∙ h in cc
+
+pub unless_ended : (ended : Option Ending) (e : Ending) (fact : Type 0) → ended ≡ Some e → UnlessEnded ended fact → fact
+unless_ended None e fact is holds = cc
+unless_ended (Some x) e fact is holds = holds
+
+pub unless_in : (ended : Option Ending) (a b : Type 0) → (a → b) → UnlessEnded ended a → UnlessEnded ended b
+unless_in None a b f holds = tt
+unless_in (Some e) a b f holds = f holds
+
+pub unless : (work : Result Flow CutShort) (a b : Type 0) → (a → b) → UnlessDone work a → UnlessDone work b
+unless (Ok how) a b f holds = unless_in (ending_of how) a b f holds
+unless (Err short) a b f holds = f holds
+
+pub kept_unless : {P : Type 0} (view : P → View) (along : P → P → Type 0) (count : ℕ) (work : Result Flow CutShort) (old next : Transaction P) → KeepsUnlessDone view along count work old next → UnlessDone work (Keeps view along count old next)
+kept_unless view along count (Ok flow.Done) old next keeps = tt
+kept_unless view along count (Ok flow.Clocked) old next keeps = keeps
+kept_unless view along count (Ok (flow.Trap trap)) old next keeps = keeps
+kept_unless view along count (Ok (flow.More opcode units)) old next keeps = keeps
+kept_unless view along count (Ok (flow.Ended e)) old next keeps = keeps
+kept_unless view along count (Err short) old next keeps = keeps
+
+-- what conclude needs of the work of a transaction that had just begun
+module _ {P : Type 0} (view : P → View) (along : P → P → Type 0) (count : ℕ) (work : Result Flow CutShort) (old next : Transaction P) (keeps : KeepsUnlessDone view along count work old next) where
+  pub ready_unless : IsReady view old → UnlessDone work (IsReady view next)
+  ready_unless ready = unless work _ _ (λ (k : Keeps view along count old next). k.ready ready) (kept_unless view along count work old next keeps)
+
+  pub undone_unless : (start : Present) → undone view old ≡ bare start → UnlessDone work (undone view next ≡ bare start)
+  undone_unless start e = unless work _ _ (λ (k : Keeps view along count old next). k.undone ∙ e) (kept_unless view along count work old next keeps)
+
+  pub unsent_unless : (undone view old).state.sent ≡ None → UnlessDone work ((undone view next).state.sent ≡ None)
+  unsent_unless e = unless work _ _ (λ (k : Keeps view along count old next). ap (λ (p : Present). p.state.sent) k.undone ∙ e) (kept_unless view along count work old next keeps)
 
 -- a step that was kept and sent nothing, and what it began anew from
-pub renewed_step : (now mid next : Present) (how : Flow) → Follows (whole now.state) now (Ok how) mid → how ≡ flow.Done →
+pub renewed_step : (now mid next : Present) → Follows (whole now.state) now (Ok flow.Done) mid →
     next ≡ record { state = with_sent mid.state None; view = mid.view } → None ≡ mid.state.sent → IsTried whole_step now (tried.Step None) next
-renewed_step now mid next how follows is same silent =
-    kept whole now now mid next refl how follows None is (ap (λ (p : Present). p.state) same) (ap (λ (p : Present). p.view) same) silent
+renewed_step now mid next follows same silent =
+    kept whole now mid next flow.Done None follows refl (ap (λ (p : Present). p.state) same) (ap (λ (p : Present). p.view) same) silent
 
 -- one that sent a byte
-pub sent_step : (now mid next new : Present) (how : Flow) (byte : ℕ) → Follows (whole now.state) now (Ok how) mid → how ≡ flow.Done →
+pub sent_step : (now mid next new : Present) (byte : ℕ) → Follows (whole now.state) now (Ok flow.Done) mid →
     next ≡ record { state = with_sent mid.state None; view = mid.view } → new.state ≡ with_sent next.state None → new.view ≡ next.view → Some byte ≡ mid.state.sent →
     IsTried whole_step now (tried.Step (Some byte)) new
-sent_step now mid next new how byte follows is same state view sent =
-    kept whole now now mid new refl how follows (Some byte) is (state ∙ ap (λ (p : Present). with_sent p.state None) same) (view ∙ ap (λ (p : Present). p.view) same) sent
+sent_step now mid next new byte follows same state view sent =
+    kept whole now mid new flow.Done (Some byte) follows refl (state ∙ ap (λ (p : Present). with_sent p.state None) same) (view ∙ ap (λ (p : Present). p.view) same) sent
 
 pub ran_more : (count : ℕ) (old now next : Present) → Ran count old now → IsTried whole_step now (tried.Step None) next → next.state.input ≡ now.state.input → Ran (count + 1) old next
 ran_more count old now next ran one input = rw add-one (now, ran, one, input)

@@ -1,30 +1,33 @@
 -- Several attempts, said by the flat machine.
-use Rattle.std.proofs.Common.{Bool, ◌≡◌, ◌<◌, ℕ, zero, suc, Option, Some, None, List, refl, sym, ap, subst, ◌∙◌, arith, inl, inr}
+use Rattle.std.proofs.Common.{Bool, false, ◌+◌, ◌⊎◌, ◌≡◌, ◌<◌, ℕ, zero, suc, Option, Some, None, List, [], refl, sym, ap, subst, ◌∙◌, arith, inl, inr}
 use Rattle.std.proofs.lemmas.Bool.{cases_lt}
 use Rattle.vax_space.specs.declared.Area.{Area}
 use Rattle.vax_space.specs.Reference.{page_of}
 use Rattle.vax_flat.specs.declared.Flow.TheVariants as flow
 use Rattle.vax_flat.specs.State.{State, with_sent}
-use Rattle.vax_flat.specs.Port.{View, StandsFor}
+use Rattle.vax_flat.specs.Memory.{byte_at}
+use Rattle.vax_flat.specs.Port.{View, StandsFor, with_marks}
 use Rattle.vax_flat.specs.Accesses.{Went}
-use Rattle.vax_flat.specs.Outcome.{first_missing}
-use Rattle.vax_flat.specs.OverPort.{Present, Stops, over_port}
+use Rattle.vax_flat.specs.Outcome.{first_missing, marked_by, outcome_of}
+use Rattle.vax_flat.specs.OverPort.{Present}
 use Rattle.vax_flat.specs.Step.{Flat, step, step_touches, run, state_of, whole_step, whole_delivery, concluded, with_byte_sent}
+use Rattle.vax_cpu.specs.declared.attempt.Tried.{Tried}
 use Rattle.vax_cpu.specs.declared.attempt.Tried.TheVariants as tried
-use Rattle.vax_cpu.specs.Tried.{IsTried}
+use Rattle.vax_cpu.specs.Tried.{IsFinal, IsTried, Made, marked_as}
 use Rattle.vax_cpu.specs.Batch.{Ran}
 use Rattle.vax_cpu.specs.declared.cpu.Attempt.{Attempt}
 use Rattle.vax_cpu.specs.declared.cpu.Attempt.TheVariants as attempt
 use Rattle.vax_cpu.specs.declared.cpu.Cpu.{Cpu}
-use Rattle.vax_flat.specs.declared.Cut.TheVariants as cut
 use Rattle.vax_flat.specs.declared.Ending.{Ending}
 use Rattle.vax_flat.specs.declared.Ending.TheVariants.{Unbuilt}
-use Rattle.vax_flat.specs.declared.Exception.{Exception}
 use Rattle.vax_undo.specs.declared.term.Term.{Term}
 use Rattle.vax_undo.specs.Transaction.{state_of as state_at}
-use Rattle.vax_cpu.specs.Attempt.{flat_of, Attempted, IsStep}
-use Rattle.vax_cpu.specs.Batch.{AreAttempts, StaysAt}
-use Rattle.vax_cpu.proofs.Steps.{step_concluded, step_absent, step_kept, step_ended, delivery_absent, delivery_kept, delivery_ended, delivery_raised}
+use Rattle.vax_cpu.specs.Attempt.{flat_of, answer_of, Attempted, IsAsBefore, Marks, StopsInside}
+use Rattle.vax_cpu.specs.Batch.{AreAttempts, Raises, StaysAt, marks_after}
+use Rattle.vax_cpu.proofs.Steps.{Unmoved, attempted, inside, raises_there, stands_marked, step_concluded, unmoved}
+use Rattle.vax_flat.proofs.Inside.{tree_alike}
+use Rattle.vax_space.specs.Areas.{area_of}
+use Rattle.std.specs.Prelude.{is_some}
 
 -- the flat machine is where a transaction is
 pub record IsWhere (view : View) (p : Present) (m : Flat) : Type 0 where
@@ -41,6 +44,8 @@ pub record Reaches (view : View) (m : Flat) (count : ℕ) (p : Present) : Type 0
   pub resident : (k : ℕ) → k < count → first_missing view.resident (step_touches (run k m)) ≡ None
   pub silent : here.output ≡ m.output
   pub input : here.input ≡ m.input
+  pub absent : (addr : ℕ) → view.resident (page_of addr) ≡ false → byte_at here.memory addr ≡ byte_at m.memory addr
+  pub marks : p.view.marked ≡ marks_after view.resident view.marked count m
   pub is : IsWhere view p here
 
 sent_nothing : (output : List ℕ) (sent : Option ℕ) → None ≡ sent → with_byte_sent output sent ≡ output
@@ -52,44 +57,80 @@ state_after s m memory e k = record { core = s.core; input = e k; taken = s.take
 
 -- one more step
 reaches_more : (view : View) (m : Flat) (count : ℕ) (mid next : Present) → Reaches view m count mid → IsTried whole_step mid (tried.Step None) next → next.state.input ≡ mid.state.input → Reaches view m (suc count) next
-unfolding run
+unfolding run marks_after
 reaches_more view m count mid next r t input =
     let here = r.here in
     let from_here : IsTried whole_step (record { state = state_of here; view = mid.view }) (tried.Step None) next =
     subst (λ (s : State). IsTried whole_step (record { state = s; view = mid.view }) (tried.Step None) next) r.is.state t in
     let one = step_concluded mid.view here r.is.running r.is.stands from_here.0 next.view from_here.1 in
     record {
-      here = concluded here (Went flow.Done from_here.0) one.1;
-      steps = ap step r.steps ∙ one.2;
+      here = concluded here (Went flow.Done from_here.0) one.memory;
+      steps = ap step r.steps ∙ one.step;
       resident = λ k below. elim (cases_lt k count) [
         | inl earlier ↦ r.resident k earlier
         | inr late ↦
             let last : k ≡ count = omega arith in
             ap (λ n. first_missing view.resident (step_touches (run n m))) last
-            ∙ (ap (λ x. first_missing view.resident (step_touches x)) r.steps ∙ (ap (λ f. first_missing f (step_touches here)) (sym r.is.resident) ∙ one.0))
+            ∙ (ap (λ x. first_missing view.resident (step_touches x)) r.steps ∙ (ap (λ f. first_missing f (step_touches here)) (sym r.is.resident) ∙ one.first))
       ];
       silent = sent_nothing here.output from_here.0.sent from_here.3 ∙ r.silent;
       input = r.input;
+      absent = λ addr gone. one.absent addr (ap (λ (f : ℕ → Bool). f (page_of addr)) r.is.resident ∙ gone) ∙ r.absent addr gone;
+      marks = one.marks
+          ∙ (ap (λ (f : ℕ → Bool). marked_by f mid.view.marked (step_touches here)) r.is.resident
+          ∙ (ap (λ (f : ℕ → Bool). marked_by view.resident f (step_touches here)) r.marks
+          ∙ ap (λ (x : Flat). marked_by view.resident (marks_after view.resident view.marked count m) (step_touches x)) (sym r.steps)));
       is = record {
         running = r.is.running;
-        state = from_here.2 ∙ state_after from_here.0 here one.1 (sym (ap (λ (s : State). s.input) from_here.2) ∙ (input ∙ ap (λ (s : State). s.input) r.is.state));
-        stands = one.3;
-        resident = one.4 ∙ r.is.resident;
-        areas = one.5 ∙ r.is.areas;
+        state = from_here.2 ∙ state_after from_here.0 here one.memory (sym (ap (λ (s : State). s.input) from_here.2) ∙ (input ∙ ap (λ (s : State). s.input) r.is.state));
+        stands = one.stands;
+        resident = one.resident ∙ r.is.resident;
+        areas = one.areas ∙ r.is.areas;
       };
     }
 
-pub reaches : (view : View) (m : Flat) (count : ℕ) (old new : Present) → IsWhere view old m → Ran count old new → Reaches view m count new
-unfolding run
-reaches view m zero old new w ran = record {
+pub reaches : (view : View) (m : Flat) (count : ℕ) (old new : Present) → IsWhere view old m → old.view.marked ≡ view.marked → Ran count old new → Reaches view m count new
+unfolding run marks_after
+reaches view m zero old new w marked ran = record {
   here = m;
   steps = refl;
   resident = λ k below. absurd (omega arith);
   silent = refl;
   input = refl;
+  absent = λ addr gone. refl;
+  marks = ap (λ (p : Present). p.view.marked) ran ∙ marked;
   is = subst (λ (p : Present). IsWhere view p m) (sym ran) w;
 }
-reaches view m (suc count) old new w ran = reaches_more view m count ran.0 new (reaches view m count old ran.0 w ran.1) ran.2 ran.3
+reaches view m (suc count) old new w marked ran = reaches_more view m count ran.0 new (reaches view m count old ran.0 w marked ran.1) ran.2 ran.3
+
+-- where a transaction is, said by the flat machine
+pub is_here : (view : View) (m : Flat) (p : Present) → IsWhere view p m → p ≡ record { state = state_of m; view = p.view }
+is_here view m p w = λ k. record { state = w.state k; view = p.view }
+
+-- an attempt seen from a view with the same areas, resident pages and marks
+module _ (a b : View) (m : Flat) (cpu : Cpu) (after : View) (resident : a.resident ≡ b.resident) (areas : a.areas ≡ b.areas) (marked : a.marked ≡ b.marked) where
+  first_seen : (first : Option ℕ) → first_missing a.resident (step_touches m) ≡ first → first_missing b.resident (step_touches m) ≡ first
+  first_seen first e = ap (λ f. first_missing f (step_touches m)) (sym resident) ∙ e
+
+  marks_seen : Marks a m after → Marks b m after
+  marks_seen e = e ∙ (ap (λ (f : ℕ → Bool). marked_by f a.marked (step_touches m)) resident ∙ ap (λ (f : ℕ → Bool). marked_by b.resident f (step_touches m)) marked)
+
+  pub seen : (answer : Attempt) → Attempted a m answer cpu after → Attempted b m answer cpu after
+  seen (attempt.Step sent) k = (
+    first_seen None k.0,
+    record {
+      memory = k.1.memory;
+      step = k.1.step;
+      stands = k.1.stands;
+      absent = λ addr gone. k.1.absent addr (ap (λ (f : ℕ → Bool). f (page_of addr)) resident ∙ gone);
+      resident = k.1.resident ∙ resident;
+      areas = k.1.areas ∙ areas;
+      marks = marks_seen k.1.marks;
+    },
+  )
+  seen attempt.Part k = k
+  seen (attempt.Absent page) k = (first_seen (Some page) k.0, marks_seen k.1)
+  seen (attempt.Ended e) k = (first_seen None k.0, k.1, marks_seen k.2)
 
 -- the last attempt, from where the steps before it came to
 module _ (view : View) (m : Flat) (count : ℕ) (mid : Present) (r : Reaches view m count mid) (cpu : Cpu) (after : View) (input : m.input ≡ cpu.term.input.items) where
@@ -100,7 +141,7 @@ module _ (view : View) (m : Flat) (count : ℕ) (mid : Present) (r : Reaches vie
   input_here = r.input ∙ input
 
   -- registers and memory are where they were
-  stays : new ≡ mid → (flat_of cpu r.here.memory r.here.output ≡ r.here) × StandsFor after r.here.memory
+  stays : new ≡ marked_as mid after → (flat_of cpu r.here.memory r.here.output ≡ r.here) × StandsFor after r.here.memory
   stays e =
       let s : new.state ≡ state_of r.here = ap (λ (p : Present). p.state) e ∙ r.is.state in (
         λ k. record {
@@ -111,74 +152,47 @@ module _ (view : View) (m : Flat) (count : ℕ) (mid : Present) (r : Reaches vie
           output = r.here.output;
           ending = sym r.is.running k;
         },
-        subst (λ (v : View). StandsFor v r.here.memory) (sym (ap (λ (p : Present). p.view) e)) r.is.stands,
+        subst (λ (v : View). StandsFor v r.here.memory) (sym (ap (λ (p : Present). p.view) e)) (stands_marked mid.view after.marked r.here.memory r.is.stands),
       )
 
-  first_here : (first : Option ℕ) → first_missing mid.view.resident (step_touches r.here) ≡ first → first_missing view.resident (step_touches r.here) ≡ first
-  first_here first e = ap (λ f. first_missing f (step_touches r.here)) (sym r.is.resident) ∙ e
+  abbrev before : View
+  before = with_marks view (marks_after view.resident view.marked count m)
 
-  kept_here : (sent : Option ℕ) → (first_missing mid.view.resident (step_touches r.here) ≡ None) × IsStep mid.view r.here sent cpu after → (first_missing view.resident (step_touches r.here) ≡ None) × IsStep view r.here sent cpu after
-  kept_here sent k = (
-    first_here None k.0,
-    record {
-      memory = k.1.memory;
-      step = k.1.step;
-      stands = k.1.stands;
-      absent = λ addr gone. k.1.absent addr (ap (λ (f : ℕ → Bool). f (page_of addr)) r.is.resident ∙ gone);
-      resident = k.1.resident ∙ r.is.resident;
-      areas = k.1.areas ∙ r.is.areas;
-    },
-  )
-
-  all : (last : Attempt) → Attempted view r.here last cpu after → StaysAt r.here last cpu after → after.resident ≡ view.resident → after.areas ≡ view.areas → AreAttempts view m count last cpu after
-  all last attempted stays_at pages areas = record { here = r.here; steps = r.steps; resident = r.resident; silent = r.silent; attempted = attempted; stays = stays_at; pages = pages; areas = areas }
+  all : (answer : Attempt) → Attempted before r.here answer cpu after → StaysAt r.here answer cpu after → after.resident ≡ view.resident → after.areas ≡ view.areas → AreAttempts view m count answer cpu after
+  all answer attempted stays_at pages areas = record { here = r.here; steps = r.steps; resident = r.resident; silent = r.silent; absent = r.absent; attempted = attempted; stays = stays_at; pages = pages; areas = areas }
 
   -- where the last attempt made no step
-  none_made : (last : Attempt) → Attempted view r.here last cpu after → StaysAt r.here last cpu after → new ≡ mid → AreAttempts view m count last cpu after
-  none_made last attempted stays_at e = all last attempted stays_at (ap (λ (p : Present). p.view.resident) e ∙ r.is.resident) (ap (λ (p : Present). p.view.areas) e ∙ r.is.areas)
+  none_made : (answer : Attempt) → Attempted before r.here answer cpu after → StaysAt r.here answer cpu after → new ≡ marked_as mid after → AreAttempts view m count answer cpu after
+  none_made answer attempted stays_at e =
+      all answer attempted stays_at (ap (λ (p : Present). p.view.resident) e ∙ r.is.resident) (ap (λ (p : Present). p.view.areas) e ∙ r.is.areas)
 
-  one_made : (sent : Option ℕ) → (first_missing view.resident (step_touches r.here) ≡ None) × IsStep view r.here sent cpu after → AreAttempts view m count (attempt.Step sent) cpu after
-  one_made sent k = all (attempt.Step sent) k tt k.1.resident k.1.areas
+  by_answer : (t : Tried) → Unmoved t mid new → Attempted before r.here (answer_of t) cpu after → AreAttempts view m count (answer_of t) cpu after
+  by_answer (tried.Step sent) u k = all (attempt.Step sent) k tt k.1.resident k.1.areas
+  by_answer (tried.Absent page) u k = none_made (attempt.Absent page) k (stays u) u
+  by_answer (tried.Ended e) u k = none_made (attempt.Ended e) k (stays u) u
+  by_answer (tried.Event e) u k = none_made (attempt.Ended Unbuilt) k (stays u) u
 
-  module _ (from_here : mid ≡ record { state = state_of r.here; view = mid.view }) where
-    pub last_kept : (sent : Option ℕ) → IsTried whole_step mid (tried.Step sent) new → AreAttempts view m count (attempt.Step sent) cpu after
-    last_kept sent t = one_made sent
-        (kept_here sent (step_kept mid.view r.here r.is.running r.is.stands sent cpu after input_here (subst (λ (p : Present). IsTried whole_step p (tried.Step sent) new) from_here t)))
+  pub are_attempts : (t : Tried) → Made mid t new → AreAttempts view m count (answer_of t) cpu after
+  are_attempts t made =
+      let here = is_here view r.here mid r.is in
+      let from_here : Made (record { state = state_of r.here; view = mid.view }) t new = subst (λ (p : Present). Made p t new) here made in
+      by_answer t (unmoved t mid new made)
+      (seen mid.view before r.here cpu after r.is.resident r.is.areas r.marks (answer_of t) (attempted mid.view r.here r.is.running r.is.stands cpu after input_here t from_here))
 
-    pub last_absent : (page : ℕ) → IsTried whole_step mid (tried.Absent page) new → AreAttempts view m count (attempt.Absent page) cpu after
-    last_absent page t = none_made (attempt.Absent page)
-        (first_here (Some page) (step_absent mid.view r.here r.is.running r.is.stands page new (subst (λ (p : Present). IsTried whole_step p (tried.Absent page) new) from_here t))) (stays t.1) t.1
-
-    pub last_ended : (e : Ending) → IsTried whole_step mid (tried.Ended e) new → AreAttempts view m count (attempt.Ended e) cpu after
-    last_ended e t =
-        let a = step_ended mid.view r.here r.is.running r.is.stands e new (subst (λ (p : Present). IsTried whole_step p (tried.Ended e) new) from_here t) in
-        none_made (attempt.Ended e) (first_here None a.0, a.1) (stays t.5) t.5
-
-    module _ (x : Exception) (raised : Present) (came : IsTried whole_step mid (tried.Event x) raised) where
-      at : over_port (whole_step (state_of r.here)) mid.view ≡ Stops (cut.Event x)
-      at = (subst (λ (p : Present). IsTried whole_step p (tried.Event x) raised) from_here came).0
-
-      pub delivery_last_kept : (sent : Option ℕ) → IsTried (whole_delivery x) mid (tried.Step sent) new → AreAttempts view m count (attempt.Step sent) cpu after
-      delivery_last_kept sent t = one_made sent
-          (kept_here sent (delivery_kept mid.view r.here r.is.running r.is.stands x at sent cpu after input_here (subst (λ (p : Present). IsTried (whole_delivery x) p (tried.Step sent) new) from_here t)))
-
-      pub delivery_last_absent : (page : ℕ) → IsTried (whole_delivery x) mid (tried.Absent page) new → AreAttempts view m count (attempt.Absent page) cpu after
-      delivery_last_absent page t = none_made (attempt.Absent page)
-          (first_here (Some page) (delivery_absent mid.view r.here r.is.running r.is.stands x at page new (subst (λ (p : Present). IsTried (whole_delivery x) p (tried.Absent page) new) from_here t))) (stays t.1) t.1
-
-      pub delivery_last_ended : (e : Ending) → IsTried (whole_delivery x) mid (tried.Ended e) new → AreAttempts view m count (attempt.Ended e) cpu after
-      delivery_last_ended e t =
-          let a = delivery_ended mid.view r.here r.is.running r.is.stands x at e new (subst (λ (p : Present). IsTried (whole_delivery x) p (tried.Ended e) new) from_here t) in
-          none_made (attempt.Ended e) (first_here None a.0, a.1) (stays t.5) t.5
-
-      pub delivery_last_raised : (y : Exception) → IsTried (whole_delivery x) mid (tried.Event y) new → AreAttempts view m count (attempt.Ended Unbuilt) cpu after
-      delivery_last_raised y t =
-          let a = delivery_raised mid.view r.here r.is.running r.is.stands x at y new (subst (λ (p : Present). IsTried (whole_delivery x) p (tried.Event y) new) from_here t) in
-          none_made (attempt.Ended Unbuilt) (first_here None a.0, a.1) (stays t.1) t.1
-
--- where a transaction is, said by the flat machine
-pub is_here : (view : View) (m : Flat) (p : Present) → IsWhere view p m → p ≡ record { state = state_of m; view = p.view }
-is_here view m p w = λ k. record { state = w.state k; view = p.view }
+-- a batch goes on to its end, unless a step wasn't completed, sent a byte or raised an exception
+pub goes_on : (view : View) (m : Flat) (count : ℕ) (mid : Present) (r : Reaches view m count mid) (most : ℕ) (t settled : Tried) (raised : Present) → (IsFinal t → settled ≡ t) → (t ≡ tried.Step None → count + 1 ≡ most) → IsTried whole_step mid t raised →
+    answer_of settled ≡ attempt.Step None → (count + 1 ≡ most) ⊎ Raises (run count m)
+goes_on view m count mid r most (tried.Step sent) settled raised kept all is answer =
+    let step : attempt.Step sent ≡ attempt.Step None = sym (ap answer_of (kept tt)) ∙ answer in
+    let nothing : sent ≡ None = cc in
+    inl (all (ap (λ x. tried.Step x) nothing))
+goes_on view m count mid r most (tried.Absent page) settled raised kept all is answer =
+    let no : attempt.Absent page ≡ attempt.Step None = sym (ap answer_of (kept tt)) ∙ answer in cc
+goes_on view m count mid r most (tried.Ended e) settled raised kept all is answer =
+    let no : attempt.Ended e ≡ attempt.Step None = sym (ap answer_of (kept tt)) ∙ answer in cc
+goes_on view m count mid r most (tried.Event x) settled raised kept all is answer =
+    let from_here = subst (λ (p : Present). IsTried whole_step p (tried.Event x) raised) (is_here view r.here mid r.is) is in
+    inr (x, ap (λ (h : Flat). outcome_of (whole_step (state_of h)) h.memory) r.steps ∙ raises_there mid.view r.here r.is.running r.is.stands x raised from_here)
 
 -- the start
 pub at_start : (core : _) (term : Term) (view : View) (m : Flat) → m.ending ≡ None → term.out ≡ None → m.core ≡ core → m.input ≡ term.input.items → m.taken ≡ term.place → StandsFor view m.memory →
@@ -190,3 +204,41 @@ at_start core term view m running out c i t st = record {
   resident = refl;
   areas = refl;
 }
+
+-- where no step was made, registers and console are as before
+module _ (before cpu : Cpu) (view after : View) (input : cpu.term.input.items ≡ before.term.input.items) where
+  abbrev from : Present
+  from = record { state = state_at before.core before.term; view = view }
+
+  abbrev to : Present
+  to = record { state = state_at cpu.core cpu.term; view = after }
+
+  same_place : to ≡ marked_as from after → (flat_of cpu [] [] ≡ flat_of before [] []) × (after ≡ with_marks view after.marked)
+  same_place e =
+      let s : to.state ≡ from.state = ap (λ (p : Present). p.state) e in
+      (λ k. record { core = ap (λ (x : State). x.core) s k; memory = []; input = input k; taken = ap (λ (x : State). x.taken) s k; output = []; ending = None }, ap (λ (p : Present). p.view) e)
+
+  pub as_before : (t : Tried) → Unmoved t from to → IsAsBefore (answer_of t) (flat_of before [] []) view (flat_of cpu [] []) after
+  as_before (tried.Step sent) u = tt
+  as_before (tried.Absent page) u = same_place u
+  as_before (tried.Ended e) u = same_place u
+  as_before (tried.Event e) u = same_place u
+
+-- the pages for which the last of several attempts stops
+ran_alike : (count : ℕ) (old now : Present) → Ran count old now → (now.view.resident ≡ old.view.resident) × (now.view.areas ≡ old.view.areas)
+ran_alike zero old now ran = (ap (λ (p : Present). p.view.resident) ran, ap (λ (p : Present). p.view.areas) ran)
+ran_alike (suc count) old now ran =
+    let before = ran_alike count old ran.0 ran.1 in
+    let one = tree_alike (whole_step ran.0.state) ran.0.view (Went flow.Done ran.2.0) now.view ran.2.1 in
+    (one.0 ∙ before.0, one.1 ∙ before.1)
+
+inside_alike : (a b : View) (answer : Attempt) → a.resident ≡ b.resident → a.areas ≡ b.areas → StopsInside answer a → StopsInside answer b
+inside_alike a b (attempt.Step sent) r s h = tt
+inside_alike a b attempt.Part r s h = tt
+inside_alike a b (attempt.Absent page) r s h = (ap (λ (f : ℕ → Bool). f page) (sym r) ∙ h.0, ap (λ areas. is_some (area_of areas page)) (sym s) ∙ h.1)
+inside_alike a b (attempt.Ended e) r s h = tt
+
+pub inside_batch : (count : ℕ) (old mid now : Present) (t : Tried) → Ran count old mid → Made mid t now → StopsInside (answer_of t) old.view
+inside_batch count old mid now t ran made =
+    let same = ran_alike count old mid ran in
+    inside_alike mid.view old.view (answer_of t) same.0 same.1 (inside t mid now made)

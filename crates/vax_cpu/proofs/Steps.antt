@@ -1,5 +1,5 @@
 -- What an attempt came to, said by the flat machine.
-use Rattle.std.proofs.Common.{◌≡◌, ℕ, Option, Some, None, List, refl, sym, ap, subst, ◌∙◌}
+use Rattle.std.proofs.Common.{Bool, false, ◌≡◌, ℕ, Option, Some, None, List, refl, sym, ap, subst, ◌∙◌}
 use Rattle.vax_word.specs.declared.Core.{Core}
 use Rattle.vax_space.specs.declared.Area.{Area}
 use Rattle.vax_flat.specs.declared.Exception.{Exception}
@@ -8,20 +8,27 @@ use Rattle.vax_flat.specs.declared.Ending.{Ending}
 use Rattle.vax_flat.specs.declared.Ending.TheVariants.{Unbuilt}
 use Rattle.vax_flat.specs.declared.Flow.{Flow}
 use Rattle.vax_flat.specs.declared.Flow.TheVariants as flow
-use Rattle.vax_flat.specs.State.{State}
-use Rattle.vax_flat.specs.Port.{View, StandsFor}
-use Rattle.vax_flat.specs.Accesses.{Leaf, Went}
-use Rattle.vax_flat.specs.Outcome.{Outcome, Ends, Raised, outcome_of, touches_of, first_missing, or_else}
-use Rattle.vax_flat.specs.OverPort.{Present, Comes, Stops, Agrees, over_port}
+use Rattle.vax_flat.specs.State.{State, with_sent}
+use Rattle.vax_flat.specs.Port.{View, StandsFor, with_marks}
+use Rattle.vax_flat.specs.Inside.{IsMissing}
+use Rattle.vax_flat.specs.Accesses.{Accesses, Leaf, Went}
+use Rattle.vax_flat.specs.Outcome.{Outcome, Ends, Raised, outcome_of, touches_of, first_missing, or_else, marked_by, unless_absent}
+use Rattle.vax_flat.specs.OverPort.{Present, Arrival, Comes, Stops, Agrees, marks_of, over_port}
 use Rattle.vax_flat.specs.Step.{Flat, step, step_from, step_touches, state_of, whole_step, whole_delivery, concluded, ended, after_instruction, after_delivery, touches_after, with_byte_sent}
 use Rattle.vax_flat.proofs.Standing.{standing}
+use Rattle.vax_flat.proofs.Marks.{marks_are, marked_by-append}
+use Rattle.vax_flat.proofs.Inside.{stops_missing}
 use Rattle.vax_flat.proofs.Joined.{first_missing-append}
 use Rattle.vax_undo.specs.declared.term.Term.{Term}
 use Rattle.vax_undo.specs.Transaction.{state_of as state_at}
+use Rattle.vax_space.specs.Reference.{page_of}
+use Rattle.vax_flat.specs.Memory.{byte_at}
+use Rattle.vax_cpu.specs.declared.attempt.Tried.{Tried}
 use Rattle.vax_cpu.specs.declared.attempt.Tried.TheVariants as tried
+use Rattle.vax_cpu.specs.declared.cpu.Attempt.TheVariants as attempt
 use Rattle.vax_cpu.specs.declared.cpu.Cpu.{Cpu}
-use Rattle.vax_cpu.specs.Tried.{IsTried, ending_of}
-use Rattle.vax_cpu.specs.Attempt.{flat_of, IsStep}
+use Rattle.vax_cpu.specs.Tried.{IsFinal, IsTried, Made, AtOnce, Delivered, ending_of, marked_as}
+use Rattle.vax_cpu.specs.Attempt.{flat_of, answer_of, Attempted, IsStep, Marks, StopsInside}
 
 flat_alike : (c d : Core) (memory : List Area) (i j : List ℕ) (t u : ℕ) (o p : List ℕ) (e f : Option Ending) → c ≡ d → i ≡ j → t ≡ u → o ≡ p → e ≡ f →
     ◌≡◌ {A = Flat} (record { core = c; memory = memory; input = i; taken = t; output = o; ending = e }) (record { core = d; memory = memory; input = j; taken = u; output = p; ending = f })
@@ -46,108 +53,210 @@ pub unsent : (core : Core) (term : Term) (view : View) → term.out ≡ None →
     ◌≡◌ {A = Present} (record { state = state_at core term; view = view }) (record { state = record { core = core; input = term.input.items; taken = term.place; sent = None }; view = view })
 unsent core term view e k = record { state = record { core = core; input = term.input.items; taken = term.place; sent = e k }; view = view }
 
+-- a port stands for the same memories whatever is marked
+pub stands_marked : (view : View) (marked : ℕ → Bool) (memory : List Area) → StandsFor view memory → StandsFor (with_marks view marked) memory
+stands_marked view marked memory st = record { areas = st.areas; bytes = st.bytes; whole = st.whole }
+
+-- what a tree comes to, and the pages that it marks
+module _ (tree : Accesses Leaf) (view : View) (memory : List Area) (st : StandsFor view memory) (arrival : Arrival Leaf) (came : over_port tree view ≡ arrival) where
+  agrees : Agrees view memory arrival (first_missing view.resident (touches_of tree memory)) (outcome_of tree memory)
+  agrees = subst (λ x. Agrees view memory x (first_missing view.resident (touches_of tree memory)) (outcome_of tree memory)) came (standing tree view memory st)
+
+  marks : marks_of arrival ≡ marked_by view.resident view.marked (touches_of tree memory)
+  marks = sym (ap marks_of came) ∙ marks_are tree view memory st
+
+-- a step that was completed so, as the flat machine makes it
+pub record Concluded (view : View) (m : Flat) (s : State) (after : View) : Type 0 where
+  pub first : first_missing view.resident (step_touches m) ≡ None
+  pub memory : List Area
+  pub step : step m ≡ concluded m (Went flow.Done s) memory
+  pub stands : StandsFor after memory
+  pub resident : after.resident ≡ view.resident
+  pub areas : after.areas ≡ view.areas
+  pub absent : (addr : ℕ) → view.resident (page_of addr) ≡ false → byte_at memory addr ≡ byte_at m.memory addr
+  pub marks : Marks view m after
+
 module _ (view : View) (m : Flat) (running : m.ending ≡ None) (st : StandsFor view m.memory) where
-  abbrev whole_touches : Option ℕ
-  whole_touches = first_missing view.resident (touches_of (whole_step (state_of m)) m.memory)
+  abbrev whole_first : Option ℕ
+  whole_first = first_missing view.resident (touches_of (whole_step (state_of m)) m.memory)
 
   abbrev whole_outcome : Outcome Leaf
   whole_outcome = outcome_of (whole_step (state_of m)) m.memory
 
+  abbrev whole_marks : ℕ → Bool
+  whole_marks = marked_by view.resident view.marked (touches_of (whole_step (state_of m)) m.memory)
+
   step_is : (outcome : Outcome Leaf) → whole_outcome ≡ outcome → step m ≡ after_instruction m outcome
   step_is outcome e = ap (λ ending. step_from ending m) running ∙ ap (after_instruction m) e
 
-  touches_are : (first : Option ℕ) (outcome : Outcome Leaf) → whole_touches ≡ first → whole_outcome ≡ outcome →
+  touches_are : (first : Option ℕ) (outcome : Outcome Leaf) → whole_first ≡ first → whole_outcome ≡ outcome →
       first_missing view.resident (step_touches m) ≡ or_else first (first_missing view.resident (touches_after m outcome))
   touches_are first outcome e f =
       first_missing-append view.resident (touches_of (whole_step (state_of m)) m.memory) (touches_after m whole_outcome)
       ∙ (ap (λ x. or_else x (first_missing view.resident (touches_after m whole_outcome))) e
       ∙ ap (λ x. or_else first (first_missing view.resident (touches_after m x))) f)
 
-  nothing_more : (first : Option ℕ) (leaf : Leaf) (memory : List Area) → whole_touches ≡ None → whole_outcome ≡ Ends leaf memory → first_missing view.resident (step_touches m) ≡ None
+  marks_join : (first : Option ℕ) (outcome : Outcome Leaf) (marked : ℕ → Bool) → whole_first ≡ first → whole_outcome ≡ outcome → marked ≡ whole_marks →
+      marked_by view.resident view.marked (step_touches m) ≡ unless_absent first marked (marked_by view.resident marked (touches_after m outcome))
+  marks_join first outcome marked e f g =
+      marked_by-append view.resident view.marked (touches_of (whole_step (state_of m)) m.memory) (touches_after m whole_outcome)
+      ∙ (ap (λ x. unless_absent x whole_marks (marked_by view.resident whole_marks (touches_after m whole_outcome))) e
+      ∙ (ap (λ x. unless_absent first x (marked_by view.resident x (touches_after m whole_outcome))) (sym g)
+      ∙ ap (λ x. unless_absent first marked (marked_by view.resident marked (touches_after m x))) f))
+
+  -- where an instruction came to its end, nothing follows
+  first_none : (leaf : Leaf) (memory : List Area) → whole_first ≡ None → whole_outcome ≡ Ends leaf memory → first_missing view.resident (step_touches m) ≡ None
   unfolding first_missing
-  nothing_more first leaf memory e f = touches_are None (Ends leaf memory) e f
+  first_none leaf memory e f = touches_are None (Ends leaf memory) e f
 
-  -- the first page of the instruction that isn't resident
-  pub step_absent : (page : ℕ) (new : Present) → IsTried whole_step (record { state = state_of m; view = view }) (tried.Absent page) new → first_missing view.resident (step_touches m) ≡ Some page
-  step_absent page new t =
-      let a : whole_touches ≡ Some page = subst (λ x. Agrees view m.memory x whole_touches whole_outcome) t.0 (standing (whole_step (state_of m)) view m.memory st) in
-      touches_are (Some page) whole_outcome a refl
-
-  -- a step that was completed, as the flat machine makes it
-  pub step_concluded : (s : State) (after : View) → over_port (whole_step (state_of m)) view ≡ Comes (Went flow.Done s) after →
-      (first_missing view.resident (step_touches m) ≡ None) × (memory : List Area) × (step m ≡ concluded m (Went flow.Done s) memory) × StandsFor after memory × (after.resident ≡ view.resident) × (after.areas ≡ view.areas)
-  step_concluded s after came =
-      let a = subst (λ x. Agrees view m.memory x whole_touches whole_outcome) came (standing (whole_step (state_of m)) view m.memory st) in
-      (nothing_more None (Went flow.Done s) a.3.0 a.0 a.3.1, a.3.0, step_is (Ends (Went flow.Done s) a.3.0) a.3.1, a.3.2, a.1, a.2)
+  marks_whole : (leaf : Leaf) (memory : List Area) (marked : ℕ → Bool) → whole_first ≡ None → whole_outcome ≡ Ends leaf memory → marked ≡ whole_marks → marked ≡ marked_by view.resident view.marked (step_touches m)
+  unfolding marked_by
+  marks_whole leaf memory marked e f g = sym (marks_join None (Ends leaf memory) marked e f g)
 
   -- an instruction that was completed
-  pub step_kept : (sent : Option ℕ) (cpu : Cpu) (after : View) → m.input ≡ cpu.term.input.items → IsTried whole_step (record { state = state_of m; view = view }) (tried.Step sent) (record { state = state_at cpu.core cpu.term; view = after }) →
-      (first_missing view.resident (step_touches m) ≡ None) × IsStep view m sent cpu after
-  step_kept sent cpu after input t =
-      let a = subst (λ x. Agrees view m.memory x whole_touches whole_outcome) t.1 (standing (whole_step (state_of m)) view m.memory st) in (
-        nothing_more None (Went flow.Done t.0) a.3.0 a.0 a.3.1,
-        record {
-          memory = a.3.0;
-          step = step_is (Ends (Went flow.Done t.0) a.3.0) a.3.1 ∙ after_step m t.0 a.3.0 cpu sent running input (ap (λ (x : State). x.core) t.2) (ap (λ (x : State). x.taken) t.2) t.3;
-          stands = a.3.2;
-          absent = a.3.3;
-          resident = a.1;
-          areas = a.2;
-        },
-      )
+  pub step_concluded : (s : State) (after : View) → over_port (whole_step (state_of m)) view ≡ Comes (Went flow.Done s) after → Concluded view m s after
+  step_concluded s after came =
+      let a = agrees (whole_step (state_of m)) view m.memory st (Comes (Went flow.Done s) after) came in
+      record {
+        first = first_none (Went flow.Done s) a.3.0 a.0 a.3.1;
+        memory = a.3.0;
+        step = step_is (Ends (Went flow.Done s) a.3.0) a.3.1;
+        stands = a.3.2;
+        resident = a.1;
+        areas = a.2;
+        absent = a.3.3;
+        marks = marks_whole (Went flow.Done s) a.3.0 after.marked a.0 a.3.1 (marks (whole_step (state_of m)) view m.memory st (Comes (Went flow.Done s) after) came);
+      }
 
-  -- one that ends the run
-  pub step_ended : (e : Ending) (new : Present) → IsTried whole_step (record { state = state_of m; view = view }) (tried.Ended e) new → (first_missing view.resident (step_touches m) ≡ None) × (step m ≡ ended m e)
-  step_ended e new t =
-      let a = subst (λ x. Agrees view m.memory x whole_touches whole_outcome) t.3 (standing (whole_step (state_of m)) view m.memory st) in (
-        nothing_more None (Went t.0 t.1) a.3.0 a.0 a.3.1,
-        step_is (Ends (Went t.0 t.1) a.3.0) a.3.1 ∙ concluded_ends m t.0 t.1 a.3.0 e t.4,
-      )
+  kept : (s : State) (sent : Option ℕ) (cpu : Cpu) (after : View) → m.input ≡ cpu.term.input.items → Concluded view m s after → state_at cpu.core cpu.term ≡ with_sent s None → sent ≡ s.sent →
+      Attempted view m (attempt.Step sent) cpu after
+  kept s sent cpu after input c same byte = (
+    c.first,
+    record {
+      memory = c.memory;
+      step = c.step ∙ after_step m s c.memory cpu sent running input (ap (λ (x : State). x.core) same) (ap (λ (x : State). x.taken) same) byte;
+      stands = c.stands;
+      absent = c.absent;
+      resident = c.resident;
+      areas = c.areas;
+      marks = c.marks;
+    },
+  )
 
-  -- one that raised an exception, whose delivery follows
-  module _ (x : Exception) (raised : over_port (whole_step (state_of m)) view ≡ Stops (cut.Event x)) where
-    abbrev delivery_touches : Option ℕ
-    delivery_touches = first_missing view.resident (touches_of (whole_delivery x (state_of m)) m.memory)
+  -- an instruction that raised no exception
+  module _ (cpu : Cpu) (after : View) (input : m.input ≡ cpu.term.input.items) where
+    abbrev new : Present
+    new = record { state = state_at cpu.core cpu.term; view = after }
 
-    abbrev delivery_outcome : Outcome Leaf
-    delivery_outcome = outcome_of (whole_delivery x (state_of m)) m.memory
+    at_once : (t : Tried) → IsFinal t → IsTried whole_step (record { state = state_of m; view = view }) t new → Attempted view m (answer_of t) cpu after
+    at_once (tried.Step sent) final t = kept t.0 sent cpu after input (step_concluded t.0 after t.1) t.2 t.3
+    at_once (tried.Absent page) final t =
+        let a = agrees (whole_step (state_of m)) view m.memory st (Stops (cut.Absent page) after.marked) t.0 in
+        let k = marks (whole_step (state_of m)) view m.memory st (Stops (cut.Absent page) after.marked) t.0 in
+        (touches_are (Some page) whole_outcome a refl, sym (marks_join (Some page) whole_outcome after.marked a refl k))
+    at_once (tried.Ended e) final t =
+        let a = agrees (whole_step (state_of m)) view m.memory st (Comes (Went t.0 t.1) t.2) t.3 in
+        let k = marks (whole_step (state_of m)) view m.memory st (Comes (Went t.0 t.1) t.2) t.3 in (
+          first_none (Went t.0 t.1) a.3.0 a.0 a.3.1,
+          step_is (Ends (Went t.0 t.1) a.3.0) a.3.1 ∙ concluded_ends m t.0 t.1 a.3.0 e t.4,
+          marks_whole (Went t.0 t.1) a.3.0 after.marked a.0 a.3.1 (sym t.5 ∙ k),
+        )
+    at_once (tried.Event e) final t = absurd final
 
-    raises : (whole_touches ≡ None) × (whole_outcome ≡ Raised x)
-    raises = subst (λ y. Agrees view m.memory y whole_touches whole_outcome) raised (standing (whole_step (state_of m)) view m.memory st)
+    -- one that raised an exception, whose delivery follows
+    module _ (x : Exception) (marked : ℕ → Bool) (raised : over_port (whole_step (state_of m)) view ≡ Stops (cut.Event x) marked) where
+      abbrev there : View
+      there = with_marks view marked
 
-    touches_it : first_missing view.resident (step_touches m) ≡ delivery_touches
-    touches_it = touches_are None (Raised x) raises.0 raises.1
+      stands_there : StandsFor there m.memory
+      stands_there = stands_marked view marked m.memory st
 
-    step_it : (outcome : Outcome Leaf) → delivery_outcome ≡ outcome → step m ≡ after_delivery m outcome
-    step_it outcome e = step_is (Raised x) raises.1 ∙ ap (after_delivery m) e
+      abbrev delivery_outcome : Outcome Leaf
+      delivery_outcome = outcome_of (whole_delivery x (state_of m)) m.memory
 
-    pub delivery_absent : (page : ℕ) (new : Present) → IsTried (whole_delivery x) (record { state = state_of m; view = view }) (tried.Absent page) new → first_missing view.resident (step_touches m) ≡ Some page
-    delivery_absent page new t =
-        touches_it ∙ subst (λ y. Agrees view m.memory y delivery_touches delivery_outcome) t.0 (standing (whole_delivery x (state_of m)) view m.memory st)
+      raises : (whole_first ≡ None) × (whole_outcome ≡ Raised x)
+      raises = agrees (whole_step (state_of m)) view m.memory st (Stops (cut.Event x) marked) raised
 
-    pub delivery_kept : (sent : Option ℕ) (cpu : Cpu) (after : View) → m.input ≡ cpu.term.input.items → IsTried (whole_delivery x) (record { state = state_of m; view = view }) (tried.Step sent) (record { state = state_at cpu.core cpu.term; view = after }) →
-        (first_missing view.resident (step_touches m) ≡ None) × IsStep view m sent cpu after
-    delivery_kept sent cpu after input t =
-        let a = subst (λ y. Agrees view m.memory y delivery_touches delivery_outcome) t.1 (standing (whole_delivery x (state_of m)) view m.memory st) in (
-          touches_it ∙ a.0,
+      touches_it : first_missing view.resident (step_touches m) ≡ first_missing view.resident (touches_of (whole_delivery x (state_of m)) m.memory)
+      touches_it = touches_are None (Raised x) raises.0 raises.1
+
+      marks_it : marked_by view.resident view.marked (step_touches m) ≡ marked_by view.resident marked (touches_of (whole_delivery x (state_of m)) m.memory)
+      marks_it = marks_join None (Raised x) marked raises.0 raises.1 (marks (whole_step (state_of m)) view m.memory st (Stops (cut.Event x) marked) raised)
+
+      step_it : (outcome : Outcome Leaf) → delivery_outcome ≡ outcome → step m ≡ after_delivery m outcome
+      step_it outcome e = step_is (Raised x) raises.1 ∙ ap (after_delivery m) e
+
+      delivery_concluded : (s : State) → over_port (whole_delivery x (state_of m)) there ≡ Comes (Went flow.Done s) after → Concluded view m s after
+      delivery_concluded s came =
+          let a = agrees (whole_delivery x (state_of m)) there m.memory stands_there (Comes (Went flow.Done s) after) came in
           record {
+            first = touches_it ∙ a.0;
             memory = a.3.0;
-            step = step_it (Ends (Went flow.Done t.0) a.3.0) a.3.1 ∙ after_step m t.0 a.3.0 cpu sent running input (ap (λ (y : State). y.core) t.2) (ap (λ (y : State). y.taken) t.2) t.3;
+            step = step_it (Ends (Went flow.Done s) a.3.0) a.3.1;
             stands = a.3.2;
-            absent = a.3.3;
             resident = a.1;
             areas = a.2;
-          },
-        )
+            absent = a.3.3;
+            marks = marks (whole_delivery x (state_of m)) there m.memory stands_there (Comes (Went flow.Done s) after) came ∙ sym marks_it;
+          }
 
-    pub delivery_ended : (e : Ending) (new : Present) → IsTried (whole_delivery x) (record { state = state_of m; view = view }) (tried.Ended e) new → (first_missing view.resident (step_touches m) ≡ None) × (step m ≡ ended m e)
-    delivery_ended e new t =
-        let a = subst (λ y. Agrees view m.memory y delivery_touches delivery_outcome) t.3 (standing (whole_delivery x (state_of m)) view m.memory st) in (
-          touches_it ∙ a.0,
-          step_it (Ends (Went t.0 t.1) a.3.0) a.3.1 ∙ concluded_ends m t.0 t.1 a.3.0 e t.4,
-        )
+      delivered : (t : Tried) → IsTried (whole_delivery x) (record { state = state_of m; view = there }) t new → Attempted view m (answer_of t) cpu after
+      delivered (tried.Step sent) t = kept t.0 sent cpu after input (delivery_concluded t.0 t.1) t.2 t.3
+      delivered (tried.Absent page) t =
+          let k = marks (whole_delivery x (state_of m)) there m.memory stands_there (Stops (cut.Absent page) after.marked) t.0 in
+          (touches_it ∙ agrees (whole_delivery x (state_of m)) there m.memory stands_there (Stops (cut.Absent page) after.marked) t.0, k ∙ sym marks_it)
+      delivered (tried.Ended e) t =
+          let a = agrees (whole_delivery x (state_of m)) there m.memory stands_there (Comes (Went t.0 t.1) t.2) t.3 in
+          let k = marks (whole_delivery x (state_of m)) there m.memory stands_there (Comes (Went t.0 t.1) t.2) t.3 in
+          (touches_it ∙ a.0, step_it (Ends (Went t.0 t.1) a.3.0) a.3.1 ∙ concluded_ends m t.0 t.1 a.3.0 e t.4, sym t.5 ∙ (k ∙ sym marks_it))
+      delivered (tried.Event e) t =
+          let a = agrees (whole_delivery x (state_of m)) there m.memory stands_there (Stops (cut.Event e) after.marked) t.0 in
+          let k = marks (whole_delivery x (state_of m)) there m.memory stands_there (Stops (cut.Event e) after.marked) t.0 in
+          (touches_it ∙ a.0, step_it (Raised e) a.1, k ∙ sym marks_it)
 
-    pub delivery_raised : (y : Exception) (new : Present) → IsTried (whole_delivery x) (record { state = state_of m; view = view }) (tried.Event y) new → (first_missing view.resident (step_touches m) ≡ None) × (step m ≡ ended m Unbuilt)
-    delivery_raised y new t =
-        let a = subst (λ z. Agrees view m.memory z delivery_touches delivery_outcome) t.0 (standing (whole_delivery x (state_of m)) view m.memory st) in
-        (touches_it ∙ a.0, step_it (Raised y) a.1)
+    pub attempted : (t : Tried) → Made (record { state = state_of m; view = view }) t new → Attempted view m (answer_of t) cpu after
+    attempted t (AtOnce final is) = at_once t final is
+    attempted t (Delivered x raised is of_it) =
+        delivered x raised.view.marked is.0 t (subst (λ (p : Present). IsTried (whole_delivery x) p t new) is.1 of_it)
+
+  -- what the flat machine raises
+  pub raises_there : (x : Exception) (after : Present) → IsTried whole_step (record { state = state_of m; view = view }) (tried.Event x) after → outcome_of (whole_step (state_of m)) m.memory ≡ Raised x
+  raises_there x after t = (agrees (whole_step (state_of m)) view m.memory st (Stops (cut.Event x) after.view.marked) t.0).1
+
+-- where no step was made, everything is where it was, but for the marks
+abbrev pub Unmoved : Tried → Present → Present → Type 0
+Unmoved (tried.Step sent) old now = Unit {0}
+Unmoved (tried.Absent page) old now = now ≡ marked_as old now.view
+Unmoved (tried.Ended e) old now = now ≡ marked_as old now.view
+Unmoved (tried.Event e) old now = now ≡ marked_as old now.view
+
+through : (old mid now : Present) → mid ≡ marked_as old mid.view → now ≡ marked_as mid now.view → now ≡ marked_as old now.view
+through old mid now first second = second ∙ ap (λ (p : Present). marked_as p now.view) first
+
+pub unmoved : (t : Tried) (old now : Present) → Made old t now → Unmoved t old now
+unmoved (tried.Step sent) old now made = tt
+unmoved (tried.Absent page) old now (AtOnce final is) = is.1
+unmoved (tried.Absent page) old now (Delivered x raised is of_it) = through old raised now is.1 of_it.1
+unmoved (tried.Ended e) old now (AtOnce final is) = is.6
+unmoved (tried.Ended e) old now (Delivered x raised is of_it) = through old raised now is.1 of_it.6
+unmoved (tried.Event e) old now (AtOnce final is) = absurd final
+unmoved (tried.Event e) old now (Delivered x raised is of_it) = through old raised now is.1 of_it.1
+
+-- a page for which an attempt stops
+inside_later : (old now : Present) (page : ℕ) → now ≡ marked_as old now.view → IsMissing now.view page → IsMissing old.view page
+inside_later old now page same missing = subst (λ (p : Present). IsMissing p.view page) same missing
+
+pub inside : (t : Tried) (old now : Present) → Made old t now → StopsInside (answer_of t) old.view
+inside (tried.Step sent) old now made = tt
+inside (tried.Ended e) old now made = tt
+inside (tried.Event e) old now made = tt
+inside (tried.Absent page) old now (AtOnce final is) = stops_missing (whole_step old.state) old.view page now.view.marked is.0
+inside (tried.Absent page) old now (Delivered x raised is of_it) =
+    inside_later old raised page is.1 (stops_missing (whole_delivery x raised.state) raised.view page now.view.marked of_it.0)
+
+-- what isn't an exception is final
+pub final_of : (t : Tried) → ((e : Exception) → t ≡ tried.Event e → ⊥) → IsFinal t
+final_of (tried.Step sent) other = tt
+final_of (tried.Ended e) other = tt
+final_of (tried.Absent page) other = tt
+final_of (tried.Event e) other = other e refl

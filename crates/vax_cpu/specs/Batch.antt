@@ -1,9 +1,12 @@
 -- Several attempts, one after the other.
-use Rattle.std.specs.Prelude.{◌≡◌, ◌<◌, ℕ, zero, suc, None}
-use Rattle.vax_flat.specs.Port.{View, StandsFor}
+use Rattle.std.specs.Prelude.{◌≡◌, ◌<◌, ℕ, zero, suc, Bool, false, None}
+use Rattle.vax_space.specs.Reference.{page_of}
+use Rattle.vax_flat.specs.Memory.{byte_at}
+use Rattle.vax_flat.specs.declared.Exception.{Exception}
+use Rattle.vax_flat.specs.Port.{View, StandsFor, with_marks}
 use Rattle.vax_flat.specs.OverPort.{Present}
-use Rattle.vax_flat.specs.Outcome.{first_missing}
-use Rattle.vax_flat.specs.Step.{Flat, run, step_touches, whole_step}
+use Rattle.vax_flat.specs.Outcome.{Raised, first_missing, marked_by, outcome_of}
+use Rattle.vax_flat.specs.Step.{Flat, run, state_of, step_touches, whole_step}
 use Rattle.vax_cpu.specs.declared.attempt.Tried.TheVariants as tried
 use Rattle.vax_cpu.specs.declared.cpu.Attempt.{Attempt}
 use Rattle.vax_cpu.specs.declared.cpu.Attempt.TheVariants.{Step, Part, Absent, Ended}
@@ -17,6 +20,10 @@ Ran zero old new = new ≡ old
 Ran (suc count) old new =
     (mid : Present) × Ran count old mid × IsTried whole_step mid (tried.Step None) new × (new.state.input ≡ mid.state.input)
 
+-- the instruction at PC raises an exception
+abbrev pub Raises : Flat → Type 0
+Raises m = (e : Exception) × (outcome_of (whole_step (state_of m)) m.memory ≡ Raised e)
+
 -- where the last attempt made no step, the processor and its port are where the flat machine is
 abbrev pub StaysAt : Flat → Attempt → Cpu → View → Type 0
 StaysAt m (Step sent) cpu after = Unit {0}
@@ -24,13 +31,20 @@ StaysAt m Part cpu after = Unit {0}
 StaysAt m (Absent page) cpu after = (flat_of cpu m.memory m.output ≡ m) × StandsFor after m.memory
 StaysAt m (Ended e) cpu after = (flat_of cpu m.memory m.output ≡ m) × StandsFor after m.memory
 
--- so many steps of the flat machine, each on resident pages alone and with no byte sent, and then one more attempt
+-- the marked pages after so many steps
+unfoldable pub marks_after : (ℕ → Bool) → (ℕ → Bool) → ℕ → Flat → ℕ → Bool
+marks_after resident marked zero m = marked
+marks_after resident marked (suc count) m = marked_by resident (marks_after resident marked count m) (step_touches (run count m))
+
+-- so many steps of the flat machine, each on resident pages alone and with no byte sent, and then one more attempt; the bytes of absent pages
+-- stay throughout
 pub record AreAttempts (before : View) (m : Flat) (count : ℕ) (last : Attempt) (cpu : Cpu) (after : View) : Type 0 where
   pub here : Flat
   pub steps : run count m ≡ here
   pub resident : (k : ℕ) → k < count → first_missing before.resident (step_touches (run k m)) ≡ None
   pub silent : here.output ≡ m.output
-  pub attempted : Attempted before here last cpu after
+  pub absent : (addr : ℕ) → before.resident (page_of addr) ≡ false → byte_at here.memory addr ≡ byte_at m.memory addr
+  pub attempted : Attempted (with_marks before (marks_after before.resident before.marked count m)) here last cpu after
   pub stays : StaysAt here last cpu after
   pub pages : after.resident ≡ before.resident
   pub areas : after.areas ≡ before.areas

@@ -1,17 +1,23 @@
 //! One attempt at a step, as a transaction that is kept or undone.
-ghost use Rattle.std.specs.Prelude.{◌≡◌, ◌+◌, ◌<◌, ◌≤◌, None};
+ghost use Rattle.std.specs.Prelude.{◌≡◌, ◌+◌, ◌<◌, ◌≤◌, ℕ, Option, None, Ok};
+ghost use Rattle.vax_flat.specs.Accesses.{Accesses, Leaf};
+ghost use Rattle.vax_flat.specs.State.{State};
 ghost use Rattle.vax_flat.specs.OverPort.{Follows, Present};
-ghost use Rattle.vax_flat.specs.Step.{begun, delivery, finished, whole, whole_step, delivered, whole_delivery};
-ghost use Rattle.vax_undo.specs.Transaction.{present, room, state_of, Keeps};
-ghost use Rattle.vax_cpu.specs.Tried.{IsTried};
+ghost use Rattle.vax_flat.specs.Delivery.{interrupt};
+ghost use Rattle.vax_flat.specs.System.{flow_of_delivery};
+ghost use Rattle.vax_x_sys.specs.Frames.{IsLevel};
+ghost use Rattle.vax_flat.specs.Step.{begun, finished, handed_over, leaf, ticked, whole, whole_step, delivered, whole_delivery};
+ghost use Rattle.vax_undo.specs.Transaction.{bare, present, room, state_of, told, undone, with_state, IsReady, IsSame, Keeps, KeepsUnlessDone};
+ghost use Rattle.vax_cpu.specs.Tried.{IsFinal, IsTried, Made, UnlessDone, ending_of, is_done};
 ghost use Rattle.vax_cpu.specs.Batch.{Ran};
 
 use crate::instruction::execute;
 use crate::interrupt::{requested, tick};
-use vax_flat::{Ending, Exception};
+use vax_flat::{Delivery, Ending, Exception};
 use vax_operand::{Cut, Flow};
-use vax_undo::{Port, Term, Txn};
+use vax_undo::{CutShort, Port, Term, Txn};
 use vax_word::Core;
+use vax_x_sys::{deliver, flow_of, interrupt};
 
 /// What an attempt at a step, or at the delivery of an exception, came to.
 #[derive(Clone, Copy, Debug, PartialEq, Eq)]
@@ -26,50 +32,89 @@ pub(crate) enum Tried {
     Event(Exception),
 }
 
-/// An interrupt above the priority, or the instruction at PC.
-#[inline]
-#[tactic(auto, unfolding(vax_flat::specs::Step::begun, vax_flat::specs::Step::interrupt))]
-fn begin<P: Port>(txn: &mut Txn<P>) -> Result<Flow, Cut>
-    requires { 28 ≤ room txn.old }
-    ensures exact { Follows (begun (present P.view txn.old).state) (present P.view txn.old) result (present P.view txn.new) }
+/// Delivers an interrupt.
+#[cold]
+fn take_interrupt<P: Port>(txn: &mut Txn<P>, level: u8) -> Result<Flow, CutShort>
+    requires of_level { IsLevel level }
+    requires room { 28 ≤ room txn.old }
+    ensures exact { Follows (λ next. interrupt level (present P.view txn.old).state (λ how s. next (flow_of_delivery how) s)) (present P.view txn.old) (told txn.new result) (present P.view txn.new) }
     ensures keeps { Keeps P.view P.since 28 txn.old txn.new }
 {
-    if txn.psl().ipl() < requested(txn) {
-        return Ok(Flow::Ended(Ending::Unbuilt));
+    let how = interrupt(txn, level)?;
+    Ok(flow_of(how))
+}
+
+/// An interrupt above the priority, or the instruction at PC.
+#[inline]
+#[tactic(auto, using(vax_undo::proofs::Left::always), unfolding(vax_flat::specs::Step::begun))]
+fn begin<P: Port>(txn: &mut Txn<P>) -> Result<Flow, CutShort>
+    requires { 28 ≤ room txn.old }
+    ensures exact { Follows (begun (present P.view txn.old).state) (present P.view txn.old) (told txn.new result) (present P.view txn.new) }
+    ensures keeps { KeepsUnlessDone P.view P.since 28 result txn.old txn.new }
+    ensures same { IsSame P.since txn.old txn.new }
+{
+    let level = requested(txn);
+    if txn.psl().ipl() < level {
+        return take_interrupt(txn, level);
     }
     execute(txn)
 }
 
-/// Delivers an exception, which isn't built yet.
+/// What follows a delivery: the clock, where the handler is entered.
 #[inline]
-#[tactic(auto, unfolding(vax_flat::specs::Step::delivery))]
-fn deliver<P: Port>(_txn: &mut Txn<P>, exception: Exception) -> Result<Flow, Cut>
-    ensures exact { Follows (delivery exception (present P.view _txn.old).state) (present P.view _txn.old) result (present P.view _txn.new) }
-    ensures keeps { Keeps P.view P.since 0 _txn.old _txn.new }
+#[tactic(auto, unfolding(vax_flat::specs::Step::handed_over))]
+fn hand_over<P: Port>(txn: &mut Txn<P>, how: Delivery) -> Result<Flow, CutShort>
+    requires { 2 ≤ room txn.old }
+    ensures exact { Follows (handed_over how (present P.view txn.old).state) (present P.view txn.old) (told txn.new result) (present P.view txn.new) }
+    ensures keeps { Keeps P.view P.since 2 txn.old txn.new }
 {
-    let _ = exception;
-    Ok(Flow::Ended(Ending::Unbuilt))
+    match how {
+        Delivery::Entered => {
+            tick(txn);
+            Ok(Flow::Done)
+        }
+        Delivery::Ended(ending) => Ok(Flow::Ended(ending)),
+    }
+}
+
+/// The delivery of an exception, and the clock.
+#[cold]
+#[tactic(auto, unfolding(vax_flat::specs::Step::delivered))]
+fn work_delivery<P: Port>(txn: &mut Txn<P>, exception: Exception) -> Result<Flow, CutShort>
+    requires { 18 ≤ room txn.old }
+    ensures exact { Follows (delivered exception (present P.view txn.old).state) (present P.view txn.old) (told txn.new result) (present P.view txn.new) }
+    ensures keeps { Keeps P.view P.since 18 txn.old txn.new }
+{
+    let how = deliver(txn, exception)?;
+    hand_over(txn, how)
+}
+
+/// The interval clock counts an instruction that was completed.
+#[inline]
+fn complete<P: Port>(txn: &mut Txn<P>)
+    requires { 18 ≤ room txn.old }
+    ensures exact { present P.view txn.new ≡ with_state (present P.view txn.old) (ticked (present P.view txn.old).state) }
+    ensures keeps { Keeps P.view P.since 18 txn.old txn.new }
+{
+    tick(txn);
 }
 
 /// What follows an instruction: a trap's delivery, and the clock.
 #[inline]
-#[tactic(auto, unfolding(vax_flat::specs::Step::finished))]
-fn finish<P: Port>(txn: &mut Txn<P>, flow: Flow) -> Result<Flow, Cut>
-    requires { 2 ≤ room txn.old }
-    ensures exact { Follows (finished flow (present P.view txn.old).state) (present P.view txn.old) result (present P.view txn.new) }
-    ensures keeps { Keeps P.view P.since 2 txn.old txn.new }
+#[tactic(auto, using(vax_undo::proofs::Left::always, vax_undo::proofs::Left::kept_through, vax_undo::proofs::Left::left_then), unfolding(vax_flat::specs::Step::finished, vax_flat::specs::Step::delivered))]
+fn finish<P: Port>(txn: &mut Txn<P>, flow: Flow) -> Result<Flow, CutShort>
+    requires { 18 ≤ room txn.old }
+    ensures exact { Follows (finished flow (present P.view txn.old).state) (present P.view txn.old) (told txn.new result) (present P.view txn.new) }
+    ensures keeps { (count : ℕ) → (start : _) → KeepsUnlessDone P.view P.since count (Ok flow) start txn.old → KeepsUnlessDone P.view P.since (count + 18) result start txn.new }
+    ensures same { IsSame P.since txn.old txn.new }
 {
     match flow {
         Flow::Done => {
-            tick(txn);
+            complete(txn);
             Ok(Flow::Done)
         }
-        Flow::Trap(kind) => {
-            let how = deliver(txn, Exception::Arithmetic(kind))?;
-            tick(txn);
-            Ok(how)
-        }
         Flow::Clocked => Ok(Flow::Done),
+        Flow::Trap(trap) => work_delivery(txn, Exception::Arithmetic(trap)),
         Flow::More { opcode, units } => Ok(Flow::More { opcode, units }),
         Flow::Ended(ending) => Ok(Flow::Ended(ending)),
     }
@@ -78,50 +123,69 @@ fn finish<P: Port>(txn: &mut Txn<P>, flow: Flow) -> Result<Flow, Cut>
 /// A step up to its exception, if it raises one.
 #[inline]
 #[tactic(auto, unfolding(vax_flat::specs::Step::whole))]
-fn work<P: Port>(txn: &mut Txn<P>) -> Result<Flow, Cut>
-    requires { 30 ≤ room txn.old }
-    ensures exact { Follows (whole (present P.view txn.old).state) (present P.view txn.old) result (present P.view txn.new) }
-    ensures keeps { Keeps P.view P.since 30 txn.old txn.new }
+fn work<P: Port>(txn: &mut Txn<P>) -> Result<Flow, CutShort>
+    requires { 46 ≤ room txn.old }
+    ensures exact { Follows (whole (present P.view txn.old).state) (present P.view txn.old) (told txn.new result) (present P.view txn.new) }
+    ensures keeps { KeepsUnlessDone P.view P.since 46 result txn.old txn.new }
+    ensures same { IsSame P.since txn.old txn.new }
 {
     let flow = begin(txn)?;
     finish(txn, flow)
 }
 
-/// The delivery of an exception, and the clock.
+/// How an instruction that went so ends the run, if it does.
 #[inline]
-#[tactic(auto, unfolding(vax_flat::specs::Step::delivered))]
-fn work_delivery<P: Port>(txn: &mut Txn<P>, exception: Exception) -> Result<Flow, Cut>
-    requires { 2 ≤ room txn.old }
-    ensures exact { Follows (delivered exception (present P.view txn.old).state) (present P.view txn.old) result (present P.view txn.new) }
-    ensures keeps { Keeps P.view P.since 2 txn.old txn.new }
+fn ending_of(flow: Flow) -> Option<Ending>
+    ensures { result ≡ ending_of flow }
 {
-    let flow = deliver(txn, exception)?;
-    finish(txn, flow)
+    match flow {
+        Flow::Done => None,
+        Flow::Clocked => Some(Ending::Unbuilt),
+        Flow::Trap(_) => Some(Ending::Unbuilt),
+        Flow::More { .. } => Some(Ending::Unbuilt),
+        Flow::Ended(ending) => Some(ending),
+    }
+}
+
+/// Whether the work was completed.
+#[inline]
+fn is_done(work: Result<Flow, CutShort>) -> bool
+    ensures { result ≡ is_done work }
+{
+    match work {
+        Ok(flow) => ending_of(flow).is_none(),
+        Err(CutShort) => false,
+    }
 }
 
 /// Keeps a transaction whose work was completed, and undoes any other.
-macro_rules! conclude {
-    ($txn:ident, $work:expr) => {
-        match $work {
-            Ok(Flow::Done) => Tried::Step($txn.commit()),
-            Ok(Flow::Trap(_) | Flow::Clocked | Flow::More { .. }) => {
-                $txn.unwind();
-                Tried::Ended(Ending::Unbuilt)
-            }
-            Ok(Flow::Ended(ending)) => {
-                $txn.unwind();
+#[inline]
+fn conclude<P: Port>(txn: Txn<P>, work: Result<Flow, CutShort>) -> Tried
+    requires ready { UnlessDone work (IsReady P.view txn) }
+    requires unsent { UnlessDone work ((undone P.view txn).state.sent ≡ None) }
+    ensures tried { (old : Present) → (tree : State → (Flow → State → Accesses Leaf) → Accesses Leaf) → Follows (tree old.state) old (told txn.entry work) (present P.view txn.entry) → UnlessDone work (undone P.view txn.entry ≡ bare old) → IsTried (λ s. tree s leaf) old result (record { state = state_of txn.exit.0.now txn.exit.1.0.now; view = P.view txn.exit.1.1.0.now }) }
+    ensures completed { (sent : Option ℕ) → result ≡ Tried.Step sent → work ≡ Ok Flow.Done }
+    ensures unsent { txn.exit.1.0.now.out ≡ None }
+    ensures input { txn.exit.1.0.now.input ≡ txn.entry.term.now.input }
+    ensures since { (start : P) → P.since start txn.entry.port.now → P.since start txn.exit.1.1.0.now }
+{
+    let why = txn.why();
+    match work {
+        Ok(flow) => match ending_of(flow) {
+            None => Tried::Step(txn.commit()),
+            Some(ending) => {
+                txn.unwind();
                 Tried::Ended(ending)
             }
-            Err(Cut::Absent(page)) => {
-                $txn.unwind();
-                Tried::Absent(page)
-            }
-            Err(Cut::Event(exception)) => {
-                $txn.unwind();
-                Tried::Event(exception)
+        },
+        Err(CutShort) => {
+            txn.unwind();
+            match why {
+                Cut::Absent(page) => Tried::Absent(page),
+                Cut::Event(exception) => Tried::Event(exception),
             }
         }
-    };
+    }
 }
 
 /// Makes an attempt at a step, which is undone where it isn't completed.
@@ -133,11 +197,13 @@ pub(crate) fn try_step<P: Port>(core: &mut Core, term: &mut Term, port: &mut P) 
     ensures since { (start : P) → P.since start port.old → P.since start port.new }
 {
     let mut txn = Txn::begin(core, term, port);
-    conclude!(txn, work(&mut txn))
+    let done = work(&mut txn);
+    conclude(txn, done)
 }
 
 /// Makes an attempt at the delivery of an exception, from the state at the start of the instruction.
-pub(crate) fn try_delivery<P: Port>(
+#[cold]
+fn try_delivery<P: Port>(
     core: &mut Core,
     term: &mut Term,
     port: &mut P,
@@ -150,7 +216,24 @@ pub(crate) fn try_delivery<P: Port>(
     ensures since { (start : P) → P.since start port.old → P.since start port.new }
 {
     let mut txn = Txn::begin(core, term, port);
-    conclude!(txn, work_delivery(&mut txn, exception))
+    let done = work_delivery(&mut txn, exception);
+    conclude(txn, done)
+}
+
+/// Delivers the exception that an attempt at a step raised, if it raised one.
+#[inline]
+pub(crate) fn settle<P: Port>(core: &mut Core, term: &mut Term, port: &mut P, tried: Tried) -> Tried
+    requires { term.old.out ≡ None }
+    ensures kept { IsFinal tried → result ≡ tried }
+    ensures made { (old : Present) → IsTried whole_step old tried (record { state = state_of core.old term.old; view = P.view port.old }) → Made old result (record { state = state_of core.new term.new; view = P.view port.new }) }
+    ensures unsent { term.new.out ≡ None }
+    ensures input { term.new.input ≡ term.old.input }
+    ensures since { (start : P) → P.since start port.old → P.since start port.new }
+{
+    match tried {
+        Tried::Event(exception) => try_delivery(core, term, port, exception),
+        _ => tried,
+    }
 }
 
 /// Steps that were completed with no byte sent, and what the attempt after them came to.
@@ -179,47 +262,23 @@ pub(crate) fn try_steps<P: Port>(
     let mut txn = Txn::begin(core, term, port);
     let mut steps = 0;
     while steps + 1 < most {
-        match work(&mut txn) {
-            Ok(Flow::Done) => match txn.renew() {
-                None => steps += 1,
-                Some(byte) => {
-                    let _ = txn.commit();
-                    return Several {
-                        steps,
-                        last: Tried::Step(Some(byte)),
-                    };
-                }
-            },
-            Ok(Flow::Trap(_) | Flow::Clocked | Flow::More { .. }) => {
-                txn.unwind();
+        let done = work(&mut txn);
+        if !is_done(done) {
+            let last = conclude(txn, done);
+            return Several { steps, last };
+        }
+        match txn.renew() {
+            None => steps += 1,
+            Some(byte) => {
+                let _ = txn.commit();
                 return Several {
                     steps,
-                    last: Tried::Ended(Ending::Unbuilt),
-                };
-            }
-            Ok(Flow::Ended(ending)) => {
-                txn.unwind();
-                return Several {
-                    steps,
-                    last: Tried::Ended(ending),
-                };
-            }
-            Err(Cut::Absent(page)) => {
-                txn.unwind();
-                return Several {
-                    steps,
-                    last: Tried::Absent(page),
-                };
-            }
-            Err(Cut::Event(exception)) => {
-                txn.unwind();
-                return Several {
-                    steps,
-                    last: Tried::Event(exception),
+                    last: Tried::Step(Some(byte)),
                 };
             }
         }
     }
-    let last = conclude!(txn, work(&mut txn));
+    let done = work(&mut txn);
+    let last = conclude(txn, done);
     Several { steps, last }
 }

@@ -1,9 +1,10 @@
 //! The processor.
-ghost use Rattle.std.specs.Prelude.{◌≡◌, ◌+◌, ◌<◌, ◌≤◌, ℕ, List, [], None};
+ghost use Rattle.std.specs.Prelude.{◌≡◌, ◌⊎◌, ◌+◌, ◌<◌, ◌≤◌, ℕ, List, [], None};
 ghost use Rattle.vax_space.specs.declared.Area.{Area};
 ghost use Rattle.vax_flat.specs.Port.{StandsFor};
+ghost use Rattle.vax_cpu.specs.Attempt.{answer_of};
 
-use crate::attempt::{Tried, try_delivery, try_step, try_steps};
+use crate::attempt::{Tried, settle, try_step, try_steps};
 use vax_flat::Ending;
 use vax_undo::{Port, Term};
 use vax_word::Core;
@@ -44,95 +45,67 @@ pub struct Cpu {
     pub latch: Option<Open>,
 }
 
-impl Cpu {
-    ghost use Rattle.vax_cpu.specs.Attempt.{flat_of, Attempted, IsAsBefore};
-    ghost use Rattle.vax_cpu.specs.Batch.{AreAttempts};
+/// What is answered of an instruction with the delivery of its exception.
+#[inline]
+fn answer_of(tried: Tried) -> Attempt
+    ensures { result ≡ answer_of tried }
+{
+    match tried {
+        Tried::Step(sent) => Attempt::Step(sent),
+        Tried::Absent(page) => Attempt::Absent(page),
+        Tried::Ended(ending) => Attempt::Ended(ending),
+        Tried::Event(_) => Attempt::Ended(Ending::Unbuilt),
+    }
+}
 
-    /// Makes one attempt at the instruction at PC, at which nothing that was sent to the console is left.
+impl Cpu {
+    ghost use Rattle.vax_cpu.specs.Attempt.{flat_of, Attempted, IsAsBefore, StopsInside};
+    ghost use Rattle.vax_flat.specs.Step.{run};
+    ghost use Rattle.vax_cpu.specs.Batch.{AreAttempts, Raises};
+
+    /// Makes one attempt at the instruction at PC, where no instruction is open, and nothing that was sent to the console is left.
     ///
     /// It answers the first page, in the order in which the step touches memory, that isn't resident, and then everything is as before; else
-    /// it makes the step of the flat machine.
+    /// it makes the step of the flat machine. Pages to which the step wrote are marked, also where it was undone.
     pub fn attempt<P: Port>(&mut self, port: &mut P) -> Attempt
-        requires { self.old.term.out ≡ None }
-        ensures step { self.old.latch ≡ None → (memory : List Area) → (output : List ℕ) → StandsFor (P.view port.old) memory → Attempted (P.view port.old) (flat_of self.old memory output) result self.new (P.view port.new) }
+        requires closed { self.old.latch ≡ None }
+        requires unsent { self.old.term.out ≡ None }
+        ensures step { (memory : List Area) → (output : List ℕ) → StandsFor (P.view port.old) memory → Attempted (P.view port.old) (flat_of self.old memory output) result self.new (P.view port.new) }
         ensures before { IsAsBefore result (flat_of self.old [] []) (P.view port.old) (flat_of self.new [] []) (P.view port.new) }
+        ensures absent { StopsInside result (P.view port.old) }
         ensures latch { self.new.latch ≡ self.old.latch }
         ensures unsent { self.new.term.out ≡ None }
         ensures input { self.new.term.input ≡ self.old.term.input }
         ensures since { (start : P) → P.since start port.old → P.since start port.new }
     {
-        if self.latch.is_some() {
-            return Attempt::Ended(Ending::Unbuilt);
-        }
-        match try_step(&mut self.core, &mut self.term, port) {
-            Tried::Step(sent) => Attempt::Step(sent),
-            Tried::Absent(page) => Attempt::Absent(page),
-            Tried::Ended(ending) => Attempt::Ended(ending),
-            Tried::Event(exception) => {
-                match try_delivery(&mut self.core, &mut self.term, port, exception) {
-                    Tried::Step(sent) => Attempt::Step(sent),
-                    Tried::Absent(page) => Attempt::Absent(page),
-                    Tried::Ended(ending) => Attempt::Ended(ending),
-                    Tried::Event(_) => Attempt::Ended(Ending::Unbuilt),
-                }
-            }
-        }
+        let tried = try_step(&mut self.core, &mut self.term, port);
+        let settled = settle(&mut self.core, &mut self.term, port, tried);
+        answer_of(settled)
     }
 
-    /// Makes at most `most` attempts, at least one, up to the first that doesn't complete a step or that sends a byte to the console.
+    /// Makes at most `most` attempts, at least one, up to the first that doesn't complete a step, that sends a byte to the console, or that
+    /// delivers an exception.
     ///
     /// It does what as many calls of [`Cpu::attempt`] do, and spends less on each.
     pub fn attempts<P: Port>(&mut self, port: &mut P, most: u64) -> Batch
+        requires closed { self.old.latch ≡ None }
         requires unsent { self.old.term.out ≡ None }
         requires some { 1 ≤ most }
-        ensures steps { self.old.latch ≡ None → (memory : List Area) → (output : List ℕ) → StandsFor (P.view port.old) memory → AreAttempts (P.view port.old) (flat_of self.old memory output) result.steps result.last self.new (P.view port.new) }
+        ensures steps { (memory : List Area) → (output : List ℕ) → StandsFor (P.view port.old) memory → AreAttempts (P.view port.old) (flat_of self.old memory output) result.steps result.last self.new (P.view port.new) }
+        ensures before { result.steps ≡ 0 → IsAsBefore result.last (flat_of self.old [] []) (P.view port.old) (flat_of self.new [] []) (P.view port.new) }
+        ensures absent { StopsInside result.last (P.view port.old) }
         ensures few { result.steps < most }
+        ensures all { (memory : List Area) → (output : List ℕ) → StandsFor (P.view port.old) memory → result.last ≡ Attempt.Step None → (result.steps + 1 ≡ most) ⊎ Raises (run result.steps (flat_of self.old memory output)) }
         ensures latch { self.new.latch ≡ self.old.latch }
         ensures unsent { self.new.term.out ≡ None }
         ensures input { self.new.term.input ≡ self.old.term.input }
         ensures since { (start : P) → P.since start port.old → P.since start port.new }
     {
-        if self.latch.is_some() {
-            return Batch {
-                steps: 0,
-                last: Attempt::Ended(Ending::Unbuilt),
-            };
-        }
         let several = try_steps(&mut self.core, &mut self.term, port, most);
-        let steps = several.steps;
-        match several.last {
-            Tried::Step(sent) => Batch {
-                steps,
-                last: Attempt::Step(sent),
-            },
-            Tried::Absent(page) => Batch {
-                steps,
-                last: Attempt::Absent(page),
-            },
-            Tried::Ended(ending) => Batch {
-                steps,
-                last: Attempt::Ended(ending),
-            },
-            Tried::Event(exception) => {
-                match try_delivery(&mut self.core, &mut self.term, port, exception) {
-                    Tried::Step(sent) => Batch {
-                        steps,
-                        last: Attempt::Step(sent),
-                    },
-                    Tried::Absent(page) => Batch {
-                        steps,
-                        last: Attempt::Absent(page),
-                    },
-                    Tried::Ended(ending) => Batch {
-                        steps,
-                        last: Attempt::Ended(ending),
-                    },
-                    Tried::Event(_) => Batch {
-                        steps,
-                        last: Attempt::Ended(Ending::Unbuilt),
-                    },
-                }
-            }
+        let last = settle(&mut self.core, &mut self.term, port, several.last);
+        Batch {
+            steps: several.steps,
+            last: answer_of(last),
         }
     }
 }

@@ -1,7 +1,7 @@
 -- What each instruction and each delivery adds to what is touched. An instruction has at most 11 ranges for its operands and 2 for its work; a
 -- delivery has its vector, and a window at the stack.
 use Rattle.std.proofs.Common.{◌≡◌, ℕ, suc, zero, ◌+◌, ◌*◌, ◌/◌, ◌%◌, ◌^◌, ◌<◌, ◌≤◌, Bool, true, false, not, ◌||◌, ◌&&◌, Option, Some, None, List, [], ◌∷◌, length, refl, sym, subst, inl, arith}
-use Rattle.std.specs.Prelude.{◌==◌, nat_lt, nat_le, min, slice_get, if◌then◌else◌}
+use Rattle.std.specs.Prelude.{◌==◌, nat_lt, nat_le, min, if◌then◌else◌}
 use Rattle.vax_word.specs.declared.Codes.{Codes}
 use Rattle.vax_word.specs.declared.Psl.{Psl}
 use Rattle.vax_word.specs.declared.Size.{Size}
@@ -33,13 +33,13 @@ use Rattle.vax_flat.specs.declared.Flow.TheVariants as flow
 use Rattle.vax_flat.specs.declared.Trap.TheVariants as trap
 use Rattle.vax_flat.specs.declared.Operand.{Operand}
 use Rattle.vax_flat.specs.declared.Operand.TheVariants as operand
-use Rattle.vax_flat.specs.State.{State, register, with_register, mode, priority, overflow_enabled}
+use Rattle.vax_flat.specs.State.{State, register, with_register, mode, priority, overflow_enabled, next_input}
 use Rattle.vax_flat.specs.Accesses.{Accesses, Raises, Leaf}
 use Rattle.vax_flat.specs.Operand.{plus, extended, write_at, read_in, write_in, asked}
 use Rattle.vax_flat.specs.Rows.{stored, flow_of, settled, answered, pushed, with_value}
 use Rattle.vax_flat.specs.Integer.{subscript_flow, pushed_result, performed as integer_performed}
 use Rattle.vax_flat.specs.Control.{called, return_subroutine, looped, chosen, performed as control_performed}
-use Rattle.vax_flat.specs.Delivery.{on_interrupt_stack, takes_interrupt_stack, status, at_handler, served, interrupt_vector, change_vector, vectored, pushed_in, pushed_if, pushed_all, entered, dispatched, vector_of, parameters, delivery, interrupted, interrupt, changed, changed_outside, changed_to, change_by, change_mode}
+use Rattle.vax_flat.specs.Delivery.{on_interrupt_stack, takes_interrupt_stack, status, at_handler, served, interrupt_vector, change_vector, vectored, pushed_in, pushed_if, pushed_all, entered, dispatched, vector_of, parameters, delivery, interrupted, interrupt, changed, pushed_outside, changed_to, change_by, change_mode}
 use Rattle.vax_flat.specs.System.{flow_of_delivery, return_from, is_refused, pointer, input_byte, input_after, input_ready, return_exception, probed, set_processor, get_processor, status_set, status_cleared, unless_privileged, is_for_kernel, performed as system_performed}
 use Rattle.vax_flat.specs.Instruction.{acted, acted_if, instruction}
 use Rattle.vax_flat.specs.Evaluation.{next_operands}
@@ -185,20 +185,18 @@ module _ (Q : List ℕ → ℕ → Accesses Leaf → Type 0) (c : IsClosed Q) wh
     unfolding interrupt
     interrupt_adds level s = vectored_adds ws (suc n) _ s _ (λ vector. interrupted_adds level vector s)
 
-    outside_adds : (new code vector : ℕ) (old : Psl) (pc : ℕ) (s : State) → Q ws (suc n) (changed_outside new code vector old pc s next)
-    unfolding changed_outside
-    outside_adds new code vector old pc s =
-        c.opens (stack_window s) ws n _
-        (pushed_adds (stack_window s) ws n new old.0 s _ 2 (stack_here s 3 (omega arith)) (λ t a.
-        pushed_adds (stack_window s) ws n new pc t _ 1 a (λ u b.
-        pushed_adds (stack_window s) ws n new code u _ 0 b (λ v last. c.wider _ ws n _ (q _ _)))))
+    outside_adds : (w mode : ℕ) (old : Psl) (pc code : ℕ) (s : State) (then_next : State → Accesses Leaf) → IsStackNear s w 3 → ((t : State) → Q (w ∷ ws) n (then_next t)) →
+        Q (w ∷ ws) n (pushed_outside mode old pc code s then_next)
+    unfolding pushed_outside
+    outside_adds w mode old pc code s then_next near r =
+        pushed_adds w ws n mode old.0 s _ 2 near (λ t a. pushed_adds w ws n mode pc t _ 1 a (λ u b. pushed_adds w ws n mode code u _ 0 b (λ v last. r v)))
 
     changed_adds : (new code vector : ℕ) (s : State) → Q ws (suc n) (changed_to new code vector s next)
     unfolding changed_to
     changed_adds new code vector s =
         either Q c ws (suc n) (new == 0) _ _
         (λ kernel. c.opens _ ws n _ (pushed_all_adds _ ws n _ (λ done t. framed _ (λ t. changed new vector s.core.psl t) done t) _ _ (stack_here _ _ (omega arith))))
-        (λ other. outside_adds new code vector s.core.psl (register s 15) _)
+        (λ other. c.opens _ ws n _ (outside_adds _ new s.core.psl (register s 15) code _ _ (stack_here _ 3 (omega arith)) (λ t. c.wider _ ws n _ (q _ _))))
 
     change_by_adds : (target : AccessMode) (code : ℕ) (vector : Option ℕ) (s : State) → Q ws (suc n) (change_by target code vector s next)
     unfolding change_by
@@ -337,8 +335,8 @@ module _ (Q : List ℕ → ℕ → Accesses Leaf → Type 0) (c : IsClosed Q) wh
         either Q c ws m (number == 18) (then_next (ipl_of s.core.psl) s) _ (λ yes. r _ s) (λ a.
         either Q c ws m (number == 21) (then_next s.core.sisr s) _ (λ yes. r _ s) (λ a.
         either Q c ws m (number == 24) (then_next s.core.iccs s) _ (λ yes. r _ s) (λ a.
-        either Q c ws m (number == 32) (then_next (input_ready (slice_get s.input s.taken)) s) _ (λ yes. r _ s) (λ a.
-        either Q c ws m (number == 33) (then_next (input_byte (slice_get s.input s.taken)) (input_after (slice_get s.input s.taken) s)) _ (λ yes. r _ _) (λ a.
+        either Q c ws m (number == 32) (then_next (input_ready (next_input s)) s) _ (λ yes. r _ s) (λ a.
+        either Q c ws m (number == 33) (then_next (input_byte (next_input s)) (input_after (next_input s) s)) _ (λ yes. r _ _) (λ a.
         either Q c ws m (number == 34) (then_next (2 ^ 7) s) (Raises exception.Operand) (λ yes. r _ s) (λ a. c.raises _ _ _)))))))
 
     system_adds : (i : System) (xs : List (Operand × ℕ)) (s : State) → Q ws (suc (suc n)) (of_systems i xs s next)

@@ -2,6 +2,8 @@ pub mod Bytes
 pub mod Alike
 pub mod Memory
 pub mod Standing
+pub mod Marks
+pub mod Inside
 pub mod Leaves
 pub mod Joined
 pub mod Runs
@@ -14,5 +16,6 @@ pub mod Windows
 pub mod OperandBounds
 pub mod Bounds
 pub mod Steps
+pub mod Results
 pub mod Worked
 pub mod Fronts

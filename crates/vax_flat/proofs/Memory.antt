@@ -1,18 +1,13 @@
 -- What is written to the flat memory.
-use Rattle.std.proofs.Common.{◌≡◌, ℕ, suc, zero, ◌+◌, ◌-◌, ◌*◌, ◌/◌, ◌%◌, ◌<◌, ◌≤◌, Bool, true, false, cond, eqb, Some, None, List, [], ◌∷◌, length, refl, sym, ap, ◌∙◌, arith, inl, inr, leb, ltb, length-set}
+use Rattle.std.proofs.Common.{◌≡◌, ℕ, suc, zero, ◌+◌, ◌-◌, ◌*◌, ◌/◌, ◌%◌, ◌<◌, ◌≤◌, true, cond, eqb, Some, None, List, [], ◌∷◌, length, refl, sym, ap, ◌∙◌, arith, inl, inr, leb, ltb, length-set}
 use Rattle.std.proofs.lemmas.Bool.{cases_Bool, eq-eqb, ne_eqb, cases_eq, true≢false, and_parts, leb-true, ltb-true}
 use Rattle.std.proofs.lemmas.List.{get_or-set_same, get_or-set_other}
 use Rattle.vax_space.specs.declared.Access.{Access}
 use Rattle.vax_space.specs.declared.Area.{Area}
 use Rattle.vax_space.specs.Areas.{has_page, area_of, prot_of}
 use Rattle.vax_space.specs.Reference.{page_of, may_access, permitted, violation, violation_at}
-use Rattle.vax_flat.specs.Memory.{after, byte_at, with_byte, written, written_run, IsWhole}
+use Rattle.vax_flat.specs.Memory.{after, byte_at, with_byte, written, written_run, is_mapped, IsWhole}
 use Rattle.vax_flat.specs.Port.{layout, put, put_run}
-
--- some area has the page
-unfoldable pub is_mapped : List Area → ℕ → Bool
-is_mapped [] page = false
-is_mapped (area ∷ areas) page = cond (has_page area page) true (is_mapped areas page)
 
 pub place_within : (area : Area) (addr : ℕ) → has_page area (page_of addr) ≡ true → (512 * area.first ≤ addr) × (addr - 512 * area.first < 512 * area.pages)
 unfolding has_page

@@ -23,9 +23,9 @@ use Rattle.vax_flat.specs.Delivery.{vectored, pushed_in, pushed_if, pushed_all, 
 use Rattle.vax_flat.specs.Step.{handed_over, leaf, whole_delivery, delivered}
 
 -- a range that is allowed may still lie in an absent page
-hindered : {A : Type 0} (absent : Option ℕ) (arrival : Arrival A) → IsQuiet arrival → IsQuiet (unless_hindered (stop_of None absent) arrival)
-hindered None arrival quiet = quiet
-hindered (Some page) arrival quiet = tt
+hindered : {A : Type 0} (absent : Option ℕ) (marked : ℕ → Bool) (arrival : Arrival A) → IsQuiet arrival → IsQuiet (unless_hindered (stop_of None absent) marked arrival)
+hindered None marked arrival quiet = quiet
+hindered (Some page) marked arrival quiet = tt
 
 module _ (addr len mode : ℕ) (s : State) (ends : Accesses Leaf) (quiet : RaisesNothing ends) where
   -- a read that was asked for
@@ -37,8 +37,8 @@ module _ (addr len mode : ℕ) (s : State) (ends : Accesses Leaf) (quiet : Raise
     unfolding read_in over_port
     read_over view (Some v) e = quiet.port view
     read_over view None e =
-        subst (λ w. IsQuiet (unless_hindered (stop_of w (first_absent view.resident addr len)) (over_port (next (number view.byte addr len) s) view))) (sym e)
-        (hindered (first_absent view.resident addr len) _ ((q _ s).port view))
+        subst (λ w. IsQuiet (unless_hindered (stop_of w (first_absent view.resident addr len)) view.marked (over_port (next (number view.byte addr len) s) view))) (sym e)
+        (hindered (first_absent view.resident addr len) view.marked _ ((q _ s).port view))
 
     read_flat : (memory : List Area) (v : Option Violation) → violation memory addr len mode Read ≡ v → IsEnd (outcome_of (asking v) memory)
     unfolding read_in outcome_of
@@ -62,8 +62,8 @@ module _ (addr len mode : ℕ) (s : State) (ends : Accesses Leaf) (quiet : Raise
     unfolding write_in over_port
     write_over view (Some v) e = quiet.port view
     write_over view None e =
-        subst (λ w. IsQuiet (unless_hindered (stop_of w (first_absent view.resident addr len)) (over_port (next s) (with_number view addr len value)))) (sym e)
-        (hindered (first_absent view.resident addr len) _ ((q s).port _))
+        subst (λ w. IsQuiet (unless_hindered (stop_of w (first_absent view.resident addr len)) view.marked (over_port (next s) (with_number view addr len value)))) (sym e)
+        (hindered (first_absent view.resident addr len) view.marked _ ((q s).port _))
 
     write_flat : (memory : List Area) (v : Option Violation) → violation memory addr len mode Write ≡ v → IsEnd (outcome_of (trying v) memory)
     unfolding write_in outcome_of

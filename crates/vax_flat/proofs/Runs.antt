@@ -1,5 +1,5 @@
 -- Runs of the flat machine.
-use Rattle.std.proofs.Common.{◌≡◌, ℕ, zero, suc, ◌+◌, Bool, true, Option, Some, None, List, [], ◌∷◌, ◌++◌, length, refl, sym, ap, ◌∙◌, arith, append_assoc, append-nil}
+use Rattle.std.proofs.Common.{◌≡◌, ℕ, zero, suc, ◌+◌, Bool, true, false, Option, Some, None, List, [], ◌∷◌, ◌++◌, length, refl, sym, ap, ◌∙◌, arith, append_assoc, append-nil}
 use Rattle.vax_space.specs.declared.Access.{Access}
 use Rattle.vax_space.specs.declared.Access.TheVariants.{Read, Write}
 use Rattle.vax_space.specs.declared.Area.{Area}
@@ -7,17 +7,13 @@ use Rattle.vax_space.specs.declared.Violation.{Violation}
 use Rattle.vax_space.specs.Reference.{page_of, violation}
 use Rattle.vax_flat.specs.declared.Ending.{Ending}
 use Rattle.vax_flat.specs.declared.Flow.TheVariants as flow
-use Rattle.vax_flat.specs.Memory.{after, byte_at, number, bytes_from, written, written_run}
+use Rattle.vax_flat.specs.Memory.{AllResident, after, byte_at, number, bytes_from, written, written_run}
 use Rattle.vax_flat.specs.Port.{first_absent}
 use Rattle.vax_flat.specs.Accesses.{Accesses, Done, Raises, Checks, Asks, Reads, Writes, ReadsRun, WritesRun, Leaf, Went, Found}
 use Rattle.vax_flat.specs.Outcome.{Outcome, Ends, Raised, Range, outcome_of, touches_of, first_missing, unless_stopped, is_allowed, or_else}
 use Rattle.vax_flat.specs.Step.{Flat, step, step_from, run, state_of, whole_step, whole_delivery, concluded, after_instruction, after_delivery, touches_after, step_touches, with_byte_sent}
-use Rattle.vax_flat.proofs.Memory.{is_mapped, allowed_first, mapped_where_accessible, is_mapped-written, is_mapped-written_run}
+use Rattle.vax_flat.proofs.Memory.{allowed_first, mapped_where_accessible, is_mapped-written, is_mapped-written_run}
 use Rattle.vax_flat.proofs.Joined.{first_missing-append}
-
--- every page that an area has is resident
-abbrev pub AllResident : (ℕ → Bool) → List Area → Type 0
-AllResident resident areas = (page : ℕ) → is_mapped areas page ≡ true → resident page ≡ true
 
 -- a range that is allowed has no absent page then
 none_absent : (resident : ℕ → Bool) (areas : List Area) (addr len mode : ℕ) (access : Access) → AllResident resident areas → violation areas addr len mode access ≡ None → first_absent resident addr len ≡ None
@@ -52,13 +48,13 @@ none_missing (Raises e) resident memory all = refl
 none_missing (Checks addr len mode access next) resident memory all = checked_more resident (violation memory addr len mode access) _ (none_missing next resident memory all)
 none_missing (Asks addr len mode access next) resident memory all = none_missing (next (is_allowed (violation memory addr len mode access))) resident memory all
 none_missing (Reads addr len mode next) resident memory all =
-    none_more resident (violation memory addr len mode Read) (record { addr = addr; len = len }) _ (none_absent resident memory addr len mode Read all) (λ fine. none_missing (next (number (byte_at memory) addr len)) resident memory all)
+    none_more resident (violation memory addr len mode Read) (record { addr = addr; len = len; writes = false }) _ (none_absent resident memory addr len mode Read all) (λ fine. none_missing (next (number (byte_at memory) addr len)) resident memory all)
 none_missing (Writes addr len value mode next) resident memory all =
-    none_more resident (violation memory addr len mode Write) (record { addr = addr; len = len }) _ (none_absent resident memory addr len mode Write all) (λ fine. none_missing next resident (written memory addr len value) (still_resident resident memory addr len value all))
+    none_more resident (violation memory addr len mode Write) (record { addr = addr; len = len; writes = true }) _ (none_absent resident memory addr len mode Write all) (λ fine. none_missing next resident (written memory addr len value) (still_resident resident memory addr len value all))
 none_missing (ReadsRun addr len mode next) resident memory all =
-    none_more resident (violation memory addr len mode Read) (record { addr = addr; len = len }) _ (none_absent resident memory addr len mode Read all) (λ fine. none_missing (next (bytes_from (byte_at memory) addr len)) resident memory all)
+    none_more resident (violation memory addr len mode Read) (record { addr = addr; len = len; writes = false }) _ (none_absent resident memory addr len mode Read all) (λ fine. none_missing (next (bytes_from (byte_at memory) addr len)) resident memory all)
 none_missing (WritesRun addr bytes mode next) resident memory all =
-    none_more resident (violation memory addr (length bytes) mode Write) (record { addr = addr; len = length bytes }) _ (none_absent resident memory addr (length bytes) mode Write all) (λ fine. none_missing next resident (written_run memory addr bytes) (still_resident_run resident memory addr bytes all))
+    none_more resident (violation memory addr (length bytes) mode Write) (record { addr = addr; len = length bytes; writes = true }) _ (none_absent resident memory addr (length bytes) mode Write all) (λ fine. none_missing next resident (written_run memory addr bytes) (still_resident_run resident memory addr bytes all))
 
 after_none : (m : Flat) (resident : ℕ → Bool) (outcome : Outcome Leaf) → AllResident resident m.memory → first_missing resident (touches_after m outcome) ≡ None
 unfolding first_missing

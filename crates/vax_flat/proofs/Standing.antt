@@ -51,14 +51,14 @@ same_put_run f g addr [] place e = e
 same_put_run f g addr (b ∷ bs) place e = ap (cond (eqb place addr) b) (same_put_run f g (after addr) bs place e)
 
 -- after a write the port stands for the memory with the bytes written
-stands_written : (view : View) (memory : List Area) (addr len value mode : ℕ) → StandsFor view memory → violation memory addr len mode Write ≡ None → StandsFor (with_number view addr len value) (written memory addr len value)
+pub stands_written : (view : View) (memory : List Area) (addr len value mode : ℕ) → StandsFor view memory → violation memory addr len mode Write ≡ None → StandsFor (with_number view addr len value) (written memory addr len value)
 stands_written view memory addr len value mode st allowed = record {
   areas = layout-written memory addr len value ∙ st.areas;
   bytes = λ place here. same_put view.byte (byte_at memory) addr len value place (st.bytes place here) ∙ sym (byte_at-written memory addr len value place mode Write st.whole allowed);
   whole = whole_written memory addr len value st.whole;
 }
 
-stands_written_run : (view : View) (memory : List Area) (addr : ℕ) (bytes : List ℕ) (mode : ℕ) → StandsFor view memory → violation memory addr (length bytes) mode Write ≡ None → StandsFor (with_run view addr bytes) (written_run memory addr bytes)
+pub stands_written_run : (view : View) (memory : List Area) (addr : ℕ) (bytes : List ℕ) (mode : ℕ) → StandsFor view memory → violation memory addr (length bytes) mode Write ≡ None → StandsFor (with_run view addr bytes) (written_run memory addr bytes)
 stands_written_run view memory addr bytes mode st allowed = record {
   areas = layout-written_run memory addr bytes ∙ st.areas;
   bytes = λ place here. same_put_run view.byte (byte_at memory) addr bytes place (st.bytes place here) ∙ sym (byte_at-written_run memory addr bytes place mode Write st.whole allowed);
@@ -66,12 +66,12 @@ stands_written_run view memory addr bytes mode st allowed = record {
 }
 
 module _ {A : Type 0} (view : View) (memory : List Area) where
-  allowed : (arrival : Arrival A) (outcome : Outcome A) (v : Option Violation) (ranges : List Range) → Agrees view memory arrival (first_missing view.resident ranges) outcome → Agrees view memory (unless_forbidden v arrival) (first_missing view.resident (unless_stopped v ranges)) (unless_violated v outcome)
+  allowed : (arrival : Arrival A) (outcome : Outcome A) (v : Option Violation) (ranges : List Range) → Agrees view memory arrival (first_missing view.resident ranges) outcome → Agrees view memory (unless_forbidden v view.marked arrival) (first_missing view.resident (unless_stopped v ranges)) (unless_violated v outcome)
   unfolding first_missing
   allowed arrival outcome (Some v) ranges next = (refl, refl)
   allowed arrival outcome None ranges next = next
 
-  used : (arrival : Arrival A) (outcome : Outcome A) (v : Option Violation) (p : Option ℕ) (range : Range) (ranges : List Range) → first_absent view.resident range.addr range.len ≡ p → (v ≡ None → p ≡ None → Agrees view memory arrival (first_missing view.resident ranges) outcome) → Agrees view memory (unless_hindered (stop_of v p) arrival) (first_missing view.resident (unless_stopped v (range ∷ ranges))) (unless_violated v outcome)
+  used : (arrival : Arrival A) (outcome : Outcome A) (v : Option Violation) (p : Option ℕ) (range : Range) (ranges : List Range) → first_absent view.resident range.addr range.len ≡ p → (v ≡ None → p ≡ None → Agrees view memory arrival (first_missing view.resident ranges) outcome) → Agrees view memory (unless_hindered (stop_of v p) view.marked arrival) (first_missing view.resident (unless_stopped v (range ∷ ranges))) (unless_violated v outcome)
   unfolding first_missing
   used arrival outcome (Some v) p range ranges e next = (refl, refl)
   used arrival outcome None (Some page) range ranges e next = rw e refl
@@ -81,8 +81,8 @@ module _ {A : Type 0} (view : View) (memory : List Area) where
   agrees_before : (later : View) (written : List Area) (arrival : Arrival A) (outcome : Outcome A) (first : Option ℕ) → later.resident ≡ view.resident → later.areas ≡ view.areas → ((addr : ℕ) → view.resident (page_of addr) ≡ false → byte_at written addr ≡ byte_at memory addr) → Agrees later written arrival first outcome → Agrees view memory arrival first outcome
   agrees_before later written (Comes x now) outcome first r s kept a =
       (a.0, a.1 ∙ r, a.2 ∙ s, (a.3.0, a.3.1, a.3.2, λ addr gone. a.3.3 addr (ap (λ f. f (page_of addr)) r ∙ gone) ∙ kept addr gone))
-  agrees_before later written (Stops (Absent page)) outcome first r s kept a = a
-  agrees_before later written (Stops (Event e)) outcome first r s kept a = a
+  agrees_before later written (Stops (Absent page) marked) outcome first r s kept a = a
+  agrees_before later written (Stops (Event e) marked) outcome first r s kept a = a
 
 pub standing : {A : Type 0} (tree : Accesses A) (view : View) (memory : List Area) → StandsFor view memory → Agrees view memory (over_port tree view) (first_missing view.resident (touches_of tree memory)) (outcome_of tree memory)
 unfolding over_port touches_of outcome_of first_missing
@@ -96,21 +96,21 @@ standing (Asks addr len mode access next) view memory st =
     (standing (next (is_allowed (violation memory addr len mode access))) view memory st)
 standing (Reads addr len mode next) view memory st =
     rw (violation-alike view.areas memory addr len mode Read (sym st.areas))
-    (used view memory _ _ (violation memory addr len mode Read) (first_absent view.resident addr len) (record { addr = addr; len = len }) _ refl
+    (used view memory _ _ (violation memory addr len mode Read) (first_absent view.resident addr len) (record { addr = addr; len = len; writes = false }) _ refl
     (λ fine here. rw (same_number view memory addr len st here) (standing (next (number (byte_at memory) addr len)) view memory st)))
 standing (Writes addr len value mode next) view memory st =
     rw (violation-alike view.areas memory addr len mode Write (sym st.areas))
-    (used view memory _ _ (violation memory addr len mode Write) (first_absent view.resident addr len) (record { addr = addr; len = len }) _ refl
+    (used view memory _ _ (violation memory addr len mode Write) (first_absent view.resident addr len) (record { addr = addr; len = len; writes = true }) _ refl
     (λ fine here. agrees_before view memory (with_number view addr len value) (written memory addr len value) _ _ _ refl refl
     (λ place gone. byte_at-written memory addr len value place mode Write st.whole fine ∙ put-absent view.resident (byte_at memory) addr len value place here gone)
     (standing next (with_number view addr len value) (written memory addr len value) (stands_written view memory addr len value mode st fine))))
 standing (ReadsRun addr len mode next) view memory st =
     rw (violation-alike view.areas memory addr len mode Read (sym st.areas))
-    (used view memory _ _ (violation memory addr len mode Read) (first_absent view.resident addr len) (record { addr = addr; len = len }) _ refl
+    (used view memory _ _ (violation memory addr len mode Read) (first_absent view.resident addr len) (record { addr = addr; len = len; writes = false }) _ refl
     (λ fine here. rw (same_bytes view memory addr len st here) (standing (next (bytes_from (byte_at memory) addr len)) view memory st)))
 standing (WritesRun addr bytes mode next) view memory st =
     rw (violation-alike view.areas memory addr (length bytes) mode Write (sym st.areas))
-    (used view memory _ _ (violation memory addr (length bytes) mode Write) (first_absent view.resident addr (length bytes)) (record { addr = addr; len = length bytes }) _ refl
+    (used view memory _ _ (violation memory addr (length bytes) mode Write) (first_absent view.resident addr (length bytes)) (record { addr = addr; len = length bytes; writes = true }) _ refl
     (λ fine here. agrees_before view memory (with_run view addr bytes) (written_run memory addr bytes) _ _ _ refl refl
     (λ place gone. byte_at-written_run memory addr bytes place mode Write st.whole fine ∙ put_run-absent view.resident (byte_at memory) addr bytes place here gone)
     (standing next (with_run view addr bytes) (written_run memory addr bytes) (stands_written_run view memory addr bytes mode st fine))))

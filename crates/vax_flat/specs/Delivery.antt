@@ -149,9 +149,9 @@ unfoldable pub changed : ℕ → ℕ → Psl → State → State
 changed new vector old s = at_handler vector (status new (mode_of old) (ipl_of old) false) s
 
 -- PSL, PC and code on the stack of a mode other than kernel, where a push that isn't allowed is an access violation
-unfoldable pub changed_outside : ℕ → ℕ → ℕ → Psl → ℕ → State → (Delivery → State → Accesses Leaf) → Accesses Leaf
-changed_outside new code vector old pc s next =
-    pushed_in new old.0 s (λ s. pushed_in new pc s (λ s. pushed_in new code s (λ s. next Entered (changed new vector old s))))
+unfoldable pub pushed_outside : ℕ → Psl → ℕ → ℕ → State → (State → Accesses Leaf) → Accesses Leaf
+pushed_outside mode old pc code s next =
+    pushed_in mode old.0 s (λ s. pushed_in mode pc s (λ s. pushed_in mode code s next))
 
 -- the frame of a change of mode, on the new mode's stack
 unfoldable pub changed_to : ℕ → ℕ → ℕ → State → (Delivery → State → Accesses Leaf) → Accesses Leaf
@@ -159,7 +159,8 @@ changed_to new code vector s next =
     if new == 0
     then pushed_all (s.core.psl.0 ∷ register s 15 ∷ code ∷ []) (switched (mode s) new s) (λ done t.
     if done then next Entered (changed new vector s.core.psl t) else next (Ended ending.Stack) t)
-    else changed_outside new code vector s.core.psl (register s 15) (switched (mode s) new s) next
+    else pushed_outside new s.core.psl (register s 15) code (switched (mode s) new s) (λ t.
+    next Entered (changed new vector s.core.psl t))
 
 -- a vector's bits 1:0 are 0, or it ends the run
 unfoldable pub change_by : AccessMode → ℕ → Option ℕ → State → (Delivery → State → Accesses Leaf) → Accesses Leaf

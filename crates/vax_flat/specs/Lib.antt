@@ -4,6 +4,7 @@ pub mod Port
 pub mod Accesses
 pub mod Outcome
 pub mod OverPort
+pub mod Inside
 pub mod Operand
 pub mod Quiet
 pub mod Rows

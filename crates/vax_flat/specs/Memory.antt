@@ -1,5 +1,5 @@
 -- The whole memory of the flat machine: a list of areas, each with all its bytes. Addresses have 32 bits, and pages 512 bytes.
-use Rattle.std.specs.Prelude.{◌≡◌, ℕ, suc, zero, ◌+◌, ◌-◌, ◌*◌, ◌/◌, ◌%◌, if◌then◌else◌, List, [], ◌∷◌, length, slice_index, slice_set}
+use Rattle.std.specs.Prelude.{◌≡◌, ℕ, suc, zero, ◌+◌, ◌-◌, ◌*◌, ◌/◌, ◌%◌, Bool, true, false, if◌then◌else◌, List, [], ◌∷◌, length, slice_index, slice_set}
 use Rattle.vax_space.specs.declared.Area.{Area}
 use Rattle.vax_space.specs.Areas.{has_page}
 use Rattle.vax_space.specs.Reference.{page_of, byte_after}
@@ -46,3 +46,12 @@ written_run memory addr (byte ∷ bytes) = with_byte (written_run memory (after 
 unfoldable pub IsWhole : List Area → Type 0
 IsWhole [] = Unit {0}
 IsWhole (area ∷ areas) = (length area.bytes ≡ 512 * area.pages) × IsWhole areas
+
+-- some area has the page
+unfoldable pub is_mapped : List Area → ℕ → Bool
+is_mapped [] page = false
+is_mapped (area ∷ areas) page = if has_page area page then true else is_mapped areas page
+
+-- every page that an area has is resident
+abbrev pub AllResident : (ℕ → Bool) → List Area → Type 0
+AllResident resident areas = (page : ℕ) → is_mapped areas page ≡ true → resident page ≡ true

@@ -1,5 +1,5 @@
 -- What a tree of accesses does to the whole memory of the flat machine.
-use Rattle.std.specs.Prelude.{ℕ, Option, Some, None, Bool, true, false, List, [], ◌∷◌, length}
+use Rattle.std.specs.Prelude.{ℕ, Option, Some, None, Bool, true, false, if◌then◌else◌, List, [], ◌∷◌, length}
 use Rattle.vax_space.specs.declared.Access.TheVariants.{Read, Write}
 use Rattle.vax_space.specs.declared.Area.{Area}
 use Rattle.vax_space.specs.declared.Violation.{Violation}
@@ -7,7 +7,7 @@ use Rattle.vax_flat.specs.declared.Exception.{Exception}
 use Rattle.vax_flat.specs.declared.Exception.TheVariants as exception
 use Rattle.vax_space.specs.Reference.{violation}
 use Rattle.vax_flat.specs.Memory.{byte_at, number, bytes_from, written, written_run}
-use Rattle.vax_flat.specs.Port.{first_absent}
+use Rattle.vax_flat.specs.Port.{first_absent, marking}
 use Rattle.vax_flat.specs.Accesses.{Accesses, Done, Raises, Checks, Asks, Reads, Writes, ReadsRun, WritesRun}
 
 -- it comes to its end with this memory, or raises an exception
@@ -39,10 +39,11 @@ outcome_of (ReadsRun addr len mode next) memory =
 outcome_of (WritesRun addr bytes mode next) memory =
     unless_violated (violation memory addr (length bytes) mode Write) (outcome_of next (written_run memory addr bytes))
 
--- a range of bytes
+-- a range of bytes that is read or written
 pub record Range : Type 0 where
   pub addr : ℕ
   pub len : ℕ
+  pub writes : Bool
 
 abbrev pub unless_stopped : Option Violation → List Range → List Range
 unless_stopped (Some v) ranges = []
@@ -58,16 +59,16 @@ touches_of (Asks addr len mode access next) memory =
     touches_of (next (is_allowed (violation memory addr len mode access))) memory
 touches_of (Reads addr len mode next) memory =
     unless_stopped (violation memory addr len mode Read)
-    (record { addr = addr; len = len } ∷ touches_of (next (number (byte_at memory) addr len)) memory)
+    (record { addr = addr; len = len; writes = false } ∷ touches_of (next (number (byte_at memory) addr len)) memory)
 touches_of (Writes addr len value mode next) memory =
     unless_stopped (violation memory addr len mode Write)
-    (record { addr = addr; len = len } ∷ touches_of next (written memory addr len value))
+    (record { addr = addr; len = len; writes = true } ∷ touches_of next (written memory addr len value))
 touches_of (ReadsRun addr len mode next) memory =
     unless_stopped (violation memory addr len mode Read)
-    (record { addr = addr; len = len } ∷ touches_of (next (bytes_from (byte_at memory) addr len)) memory)
+    (record { addr = addr; len = len; writes = false } ∷ touches_of (next (bytes_from (byte_at memory) addr len)) memory)
 touches_of (WritesRun addr bytes mode next) memory =
     unless_stopped (violation memory addr (length bytes) mode Write)
-    (record { addr = addr; len = length bytes } ∷ touches_of next (written_run memory addr bytes))
+    (record { addr = addr; len = length bytes; writes = true } ∷ touches_of next (written_run memory addr bytes))
 
 abbrev pub or_else : Option ℕ → Option ℕ → Option ℕ
 or_else (Some page) other = Some page
@@ -78,3 +79,16 @@ unfoldable pub first_missing : (ℕ → Bool) → List Range → Option ℕ
 first_missing resident [] = None
 first_missing resident (range ∷ ranges) =
     or_else (first_absent resident range.addr range.len) (first_missing resident ranges)
+
+abbrev pub marked_after : (ℕ → Bool) → Range → ℕ → Bool
+marked_after marked range = if range.writes then marking marked range.addr range.len else marked
+
+abbrev pub unless_absent : Option ℕ → (ℕ → Bool) → (ℕ → Bool) → ℕ → Bool
+unless_absent (Some page) stopped next = stopped
+unless_absent None stopped next = next
+
+-- the pages that are marked after these ranges: those of each range that is written, up to the first range that has an absent page
+unfoldable pub marked_by : (ℕ → Bool) → (ℕ → Bool) → List Range → ℕ → Bool
+marked_by resident marked [] = marked
+marked_by resident marked (range ∷ ranges) =
+    unless_absent (first_absent resident range.addr range.len) marked (marked_by resident (marked_after marked range) ranges)

@@ -1,5 +1,5 @@
 -- Memory in which pages may be absent, as a port to it shows it.
-use Rattle.std.specs.Prelude.{◌≡◌, ℕ, ◌<◌, suc, zero, ◌/◌, ◌%◌, ◌==◌, Bool, true, if◌then◌else◌, Option, Some, None, Result, Ok, Err, List, [], ◌∷◌, length}
+use Rattle.std.specs.Prelude.{◌≡◌, ℕ, ◌<◌, suc, zero, ◌/◌, ◌%◌, ◌==◌, ◌||◌, Bool, true, false, if◌then◌else◌, Option, Some, None, Result, Ok, Err, List, [], ◌∷◌, length}
 use Rattle.vax_space.specs.declared.Access.{Access}
 use Rattle.vax_space.specs.declared.Access.TheVariants.{Read, Write}
 use Rattle.vax_space.specs.declared.Area.{Area}
@@ -12,11 +12,29 @@ use Rattle.vax_flat.specs.declared.Stop.{Stop}
 use Rattle.vax_flat.specs.declared.Stop.TheVariants.{NotResident, Violated}
 use Rattle.vax_flat.specs.Memory.{after, byte_at, number, IsWhole}
 
--- the areas, of which the bytes don't count here; which pages are resident; and the byte at each address of a resident page
+-- the areas, of which the bytes don't count here; which pages are resident; the byte at each address of a resident page; and which pages are
+-- marked as written to
 pub record View : Type 0 where
   pub areas : List Area
   pub resident : ℕ → Bool
   pub byte : ℕ → ℕ
+  pub marked : ℕ → Bool
+
+-- a range has a byte in a page
+unfoldable pub is_in : ℕ → ℕ → ℕ → Bool
+is_in addr zero page = false
+is_in addr (suc len) page = (page == page_of addr) || is_in (after addr) len page
+
+-- the marks after a write to a range: its pages are marked too
+abbrev pub marking : (ℕ → Bool) → ℕ → ℕ → ℕ → Bool
+marking marked addr len page = marked page || is_in addr len page
+
+abbrev pub with_marks : View → (ℕ → Bool) → View
+with_marks view marked = record view { marked = marked }
+
+-- what counts where the marks don't
+abbrev pub unmarked : View → View
+unmarked view = with_marks view (λ page. false)
 
 -- the first page of a range that is absent
 unfoldable pub first_absent : (ℕ → Bool) → ℕ → ℕ → Option ℕ
@@ -49,10 +67,14 @@ put_run byte addr [] place = byte place
 put_run byte addr (b ∷ bs) place = if place == addr then b else put_run byte (after addr) bs place
 
 abbrev pub with_number : View → ℕ → ℕ → ℕ → View
-with_number view addr len value = record view { byte = put view.byte addr len value }
+with_number view addr len value = record view { byte = put view.byte addr len value; marked = marking view.marked addr len }
 
 abbrev pub with_run : View → ℕ → List ℕ → View
-with_run view addr bytes = record view { byte = put_run view.byte addr bytes }
+with_run view addr bytes = record view { byte = put_run view.byte addr bytes; marked = marking view.marked addr (length bytes) }
+
+-- a number put back, which leaves the marks
+abbrev pub with_number_back : View → ℕ → ℕ → ℕ → View
+with_number_back view addr len value = record view { byte = put view.byte addr len value }
 
 abbrev pub loaded_by : Option Stop → ℕ → Result ℕ Stop
 loaded_by (Some s) value = Err s

@@ -9,8 +9,8 @@ use Rattle.vax_flat.specs.OverPort.{Arrival, Comes, Stops, over_port}
 
 abbrev pub IsQuiet : {A : Type 0} → Arrival A → Type 0
 IsQuiet (Comes x view) = Unit {0}
-IsQuiet (Stops (Absent page)) = Unit {0}
-IsQuiet (Stops (Event e)) = ⊥
+IsQuiet (Stops (Absent page) marked) = Unit {0}
+IsQuiet (Stops (Event e) marked) = ⊥
 
 abbrev pub IsEnd : {A : Type 0} → Outcome A → Type 0
 IsEnd (Ends x memory) = Unit {0}

@@ -1,5 +1,5 @@
 -- Instructions on access modes, exceptions and the processor's registers (VAX Architecture Reference Manual, instruction descriptions).
-use Rattle.std.specs.Prelude.{ℕ, ◌+◌, ◌-◌, ◌*◌, ◌/◌, ◌%◌, ◌^◌, Bool, true, false, not, ◌==◌, ◌&&◌, ◌||◌, nat_lt, nat_le, max, if◌then◌else◌, Option, Some, None, is_some, slice_get, slice_index}
+use Rattle.std.specs.Prelude.{ℕ, ◌+◌, ◌-◌, ◌*◌, ◌/◌, ◌%◌, ◌^◌, Bool, true, false, not, ◌==◌, ◌&&◌, ◌||◌, nat_lt, nat_le, max, if◌then◌else◌, Option, Some, None, is_some, slice_index}
 use Rattle.std.specs.Int.Bits.{bit_and, bit_or}
 use Rattle.std.specs.Int.{from_bool}
 use Rattle.vax_word.specs.declared.Psl.{Psl}
@@ -17,7 +17,7 @@ use Rattle.vax_flat.specs.declared.Delivery.TheVariants.{Entered, Ended}
 use Rattle.vax_flat.specs.declared.Flow.{Flow}
 use Rattle.vax_flat.specs.declared.Flow.TheVariants as flow
 use Rattle.vax_flat.specs.declared.Ending.TheVariants as ending
-use Rattle.vax_flat.specs.State.{State, register, with_register, mode, with_psl, with_conditions, with_stack, with_requests, with_timer, with_clock, with_taken, with_sent}
+use Rattle.vax_flat.specs.State.{State, register, with_register, mode, with_psl, with_conditions, with_stack, with_requests, with_timer, with_clock, with_taken, with_sent, next_input}
 use Rattle.vax_flat.specs.Accesses.{Accesses, Raises, Leaf}
 use Rattle.vax_flat.specs.Operand.{plus, read_at, asked}
 use Rattle.vax_flat.specs.Rows.{read_value, write_place, address_value, stored, carry_of}
@@ -175,8 +175,8 @@ get_processor number s next =
     else if number == 18 then next (ipl_of s.core.psl) s
     else if number == 21 then next s.core.sisr s
     else if number == 24 then next s.core.iccs s
-    else if number == 32 then next (input_ready (slice_get s.input s.taken)) s
-    else if number == 33 then next (input_byte (slice_get s.input s.taken)) (input_after (slice_get s.input s.taken) s)
+    else if number == 32 then next (input_ready (next_input s)) s
+    else if number == 33 then next (input_byte (next_input s)) (input_after (next_input s) s)
     else if number == 34 then next (2 ^ 7) s
     else Raises Operand
 

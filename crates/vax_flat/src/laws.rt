@@ -1,10 +1,12 @@
 //! The laws of the flat machine, each the contract of a call that does nothing.
-ghost use Rattle.std.specs.Prelude.{◌≡◌, ℕ, ◌≤◌, Bool, true, false, Some, IsSome, List, [], ◌∷◌, ◌++◌, length};
+ghost use Rattle.std.specs.Prelude.{◌≡◌, ◌<◌, ◌%◌, pos, ℕ, ◌≤◌, Bool, true, false, Some, IsSome, List, [], ◌∷◌, ◌++◌, length};
 ghost use Rattle.vax_space.specs.declared.Area.{Area};
 ghost use Rattle.vax_flat.specs.Accesses.{Accesses, Leaf};
+ghost use Rattle.vax_flat.specs.declared.Cut.TheVariants.{Absent};
+ghost use Rattle.vax_flat.specs.Inside.{IsMissing};
 ghost use Rattle.vax_flat.specs.Port.{View, StandsFor};
-ghost use Rattle.vax_flat.specs.Outcome.{Range, first_missing, or_else, outcome_of, touches_of};
-ghost use Rattle.vax_flat.specs.OverPort.{Agrees, over_port};
+ghost use Rattle.vax_flat.specs.Outcome.{Range, first_missing, marked_by, or_else, outcome_of, touches_of, unless_absent};
+ghost use Rattle.vax_flat.specs.OverPort.{Agrees, Stops, marks_of, over_port};
 ghost use Rattle.vax_isa.specs.declared.OperandKind.{OperandKind};
 ghost use Rattle.vax_isa.specs.declared.actions.Action.{Action};
 ghost use Rattle.vax_isa.specs.Actions.{operands_of};
@@ -17,6 +19,11 @@ ghost use Rattle.vax_flat.specs.System.{unless_privileged};
 ghost use Rattle.vax_flat.specs.Instruction.{acted, instruction, is_built, is_privileged};
 ghost use Rattle.vax_flat.specs.declared.Exception.{Exception};
 ghost use Rattle.vax_flat.specs.declared.Delivery.{Delivery};
+ghost use Rattle.vax_word.specs.declared.Size.{Size};
+ghost use Rattle.vax_word.specs.Arithmetic.{answer, modulus, shifted};
+ghost use Rattle.vax_isa.specs.declared.actions.Unary.TheVariants.{Negate};
+ghost use Rattle.vax_isa.specs.declared.actions.Binary.TheVariants.{Add, AddWithCarry, Subtract, SubtractWithCarry};
+ghost use Rattle.vax_flat.specs.Integer.{of_one, of_two, rotated};
 ghost use Rattle.vax_flat.specs.Quiet.{RaisesNothing};
 ghost use Rattle.vax_flat.specs.Delivery.{delivery, interrupt};
 ghost use Rattle.vax_flat.specs.Step.{Flat, leaf, step_touches, whole_delivery};
@@ -24,15 +31,18 @@ ghost use Rattle.vax_flat.specs.Bound.{AreFew, LeavesNoPart, is_string};
 ghost use Rattle.vax_flat.specs.Grammar.{Specifier, Reading, Reads, Sequence, IsInstruction, read_operand, read_operands};
 ghost use Rattle.vax_flat.specs.Evaluation.{AreAhead, DoSame, Takes, comes_to, all_come_to, passed, next_operands, next_instruction};
 
-/// The first absent page of two lists of ranges joined is the first list's, and where this has none, the second's.
+/// The first absent page of two lists of ranges joined is the first list's, and where this has none, the second's. The pages that are marked
+/// after them are those marked after the first list where this has an absent page, and else those marked after the second from there.
 pub fn joined_ranges()
-    ensures { (resident : ℕ → Bool) → (first second : List Range) → first_missing resident (first ++ second) ≡ or_else (first_missing resident first) (first_missing resident second) }
+    ensures first { (resident : ℕ → Bool) → (first second : List Range) → first_missing resident (first ++ second) ≡ or_else (first_missing resident first) (first_missing resident second) }
+    ensures marks { (resident marked : ℕ → Bool) → (first second : List Range) → marked_by resident marked (first ++ second) ≡ unless_absent (first_missing resident first) (marked_by resident marked first) (marked_by resident (marked_by resident marked first) second) }
 {}
 
 /// What the accesses of a tree come to over a port is, for every memory that the port stands for, decided by the first absent page of its
-/// touches there, and else by its outcome there.
+/// touches there, and else by its outcome there. The pages that it marks are those of the ranges that it writes, up to that page.
 pub fn arrival_agrees()
-    ensures { (tree : Accesses Leaf) → (view : View) → (memory : List Area) → StandsFor view memory → Agrees view memory (over_port tree view) (first_missing view.resident (touches_of tree memory)) (outcome_of tree memory) }
+    ensures arrival { (tree : Accesses Leaf) → (view : View) → (memory : List Area) → StandsFor view memory → Agrees view memory (over_port tree view) (first_missing view.resident (touches_of tree memory)) (outcome_of tree memory) }
+    ensures marks { (tree : Accesses Leaf) → (view : View) → (memory : List Area) → StandsFor view memory → marks_of (over_port tree view) ≡ marked_by view.resident view.marked (touches_of tree memory) }
 {}
 
 /// What the machine does at an operand is what the grammar reads of the bytes that stand there: it reads their pieces, and goes on with what the
@@ -67,6 +77,16 @@ pub fn steps_are_bounded()
     ensures delivery { (e : Exception) → (s : State) → (memory : List Area) → LeavesNoPart (outcome_of (whole_delivery e s) memory) }
 {}
 
+/// Results that say something apart from how they are worked out: MNEG is SUB from 0, ADWC without a carry is ADD and SBWC without a borrow is SUB,
+/// ROTL turns by its count modulo 32, and ASH by 0 leaves the value, with V and C clear.
+pub fn results_agree()
+    ensures negated { (size : Size) → (x : ℕ) → (c other : Bool) → x < modulus size → of_one Negate size size x c ≡ of_two Subtract size x 0 other }
+    ensures added { (size : Size) → (a b : ℕ) → (c : Bool) → of_two AddWithCarry size a b false ≡ of_two Add size a b c }
+    ensures subtracted { (size : Size) → (a b : ℕ) → (c : Bool) → of_two SubtractWithCarry size a b false ≡ of_two Subtract size a b c }
+    ensures turned { (count x : ℕ) → rotated count x ≡ rotated (count % 32) x }
+    ensures unshifted { (size : Size) → (x : ℕ) → x < modulus size → shifted size (pos 0) x ≡ answer size x false false }
+{}
+
 /// A reading rests on the bytes at the front alone: it stays with more bytes behind, takes no more than there are, and nine bytes are enough
 /// for one operand.
 pub fn grammar_reads()
@@ -74,4 +94,9 @@ pub fn grammar_reads()
     ensures fronts { (kinds : List OperandKind) → (bytes more : List ℕ) → (sequence : Sequence) → read_operands kinds bytes ≡ Some sequence → read_operands kinds (bytes ++ more) ≡ Some sequence }
     ensures within { (kind : OperandKind) → (bytes : List ℕ) → (specifier : Specifier) → (count : ℕ) → read_operand kind bytes ≡ Some (Reads specifier count) → count ≤ length bytes }
     ensures enough { (kind : OperandKind) → (bytes : List ℕ) → kind.width ≤ 8 → 9 ≤ length bytes → IsSome (read_operand kind bytes) }
+{}
+
+/// A tree stops over a port only for a page of an area that is absent, whatever memory the port stands for.
+pub fn stops_for_missing_pages()
+    ensures { (tree : Accesses Leaf) → (view : View) → (page : ℕ) → (marked : ℕ → Bool) → over_port tree view ≡ Stops (Absent page) marked → IsMissing view page }
 {}

@@ -13,7 +13,7 @@ use Rattle.vax_operand.specs.Located.{at_end, Lands, LandsEverywhere}
 
 module _ {X : Type 0} (leaf : X → State → Leaf) where
   landed : (view : View) (memory : List Area) (tree : Accesses Leaf) (first : Option ℕ) (outcome : Outcome Leaf) (result : Result X Cut) (after : Present) →
-      Agrees view memory (over_port tree view) first outcome → ((x : X) → result ≡ Ok x → over_port tree view ≡ Comes (leaf x after.state) after.view) → ((cut : Cut) → result ≡ Err cut → over_port tree view ≡ Stops cut) →
+      Agrees view memory (over_port tree view) first outcome → ((x : X) → result ≡ Ok x → over_port tree view ≡ Comes (leaf x after.state) after.view) → ((cut : Cut) → result ≡ Err cut → over_port tree view ≡ Stops cut after.view.marked) →
       Lands leaf first outcome result after
   landed view memory tree first outcome (Ok x) after law came stops =
       let a = subst (λ y. Agrees view memory y first outcome) (came x refl) law in
@@ -25,7 +25,7 @@ module _ {X : Type 0} (leaf : X → State → Leaf) where
   unfolding over_port
   came_to tree before result after follows x is = subst (λ (r : Result X Cut). Follows tree before r after) is follows (at_end leaf)
 
-  stopped_at : (tree : (X → State → Accesses Leaf) → Accesses Leaf) (before : Present) (result : Result X Cut) (after : Present) → Follows tree before result after → (cut : Cut) → result ≡ Err cut → over_port (tree (at_end leaf)) before.view ≡ Stops cut
+  stopped_at : (tree : (X → State → Accesses Leaf) → Accesses Leaf) (before : Present) (result : Result X Cut) (after : Present) → Follows tree before result after → (cut : Cut) → result ≡ Err cut → over_port (tree (at_end leaf)) before.view ≡ Stops cut after.view.marked
   stopped_at tree before result after follows cut is = subst (λ (r : Result X Cut). Follows tree before r after) is follows (at_end leaf)
 
   pub everywhere : (tree : (X → State → Accesses Leaf) → Accesses Leaf) (before : Present) (result : Result X Cut) (after : Present) → Follows tree before result after → LandsEverywhere leaf tree before result after

@@ -5,14 +5,14 @@ ghost use Rattle.vax_isa.specs.Actions.{size_of};
 ghost use Rattle.vax_flat.specs.Operand.{IsWidth, IsPlace};
 ghost use Rattle.vax_flat.specs.Rows.{value_at, value_of, address_in, with_value, stored, read_value, modify_value, write_place, address_value, branch_target};
 ghost use Rattle.vax_flat.specs.OverPort.{Follows, Performs};
-ghost use Rattle.vax_undo.specs.Transaction.{present, room, Keeps, with_state};
+ghost use Rattle.vax_undo.specs.Transaction.{present, room, Keeps, with_state, told};
 ghost use Rattle.vax_operand.specs.Form.{IsDisplacement};
 
 use crate::memory::{read, write};
 use crate::specifier::{next, value_in};
-use vax_flat::{Cut, Operand};
+use vax_flat::Operand;
 use vax_isa::{Letter, Narrow, OperandKind};
-use vax_undo::{Port, Txn};
+use vax_undo::{CutShort, Port, Txn};
 use vax_word::Size;
 
 /// The bytes of a size, as an operand's kind has them.
@@ -76,10 +76,10 @@ fn address_in(operand: Operand) -> u32
 /// The value at the place of an operand of so many bytes, which is read where it lies in memory.
 #[inline]
 #[tactic(auto, unfolding(vax_flat::specs::Rows::value_at))]
-fn value_at<P: Port>(txn: &mut Txn<P>, width: u8, operand: Operand) -> Result<u64, Cut>
+fn value_at<P: Port>(txn: &mut Txn<P>, width: u8, operand: Operand) -> Result<u64, CutShort>
     requires width { IsWidth width }
     requires place { IsPlace width operand }
-    ensures exact { Follows (value_at width operand (present P.view txn.old).state) (present P.view txn.old) result (present P.view txn.new) }
+    ensures exact { Follows (value_at width operand (present P.view txn.old).state) (present P.view txn.old) (told txn.new result) (present P.view txn.new) }
     ensures fits { IfOk result (λ x. x < 256 ^ width) }
     ensures keeps { Keeps P.view P.since 0 txn.old txn.new }
 {
@@ -90,17 +90,6 @@ fn value_at<P: Port>(txn: &mut Txn<P>, width: u8, operand: Operand) -> Result<u6
         Operand::FieldRegister(_) => Ok(0),
         Operand::Target(_) => Ok(0),
     }
-}
-
-/// The value at the place of an operand, which is read where it lies in memory.
-#[inline]
-pub fn load<P: Port>(txn: &mut Txn<P>, size: Size, operand: Operand) -> Result<u64, Cut>
-    requires place { IsPlace (bytes_of size) operand }
-    ensures exact { Follows (value_at (bytes_of size) operand (present P.view txn.old).state) (present P.view txn.old) result (present P.view txn.new) }
-    ensures fits { IfOk result (λ x. x < 256 ^ bytes_of size) }
-    ensures keeps { Keeps P.view P.since 0 txn.old txn.new }
-{
-    value_at(txn, width_of(size), operand)
 }
 
 /// Sets a register, or the pair of a quadword. A byte or a word leaves the register's other bits.
@@ -129,12 +118,17 @@ fn set_value<P: Port>(txn: &mut Txn<P>, width: u8, n: u8, value: u64)
 /// Writes a value of so many bytes to an operand.
 #[inline]
 #[tactic(auto, unfolding(vax_flat::specs::Rows::stored))]
-fn store_at<P: Port>(txn: &mut Txn<P>, width: u8, operand: Operand, value: u64) -> Result<(), Cut>
+fn store_at<P: Port>(
+    txn: &mut Txn<P>,
+    width: u8,
+    operand: Operand,
+    value: u64,
+) -> Result<(), CutShort>
     requires width { IsWidth width }
     requires place { IsPlace width operand }
     requires fits { value < 256 ^ width }
     requires room { 2 ≤ room txn.old }
-    ensures exact { Performs (stored width operand value (present P.view txn.old).state) (present P.view txn.old) result (present P.view txn.new) }
+    ensures exact { Performs (stored width operand value (present P.view txn.old).state) (present P.view txn.old) (told txn.new result) (present P.view txn.new) }
     ensures keeps { Keeps P.view P.since 2 txn.old txn.new }
 {
     match operand {
@@ -151,11 +145,16 @@ fn store_at<P: Port>(txn: &mut Txn<P>, width: u8, operand: Operand, value: u64) 
 
 /// Writes a value to an operand.
 #[inline]
-pub fn store<P: Port>(txn: &mut Txn<P>, size: Size, operand: Operand, value: u64) -> Result<(), Cut>
+pub fn store<P: Port>(
+    txn: &mut Txn<P>,
+    size: Size,
+    operand: Operand,
+    value: u64,
+) -> Result<(), CutShort>
     requires place { IsPlace (bytes_of size) operand }
     requires fits { value < 256 ^ bytes_of size }
     requires room { 2 ≤ room txn.old }
-    ensures exact { Performs (stored (bytes_of size) operand value (present P.view txn.old).state) (present P.view txn.old) result (present P.view txn.new) }
+    ensures exact { Performs (stored (bytes_of size) operand value (present P.view txn.old).state) (present P.view txn.old) (told txn.new result) (present P.view txn.new) }
     ensures keeps { Keeps P.view P.since 2 txn.old txn.new }
 {
     store_at(txn, width_of(size), operand, value)
@@ -164,9 +163,9 @@ pub fn store<P: Port>(txn: &mut Txn<P>, size: Size, operand: Operand, value: u64
 /// Reads one operand at PC and its value.
 #[inline]
 #[tactic(auto, using(crate::proofs::Values::value_of_fits), unfolding(vax_flat::specs::Rows::read_value))]
-pub fn next_value<P: Port>(txn: &mut Txn<P>, size: Size) -> Result<u64, Cut>
+pub fn next_value<P: Port>(txn: &mut Txn<P>, size: Size) -> Result<u64, CutShort>
     requires room { 4 ≤ room txn.old }
-    ensures exact { Follows (read_value (bytes_of size) (present P.view txn.old).state) (present P.view txn.old) result (present P.view txn.new) }
+    ensures exact { Follows (read_value (bytes_of size) (present P.view txn.old).state) (present P.view txn.old) (told txn.new result) (present P.view txn.new) }
     ensures fits { IfOk result (λ x. x < 256 ^ bytes_of size) }
     ensures keeps { Keeps P.view P.since 4 txn.old txn.new }
 {
@@ -181,9 +180,9 @@ pub fn next_value<P: Port>(txn: &mut Txn<P>, size: Size) -> Result<u64, Cut>
 /// Reads one operand at PC that is modified: where it is, checked for writing, and the value there.
 #[inline]
 #[tactic(auto, unfolding(vax_flat::specs::Rows::modify_value))]
-pub fn next_modified<P: Port>(txn: &mut Txn<P>, size: Size) -> Result<(Operand, u64), Cut>
+pub fn next_modified<P: Port>(txn: &mut Txn<P>, size: Size) -> Result<(Operand, u64), CutShort>
     requires room { 4 ≤ room txn.old }
-    ensures exact { Follows (modify_value (bytes_of size) (present P.view txn.old).state) (present P.view txn.old) result (present P.view txn.new) }
+    ensures exact { Follows (modify_value (bytes_of size) (present P.view txn.old).state) (present P.view txn.old) (told txn.new result) (present P.view txn.new) }
     ensures place { IfOk result (λ m. IsPlace (bytes_of size) m.0) }
     ensures fits { IfOk result (λ m. m.1 < 256 ^ bytes_of size) }
     ensures keeps { Keeps P.view P.since 4 txn.old txn.new }
@@ -200,9 +199,9 @@ pub fn next_modified<P: Port>(txn: &mut Txn<P>, size: Size) -> Result<(Operand, 
 /// Reads one operand at PC that is written: where it is.
 #[inline]
 #[tactic(auto, unfolding(vax_flat::specs::Rows::write_place))]
-pub fn next_place<P: Port>(txn: &mut Txn<P>, size: Size) -> Result<Operand, Cut>
+pub fn next_place<P: Port>(txn: &mut Txn<P>, size: Size) -> Result<Operand, CutShort>
     requires room { 4 ≤ room txn.old }
-    ensures exact { Follows (write_place (bytes_of size) (present P.view txn.old).state) (present P.view txn.old) result (present P.view txn.new) }
+    ensures exact { Follows (write_place (bytes_of size) (present P.view txn.old).state) (present P.view txn.old) (told txn.new result) (present P.view txn.new) }
     ensures place { IfOk result (IsPlace (bytes_of size)) }
     ensures keeps { Keeps P.view P.since 4 txn.old txn.new }
 {
@@ -216,9 +215,9 @@ pub fn next_place<P: Port>(txn: &mut Txn<P>, size: Size) -> Result<Operand, Cut>
 /// Reads one operand at PC of which the address is taken.
 #[inline]
 #[tactic(auto, unfolding(vax_flat::specs::Rows::address_value))]
-pub fn next_address<P: Port>(txn: &mut Txn<P>, size: Size) -> Result<u32, Cut>
+pub fn next_address<P: Port>(txn: &mut Txn<P>, size: Size) -> Result<u32, CutShort>
     requires room { 4 ≤ room txn.old }
-    ensures exact { Follows (address_value (bytes_of size) (present P.view txn.old).state) (present P.view txn.old) result (present P.view txn.new) }
+    ensures exact { Follows (address_value (bytes_of size) (present P.view txn.old).state) (present P.view txn.old) (told txn.new result) (present P.view txn.new) }
     ensures keeps { Keeps P.view P.since 4 txn.old txn.new }
 {
     let kind = OperandKind {
@@ -232,9 +231,9 @@ pub fn next_address<P: Port>(txn: &mut Txn<P>, size: Size) -> Result<u32, Cut>
 /// Reads the displacement at PC that a branch has: where the branch goes.
 #[inline]
 #[tactic(auto, unfolding(vax_flat::specs::Rows::branch_target))]
-pub fn next_target<P: Port>(txn: &mut Txn<P>, size: Narrow) -> Result<u32, Cut>
+pub fn next_target<P: Port>(txn: &mut Txn<P>, size: Narrow) -> Result<u32, CutShort>
     requires room { 4 ≤ room txn.old }
-    ensures exact { Follows (branch_target (bytes_of (size_of size)) (present P.view txn.old).state) (present P.view txn.old) result (present P.view txn.new) }
+    ensures exact { Follows (branch_target (bytes_of (size_of size)) (present P.view txn.old).state) (present P.view txn.old) (told txn.new result) (present P.view txn.new) }
     ensures keeps { Keeps P.view P.since 4 txn.old txn.new }
 {
     let kind = OperandKind {

@@ -12,10 +12,9 @@ mod specifier;
 #[cfg(test)]
 mod tests;
 
-pub use crate::access::{
-    load, next_address, next_modified, next_place, next_target, next_value, store,
-};
+pub use crate::access::{next_address, next_modified, next_place, next_target, next_value, store};
 pub use crate::memory::{check, fetch, is_allowed, read, read_in, write, write_in};
 pub use crate::results::{answer, push, set_codes, settle};
 pub use crate::specifier::next;
 pub use vax_flat::{Cut, Flow, Operand};
+pub use vax_undo::CutShort;

@@ -2,19 +2,19 @@
 ghost use Rattle.std.specs.Prelude.{◌≡◌, ℕ, ◌+◌, ◌*◌, ◌%◌, ◌^◌, ◌<◌, ◌≤◌, IfOk, Ok};
 ghost use Rattle.vax_flat.specs.Operand.{read_at, write_at, check_at, read_in, write_in, asked, fetched};
 ghost use Rattle.vax_flat.specs.OverPort.{Follows, Performs};
-ghost use Rattle.vax_undo.specs.Transaction.{present, room, Keeps};
+ghost use Rattle.vax_undo.specs.Transaction.{present, room, Keeps, told};
 
 use vax_flat::{Cut, Exception};
 use vax_space::Access;
-use vax_undo::{Port, Txn};
+use vax_undo::{CutShort, Port, Txn};
 
 /// The number that `n` bytes are.
 #[inline]
 #[tactic(auto, unfolding(vax_flat::specs::OverPort::over_port, vax_flat::specs::Operand::read_at))]
-pub fn read<P: Port>(txn: &mut Txn<P>, addr: u32, n: u32) -> Result<u64, Cut>
+pub fn read<P: Port>(txn: &mut Txn<P>, addr: u32, n: u32) -> Result<u64, CutShort>
     requires some { 1 ≤ n }
     requires few { n ≤ 8 }
-    ensures exact { Follows (read_at addr n (present P.view txn.old).state) (present P.view txn.old) result (present P.view txn.new) }
+    ensures exact { Follows (read_at addr n (present P.view txn.old).state) (present P.view txn.old) (told txn.new result) (present P.view txn.new) }
     ensures same { present P.view txn.new ≡ present P.view txn.old }
     ensures fits { IfOk result (λ x. x < 256 ^ n) }
     ensures keeps { Keeps P.view P.since 0 txn.old txn.new }
@@ -22,59 +22,59 @@ pub fn read<P: Port>(txn: &mut Txn<P>, addr: u32, n: u32) -> Result<u64, Cut>
     let mode = txn.psl().mode();
     match txn.read(addr, n, mode) {
         Ok(value) => Ok(value),
-        Err(stop) => Err(Cut::from(stop)),
+        Err(stop) => Err(txn.cut(Cut::from(stop))),
     }
 }
 
 /// Writes the `n` bytes of a number. It stays a call, since most operands that are written are registers.
 #[inline(never)]
 #[tactic(auto, unfolding(vax_flat::specs::OverPort::over_port, vax_flat::specs::Operand::write_at))]
-pub fn write<P: Port>(txn: &mut Txn<P>, addr: u32, n: u32, value: u64) -> Result<(), Cut>
+pub fn write<P: Port>(txn: &mut Txn<P>, addr: u32, n: u32, value: u64) -> Result<(), CutShort>
     requires some { 1 ≤ n }
     requires few { n ≤ 8 }
     requires fits { value < 256 ^ n }
     requires room { 1 ≤ room txn.old }
-    ensures exact { Performs (write_at addr n value (present P.view txn.old).state) (present P.view txn.old) result (present P.view txn.new) }
+    ensures exact { Performs (write_at addr n value (present P.view txn.old).state) (present P.view txn.old) (told txn.new result) (present P.view txn.new) }
     ensures keeps { Keeps P.view P.since 1 txn.old txn.new }
 {
     let mode = txn.psl().mode();
     match txn.write(addr, n, value, mode) {
         Ok(()) => Ok(()),
-        Err(stop) => Err(Cut::from(stop)),
+        Err(stop) => Err(txn.cut(Cut::from(stop))),
     }
 }
 
 /// Checks that `n` bytes may be used so, resident or not.
 #[inline]
 #[tactic(auto, unfolding(vax_flat::specs::OverPort::over_port, vax_flat::specs::Operand::check_at))]
-pub fn check<P: Port>(txn: &mut Txn<P>, addr: u32, n: u32, access: Access) -> Result<(), Cut>
+pub fn check<P: Port>(txn: &mut Txn<P>, addr: u32, n: u32, access: Access) -> Result<(), CutShort>
     requires short { n ≤ 65536 }
-    ensures exact { Performs (check_at addr n access (present P.view txn.old).state) (present P.view txn.old) result (present P.view txn.new) }
+    ensures exact { Performs (check_at addr n access (present P.view txn.old).state) (present P.view txn.old) (told txn.new result) (present P.view txn.new) }
     ensures same { present P.view txn.new ≡ present P.view txn.old }
     ensures keeps { Keeps P.view P.since 0 txn.old txn.new }
 {
     let mode = txn.psl().mode();
     match txn.check(addr, n, mode, access) {
         Ok(()) => Ok(()),
-        Err(violation) => Err(Cut::Event(Exception::Access(violation))),
+        Err(violation) => Err(txn.cut(Cut::Event(Exception::Access(violation)))),
     }
 }
 
 /// The number that `n` bytes are, in this access mode.
 #[inline]
 #[tactic(auto, unfolding(vax_flat::specs::OverPort::over_port, vax_flat::specs::Operand::read_in))]
-pub fn read_in<P: Port>(txn: &mut Txn<P>, addr: u32, n: u32, mode: u8) -> Result<u64, Cut>
+pub fn read_in<P: Port>(txn: &mut Txn<P>, addr: u32, n: u32, mode: u8) -> Result<u64, CutShort>
     requires some { 1 ≤ n }
     requires few { n ≤ 8 }
     requires of_mode { mode ≤ 3 }
-    ensures exact { Follows (read_in addr n mode (present P.view txn.old).state) (present P.view txn.old) result (present P.view txn.new) }
+    ensures exact { Follows (read_in addr n mode (present P.view txn.old).state) (present P.view txn.old) (told txn.new result) (present P.view txn.new) }
     ensures same { present P.view txn.new ≡ present P.view txn.old }
     ensures fits { IfOk result (λ x. x < 256 ^ n) }
     ensures keeps { Keeps P.view P.since 0 txn.old txn.new }
 {
     match txn.read(addr, n, mode) {
         Ok(value) => Ok(value),
-        Err(stop) => Err(Cut::from(stop)),
+        Err(stop) => Err(txn.cut(Cut::from(stop))),
     }
 }
 
@@ -87,18 +87,18 @@ pub fn write_in<P: Port>(
     n: u32,
     value: u64,
     mode: u8,
-) -> Result<(), Cut>
+) -> Result<(), CutShort>
     requires some { 1 ≤ n }
     requires few { n ≤ 8 }
     requires of_mode { mode ≤ 3 }
     requires fits { value < 256 ^ n }
     requires room { 1 ≤ room txn.old }
-    ensures exact { Performs (write_in addr n value mode (present P.view txn.old).state) (present P.view txn.old) result (present P.view txn.new) }
+    ensures exact { Performs (write_in addr n value mode (present P.view txn.old).state) (present P.view txn.old) (told txn.new result) (present P.view txn.new) }
     ensures keeps { Keeps P.view P.since 1 txn.old txn.new }
 {
     match txn.write(addr, n, value, mode) {
         Ok(()) => Ok(()),
-        Err(stop) => Err(Cut::from(stop)),
+        Err(stop) => Err(txn.cut(Cut::from(stop))),
     }
 }
 
@@ -116,11 +116,11 @@ pub fn is_allowed<P: Port>(txn: &Txn<P>, addr: u32, n: u32, mode: u8, access: Ac
 /// The number that the next `n` bytes of the instruction are. PC moves past them.
 #[inline]
 #[tactic(auto, unfolding(vax_flat::specs::OverPort::over_port, vax_flat::specs::Operand::fetched, vax_flat::specs::Operand::read_at))]
-pub fn fetch<P: Port>(txn: &mut Txn<P>, n: u32) -> Result<u64, Cut>
+pub fn fetch<P: Port>(txn: &mut Txn<P>, n: u32) -> Result<u64, CutShort>
     requires some { 1 ≤ n }
     requires few { n ≤ 8 }
     requires room { 1 ≤ room txn.old }
-    ensures exact { Follows (fetched n (present P.view txn.old).state) (present P.view txn.old) result (present P.view txn.new) }
+    ensures exact { Follows (fetched n (present P.view txn.old).state) (present P.view txn.old) (told txn.new result) (present P.view txn.new) }
     ensures fits { IfOk result (λ x. x < 256 ^ n) }
     ensures keeps { Keeps P.view P.since 1 txn.old txn.new }
 {
@@ -131,6 +131,6 @@ pub fn fetch<P: Port>(txn: &mut Txn<P>, n: u32) -> Result<u64, Cut>
             txn.set_reg(15, pc.wrapping_add(n));
             Ok(value)
         }
-        Err(stop) => Err(Cut::from(stop)),
+        Err(stop) => Err(txn.cut(Cut::from(stop))),
     }
 }

@@ -5,12 +5,12 @@ ghost use Rattle.vax_flat.specs.Operand.{IsPlace};
 ghost use Rattle.vax_flat.specs.Rows.{flow_of, settled, answered, pushed};
 ghost use Rattle.vax_flat.specs.OverPort.{Follows, Performs};
 ghost use Rattle.vax_flat.specs.State.{with_conditions, overflow_enabled};
-ghost use Rattle.vax_undo.specs.Transaction.{present, room, Keeps, with_state};
+ghost use Rattle.vax_undo.specs.Transaction.{present, room, Keeps, with_state, told};
 
 use crate::access::store;
 use crate::memory::write;
-use vax_flat::{Cut, Flow, Operand, Trap};
-use vax_undo::{Port, Txn};
+use vax_flat::{Flow, Operand, Trap};
+use vax_undo::{CutShort, Port, Txn};
 use vax_word::{Codes, Psl, Size};
 
 /// Sets the condition codes.
@@ -36,9 +36,9 @@ fn traps_overflow<P: Port>(txn: &Txn<P>) -> bool
 /// Sets the condition codes. A division by 0 traps then, and so does an overflow where that is enabled.
 #[inline]
 #[tactic(auto, unfolding(vax_flat::specs::Rows::settled, vax_flat::specs::Rows::flow_of))]
-pub fn settle<P: Port>(txn: &mut Txn<P>, by_zero: bool, codes: Codes) -> Result<Flow, Cut>
+pub fn settle<P: Port>(txn: &mut Txn<P>, by_zero: bool, codes: Codes) -> Result<Flow, CutShort>
     requires { 1 ≤ room txn.old }
-    ensures exact { Follows (settled by_zero codes (present P.view txn.old).state) (present P.view txn.old) result (present P.view txn.new) }
+    ensures exact { Follows (settled by_zero codes (present P.view txn.old).state) (present P.view txn.old) (told txn.new result) (present P.view txn.new) }
     ensures keeps { Keeps P.view P.since 1 txn.old txn.new }
 {
     let flow = if by_zero {
@@ -61,11 +61,11 @@ pub fn answer<P: Port>(
     place: Operand,
     by_zero: bool,
     result_and_codes: (u64, Codes),
-) -> Result<Flow, Cut>
+) -> Result<Flow, CutShort>
     requires place { IsPlace (bytes_of size) place }
     requires fits { result_and_codes.0 < 256 ^ bytes_of size }
     requires room { 3 ≤ room txn.old }
-    ensures exact { Follows (answered (bytes_of size) place by_zero result_and_codes (present P.view txn.old).state) (present P.view txn.old) result (present P.view txn.new) }
+    ensures exact { Follows (answered (bytes_of size) place by_zero result_and_codes (present P.view txn.old).state) (present P.view txn.old) (told txn.new result) (present P.view txn.new) }
     ensures keeps { Keeps P.view P.since 3 txn.old txn.new }
 {
     let (value, codes) = result_and_codes;
@@ -76,9 +76,9 @@ pub fn answer<P: Port>(
 /// Pushes a longword onto the stack in use.
 #[inline]
 #[tactic(auto, unfolding(vax_flat::specs::Rows::pushed))]
-pub fn push<P: Port>(txn: &mut Txn<P>, value: u32) -> Result<(), Cut>
+pub fn push<P: Port>(txn: &mut Txn<P>, value: u32) -> Result<(), CutShort>
     requires { 2 ≤ room txn.old }
-    ensures exact { Performs (pushed value (present P.view txn.old).state) (present P.view txn.old) result (present P.view txn.new) }
+    ensures exact { Performs (pushed value (present P.view txn.old).state) (present P.view txn.old) (told txn.new result) (present P.view txn.new) }
     ensures keeps { Keeps P.view P.since 2 txn.old txn.new }
 {
     let top = txn.reg(14).wrapping_sub(4);

@@ -2,7 +2,7 @@
 ghost use Rattle.std.specs.Prelude.{◌≡◌, ℕ, ◌+◌, ◌*◌, ◌%◌, ◌^◌, ◌<◌, ◌≤◌, IfOk};
 ghost use Rattle.vax_flat.specs.Operand.{form_of, extended, at_address, literal, in_register, register_value, addressed, is_reserved, is_no_base, is_result, reaches_pc, indexed, in_memory, after_prefix, formed, specified, branched, next_operand, IsWidth, IsTarget, Fits};
 ghost use Rattle.vax_flat.specs.OverPort.{Follows, Performs};
-ghost use Rattle.vax_undo.specs.Transaction.{present, room, Keeps};
+ghost use Rattle.vax_undo.specs.Transaction.{present, room, Keeps, told};
 ghost use Rattle.vax_operand.specs.Located.{LocatesEverywhere};
 ghost use Rattle.vax_operand.specs.Form.{IsForm, IsDisplacement};
 
@@ -10,7 +10,7 @@ use crate::memory::{check, fetch, read};
 use vax_flat::{Cut, Exception, Form, Operand};
 use vax_isa::{Letter, OperandKind};
 use vax_space::Access;
-use vax_undo::{Port, Txn};
+use vax_undo::{CutShort, Port, Txn};
 
 /// A specifier byte's form.
 #[inline]
@@ -55,45 +55,49 @@ fn extend(width: u8, value: u64) -> u32
 /// An operand at an address: one that is read is read, one that is modified is checked for writing.
 #[inline]
 #[tactic(auto, using(vax_flat::proofs::Leaves::over_port_raises), unfolding(vax_flat::specs::Operand::at_address))]
-fn locate<P: Port>(txn: &mut Txn<P>, kind: OperandKind, addr: u32) -> Result<Operand, Cut>
+fn locate<P: Port>(txn: &mut Txn<P>, kind: OperandKind, addr: u32) -> Result<Operand, CutShort>
     requires width { IsWidth kind.width }
-    ensures exact { Follows (at_address kind addr (present P.view txn.old).state) (present P.view txn.old) result (present P.view txn.new) }
+    ensures exact { Follows (at_address kind addr (present P.view txn.old).state) (present P.view txn.old) (told txn.new result) (present P.view txn.new) }
     ensures fits { IfOk result (Fits kind) }
     ensures keeps { Keeps P.view P.since 0 txn.old txn.new }
 {
     match kind.letter {
         Letter::Read => match read(txn, addr, kind.width as u32) {
             Ok(value) => Ok(Operand::Value(value)),
-            Err(cut) => Err(cut),
+            Err(short) => Err(short),
         },
         Letter::Modify => match check(txn, addr, kind.width as u32, Access::Write) {
             Ok(()) => Ok(Operand::Memory(addr)),
-            Err(cut) => Err(cut),
+            Err(short) => Err(short),
         },
         Letter::Write => Ok(Operand::Memory(addr)),
         Letter::Address => Ok(Operand::Memory(addr)),
         Letter::Field => Ok(Operand::Memory(addr)),
-        Letter::Branch => Err(Cut::Event(Exception::Mode)),
+        Letter::Branch => Err(txn.cut(Cut::Event(Exception::Mode))),
     }
 }
 
 /// A literal, which is for an operand that is read alone.
 #[inline]
 #[tactic(auto, using(vax_flat::proofs::Leaves::over_port_raises), unfolding(vax_flat::specs::Operand::literal))]
-fn short_literal<P: Port>(txn: &mut Txn<P>, kind: OperandKind, value: u8) -> Result<Operand, Cut>
+fn short_literal<P: Port>(
+    txn: &mut Txn<P>,
+    kind: OperandKind,
+    value: u8,
+) -> Result<Operand, CutShort>
     requires small { value < 64 }
     requires width { IsWidth kind.width }
-    ensures exact { Follows (literal kind.letter value (present P.view txn.old).state) (present P.view txn.old) result (present P.view txn.new) }
+    ensures exact { Follows (literal kind.letter value (present P.view txn.old).state) (present P.view txn.old) (told txn.new result) (present P.view txn.new) }
     ensures fits { IfOk result (Fits kind) }
     ensures keeps { Keeps P.view P.since 0 txn.old txn.new }
 {
     match kind.letter {
         Letter::Read => Ok(Operand::Value(value as u64)),
-        Letter::Modify => Err(Cut::Event(Exception::Mode)),
-        Letter::Write => Err(Cut::Event(Exception::Mode)),
-        Letter::Address => Err(Cut::Event(Exception::Mode)),
-        Letter::Field => Err(Cut::Event(Exception::Mode)),
-        Letter::Branch => Err(Cut::Event(Exception::Mode)),
+        Letter::Modify => Err(txn.cut(Cut::Event(Exception::Mode))),
+        Letter::Write => Err(txn.cut(Cut::Event(Exception::Mode))),
+        Letter::Address => Err(txn.cut(Cut::Event(Exception::Mode))),
+        Letter::Field => Err(txn.cut(Cut::Event(Exception::Mode))),
+        Letter::Branch => Err(txn.cut(Cut::Event(Exception::Mode))),
     }
 }
 
@@ -119,40 +123,44 @@ pub(crate) fn value_in<P: Port>(txn: &Txn<P>, width: u8, n: u8) -> u64
 /// A register as an operand.
 #[inline]
 #[tactic(auto, using(vax_flat::proofs::Leaves::over_port_raises), unfolding(vax_flat::specs::Operand::in_register))]
-fn register_operand<P: Port>(txn: &mut Txn<P>, kind: OperandKind, n: u8) -> Result<Operand, Cut>
+fn register_operand<P: Port>(
+    txn: &mut Txn<P>,
+    kind: OperandKind,
+    n: u8,
+) -> Result<Operand, CutShort>
     requires of_core { n < 16 }
     requires width { IsWidth kind.width }
-    ensures exact { Follows (in_register kind n (present P.view txn.old).state) (present P.view txn.old) result (present P.view txn.new) }
+    ensures exact { Follows (in_register kind n (present P.view txn.old).state) (present P.view txn.old) (told txn.new result) (present P.view txn.new) }
     ensures fits { IfOk result (Fits kind) }
     ensures keeps { Keeps P.view P.since 0 txn.old txn.new }
 {
     if n == 15 || (kind.width == 8 && n == 14) {
-        return Err(Cut::Event(Exception::Mode));
+        return Err(txn.cut(Cut::Event(Exception::Mode)));
     }
     match kind.letter {
         Letter::Read => Ok(Operand::Value(value_in(txn, kind.width, n))),
         Letter::Modify => Ok(Operand::Register(n)),
         Letter::Write => Ok(Operand::Register(n)),
-        Letter::Address => Err(Cut::Event(Exception::Mode)),
+        Letter::Address => Err(txn.cut(Cut::Event(Exception::Mode))),
         Letter::Field => Ok(Operand::FieldRegister(n)),
-        Letter::Branch => Err(Cut::Event(Exception::Mode)),
+        Letter::Branch => Err(txn.cut(Cut::Event(Exception::Mode))),
     }
 }
 
 /// The address that a memory form gives, with what it does to its register.
 #[inline]
 #[tactic(auto, using(vax_flat::proofs::Leaves::over_port_raises), unfolding(vax_flat::specs::Operand::addressed))]
-fn address<P: Port>(txn: &mut Txn<P>, width: u8, form: Form) -> Result<u32, Cut>
+fn address<P: Port>(txn: &mut Txn<P>, width: u8, form: Form) -> Result<u32, CutShort>
     requires width { IsWidth width }
     requires form { IsForm form }
     requires room { 2 ≤ room txn.old }
-    ensures exact { Follows (addressed width form (present P.view txn.old).state) (present P.view txn.old) result (present P.view txn.new) }
+    ensures exact { Follows (addressed width form (present P.view txn.old).state) (present P.view txn.old) (told txn.new result) (present P.view txn.new) }
     ensures keeps { Keeps P.view P.since 2 txn.old txn.new }
 {
     match form {
-        Form::Literal(_) => Err(Cut::Event(Exception::Mode)),
-        Form::Index(_) => Err(Cut::Event(Exception::Mode)),
-        Form::Register(_) => Err(Cut::Event(Exception::Mode)),
+        Form::Literal(_) => Err(txn.cut(Cut::Event(Exception::Mode))),
+        Form::Index(_) => Err(txn.cut(Cut::Event(Exception::Mode))),
+        Form::Register(_) => Err(txn.cut(Cut::Event(Exception::Mode))),
         Form::Deferred(n) => Ok(txn.reg(n)),
         Form::Decrement(n) => {
             let addr = txn.reg(n).wrapping_sub(width as u32);
@@ -234,16 +242,20 @@ fn is_no_base(x: u8, form: Form) -> bool
 /// An operand of a memory form.
 #[inline(never)]
 #[tactic(auto, using(vax_flat::proofs::Leaves::over_port_raises), unfolding(vax_flat::specs::Operand::in_memory))]
-fn memory_operand<P: Port>(txn: &mut Txn<P>, kind: OperandKind, form: Form) -> Result<Operand, Cut>
+fn memory_operand<P: Port>(
+    txn: &mut Txn<P>,
+    kind: OperandKind,
+    form: Form,
+) -> Result<Operand, CutShort>
     requires width { IsWidth kind.width }
     requires form { IsForm form }
     requires room { 2 ≤ room txn.old }
-    ensures exact { Follows (in_memory kind form (present P.view txn.old).state) (present P.view txn.old) result (present P.view txn.new) }
+    ensures exact { Follows (in_memory kind form (present P.view txn.old).state) (present P.view txn.old) (told txn.new result) (present P.view txn.new) }
     ensures fits { IfOk result (Fits kind) }
     ensures keeps { Keeps P.view P.since 2 txn.old txn.new }
 {
     if is_reserved(kind.letter, form) {
-        return Err(Cut::Event(Exception::Mode));
+        return Err(txn.cut(Cut::Event(Exception::Mode)));
     }
     let addr = address(txn, kind.width, form)?;
     locate(txn, kind, addr)
@@ -252,15 +264,15 @@ fn memory_operand<P: Port>(txn: &mut Txn<P>, kind: OperandKind, form: Form) -> R
 /// An operand at the address in a register.
 #[inline(never)]
 #[tactic(auto, using(vax_flat::proofs::Leaves::over_port_raises), unfolding(vax_flat::specs::Operand::in_memory, vax_flat::specs::Operand::is_reserved, vax_flat::specs::Operand::addressed))]
-fn deferred<P: Port>(txn: &mut Txn<P>, kind: OperandKind, n: u8) -> Result<Operand, Cut>
+fn deferred<P: Port>(txn: &mut Txn<P>, kind: OperandKind, n: u8) -> Result<Operand, CutShort>
     requires width { IsWidth kind.width }
     requires of_core { n < 16 }
-    ensures exact { Follows (in_memory kind (Form.Deferred n) (present P.view txn.old).state) (present P.view txn.old) result (present P.view txn.new) }
+    ensures exact { Follows (in_memory kind (Form.Deferred n) (present P.view txn.old).state) (present P.view txn.old) (told txn.new result) (present P.view txn.new) }
     ensures fits { IfOk result (Fits kind) }
     ensures keeps { Keeps P.view P.since 0 txn.old txn.new }
 {
     if n == 15 {
-        return Err(Cut::Event(Exception::Mode));
+        return Err(txn.cut(Cut::Event(Exception::Mode)));
     }
     let addr = txn.reg(n);
     locate(txn, kind, addr)
@@ -269,16 +281,16 @@ fn deferred<P: Port>(txn: &mut Txn<P>, kind: OperandKind, n: u8) -> Result<Opera
 /// An operand at the address in a register, which then moves past it. With PC it is an immediate.
 #[inline(never)]
 #[tactic(auto, using(vax_flat::proofs::Leaves::over_port_raises), unfolding(vax_flat::specs::Operand::in_memory, vax_flat::specs::Operand::is_reserved, vax_flat::specs::Operand::addressed))]
-fn incremented<P: Port>(txn: &mut Txn<P>, kind: OperandKind, n: u8) -> Result<Operand, Cut>
+fn incremented<P: Port>(txn: &mut Txn<P>, kind: OperandKind, n: u8) -> Result<Operand, CutShort>
     requires width { IsWidth kind.width }
     requires of_core { n < 16 }
     requires room { 1 ≤ room txn.old }
-    ensures exact { Follows (in_memory kind (Form.Increment n) (present P.view txn.old).state) (present P.view txn.old) result (present P.view txn.new) }
+    ensures exact { Follows (in_memory kind (Form.Increment n) (present P.view txn.old).state) (present P.view txn.old) (told txn.new result) (present P.view txn.new) }
     ensures fits { IfOk result (Fits kind) }
     ensures keeps { Keeps P.view P.since 1 txn.old txn.new }
 {
     if is_reserved(kind.letter, Form::Increment(n)) {
-        return Err(Cut::Event(Exception::Mode));
+        return Err(txn.cut(Cut::Event(Exception::Mode)));
     }
     let addr = txn.reg(n);
     txn.set_reg(n, addr.wrapping_add(kind.width as u32));
@@ -288,12 +300,17 @@ fn incremented<P: Port>(txn: &mut Txn<P>, kind: OperandKind, n: u8) -> Result<Op
 /// An operand at a displacement from a register.
 #[inline(never)]
 #[tactic(auto, using(vax_flat::proofs::Leaves::over_port_raises), unfolding(vax_flat::specs::Operand::in_memory, vax_flat::specs::Operand::is_reserved, vax_flat::specs::Operand::addressed))]
-fn displaced<P: Port>(txn: &mut Txn<P>, kind: OperandKind, width: u8, n: u8) -> Result<Operand, Cut>
+fn displaced<P: Port>(
+    txn: &mut Txn<P>,
+    kind: OperandKind,
+    width: u8,
+    n: u8,
+) -> Result<Operand, CutShort>
     requires width { IsWidth kind.width }
     requires displacement { IsDisplacement width }
     requires of_core { n < 16 }
     requires room { 1 ≤ room txn.old }
-    ensures exact { Follows (in_memory kind (Form.Displacement width n) (present P.view txn.old).state) (present P.view txn.old) result (present P.view txn.new) }
+    ensures exact { Follows (in_memory kind (Form.Displacement width n) (present P.view txn.old).state) (present P.view txn.old) (told txn.new result) (present P.view txn.new) }
     ensures fits { IfOk result (Fits kind) }
     ensures keeps { Keeps P.view P.since 1 txn.old txn.new }
 {
@@ -302,7 +319,7 @@ fn displaced<P: Port>(txn: &mut Txn<P>, kind: OperandKind, width: u8, n: u8) -> 
             let addr = txn.reg(n).wrapping_add(extend(width, value));
             locate(txn, kind, addr)
         }
-        Err(cut) => Err(cut),
+        Err(short) => Err(short),
     }
 }
 
@@ -313,17 +330,17 @@ fn indexed_operand<P: Port>(
     kind: OperandKind,
     x: u8,
     base: Form,
-) -> Result<Operand, Cut>
+) -> Result<Operand, CutShort>
     requires width { IsWidth kind.width }
     requires of_core { x < 16 }
     requires form { IsForm base }
     requires room { 2 ≤ room txn.old }
-    ensures exact { Follows (indexed kind x base (present P.view txn.old).state) (present P.view txn.old) result (present P.view txn.new) }
+    ensures exact { Follows (indexed kind x base (present P.view txn.old).state) (present P.view txn.old) (told txn.new result) (present P.view txn.new) }
     ensures fits { IfOk result (Fits kind) }
     ensures keeps { Keeps P.view P.since 2 txn.old txn.new }
 {
     if is_no_base(x, base) {
-        return Err(Cut::Event(Exception::Mode));
+        return Err(txn.cut(Cut::Event(Exception::Mode)));
     }
     let addr = address(txn, kind.width, base)?;
     let offset = (kind.width as u32).wrapping_mul(txn.reg(x));
@@ -333,16 +350,16 @@ fn indexed_operand<P: Port>(
 /// What follows the prefix of an index by register `x`.
 #[inline(never)]
 #[tactic(auto, using(vax_flat::proofs::Leaves::over_port_raises), unfolding(vax_flat::specs::Operand::after_prefix))]
-fn after_prefix<P: Port>(txn: &mut Txn<P>, kind: OperandKind, x: u8) -> Result<Operand, Cut>
+fn after_prefix<P: Port>(txn: &mut Txn<P>, kind: OperandKind, x: u8) -> Result<Operand, CutShort>
     requires width { IsWidth kind.width }
     requires of_core { x < 16 }
     requires room { 3 ≤ room txn.old }
-    ensures exact { Follows (after_prefix kind x (present P.view txn.old).state) (present P.view txn.old) result (present P.view txn.new) }
+    ensures exact { Follows (after_prefix kind x (present P.view txn.old).state) (present P.view txn.old) (told txn.new result) (present P.view txn.new) }
     ensures fits { IfOk result (Fits kind) }
     ensures keeps { Keeps P.view P.since 3 txn.old txn.new }
 {
     if x == 15 {
-        return Err(Cut::Event(Exception::Mode));
+        return Err(txn.cut(Cut::Event(Exception::Mode)));
     }
     let byte = fetch(txn, 1)? as u8;
     indexed_operand(txn, kind, x, decode(byte))
@@ -351,10 +368,10 @@ fn after_prefix<P: Port>(txn: &mut Txn<P>, kind: OperandKind, x: u8) -> Result<O
 /// An operand of a specifier byte. The usual ones are told from the byte alone: a form is made for the others.
 #[inline]
 #[tactic(auto, unfolding(vax_flat::specs::Operand::formed, vax_flat::specs::Operand::form_of))]
-fn by_byte<P: Port>(txn: &mut Txn<P>, kind: OperandKind, byte: u8) -> Result<Operand, Cut>
+fn by_byte<P: Port>(txn: &mut Txn<P>, kind: OperandKind, byte: u8) -> Result<Operand, CutShort>
     requires width { IsWidth kind.width }
     requires room { 3 ≤ room txn.old }
-    ensures exact { Follows (formed kind (form_of byte) (present P.view txn.old).state) (present P.view txn.old) result (present P.view txn.new) }
+    ensures exact { Follows (formed kind (form_of byte) (present P.view txn.old).state) (present P.view txn.old) (told txn.new result) (present P.view txn.new) }
     ensures fits { IfOk result (Fits kind) }
     ensures keeps { Keeps P.view P.since 3 txn.old txn.new }
 {
@@ -400,26 +417,26 @@ fn by_byte<P: Port>(txn: &mut Txn<P>, kind: OperandKind, byte: u8) -> Result<Ope
 /// A specifier at PC.
 #[inline]
 #[tactic(auto, unfolding(vax_flat::specs::Operand::specified))]
-fn specified<P: Port>(txn: &mut Txn<P>, kind: OperandKind) -> Result<Operand, Cut>
+fn specified<P: Port>(txn: &mut Txn<P>, kind: OperandKind) -> Result<Operand, CutShort>
     requires width { IsWidth kind.width }
     requires room { 4 ≤ room txn.old }
-    ensures exact { Follows (specified kind (present P.view txn.old).state) (present P.view txn.old) result (present P.view txn.new) }
+    ensures exact { Follows (specified kind (present P.view txn.old).state) (present P.view txn.old) (told txn.new result) (present P.view txn.new) }
     ensures fits { IfOk result (Fits kind) }
     ensures keeps { Keeps P.view P.since 4 txn.old txn.new }
 {
     match fetch(txn, 1) {
         Ok(byte) => by_byte(txn, kind, byte as u8),
-        Err(cut) => Err(cut),
+        Err(short) => Err(short),
     }
 }
 
 /// A branch displacement at PC.
 #[inline]
 #[tactic(auto, unfolding(vax_flat::specs::Operand::branched))]
-fn branch_target<P: Port>(txn: &mut Txn<P>, width: u8) -> Result<Operand, Cut>
+fn branch_target<P: Port>(txn: &mut Txn<P>, width: u8) -> Result<Operand, CutShort>
     requires width { IsDisplacement width }
     requires room { 1 ≤ room txn.old }
-    ensures exact { Follows (branched width (present P.view txn.old).state) (present P.view txn.old) result (present P.view txn.new) }
+    ensures exact { Follows (branched width (present P.view txn.old).state) (present P.view txn.old) (told txn.new result) (present P.view txn.new) }
     ensures target { IfOk result IsTarget }
     ensures keeps { Keeps P.view P.since 1 txn.old txn.new }
 {
@@ -428,18 +445,18 @@ fn branch_target<P: Port>(txn: &mut Txn<P>, width: u8) -> Result<Operand, Cut>
             let displacement = extend(width, value);
             Ok(Operand::Target(txn.reg(15).wrapping_add(displacement)))
         }
-        Err(cut) => Err(cut),
+        Err(short) => Err(short),
     }
 }
 
 /// One operand, by its letter.
 #[inline]
 #[tactic(auto, unfolding(vax_flat::specs::Operand::next_operand))]
-fn by_letter<P: Port>(txn: &mut Txn<P>, kind: OperandKind) -> Result<Operand, Cut>
+fn by_letter<P: Port>(txn: &mut Txn<P>, kind: OperandKind) -> Result<Operand, CutShort>
     requires width { IsWidth kind.width }
     requires displacement { kind.letter ≡ Letter.Branch → IsDisplacement kind.width }
     requires room { 4 ≤ room txn.old }
-    ensures exact { Follows (next_operand kind (present P.view txn.old).state) (present P.view txn.old) result (present P.view txn.new) }
+    ensures exact { Follows (next_operand kind (present P.view txn.old).state) (present P.view txn.old) (told txn.new result) (present P.view txn.new) }
     ensures fits { IfOk result (Fits kind) }
     ensures keeps { Keeps P.view P.since 4 txn.old txn.new }
 {
@@ -459,12 +476,12 @@ fn by_letter<P: Port>(txn: &mut Txn<P>, kind: OperandKind) -> Result<Operand, Cu
 /// The cut is the reserved addressing mode exception, an access violation, or the first page of the specifier that is absent. `exact`
 /// says what the call does to whatever comes next, `everywhere` the same of each memory that the port stands for.
 #[inline]
-pub fn next<P: Port>(txn: &mut Txn<P>, kind: OperandKind) -> Result<Operand, Cut>
+pub fn next<P: Port>(txn: &mut Txn<P>, kind: OperandKind) -> Result<Operand, CutShort>
     requires width { IsWidth kind.width }
     requires displacement { kind.letter ≡ Letter.Branch → IsDisplacement kind.width }
     requires room { 4 ≤ room txn.old }
-    ensures exact { Follows (next_operand kind (present P.view txn.old).state) (present P.view txn.old) result (present P.view txn.new) }
-    ensures everywhere { LocatesEverywhere (next_operand kind (present P.view txn.old).state) (present P.view txn.old) result (present P.view txn.new) }
+    ensures exact { Follows (next_operand kind (present P.view txn.old).state) (present P.view txn.old) (told txn.new result) (present P.view txn.new) }
+    ensures everywhere { LocatesEverywhere (next_operand kind (present P.view txn.old).state) (present P.view txn.old) (told txn.new result) (present P.view txn.new) }
     ensures fits { IfOk result (Fits kind) }
     ensures keeps { Keeps P.view P.since 4 txn.old txn.new }
 {

@@ -79,7 +79,10 @@ fn operand_at(alloc: Global, port: &mut Plain, kind: OperandKind, pc: u32) -> Re
         out: None,
     };
     let mut txn = Txn::begin(&mut core, &mut term, port);
-    let operand = next(&mut txn, kind);
+    let operand = match next(&mut txn, kind) {
+        Ok(operand) => Ok(operand),
+        Err(CutShort) => Err(txn.why()),
+    };
     let _ = txn.commit();
     operand
 }

@@ -1,8 +1,9 @@
 -- What keeps a transaction.
-use Rattle.std.proofs.Common.{Bool, true, zero, suc, inl, inr, ◌≡◌, ℕ, ◌^◌, ◌<◌, Option, Some, None, Result, Ok, Err, List, [], ◌∷◌, ◌++◌, refl, ap, sym, subst, ◌∙◌, arith, length-append}
+use Rattle.std.proofs.Common.{Bool, true, false, zero, suc, inl, inr, ◌≡◌, ℕ, ◌^◌, ◌<◌, Option, Some, None, Result, Ok, Err, List, [], ◌∷◌, ◌++◌, refl, ap, sym, subst, ◌∙◌, arith, length-append}
 use Rattle.std.proofs.lemmas.Bool.{cases_Bool}
 use Rattle.std.proofs.lemmas.List.{set-get_or, set-set}
-use Rattle.std.specs.Prelude.{slice_index, slice_set, IfOk}
+use Rattle.std.proofs.Math.Path.{fun_ext}
+use Rattle.std.specs.Prelude.{slice_index, slice_set, IfOk, ◌||◌}
 use Rattle.vax_space.specs.declared.Access.TheVariants.{Read, Write}
 use Rattle.vax_space.specs.declared.Area.{Area}
 use Rattle.vax_space.specs.declared.Violation.{Violation}
@@ -13,7 +14,7 @@ use Rattle.vax_space.specs.Areas.{prot_of}
 use Rattle.vax_space.specs.Reference.{violation, violation_at, may_access, permitted, page_of, byte_after}
 use Rattle.vax_flat.specs.declared.Stop.{Stop}
 use Rattle.vax_flat.specs.Memory.{number}
-use Rattle.vax_flat.specs.Port.{View, AreBytes, first_absent, stop, stop_of, loaded, loaded_by, stored, with_number}
+use Rattle.vax_flat.specs.Port.{View, AreBytes, put, first_absent, stop, stop_of, loaded, loaded_by, stored, with_number, with_number_back, is_in, marking, unmarked}
 use Rattle.vax_flat.specs.OverPort.{Present}
 use Rattle.vax_flat.specs.State.{with_register}
 use Rattle.vax_flat.proofs.Bytes.{put_back as put-put, number-below}
@@ -22,28 +23,93 @@ use Rattle.vax_undo.specs.declared.entry.Kept.{Kept}
 use Rattle.vax_undo.specs.declared.entry.Kept.TheVariants as kept
 use Rattle.vax_undo.specs.declared.txn.Txn.{Txn as Transaction}
 use Rattle.vax_undo.specs.declared.txn.Origin.{Origin}
-use Rattle.vax_undo.specs.Transaction.{put_back, undo, undo_all, restart, with_state, Allows, AllowsAll, present, IsSame, Keeps}
+use Rattle.vax_undo.specs.Transaction.{bare, put_back, undo, undo_all, restart, with_state, Allows, AllowsAll, present, IsSame, Keeps}
 
 pub undo_all-append : (log : List Entry) (e : Entry) (p : Present) → undo_all (log ++ e ∷ []) p ≡ undo_all log (undo e p)
 undo_all-append [] e p = refl
 undo_all-append (x ∷ xs) e p = ap (undo x) (undo_all-append xs e p)
 
-pub allows_one_more : (areas : List Area) (resident : ℕ → Bool) (log : List Entry) (e : Entry) → AllowsAll areas resident log → Allows areas resident e.kept e → AllowsAll areas resident (log ++ e ∷ [])
-allows_one_more areas resident [] e all one = (one, all)
-allows_one_more areas resident (x ∷ xs) e all one = (all.0, allows_one_more areas resident xs e all.1 one)
+-- a range that is marked stays as it is where it is marked again
+module _ (marked : ℕ → Bool) (addr len : ℕ) (all : (page : ℕ) → is_in addr len page ≡ true → marked page ≡ true) where
+  marks_here : (page : ℕ) (here there : Bool) → marked page ≡ here → is_in addr len page ≡ there → marking marked addr len page ≡ marked page
+  marks_here page true there h t = rw h refl
+  marks_here page false true h t = let no : false ≡ true = sym h ∙ all page t in cc
+  marks_here page false false h t = rw (h, t) refl
+
+  pub marked_again : marking marked addr len ≡ marked
+  marked_again = fun_ext λ page. marks_here page (marked page) (is_in addr len page) refl refl
+
+  -- an old number that is put back where the range is marked
+  pub put_again : (view : View) (value mode : ℕ) → view.marked ≡ marked → violation view.areas addr len mode Write ≡ None → first_absent view.resident addr len ≡ None → stored view addr len value mode ≡ with_number_back view addr len value
+  put_again view value mode is v p = rw (v, p) (ap (λ (m : ℕ → Bool). record view { byte = put view.byte addr len value; marked = m }) (ap (λ (m : ℕ → Bool). marking m addr len) is ∙ (marked_again ∙ sym is)))
+
+pub allows_one_more : (areas : List Area) (resident marked : ℕ → Bool) (log : List Entry) (e : Entry) → AllowsAll areas resident marked log → Allows areas resident marked e.kept e → AllowsAll areas resident marked (log ++ e ∷ [])
+allows_one_more areas resident marked [] e all one = (one, all)
+allows_one_more areas resident marked (x ∷ xs) e all one = (all.0, allows_one_more areas resident marked xs e all.1 one)
+
+-- more pages may be marked
+module _ (areas : List Area) (resident old new : ℕ → Bool) (more : (page : ℕ) → old page ≡ true → new page ≡ true) where
+  allows_marked : (k : Kept) (e : Entry) → Allows areas resident old k e → Allows areas resident new k e
+  allows_marked kept.Register e a = a
+  allows_marked kept.Stack e a = a
+  allows_marked kept.Requests e a = a
+  allows_marked kept.Timer e a = a
+  allows_marked kept.Clock e a = a
+  allows_marked kept.Taken e a = a
+  allows_marked kept.Sent e a = a
+  allows_marked kept.Bytes e a = (a.0, a.1, a.2, a.3, a.4, a.5, λ page h. more page (a.6 page h))
+
+  pub all_marked : (log : List Entry) → AllowsAll areas resident old log → AllowsAll areas resident new log
+  all_marked [] all = all
+  all_marked (e ∷ es) all = (allows_marked e.kept e all.0, all_marked es all.1)
+
+-- undoing an entry leaves the marks
+put_back-marked : (k : Kept) (e : Entry) (p : Present) → (put_back k e p).view.marked ≡ p.view.marked
+put_back-marked kept.Register e p = refl
+put_back-marked kept.Stack e p = refl
+put_back-marked kept.Requests e p = refl
+put_back-marked kept.Timer e p = refl
+put_back-marked kept.Clock e p = refl
+put_back-marked kept.Taken e p = refl
+put_back-marked kept.Sent e p = refl
+put_back-marked kept.Bytes e p = refl
+
+put_back-bare : (k : Kept) (e : Entry) (p : Present) → bare (put_back k e p) ≡ put_back k e (bare p)
+put_back-bare kept.Register e p = refl
+put_back-bare kept.Stack e p = refl
+put_back-bare kept.Requests e p = refl
+put_back-bare kept.Timer e p = refl
+put_back-bare kept.Clock e p = refl
+put_back-bare kept.Taken e p = refl
+put_back-bare kept.Sent e p = refl
+put_back-bare kept.Bytes e p = refl
+
+-- one more entry, which undoes what was done but for the marks
+pub logged_marked : {P : Type 0} (view : P → View) (along : P → P → Type 0) (old new : Transaction P) (e : Entry) →
+    new.log.items ≡ old.log.items ++ e ∷ [] → new.origin ≡ old.origin → IsSame along old new → undo e (bare (present view new)) ≡ bare (present view old) →
+    (view new.port.now).areas ≡ (view old.port.now).areas → (view new.port.now).resident ≡ (view old.port.now).resident →
+    ((page : ℕ) → (view old.port.now).marked page ≡ true → (view new.port.now).marked page ≡ true) →
+    Allows (view old.port.now).areas (view old.port.now).resident (view new.port.now).marked e.kept e → Keeps view along 1 old new
+logged_marked view along old new e items origin same back areas resident more one = record {
+  undone = ap (λ o. restart o (undo_all new.log.items (bare (present view new)))) origin
+      ∙ ap (restart old.origin) (ap (λ log. undo_all log (bare (present view new))) items ∙ (undo_all-append old.log.items e (bare (present view new)) ∙ ap (undo_all old.log.items) back));
+  ready = λ ready. rw (items, areas, resident)
+      (allows_one_more (view old.port.now).areas (view old.port.now).resident (view new.port.now).marked old.log.items e
+      (all_marked (view old.port.now).areas (view old.port.now).resident (view old.port.now).marked (view new.port.now).marked more old.log.items ready) one);
+  room = rw items (simp length-append (omega arith));
+  same = same;
+}
 
 -- one more entry, which undoes what was done
 pub logged : {P : Type 0} (view : P → View) (along : P → P → Type 0) (old new : Transaction P) (e : Entry) →
     new.log.items ≡ old.log.items ++ e ∷ [] → new.origin ≡ old.origin → IsSame along old new → undo e (present view new) ≡ present view old →
     (view new.port.now).areas ≡ (view old.port.now).areas → (view new.port.now).resident ≡ (view old.port.now).resident →
-    Allows (view old.port.now).areas (view old.port.now).resident e.kept e → Keeps view along 1 old new
-logged view along old new e items origin same back areas resident one = record {
-  undone = ap (λ o. restart o (undo_all new.log.items (present view new))) origin
-      ∙ ap (restart old.origin) (ap (λ log. undo_all log (present view new)) items ∙ (undo_all-append old.log.items e (present view new) ∙ ap (undo_all old.log.items) back));
-  ready = λ ready. rw (items, areas, resident) (allows_one_more (view old.port.now).areas (view old.port.now).resident old.log.items e ready one);
-  room = rw items (simp length-append (omega arith));
-  same = same;
-}
+    Allows (view old.port.now).areas (view old.port.now).resident (view old.port.now).marked e.kept e → Keeps view along 1 old new
+logged view along old new e items origin same back areas resident one =
+    let marks : (view new.port.now).marked ≡ (view old.port.now).marked = sym (put_back-marked e.kept e (present view new)) ∙ ap (λ (p : Present). p.view.marked) back in
+    logged_marked view along old new e items origin same (sym (put_back-bare e.kept e (present view new)) ∙ ap bare back) areas resident
+    (λ page h. ap (λ (m : ℕ → Bool). m page) marks ∙ h)
+    (subst (λ (m : ℕ → Bool). Allows (view old.port.now).areas (view old.port.now).resident m e.kept e) (sym marks) one)
 
 -- a register that is put back at the end may have been anything before
 sets_over : (xs : List ℕ) (n m v w : ℕ) → slice_set (slice_set xs n v) m w ≡ slice_set (slice_set (slice_set xs m w) n v) m w
@@ -153,10 +219,21 @@ pub full_store : (view : View) (addr len value mode : ℕ) → None ≡ stop vie
 full_store view addr len value mode h = rw (← h) refl
 
 -- the bytes before a write are put back
-pub bytes_back : (view : View) (addr len value old mode : ℕ) → AreBytes view.byte → Ok old ≡ loaded view addr len mode → with_number (with_number view addr len value) addr len old ≡ view
+pub bytes_back : (view : View) (addr len value old mode : ℕ) → AreBytes view.byte → Ok old ≡ loaded view addr len mode → with_number_back (unmarked (with_number view addr len value)) addr len old ≡ unmarked view
 bytes_back view addr len value old mode bytes r =
     let e = loaded_none (stop view addr len mode Read) (number view.byte addr len) old (sym r) in
-    rw (← e.1) (ap (λ (byte : ℕ → ℕ). record view { byte = byte }) (put-put view.byte addr len value bytes))
+    rw (← e.1) (ap (λ (byte : ℕ → ℕ). unmarked (record view { byte = byte })) (put-put view.byte addr len value bytes))
+
+-- a write leaves the marks, and marks its range
+pub marks_stay : (marked : ℕ → Bool) (addr len page : ℕ) → marked page ≡ true → marking marked addr len page ≡ true
+marks_stay marked addr len page h = rw h refl
+
+either : (a b : Bool) → b ≡ true → a || b ≡ true
+either true b h = refl
+either false b h = h
+
+pub marks_range : (marked : ℕ → Bool) (addr len page : ℕ) → is_in addr len page ≡ true → marking marked addr len page ≡ true
+marks_range marked addr len page h = either (marked page) (is_in addr len page) h
 
 pub old_fits : (view : View) (addr len old mode : ℕ) → AreBytes view.byte → Ok old ≡ loaded view addr len mode → old < 256 ^ len
 old_fits view addr len old mode bytes r =
@@ -168,16 +245,16 @@ loaded_fits view addr len mode (Ok v) bytes e = old_fits view addr len v mode by
 loaded_fits view addr len mode (Err s) bytes e = tt
 
 -- one turn of unwinding
-pub unwound : (log rest : List Entry) (e : Entry) (p now start : Present) → log ≡ rest ++ e ∷ [] → now ≡ undo e p → undo_all log p ≡ start → undo_all rest now ≡ start
+pub unwound : (log rest : List Entry) (e : Entry) (p now start : Present) → log ≡ rest ++ e ∷ [] → now ≡ undo e p → undo_all log (bare p) ≡ start → undo_all rest (bare now) ≡ start
 unwound log rest e p now start items back before =
-    rw back (sym (undo_all-append rest e p) ∙ (ap (λ l. undo_all l p) (sym items) ∙ before))
+    rw (back, put_back-bare e.kept e p) (sym (undo_all-append rest e (bare p)) ∙ (ap (λ l. undo_all l (bare p)) (sym items) ∙ before))
 
-parts_of : (areas : List Area) (resident : ℕ → Bool) (rest : List Entry) (e : Entry) → AllowsAll areas resident (rest ++ e ∷ []) → AllowsAll areas resident rest × Allows areas resident e.kept e
-parts_of areas resident [] e all = (tt, all.0)
-parts_of areas resident (x ∷ xs) e all = let p = parts_of areas resident xs e all.1 in ((all.0, p.0), p.1)
+parts_of : (areas : List Area) (resident marked : ℕ → Bool) (rest : List Entry) (e : Entry) → AllowsAll areas resident marked (rest ++ e ∷ []) → AllowsAll areas resident marked rest × Allows areas resident marked e.kept e
+parts_of areas resident marked [] e all = (tt, all.0)
+parts_of areas resident marked (x ∷ xs) e all = let p = parts_of areas resident marked xs e all.1 in ((all.0, p.0), p.1)
 
-pub last_allowed : (areas : List Area) (resident : ℕ → Bool) (log rest : List Entry) (e : Entry) → log ≡ rest ++ e ∷ [] → AllowsAll areas resident log → AllowsAll areas resident rest × Allows areas resident e.kept e
-last_allowed areas resident log rest e items all = parts_of areas resident rest e (subst (AllowsAll areas resident) items all)
+pub last_allowed : (areas : List Area) (resident marked : ℕ → Bool) (log rest : List Entry) (e : Entry) → log ≡ rest ++ e ∷ [] → AllowsAll areas resident marked log → AllowsAll areas resident marked rest × Allows areas resident marked e.kept e
+last_allowed areas resident marked log rest e items all = parts_of areas resident marked rest e (subst (AllowsAll areas resident marked) items all)
 
 pub present_alike : (p q : Present) → p.state ≡ q.state → p.view ≡ q.view → p ≡ q
 present_alike p q s v = ap (λ x. record { state = x; view = p.view }) s ∙ ap (λ x. record { state = q.state; view = x }) v
@@ -203,5 +280,8 @@ put_back-resident kept.Taken e p = refl
 put_back-resident kept.Sent e p = refl
 put_back-resident kept.Bytes e p = refl
 
-pub still_allowed : (e : Entry) (p : Present) (now : View) (log : List Entry) → now ≡ (undo e p).view → AllowsAll p.view.areas p.view.resident log → AllowsAll now.areas now.resident log
-still_allowed e p now log is all = rw (is, put_back-areas e.kept e p, put_back-resident e.kept e p) all
+pub still_allowed : (e : Entry) (p : Present) (now : View) (log : List Entry) → now ≡ (undo e p).view → AllowsAll p.view.areas p.view.resident p.view.marked log → AllowsAll now.areas now.resident now.marked log
+still_allowed e p now log is all = rw (is, put_back-areas e.kept e p, put_back-resident e.kept e p, put_back-marked e.kept e p) all
+
+pub still_marked : (e : Entry) (p : Present) (now : View) → now ≡ (undo e p).view → now.marked ≡ p.view.marked
+still_marked e p now is = ap (λ (v : View). v.marked) is ∙ put_back-marked e.kept e p

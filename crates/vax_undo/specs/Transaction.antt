@@ -1,16 +1,20 @@
 -- What a transaction means, and how its log is undone.
-use Rattle.std.specs.Prelude.{◌≡◌, ℕ, ◌+◌, ◌-◌, ◌^◌, ◌<◌, ◌≤◌, Bool, nat_lt, if◌then◌else◌, Option, Some, None, List, [], ◌∷◌, length, slice_get}
+use Rattle.std.specs.Prelude.{◌≡◌, ℕ, ◌+◌, ◌-◌, ◌^◌, ◌<◌, ◌≤◌, Bool, true, nat_lt, if◌then◌else◌, Option, Some, None, Result, Ok, Err, List, [], ◌∷◌, length}
 use Rattle.vax_word.specs.declared.Core.{Core}
 use Rattle.vax_space.specs.declared.Access.TheVariants.{Write}
 use Rattle.vax_space.specs.declared.Area.{Area}
 use Rattle.vax_space.specs.Reference.{violation}
-use Rattle.vax_flat.specs.State.{State, with_register, with_psl, with_stack, with_requests, with_timer, with_clock, with_taken, with_sent}
-use Rattle.vax_flat.specs.Port.{View, first_absent, with_number}
+use Rattle.vax_flat.specs.declared.Cut.{Cut}
+use Rattle.vax_flat.specs.declared.Flow.{Flow}
+use Rattle.vax_flat.specs.declared.Flow.TheVariants as flow
+use Rattle.vax_flat.specs.State.{State, with_register, with_psl, with_stack, with_requests, with_timer, with_clock, with_taken, with_sent, next_input}
+use Rattle.vax_flat.specs.Port.{View, first_absent, is_in, unmarked, with_number_back}
 use Rattle.vax_flat.specs.OverPort.{Present}
 use Rattle.vax_undo.specs.declared.entry.Entry.{Entry}
 use Rattle.vax_undo.specs.declared.entry.Kept.{Kept}
 use Rattle.vax_undo.specs.declared.entry.Kept.TheVariants.{Register, Stack, Requests, Timer, Clock, Taken, Sent, Bytes}
 use Rattle.vax_undo.specs.declared.term.Term.{Term}
+use Rattle.vax_undo.specs.declared.txn.CutShort.{CutShort}
 use Rattle.vax_undo.specs.declared.txn.Origin.{Origin}
 use Rattle.vax_undo.specs.declared.txn.Txn.{Txn as Transaction}
 
@@ -24,9 +28,13 @@ with_state p s = record { state = s; view = p.view }
 abbrev pub with_view : Present → View → Present
 with_view p v = record { state = p.state; view = v }
 
+-- what counts where the marks don't: a page stays marked once it was written to, also where the write is undone
+abbrev pub bare : Present → Present
+bare p = with_view p (unmarked p.view)
+
 -- the next byte of the console's input, and the state once it is taken
 abbrev pub next_byte : State → Option ℕ
-next_byte s = slice_get s.input s.taken
+next_byte s = next_input s
 
 abbrev pub if_some : {A B : Type 0} → Option A → B → B → B
 if_some None x y = x
@@ -48,7 +56,7 @@ put_back Timer e p = with_state p (with_timer p.state e.old)
 put_back Clock e p = with_state p (with_clock p.state e.old)
 put_back Taken e p = with_state p (with_taken p.state e.old)
 put_back Sent e p = with_state p (with_sent p.state (sent_of e.old))
-put_back Bytes e p = with_view p (with_number p.view e.addr e.number e.old)
+put_back Bytes e p = with_view p (with_number_back p.view e.addr e.number e.old)
 
 abbrev pub undo : Entry → Present → Present
 undo e p = put_back e.kept e p
@@ -62,31 +70,38 @@ undo_all (e ∷ es) p = undo e (undo_all es p)
 abbrev pub restart : Origin → Present → Present
 restart origin p = with_state p (with_psl (with_register p.state 15 origin.pc) origin.psl)
 
--- what undoing an entry needs of the areas and of the resident pages: bytes are put back where the mode may write and the pages are there
-abbrev pub Allows : List Area → (ℕ → Bool) → Kept → Entry → Type 0
-Allows areas resident Register e = (e.number < 16) × (e.old < 2 ^ 32)
-Allows areas resident Stack e = (e.number < 5) × (e.old < 2 ^ 32)
-Allows areas resident Requests e = e.old < 2 ^ 16
-Allows areas resident Timer e = e.old < 2 ^ 8
-Allows areas resident Clock e = e.old < 2 ^ 16
-Allows areas resident Taken e = e.old < 2 ^ 32
-Allows areas resident Sent e = Unit {0}
-Allows areas resident Bytes e =
+-- what undoing an entry needs of the areas, of the resident pages and of the marked ones: bytes are put back where the mode may write and the
+-- pages are there, and where the write that they undo has marked them
+abbrev pub Allows : List Area → (ℕ → Bool) → (ℕ → Bool) → Kept → Entry → Type 0
+Allows areas resident marked Register e = (e.number < 16) × (e.old < 2 ^ 32)
+Allows areas resident marked Stack e = (e.number < 5) × (e.old < 2 ^ 32)
+Allows areas resident marked Requests e = e.old < 2 ^ 16
+Allows areas resident marked Timer e = e.old < 2 ^ 8
+Allows areas resident marked Clock e = e.old < 2 ^ 16
+Allows areas resident marked Taken e = e.old < 2 ^ 32
+Allows areas resident marked Sent e = Unit {0}
+Allows areas resident marked Bytes e =
     (1 ≤ e.number) × (e.number ≤ 8) × (e.mode ≤ 3) × (e.old < 256 ^ e.number)
     × (violation areas e.addr e.number e.mode Write ≡ None) × (first_absent resident e.addr e.number ≡ None)
+    × ((page : ℕ) → is_in e.addr e.number page ≡ true → marked page ≡ true)
 
-abbrev pub AllowsAll : List Area → (ℕ → Bool) → List Entry → Type 0
-AllowsAll areas resident [] = Unit {0}
-AllowsAll areas resident (e ∷ es) = Allows areas resident e.kept e × AllowsAll areas resident es
+abbrev pub AllowsAll : List Area → (ℕ → Bool) → (ℕ → Bool) → List Entry → Type 0
+AllowsAll areas resident marked [] = Unit {0}
+AllowsAll areas resident marked (e ∷ es) = Allows areas resident marked e.kept e × AllowsAll areas resident marked es
 
 module _ {P : Type 0} where
   -- what a transaction works on, as it is now
   abbrev pub present : (P → View) → Transaction P → Present
   present view t = record { state = state_of t.core.now t.term.now; view = view t.port.now }
 
-  -- what comes out when the log is undone
+  -- what a call answers, where the transaction says what cut the work short
+  abbrev pub told : {X : Type 0} → Transaction P → Result X CutShort → Result X Cut
+  told t (Ok x) = Ok x
+  told t (Err short) = Err t.why
+
+  -- what comes out when the log is undone, but for the marks
   abbrev pub undone : (P → View) → Transaction P → Present
-  undone view t = restart t.origin (undo_all t.log.items (present view t))
+  undone view t = restart t.origin (undo_all t.log.items (bare (present view t)))
 
   -- how many more entries the log takes
   abbrev pub room : Transaction P → ℕ
@@ -94,7 +109,7 @@ module _ {P : Type 0} where
 
   -- the log can be undone
   abbrev pub IsReady : (P → View) → Transaction P → Type 0
-  IsReady view t = AllowsAll (view t.port.now).areas (view t.port.now).resident t.log.items
+  IsReady view t = AllowsAll (view t.port.now).areas (view t.port.now).resident (view t.port.now).marked t.log.items
 
   -- the transaction is over the same registers, console and port, and the console's input is as it was
   pub record IsSame (along : P → P → Type 0) (old new : Transaction P) : Type 0 where
@@ -106,7 +121,21 @@ module _ {P : Type 0} where
 
   -- A call leaves the transaction so that undoing its log gives what it gave before, and used at most so many entries.
   pub record Keeps (view : P → View) (along : P → P → Type 0) (count : ℕ) (old new : Transaction P) : Type 0 where
-    pub undone : restart new.origin (undo_all new.log.items (present view new)) ≡ restart old.origin (undo_all old.log.items (present view old))
+    pub undone : restart new.origin (undo_all new.log.items (bare (present view new))) ≡ restart old.origin (undo_all old.log.items (bare (present view old)))
     pub ready : IsReady view old → IsReady view new
     pub room : room old ≤ room new + count
     pub same : IsSame along old new
+
+  -- A call used at most so many entries; its log need not undo what it did.
+  pub record IsLeft (along : P → P → Type 0) (count : ℕ) (old new : Transaction P) : Type 0 where
+    pub room : room old ≤ room new + count
+    pub same : IsSame along old new
+
+  -- An instruction that was completed may have written last of all what the log doesn't undo; any other can be undone.
+  abbrev pub KeepsUnlessDone : (P → View) → (P → P → Type 0) → ℕ → Result Flow CutShort → Transaction P → Transaction P → Type 0
+  KeepsUnlessDone view along count (Ok flow.Done) old new = IsLeft along count old new
+  KeepsUnlessDone view along count (Ok flow.Clocked) old new = Keeps view along count old new
+  KeepsUnlessDone view along count (Ok (flow.Trap trap)) old new = Keeps view along count old new
+  KeepsUnlessDone view along count (Ok (flow.More opcode units)) old new = Keeps view along count old new
+  KeepsUnlessDone view along count (Ok (flow.Ended e)) old new = Keeps view along count old new
+  KeepsUnlessDone view along count (Err e) old new = Keeps view along count old new

@@ -16,7 +16,7 @@ pub(crate) struct Block {
 
 /// The number that 1 to 8 bytes are.
 #[inline]
-pub(crate) fn number_of(bytes: &[u8]) -> u64
+pub fn number_of(bytes: &[u8]) -> u64
     requires some { 1 ≤ length bytes.now }
     requires few { length bytes.now ≤ 8 }
     ensures value { result ≡ number_in bytes.now }
@@ -45,7 +45,7 @@ fn byte_of(low: &[u8], high: &[u8], place: usize) -> u8
 
 /// The number that at most 8 bytes in two parts are, the lower part first.
 #[cold]
-pub(crate) fn number_of_parts(low: &[u8], high: &[u8]) -> u64
+pub fn number_of_parts(low: &[u8], high: &[u8]) -> u64
     requires { length low.now + length high.now ≤ 8 }
     ensures { result ≡ number_in (low.now ++ high.now) }
 {
@@ -63,7 +63,7 @@ pub(crate) fn number_of_parts(low: &[u8], high: &[u8]) -> u64
 
 /// Makes 1 to 8 bytes those of a number.
 #[inline]
-pub(crate) fn put_number(bytes: &mut [u8], value: u64)
+pub fn put_number(bytes: &mut [u8], value: u64)
     requires some { 1 ≤ length bytes.old }
     requires few { length bytes.old ≤ 8 }
     ensures { bytes.new ≡ low_bytes (length bytes.old) value }

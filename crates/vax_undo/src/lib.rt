@@ -11,11 +11,12 @@ mod port;
 mod term;
 mod txn;
 
+pub use crate::block::{number_of, number_of_parts, put_number};
 pub use crate::plain::Plain;
 pub use crate::port::Port;
 pub use crate::term::Term;
-pub use crate::txn::Txn;
-pub use vax_flat::Stop;
+pub use crate::txn::{CutShort, Txn};
+pub use vax_flat::{Cut, Stop};
 
 #[cfg(test)]
 mod tests;

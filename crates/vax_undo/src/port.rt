@@ -9,13 +9,13 @@ use vax_flat::Stop;
 use vax_space::{Access, Violation};
 
 /// A memory in which some pages are absent (VAX Architecture Reference Manual, memory management). It shows areas, which of
-/// their pages are resident, and the bytes of these. It stands for every whole memory that has these areas and has these bytes on the
-/// resident pages.
+/// their pages are resident, the bytes of these, and which pages are marked as written to. It stands for every whole memory that has these
+/// areas and has these bytes on the resident pages. A read marks nothing, and a write marks the pages of its range, unless it is stopped.
 ///
 /// Access modes are 0 kernel, 1 executive, 2 supervisor, 3 user. Numbers are little-endian. A range may cross pages and areas and wraps
 /// at the end of the address space. No call makes a page resident or absent.
 pub trait Port {
-    /// Its areas, its resident pages, and the bytes of these.
+    /// Its areas, its resident pages, the bytes of these, and the marked pages.
     ghost view: { Self → View };
 
     /// The second came from the first by calls of this trait alone.

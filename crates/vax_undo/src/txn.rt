@@ -1,14 +1,18 @@
 //! Transactions.
-ghost use Rattle.std.specs.Prelude.{◌≡◌, ℕ, ◌+◌, ◌%◌, ◌^◌, ◌<◌, ◌≤◌, None, Some, [], is_some, length, slice_get, slice_index, IfOk, OnOk, OnErr};
+ghost use Rattle.std.specs.Prelude.{◌≡◌, ℕ, ◌+◌, ◌%◌, ◌^◌, ◌<◌, ◌≤◌, None, Some, [], is_some, nat_lt, ◌-◌, if◌then◌else◌, length, slice_get, slice_index, IfOk, OnOk, OnErr};
 ghost use Rattle.vax_undo.specs.Answers.{err_of};
 
 use crate::entry::{Entry, Kept};
 use crate::port::Port;
 use crate::term::Term;
 use arrayvec::ArrayVec;
-use vax_flat::Stop;
+use vax_flat::{Cut, Stop};
 use vax_space::{Access, Violation};
 use vax_word::{Core, Psl};
+
+/// The work was cut short. The transaction says by what ([`Txn::why`]), so that a result that isn't cut short stays small.
+#[derive(Clone, Copy, Debug, PartialEq, Eq)]
+pub struct CutShort;
 
 /// Work on the registers, the console and a port, with a log of the old values of all that it changed.
 ///
@@ -19,6 +23,8 @@ pub struct Txn<'a, P: Port> {
     port: &'a mut P,
     log: ArrayVec<Entry, 96>,
     origin: Origin,
+    /// What cut the work short, if something did.
+    why: Cut,
 }
 
 /// PC and the status longword as they were at the start. Every instruction changes both, so they are kept here and not in the log.
@@ -84,9 +90,9 @@ fn sent_of(number: u64) -> Option<u8>
 /// Whether a byte of the input is left, behind a shared reference.
 #[inline]
 fn input_is_left(term: &Term) -> bool
-    ensures { result ≡ is_some (slice_get term.now.input.items term.now.place) }
+    ensures { result ≡ is_some (if nat_lt term.now.place (2 ^ 32 - 1) then slice_get term.now.input.items term.now.place else None) }
 {
-    (term.place as usize) < term.input.len()
+    term.place < u32::MAX && (term.place as usize) < term.input.len()
 }
 
 /// Takes a log back to empty. It has one or two entries as a rule, so nothing is filled.
@@ -100,8 +106,9 @@ fn forget(log: &mut ArrayVec<Entry, 96>)
 ghost use Rattle.vax_undo.specs.Transaction.{state_of, undo, Allows};
 
 /// Puts the old value of an entry back.
+#[tactic(auto, using(crate::proofs::Undo::put_again))]
 fn put_back<P: Port>(entry: Entry, core: &mut Core, term: &mut Term, port: &mut P)
-    requires { Allows (P.view port.old).areas (P.view port.old).resident entry.kept entry }
+    requires { Allows (P.view port.old).areas (P.view port.old).resident (P.view port.old).marked entry.kept entry }
     ensures state { state_of core.new term.new ≡ (undo entry (record { state = state_of core.old term.old; view = P.view port.old })).state }
     ensures view { P.view port.new ≡ (undo entry (record { state = state_of core.old term.old; view = P.view port.old })).view }
     ensures input { term.new.input ≡ term.old.input }
@@ -125,8 +132,8 @@ impl<'a, P: Port> Txn<'a, P> {
     ghost use Rattle.vax_space.specs.Reference.{violation};
     ghost use Rattle.vax_flat.specs.State.{register, with_register, with_psl, with_stack, with_requests, with_timer, with_clock, with_taken, with_sent};
     ghost use Rattle.vax_flat.specs.Memory.{bytes_from};
-    ghost use Rattle.vax_flat.specs.Port.{loaded, stored, stored_run, stop};
-    ghost use Rattle.vax_undo.specs.Transaction.{state_of, present, undone, room, IsReady, IsSame, Keeps, with_state, with_view, next_byte, after_take};
+    ghost use Rattle.vax_flat.specs.Port.{loaded, stored, stored_run, stop, unmarked};
+    ghost use Rattle.vax_undo.specs.Transaction.{bare, state_of, present, undone, room, IsReady, IsSame, Keeps, with_state, with_view, next_byte, after_take};
 
     /// Begins a transaction, at which nothing is sent to the console yet.
     #[inline]
@@ -138,7 +145,7 @@ impl<'a, P: Port> Txn<'a, P> {
         ensures present { present P.view result ≡ record { state = state_of core.old term.old; view = P.view port.old } }
         ensures lent { result.port.now ≡ port.old }
         ensures console { result.term.now ≡ term.old }
-        ensures undone { undone P.view result ≡ present P.view result }
+        ensures undone { undone P.view result ≡ bare (present P.view result) }
         ensures room { room result ≡ 96 }
         ensures ready { IsReady P.view result }
     {
@@ -149,7 +156,27 @@ impl<'a, P: Port> Txn<'a, P> {
             port,
             log: ArrayVec::new(),
             origin,
+            why: Cut::Absent(0),
         }
+    }
+
+    /// Says what cuts the work short.
+    #[cold]
+    pub fn cut(&mut self, why: Cut) -> CutShort
+        ensures why { self.new.why ≡ why }
+        ensures present { present P.view self.new ≡ present P.view self.old }
+        ensures keeps { Keeps P.view P.since 0 self.old self.new }
+    {
+        self.why = why;
+        CutShort
+    }
+
+    /// What cut the work short, where something did.
+    #[inline]
+    pub fn why(&self) -> Cut
+        ensures { result ≡ self.now.why }
+    {
+        self.why
     }
 
     /// Register `n`, below 16.
@@ -277,13 +304,12 @@ impl<'a, P: Port> Txn<'a, P> {
     #[inline]
     pub fn take(&mut self) -> Option<u8>
         requires room { 1 ≤ room self.old }
-        requires short { length (present P.view self.old).state.input < 2 ^ 32 }
         ensures answer { result ≡ next_byte (present P.view self.old).state }
         ensures present { present P.view self.new ≡ with_state (present P.view self.old) (after_take (present P.view self.old).state) }
         ensures keeps { Keeps P.view P.since 1 self.old self.new }
     {
         let place = self.term.place;
-        if place as usize >= self.term.input.len() {
+        if place == u32::MAX || place as usize >= self.term.input.len() {
             return None;
         }
         let byte = self.term.input[place as usize];
@@ -411,7 +437,7 @@ impl<'a, P: Port> Txn<'a, P> {
     pub fn renew(&mut self) -> Option<u8>
         ensures sent { result ≡ (present P.view self.old).state.sent }
         ensures present { present P.view self.new ≡ with_state (present P.view self.old) (with_sent (present P.view self.old).state None) }
-        ensures undone { undone P.view self.new ≡ present P.view self.new }
+        ensures undone { undone P.view self.new ≡ bare (present P.view self.new) }
         ensures room { room self.new ≡ 96 }
         ensures ready { IsReady P.view self.new }
         ensures same { IsSame P.since self.old self.new }
@@ -437,17 +463,19 @@ impl<'a, P: Port> Txn<'a, P> {
             port: _,
             log: _,
             origin: _,
+            why: _,
         } = self;
         let sent = term.out;
         term.out = None;
         sent
     }
 
-    /// Puts everything back as it was when the transaction began.
+    /// Puts everything back as it was when the transaction began. Pages that were written to stay marked.
     pub fn unwind(self)
         requires { IsReady P.view self }
         ensures state { state_of self.exit.0.now self.exit.1.0.now ≡ (undone P.view self.entry).state }
-        ensures view { P.view self.exit.1.1.0.now ≡ (undone P.view self.entry).view }
+        ensures view { unmarked (P.view self.exit.1.1.0.now) ≡ (undone P.view self.entry).view }
+        ensures marks { (P.view self.exit.1.1.0.now).marked ≡ (P.view self.entry.port.now).marked }
         ensures input { self.exit.1.0.now.input ≡ self.entry.term.now.input }
         ensures since { (start : P) → P.since start self.entry.port.now → P.since start self.exit.1.1.0.now }
     {
@@ -457,6 +485,7 @@ impl<'a, P: Port> Txn<'a, P> {
             port,
             mut log,
             origin,
+            why: _,
         } = self;
         while let Some(entry) = log.pop() {
             put_back(entry, core, term, port);

@@ -11,22 +11,22 @@ mod tests;
 ghost use Rattle.std.specs.Prelude.{◌≡◌, ◌≤◌};
 ghost use Rattle.vax_flat.specs.Control.{performed};
 ghost use Rattle.vax_flat.specs.OverPort.{Follows};
-ghost use Rattle.vax_undo.specs.Transaction.{present, room, Keeps};
+ghost use Rattle.vax_undo.specs.Transaction.{present, room, Keeps, told};
 ghost use Rattle.vax_operand.specs.Located.{GoesEverywhere};
 
-use vax_flat::{Cut, Flow};
+use vax_flat::Flow;
 use vax_isa::Control;
-use vax_undo::{Port, Txn};
+use vax_undo::{CutShort, Port, Txn};
 
 /// Makes the instruction whose opcode PC is past: reads its operands, and lets control go on where it says.
 ///
 /// The cut is the first exception of its operands, its stack or its table, or the first page that it needs and that is absent. A trap is
 /// answered where the index of a loop overflowed (type 1) while the processor status word enables that trap; control then goes on
 /// where the instruction says.
-pub fn run<P: Port>(txn: &mut Txn<P>, instruction: Control) -> Result<Flow, Cut>
+pub fn run<P: Port>(txn: &mut Txn<P>, instruction: Control) -> Result<Flow, CutShort>
     requires { 20 ≤ room txn.old }
-    ensures exact { Follows (performed instruction (present P.view txn.old).state) (present P.view txn.old) result (present P.view txn.new) }
-    ensures everywhere { GoesEverywhere (performed instruction (present P.view txn.old).state) (present P.view txn.old) result (present P.view txn.new) }
+    ensures exact { Follows (performed instruction (present P.view txn.old).state) (present P.view txn.old) (told txn.new result) (present P.view txn.new) }
+    ensures everywhere { GoesEverywhere (performed instruction (present P.view txn.old).state) (present P.view txn.old) (told txn.new result) (present P.view txn.new) }
     ensures keeps { Keeps P.view P.since 20 txn.old txn.new }
 {
     shapes::perform(txn, instruction)

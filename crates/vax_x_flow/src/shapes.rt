@@ -5,15 +5,15 @@ ghost use Rattle.vax_isa.specs.Actions.{size_of};
 ghost use Rattle.vax_flat.specs.Control as control;
 ghost use Rattle.vax_flat.specs.Operand.{IsPlace, extended};
 ghost use Rattle.vax_flat.specs.OverPort.{Follows};
-ghost use Rattle.vax_undo.specs.Transaction.{present, room, Keeps, with_state};
+ghost use Rattle.vax_undo.specs.Transaction.{present, room, Keeps, with_state, told};
 
 use crate::conditions::{compares, holds, within};
-use vax_flat::{Cut, Flow, Operand};
+use vax_flat::{Flow, Operand};
 use vax_isa::{Condition, Control, Narrow, Relation};
 use vax_operand::{
     next_address, next_modified, next_target, next_value, push, read, settle, store,
 };
-use vax_undo::{Port, Txn};
+use vax_undo::{CutShort, Port, Txn};
 use vax_word::{Codes, Size, add, compare, sub};
 
 /// Lets control go on at the target.
@@ -41,9 +41,9 @@ fn jump_if<P: Port>(txn: &mut Txn<P>, taken: bool, target: u32)
 
 /// BRB, BRW, and the branches on the condition codes.
 #[tactic(auto, unfolding(vax_flat::specs::Control::branch))]
-fn branch<P: Port>(txn: &mut Txn<P>, condition: Condition, size: Narrow) -> Result<Flow, Cut>
+fn branch<P: Port>(txn: &mut Txn<P>, condition: Condition, size: Narrow) -> Result<Flow, CutShort>
     requires { 5 ≤ room txn.old }
-    ensures exact { Follows (control.branch condition (size_of size) (present P.view txn.old).state) (present P.view txn.old) result (present P.view txn.new) }
+    ensures exact { Follows (control.branch condition (size_of size) (present P.view txn.old).state) (present P.view txn.old) (told txn.new result) (present P.view txn.new) }
     ensures keeps { Keeps P.view P.since 5 txn.old txn.new }
 {
     let target = next_target(txn, size)?;
@@ -55,9 +55,9 @@ fn branch<P: Port>(txn: &mut Txn<P>, condition: Condition, size: Narrow) -> Resu
 /// Pushes PC, and lets control go on at the target.
 #[inline]
 #[tactic(auto, unfolding(vax_flat::specs::Control::called))]
-fn call<P: Port>(txn: &mut Txn<P>, target: u32) -> Result<Flow, Cut>
+fn call<P: Port>(txn: &mut Txn<P>, target: u32) -> Result<Flow, CutShort>
     requires { 3 ≤ room txn.old }
-    ensures exact { Follows (control.called target (present P.view txn.old).state) (present P.view txn.old) result (present P.view txn.new) }
+    ensures exact { Follows (control.called target (present P.view txn.old).state) (present P.view txn.old) (told txn.new result) (present P.view txn.new) }
     ensures keeps { Keeps P.view P.since 3 txn.old txn.new }
 {
     push(txn, txn.reg(15))?;
@@ -67,9 +67,9 @@ fn call<P: Port>(txn: &mut Txn<P>, target: u32) -> Result<Flow, Cut>
 
 /// BSBB, BSBW.
 #[tactic(auto, unfolding(vax_flat::specs::Control::branch_subroutine))]
-fn branch_subroutine<P: Port>(txn: &mut Txn<P>, size: Narrow) -> Result<Flow, Cut>
+fn branch_subroutine<P: Port>(txn: &mut Txn<P>, size: Narrow) -> Result<Flow, CutShort>
     requires { 7 ≤ room txn.old }
-    ensures exact { Follows (control.branch_subroutine (size_of size) (present P.view txn.old).state) (present P.view txn.old) result (present P.view txn.new) }
+    ensures exact { Follows (control.branch_subroutine (size_of size) (present P.view txn.old).state) (present P.view txn.old) (told txn.new result) (present P.view txn.new) }
     ensures keeps { Keeps P.view P.since 7 txn.old txn.new }
 {
     let target = next_target(txn, size)?;
@@ -78,9 +78,9 @@ fn branch_subroutine<P: Port>(txn: &mut Txn<P>, size: Narrow) -> Result<Flow, Cu
 
 /// JMP.
 #[tactic(auto, unfolding(vax_flat::specs::Control::jump))]
-fn jump<P: Port>(txn: &mut Txn<P>) -> Result<Flow, Cut>
+fn jump<P: Port>(txn: &mut Txn<P>) -> Result<Flow, CutShort>
     requires { 5 ≤ room txn.old }
-    ensures exact { Follows (control.jump (present P.view txn.old).state) (present P.view txn.old) result (present P.view txn.new) }
+    ensures exact { Follows (control.jump (present P.view txn.old).state) (present P.view txn.old) (told txn.new result) (present P.view txn.new) }
     ensures keeps { Keeps P.view P.since 5 txn.old txn.new }
 {
     let target = next_address(txn, Size::B)?;
@@ -90,9 +90,9 @@ fn jump<P: Port>(txn: &mut Txn<P>) -> Result<Flow, Cut>
 
 /// JSB.
 #[tactic(auto, unfolding(vax_flat::specs::Control::jump_subroutine))]
-fn jump_subroutine<P: Port>(txn: &mut Txn<P>) -> Result<Flow, Cut>
+fn jump_subroutine<P: Port>(txn: &mut Txn<P>) -> Result<Flow, CutShort>
     requires { 7 ≤ room txn.old }
-    ensures exact { Follows (control.jump_subroutine (present P.view txn.old).state) (present P.view txn.old) result (present P.view txn.new) }
+    ensures exact { Follows (control.jump_subroutine (present P.view txn.old).state) (present P.view txn.old) (told txn.new result) (present P.view txn.new) }
     ensures keeps { Keeps P.view P.since 7 txn.old txn.new }
 {
     let target = next_address(txn, Size::B)?;
@@ -101,9 +101,9 @@ fn jump_subroutine<P: Port>(txn: &mut Txn<P>) -> Result<Flow, Cut>
 
 /// RSB.
 #[tactic(auto, unfolding(vax_flat::specs::Control::return_subroutine))]
-fn return_subroutine<P: Port>(txn: &mut Txn<P>) -> Result<Flow, Cut>
+fn return_subroutine<P: Port>(txn: &mut Txn<P>) -> Result<Flow, CutShort>
     requires { 2 ≤ room txn.old }
-    ensures exact { Follows (control.return_subroutine (present P.view txn.old).state) (present P.view txn.old) result (present P.view txn.new) }
+    ensures exact { Follows (control.return_subroutine (present P.view txn.old).state) (present P.view txn.old) (told txn.new result) (present P.view txn.new) }
     ensures keeps { Keeps P.view P.since 2 txn.old txn.new }
 {
     let top = txn.reg(14);
@@ -115,9 +115,9 @@ fn return_subroutine<P: Port>(txn: &mut Txn<P>) -> Result<Flow, Cut>
 
 /// BLBS, BLBC.
 #[tactic(auto, unfolding(vax_flat::specs::Control::low_bit))]
-fn low_bit<P: Port>(txn: &mut Txn<P>, set: bool) -> Result<Flow, Cut>
+fn low_bit<P: Port>(txn: &mut Txn<P>, set: bool) -> Result<Flow, CutShort>
     requires { 9 ≤ room txn.old }
-    ensures exact { Follows (control.low_bit set (present P.view txn.old).state) (present P.view txn.old) result (present P.view txn.new) }
+    ensures exact { Follows (control.low_bit set (present P.view txn.old).state) (present P.view txn.old) (told txn.new result) (present P.view txn.new) }
     ensures keeps { Keeps P.view P.since 9 txn.old txn.new }
 {
     let x = next_value(txn, Size::L)?;
@@ -137,11 +137,11 @@ fn go_on<P: Port>(
     index: (u64, Codes),
     taken: bool,
     target: u32,
-) -> Result<Flow, Cut>
+) -> Result<Flow, CutShort>
     requires place { IsPlace (bytes_of size) place }
     requires fits { index.0 < 256 ^ bytes_of size }
     requires room { 4 ≤ room txn.old }
-    ensures exact { Follows (control.looped size place index taken target (present P.view txn.old).state) (present P.view txn.old) result (present P.view txn.new) }
+    ensures exact { Follows (control.looped size place index taken target (present P.view txn.old).state) (present P.view txn.old) (told txn.new result) (present P.view txn.new) }
     ensures keeps { Keeps P.view P.since 4 txn.old txn.new }
 {
     let (value, codes) = index;
@@ -156,9 +156,9 @@ fn go_on<P: Port>(
 
 /// AOBLSS, AOBLEQ.
 #[tactic(auto, unfolding(vax_flat::specs::Control::add_one))]
-fn add_one<P: Port>(txn: &mut Txn<P>, relation: Relation) -> Result<Flow, Cut>
+fn add_one<P: Port>(txn: &mut Txn<P>, relation: Relation) -> Result<Flow, CutShort>
     requires { 16 ≤ room txn.old }
-    ensures exact { Follows (control.add_one relation (present P.view txn.old).state) (present P.view txn.old) result (present P.view txn.new) }
+    ensures exact { Follows (control.add_one relation (present P.view txn.old).state) (present P.view txn.old) (told txn.new result) (present P.view txn.new) }
     ensures keeps { Keeps P.view P.since 16 txn.old txn.new }
 {
     let limit = next_value(txn, Size::L)?;
@@ -171,9 +171,9 @@ fn add_one<P: Port>(txn: &mut Txn<P>, relation: Relation) -> Result<Flow, Cut>
 
 /// SOBGEQ, SOBGTR.
 #[tactic(auto, unfolding(vax_flat::specs::Control::subtract_one))]
-fn subtract_one<P: Port>(txn: &mut Txn<P>, relation: Relation) -> Result<Flow, Cut>
+fn subtract_one<P: Port>(txn: &mut Txn<P>, relation: Relation) -> Result<Flow, CutShort>
     requires { 12 ≤ room txn.old }
-    ensures exact { Follows (control.subtract_one relation (present P.view txn.old).state) (present P.view txn.old) result (present P.view txn.new) }
+    ensures exact { Follows (control.subtract_one relation (present P.view txn.old).state) (present P.view txn.old) (told txn.new result) (present P.view txn.new) }
     ensures keeps { Keeps P.view P.since 12 txn.old txn.new }
 {
     let (place, old) = next_modified(txn, Size::L)?;
@@ -185,9 +185,9 @@ fn subtract_one<P: Port>(txn: &mut Txn<P>, relation: Relation) -> Result<Flow, C
 
 /// ACB.
 #[tactic(auto, unfolding(vax_flat::specs::Control::add_compare))]
-fn add_compare<P: Port>(txn: &mut Txn<P>, size: Size) -> Result<Flow, Cut>
+fn add_compare<P: Port>(txn: &mut Txn<P>, size: Size) -> Result<Flow, CutShort>
     requires { 20 ≤ room txn.old }
-    ensures exact { Follows (control.add_compare size (present P.view txn.old).state) (present P.view txn.old) result (present P.view txn.new) }
+    ensures exact { Follows (control.add_compare size (present P.view txn.old).state) (present P.view txn.old) (told txn.new result) (present P.view txn.new) }
     ensures keeps { Keeps P.view P.since 20 txn.old txn.new }
 {
     let limit = next_value(txn, size)?;
@@ -215,11 +215,11 @@ fn extend_word(displacement: u64) -> u32
 
 /// Lets control go on by the displacement at a place of the table behind PC, or behind the table where the place is above the limit.
 #[tactic(auto, unfolding(vax_flat::specs::Control::chosen))]
-fn choose<P: Port>(txn: &mut Txn<P>, size: Narrow, place: u64, limit: u64) -> Result<Flow, Cut>
+fn choose<P: Port>(txn: &mut Txn<P>, size: Narrow, place: u64, limit: u64) -> Result<Flow, CutShort>
     requires place { place < 256 ^ bytes_of (size_of size) }
     requires limit { limit < 256 ^ bytes_of (size_of size) }
     requires room { 2 ≤ room txn.old }
-    ensures exact { Follows (control.chosen (size_of size) place limit (present P.view txn.old).state) (present P.view txn.old) result (present P.view txn.new) }
+    ensures exact { Follows (control.chosen (size_of size) place limit (present P.view txn.old).state) (present P.view txn.old) (told txn.new result) (present P.view txn.new) }
     ensures keeps { Keeps P.view P.since 2 txn.old txn.new }
 {
     let table = txn.reg(15);
@@ -237,9 +237,9 @@ fn choose<P: Port>(txn: &mut Txn<P>, size: Narrow, place: u64, limit: u64) -> Re
 
 /// CASE.
 #[tactic(auto, unfolding(vax_flat::specs::Control::case_of))]
-fn case_of<P: Port>(txn: &mut Txn<P>, size: Narrow) -> Result<Flow, Cut>
+fn case_of<P: Port>(txn: &mut Txn<P>, size: Narrow) -> Result<Flow, CutShort>
     requires { 14 ≤ room txn.old }
-    ensures exact { Follows (control.case_of (size_of size) (present P.view txn.old).state) (present P.view txn.old) result (present P.view txn.new) }
+    ensures exact { Follows (control.case_of (size_of size) (present P.view txn.old).state) (present P.view txn.old) (told txn.new result) (present P.view txn.new) }
     ensures keeps { Keeps P.view P.since 14 txn.old txn.new }
 {
     let selector = next_value(txn, size.into())?;
@@ -252,9 +252,9 @@ fn case_of<P: Port>(txn: &mut Txn<P>, size: Narrow) -> Result<Flow, Cut>
 /// The instruction by its shape.
 #[inline]
 #[tactic(auto, unfolding(vax_flat::specs::Control::performed))]
-pub(crate) fn perform<P: Port>(txn: &mut Txn<P>, instruction: Control) -> Result<Flow, Cut>
+pub(crate) fn perform<P: Port>(txn: &mut Txn<P>, instruction: Control) -> Result<Flow, CutShort>
     requires { 20 ≤ room txn.old }
-    ensures exact { Follows (control.performed instruction (present P.view txn.old).state) (present P.view txn.old) result (present P.view txn.new) }
+    ensures exact { Follows (control.performed instruction (present P.view txn.old).state) (present P.view txn.old) (told txn.new result) (present P.view txn.new) }
     ensures keeps { Keeps P.view P.since 20 txn.old txn.new }
 {
     match instruction {

@@ -12,22 +12,22 @@ mod tests;
 ghost use Rattle.std.specs.Prelude.{◌≡◌, ◌≤◌};
 ghost use Rattle.vax_flat.specs.Integer.{performed};
 ghost use Rattle.vax_flat.specs.OverPort.{Follows};
-ghost use Rattle.vax_undo.specs.Transaction.{present, room, Keeps};
+ghost use Rattle.vax_undo.specs.Transaction.{present, room, Keeps, told};
 ghost use Rattle.vax_operand.specs.Located.{GoesEverywhere};
 
-use vax_flat::{Cut, Flow};
+use vax_flat::Flow;
 use vax_isa::Integer;
-use vax_undo::{Port, Txn};
+use vax_undo::{CutShort, Port, Txn};
 
 /// Makes the instruction whose opcode PC is past: reads its operands, writes its results and sets the codes.
 ///
 /// The cut is the first exception of its operands and results, or the first page that it needs and that is absent. A trap is answered where
 /// the instruction was completed with a divisor of 0 (type 2), with a subscript out of range (type 7), or with an integer overflow while
 /// the processor status word enables that trap (type 1).
-pub fn run<P: Port>(txn: &mut Txn<P>, instruction: Integer) -> Result<Flow, Cut>
+pub fn run<P: Port>(txn: &mut Txn<P>, instruction: Integer) -> Result<Flow, CutShort>
     requires { 27 ≤ room txn.old }
-    ensures exact { Follows (performed instruction (present P.view txn.old).state) (present P.view txn.old) result (present P.view txn.new) }
-    ensures everywhere { GoesEverywhere (performed instruction (present P.view txn.old).state) (present P.view txn.old) result (present P.view txn.new) }
+    ensures exact { Follows (performed instruction (present P.view txn.old).state) (present P.view txn.old) (told txn.new result) (present P.view txn.new) }
+    ensures everywhere { GoesEverywhere (performed instruction (present P.view txn.old).state) (present P.view txn.old) (told txn.new result) (present P.view txn.new) }
     ensures keeps { Keeps P.view P.since 27 txn.old txn.new }
 {
     shapes::perform(txn, instruction)

@@ -5,15 +5,15 @@ ghost use Rattle.vax_isa.specs.Actions.{size_of};
 ghost use Rattle.vax_flat.specs.Integer as integer;
 ghost use Rattle.vax_flat.specs.Rows.{carry_of};
 ghost use Rattle.vax_flat.specs.OverPort.{Follows};
-ghost use Rattle.vax_undo.specs.Transaction.{present, room, Keeps};
+ghost use Rattle.vax_undo.specs.Transaction.{present, room, Keeps, told};
 
 use crate::results::{answer_of, is_by_zero, of_one, of_two, rotated};
-use vax_flat::{Cut, Flow, Trap};
+use vax_flat::{Flow, Trap};
 use vax_isa::{Binary, Integer, Narrow, Unary};
 use vax_operand::{
     answer, next_address, next_modified, next_place, next_value, push, set_codes, settle, store,
 };
-use vax_undo::{Port, Txn};
+use vax_undo::{CutShort, Port, Txn};
 use vax_word::{Size, add, ediv, emul, mul, shift, signed_less};
 
 /// The carry as it is.
@@ -26,9 +26,14 @@ fn carry<P: Port>(txn: &Txn<P>) -> bool
 
 /// MOV, MCOM, MNEG, MOVZ, CVT.
 #[tactic(auto, unfolding(vax_flat::specs::Integer::unary))]
-fn unary<P: Port>(txn: &mut Txn<P>, operation: Unary, from: Size, to: Size) -> Result<Flow, Cut>
+fn unary<P: Port>(
+    txn: &mut Txn<P>,
+    operation: Unary,
+    from: Size,
+    to: Size,
+) -> Result<Flow, CutShort>
     requires { 11 ≤ room txn.old }
-    ensures exact { Follows (integer.unary operation from to (present P.view txn.old).state) (present P.view txn.old) result (present P.view txn.new) }
+    ensures exact { Follows (integer.unary operation from to (present P.view txn.old).state) (present P.view txn.old) (told txn.new result) (present P.view txn.new) }
     ensures keeps { Keeps P.view P.since 11 txn.old txn.new }
 {
     let x = next_value(txn, from)?;
@@ -39,9 +44,9 @@ fn unary<P: Port>(txn: &mut Txn<P>, operation: Unary, from: Size, to: Size) -> R
 
 /// ADDx2, SUBx2, MULx2, DIVx2, BISx2, BICx2, XORx2, ADWC, SBWC.
 #[tactic(auto, unfolding(vax_flat::specs::Integer::two))]
-fn two<P: Port>(txn: &mut Txn<P>, operation: Binary, size: Narrow) -> Result<Flow, Cut>
+fn two<P: Port>(txn: &mut Txn<P>, operation: Binary, size: Narrow) -> Result<Flow, CutShort>
     requires { 11 ≤ room txn.old }
-    ensures exact { Follows (integer.two operation (size_of size) (present P.view txn.old).state) (present P.view txn.old) result (present P.view txn.new) }
+    ensures exact { Follows (integer.two operation (size_of size) (present P.view txn.old).state) (present P.view txn.old) (told txn.new result) (present P.view txn.new) }
     ensures keeps { Keeps P.view P.since 11 txn.old txn.new }
 {
     let a = next_value(txn, size.into())?;
@@ -52,9 +57,9 @@ fn two<P: Port>(txn: &mut Txn<P>, operation: Binary, size: Narrow) -> Result<Flo
 
 /// ADDx3, SUBx3, MULx3, DIVx3, BISx3, BICx3, XORx3.
 #[tactic(auto, unfolding(vax_flat::specs::Integer::three))]
-fn three<P: Port>(txn: &mut Txn<P>, operation: Binary, size: Narrow) -> Result<Flow, Cut>
+fn three<P: Port>(txn: &mut Txn<P>, operation: Binary, size: Narrow) -> Result<Flow, CutShort>
     requires { 15 ≤ room txn.old }
-    ensures exact { Follows (integer.three operation (size_of size) (present P.view txn.old).state) (present P.view txn.old) result (present P.view txn.new) }
+    ensures exact { Follows (integer.three operation (size_of size) (present P.view txn.old).state) (present P.view txn.old) (told txn.new result) (present P.view txn.new) }
     ensures keeps { Keeps P.view P.since 15 txn.old txn.new }
 {
     let a = next_value(txn, size.into())?;
@@ -72,9 +77,9 @@ fn three<P: Port>(txn: &mut Txn<P>, operation: Binary, size: Narrow) -> Result<F
 
 /// INC, DEC.
 #[tactic(auto, unfolding(vax_flat::specs::Integer::by_one))]
-fn by_one<P: Port>(txn: &mut Txn<P>, operation: Binary, size: Narrow) -> Result<Flow, Cut>
+fn by_one<P: Port>(txn: &mut Txn<P>, operation: Binary, size: Narrow) -> Result<Flow, CutShort>
     requires { 7 ≤ room txn.old }
-    ensures exact { Follows (integer.by_one operation (size_of size) (present P.view txn.old).state) (present P.view txn.old) result (present P.view txn.new) }
+    ensures exact { Follows (integer.by_one operation (size_of size) (present P.view txn.old).state) (present P.view txn.old) (told txn.new result) (present P.view txn.new) }
     ensures keeps { Keeps P.view P.since 7 txn.old txn.new }
 {
     let (place, b) = next_modified(txn, size.into())?;
@@ -84,9 +89,9 @@ fn by_one<P: Port>(txn: &mut Txn<P>, operation: Binary, size: Narrow) -> Result<
 
 /// CLR.
 #[tactic(auto, unfolding(vax_flat::specs::Integer::clear))]
-fn clear<P: Port>(txn: &mut Txn<P>, size: Size) -> Result<Flow, Cut>
+fn clear<P: Port>(txn: &mut Txn<P>, size: Size) -> Result<Flow, CutShort>
     requires { 7 ≤ room txn.old }
-    ensures exact { Follows (integer.clear size (present P.view txn.old).state) (present P.view txn.old) result (present P.view txn.new) }
+    ensures exact { Follows (integer.clear size (present P.view txn.old).state) (present P.view txn.old) (told txn.new result) (present P.view txn.new) }
     ensures keeps { Keeps P.view P.since 7 txn.old txn.new }
 {
     let destination = next_place(txn, size)?;
@@ -96,9 +101,9 @@ fn clear<P: Port>(txn: &mut Txn<P>, size: Size) -> Result<Flow, Cut>
 
 /// TST.
 #[tactic(auto, unfolding(vax_flat::specs::Integer::test))]
-fn test<P: Port>(txn: &mut Txn<P>, size: Size) -> Result<Flow, Cut>
+fn test<P: Port>(txn: &mut Txn<P>, size: Size) -> Result<Flow, CutShort>
     requires { 5 ≤ room txn.old }
-    ensures exact { Follows (integer.test size (present P.view txn.old).state) (present P.view txn.old) result (present P.view txn.new) }
+    ensures exact { Follows (integer.test size (present P.view txn.old).state) (present P.view txn.old) (told txn.new result) (present P.view txn.new) }
     ensures keeps { Keeps P.view P.since 5 txn.old txn.new }
 {
     let x = next_value(txn, size)?;
@@ -107,9 +112,9 @@ fn test<P: Port>(txn: &mut Txn<P>, size: Size) -> Result<Flow, Cut>
 
 /// CMP.
 #[tactic(auto, unfolding(vax_flat::specs::Integer::compare))]
-fn compare<P: Port>(txn: &mut Txn<P>, size: Size) -> Result<Flow, Cut>
+fn compare<P: Port>(txn: &mut Txn<P>, size: Size) -> Result<Flow, CutShort>
     requires { 9 ≤ room txn.old }
-    ensures exact { Follows (integer.compare size (present P.view txn.old).state) (present P.view txn.old) result (present P.view txn.new) }
+    ensures exact { Follows (integer.compare size (present P.view txn.old).state) (present P.view txn.old) (told txn.new result) (present P.view txn.new) }
     ensures keeps { Keeps P.view P.since 9 txn.old txn.new }
 {
     let a = next_value(txn, size)?;
@@ -119,9 +124,9 @@ fn compare<P: Port>(txn: &mut Txn<P>, size: Size) -> Result<Flow, Cut>
 
 /// BIT.
 #[tactic(auto, using(crate::proofs::Sizes::and_fits), unfolding(vax_flat::specs::Integer::bit_test))]
-fn bit_test<P: Port>(txn: &mut Txn<P>, size: Size) -> Result<Flow, Cut>
+fn bit_test<P: Port>(txn: &mut Txn<P>, size: Size) -> Result<Flow, CutShort>
     requires { 9 ≤ room txn.old }
-    ensures exact { Follows (integer.bit_test size (present P.view txn.old).state) (present P.view txn.old) result (present P.view txn.new) }
+    ensures exact { Follows (integer.bit_test size (present P.view txn.old).state) (present P.view txn.old) (told txn.new result) (present P.view txn.new) }
     ensures keeps { Keeps P.view P.since 9 txn.old txn.new }
 {
     let mask = next_value(txn, size)?;
@@ -132,9 +137,9 @@ fn bit_test<P: Port>(txn: &mut Txn<P>, size: Size) -> Result<Flow, Cut>
 
 /// ASH.
 #[tactic(auto, using(crate::proofs::Sizes::signed_count), unfolding(vax_flat::specs::Integer::shift))]
-fn shift_by<P: Port>(txn: &mut Txn<P>, size: Size) -> Result<Flow, Cut>
+fn shift_by<P: Port>(txn: &mut Txn<P>, size: Size) -> Result<Flow, CutShort>
     requires { 15 ≤ room txn.old }
-    ensures exact { Follows (integer.shift size (present P.view txn.old).state) (present P.view txn.old) result (present P.view txn.new) }
+    ensures exact { Follows (integer.shift size (present P.view txn.old).state) (present P.view txn.old) (told txn.new result) (present P.view txn.new) }
     ensures keeps { Keeps P.view P.since 15 txn.old txn.new }
 {
     let count = next_value(txn, Size::B)?;
@@ -146,9 +151,9 @@ fn shift_by<P: Port>(txn: &mut Txn<P>, size: Size) -> Result<Flow, Cut>
 
 /// ROTL.
 #[tactic(auto, unfolding(vax_flat::specs::Integer::rotate))]
-fn rotate<P: Port>(txn: &mut Txn<P>) -> Result<Flow, Cut>
+fn rotate<P: Port>(txn: &mut Txn<P>) -> Result<Flow, CutShort>
     requires { 15 ≤ room txn.old }
-    ensures exact { Follows (integer.rotate (present P.view txn.old).state) (present P.view txn.old) result (present P.view txn.new) }
+    ensures exact { Follows (integer.rotate (present P.view txn.old).state) (present P.view txn.old) (told txn.new result) (present P.view txn.new) }
     ensures keeps { Keeps P.view P.since 15 txn.old txn.new }
 {
     let count = next_value(txn, Size::B)?;
@@ -160,9 +165,9 @@ fn rotate<P: Port>(txn: &mut Txn<P>) -> Result<Flow, Cut>
 
 /// MOVA.
 #[tactic(auto, unfolding(vax_flat::specs::Integer::move_address))]
-fn move_address<P: Port>(txn: &mut Txn<P>, size: Size) -> Result<Flow, Cut>
+fn move_address<P: Port>(txn: &mut Txn<P>, size: Size) -> Result<Flow, CutShort>
     requires { 11 ≤ room txn.old }
-    ensures exact { Follows (integer.move_address size (present P.view txn.old).state) (present P.view txn.old) result (present P.view txn.new) }
+    ensures exact { Follows (integer.move_address size (present P.view txn.old).state) (present P.view txn.old) (told txn.new result) (present P.view txn.new) }
     ensures keeps { Keeps P.view P.since 11 txn.old txn.new }
 {
     let addr = next_address(txn, size)?;
@@ -174,9 +179,9 @@ fn move_address<P: Port>(txn: &mut Txn<P>, size: Size) -> Result<Flow, Cut>
 /// A longword pushed as a result.
 #[inline]
 #[tactic(auto, unfolding(vax_flat::specs::Integer::pushed_result))]
-fn push_result<P: Port>(txn: &mut Txn<P>, x: u32) -> Result<Flow, Cut>
+fn push_result<P: Port>(txn: &mut Txn<P>, x: u32) -> Result<Flow, CutShort>
     requires { 3 ≤ room txn.old }
-    ensures exact { Follows (integer.pushed_result x (present P.view txn.old).state) (present P.view txn.old) result (present P.view txn.new) }
+    ensures exact { Follows (integer.pushed_result x (present P.view txn.old).state) (present P.view txn.old) (told txn.new result) (present P.view txn.new) }
     ensures keeps { Keeps P.view P.since 3 txn.old txn.new }
 {
     push(txn, x)?;
@@ -186,9 +191,9 @@ fn push_result<P: Port>(txn: &mut Txn<P>, x: u32) -> Result<Flow, Cut>
 
 /// PUSHA.
 #[tactic(auto, unfolding(vax_flat::specs::Integer::push_address))]
-fn push_address<P: Port>(txn: &mut Txn<P>, size: Size) -> Result<Flow, Cut>
+fn push_address<P: Port>(txn: &mut Txn<P>, size: Size) -> Result<Flow, CutShort>
     requires { 7 ≤ room txn.old }
-    ensures exact { Follows (integer.push_address size (present P.view txn.old).state) (present P.view txn.old) result (present P.view txn.new) }
+    ensures exact { Follows (integer.push_address size (present P.view txn.old).state) (present P.view txn.old) (told txn.new result) (present P.view txn.new) }
     ensures keeps { Keeps P.view P.since 7 txn.old txn.new }
 {
     let addr = next_address(txn, size)?;
@@ -197,9 +202,9 @@ fn push_address<P: Port>(txn: &mut Txn<P>, size: Size) -> Result<Flow, Cut>
 
 /// PUSHL.
 #[tactic(auto, unfolding(vax_flat::specs::Integer::push))]
-fn push_long<P: Port>(txn: &mut Txn<P>) -> Result<Flow, Cut>
+fn push_long<P: Port>(txn: &mut Txn<P>) -> Result<Flow, CutShort>
     requires { 7 ≤ room txn.old }
-    ensures exact { Follows (integer.push (present P.view txn.old).state) (present P.view txn.old) result (present P.view txn.new) }
+    ensures exact { Follows (integer.push (present P.view txn.old).state) (present P.view txn.old) (told txn.new result) (present P.view txn.new) }
     ensures keeps { Keeps P.view P.since 7 txn.old txn.new }
 {
     let x = next_value(txn, Size::L)?;
@@ -208,9 +213,9 @@ fn push_long<P: Port>(txn: &mut Txn<P>) -> Result<Flow, Cut>
 
 /// EMUL.
 #[tactic(auto, using(crate::proofs::Sizes::product_fits), unfolding(vax_flat::specs::Integer::extended_multiply))]
-fn extended_multiply<P: Port>(txn: &mut Txn<P>) -> Result<Flow, Cut>
+fn extended_multiply<P: Port>(txn: &mut Txn<P>) -> Result<Flow, CutShort>
     requires { 19 ≤ room txn.old }
-    ensures exact { Follows (integer.extended_multiply (present P.view txn.old).state) (present P.view txn.old) result (present P.view txn.new) }
+    ensures exact { Follows (integer.extended_multiply (present P.view txn.old).state) (present P.view txn.old) (told txn.new result) (present P.view txn.new) }
     ensures keeps { Keeps P.view P.since 19 txn.old txn.new }
 {
     let a = next_value(txn, Size::L)?;
@@ -223,9 +228,9 @@ fn extended_multiply<P: Port>(txn: &mut Txn<P>) -> Result<Flow, Cut>
 
 /// EDIV.
 #[tactic(auto, unfolding(vax_flat::specs::Integer::extended_divide))]
-fn extended_divide<P: Port>(txn: &mut Txn<P>) -> Result<Flow, Cut>
+fn extended_divide<P: Port>(txn: &mut Txn<P>) -> Result<Flow, CutShort>
     requires { 21 ≤ room txn.old }
-    ensures exact { Follows (integer.extended_divide (present P.view txn.old).state) (present P.view txn.old) result (present P.view txn.new) }
+    ensures exact { Follows (integer.extended_divide (present P.view txn.old).state) (present P.view txn.old) (told txn.new result) (present P.view txn.new) }
     ensures keeps { Keeps P.view P.since 21 txn.old txn.new }
 {
     let divisor = next_value(txn, Size::L)?;
@@ -270,9 +275,9 @@ fn subscript_flow(subscript: u64, low: u64, high: u64) -> Flow
 
 /// INDEX.
 #[tactic(auto, unfolding(vax_flat::specs::Integer::index))]
-fn index<P: Port>(txn: &mut Txn<P>) -> Result<Flow, Cut>
+fn index<P: Port>(txn: &mut Txn<P>) -> Result<Flow, CutShort>
     requires { 27 ≤ room txn.old }
-    ensures exact { Follows (integer.index (present P.view txn.old).state) (present P.view txn.old) result (present P.view txn.new) }
+    ensures exact { Follows (integer.index (present P.view txn.old).state) (present P.view txn.old) (told txn.new result) (present P.view txn.new) }
     ensures keeps { Keeps P.view P.since 27 txn.old txn.new }
 {
     let subscript = next_value(txn, Size::L)?;
@@ -290,9 +295,9 @@ fn index<P: Port>(txn: &mut Txn<P>) -> Result<Flow, Cut>
 /// The instruction by its shape.
 #[inline]
 #[tactic(auto, unfolding(vax_flat::specs::Integer::performed))]
-pub(crate) fn perform<P: Port>(txn: &mut Txn<P>, instruction: Integer) -> Result<Flow, Cut>
+pub(crate) fn perform<P: Port>(txn: &mut Txn<P>, instruction: Integer) -> Result<Flow, CutShort>
     requires { 27 ≤ room txn.old }
-    ensures exact { Follows (integer.performed instruction (present P.view txn.old).state) (present P.view txn.old) result (present P.view txn.new) }
+    ensures exact { Follows (integer.performed instruction (present P.view txn.old).state) (present P.view txn.old) (told txn.new result) (present P.view txn.new) }
     ensures keeps { Keeps P.view P.since 27 txn.old txn.new }
 {
     match instruction {

@@ -1,18 +1,18 @@
 //! The delivery of exceptions, changes of mode and interrupts (VAX Architecture Reference Manual, exceptions and interrupts).
 ghost use Rattle.std.specs.Prelude.{◌≡◌, ◌<◌, ◌≤◌};
 ghost use Rattle.vax_flat.specs.Operand.{extended};
-ghost use Rattle.vax_flat.specs.Delivery.{change_by, change_mode, change_vector, changed_outside, changed_to, delivery, dispatched, entered, interrupt, interrupt_vector, interrupted, served, vector_of, vectored};
-ghost use Rattle.vax_flat.specs.OverPort.{Follows};
-ghost use Rattle.vax_undo.specs.Transaction.{present, room, Keeps, with_state};
+ghost use Rattle.vax_flat.specs.Delivery.{change_by, change_mode, change_vector, changed, changed_to, delivery, dispatched, entered, interrupt, interrupt_vector, interrupted, pushed_outside, served, vector_of, vectored};
+ghost use Rattle.vax_flat.specs.OverPort.{Follows, Performs};
+ghost use Rattle.vax_undo.specs.Transaction.{present, room, Keeps, with_state, told};
 ghost use Rattle.vax_x_sys.specs.Frames.{listed, IsLevel};
 
 use crate::frames::{Parameters, parameters_of, push_frame, push_in};
 use crate::stacks::{go_on, on_interrupt_stack, stack_in_use, status, switch};
-use vax_flat::{Cut, Delivery, Ending, Exception};
+use vax_flat::{Delivery, Ending, Exception};
 use vax_isa::AccessMode;
 use vax_operand::{is_allowed, read_in};
 use vax_space::Access;
-use vax_undo::{Port, Txn};
+use vax_undo::{CutShort, Port, Txn};
 use vax_word::Psl;
 
 /// Where the system control block begins.
@@ -21,8 +21,8 @@ const CONTROL_BLOCK: u32 = 0x8000_0000;
 /// The vector at this offset of the system control block, None where it can't be read in kernel mode.
 #[inline]
 #[tactic(auto, unfolding(vax_flat::specs::Delivery::vectored))]
-fn vector<P: Port>(txn: &mut Txn<P>, offset: u16) -> Result<Option<u32>, Cut>
-    ensures exact { Follows (vectored offset (present P.view txn.old).state) (present P.view txn.old) result (present P.view txn.new) }
+fn vector<P: Port>(txn: &mut Txn<P>, offset: u16) -> Result<Option<u32>, CutShort>
+    ensures exact { Follows (vectored offset (present P.view txn.old).state) (present P.view txn.old) (told txn.new result) (present P.view txn.new) }
     ensures same { present P.view txn.new ≡ present P.view txn.old }
     ensures keeps { Keeps P.view P.since 0 txn.old txn.new }
 {
@@ -42,9 +42,9 @@ fn enter<P: Port>(
     vector: u32,
     interrupt: bool,
     psl: Psl,
-) -> Result<Delivery, Cut>
+) -> Result<Delivery, CutShort>
     requires { 13 ≤ room txn.old }
-    ensures exact { Follows (entered (listed parameters) vector interrupt psl (present P.view txn.old).state) (present P.view txn.old) result (present P.view txn.new) }
+    ensures exact { Follows (entered (listed parameters) vector interrupt psl (present P.view txn.old).state) (present P.view txn.old) (told txn.new result) (present P.view txn.new) }
     ensures keeps { Keeps P.view P.since 13 txn.old txn.new }
 {
     let old = txn.psl();
@@ -82,9 +82,9 @@ fn dispatch<P: Port>(
     txn: &mut Txn<P>,
     exception: Exception,
     vector: Option<u32>,
-) -> Result<Delivery, Cut>
+) -> Result<Delivery, CutShort>
     requires { 13 ≤ room txn.old }
-    ensures exact { Follows (dispatched exception vector (present P.view txn.old).state) (present P.view txn.old) result (present P.view txn.new) }
+    ensures exact { Follows (dispatched exception vector (present P.view txn.old).state) (present P.view txn.old) (told txn.new result) (present P.view txn.new) }
     ensures keeps { Keeps P.view P.since 13 txn.old txn.new }
 {
     let Some(vector) = vector else {
@@ -109,9 +109,9 @@ fn dispatch<P: Port>(
 ///
 /// The run ends where the vector can't be read or asks for it, or where the frame can't be pushed. The cut is a page that is absent alone.
 #[tactic(auto, unfolding(vax_flat::specs::Delivery::delivery))]
-pub fn deliver<P: Port>(txn: &mut Txn<P>, exception: Exception) -> Result<Delivery, Cut>
+pub fn deliver<P: Port>(txn: &mut Txn<P>, exception: Exception) -> Result<Delivery, CutShort>
     requires { 16 ≤ room txn.old }
-    ensures exact { Follows (delivery exception (present P.view txn.old).state) (present P.view txn.old) result (present P.view txn.new) }
+    ensures exact { Follows (delivery exception (present P.view txn.old).state) (present P.view txn.old) (told txn.new result) (present P.view txn.new) }
     ensures keeps { Keeps P.view P.since 16 txn.old txn.new }
 {
     let vector = vector(txn, vector_of(exception))?;
@@ -151,10 +151,14 @@ fn take_back<P: Port>(txn: &mut Txn<P>, level: u8)
 /// Delivers an interrupt by its vector.
 #[inline]
 #[tactic(auto, unfolding(vax_flat::specs::Delivery::interrupted))]
-fn interrupt_by<P: Port>(txn: &mut Txn<P>, level: u8, vector: Option<u32>) -> Result<Delivery, Cut>
+fn interrupt_by<P: Port>(
+    txn: &mut Txn<P>,
+    level: u8,
+    vector: Option<u32>,
+) -> Result<Delivery, CutShort>
     requires of_level { IsLevel level }
     requires room { 14 ≤ room txn.old }
-    ensures exact { Follows (interrupted level vector (present P.view txn.old).state) (present P.view txn.old) result (present P.view txn.new) }
+    ensures exact { Follows (interrupted level vector (present P.view txn.old).state) (present P.view txn.old) (told txn.new result) (present P.view txn.new) }
     ensures keeps { Keeps P.view P.since 14 txn.old txn.new }
 {
     let Some(vector) = vector else {
@@ -177,57 +181,73 @@ fn interrupt_by<P: Port>(txn: &mut Txn<P>, level: u8, vector: Option<u32>) -> Re
 /// Delivers an interrupt at a level, 1 to 15 or the interval clock's 22: PSL and PC are pushed, the request is taken back, and control goes on at
 /// the handler in kernel mode, at that priority. It ends the run where a delivery does.
 #[tactic(auto, unfolding(vax_flat::specs::Delivery::interrupt))]
-pub fn interrupt<P: Port>(txn: &mut Txn<P>, level: u8) -> Result<Delivery, Cut>
+pub fn interrupt<P: Port>(txn: &mut Txn<P>, level: u8) -> Result<Delivery, CutShort>
     requires of_level { IsLevel level }
     requires room { 16 ≤ room txn.old }
-    ensures exact { Follows (interrupt level (present P.view txn.old).state) (present P.view txn.old) result (present P.view txn.new) }
+    ensures exact { Follows (interrupt level (present P.view txn.old).state) (present P.view txn.old) (told txn.new result) (present P.view txn.new) }
     ensures keeps { Keeps P.view P.since 16 txn.old txn.new }
 {
     let vector = vector(txn, interrupt_vector(level))?;
     interrupt_by(txn, level, vector)
 }
 
-/// Pushes PSL, PC and code on the stack of a mode other than kernel, in that mode, and enters the handler there.
+/// Pushes PSL, PC and code on the stack of a mode other than kernel, in that mode.
 #[inline]
-#[tactic(auto, unfolding(vax_flat::specs::Delivery::changed_outside))]
-fn change_outside<P: Port>(
+#[tactic(auto, unfolding(vax_flat::specs::Delivery::pushed_outside))]
+fn push_outside<P: Port>(
     txn: &mut Txn<P>,
-    new: u8,
-    code: u32,
-    vector: u32,
+    mode: u8,
     old: Psl,
     pc: u32,
-) -> Result<Delivery, Cut>
-    requires new { new < 4 }
-    requires room { 8 ≤ room txn.old }
-    ensures exact { Follows (changed_outside new code vector old pc (present P.view txn.old).state) (present P.view txn.old) result (present P.view txn.new) }
-    ensures keeps { Keeps P.view P.since 8 txn.old txn.new }
+    code: u32,
+) -> Result<(), CutShort>
+    requires of_mode { mode ≤ 3 }
+    requires room { 6 ≤ room txn.old }
+    ensures exact { Performs (pushed_outside mode old pc code (present P.view txn.old).state) (present P.view txn.old) (told txn.new result) (present P.view txn.new) }
+    ensures keeps { Keeps P.view P.since 6 txn.old txn.new }
 {
-    push_in(txn, new, old.0)?;
-    push_in(txn, new, pc)?;
-    push_in(txn, new, code)?;
+    push_in(txn, mode, old.0)?;
+    push_in(txn, mode, pc)?;
+    push_in(txn, mode, code)
+}
+
+/// Lets control go on at the handler, in the new mode.
+#[inline]
+#[tactic(auto, unfolding(vax_flat::specs::Delivery::changed))]
+fn arrive<P: Port>(txn: &mut Txn<P>, new: u8, vector: u32, old: Psl)
+    requires new { new < 4 }
+    requires room { 2 ≤ room txn.old }
+    ensures exact { present P.view txn.new ≡ with_state (present P.view txn.old) (changed new vector old (present P.view txn.old).state) }
+    ensures keeps { Keeps P.view P.since 2 txn.old txn.new }
+{
     go_on(txn, vector, status(new, old.mode(), old.ipl(), false));
-    Ok(Delivery::Entered)
 }
 
 /// Pushes the frame of a change of mode on the new mode's stack, and enters the handler.
 #[tactic(auto, unfolding(vax_flat::specs::Delivery::changed_to))]
-fn change_to<P: Port>(txn: &mut Txn<P>, new: u8, code: u32, vector: u32) -> Result<Delivery, Cut>
+fn change_to<P: Port>(
+    txn: &mut Txn<P>,
+    new: u8,
+    code: u32,
+    vector: u32,
+) -> Result<Delivery, CutShort>
     requires new { new < 4 }
     requires room { 13 ≤ room txn.old }
-    ensures exact { Follows (changed_to new code vector (present P.view txn.old).state) (present P.view txn.old) result (present P.view txn.new) }
+    ensures exact { Follows (changed_to new code vector (present P.view txn.old).state) (present P.view txn.old) (told txn.new result) (present P.view txn.new) }
     ensures keeps { Keeps P.view P.since 13 txn.old txn.new }
 {
     let old = txn.psl();
     let pc = txn.reg(15);
     switch(txn, old.mode(), new);
     if new != 0 {
-        return change_outside(txn, new, code, vector, old, pc);
+        push_outside(txn, new, old, pc, code)?;
+        arrive(txn, new, vector, old);
+        return Ok(Delivery::Entered);
     }
     if !push_frame(txn, old, pc, Parameters::One(code))? {
         return Ok(Delivery::Ended(Ending::Stack));
     }
-    go_on(txn, vector, status(new, old.mode(), old.ipl(), false));
+    arrive(txn, new, vector, old);
     Ok(Delivery::Entered)
 }
 
@@ -261,9 +281,9 @@ fn change_by<P: Port>(
     target: AccessMode,
     code: u16,
     vector: Option<u32>,
-) -> Result<Delivery, Cut>
+) -> Result<Delivery, CutShort>
     requires { 13 ≤ room txn.old }
-    ensures exact { Follows (change_by target code vector (present P.view txn.old).state) (present P.view txn.old) result (present P.view txn.new) }
+    ensures exact { Follows (change_by target code vector (present P.view txn.old).state) (present P.view txn.old) (told txn.new result) (present P.view txn.new) }
     ensures keeps { Keeps P.view P.since 13 txn.old txn.new }
 {
     let Some(vector) = vector else {
@@ -282,9 +302,9 @@ pub(crate) fn change_mode<P: Port>(
     txn: &mut Txn<P>,
     target: AccessMode,
     code: u16,
-) -> Result<Delivery, Cut>
+) -> Result<Delivery, CutShort>
     requires { 16 ≤ room txn.old }
-    ensures exact { Follows (change_mode target code (present P.view txn.old).state) (present P.view txn.old) result (present P.view txn.new) }
+    ensures exact { Follows (change_mode target code (present P.view txn.old).state) (present P.view txn.old) (told txn.new result) (present P.view txn.new) }
     ensures keeps { Keeps P.view P.since 16 txn.old txn.new }
 {
     if on_interrupt_stack(txn.psl()) {

@@ -2,13 +2,13 @@
 ghost use Rattle.std.specs.Prelude.{◌≡◌, ◌∷◌, ◌≤◌};
 ghost use Rattle.vax_flat.specs.Delivery.{parameters, pushed_all, pushed_if, pushed_in, reason};
 ghost use Rattle.vax_flat.specs.OverPort.{Follows, Performs};
-ghost use Rattle.vax_undo.specs.Transaction.{present, room, Keeps};
+ghost use Rattle.vax_undo.specs.Transaction.{present, room, Keeps, told};
 ghost use Rattle.vax_x_sys.specs.Frames.{listed};
 
-use vax_flat::{Cut, Exception};
+use vax_flat::Exception;
 use vax_operand::{is_allowed, write_in};
 use vax_space::{Access, Violation};
-use vax_undo::{Port, Txn};
+use vax_undo::{CutShort, Port, Txn};
 use vax_word::Psl;
 
 /// What is pushed behind PSL and PC.
@@ -47,10 +47,10 @@ pub(crate) fn parameters_of(exception: Exception) -> Parameters
 /// Pushes a longword in an access mode.
 #[inline]
 #[tactic(auto, unfolding(vax_flat::specs::Delivery::pushed_in))]
-pub(crate) fn push_in<P: Port>(txn: &mut Txn<P>, mode: u8, value: u32) -> Result<(), Cut>
+pub(crate) fn push_in<P: Port>(txn: &mut Txn<P>, mode: u8, value: u32) -> Result<(), CutShort>
     requires of_mode { mode ≤ 3 }
     requires room { 2 ≤ room txn.old }
-    ensures exact { Performs (pushed_in mode value (present P.view txn.old).state) (present P.view txn.old) result (present P.view txn.new) }
+    ensures exact { Performs (pushed_in mode value (present P.view txn.old).state) (present P.view txn.old) (told txn.new result) (present P.view txn.new) }
     ensures keeps { Keeps P.view P.since 2 txn.old txn.new }
 {
     let top = txn.reg(14).wrapping_sub(4);
@@ -62,9 +62,9 @@ pub(crate) fn push_in<P: Port>(txn: &mut Txn<P>, mode: u8, value: u32) -> Result
 /// Pushes a longword in kernel mode, if that is allowed.
 #[inline]
 #[tactic(auto, unfolding(vax_flat::specs::Delivery::pushed_if))]
-pub(crate) fn push_if<P: Port>(txn: &mut Txn<P>, value: u32) -> Result<bool, Cut>
+pub(crate) fn push_if<P: Port>(txn: &mut Txn<P>, value: u32) -> Result<bool, CutShort>
     requires { 2 ≤ room txn.old }
-    ensures exact { Follows (pushed_if value (present P.view txn.old).state) (present P.view txn.old) result (present P.view txn.new) }
+    ensures exact { Follows (pushed_if value (present P.view txn.old).state) (present P.view txn.old) (told txn.new result) (present P.view txn.new) }
     ensures keeps { Keeps P.view P.since 2 txn.old txn.new }
 {
     let top = txn.reg(14).wrapping_sub(4);
@@ -78,9 +78,9 @@ pub(crate) fn push_if<P: Port>(txn: &mut Txn<P>, value: u32) -> Result<bool, Cut
 /// Pushes what stands behind PSL and PC.
 #[inline]
 #[tactic(auto, unfolding(vax_flat::specs::Delivery::pushed_all))]
-fn push_parameters<P: Port>(txn: &mut Txn<P>, parameters: Parameters) -> Result<bool, Cut>
+fn push_parameters<P: Port>(txn: &mut Txn<P>, parameters: Parameters) -> Result<bool, CutShort>
     requires { 4 ≤ room txn.old }
-    ensures exact { Follows (pushed_all (listed parameters) (present P.view txn.old).state) (present P.view txn.old) result (present P.view txn.new) }
+    ensures exact { Follows (pushed_all (listed parameters) (present P.view txn.old).state) (present P.view txn.old) (told txn.new result) (present P.view txn.new) }
     ensures keeps { Keeps P.view P.since 4 txn.old txn.new }
 {
     match parameters {
@@ -110,9 +110,9 @@ pub(crate) fn push_frame<P: Port>(
     psl: Psl,
     pc: u32,
     parameters: Parameters,
-) -> Result<bool, Cut>
+) -> Result<bool, CutShort>
     requires { 8 ≤ room txn.old }
-    ensures exact { Follows (pushed_all (psl.0 ∷ pc ∷ listed parameters) (present P.view txn.old).state) (present P.view txn.old) result (present P.view txn.new) }
+    ensures exact { Follows (pushed_all (psl.0 ∷ pc ∷ listed parameters) (present P.view txn.old).state) (present P.view txn.old) (told txn.new result) (present P.view txn.new) }
     ensures keeps { Keeps P.view P.since 8 txn.old txn.new }
 {
     if !push_if(txn, psl.0)? {

@@ -2,12 +2,12 @@
 ghost use Rattle.std.specs.Prelude.{◌≡◌, ◌^◌, ◌<◌, ◌≤◌, ℕ};
 ghost use Rattle.vax_flat.specs.System.{accessing, probe, probed};
 ghost use Rattle.vax_flat.specs.OverPort.{Follows};
-ghost use Rattle.vax_undo.specs.Transaction.{present, room, Keeps};
+ghost use Rattle.vax_undo.specs.Transaction.{present, room, Keeps, told};
 
-use vax_flat::{Cut, Flow};
+use vax_flat::Flow;
 use vax_operand::{is_allowed, next_address, next_value, set_codes};
 use vax_space::Access;
-use vax_undo::{Port, Txn};
+use vax_undo::{CutShort, Port, Txn};
 use vax_word::{Codes, Size};
 
 #[inline]
@@ -25,11 +25,11 @@ fn probe_by<P: Port>(
     mode: u8,
     length: u32,
     base: u32,
-) -> Result<Flow, Cut>
+) -> Result<Flow, CutShort>
     requires of_mode { mode ≤ 3 }
     requires length { length < 2 ^ 16 }
     requires room { 1 ≤ room txn.old }
-    ensures exact { Follows (probed writing mode length base (present P.view txn.old).state) (present P.view txn.old) result (present P.view txn.new) }
+    ensures exact { Follows (probed writing mode length base (present P.view txn.old).state) (present P.view txn.old) (told txn.new result) (present P.view txn.new) }
     ensures keeps { Keeps P.view P.since 1 txn.old txn.new }
 {
     let access = accessing(writing);
@@ -48,9 +48,9 @@ fn probe_by<P: Port>(
 
 /// PROBER, PROBEW.
 #[tactic(auto, unfolding(vax_flat::specs::System::probe))]
-pub(crate) fn probe<P: Port>(txn: &mut Txn<P>, writing: bool) -> Result<Flow, Cut>
+pub(crate) fn probe<P: Port>(txn: &mut Txn<P>, writing: bool) -> Result<Flow, CutShort>
     requires { 13 ≤ room txn.old }
-    ensures exact { Follows (probe writing (present P.view txn.old).state) (present P.view txn.old) result (present P.view txn.new) }
+    ensures exact { Follows (probe writing (present P.view txn.old).state) (present P.view txn.old) (told txn.new result) (present P.view txn.new) }
     ensures keeps { Keeps P.view P.since 13 txn.old txn.new }
 {
     let named = next_value(txn, Size::B)?;

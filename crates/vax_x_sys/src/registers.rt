@@ -2,16 +2,17 @@
 ghost use Rattle.std.specs.Prelude.{◌≡◌, ◌<◌, ◌≤◌, ◌%◌, ◌^◌, ℕ};
 ghost use Rattle.vax_flat.specs.System.{clock_set, from_register, get_processor, pointer, requested, set_processor, to_register, with_moved, with_pointer, with_priority};
 ghost use Rattle.vax_flat.specs.OverPort.{Follows};
-ghost use Rattle.vax_undo.specs.Transaction.{present, room, Keeps, with_state};
+ghost use Rattle.vax_undo.specs.Transaction.{present, room, Keeps, with_state, told};
 
 use crate::stacks::stack_in_use;
 use vax_flat::{Cut, Exception, Flow};
 use vax_operand::{next_place, next_value, set_codes, store};
-use vax_undo::{Port, Txn};
+use vax_undo::{CutShort, Port, Txn};
 use vax_word::{Codes, Psl, Size, is_negative};
 
 /// The codes of a value that is moved.
 #[inline]
+#[tactic(auto, unfolding(vax_word::specs::Arithmetic::answer))]
 fn set_moved<P: Port>(txn: &mut Txn<P>, value: u32)
     requires { 1 ≤ room txn.old }
     ensures exact { present P.view txn.new ≡ with_state (present P.view txn.old) (with_moved value (present P.view txn.old).state) }
@@ -99,9 +100,9 @@ fn set_clock<P: Port>(txn: &mut Txn<P>, value: u32)
 
 /// Writes a register of the processor.
 #[tactic(auto, using(vax_flat::proofs::Leaves::over_port_raises), unfolding(vax_flat::specs::System::set_processor))]
-fn set_register<P: Port>(txn: &mut Txn<P>, number: u32, value: u32) -> Result<Flow, Cut>
+fn set_register<P: Port>(txn: &mut Txn<P>, number: u32, value: u32) -> Result<Flow, CutShort>
     requires { 2 ≤ room txn.old }
-    ensures exact { Follows (set_processor number value (present P.view txn.old).state) (present P.view txn.old) result (present P.view txn.new) }
+    ensures exact { Follows (set_processor number value (present P.view txn.old).state) (present P.view txn.old) (told txn.new result) (present P.view txn.new) }
     ensures keeps { Keeps P.view P.since 2 txn.old txn.new }
 {
     if number <= 4 {
@@ -118,16 +119,16 @@ fn set_register<P: Port>(txn: &mut Txn<P>, number: u32, value: u32) -> Result<Fl
     } else if number == 35 {
         txn.emit((value % 0x100) as u8);
     } else if !(number == 32 || number == 34 || number == 57 || number == 58) {
-        return Err(Cut::Event(Exception::Operand));
+        return Err(txn.cut(Cut::Event(Exception::Operand)));
     }
     Ok(Flow::Done)
 }
 
 /// MTPR.
 #[tactic(auto, unfolding(vax_flat::specs::System::to_register))]
-pub(crate) fn to_register<P: Port>(txn: &mut Txn<P>) -> Result<Flow, Cut>
+pub(crate) fn to_register<P: Port>(txn: &mut Txn<P>) -> Result<Flow, CutShort>
     requires { 11 ≤ room txn.old }
-    ensures exact { Follows (to_register (present P.view txn.old).state) (present P.view txn.old) result (present P.view txn.new) }
+    ensures exact { Follows (to_register (present P.view txn.old).state) (present P.view txn.old) (told txn.new result) (present P.view txn.new) }
     ensures keeps { Keeps P.view P.since 11 txn.old txn.new }
 {
     let value = next_value(txn, Size::L)? as u32;
@@ -138,9 +139,9 @@ pub(crate) fn to_register<P: Port>(txn: &mut Txn<P>) -> Result<Flow, Cut>
 
 /// The value of a register of the processor. That of the console's input takes a byte.
 #[tactic(auto, using(vax_flat::proofs::Leaves::over_port_raises), unfolding(vax_flat::specs::System::get_processor))]
-fn get_register<P: Port>(txn: &mut Txn<P>, number: u32) -> Result<u32, Cut>
+fn get_register<P: Port>(txn: &mut Txn<P>, number: u32) -> Result<u32, CutShort>
     requires { 1 ≤ room txn.old }
-    ensures exact { Follows (get_processor number (present P.view txn.old).state) (present P.view txn.old) result (present P.view txn.new) }
+    ensures exact { Follows (get_processor number (present P.view txn.old).state) (present P.view txn.old) (told txn.new result) (present P.view txn.new) }
     ensures keeps { Keeps P.view P.since 1 txn.old txn.new }
 {
     if number <= 4 {
@@ -161,15 +162,15 @@ fn get_register<P: Port>(txn: &mut Txn<P>, number: u32) -> Result<u32, Cut>
     } else if number == 34 {
         Ok(0x80)
     } else {
-        Err(Cut::Event(Exception::Operand))
+        Err(txn.cut(Cut::Event(Exception::Operand)))
     }
 }
 
 /// MFPR.
 #[tactic(auto, unfolding(vax_flat::specs::System::from_register))]
-pub(crate) fn from_register<P: Port>(txn: &mut Txn<P>) -> Result<Flow, Cut>
+pub(crate) fn from_register<P: Port>(txn: &mut Txn<P>) -> Result<Flow, CutShort>
     requires { 12 ≤ room txn.old }
-    ensures exact { Follows (from_register (present P.view txn.old).state) (present P.view txn.old) result (present P.view txn.new) }
+    ensures exact { Follows (from_register (present P.view txn.old).state) (present P.view txn.old) (told txn.new result) (present P.view txn.new) }
     ensures keeps { Keeps P.view P.since 12 txn.old txn.new }
 {
     let number = next_value(txn, Size::L)? as u32;

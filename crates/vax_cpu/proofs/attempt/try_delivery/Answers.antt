@@ -1,27 +1,14 @@
-use Rattle.std.proofs.Common.{rules, ap}
-use Rattle.vax_flat.specs.OverPort.{Present}
-use Rattle.vax_flat.specs.Step.{delivered}
-use Rattle.vax_undo.specs.Transaction.{present, state_of}
-use Rattle.vax_cpu.specs.Tried.{ending_of}
-use Rattle.vax_cpu.proofs.Attempts.{kept, finished, present_of}
+use Rattle.std.proofs.Common.{◌∙◌, ap, subst, rules}
+use Rattle.vax_flat.specs.OverPort.{Present, Follows}
+use Rattle.vax_flat.specs.Step.{delivered, whole_delivery}
+use Rattle.vax_undo.specs.Transaction.{bare, present, state_of, told}
+use Rattle.vax_cpu.proofs.Attempts.{tried_at, undone_unless}
 use Rattle.vax_cpu.proofs.attempt.try_delivery.Goals as goal
 
-pub returns-in-Ok-Done-clause-tried : goal.returns-in-Ok-Done-clause-tried
-returns-in-Ok-Done-clause-tried g c =
+pub returns-clause-tried : goal.returns-clause-tried
+returns-clause-tried g c =
     let old : Present = record { state = state_of c.args.core.now c.args.term.now; view = g.P.Port.view c.args.port.now } in
-    kept (delivered c.args.exception) old (present g.P.Port.view c.begin-txn.result) (present g.P.Port.view c.work_delivery.new.txn) (record { state = _; view = _ }) c.begin-txn.ensures.present
-    c.in-Ok-Done.field-0 c.in-Ok-Done.ensures.exact c.commit.result c.in-Ok-Done.field-0-is (search rules) (search rules) c.commit.ensures.sent
-
-pub returns-in-Ok-Trap-clause-tried : goal.returns-in-Ok-Trap-clause-tried
-returns-in-Ok-Trap-clause-tried g c =
-    let old : Present = record { state = state_of c.args.core.now c.args.term.now; view = g.P.Port.view c.args.port.now } in
-    finished (delivered c.args.exception) old (present g.P.Port.view c.begin-txn.result) (present g.P.Port.view c.work_delivery.new.txn) _ c.begin-txn.ensures.present
-    c.in-Ok-Trap.field-0 c.in-Ok-Trap.ensures.exact _ (ap ending_of c.in-Ok-Trap.field-0-is)
-    (present_of old _ _ (search rules) (search rules))
-
-pub returns-in-Ok-Ended-clause-tried : goal.returns-in-Ok-Ended-clause-tried
-returns-in-Ok-Ended-clause-tried g c =
-    let old : Present = record { state = state_of c.args.core.now c.args.term.now; view = g.P.Port.view c.args.port.now } in
-    finished (delivered c.args.exception) old (present g.P.Port.view c.begin-txn.result) (present g.P.Port.view c.work_delivery.new.txn) _ c.begin-txn.ensures.present
-    c.in-Ok-Ended.field-0 c.in-Ok-Ended.ensures.exact _ (ap ending_of c.in-Ok-Ended.field-0-is)
-    (present_of old _ _ (search rules) (search rules))
+    tried_at (whole_delivery c.args.exception) old c.conclude.result (record { state = _; view = _ }) _ _ (search rules) (search rules)
+    (c.conclude.ensures.tried old (delivered c.args.exception)
+    (subst (λ (p : Present). Follows ((delivered c.args.exception) p.state) p (told c.work_delivery-done.new.txn c.work_delivery-done.result) (present g.P.Port.view c.work_delivery-done.new.txn)) c.begin-txn.ensures.present c.work_delivery-done.ensures.exact)
+    (undone_unless g.P.Port.view g.P.Port.since 2 c.work_delivery-done.result c.begin-txn.result c.work_delivery-done.new.txn c.work_delivery-done.ensures.keeps old (c.begin-txn.ensures.undone ∙ ap bare c.begin-txn.ensures.present)))

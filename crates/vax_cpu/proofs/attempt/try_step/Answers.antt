@@ -1,27 +1,14 @@
-use Rattle.std.proofs.Common.{rules, ap}
-use Rattle.vax_flat.specs.OverPort.{Present}
-use Rattle.vax_flat.specs.Step.{whole}
-use Rattle.vax_undo.specs.Transaction.{present, state_of}
-use Rattle.vax_cpu.specs.Tried.{ending_of}
-use Rattle.vax_cpu.proofs.Attempts.{kept, finished, present_of}
+use Rattle.std.proofs.Common.{◌∙◌, ap, subst, rules}
+use Rattle.vax_flat.specs.OverPort.{Present, Follows}
+use Rattle.vax_flat.specs.Step.{whole, whole_step}
+use Rattle.vax_undo.specs.Transaction.{bare, present, state_of, told}
+use Rattle.vax_cpu.proofs.Attempts.{tried_at, undone_unless}
 use Rattle.vax_cpu.proofs.attempt.try_step.Goals as goal
 
-pub returns-in-Ok-Done-clause-tried : goal.returns-in-Ok-Done-clause-tried
-returns-in-Ok-Done-clause-tried g c =
+pub returns-clause-tried : goal.returns-clause-tried
+returns-clause-tried g c =
     let old : Present = record { state = state_of c.args.core.now c.args.term.now; view = g.P.Port.view c.args.port.now } in
-    kept whole old (present g.P.Port.view c.begin-txn.result) (present g.P.Port.view c.work.new.txn) (record { state = _; view = _ }) c.begin-txn.ensures.present
-    c.in-Ok-Done.field-0 c.in-Ok-Done.ensures.exact c.commit.result c.in-Ok-Done.field-0-is (search rules) (search rules) c.commit.ensures.sent
-
-pub returns-in-Ok-Trap-clause-tried : goal.returns-in-Ok-Trap-clause-tried
-returns-in-Ok-Trap-clause-tried g c =
-    let old : Present = record { state = state_of c.args.core.now c.args.term.now; view = g.P.Port.view c.args.port.now } in
-    finished whole old (present g.P.Port.view c.begin-txn.result) (present g.P.Port.view c.work.new.txn) _ c.begin-txn.ensures.present
-    c.in-Ok-Trap.field-0 c.in-Ok-Trap.ensures.exact _ (ap ending_of c.in-Ok-Trap.field-0-is)
-    (present_of old _ _ (search rules) (search rules))
-
-pub returns-in-Ok-Ended-clause-tried : goal.returns-in-Ok-Ended-clause-tried
-returns-in-Ok-Ended-clause-tried g c =
-    let old : Present = record { state = state_of c.args.core.now c.args.term.now; view = g.P.Port.view c.args.port.now } in
-    finished whole old (present g.P.Port.view c.begin-txn.result) (present g.P.Port.view c.work.new.txn) _ c.begin-txn.ensures.present
-    c.in-Ok-Ended.field-0 c.in-Ok-Ended.ensures.exact _ (ap ending_of c.in-Ok-Ended.field-0-is)
-    (present_of old _ _ (search rules) (search rules))
+    tried_at whole_step old c.conclude.result (record { state = _; view = _ }) _ _ (search rules) (search rules)
+    (c.conclude.ensures.tried old whole
+    (subst (λ (p : Present). Follows (whole p.state) p (told c.work-done.new.txn c.work-done.result) (present g.P.Port.view c.work-done.new.txn)) c.begin-txn.ensures.present c.work-done.ensures.exact)
+    (undone_unless g.P.Port.view g.P.Port.since 30 c.work-done.result c.begin-txn.result c.work-done.new.txn c.work-done.ensures.keeps old (c.begin-txn.ensures.undone ∙ ap bare c.begin-txn.ensures.present)))

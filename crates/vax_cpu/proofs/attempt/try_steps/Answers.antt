@@ -1,19 +1,23 @@
-use Rattle.std.proofs.Common.{◌∙◌, ap, arith, refl, rules}
-use Rattle.vax_flat.specs.OverPort.{Present}
-use Rattle.vax_flat.specs.Step.{whole}
-use Rattle.vax_undo.specs.Transaction.{present}
-use Rattle.vax_cpu.specs.Tried.{ending_of}
-use Rattle.vax_cpu.proofs.Attempts.{kept, finished, present_of, renewed_step, sent_step, ran_more}
+use Rattle.std.proofs.Common.{◌≡◌, ◌∙◌, Ok, None, ap, subst, arith, rules}
+use Rattle.vax_flat.specs.declared.Flow.TheVariants as flow
+use Rattle.vax_flat.specs.OverPort.{Present, Follows}
+use Rattle.vax_flat.specs.Step.{whole, whole_step}
+use Rattle.vax_undo.specs.Transaction.{present, told}
+use Rattle.vax_cpu.proofs.Attempts.{done_of, not_done, renewed_step, sent_step, ran_more, tried_at, undone_unless}
 use Rattle.vax_cpu.proofs.attempt.try_steps.Goals as goal
 
 pub loop-steps-preserved : goal.loop-steps-preserved
 loop-steps-preserved g c =
     let view = g.P.Port.view in
     let inv = c.loop-steps.invariant in
-    let same = c.in-Ok-Done.ensures.keeps.same in
+    let same = c.work-done.ensures.same in
+    let now = present view c.loop-steps.txn in
+    let mid = present view c.work-done.new.txn in
+    let done = done_of c.work-done.result (search rules) in
+    let follows : Follows (whole now.state) now (Ok flow.Done) mid = subst (λ w. Follows (whole now.state) now (told c.work-done.new.txn w) mid) done c.work-done.ensures.exact in
     record {
-      ran = ran_more c.loop-steps.steps _ (present view c.loop-steps.txn) (present view c.renew.new.self) inv.ran
-          (renewed_step (present view c.loop-steps.txn) (present view c.work.new.txn) (present view c.renew.new.self) c.in-Ok-Done.field-0 c.in-Ok-Done.ensures.exact c.in-Ok-Done.field-0-is c.renew.ensures.present c.in-None.ensures.sent)
+      ran = ran_more c.loop-steps.steps _ now (present view c.renew.new.self) inv.ran
+          (renewed_step now mid (present view c.renew.new.self) follows c.renew.ensures.present c.in-None.ensures.sent)
           (ap (λ v. v.items) (c.renew.ensures.same.input ∙ same.input));
       few = omega arith;
       undone = c.renew.ensures.undone;
@@ -29,54 +33,23 @@ loop-steps-preserved g c =
 
 pub returns-in-Some-clause-ran : goal.returns-in-Some-clause-ran
 returns-in-Some-clause-ran g c =
-    let now = present g.P.Port.view c.loop-steps.txn in (
+    let view = g.P.Port.view in
+    let now = present view c.loop-steps.txn in
+    let mid = present view c.work-done.new.txn in
+    let done = done_of c.work-done.result (search rules) in
+    let follows : Follows (whole now.state) now (Ok flow.Done) mid = subst (λ w. Follows (whole now.state) now (told c.work-done.new.txn w) mid) done c.work-done.ensures.exact in (
       now,
       c.loop-steps.invariant.ran,
-      sent_step now (present g.P.Port.view c.work.new.txn) (present g.P.Port.view c.renew.new.self) (record { state = _; view = _ }) c.in-Ok-Done.field-0 c.in-Some.byte c.in-Ok-Done.ensures.exact c.in-Ok-Done.field-0-is
+      sent_step now mid (present view c.renew.new.self) (record { state = _; view = _ }) c.in-Some.byte follows
           c.renew.ensures.present (search rules) (search rules) c.in-Some.ensures.sent,
     )
 
-pub returns-in-Ok-Trap-clause-ran : goal.returns-in-Ok-Trap-clause-ran
-returns-in-Ok-Trap-clause-ran g c =
+pub returns-clause-ran : goal.returns-clause-ran
+returns-clause-ran g c =
     let now = present g.P.Port.view c.loop-steps.txn in (
       now,
       c.loop-steps.invariant.ran,
-      finished whole now now (present g.P.Port.view c.work.new.txn) _ refl c.in-Ok-Trap.field-0 c.in-Ok-Trap.ensures.exact _ (ap ending_of c.in-Ok-Trap.field-0-is)
-          (present_of now _ _ (search rules) (search rules)),
-    )
-
-pub returns-in-Ok-Ended-clause-ran : goal.returns-in-Ok-Ended-clause-ran
-returns-in-Ok-Ended-clause-ran g c =
-    let now = present g.P.Port.view c.loop-steps.txn in (
-      now,
-      c.loop-steps.invariant.ran,
-      finished whole now now (present g.P.Port.view c.work.new.txn) _ refl c.in-Ok-Ended.field-0 c.in-Ok-Ended.ensures.exact _ (ap ending_of c.in-Ok-Ended.field-0-is)
-          (present_of now _ _ (search rules) (search rules)),
-    )
-
-pub returns-in-Ok-Trap-work-clause-ran : goal.returns-in-Ok-Trap-work-clause-ran
-returns-in-Ok-Trap-work-clause-ran g c =
-    let now = present g.P.Port.view c.loop-steps.txn in (
-      now,
-      c.loop-steps.invariant.ran,
-      finished whole now now (present g.P.Port.view c.work-2.new.txn) _ refl c.in-Ok-Trap-work.field-0 c.in-Ok-Trap-work.ensures.exact _ (ap ending_of c.in-Ok-Trap-work.field-0-is)
-          (present_of now _ _ (search rules) (search rules)),
-    )
-
-pub returns-in-Ok-Ended-work-clause-ran : goal.returns-in-Ok-Ended-work-clause-ran
-returns-in-Ok-Ended-work-clause-ran g c =
-    let now = present g.P.Port.view c.loop-steps.txn in (
-      now,
-      c.loop-steps.invariant.ran,
-      finished whole now now (present g.P.Port.view c.work-2.new.txn) _ refl c.in-Ok-Ended-work.field-0 c.in-Ok-Ended-work.ensures.exact _ (ap ending_of c.in-Ok-Ended-work.field-0-is)
-          (present_of now _ _ (search rules) (search rules)),
-    )
-
-pub returns-in-Ok-Done-work-clause-ran : goal.returns-in-Ok-Done-work-clause-ran
-returns-in-Ok-Done-work-clause-ran g c =
-    let now = present g.P.Port.view c.loop-steps.txn in (
-      now,
-      c.loop-steps.invariant.ran,
-      kept whole now now (present g.P.Port.view c.work-2.new.txn) (record { state = _; view = _ }) refl
-          c.in-Ok-Done-work.field-0 c.in-Ok-Done-work.ensures.exact c.commit-in-Ok-Done-work.result c.in-Ok-Done-work.field-0-is (search rules) (search rules) c.commit-in-Ok-Done-work.ensures.sent,
+      tried_at whole_step now c.conclude-last-2.result (record { state = _; view = _ }) _ _ (search rules) (search rules)
+          (c.conclude-last-2.ensures.tried now whole c.work-done-2.ensures.exact
+          (undone_unless g.P.Port.view g.P.Port.since 30 c.work-done-2.result c.loop-steps.txn c.work-done-2.new.txn c.work-done-2.ensures.keeps now c.loop-steps.invariant.undone)),
     )

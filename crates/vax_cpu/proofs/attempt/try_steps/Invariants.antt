@@ -1,5 +1,5 @@
 use Rattle.std.proofs.Common.{◌≡◌, ◌-◌, ◌<◌, None}
-use Rattle.vax_undo.specs.Transaction.{present, undone, room, state_of, IsReady}
+use Rattle.vax_undo.specs.Transaction.{bare, present, undone, room, state_of, IsReady}
 use Rattle.vax_cpu.specs.Batch.{Ran}
 use Rattle.vax_cpu.proofs.attempt.try_steps.Given as goal
 
@@ -8,7 +8,7 @@ abbrev pub invariant-loop-steps : goal.invariant-loop-steps
 invariant-loop-steps g l = record {
   ran : Ran l.steps (record { state = state_of l.fn.core l.fn.term; view = g.P.Port.view l.fn.port }) (present g.P.Port.view l.txn);
   few : l.steps < l.most;
-  undone : undone g.P.Port.view l.txn ≡ present g.P.Port.view l.txn;
+  undone : undone g.P.Port.view l.txn ≡ bare (present g.P.Port.view l.txn);
   room : room l.txn ≡ 96;
   ready : IsReady g.P.Port.view l.txn;
   core : l.txn.core.ghost_name ≡ l.initial.txn.core.ghost_name;

@@ -1,5 +1,5 @@
 use Rattle.std.proofs.Common.{arith, refl}
-use Rattle.vax_undo.specs.Transaction.{present}
+use Rattle.vax_undo.specs.Transaction.{bare, present}
 use Rattle.vax_undo.specs.declared.entry.Kept.TheVariants as kept
 use Rattle.vax_undo.proofs.Undo.{logged, set_back, undone_alike, pc_set}
 use Rattle.vax_undo.proofs.txn.Txn.set_reg.Goals as goal
@@ -12,7 +12,7 @@ returns-clause-keeps g c =
 
 pub returns-then-n-eq15-clause-keeps : goal.returns-then-n-eq15-clause-keeps
 returns-then-n-eq15-clause-keeps g c = record {
-  undone = undone_alike c.args.self.now.origin c.args.self.now.log.items _ _ (pc_set c.args.self.now.origin (present g.P.Port.view c.args.self.now) c.args.v);
+  undone = undone_alike c.args.self.now.origin c.args.self.now.log.items _ _ (pc_set c.args.self.now.origin (bare (present g.P.Port.view c.args.self.now)) c.args.v);
   ready = λ ready. ready;
   room = omega arith;
   same = record { core = refl; term = refl; port = refl; input = refl; since = λ start h. h };
