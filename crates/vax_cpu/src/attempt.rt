@@ -80,7 +80,7 @@ fn hand_over<P: Port>(txn: &mut Txn<P>, how: Delivery) -> Result<Flow, CutShort>
 /// The delivery of an exception, and the clock.
 #[cold]
 #[tactic(auto, unfolding(vax_flat::specs::Step::delivered))]
-fn work_delivery<P: Port>(txn: &mut Txn<P>, exception: Exception) -> Result<Flow, CutShort>
+fn deliver_and_tick<P: Port>(txn: &mut Txn<P>, exception: Exception) -> Result<Flow, CutShort>
     requires { 18 ≤ room txn.old }
     ensures exact { Follows (delivered exception (present P.view txn.old).state) (present P.view txn.old) (told txn.new result) (present P.view txn.new) }
     ensures keeps { Keeps P.view P.since 18 txn.old txn.new }
@@ -114,7 +114,7 @@ fn finish<P: Port>(txn: &mut Txn<P>, flow: Flow) -> Result<Flow, CutShort>
             Ok(Flow::Done)
         }
         Flow::Clocked => Ok(Flow::Done),
-        Flow::Trap(trap) => work_delivery(txn, Exception::Arithmetic(trap)),
+        Flow::Trap(trap) => deliver_and_tick(txn, Exception::Arithmetic(trap)),
         Flow::More { opcode, units } => Ok(Flow::More { opcode, units }),
         Flow::Ended(ending) => Ok(Flow::Ended(ending)),
     }
@@ -131,6 +131,18 @@ fn work<P: Port>(txn: &mut Txn<P>) -> Result<Flow, CutShort>
 {
     let flow = begin(txn)?;
     finish(txn, flow)
+}
+
+/// The delivery of an exception, and the clock.
+#[inline]
+#[tactic(auto, using(vax_undo::proofs::Left::always))]
+fn work_delivery<P: Port>(txn: &mut Txn<P>, exception: Exception) -> Result<Flow, CutShort>
+    requires { 18 ≤ room txn.old }
+    ensures exact { Follows (delivered exception (present P.view txn.old).state) (present P.view txn.old) (told txn.new result) (present P.view txn.new) }
+    ensures keeps { KeepsUnlessDone P.view P.since 18 result txn.old txn.new }
+    ensures same { IsSame P.since txn.old txn.new }
+{
+    deliver_and_tick(txn, exception)
 }
 
 /// How an instruction that went so ends the run, if it does.
