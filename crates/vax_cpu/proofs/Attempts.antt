@@ -11,15 +11,18 @@ use Rattle.vax_flat.specs.Port.{View, unmarked, with_marks}
 use Rattle.vax_flat.specs.Accesses.{Accesses, Leaf, Went}
 use Rattle.vax_flat.specs.OverPort.{Present, Comes, Stops, over_port, Follows}
 use Rattle.vax_flat.specs.Step.{leaf, whole, whole_step}
-use Rattle.vax_undo.specs.Transaction.{bare}
+use Rattle.std.specs.Prelude.{is_none}
+use Rattle.vax_undo.specs.declared.txn.CutShort.{CutShort}
+use Rattle.vax_undo.specs.declared.txn.Txn.{Txn as Transaction}
+use Rattle.vax_undo.specs.Transaction.{bare, undone, IsReady, Keeps, KeepsUnlessDone}
 use Rattle.vax_cpu.specs.declared.attempt.Tried.{Tried}
 use Rattle.vax_cpu.specs.declared.attempt.Tried.TheVariants as tried
-use Rattle.vax_cpu.specs.Tried.{IsTried, ending_of, is_done, marked_as}
+use Rattle.vax_cpu.specs.Tried.{IsTried, UnlessDone, UnlessEnded, ending_of, is_done, marked_as}
 use Rattle.vax_cpu.specs.Batch.{Ran}
 
 -- what was undone is as before, but for the marks
-pub undone_as : (old undone : Present) (state : State) (view : View) → state ≡ undone.state → unmarked view ≡ undone.view → undone ≡ bare old → record { state = state; view = view } ≡ marked_as old view
-undone_as old undone state view s v e =
+pub undone_as : (old back : Present) (state : State) (view : View) → state ≡ back.state → unmarked view ≡ back.view → back ≡ bare old → record { state = state; view = view } ≡ marked_as old view
+undone_as old back state view s v e =
     let here : state ≡ old.state = s ∙ ap (λ (p : Present). p.state) e in
     let there : view ≡ with_marks old.view view.marked = ap (λ (x : View). with_marks x view.marked) (v ∙ ap (λ (p : Present). p.view) e) in
     ap (λ x. record { state = x; view = view }) here ∙ ap (λ x. record { state = old.state; view = x }) there
@@ -56,14 +59,55 @@ module _ (tree : State → (Flow → State → Accesses Leaf) → Accesses Leaf)
 pub tried_at : (tree : State → Accesses Leaf) (old : Present) (t : Tried) (mid : Present) (state : State) (view : View) → state ≡ mid.state → view ≡ mid.view → IsTried tree old t mid → IsTried tree old t (record { state = state; view = view })
 tried_at tree old t mid state view s v h = subst (IsTried tree old t) (λ k. record { state = sym s k; view = sym v k }) h
 
-pub done_of : {E : Type 0} (work : Result Flow E) → is_done work ≡ true → work ≡ Ok flow.Done
-done_of (Ok flow.Done) h = refl
-done_of (Ok (flow.Trap kind)) h = cc
-done_of (Ok (flow.Ended e)) h = cc
-done_of (Err e) h = cc
+-- what was completed, and what wasn't
+pub done_from : (how : Flow) → ending_of how ≡ None → how ≡ flow.Done
+done_from flow.Done h = refl
+done_from flow.Clocked h = cc
+done_from (flow.Trap trap) h = cc
+done_from (flow.More opcode units) h = cc
+done_from (flow.Ended e) h = cc
 
-pub not_done : {E : Type 0} (work : Result Flow E) → is_done work ≡ false → work ≡ Ok flow.Done → ⊥
+none_of : (e : Option Ending) → is_none e ≡ true → e ≡ None
+none_of None h = refl
+none_of (Some e) h = cc
+
+pub done_of : (work : Result Flow CutShort) → is_done work ≡ true → work ≡ Ok flow.Done
+done_of (Ok how) h = ap (λ x. Ok x) (done_from how (none_of (ending_of how) h))
+done_of (Err short) h = cc
+
+pub not_done : (work : Result Flow CutShort) → is_done work ≡ false → work ≡ Ok flow.Done → ⊥
 not_done work h is = let no : true ≡ false = sym (ap is_done is) ∙ h in cc
+
+pub unless_ended : (ended : Option Ending) (e : Ending) (fact : Type 0) → ended ≡ Some e → UnlessEnded ended fact → fact
+unless_ended None e fact is holds = cc
+unless_ended (Some x) e fact is holds = holds
+
+pub unless_in : (ended : Option Ending) (a b : Type 0) → (a → b) → UnlessEnded ended a → UnlessEnded ended b
+unless_in None a b f holds = tt
+unless_in (Some e) a b f holds = f holds
+
+pub unless : (work : Result Flow CutShort) (a b : Type 0) → (a → b) → UnlessDone work a → UnlessDone work b
+unless (Ok how) a b f holds = unless_in (ending_of how) a b f holds
+unless (Err short) a b f holds = f holds
+
+pub kept_unless : {P : Type 0} (view : P → View) (along : P → P → Type 0) (count : ℕ) (work : Result Flow CutShort) (old next : Transaction P) → KeepsUnlessDone view along count work old next → UnlessDone work (Keeps view along count old next)
+kept_unless view along count (Ok flow.Done) old next keeps = tt
+kept_unless view along count (Ok flow.Clocked) old next keeps = keeps
+kept_unless view along count (Ok (flow.Trap trap)) old next keeps = keeps
+kept_unless view along count (Ok (flow.More opcode units)) old next keeps = keeps
+kept_unless view along count (Ok (flow.Ended e)) old next keeps = keeps
+kept_unless view along count (Err short) old next keeps = keeps
+
+-- what conclude needs of the work of a transaction that had just begun
+module _ {P : Type 0} (view : P → View) (along : P → P → Type 0) (count : ℕ) (work : Result Flow CutShort) (old next : Transaction P) (keeps : KeepsUnlessDone view along count work old next) where
+  pub ready_unless : IsReady view old → UnlessDone work (IsReady view next)
+  ready_unless ready = unless work _ _ (λ (k : Keeps view along count old next). k.ready ready) (kept_unless view along count work old next keeps)
+
+  pub undone_unless : (start : Present) → undone view old ≡ bare start → UnlessDone work (undone view next ≡ bare start)
+  undone_unless start e = unless work _ _ (λ (k : Keeps view along count old next). k.undone ∙ e) (kept_unless view along count work old next keeps)
+
+  pub unsent_unless : (undone view old).state.sent ≡ None → UnlessDone work ((undone view next).state.sent ≡ None)
+  unsent_unless e = unless work _ _ (λ (k : Keeps view along count old next). ap (λ (p : Present). p.state.sent) k.undone ∙ e) (kept_unless view along count work old next keeps)
 
 -- a step that was kept and sent nothing, and what it began anew from
 pub renewed_step : (now mid next : Present) → Follows (whole now.state) now (Ok flow.Done) mid →

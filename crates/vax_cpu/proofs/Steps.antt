@@ -36,7 +36,9 @@ flat_alike c d memory i j t u o p e f ec ei et eo ee k = record { core = ec k; m
 
 concluded_ends : (m : Flat) (how : Flow) (s : State) (memory : List Area) (e : Ending) → ending_of how ≡ Some e → concluded m (Went how s) memory ≡ ended m e
 concluded_ends m flow.Done s memory e h = cc
+concluded_ends m flow.Clocked s memory e h = let is : Unbuilt ≡ e = cc in ap (ended m) is
 concluded_ends m (flow.Trap kind) s memory e h = let is : Unbuilt ≡ e = cc in ap (ended m) is
+concluded_ends m (flow.More opcode units) s memory e h = let is : Unbuilt ≡ e = cc in ap (ended m) is
 concluded_ends m (flow.Ended x) s memory e h = let is : x ≡ e = cc in ap (ended m) is
 
 -- a processor after a step that was kept

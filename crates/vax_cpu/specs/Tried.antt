@@ -1,5 +1,5 @@
 -- What a transaction that makes the accesses of a tree came to.
-use Rattle.std.specs.Prelude.{◌≡◌, Bool, true, false, Option, Some, None, Result, Ok, Err}
+use Rattle.std.specs.Prelude.{◌≡◌, Bool, false, is_none, Option, Some, None, Result, Ok, Err}
 use Rattle.vax_flat.specs.declared.Cut.TheVariants as cut
 use Rattle.vax_flat.specs.declared.Ending.{Ending}
 use Rattle.vax_flat.specs.declared.Ending.TheVariants.{Unbuilt}
@@ -11,21 +11,31 @@ use Rattle.vax_flat.specs.Port.{View, with_marks}
 use Rattle.vax_flat.specs.Accesses.{Accesses, Leaf, Went}
 use Rattle.vax_flat.specs.OverPort.{Present, Comes, Stops, over_port}
 use Rattle.vax_flat.specs.Step.{whole_step, whole_delivery}
+use Rattle.vax_undo.specs.declared.txn.CutShort.{CutShort}
 use Rattle.vax_cpu.specs.declared.attempt.Tried.{Tried}
 use Rattle.vax_cpu.specs.declared.attempt.Tried.TheVariants.{Step, Absent, Ended, Event}
-
--- an instruction that was completed
-abbrev pub is_done : {E : Type 0} → Result Flow E → Bool
-is_done (Ok flow.Done) = true
-is_done (Ok (flow.Trap kind)) = false
-is_done (Ok (flow.Ended e)) = false
-is_done (Err e) = false
 
 -- how an instruction that went so ends the run, if it does
 abbrev pub ending_of : Flow → Option Ending
 ending_of flow.Done = None
+ending_of flow.Clocked = Some Unbuilt
 ending_of (flow.Trap kind) = Some Unbuilt
+ending_of (flow.More opcode units) = Some Unbuilt
 ending_of (flow.Ended e) = Some e
+
+-- an instruction that was completed
+abbrev pub is_done : Result Flow CutShort → Bool
+is_done (Ok how) = is_none (ending_of how)
+is_done (Err short) = false
+
+abbrev pub UnlessEnded : Option Ending → Type 0 → Type 0
+UnlessEnded None fact = Unit {0}
+UnlessEnded (Some e) fact = fact
+
+-- what holds of an instruction that wasn't completed
+abbrev pub UnlessDone : Result Flow CutShort → Type 0 → Type 0
+UnlessDone (Ok how) fact = UnlessEnded (ending_of how) fact
+UnlessDone (Err short) fact = fact
 
 -- all is as before but for the marks: a page stays marked where the write to it was undone
 abbrev pub marked_as : Present → View → Present

@@ -4,8 +4,8 @@ ghost use Rattle.vax_flat.specs.Accesses.{Accesses, Leaf};
 ghost use Rattle.vax_flat.specs.State.{State};
 ghost use Rattle.vax_flat.specs.OverPort.{Follows, Present};
 ghost use Rattle.vax_flat.specs.Step.{begun, delivery, finished, leaf, whole, whole_step, delivered, whole_delivery};
-ghost use Rattle.vax_undo.specs.Transaction.{bare, present, room, state_of, told, undone, IsReady, Keeps};
-ghost use Rattle.vax_cpu.specs.Tried.{IsFinal, IsTried, Made, is_done};
+ghost use Rattle.vax_undo.specs.Transaction.{bare, present, room, state_of, told, undone, IsReady, IsSame, Keeps, KeepsUnlessDone};
+ghost use Rattle.vax_cpu.specs.Tried.{IsFinal, IsTried, Made, UnlessDone, ending_of, is_done};
 ghost use Rattle.vax_cpu.specs.Batch.{Ran};
 
 use crate::instruction::execute;
@@ -30,11 +30,12 @@ pub(crate) enum Tried {
 
 /// An interrupt above the priority, or the instruction at PC.
 #[inline(always)]
-#[tactic(auto, unfolding(vax_flat::specs::Step::begun, vax_flat::specs::Step::interrupt))]
+#[tactic(auto, using(vax_undo::proofs::Left::always), unfolding(vax_flat::specs::Step::begun, vax_flat::specs::Step::interrupt))]
 fn begin<P: Port>(txn: &mut Txn<P>) -> Result<Flow, CutShort>
     requires { 28 ≤ room txn.old }
     ensures exact { Follows (begun (present P.view txn.old).state) (present P.view txn.old) (told txn.new result) (present P.view txn.new) }
-    ensures keeps { Keeps P.view P.since 28 txn.old txn.new }
+    ensures keeps { KeepsUnlessDone P.view P.since 28 result txn.old txn.new }
+    ensures same { IsSame P.since txn.old txn.new }
 {
     if txn.psl().ipl() < requested(txn) {
         return Ok(Flow::Ended(Ending::Unbuilt));
@@ -55,11 +56,12 @@ fn deliver<P: Port>(_txn: &mut Txn<P>, exception: Exception) -> Result<Flow, Cut
 
 /// What follows an instruction: a trap's delivery, and the clock.
 #[inline(always)]
-#[tactic(auto, unfolding(vax_flat::specs::Step::finished))]
+#[tactic(auto, using(vax_undo::proofs::Left::always, vax_undo::proofs::Left::kept_through, vax_undo::proofs::Left::left_then), unfolding(vax_flat::specs::Step::finished))]
 fn finish<P: Port>(txn: &mut Txn<P>, flow: Flow) -> Result<Flow, CutShort>
     requires { 2 ≤ room txn.old }
     ensures exact { Follows (finished flow (present P.view txn.old).state) (present P.view txn.old) (told txn.new result) (present P.view txn.new) }
-    ensures keeps { Keeps P.view P.since 2 txn.old txn.new }
+    ensures keeps { (count : ℕ) → (start : _) → KeepsUnlessDone P.view P.since count (Ok flow) start txn.old → KeepsUnlessDone P.view P.since (count + 2) result start txn.new }
+    ensures same { IsSame P.since txn.old txn.new }
 {
     match flow {
         Flow::Done => {
@@ -71,6 +73,8 @@ fn finish<P: Port>(txn: &mut Txn<P>, flow: Flow) -> Result<Flow, CutShort>
             tick(txn);
             Ok(how)
         }
+        Flow::Clocked => Ok(Flow::Done),
+        Flow::More { opcode, units } => Ok(Flow::More { opcode, units }),
         Flow::Ended(ending) => Ok(Flow::Ended(ending)),
     }
 }
@@ -81,7 +85,8 @@ fn finish<P: Port>(txn: &mut Txn<P>, flow: Flow) -> Result<Flow, CutShort>
 fn work<P: Port>(txn: &mut Txn<P>) -> Result<Flow, CutShort>
     requires { 30 ≤ room txn.old }
     ensures exact { Follows (whole (present P.view txn.old).state) (present P.view txn.old) (told txn.new result) (present P.view txn.new) }
-    ensures keeps { Keeps P.view P.since 30 txn.old txn.new }
+    ensures keeps { KeepsUnlessDone P.view P.since 30 result txn.old txn.new }
+    ensures same { IsSame P.since txn.old txn.new }
 {
     let flow = begin(txn)?;
     finish(txn, flow)
@@ -92,21 +97,37 @@ fn work<P: Port>(txn: &mut Txn<P>) -> Result<Flow, CutShort>
 fn work_once<P: Port>(txn: &mut Txn<P>) -> Result<Flow, CutShort>
     requires { 30 ≤ room txn.old }
     ensures exact { Follows (whole (present P.view txn.old).state) (present P.view txn.old) (told txn.new result) (present P.view txn.new) }
-    ensures keeps { Keeps P.view P.since 30 txn.old txn.new }
+    ensures keeps { KeepsUnlessDone P.view P.since 30 result txn.old txn.new }
+    ensures same { IsSame P.since txn.old txn.new }
 {
     work(txn)
 }
 
 /// The delivery of an exception, and the clock.
 #[inline]
-#[tactic(auto, unfolding(vax_flat::specs::Step::delivered))]
+#[tactic(auto, using(vax_undo::proofs::Left::always), unfolding(vax_flat::specs::Step::delivered))]
 fn work_delivery<P: Port>(txn: &mut Txn<P>, exception: Exception) -> Result<Flow, CutShort>
     requires { 2 ≤ room txn.old }
     ensures exact { Follows (delivered exception (present P.view txn.old).state) (present P.view txn.old) (told txn.new result) (present P.view txn.new) }
-    ensures keeps { Keeps P.view P.since 2 txn.old txn.new }
+    ensures keeps { KeepsUnlessDone P.view P.since 2 result txn.old txn.new }
+    ensures same { IsSame P.since txn.old txn.new }
 {
     let flow = deliver(txn, exception)?;
     finish(txn, flow)
+}
+
+/// How an instruction that went so ends the run, if it does.
+#[inline]
+fn ending_of(flow: Flow) -> Option<Ending>
+    ensures { result ≡ ending_of flow }
+{
+    match flow {
+        Flow::Done => None,
+        Flow::Clocked => Some(Ending::Unbuilt),
+        Flow::Trap(_) => Some(Ending::Unbuilt),
+        Flow::More { .. } => Some(Ending::Unbuilt),
+        Flow::Ended(ending) => Some(ending),
+    }
 }
 
 /// Whether the work was completed.
@@ -115,11 +136,7 @@ fn is_done(work: Result<Flow, CutShort>) -> bool
     ensures { result ≡ is_done work }
 {
     match work {
-        Ok(flow) => match flow {
-            Flow::Done => true,
-            Flow::Trap(_) => false,
-            Flow::Ended(_) => false,
-        },
+        Ok(flow) => ending_of(flow).is_none(),
         Err(CutShort) => false,
     }
 }
@@ -127,9 +144,9 @@ fn is_done(work: Result<Flow, CutShort>) -> bool
 /// Keeps a transaction whose work was completed, and undoes any other.
 #[inline]
 fn conclude<P: Port>(txn: Txn<P>, work: Result<Flow, CutShort>) -> Tried
-    requires ready { IsReady P.view txn }
-    requires unsent { (undone P.view txn).state.sent ≡ None }
-    ensures tried { (old : Present) → (tree : State → (Flow → State → Accesses Leaf) → Accesses Leaf) → Follows (tree old.state) old (told txn.entry work) (present P.view txn.entry) → undone P.view txn.entry ≡ bare old → IsTried (λ s. tree s leaf) old result (record { state = state_of txn.exit.0.now txn.exit.1.0.now; view = P.view txn.exit.1.1.0.now }) }
+    requires ready { UnlessDone work (IsReady P.view txn) }
+    requires unsent { UnlessDone work ((undone P.view txn).state.sent ≡ None) }
+    ensures tried { (old : Present) → (tree : State → (Flow → State → Accesses Leaf) → Accesses Leaf) → Follows (tree old.state) old (told txn.entry work) (present P.view txn.entry) → UnlessDone work (undone P.view txn.entry ≡ bare old) → IsTried (λ s. tree s leaf) old result (record { state = state_of txn.exit.0.now txn.exit.1.0.now; view = P.view txn.exit.1.1.0.now }) }
     ensures completed { (sent : Option ℕ) → result ≡ Tried.Step sent → work ≡ Ok Flow.Done }
     ensures unsent { txn.exit.1.0.now.out ≡ None }
     ensures input { txn.exit.1.0.now.input ≡ txn.entry.term.now.input }
@@ -137,13 +154,9 @@ fn conclude<P: Port>(txn: Txn<P>, work: Result<Flow, CutShort>) -> Tried
 {
     let why = txn.why();
     match work {
-        Ok(flow) => match flow {
-            Flow::Done => Tried::Step(txn.commit()),
-            Flow::Trap(_) => {
-                txn.unwind();
-                Tried::Ended(Ending::Unbuilt)
-            }
-            Flow::Ended(ending) => {
+        Ok(flow) => match ending_of(flow) {
+            None => Tried::Step(txn.commit()),
+            Some(ending) => {
                 txn.unwind();
                 Tried::Ended(ending)
             }

@@ -1,17 +1,18 @@
 //! The instruction at PC, by the action that the table gives its opcode.
 ghost use Rattle.std.specs.Prelude.{◌≡◌, ◌≤◌};
-ghost use Rattle.vax_flat.specs.Instruction.{halt, acted, acted_if, instruction};
+ghost use Rattle.vax_flat.specs.System.{halt, performed};
+ghost use Rattle.vax_flat.specs.Instruction.{acted, acted_if, instruction};
 ghost use Rattle.vax_flat.specs.OverPort.{Follows};
-ghost use Rattle.vax_undo.specs.Transaction.{present, room, Keeps, told};
+ghost use Rattle.vax_undo.specs.Transaction.{present, room, told, IsSame, Keeps, KeepsUnlessDone};
 
 use vax_flat::{Ending, Exception};
-use vax_isa::{Action, action};
+use vax_isa::{Action, System, action};
 use vax_operand::{Cut, Flow, fetch};
 use vax_undo::{CutShort, Port, Txn};
 
 /// HALT, in kernel mode alone (VAX MACRO and Instruction Set Reference Manual, HALT).
 #[inline(never)]
-#[tactic(auto, using(vax_flat::proofs::Leaves::over_port_raises), unfolding(vax_flat::specs::Instruction::halt))]
+#[tactic(auto, using(vax_flat::proofs::Leaves::over_port_raises), unfolding(vax_flat::specs::System::halt))]
 fn halt<P: Port>(txn: &mut Txn<P>) -> Result<Flow, CutShort>
     ensures exact { Follows (halt (present P.view txn.old).state) (present P.view txn.old) (told txn.new result) (present P.view txn.new) }
     ensures keeps { Keeps P.view P.since 0 txn.old txn.new }
@@ -23,29 +24,46 @@ fn halt<P: Port>(txn: &mut Txn<P>) -> Result<Flow, CutShort>
     }
 }
 
+/// The instructions on access modes, exceptions and the processor's registers, of which only HALT is built yet.
+#[inline]
+#[tactic(auto, unfolding(vax_flat::specs::System::performed))]
+fn system<P: Port>(txn: &mut Txn<P>, instruction: System) -> Result<Flow, CutShort>
+    ensures exact { Follows (performed instruction (present P.view txn.old).state) (present P.view txn.old) (told txn.new result) (present P.view txn.new) }
+    ensures keeps { Keeps P.view P.since 0 txn.old txn.new }
+{
+    match instruction {
+        System::Halt => halt(txn),
+        _ => Ok(Flow::Ended(Ending::Unbuilt)),
+    }
+}
+
 /// What the instruction does whose opcode PC is past.
 #[inline(always)]
-#[tactic(auto, unfolding(vax_flat::specs::Instruction::acted))]
+#[tactic(auto, using(vax_undo::proofs::Left::always), unfolding(vax_flat::specs::Instruction::acted))]
 fn act<P: Port>(txn: &mut Txn<P>, action: Action) -> Result<Flow, CutShort>
     requires { 27 ≤ room txn.old }
     ensures exact { Follows (acted action (present P.view txn.old).state) (present P.view txn.old) (told txn.new result) (present P.view txn.new) }
-    ensures keeps { Keeps P.view P.since 27 txn.old txn.new }
+    ensures keeps { KeepsUnlessDone P.view P.since 27 result txn.old txn.new }
+    ensures same { IsSame P.since txn.old txn.new }
 {
     match action {
         Action::Integer(instruction) => vax_x_int::run(txn, instruction),
         Action::Control(instruction) => vax_x_flow::run(txn, instruction),
-        Action::Halt => halt(txn),
-        Action::Unbuilt => Ok(Flow::Ended(Ending::Unbuilt)),
+        Action::System(instruction) => system(txn, instruction),
+        Action::Field(_) | Action::Call(_) | Action::Queue(_) | Action::Text(_) => {
+            Ok(Flow::Ended(Ending::Unbuilt))
+        }
     }
 }
 
 /// What an opcode does; one that the table hasn't is reserved.
 #[inline(always)]
-#[tactic(auto, using(vax_flat::proofs::Leaves::over_port_raises), unfolding(vax_flat::specs::Instruction::acted_if))]
+#[tactic(auto, using(vax_flat::proofs::Leaves::over_port_raises, vax_undo::proofs::Left::always), unfolding(vax_flat::specs::Instruction::acted_if))]
 fn act_if<P: Port>(txn: &mut Txn<P>, action: Option<Action>) -> Result<Flow, CutShort>
     requires { 27 ≤ room txn.old }
     ensures exact { Follows (acted_if action (present P.view txn.old).state) (present P.view txn.old) (told txn.new result) (present P.view txn.new) }
-    ensures keeps { Keeps P.view P.since 27 txn.old txn.new }
+    ensures keeps { KeepsUnlessDone P.view P.since 27 result txn.old txn.new }
+    ensures same { IsSame P.since txn.old txn.new }
 {
     match action {
         Some(action) => act(txn, action),
@@ -55,11 +73,12 @@ fn act_if<P: Port>(txn: &mut Txn<P>, action: Option<Action>) -> Result<Flow, Cut
 
 /// The instruction at PC.
 #[inline(always)]
-#[tactic(auto, unfolding(vax_flat::specs::Instruction::instruction))]
+#[tactic(auto, using(vax_undo::proofs::Left::behind), unfolding(vax_flat::specs::Instruction::instruction))]
 pub(crate) fn execute<P: Port>(txn: &mut Txn<P>) -> Result<Flow, CutShort>
     requires { 28 ≤ room txn.old }
     ensures exact { Follows (instruction (present P.view txn.old).state) (present P.view txn.old) (told txn.new result) (present P.view txn.new) }
-    ensures keeps { Keeps P.view P.since 28 txn.old txn.new }
+    ensures keeps { KeepsUnlessDone P.view P.since 28 result txn.old txn.new }
+    ensures same { IsSame P.since txn.old txn.new }
 {
     let opcode = fetch(txn, 1)? as u8;
     act_if(txn, action(opcode))

@@ -4,7 +4,7 @@ use crate::instruction::execute;
 use std::alloc::Global;
 use std::process::Abort;
 use std::test::Fail;
-use vax_flat::Flow;
+use vax_flat::{Flow, Trap};
 use vax_space::{Area, Bytes, Space};
 use vax_undo::{Plain, Term, Txn};
 use vax_word::{Core, Psl};
@@ -31,8 +31,8 @@ macro_rules! row {
     ($name:literal $code:expr, $before:expr, psl $psl:literal; $after:expr, psl $psl_after:literal, pc $pc:literal) => {
         row!(@ $name $code, $before, $psl, &[]; $after, $psl_after, $pc, &[], Flow::Done)
     };
-    ($name:literal $code:expr, $before:expr, psl $psl:literal; $after:expr, psl $psl_after:literal, pc $pc:literal, trap $trap:literal) => {
-        row!(@ $name $code, $before, $psl, &[]; $after, $psl_after, $pc, &[], Flow::Trap($trap))
+    ($name:literal $code:expr, $before:expr, psl $psl:literal; $after:expr, psl $psl_after:literal, pc $pc:literal, trap $trap:ident) => {
+        row!(@ $name $code, $before, $psl, &[]; $after, $psl_after, $pc, &[], Flow::Trap(Trap::$trap))
     };
     ($name:literal $code:expr, $before:expr, psl $psl:literal, data $data:expr; $after:expr, psl $psl_after:literal, pc $pc:literal, data $data_after:expr) => {
         row!(@ $name $code, $before, $psl, &$data; $after, $psl_after, $pc, &$data_after, Flow::Done)

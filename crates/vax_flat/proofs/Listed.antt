@@ -1,6 +1,6 @@
 -- The operands that an action takes are those that its instruction lists: its tree goes from one to the next, and then does its own part.
 use Rattle.std.proofs.Common.{◌≡◌, ℕ, ◌%◌, false, List, [], ◌∷◌, refl, arith}
-use Rattle.std.specs.Prelude.{◌==◌, if◌then◌else◌, slice_index_or, IfSome}
+use Rattle.std.specs.Prelude.{◌==◌, Bool, true, if◌then◌else◌, slice_index_or}
 use Rattle.std.specs.Int.Bits.{bit_and}
 use Rattle.vax_space.specs.declared.Area.{Area}
 use Rattle.vax_word.specs.declared.Size.TheVariants.{B, L}
@@ -12,19 +12,25 @@ use Rattle.vax_isa.specs.declared.actions.Integer.{Integer}
 use Rattle.vax_isa.specs.declared.actions.Integer.TheVariants as integer
 use Rattle.vax_isa.specs.declared.actions.Control.{Control}
 use Rattle.vax_isa.specs.declared.actions.Control.TheVariants as control
-use Rattle.vax_isa.specs.Actions.{size_of, of_integer, of_control, operands_of}
+use Rattle.vax_isa.specs.declared.actions.System.{System}
+use Rattle.vax_isa.specs.declared.actions.System.TheVariants as system
+use Rattle.vax_isa.specs.Actions.{size_of, of_integer, of_control, of_system, operands_of}
 use Rattle.vax_isa.specs.Instructions.{Instruction}
 use Rattle.vax_isa.specs.Rows.{action_of}
 use Rattle.vax_flat.specs.declared.Operand.{Operand}
 use Rattle.vax_flat.specs.declared.Operand.TheVariants as operand
 use Rattle.vax_flat.specs.declared.Flow.{Flow}
 use Rattle.vax_flat.specs.declared.Flow.TheVariants.{Done}
-use Rattle.vax_flat.specs.State.{State, with_conditions}
-use Rattle.vax_flat.specs.Accesses.{Accesses, Leaf}
+use Rattle.vax_flat.specs.declared.Flow.TheVariants as flow
+use Rattle.vax_flat.specs.declared.Ending.TheVariants as ending
+use Rattle.vax_flat.specs.declared.Exception.TheVariants.{Privileged}
+use Rattle.vax_flat.specs.State.{State, with_conditions, mode}
+use Rattle.vax_flat.specs.Accesses.{Accesses, Raises, Leaf}
 use Rattle.vax_flat.specs.Rows.{read_value, modify_value, write_place, address_value, branch_target, address_in, stored, settled, answered, carry_of}
 use Rattle.vax_flat.specs.Integer.{of_one, of_two, is_by_zero, rotated, unary, two, three, by_one, clear, test, compare, bit_test, shift, rotate, move_address, pushed_result, push_address, push, extended_multiply, extended_divide, subscript_flow, index_of, index, performed as integer_performed}
 use Rattle.vax_flat.specs.Control.{holds, compares, jumped, jumped_if, branch, called, branch_subroutine, jump, jump_subroutine, return_subroutine, low_bit, looped, add_one, subtract_one, within, add_compare, chosen, case_of, performed as control_performed}
-use Rattle.vax_flat.specs.Instruction.{halt, acted, acted_if, instruction}
+use Rattle.vax_flat.specs.System.{halt, is_for_kernel, is_system_built, unless_privileged, performed as system_performed}
+use Rattle.vax_flat.specs.Instruction.{acted, acted_if, instruction, is_built, is_privileged}
 use Rattle.vax_flat.specs.Grammar.{Sequence, IsInstruction}
 use Rattle.vax_flat.specs.Evaluation.{past, passed, taken, all_come_to, next_operands, AreAhead, DoSame, Takes}
 use Rattle.vax_flat.proofs.Specifiers.{ahead_past, same_first}
@@ -125,17 +131,46 @@ control_takes (control.SubtractOne r) s next = refl
 control_takes (control.AddCompare size) s next = refl
 control_takes (control.Case size) s next = refl
 
-pub action_takes : (a : Action) → IfSome (operands_of a) (λ kinds. Takes kinds (acted a))
-unfolding acted next_operands
-action_takes (action.Integer i) = record { rest = of_integers i; takes = λ s next. integer_takes i s next }
-action_takes (action.Control c) = record { rest = of_controls c; takes = λ s next. control_takes c s next }
-action_takes action.Halt = record { rest = λ xs s next. halt s next; takes = λ s next. refl }
-action_takes action.Unbuilt = tt
+-- what a system instruction does behind its last operand
+unfoldable of_systems : System → Rest
+of_systems system.Halt xs s next = next (flow.Ended ending.Halt) s
+of_systems other xs s next = Raises Privileged
+
+system_takes : (i : System) → is_system_built i ≡ true → (s : State) (next : Flow → State → Accesses Leaf) → system_performed i s next ≡ unless_privileged (is_for_kernel i) s (next_operands (of_system i) s (λ xs s. of_systems i xs s next))
+unfolding system_performed halt next_operands of_systems
+system_takes system.Halt built s next = refl
+system_takes system.NoOperation built s next = absurd (cc)
+system_takes system.Breakpoint built s next = absurd (cc)
+system_takes system.Customer built s next = absurd (cc)
+system_takes system.Return built s next = absurd (cc)
+system_takes (system.ChangeMode target) built s next = absurd (cc)
+system_takes (system.Probe writing) built s next = absurd (cc)
+system_takes system.ToRegister built s next = absurd (cc)
+system_takes system.FromRegister built s next = absurd (cc)
+system_takes system.MoveStatus built s next = absurd (cc)
+system_takes system.SetStatus built s next = absurd (cc)
+system_takes system.ClearStatus built s next = absurd (cc)
+
+pub action_takes : (a : Action) → is_built a ≡ true → Takes (is_privileged a) (operands_of a) (acted a)
+unfolding acted
+action_takes (action.Integer i) built = record { rest = of_integers i; takes = λ s next. integer_takes i s next }
+action_takes (action.Control c) built = record { rest = of_controls c; takes = λ s next. control_takes c s next }
+action_takes (action.Field f) built = absurd (cc)
+action_takes (action.Call c) built = absurd (cc)
+action_takes (action.Queue q) built = absurd (cc)
+action_takes (action.System i) built = record { rest = of_systems i; takes = λ s next. system_takes i built s next }
+action_takes (action.Text t) built = absurd (cc)
+
+-- where two trees do the same, they do with the same privilege
+allowed_same : (memory : List Area) (privileged : Bool) (s : State) (a b : Accesses Leaf) → DoSame memory a b → DoSame memory (unless_privileged privileged s a) (unless_privileged privileged s b)
+allowed_same memory false s a b same = same
+allowed_same memory true s a b same =
+    elim (mode s == 0) as (λ kernel. DoSame memory (if kernel then a else Raises Privileged) (if kernel then b else Raises Privileged)) [ true ↦ same | false ↦ record { outcome = refl; touches = refl } ]
 
 -- an instruction whose action takes the operands that its row lists
-pub listed_agrees : (memory : List Area) (s : State) (bytes : List ℕ) (row : Instruction) (operands : Sequence) (count : ℕ) (t : Takes row.operands (acted row.action)) (next : Flow → State → Accesses Leaf) → AreAhead memory s bytes → IsInstruction bytes row operands count → DoSame memory (instruction s next) (passed (1 ∷ []) s (λ u. all_come_to operands u (λ xs u. t.rest xs u next)))
+pub listed_agrees : (memory : List Area) (s : State) (bytes : List ℕ) (row : Instruction) (operands : Sequence) (count : ℕ) (privileged : Bool) (t : Takes privileged row.operands (acted row.action)) (next : Flow → State → Accesses Leaf) → AreAhead memory s bytes → IsInstruction bytes row operands count → DoSame memory (instruction s next) (passed (1 ∷ []) s (λ u. unless_privileged privileged u (all_come_to operands u (λ xs u. t.rest xs u next))))
 unfolding instruction acted_if action_of passed
-listed_agrees memory s bytes row operands count t next a i =
+listed_agrees memory s bytes row operands count privileged t next a i =
     let ahead : AreAhead memory s (i.opcode ∷ i.rest) = rw i.split at a in
-    same_first memory s i.opcode i.rest (λ opcode u. acted_if (action_of opcode) u next) (λ u. all_come_to operands u (λ xs u. t.rest xs u next)) ahead
-    (rw (i.listed, t.takes (past 1 s) next) (operands_agree row.operands memory (past 1 s) i.rest (λ xs u. t.rest xs u next) (ahead_past memory s (i.opcode ∷ i.rest) 1 ahead (omega arith)) operands i.read))
+    same_first memory s i.opcode i.rest (λ opcode u. acted_if (action_of opcode) u next) (λ u. unless_privileged privileged u (all_come_to operands u (λ xs u. t.rest xs u next))) ahead
+    (rw (i.listed, t.takes (past 1 s) next) (allowed_same memory privileged (past 1 s) _ _ (operands_agree row.operands memory (past 1 s) i.rest (λ xs u. t.rest xs u next) (ahead_past memory s (i.opcode ∷ i.rest) 1 ahead (omega arith)) operands i.read)))

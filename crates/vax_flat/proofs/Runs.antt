@@ -106,7 +106,9 @@ extends_sent output (Some byte) = record { more = byte ∷ []; is = refl }
 
 extends_concluded : (m : Flat) (leaf : Leaf) (memory : List Area) → Extends m.output (concluded m leaf memory).output
 extends_concluded m (Went flow.Done s) memory = extends_sent m.output s.sent
+extends_concluded m (Went flow.Clocked s) memory = extends_same m.output
 extends_concluded m (Went (flow.Trap kind) s) memory = extends_same m.output
+extends_concluded m (Went (flow.More opcode units) s) memory = extends_same m.output
 extends_concluded m (Went (flow.Ended e) s) memory = extends_same m.output
 extends_concluded m (Found operand s) memory = extends_same m.output
 

@@ -1,5 +1,5 @@
 -- What operands come to that the grammar has read, from left to right (VAX Architecture Reference Manual, operand specifiers).
-use Rattle.std.specs.Prelude.{◌≡◌, ℕ, ◌-◌, ◌*◌, ◌^◌, ◌<◌, if◌then◌else◌, Option, Some, None, List, [], ◌∷◌, length, replicate}
+use Rattle.std.specs.Prelude.{◌≡◌, ℕ, Bool, ◌-◌, ◌*◌, ◌^◌, ◌<◌, if◌then◌else◌, Option, Some, None, List, [], ◌∷◌, length, replicate}
 use Rattle.vax_space.specs.declared.Area.{Area}
 use Rattle.vax_isa.specs.declared.OperandKind.{OperandKind}
 use Rattle.vax_isa.specs.declared.Letter.TheVariants as letter
@@ -15,6 +15,7 @@ use Rattle.vax_flat.specs.Accesses.{Accesses, Raises, Leaf}
 use Rattle.vax_flat.specs.Outcome.{outcome_of, touches_of}
 use Rattle.vax_flat.specs.Operand.{plus, read_at, fetched, at_address, in_register, next_operand}
 use Rattle.vax_flat.specs.Rows.{value_at, value_of}
+use Rattle.vax_flat.specs.System.{unless_privileged}
 use Rattle.vax_flat.specs.Grammar.{Place, Deferred, Decrement, Increment, IncrementDeferred, Absolute, Displaced, DisplacedDeferred, Specifier, Literal, Register, Immediate, InMemory, Indexed, BranchBy, Reading, Reads, Reserved, Sequence, End, ReservedHere, Next, is_read}
 
 -- the pieces in which what follows the specifier byte is read
@@ -129,7 +130,8 @@ pub record DoSame (memory : List Area) (tree other : Accesses Leaf) : Type 0 whe
   pub outcome : outcome_of tree memory ≡ outcome_of other memory
   pub touches : touches_of tree memory ≡ touches_of other memory
 
--- a tree that goes from operand to operand of these kinds, and behind the last has a part of its own
-pub record Takes (kinds : List OperandKind) (tree : State → (Flow → State → Accesses Leaf) → Accesses Leaf) : Type 0 where
+-- a tree that goes from operand to operand of these kinds, and behind the last has a part of its own; a privileged one does so in kernel mode
+-- alone, and takes no operand elsewhere
+pub record Takes (privileged : Bool) (kinds : List OperandKind) (tree : State → (Flow → State → Accesses Leaf) → Accesses Leaf) : Type 0 where
   pub rest : List (Operand × ℕ) → State → (Flow → State → Accesses Leaf) → Accesses Leaf
-  pub takes : (s : State) (next : Flow → State → Accesses Leaf) → tree s next ≡ next_operands kinds s (λ xs s. rest xs s next)
+  pub takes : (s : State) (next : Flow → State → Accesses Leaf) → tree s next ≡ unless_privileged privileged s (next_operands kinds s (λ xs s. rest xs s next))

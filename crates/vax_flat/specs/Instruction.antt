@@ -1,5 +1,5 @@
 -- The instruction at PC, by the action that the table gives its opcode (VAX Architecture Reference Manual, instruction descriptions).
-use Rattle.std.specs.Prelude.{◌==◌, Option, Some, None, if◌then◌else◌}
+use Rattle.std.specs.Prelude.{Bool, true, false, Option, Some, None}
 use Rattle.vax_isa.specs.declared.actions.Action.{Action}
 use Rattle.vax_isa.specs.declared.actions.Action.TheVariants as action
 use Rattle.vax_isa.specs.Rows.{action_of}
@@ -7,21 +7,45 @@ use Rattle.vax_flat.specs.declared.Exception.TheVariants.{Privileged}
 use Rattle.vax_flat.specs.declared.Flow.{Flow}
 use Rattle.vax_flat.specs.declared.Flow.TheVariants as flow
 use Rattle.vax_flat.specs.declared.Ending.TheVariants as ending
-use Rattle.vax_flat.specs.State.{State, mode}
+use Rattle.vax_flat.specs.State.{State}
 use Rattle.vax_flat.specs.Accesses.{Accesses, Raises, Leaf}
 use Rattle.vax_flat.specs.Operand.{fetched}
 use Rattle.vax_flat.specs.Integer.{performed as integer}
 use Rattle.vax_flat.specs.Control.{performed as control}
+use Rattle.vax_flat.specs.System.{is_for_kernel, is_system_built, performed as system}
 
--- HALT, in kernel mode alone
-unfoldable pub halt : State → (Flow → State → Accesses Leaf) → Accesses Leaf
-halt s next = if mode s == 0 then next (flow.Ended ending.Halt) s else Raises Privileged
+-- what isn't built yet
+abbrev unbuilt : State → (Flow → State → Accesses Leaf) → Accesses Leaf
+unbuilt s next = next (flow.Ended ending.Unbuilt) s
 
 unfoldable pub acted : Action → State → (Flow → State → Accesses Leaf) → Accesses Leaf
 acted (action.Integer i) s next = integer i s next
 acted (action.Control c) s next = control c s next
-acted action.Halt s next = halt s next
-acted action.Unbuilt s next = next (flow.Ended ending.Unbuilt) s
+acted (action.Field f) s next = unbuilt s next
+acted (action.Call c) s next = unbuilt s next
+acted (action.Queue q) s next = unbuilt s next
+acted (action.System i) s next = system i s next
+acted (action.Text t) s next = unbuilt s next
+
+-- the actions of which the definition stands above
+abbrev pub is_built : Action → Bool
+is_built (action.Integer i) = true
+is_built (action.Control c) = true
+is_built (action.Field f) = false
+is_built (action.Call c) = false
+is_built (action.Queue q) = false
+is_built (action.System i) = is_system_built i
+is_built (action.Text t) = false
+
+-- the instructions for kernel mode alone
+abbrev pub is_privileged : Action → Bool
+is_privileged (action.Integer i) = false
+is_privileged (action.Control c) = false
+is_privileged (action.Field f) = false
+is_privileged (action.Call c) = false
+is_privileged (action.Queue q) = false
+is_privileged (action.System i) = is_for_kernel i
+is_privileged (action.Text t) = false
 
 -- an opcode that the table hasn't is reserved
 unfoldable pub acted_if : Option Action → State → (Flow → State → Accesses Leaf) → Accesses Leaf

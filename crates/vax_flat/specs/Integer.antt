@@ -15,6 +15,7 @@ use Rattle.vax_isa.specs.declared.actions.Integer.TheVariants as integer
 use Rattle.vax_isa.specs.Actions.{size_of}
 use Rattle.vax_flat.specs.declared.Flow.{Flow}
 use Rattle.vax_flat.specs.declared.Flow.TheVariants as flow
+use Rattle.vax_flat.specs.declared.Trap.TheVariants as trap
 use Rattle.vax_flat.specs.State.{State, with_conditions}
 use Rattle.vax_flat.specs.Accesses.{Accesses, Leaf}
 use Rattle.vax_flat.specs.Rows.{read_value, modify_value, write_place, address_value, stored, settled, answered, pushed, carry_of}
@@ -168,7 +169,7 @@ extended_divide s next =
 
 -- the trap of a subscript that is below its lowest or above its highest value
 unfoldable pub subscript_flow : ℕ → ℕ → ℕ → Flow
-subscript_flow subscript low high = if is_less L subscript low || is_less L high subscript then flow.Trap 7 else flow.Done
+subscript_flow subscript low high = if is_less L subscript low || is_less L high subscript then flow.Trap trap.SubscriptRange else flow.Done
 
 -- the index so far and the subscript added, times the size
 unfoldable pub index_of : ℕ → ℕ → ℕ → ℕ

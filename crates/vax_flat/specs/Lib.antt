@@ -9,6 +9,7 @@ pub mod Operand
 pub mod Rows
 pub mod Integer
 pub mod Control
+pub mod System
 pub mod Instruction
 pub mod Grammar
 pub mod Evaluation

@@ -9,6 +9,7 @@ use Rattle.vax_flat.specs.declared.Operand.{Operand}
 use Rattle.vax_flat.specs.declared.Operand.TheVariants as operand
 use Rattle.vax_flat.specs.declared.Flow.{Flow}
 use Rattle.vax_flat.specs.declared.Flow.TheVariants as flow
+use Rattle.vax_flat.specs.declared.Trap.TheVariants as trap
 use Rattle.vax_flat.specs.State.{State, register, with_register, with_conditions, overflow_enabled}
 use Rattle.vax_flat.specs.Accesses.{Accesses, Leaf}
 use Rattle.vax_flat.specs.Operand.{next_operand, register_value, plus, read_at, write_at}
@@ -93,7 +94,7 @@ carry_of s = (codes_of s.core.psl).c
 
 -- the arithmetic trap that follows a result, if one does: by a divisor of 0, or by an overflow where that is enabled
 unfoldable pub flow_of : Bool → Codes → State → Flow
-flow_of by_zero codes s = if by_zero then flow.Trap 2 else if codes.v && overflow_enabled s then flow.Trap 1 else flow.Done
+flow_of by_zero codes s = if by_zero then flow.Trap trap.IntegerDivide else if codes.v && overflow_enabled s then flow.Trap trap.IntegerOverflow else flow.Done
 
 -- the codes are set, and a trap may follow
 unfoldable pub settled : Bool → Codes → State → (Flow → State → Accesses Leaf) → Accesses Leaf

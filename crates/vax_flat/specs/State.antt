@@ -4,6 +4,8 @@ use Rattle.vax_word.specs.declared.Core.{Core}
 use Rattle.vax_word.specs.declared.Codes.{Codes}
 use Rattle.vax_word.specs.declared.Psl.{Psl}
 use Rattle.vax_word.specs.Status.{is_one, mode_of, ipl_of, with_codes}
+use Rattle.vax_flat.specs.declared.Trap.{Trap}
+use Rattle.vax_flat.specs.declared.Trap.TheVariants as trap
 
 -- the registers; the console's input, with the number of its bytes taken; and the byte that this instruction sent to the console
 pub record State : Type 0 where
@@ -37,6 +39,12 @@ priority s = ipl_of s.core.psl
 -- whether an integer overflow traps (processor status word, IV)
 abbrev pub overflow_enabled : State → Bool
 overflow_enabled s = is_one s.core.psl.0 5
+
+-- the type of an arithmetic trap, as it is pushed
+abbrev pub trap_number : Trap → ℕ
+trap_number trap.IntegerOverflow = 1
+trap_number trap.IntegerDivide = 2
+trap_number trap.SubscriptRange = 7
 
 abbrev pub with_stack : State → ℕ → ℕ → State
 with_stack s n value = record s { core = record s.core { stacks = slice_set s.core.stacks n value } }

@@ -59,7 +59,9 @@ begun s next = if nat_lt (priority s) (level s.core) then interrupt (level s.cor
 -- what follows: a trap's delivery, and the clock
 unfoldable pub finished : Flow → State → (Flow → State → Accesses Leaf) → Accesses Leaf
 finished flow.Done s next = next flow.Done (ticked s)
+finished flow.Clocked s next = next flow.Done s
 finished (flow.Trap kind) s next = delivery (Arithmetic kind) s (λ how s. next how (ticked s))
+finished (flow.More opcode units) s next = next (flow.More opcode units) s
 finished (flow.Ended e) s next = next (flow.Ended e) s
 
 -- a step up to its exception, if it raises one
@@ -91,7 +93,9 @@ ended m e = record m { ending = Some e }
 abbrev pub concluded : Flat → Leaf → List Area → Flat
 concluded m (Went flow.Done s) memory =
     record m { core = s.core; memory = memory; taken = s.taken; output = with_byte_sent m.output s.sent }
+concluded m (Went flow.Clocked s) memory = ended m Unbuilt
 concluded m (Went (flow.Trap kind) s) memory = ended m Unbuilt
+concluded m (Went (flow.More opcode units) s) memory = ended m Unbuilt
 concluded m (Went (flow.Ended e) s) memory = ended m e
 concluded m (Found operand s) memory = ended m Unbuilt
 

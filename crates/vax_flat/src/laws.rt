@@ -1,5 +1,5 @@
 //! The laws of the flat machine, each the contract of a call that does nothing.
-ghost use Rattle.std.specs.Prelude.{◌≡◌, ℕ, ◌≤◌, Bool, Some, IsSome, IfSome, List, [], ◌∷◌, ◌++◌, length};
+ghost use Rattle.std.specs.Prelude.{◌≡◌, ℕ, ◌≤◌, Bool, true, Some, IsSome, List, [], ◌∷◌, ◌++◌, length};
 ghost use Rattle.vax_space.specs.declared.Area.{Area};
 ghost use Rattle.vax_flat.specs.Accesses.{Accesses, Leaf};
 ghost use Rattle.vax_flat.specs.declared.Cut.TheVariants.{Absent};
@@ -15,7 +15,8 @@ ghost use Rattle.vax_flat.specs.declared.Operand.{Operand};
 ghost use Rattle.vax_flat.specs.declared.Flow.{Flow};
 ghost use Rattle.vax_flat.specs.State.{State};
 ghost use Rattle.vax_flat.specs.Operand.{next_operand};
-ghost use Rattle.vax_flat.specs.Instruction.{acted, instruction};
+ghost use Rattle.vax_flat.specs.System.{unless_privileged};
+ghost use Rattle.vax_flat.specs.Instruction.{acted, instruction, is_built, is_privileged};
 ghost use Rattle.vax_flat.specs.Grammar.{Specifier, Reading, Reads, Sequence, IsInstruction, read_operand, read_operands};
 ghost use Rattle.vax_flat.specs.Evaluation.{AreAhead, DoSame, Takes, comes_to, all_come_to, passed, next_operands, next_instruction};
 
@@ -41,12 +42,12 @@ pub fn grammar_agrees()
     ensures instruction { (memory : List Area) → (s : State) → (bytes : List ℕ) → (row : Instruction) → (operands : Sequence) → (count : ℕ) → (next : List (Operand × ℕ) → State → Accesses Leaf) → AreAhead memory s bytes → IsInstruction bytes row operands count → DoSame memory (next_instruction s next) (passed (1 ∷ []) s (λ t. all_come_to operands t next)) }
 {}
 
-/// Every action that is built takes the operands that `operands_of` gives it, in order, and then does a part of its own on what they came to. So
-/// where the bytes at PC are an instruction whose action takes its row's operands, the machine does what these come to as the grammar reads them,
-/// and then that part.
+/// Every action that is built takes the operands that `operands_of` gives it, in order, and then does a part of its own on what they came to; a
+/// privileged one takes none outside kernel mode, and raises its exception. So where the bytes at PC are an instruction whose action takes its
+/// row's operands, the machine does what these come to as the grammar reads them, and then that part.
 pub fn operands_are_listed()
-    ensures listed { (action : Action) → IfSome (operands_of action) (λ kinds. Takes kinds (acted action)) }
-    ensures instruction { (memory : List Area) → (s : State) → (bytes : List ℕ) → (row : Instruction) → (operands : Sequence) → (count : ℕ) → (takes : Takes row.operands (acted row.action)) → (next : Flow → State → Accesses Leaf) → AreAhead memory s bytes → IsInstruction bytes row operands count → DoSame memory (instruction s next) (passed (1 ∷ []) s (λ t. all_come_to operands t (λ xs u. takes.rest xs u next))) }
+    ensures listed { (action : Action) → is_built action ≡ true → Takes (is_privileged action) (operands_of action) (acted action) }
+    ensures instruction { (memory : List Area) → (s : State) → (bytes : List ℕ) → (row : Instruction) → (operands : Sequence) → (count : ℕ) → (privileged : Bool) → (takes : Takes privileged row.operands (acted row.action)) → (next : Flow → State → Accesses Leaf) → AreAhead memory s bytes → IsInstruction bytes row operands count → DoSame memory (instruction s next) (passed (1 ∷ []) s (λ t. unless_privileged privileged t (all_come_to operands t (λ xs u. takes.rest xs u next)))) }
 {}
 
 /// A reading rests on the bytes at the front alone: it stays with more bytes behind, takes no more than there are, and nine bytes are enough

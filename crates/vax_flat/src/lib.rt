@@ -12,6 +12,7 @@ pub use crate::laws::{
     arrival_agrees, grammar_agrees, grammar_reads, joined_ranges, operands_are_listed,
     stops_for_missing_pages,
 };
+use vax_isa::AccessMode;
 use vax_space::Violation;
 
 /// What interrupts an instruction (VAX Architecture Reference Manual, exceptions and interrupts).
@@ -29,10 +30,38 @@ pub enum Exception {
     Access(Violation),
     /// BPT, vector 2C.
     Breakpoint,
-    /// An arithmetic trap of this type, vector 34.
-    Arithmetic(u8),
-    /// A change of mode: the mode that the instruction names, and its code.
-    Change { target: u8, code: u16 },
+    /// An arithmetic trap, vector 34.
+    Arithmetic(Trap),
+    /// A change of mode, vectors 40 to 4C: the mode that the instruction names, and its code.
+    Change { target: AccessMode, code: u16 },
+}
+
+/// An arithmetic trap, which follows a completed instruction (VAX Architecture Reference Manual, arithmetic exceptions).
+#[derive(Clone, Copy, Debug, PartialEq, Eq)]
+pub enum Trap {
+    /// The result doesn't fit, and integer overflow traps are enabled.
+    IntegerOverflow,
+    /// The divisor is 0.
+    IntegerDivide,
+    /// A subscript is outside its range.
+    SubscriptRange,
+}
+
+impl Trap {
+    ghost use Rattle.std.specs.Prelude.{◌≡◌};
+    ghost use Rattle.vax_flat.specs.State.{trap_number};
+
+    /// The type that is pushed when the trap is delivered: 1, 2 or 7.
+    #[inline]
+    pub fn number(self) -> u32
+        ensures { result ≡ trap_number self }
+    {
+        match self {
+            Trap::IntegerOverflow => 1,
+            Trap::IntegerDivide => 2,
+            Trap::SubscriptRange => 7,
+        }
+    }
 }
 
 /// How a run ends.
@@ -96,8 +125,12 @@ pub enum Operand {
 pub enum Flow {
     /// It was completed.
     Done,
-    /// It was completed, and an arithmetic trap of this type follows.
-    Trap(u8),
+    /// It was completed, and the interval clock doesn't count it.
+    Clocked,
+    /// It was completed, and an arithmetic trap follows.
+    Trap(Trap),
+    /// A part of the string instruction with this opcode was completed, so many of its units, and more remains.
+    More { opcode: u8, units: u32 },
     /// It ends the run.
     Ended(Ending),
 }

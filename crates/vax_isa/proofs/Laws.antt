@@ -1,5 +1,5 @@
 -- What the list of the instructions keeps. Each law is computed once over the whole list.
-use Rattle.std.proofs.Common.{◌≡◌, ℕ, ◌<◌, ◌≤◌, Bool, true, false, ◌||◌, List, [], ◌∷◌, ◌++◌, All, IfSome, Option, Some, None, find, length, map, option_map, refl, sym, ◌∙◌, ap, subst, arith, slice_index_or, unwrap_or, replicate, length-append, nat_le, nat_eq, ◌-◌, zero-add}
+use Rattle.std.proofs.Common.{◌≡◌, ℕ, ◌<◌, ◌≤◌, Bool, true, false, ◌||◌, List, [], ◌∷◌, ◌++◌, All, IfSome, Option, Some, None, find, length, map, option_map, refl, sym, ◌∙◌, ap, subst, arith, slice_index_or, replicate, length-append, nat_le, nat_eq, ◌-◌, zero-add}
 use Rattle.std.proofs.lemmas.Bool.{leb-true, eqb-true}
 use Rattle.std.proofs.lemmas.List.{get_or_append_left, length-replicate}
 use Rattle.std.proofs.lemmas.List.Sums.{AllPass-from_list_all}
@@ -113,18 +113,12 @@ formed_with_name text = IfSome-find (λ i. IsFormed (row_of i)) (λ i. is_one_of
 
 -- each instruction takes the operands of its row
 
-all_operands : map (λ i. unwrap_or (operands_of i.action) i.operands) instructions ≡ map (λ i. i.operands) instructions
+all_operands : map (λ i. operands_of i.action) instructions ≡ map (λ i. i.operands) instructions
 unfolding instructions
 all_operands = refl
 
-pub operands_agree : All (λ i. IfSome (operands_of i.action) (λ kinds. kinds ≡ i.operands)) instructions
-operands_agree k d inside =
-    let i = slice_index_or instructions k d in
-    taken (operands_of i.action) i.operands (All-agree (λ i. unwrap_or (operands_of i.action) i.operands) (λ i. i.operands) instructions all_operands k d inside)
-  where
-    taken : (kinds : Option (List OperandKind)) (operands : List OperandKind) → unwrap_or kinds operands ≡ operands → IfSome kinds (λ kinds. kinds ≡ operands)
-    taken None operands e = tt
-    taken (Some kinds) operands e = e
+pub operands_agree : All (λ i. operands_of i.action ≡ i.operands) instructions
+operands_agree = All-agree (λ i. operands_of i.action) (λ i. i.operands) instructions all_operands
 
 -- the code's table
 

@@ -1,5 +1,5 @@
 -- The instructions (VAX MACRO and Instruction Set Reference Manual, instruction summary).
-use Rattle.std.specs.Prelude.{ℕ, List, [], ◌∷◌, codes, true, false}
+use Rattle.std.specs.Prelude.{ℕ, List, [], ◌∷◌, Some, None, codes, true, false}
 use Prim.Native.String.{String}
 use Rattle.vax_word.specs.declared.Size.TheVariants as size
 use Rattle.vax_isa.specs.declared.OperandKind.{OperandKind}
@@ -14,6 +14,12 @@ use Rattle.vax_isa.specs.declared.actions.Integer.TheVariants as integer
 use Rattle.vax_isa.specs.declared.actions.Condition.TheVariants as condition
 use Rattle.vax_isa.specs.declared.actions.Relation.TheVariants as relation
 use Rattle.vax_isa.specs.declared.actions.Control.TheVariants as control
+use Rattle.vax_isa.specs.declared.actions.AccessMode.TheVariants as mode
+use Rattle.vax_isa.specs.declared.actions.Field.TheVariants as field
+use Rattle.vax_isa.specs.declared.actions.Call.TheVariants as call
+use Rattle.vax_isa.specs.declared.actions.Queue.TheVariants as queue
+use Rattle.vax_isa.specs.declared.actions.System.TheVariants as system
+use Rattle.vax_isa.specs.declared.actions.Text.TheVariants as text
 use Rattle.vax_isa.specs.Actions.{unary, two, three, by_one, branch}
 
 -- an instruction as the manual lists it
@@ -82,31 +88,31 @@ Wl = kind Write 4
 abbrev pub Wq : OperandKind
 Wq = kind Write 8
 
-abbrev pub row : ℕ → String → List OperandKind → Instruction
-row opcode name operands = record { opcode = opcode; name = codes name; aliases = []; operands = operands; action = action.Unbuilt }
+abbrev pub row : ℕ → String → List OperandKind → Action → Instruction
+row opcode name operands what = record { opcode = opcode; name = codes name; aliases = []; operands = operands; action = what }
 
 -- the same instruction with an alias
-abbrev pub also : String → Instruction → Instruction
-also alias instruction = record instruction { aliases = codes alias ∷ [] }
+abbrev pub also : String → (Action → Instruction) → Action → Instruction
+also alias instruction what = record (instruction what) { aliases = codes alias ∷ [] }
 
--- the same instruction, which does this
-abbrev pub does : Action → Instruction → Instruction
-does what instruction = record instruction { action = what }
+-- the instruction, which does this
+abbrev pub does : Action → (Action → Instruction) → Instruction
+does what instruction = instruction what
 
 -- every instruction, in the order of the opcodes; the others are reserved
 unfoldable pub instructions : List Instruction
 instructions =
-    does (action.Halt) (row 0x00 "HALT" []) ∷
-    row 0x01 "NOP" [] ∷
-    row 0x02 "REI" [] ∷
-    row 0x03 "BPT" [] ∷
-    row 0x04 "RET" [] ∷
+    does (action.System system.Halt) (row 0x00 "HALT" []) ∷
+    does (action.System system.NoOperation) (row 0x01 "NOP" []) ∷
+    does (action.System system.Return) (row 0x02 "REI" []) ∷
+    does (action.System system.Breakpoint) (row 0x03 "BPT" []) ∷
+    does (action.Call call.Return) (row 0x04 "RET" []) ∷
     does (action.Control control.Return) (row 0x05 "RSB" []) ∷
     does (action.Integer integer.Index) (row 0x0A "INDEX" (Rl ∷ Rl ∷ Rl ∷ Rl ∷ Rl ∷ Wl ∷ [])) ∷
-    row 0x0C "PROBER" (Rb ∷ Rw ∷ Ab ∷ []) ∷
-    row 0x0D "PROBEW" (Rb ∷ Rw ∷ Ab ∷ []) ∷
-    row 0x0E "INSQUE" (Ab ∷ Ab ∷ []) ∷
-    row 0x0F "REMQUE" (Ab ∷ Wl ∷ []) ∷
+    does (action.System (system.Probe false)) (row 0x0C "PROBER" (Rb ∷ Rw ∷ Ab ∷ [])) ∷
+    does (action.System (system.Probe true)) (row 0x0D "PROBEW" (Rb ∷ Rw ∷ Ab ∷ [])) ∷
+    does (action.Queue queue.Insert) (row 0x0E "INSQUE" (Ab ∷ Ab ∷ [])) ∷
+    does (action.Queue queue.Remove) (row 0x0F "REMQUE" (Ab ∷ Wl ∷ [])) ∷
     does (action.Control (control.BranchSubroutine narrow.B)) (row 0x10 "BSBB" (Bb ∷ [])) ∷
     does (branch condition.Always narrow.B) (row 0x11 "BRB" (Bb ∷ [])) ∷
     does (branch condition.NotEqual narrow.B) (also "BNEQU" (row 0x12 "BNEQ" (Bb ∷ []))) ∷
@@ -123,26 +129,26 @@ instructions =
     does (branch condition.OverflowSet narrow.B) (row 0x1D "BVS" (Bb ∷ [])) ∷
     does (branch condition.CarryClear narrow.B) (also "BGEQU" (row 0x1E "BCC" (Bb ∷ []))) ∷
     does (branch condition.CarrySet narrow.B) (also "BLSSU" (row 0x1F "BCS" (Bb ∷ []))) ∷
-    row 0x28 "MOVC3" (Rw ∷ Ab ∷ Ab ∷ []) ∷
-    row 0x29 "CMPC3" (Rw ∷ Ab ∷ Ab ∷ []) ∷
-    row 0x2A "SCANC" (Rw ∷ Ab ∷ Ab ∷ Rb ∷ []) ∷
-    row 0x2B "SPANC" (Rw ∷ Ab ∷ Ab ∷ Rb ∷ []) ∷
-    row 0x2C "MOVC5" (Rw ∷ Ab ∷ Rb ∷ Rw ∷ Ab ∷ []) ∷
-    row 0x2D "CMPC5" (Rw ∷ Ab ∷ Rb ∷ Rw ∷ Ab ∷ []) ∷
-    row 0x2E "MOVTC" (Rw ∷ Ab ∷ Rb ∷ Ab ∷ Rw ∷ Ab ∷ []) ∷
-    row 0x2F "MOVTUC" (Rw ∷ Ab ∷ Rb ∷ Ab ∷ Rw ∷ Ab ∷ []) ∷
+    does (action.Text text.Move) (row 0x28 "MOVC3" (Rw ∷ Ab ∷ Ab ∷ [])) ∷
+    does (action.Text text.Compare) (row 0x29 "CMPC3" (Rw ∷ Ab ∷ Ab ∷ [])) ∷
+    does (action.Text text.Scan) (row 0x2A "SCANC" (Rw ∷ Ab ∷ Ab ∷ Rb ∷ [])) ∷
+    does (action.Text text.Span) (row 0x2B "SPANC" (Rw ∷ Ab ∷ Ab ∷ Rb ∷ [])) ∷
+    does (action.Text text.MoveFilled) (row 0x2C "MOVC5" (Rw ∷ Ab ∷ Rb ∷ Rw ∷ Ab ∷ [])) ∷
+    does (action.Text text.CompareFilled) (row 0x2D "CMPC5" (Rw ∷ Ab ∷ Rb ∷ Rw ∷ Ab ∷ [])) ∷
+    does (action.Text text.MoveTranslated) (row 0x2E "MOVTC" (Rw ∷ Ab ∷ Rb ∷ Ab ∷ Rw ∷ Ab ∷ [])) ∷
+    does (action.Text text.MoveTranslatedUntil) (row 0x2F "MOVTUC" (Rw ∷ Ab ∷ Rb ∷ Ab ∷ Rw ∷ Ab ∷ [])) ∷
     does (action.Control (control.BranchSubroutine narrow.W)) (row 0x30 "BSBW" (Bw ∷ [])) ∷
     does (branch condition.Always narrow.W) (row 0x31 "BRW" (Bw ∷ [])) ∷
     does (unary Convert size.W size.L) (row 0x32 "CVTWL" (Rw ∷ Wl ∷ [])) ∷
     does (unary Convert size.W size.B) (row 0x33 "CVTWB" (Rw ∷ Wb ∷ [])) ∷
-    row 0x39 "MATCHC" (Rw ∷ Ab ∷ Rw ∷ Ab ∷ []) ∷
-    row 0x3A "LOCC" (Rb ∷ Rw ∷ Ab ∷ []) ∷
-    row 0x3B "SKPC" (Rb ∷ Rw ∷ Ab ∷ []) ∷
+    does (action.Text text.Match) (row 0x39 "MATCHC" (Rw ∷ Ab ∷ Rw ∷ Ab ∷ [])) ∷
+    does (action.Text text.Locate) (row 0x3A "LOCC" (Rb ∷ Rw ∷ Ab ∷ [])) ∷
+    does (action.Text text.Skip) (row 0x3B "SKPC" (Rb ∷ Rw ∷ Ab ∷ [])) ∷
     does (unary ZeroExtend size.W size.L) (row 0x3C "MOVZWL" (Rw ∷ Wl ∷ [])) ∷
     does (action.Control (control.AddCompare narrow.W)) (row 0x3D "ACBW" (Rw ∷ Rw ∷ Mw ∷ Bw ∷ [])) ∷
     does (action.Integer (integer.MoveAddress size.W)) (row 0x3E "MOVAW" (Aw ∷ Wl ∷ [])) ∷
     does (action.Integer (integer.PushAddress size.W)) (row 0x3F "PUSHAW" (Aw ∷ [])) ∷
-    row 0x58 "ADAWI" (Rw ∷ Mw ∷ []) ∷
+    does (action.Queue queue.AddAligned) (row 0x58 "ADAWI" (Rw ∷ Mw ∷ [])) ∷
     does (action.Integer (integer.Shift size.L)) (row 0x78 "ASHL" (Rb ∷ Rl ∷ Wl ∷ [])) ∷
     does (action.Integer (integer.Shift size.Q)) (row 0x79 "ASHQ" (Rb ∷ Rq ∷ Wq ∷ [])) ∷
     does (action.Integer integer.ExtendedMultiply) (row 0x7A "EMUL" (Rl ∷ Rl ∷ Rl ∷ Wq ∷ [])) ∷
@@ -207,14 +213,14 @@ instructions =
     does (action.Integer (integer.Test narrow.W)) (row 0xB5 "TSTW" (Rw ∷ [])) ∷
     does (by_one Add narrow.W) (row 0xB6 "INCW" (Mw ∷ [])) ∷
     does (by_one Subtract narrow.W) (row 0xB7 "DECW" (Mw ∷ [])) ∷
-    row 0xB8 "BISPSW" (Rw ∷ []) ∷
-    row 0xB9 "BICPSW" (Rw ∷ []) ∷
-    row 0xBA "POPR" (Rw ∷ []) ∷
-    row 0xBB "PUSHR" (Rw ∷ []) ∷
-    row 0xBC "CHMK" (Rw ∷ []) ∷
-    row 0xBD "CHME" (Rw ∷ []) ∷
-    row 0xBE "CHMS" (Rw ∷ []) ∷
-    row 0xBF "CHMU" (Rw ∷ []) ∷
+    does (action.System system.SetStatus) (row 0xB8 "BISPSW" (Rw ∷ [])) ∷
+    does (action.System system.ClearStatus) (row 0xB9 "BICPSW" (Rw ∷ [])) ∷
+    does (action.Call call.PopRegisters) (row 0xBA "POPR" (Rw ∷ [])) ∷
+    does (action.Call call.PushRegisters) (row 0xBB "PUSHR" (Rw ∷ [])) ∷
+    does (action.System (system.ChangeMode mode.Kernel)) (row 0xBC "CHMK" (Rw ∷ [])) ∷
+    does (action.System (system.ChangeMode mode.Executive)) (row 0xBD "CHME" (Rw ∷ [])) ∷
+    does (action.System (system.ChangeMode mode.Supervisor)) (row 0xBE "CHMS" (Rw ∷ [])) ∷
+    does (action.System (system.ChangeMode mode.User)) (row 0xBF "CHMU" (Rw ∷ [])) ∷
     does (two Add narrow.L) (row 0xC0 "ADDL2" (Rl ∷ Ml ∷ [])) ∷
     does (three Add narrow.L) (row 0xC1 "ADDL3" (Rl ∷ Rl ∷ Wl ∷ [])) ∷
     does (two Subtract narrow.L) (row 0xC2 "SUBL2" (Rl ∷ Ml ∷ [])) ∷
@@ -241,29 +247,29 @@ instructions =
     does (by_one Subtract narrow.L) (row 0xD7 "DECL" (Ml ∷ [])) ∷
     does (two AddWithCarry narrow.L) (row 0xD8 "ADWC" (Rl ∷ Ml ∷ [])) ∷
     does (two SubtractWithCarry narrow.L) (row 0xD9 "SBWC" (Rl ∷ Ml ∷ [])) ∷
-    row 0xDA "MTPR" (Rl ∷ Rl ∷ []) ∷
-    row 0xDB "MFPR" (Rl ∷ Wl ∷ []) ∷
-    row 0xDC "MOVPSL" (Wl ∷ []) ∷
+    does (action.System system.ToRegister) (row 0xDA "MTPR" (Rl ∷ Rl ∷ [])) ∷
+    does (action.System system.FromRegister) (row 0xDB "MFPR" (Rl ∷ Wl ∷ [])) ∷
+    does (action.System system.MoveStatus) (row 0xDC "MOVPSL" (Wl ∷ [])) ∷
     does (action.Integer integer.Push) (row 0xDD "PUSHL" (Rl ∷ [])) ∷
     does (action.Integer (integer.MoveAddress size.L)) (row 0xDE "MOVAL" (Al ∷ Wl ∷ [])) ∷
     does (action.Integer (integer.PushAddress size.L)) (row 0xDF "PUSHAL" (Al ∷ [])) ∷
-    row 0xE0 "BBS" (Rl ∷ Vb ∷ Bb ∷ []) ∷
-    row 0xE1 "BBC" (Rl ∷ Vb ∷ Bb ∷ []) ∷
-    row 0xE2 "BBSS" (Rl ∷ Vb ∷ Bb ∷ []) ∷
-    row 0xE3 "BBCS" (Rl ∷ Vb ∷ Bb ∷ []) ∷
-    row 0xE4 "BBSC" (Rl ∷ Vb ∷ Bb ∷ []) ∷
-    row 0xE5 "BBCC" (Rl ∷ Vb ∷ Bb ∷ []) ∷
-    row 0xE6 "BBSSI" (Rl ∷ Vb ∷ Bb ∷ []) ∷
-    row 0xE7 "BBCCI" (Rl ∷ Vb ∷ Bb ∷ []) ∷
+    does (action.Field (field.Branch true None)) (row 0xE0 "BBS" (Rl ∷ Vb ∷ Bb ∷ [])) ∷
+    does (action.Field (field.Branch false None)) (row 0xE1 "BBC" (Rl ∷ Vb ∷ Bb ∷ [])) ∷
+    does (action.Field (field.Branch true (Some true))) (row 0xE2 "BBSS" (Rl ∷ Vb ∷ Bb ∷ [])) ∷
+    does (action.Field (field.Branch false (Some true))) (row 0xE3 "BBCS" (Rl ∷ Vb ∷ Bb ∷ [])) ∷
+    does (action.Field (field.Branch true (Some false))) (row 0xE4 "BBSC" (Rl ∷ Vb ∷ Bb ∷ [])) ∷
+    does (action.Field (field.Branch false (Some false))) (row 0xE5 "BBCC" (Rl ∷ Vb ∷ Bb ∷ [])) ∷
+    does (action.Field (field.Branch true (Some true))) (row 0xE6 "BBSSI" (Rl ∷ Vb ∷ Bb ∷ [])) ∷
+    does (action.Field (field.Branch false (Some false))) (row 0xE7 "BBCCI" (Rl ∷ Vb ∷ Bb ∷ [])) ∷
     does (action.Control (control.LowBit true)) (row 0xE8 "BLBS" (Rl ∷ Bb ∷ [])) ∷
     does (action.Control (control.LowBit false)) (row 0xE9 "BLBC" (Rl ∷ Bb ∷ [])) ∷
-    row 0xEA "FFS" (Rl ∷ Rb ∷ Vb ∷ Wl ∷ []) ∷
-    row 0xEB "FFC" (Rl ∷ Rb ∷ Vb ∷ Wl ∷ []) ∷
-    row 0xEC "CMPV" (Rl ∷ Rb ∷ Vb ∷ Rl ∷ []) ∷
-    row 0xED "CMPZV" (Rl ∷ Rb ∷ Vb ∷ Rl ∷ []) ∷
-    row 0xEE "EXTV" (Rl ∷ Rb ∷ Vb ∷ Wl ∷ []) ∷
-    row 0xEF "EXTZV" (Rl ∷ Rb ∷ Vb ∷ Wl ∷ []) ∷
-    row 0xF0 "INSV" (Rl ∷ Rl ∷ Rb ∷ Vb ∷ []) ∷
+    does (action.Field (field.FindFirst true)) (row 0xEA "FFS" (Rl ∷ Rb ∷ Vb ∷ Wl ∷ [])) ∷
+    does (action.Field (field.FindFirst false)) (row 0xEB "FFC" (Rl ∷ Rb ∷ Vb ∷ Wl ∷ [])) ∷
+    does (action.Field (field.Compare true)) (row 0xEC "CMPV" (Rl ∷ Rb ∷ Vb ∷ Rl ∷ [])) ∷
+    does (action.Field (field.Compare false)) (row 0xED "CMPZV" (Rl ∷ Rb ∷ Vb ∷ Rl ∷ [])) ∷
+    does (action.Field (field.Extract true)) (row 0xEE "EXTV" (Rl ∷ Rb ∷ Vb ∷ Wl ∷ [])) ∷
+    does (action.Field (field.Extract false)) (row 0xEF "EXTZV" (Rl ∷ Rb ∷ Vb ∷ Wl ∷ [])) ∷
+    does (action.Field field.Insert) (row 0xF0 "INSV" (Rl ∷ Rl ∷ Rb ∷ Vb ∷ [])) ∷
     does (action.Control (control.AddCompare narrow.L)) (row 0xF1 "ACBL" (Rl ∷ Rl ∷ Ml ∷ Bw ∷ [])) ∷
     does (action.Control (control.AddOne relation.Less)) (row 0xF2 "AOBLSS" (Rl ∷ Ml ∷ Bb ∷ [])) ∷
     does (action.Control (control.AddOne relation.LessOrEqual)) (row 0xF3 "AOBLEQ" (Rl ∷ Ml ∷ Bb ∷ [])) ∷
@@ -271,7 +277,7 @@ instructions =
     does (action.Control (control.SubtractOne relation.Greater)) (row 0xF5 "SOBGTR" (Ml ∷ Bb ∷ [])) ∷
     does (unary Convert size.L size.B) (row 0xF6 "CVTLB" (Rl ∷ Wb ∷ [])) ∷
     does (unary Convert size.L size.W) (row 0xF7 "CVTLW" (Rl ∷ Ww ∷ [])) ∷
-    row 0xFA "CALLG" (Ab ∷ Ab ∷ []) ∷
-    row 0xFB "CALLS" (Rl ∷ Ab ∷ []) ∷
-    row 0xFC "XFC" [] ∷
+    does (action.Call call.WithList) (row 0xFA "CALLG" (Ab ∷ Ab ∷ [])) ∷
+    does (action.Call call.WithStack) (row 0xFB "CALLS" (Rl ∷ Ab ∷ [])) ∷
+    does (action.System system.Customer) (row 0xFC "XFC" []) ∷
     []

@@ -183,12 +183,138 @@ pub enum Control {
     Case(Narrow),
 }
 
+/// The access modes, from the most privileged on (VAX Architecture Reference Manual, process structure).
+#[derive(Clone, Copy, Debug, PartialEq, Eq)]
+pub enum AccessMode {
+    Kernel,
+    Executive,
+    Supervisor,
+    User,
+}
+
+impl AccessMode {
+    ghost use Rattle.vax_isa.specs.Actions.{mode_number};
+
+    /// 0 for kernel to 3 for user, as the processor status has it.
+    #[inline]
+    pub fn number(self) -> u8
+        ensures { result ≡ mode_number self }
+    {
+        match self {
+            AccessMode::Kernel => 0,
+            AccessMode::Executive => 1,
+            AccessMode::Supervisor => 2,
+            AccessMode::User => 3,
+        }
+    }
+}
+
+/// Fields of bits.
+#[derive(Clone, Copy, Debug, PartialEq, Eq)]
+pub enum Field {
+    /// EXTV, EXTZV: position, size, base, destination.
+    Extract { signed: bool },
+    /// CMPV, CMPZV: position, size, base, source.
+    Compare { signed: bool },
+    /// INSV: source, position, size, base.
+    Insert,
+    /// FFS, FFC: first position, size, base, position found. It looks for the first bit that is so.
+    FindFirst { set: bool },
+    /// BBS, BBC, BBSS, BBCS, BBSC, BBCC, BBSSI, BBCCI: position, base, displacement. The branch is taken where the bit is so; whether it
+    /// is or not, the bit then becomes what is said, if anything is.
+    Branch { set: bool, becomes: Option<bool> },
+}
+
+/// Calls of procedures, and the registers that they save.
+#[derive(Clone, Copy, Debug, PartialEq, Eq)]
+pub enum Call {
+    /// CALLG: argument list, procedure.
+    WithList,
+    /// CALLS: number of arguments on the stack, procedure.
+    WithStack,
+    /// RET.
+    Return,
+    /// PUSHR: mask.
+    PushRegisters,
+    /// POPR: mask.
+    PopRegisters,
+}
+
+/// Queues, and the aligned sum.
+#[derive(Clone, Copy, Debug, PartialEq, Eq)]
+pub enum Queue {
+    /// INSQUE: entry, predecessor.
+    Insert,
+    /// REMQUE: entry, destination of its address.
+    Remove,
+    /// ADAWI: addend, sum.
+    AddAligned,
+}
+
+/// Access modes, exceptions, and the registers of the processor.
+#[derive(Clone, Copy, Debug, PartialEq, Eq)]
+pub enum System {
+    /// HALT.
+    Halt,
+    /// NOP.
+    NoOperation,
+    /// BPT.
+    Breakpoint,
+    /// XFC.
+    Customer,
+    /// REI.
+    Return,
+    /// CHMK, CHME, CHMS, CHMU: code.
+    ChangeMode(AccessMode),
+    /// PROBER, PROBEW: mode, length, base.
+    Probe { writing: bool },
+    /// MTPR: source, number of the processor register.
+    ToRegister,
+    /// MFPR: number of the processor register, destination.
+    FromRegister,
+    /// MOVPSL: destination.
+    MoveStatus,
+    /// BISPSW: mask.
+    SetStatus,
+    /// BICPSW: mask.
+    ClearStatus,
+}
+
+/// Strings of characters.
+#[derive(Clone, Copy, Debug, PartialEq, Eq)]
+pub enum Text {
+    /// MOVC3: length, source, destination.
+    Move,
+    /// MOVC5: source length, source, fill, destination length, destination.
+    MoveFilled,
+    /// MOVTC: source length, source, fill, table, destination length, destination.
+    MoveTranslated,
+    /// MOVTUC: source length, source, escape, table, destination length, destination.
+    MoveTranslatedUntil,
+    /// CMPC3: length, first, second.
+    Compare,
+    /// CMPC5: first length, first, fill, second length, second.
+    CompareFilled,
+    /// LOCC: character, length, string.
+    Locate,
+    /// SKPC: character, length, string.
+    Skip,
+    /// SCANC: length, string, table, mask.
+    Scan,
+    /// SPANC: length, string, table, mask.
+    Span,
+    /// MATCHC: object length, object, source length, source.
+    Match,
+}
+
 /// What an instruction does with its operands.
 #[derive(Clone, Copy, Debug, PartialEq, Eq)]
 pub enum Action {
     Integer(Integer),
     Control(Control),
-    Halt,
-    /// It isn't built yet.
-    Unbuilt,
+    Field(Field),
+    Call(Call),
+    Queue(Queue),
+    System(System),
+    Text(Text),
 }

@@ -12,7 +12,10 @@ mod table;
 #[cfg(test)]
 mod tests;
 
-pub use crate::actions::{Action, Binary, Condition, Control, Integer, Narrow, Relation, Unary};
+pub use crate::actions::{
+    AccessMode, Action, Binary, Call, Condition, Control, Field, Integer, Narrow, Queue, Relation,
+    System, Text, Unary,
+};
 
 /// What an instruction does with an operand (VAX MACRO and Instruction Set Reference Manual, operand specifier notation).
 #[derive(Clone, Copy, Debug, PartialEq, Eq)]
@@ -68,7 +71,7 @@ pub fn by_code(code: u8) -> Option<Row>
 #[inline(always)]
 pub fn action(code: u8) -> Option<Action>
     ensures action { result ≡ action_of code }
-    ensures operands { All (λ i. IfSome (operands_of i.action) (λ kinds. kinds ≡ i.operands)) instructions }
+    ensures operands { All (λ i. operands_of i.action ≡ i.operands) instructions }
 {
     match &table::slots()[code as usize] {
         Some(entry) => Some(entry.action),

@@ -5,7 +5,10 @@ ghost use Rattle.vax_isa.specs.Entries.{counted, entries, entry_action, entry_li
 ghost use Rattle.vax_isa.specs.Instructions.{instructions};
 ghost use Rattle.vax_isa.specs.Rows.{plain, action_of, is_one_of};
 
-use crate::actions::{Action, Binary, Condition, Control, Integer, Narrow, Relation, Unary};
+use crate::actions::{
+    AccessMode, Action, Binary, Call, Condition, Control, Field, Integer, Narrow, Queue, Relation,
+    System, Text, Unary,
+};
 use crate::{Letter, OperandKind, Row};
 use vax_word::Size;
 
@@ -110,6 +113,14 @@ macro_rules! control {
     ($($action:tt)*) => { Action::Control(Control::$($action)*) };
 }
 
+macro_rules! field {
+    ($($action:tt)*) => { Action::Field(Field::$($action)*) };
+}
+
+macro_rules! system {
+    ($($action:tt)*) => { Action::System(System::$($action)*) };
+}
+
 macro_rules! unary {
     ($operation:ident $from:ident $to:ident) => {
         Action::Integer(Integer::Unary { operation: Unary::$operation, from: Size::$from, to: Size::$to })
@@ -132,9 +143,7 @@ macro_rules! branch {
     ($condition:ident $size:ident) => { Action::Control(Control::Branch { condition: Condition::$condition, size: Narrow::$size }) };
 }
 
-// a row without an action isn't built yet
 macro_rules! row {
-    ($code:literal, $name:literal $(or $alias:literal)? $(, $kind:ident)*) => { row!($code, $name $(or $alias)? $(, $kind)*; Action::Unbuilt) };
     ($code:literal, $name:literal $(or $alias:literal)?; $action:expr) => { row!(@ $code, $name $(or $alias)?; $action; 0, NO, NO, NO, NO, NO, NO) };
     ($code:literal, $name:literal $(or $alias:literal)?, $a:ident; $action:expr) => { row!(@ $code, $name $(or $alias)?; $action; 1, $a, NO, NO, NO, NO, NO) };
     ($code:literal, $name:literal $(or $alias:literal)?, $a:ident, $b:ident; $action:expr) => { row!(@ $code, $name $(or $alias)?; $action; 2, $a, $b, NO, NO, NO, NO) };
@@ -153,19 +162,19 @@ macro_rules! row {
 /// The entry of each opcode. A reserved opcode has none.
 #[rattlefmt::skip]
 static TABLE: [Option<Entry>; 256] = [
-    row!(0x00, "HALT"; Action::Halt),
-    row!(0x01, "NOP"),
-    row!(0x02, "REI"),
-    row!(0x03, "BPT"),
-    row!(0x04, "RET"),
+    row!(0x00, "HALT"; system!(Halt)),
+    row!(0x01, "NOP"; system!(NoOperation)),
+    row!(0x02, "REI"; system!(Return)),
+    row!(0x03, "BPT"; system!(Breakpoint)),
+    row!(0x04, "RET"; Action::Call(Call::Return)),
     row!(0x05, "RSB"; control!(Return)),
     RESERVED, RESERVED, RESERVED, RESERVED, // 06 to 09
     row!(0x0A, "INDEX", RL, RL, RL, RL, RL, WL; integer!(Index)),
     RESERVED, // 0B
-    row!(0x0C, "PROBER", RB, RW, AB),
-    row!(0x0D, "PROBEW", RB, RW, AB),
-    row!(0x0E, "INSQUE", AB, AB),
-    row!(0x0F, "REMQUE", AB, WL),
+    row!(0x0C, "PROBER", RB, RW, AB; system!(Probe { writing: false })),
+    row!(0x0D, "PROBEW", RB, RW, AB; system!(Probe { writing: true })),
+    row!(0x0E, "INSQUE", AB, AB; Action::Queue(Queue::Insert)),
+    row!(0x0F, "REMQUE", AB, WL; Action::Queue(Queue::Remove)),
     row!(0x10, "BSBB", BB; control!(BranchSubroutine(Narrow::B))),
     row!(0x11, "BRB", BB; branch!(Always B)),
     row!(0x12, "BNEQ" or "BNEQU", BB; branch!(NotEqual B)),
@@ -183,29 +192,29 @@ static TABLE: [Option<Entry>; 256] = [
     row!(0x1E, "BCC" or "BGEQU", BB; branch!(CarryClear B)),
     row!(0x1F, "BCS" or "BLSSU", BB; branch!(CarrySet B)),
     RESERVED, RESERVED, RESERVED, RESERVED, RESERVED, RESERVED, RESERVED, RESERVED, // 20 to 27
-    row!(0x28, "MOVC3", RW, AB, AB),
-    row!(0x29, "CMPC3", RW, AB, AB),
-    row!(0x2A, "SCANC", RW, AB, AB, RB),
-    row!(0x2B, "SPANC", RW, AB, AB, RB),
-    row!(0x2C, "MOVC5", RW, AB, RB, RW, AB),
-    row!(0x2D, "CMPC5", RW, AB, RB, RW, AB),
-    row!(0x2E, "MOVTC", RW, AB, RB, AB, RW, AB),
-    row!(0x2F, "MOVTUC", RW, AB, RB, AB, RW, AB),
+    row!(0x28, "MOVC3", RW, AB, AB; Action::Text(Text::Move)),
+    row!(0x29, "CMPC3", RW, AB, AB; Action::Text(Text::Compare)),
+    row!(0x2A, "SCANC", RW, AB, AB, RB; Action::Text(Text::Scan)),
+    row!(0x2B, "SPANC", RW, AB, AB, RB; Action::Text(Text::Span)),
+    row!(0x2C, "MOVC5", RW, AB, RB, RW, AB; Action::Text(Text::MoveFilled)),
+    row!(0x2D, "CMPC5", RW, AB, RB, RW, AB; Action::Text(Text::CompareFilled)),
+    row!(0x2E, "MOVTC", RW, AB, RB, AB, RW, AB; Action::Text(Text::MoveTranslated)),
+    row!(0x2F, "MOVTUC", RW, AB, RB, AB, RW, AB; Action::Text(Text::MoveTranslatedUntil)),
     row!(0x30, "BSBW", BW; control!(BranchSubroutine(Narrow::W))),
     row!(0x31, "BRW", BW; branch!(Always W)),
     row!(0x32, "CVTWL", RW, WL; unary!(Convert W L)),
     row!(0x33, "CVTWB", RW, WB; unary!(Convert W B)),
     RESERVED, RESERVED, RESERVED, RESERVED, RESERVED, // 34 to 38
-    row!(0x39, "MATCHC", RW, AB, RW, AB),
-    row!(0x3A, "LOCC", RB, RW, AB),
-    row!(0x3B, "SKPC", RB, RW, AB),
+    row!(0x39, "MATCHC", RW, AB, RW, AB; Action::Text(Text::Match)),
+    row!(0x3A, "LOCC", RB, RW, AB; Action::Text(Text::Locate)),
+    row!(0x3B, "SKPC", RB, RW, AB; Action::Text(Text::Skip)),
     row!(0x3C, "MOVZWL", RW, WL; unary!(ZeroExtend W L)),
     row!(0x3D, "ACBW", RW, RW, MW, BW; control!(AddCompare(Narrow::W))),
     row!(0x3E, "MOVAW", AW, WL; integer!(MoveAddress(Size::W))),
     row!(0x3F, "PUSHAW", AW; integer!(PushAddress(Size::W))),
     RESERVED, RESERVED, RESERVED, RESERVED, RESERVED, RESERVED, RESERVED, RESERVED, RESERVED, RESERVED, RESERVED, RESERVED, RESERVED, RESERVED, RESERVED, RESERVED, // 40 to 4F
     RESERVED, RESERVED, RESERVED, RESERVED, RESERVED, RESERVED, RESERVED, RESERVED, // 50 to 57
-    row!(0x58, "ADAWI", RW, MW),
+    row!(0x58, "ADAWI", RW, MW; Action::Queue(Queue::AddAligned)),
     RESERVED, RESERVED, RESERVED, RESERVED, RESERVED, RESERVED, RESERVED, // 59 to 5F
     RESERVED, RESERVED, RESERVED, RESERVED, RESERVED, RESERVED, RESERVED, RESERVED, RESERVED, RESERVED, RESERVED, RESERVED, RESERVED, RESERVED, RESERVED, RESERVED, // 60 to 6F
     RESERVED, RESERVED, RESERVED, RESERVED, RESERVED, RESERVED, RESERVED, RESERVED, // 70 to 77
@@ -273,14 +282,14 @@ static TABLE: [Option<Entry>; 256] = [
     row!(0xB5, "TSTW", RW; integer!(Test(Narrow::W))),
     row!(0xB6, "INCW", MW; by_one!(Add W)),
     row!(0xB7, "DECW", MW; by_one!(Subtract W)),
-    row!(0xB8, "BISPSW", RW),
-    row!(0xB9, "BICPSW", RW),
-    row!(0xBA, "POPR", RW),
-    row!(0xBB, "PUSHR", RW),
-    row!(0xBC, "CHMK", RW),
-    row!(0xBD, "CHME", RW),
-    row!(0xBE, "CHMS", RW),
-    row!(0xBF, "CHMU", RW),
+    row!(0xB8, "BISPSW", RW; system!(SetStatus)),
+    row!(0xB9, "BICPSW", RW; system!(ClearStatus)),
+    row!(0xBA, "POPR", RW; Action::Call(Call::PopRegisters)),
+    row!(0xBB, "PUSHR", RW; Action::Call(Call::PushRegisters)),
+    row!(0xBC, "CHMK", RW; system!(ChangeMode(AccessMode::Kernel))),
+    row!(0xBD, "CHME", RW; system!(ChangeMode(AccessMode::Executive))),
+    row!(0xBE, "CHMS", RW; system!(ChangeMode(AccessMode::Supervisor))),
+    row!(0xBF, "CHMU", RW; system!(ChangeMode(AccessMode::User))),
     row!(0xC0, "ADDL2", RL, ML; two!(Add L)),
     row!(0xC1, "ADDL3", RL, RL, WL; three!(Add L)),
     row!(0xC2, "SUBL2", RL, ML; two!(Subtract L)),
@@ -307,29 +316,29 @@ static TABLE: [Option<Entry>; 256] = [
     row!(0xD7, "DECL", ML; by_one!(Subtract L)),
     row!(0xD8, "ADWC", RL, ML; two!(AddWithCarry L)),
     row!(0xD9, "SBWC", RL, ML; two!(SubtractWithCarry L)),
-    row!(0xDA, "MTPR", RL, RL),
-    row!(0xDB, "MFPR", RL, WL),
-    row!(0xDC, "MOVPSL", WL),
+    row!(0xDA, "MTPR", RL, RL; system!(ToRegister)),
+    row!(0xDB, "MFPR", RL, WL; system!(FromRegister)),
+    row!(0xDC, "MOVPSL", WL; system!(MoveStatus)),
     row!(0xDD, "PUSHL", RL; integer!(Push)),
     row!(0xDE, "MOVAL", AL, WL; integer!(MoveAddress(Size::L))),
     row!(0xDF, "PUSHAL", AL; integer!(PushAddress(Size::L))),
-    row!(0xE0, "BBS", RL, VB, BB),
-    row!(0xE1, "BBC", RL, VB, BB),
-    row!(0xE2, "BBSS", RL, VB, BB),
-    row!(0xE3, "BBCS", RL, VB, BB),
-    row!(0xE4, "BBSC", RL, VB, BB),
-    row!(0xE5, "BBCC", RL, VB, BB),
-    row!(0xE6, "BBSSI", RL, VB, BB),
-    row!(0xE7, "BBCCI", RL, VB, BB),
+    row!(0xE0, "BBS", RL, VB, BB; field!(Branch { set: true, becomes: None })),
+    row!(0xE1, "BBC", RL, VB, BB; field!(Branch { set: false, becomes: None })),
+    row!(0xE2, "BBSS", RL, VB, BB; field!(Branch { set: true, becomes: Some(true) })),
+    row!(0xE3, "BBCS", RL, VB, BB; field!(Branch { set: false, becomes: Some(true) })),
+    row!(0xE4, "BBSC", RL, VB, BB; field!(Branch { set: true, becomes: Some(false) })),
+    row!(0xE5, "BBCC", RL, VB, BB; field!(Branch { set: false, becomes: Some(false) })),
+    row!(0xE6, "BBSSI", RL, VB, BB; field!(Branch { set: true, becomes: Some(true) })),
+    row!(0xE7, "BBCCI", RL, VB, BB; field!(Branch { set: false, becomes: Some(false) })),
     row!(0xE8, "BLBS", RL, BB; control!(LowBit { set: true })),
     row!(0xE9, "BLBC", RL, BB; control!(LowBit { set: false })),
-    row!(0xEA, "FFS", RL, RB, VB, WL),
-    row!(0xEB, "FFC", RL, RB, VB, WL),
-    row!(0xEC, "CMPV", RL, RB, VB, RL),
-    row!(0xED, "CMPZV", RL, RB, VB, RL),
-    row!(0xEE, "EXTV", RL, RB, VB, WL),
-    row!(0xEF, "EXTZV", RL, RB, VB, WL),
-    row!(0xF0, "INSV", RL, RL, RB, VB),
+    row!(0xEA, "FFS", RL, RB, VB, WL; field!(FindFirst { set: true })),
+    row!(0xEB, "FFC", RL, RB, VB, WL; field!(FindFirst { set: false })),
+    row!(0xEC, "CMPV", RL, RB, VB, RL; field!(Compare { signed: true })),
+    row!(0xED, "CMPZV", RL, RB, VB, RL; field!(Compare { signed: false })),
+    row!(0xEE, "EXTV", RL, RB, VB, WL; field!(Extract { signed: true })),
+    row!(0xEF, "EXTZV", RL, RB, VB, WL; field!(Extract { signed: false })),
+    row!(0xF0, "INSV", RL, RL, RB, VB; field!(Insert)),
     row!(0xF1, "ACBL", RL, RL, ML, BW; control!(AddCompare(Narrow::L))),
     row!(0xF2, "AOBLSS", RL, ML, BB; control!(AddOne(Relation::Less))),
     row!(0xF3, "AOBLEQ", RL, ML, BB; control!(AddOne(Relation::LessOrEqual))),
@@ -338,8 +347,8 @@ static TABLE: [Option<Entry>; 256] = [
     row!(0xF6, "CVTLB", RL, WB; unary!(Convert L B)),
     row!(0xF7, "CVTLW", RL, WW; unary!(Convert L W)),
     RESERVED, RESERVED, // F8 to F9
-    row!(0xFA, "CALLG", AB, AB),
-    row!(0xFB, "CALLS", RL, AB),
-    row!(0xFC, "XFC"),
+    row!(0xFA, "CALLG", AB, AB; Action::Call(Call::WithList)),
+    row!(0xFB, "CALLS", RL, AB; Action::Call(Call::WithStack)),
+    row!(0xFC, "XFC"; system!(Customer)),
     RESERVED, RESERVED, RESERVED, // FD to FF
 ];

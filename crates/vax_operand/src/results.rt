@@ -9,15 +9,9 @@ ghost use Rattle.vax_undo.specs.Transaction.{present, room, Keeps, with_state, t
 
 use crate::access::store;
 use crate::memory::write;
-use vax_flat::{Flow, Operand};
+use vax_flat::{Flow, Operand, Trap};
 use vax_undo::{CutShort, Port, Txn};
 use vax_word::{Codes, Psl, Size};
-
-/// The type of the trap of an integer overflow (VAX Architecture Reference Manual, arithmetic exceptions).
-const INTEGER_OVERFLOW: u8 = 1;
-
-/// The type of the trap of a division by 0.
-const INTEGER_DIVIDE_BY_ZERO: u8 = 2;
 
 /// Sets the condition codes.
 #[inline(always)]
@@ -48,9 +42,9 @@ pub fn settle<P: Port>(txn: &mut Txn<P>, by_zero: bool, codes: Codes) -> Result<
     ensures keeps { Keeps P.view P.since 1 txn.old txn.new }
 {
     let flow = if by_zero {
-        Flow::Trap(INTEGER_DIVIDE_BY_ZERO)
+        Flow::Trap(Trap::IntegerDivide)
     } else if codes.v && traps_overflow(txn) {
-        Flow::Trap(INTEGER_OVERFLOW)
+        Flow::Trap(Trap::IntegerOverflow)
     } else {
         Flow::Done
     };

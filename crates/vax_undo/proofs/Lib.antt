@@ -1,4 +1,5 @@
 pub mod Undo
+pub mod Left
 pub mod Numbers
 pub mod Ranges
 pub mod Blocks

@@ -5,6 +5,8 @@ use Rattle.vax_space.specs.declared.Access.TheVariants.{Write}
 use Rattle.vax_space.specs.declared.Area.{Area}
 use Rattle.vax_space.specs.Reference.{violation}
 use Rattle.vax_flat.specs.declared.Cut.{Cut}
+use Rattle.vax_flat.specs.declared.Flow.{Flow}
+use Rattle.vax_flat.specs.declared.Flow.TheVariants as flow
 use Rattle.vax_flat.specs.State.{State, with_register, with_psl, with_stack, with_requests, with_timer, with_clock, with_taken, with_sent}
 use Rattle.vax_flat.specs.Port.{View, first_absent, is_in, unmarked, with_number_back}
 use Rattle.vax_flat.specs.OverPort.{Present}
@@ -119,3 +121,17 @@ module _ {P : Type 0} where
     pub ready : IsReady view old → IsReady view new
     pub room : room old ≤ room new + count
     pub same : IsSame along old new
+
+  -- A call used at most so many entries; its log need not undo what it did.
+  pub record IsLeft (along : P → P → Type 0) (count : ℕ) (old new : Transaction P) : Type 0 where
+    pub room : room old ≤ room new + count
+    pub same : IsSame along old new
+
+  -- An instruction that was completed may have written last of all what the log doesn't undo; any other can be undone.
+  abbrev pub KeepsUnlessDone : (P → View) → (P → P → Type 0) → ℕ → Result Flow CutShort → Transaction P → Transaction P → Type 0
+  KeepsUnlessDone view along count (Ok flow.Done) old new = IsLeft along count old new
+  KeepsUnlessDone view along count (Ok flow.Clocked) old new = Keeps view along count old new
+  KeepsUnlessDone view along count (Ok (flow.Trap trap)) old new = Keeps view along count old new
+  KeepsUnlessDone view along count (Ok (flow.More opcode units)) old new = Keeps view along count old new
+  KeepsUnlessDone view along count (Ok (flow.Ended e)) old new = Keeps view along count old new
+  KeepsUnlessDone view along count (Err e) old new = Keeps view along count old new

@@ -8,16 +8,13 @@ ghost use Rattle.vax_flat.specs.OverPort.{Follows};
 ghost use Rattle.vax_undo.specs.Transaction.{present, room, Keeps, told};
 
 use crate::results::{answer_of, is_by_zero, of_one, of_two, rotated};
-use vax_flat::Flow;
+use vax_flat::{Flow, Trap};
 use vax_isa::{Binary, Integer, Narrow, Unary};
 use vax_operand::{
     answer, next_address, next_modified, next_place, next_value, push, set_codes, settle, store,
 };
 use vax_undo::{CutShort, Port, Txn};
 use vax_word::{Size, add, ediv, emul, mul, shift, signed_less};
-
-/// The type of the trap of a subscript out of range (VAX Architecture Reference Manual, arithmetic exceptions).
-const SUBSCRIPT_RANGE: u8 = 7;
 
 /// The carry as it is.
 #[inline(always)]
@@ -285,7 +282,7 @@ fn subscript_flow(subscript: u64, low: u64, high: u64) -> Flow
     ensures { result ≡ integer.subscript_flow subscript low high }
 {
     if signed_less(Size::L, subscript, low) || signed_less(Size::L, high, subscript) {
-        Flow::Trap(SUBSCRIPT_RANGE)
+        Flow::Trap(Trap::SubscriptRange)
     } else {
         Flow::Done
     }

@@ -2,7 +2,7 @@ use Rattle.std.proofs.Common.{◌∙◌, ap, subst, rules}
 use Rattle.vax_flat.specs.OverPort.{Present, Follows}
 use Rattle.vax_flat.specs.Step.{whole, whole_step}
 use Rattle.vax_undo.specs.Transaction.{bare, present, state_of, told}
-use Rattle.vax_cpu.proofs.Attempts.{tried_at}
+use Rattle.vax_cpu.proofs.Attempts.{tried_at, undone_unless}
 use Rattle.vax_cpu.proofs.attempt.try_step.Goals as goal
 
 pub returns-clause-tried : goal.returns-clause-tried
@@ -11,4 +11,4 @@ returns-clause-tried g c =
     tried_at whole_step old c.conclude.result (record { state = _; view = _ }) _ _ (search rules) (search rules)
     (c.conclude.ensures.tried old whole
     (subst (λ (p : Present). Follows (whole p.state) p (told c.work-done.new.txn c.work-done.result) (present g.P.Port.view c.work-done.new.txn)) c.begin-txn.ensures.present c.work-done.ensures.exact)
-    (c.work-done.ensures.keeps.undone ∙ (c.begin-txn.ensures.undone ∙ ap bare c.begin-txn.ensures.present)))
+    (undone_unless g.P.Port.view g.P.Port.since 30 c.work-done.result c.begin-txn.result c.work-done.new.txn c.work-done.ensures.keeps old (c.begin-txn.ensures.undone ∙ ap bare c.begin-txn.ensures.present)))

@@ -3,14 +3,14 @@ use Rattle.vax_flat.specs.declared.Flow.TheVariants as flow
 use Rattle.vax_flat.specs.OverPort.{Present, Follows}
 use Rattle.vax_flat.specs.Step.{whole, whole_step}
 use Rattle.vax_undo.specs.Transaction.{present, told}
-use Rattle.vax_cpu.proofs.Attempts.{done_of, not_done, renewed_step, sent_step, ran_more, tried_at}
+use Rattle.vax_cpu.proofs.Attempts.{done_of, not_done, renewed_step, sent_step, ran_more, tried_at, undone_unless}
 use Rattle.vax_cpu.proofs.attempt.try_steps.Goals as goal
 
 pub loop-steps-preserved : goal.loop-steps-preserved
 loop-steps-preserved g c =
     let view = g.P.Port.view in
     let inv = c.loop-steps.invariant in
-    let same = c.work-done.ensures.keeps.same in
+    let same = c.work-done.ensures.same in
     let now = present view c.loop-steps.txn in
     let mid = present view c.work-done.new.txn in
     let done = done_of c.work-done.result (search rules) in
@@ -50,5 +50,16 @@ returns-clause-ran g c =
       now,
       c.loop-steps.invariant.ran,
       tried_at whole_step now c.conclude-last-2.result (record { state = _; view = _ }) _ _ (search rules) (search rules)
-          (c.conclude-last-2.ensures.tried now whole c.work-done-2.ensures.exact (c.work-done-2.ensures.keeps.undone ∙ c.loop-steps.invariant.undone)),
+          (c.conclude-last-2.ensures.tried now whole c.work-done-2.ensures.exact
+          (undone_unless g.P.Port.view g.P.Port.since 30 c.work-done-2.result c.loop-steps.txn c.work-done-2.new.txn c.work-done-2.ensures.keeps now c.loop-steps.invariant.undone)),
+    )
+
+pub returns-then-not-is_done-clause-ran : goal.returns-then-not-is_done-clause-ran
+returns-then-not-is_done-clause-ran g c =
+    let now = present g.P.Port.view c.loop-steps.txn in (
+      now,
+      c.loop-steps.invariant.ran,
+      tried_at whole_step now c.conclude-last.result (record { state = _; view = _ }) _ _ (search rules) (search rules)
+          (c.conclude-last.ensures.tried now whole c.work-done.ensures.exact
+          (undone_unless g.P.Port.view g.P.Port.since 30 c.work-done.result c.loop-steps.txn c.work-done.new.txn c.work-done.ensures.keeps now c.loop-steps.invariant.undone)),
     )
