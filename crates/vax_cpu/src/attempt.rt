@@ -3,17 +3,21 @@ ghost use Rattle.std.specs.Prelude.{◌≡◌, ◌+◌, ◌<◌, ◌≤◌, ℕ,
 ghost use Rattle.vax_flat.specs.Accesses.{Accesses, Leaf};
 ghost use Rattle.vax_flat.specs.State.{State};
 ghost use Rattle.vax_flat.specs.OverPort.{Follows, Present};
-ghost use Rattle.vax_flat.specs.Step.{begun, delivery, finished, leaf, whole, whole_step, delivered, whole_delivery};
-ghost use Rattle.vax_undo.specs.Transaction.{bare, present, room, state_of, told, undone, IsReady, IsSame, Keeps, KeepsUnlessDone};
+ghost use Rattle.vax_flat.specs.Delivery.{interrupt};
+ghost use Rattle.vax_flat.specs.System.{flow_of_delivery};
+ghost use Rattle.vax_x_sys.specs.Frames.{IsLevel};
+ghost use Rattle.vax_flat.specs.Step.{begun, finished, handed_over, leaf, ticked, whole, whole_step, delivered, whole_delivery};
+ghost use Rattle.vax_undo.specs.Transaction.{bare, present, room, state_of, told, undone, with_state, IsReady, IsSame, Keeps, KeepsUnlessDone};
 ghost use Rattle.vax_cpu.specs.Tried.{IsFinal, IsTried, Made, UnlessDone, ending_of, is_done};
 ghost use Rattle.vax_cpu.specs.Batch.{Ran};
 
 use crate::instruction::execute;
 use crate::interrupt::{requested, tick};
-use vax_flat::{Ending, Exception};
+use vax_flat::{Delivery, Ending, Exception};
 use vax_operand::{Cut, Flow};
 use vax_undo::{CutShort, Port, Term, Txn};
 use vax_word::Core;
+use vax_x_sys::{deliver, flow_of, interrupt};
 
 /// What an attempt at a step, or at the delivery of an exception, came to.
 #[derive(Clone, Copy, Debug, PartialEq, Eq)]
@@ -28,52 +32,89 @@ pub(crate) enum Tried {
     Event(Exception),
 }
 
+/// Delivers an interrupt.
+#[cold]
+fn take_interrupt<P: Port>(txn: &mut Txn<P>, level: u8) -> Result<Flow, CutShort>
+    requires of_level { IsLevel level }
+    requires room { 28 ≤ room txn.old }
+    ensures exact { Follows (λ next. interrupt level (present P.view txn.old).state (λ how s. next (flow_of_delivery how) s)) (present P.view txn.old) (told txn.new result) (present P.view txn.new) }
+    ensures keeps { Keeps P.view P.since 28 txn.old txn.new }
+{
+    let how = interrupt(txn, level)?;
+    Ok(flow_of(how))
+}
+
 /// An interrupt above the priority, or the instruction at PC.
 #[inline(always)]
-#[tactic(auto, using(vax_undo::proofs::Left::always), unfolding(vax_flat::specs::Step::begun, vax_flat::specs::Step::interrupt))]
+#[tactic(auto, using(vax_undo::proofs::Left::always), unfolding(vax_flat::specs::Step::begun))]
 fn begin<P: Port>(txn: &mut Txn<P>) -> Result<Flow, CutShort>
     requires { 28 ≤ room txn.old }
     ensures exact { Follows (begun (present P.view txn.old).state) (present P.view txn.old) (told txn.new result) (present P.view txn.new) }
     ensures keeps { KeepsUnlessDone P.view P.since 28 result txn.old txn.new }
     ensures same { IsSame P.since txn.old txn.new }
 {
-    if txn.psl().ipl() < requested(txn) {
-        return Ok(Flow::Ended(Ending::Unbuilt));
+    let level = requested(txn);
+    if txn.psl().ipl() < level {
+        return take_interrupt(txn, level);
     }
     execute(txn)
 }
 
-/// Delivers an exception, which isn't built yet.
+/// What follows a delivery: the clock, where the handler is entered.
 #[inline]
-#[tactic(auto, unfolding(vax_flat::specs::Step::delivery))]
-fn deliver<P: Port>(_txn: &mut Txn<P>, exception: Exception) -> Result<Flow, CutShort>
-    ensures exact { Follows (delivery exception (present P.view _txn.old).state) (present P.view _txn.old) (told _txn.new result) (present P.view _txn.new) }
-    ensures keeps { Keeps P.view P.since 0 _txn.old _txn.new }
+#[tactic(auto, unfolding(vax_flat::specs::Step::handed_over))]
+fn hand_over<P: Port>(txn: &mut Txn<P>, how: Delivery) -> Result<Flow, CutShort>
+    requires { 2 ≤ room txn.old }
+    ensures exact { Follows (handed_over how (present P.view txn.old).state) (present P.view txn.old) (told txn.new result) (present P.view txn.new) }
+    ensures keeps { Keeps P.view P.since 2 txn.old txn.new }
 {
-    let _ = exception;
-    Ok(Flow::Ended(Ending::Unbuilt))
+    match how {
+        Delivery::Entered => {
+            tick(txn);
+            Ok(Flow::Done)
+        }
+        Delivery::Ended(ending) => Ok(Flow::Ended(ending)),
+    }
+}
+
+/// The delivery of an exception, and the clock.
+#[cold]
+#[tactic(auto, unfolding(vax_flat::specs::Step::delivered))]
+fn deliver_and_tick<P: Port>(txn: &mut Txn<P>, exception: Exception) -> Result<Flow, CutShort>
+    requires { 18 ≤ room txn.old }
+    ensures exact { Follows (delivered exception (present P.view txn.old).state) (present P.view txn.old) (told txn.new result) (present P.view txn.new) }
+    ensures keeps { Keeps P.view P.since 18 txn.old txn.new }
+{
+    let how = deliver(txn, exception)?;
+    hand_over(txn, how)
+}
+
+/// The interval clock counts an instruction that was completed.
+#[inline]
+fn complete<P: Port>(txn: &mut Txn<P>)
+    requires { 18 ≤ room txn.old }
+    ensures exact { present P.view txn.new ≡ with_state (present P.view txn.old) (ticked (present P.view txn.old).state) }
+    ensures keeps { Keeps P.view P.since 18 txn.old txn.new }
+{
+    tick(txn);
 }
 
 /// What follows an instruction: a trap's delivery, and the clock.
 #[inline(always)]
-#[tactic(auto, using(vax_undo::proofs::Left::always, vax_undo::proofs::Left::kept_through, vax_undo::proofs::Left::left_then), unfolding(vax_flat::specs::Step::finished))]
+#[tactic(auto, using(vax_undo::proofs::Left::always, vax_undo::proofs::Left::kept_through, vax_undo::proofs::Left::left_then), unfolding(vax_flat::specs::Step::finished, vax_flat::specs::Step::delivered))]
 fn finish<P: Port>(txn: &mut Txn<P>, flow: Flow) -> Result<Flow, CutShort>
-    requires { 2 ≤ room txn.old }
+    requires { 18 ≤ room txn.old }
     ensures exact { Follows (finished flow (present P.view txn.old).state) (present P.view txn.old) (told txn.new result) (present P.view txn.new) }
-    ensures keeps { (count : ℕ) → (start : _) → KeepsUnlessDone P.view P.since count (Ok flow) start txn.old → KeepsUnlessDone P.view P.since (count + 2) result start txn.new }
+    ensures keeps { (count : ℕ) → (start : _) → KeepsUnlessDone P.view P.since count (Ok flow) start txn.old → KeepsUnlessDone P.view P.since (count + 18) result start txn.new }
     ensures same { IsSame P.since txn.old txn.new }
 {
     match flow {
         Flow::Done => {
-            tick(txn);
+            complete(txn);
             Ok(Flow::Done)
         }
-        Flow::Trap(kind) => {
-            let how = deliver(txn, Exception::Arithmetic(kind))?;
-            tick(txn);
-            Ok(how)
-        }
         Flow::Clocked => Ok(Flow::Done),
+        Flow::Trap(trap) => deliver_and_tick(txn, Exception::Arithmetic(trap)),
         Flow::More { opcode, units } => Ok(Flow::More { opcode, units }),
         Flow::Ended(ending) => Ok(Flow::Ended(ending)),
     }
@@ -83,9 +124,67 @@ fn finish<P: Port>(txn: &mut Txn<P>, flow: Flow) -> Result<Flow, CutShort>
 #[inline(always)]
 #[tactic(auto, unfolding(vax_flat::specs::Step::whole))]
 fn work<P: Port>(txn: &mut Txn<P>) -> Result<Flow, CutShort>
-    requires { 30 ≤ room txn.old }
+    requires { 46 ≤ room txn.old }
     ensures exact { Follows (whole (present P.view txn.old).state) (present P.view txn.old) (told txn.new result) (present P.view txn.new) }
-    ensures keeps { KeepsUnlessDone P.view P.since 30 result txn.old txn.new }
+    ensures keeps { KeepsUnlessDone P.view P.since 46 result txn.old txn.new }
+    ensures same { IsSame P.since txn.old txn.new }
+{
+    let flow = begin(txn)?;
+    finish(txn, flow)
+}
+
+/// [`work`] as a call of its own, for the attempts outside the loop.
+#[inline(never)]
+/// The delivery of an exception, and the clock.
+#[cold]
+#[tactic(auto, unfolding(vax_flat::specs::Step::delivered))]
+fn deliver_and_tick<P: Port>(txn: &mut Txn<P>, exception: Exception) -> Result<Flow, CutShort>
+    requires { 18 ≤ room txn.old }
+    ensures exact { Follows (delivered exception (present P.view txn.old).state) (present P.view txn.old) (told txn.new result) (present P.view txn.new) }
+    ensures keeps { Keeps P.view P.since 18 txn.old txn.new }
+{
+    let how = deliver(txn, exception)?;
+    hand_over(txn, how)
+}
+
+/// The interval clock counts an instruction that was completed.
+#[inline]
+fn complete<P: Port>(txn: &mut Txn<P>)
+    requires { 18 ≤ room txn.old }
+    ensures exact { present P.view txn.new ≡ with_state (present P.view txn.old) (ticked (present P.view txn.old).state) }
+    ensures keeps { Keeps P.view P.since 18 txn.old txn.new }
+{
+    tick(txn);
+}
+
+/// What follows an instruction: a trap's delivery, and the clock.
+#[inline(always)]
+#[tactic(auto, using(vax_undo::proofs::Left::always, vax_undo::proofs::Left::kept_through, vax_undo::proofs::Left::left_then), unfolding(vax_flat::specs::Step::finished, vax_flat::specs::Step::delivered))]
+fn finish<P: Port>(txn: &mut Txn<P>, flow: Flow) -> Result<Flow, CutShort>
+    requires { 18 ≤ room txn.old }
+    ensures exact { Follows (finished flow (present P.view txn.old).state) (present P.view txn.old) (told txn.new result) (present P.view txn.new) }
+    ensures keeps { (count : ℕ) → (start : _) → KeepsUnlessDone P.view P.since count (Ok flow) start txn.old → KeepsUnlessDone P.view P.since (count + 18) result start txn.new }
+    ensures same { IsSame P.since txn.old txn.new }
+{
+    match flow {
+        Flow::Done => {
+            complete(txn);
+            Ok(Flow::Done)
+        }
+        Flow::Clocked => Ok(Flow::Done),
+        Flow::Trap(trap) => deliver_and_tick(txn, Exception::Arithmetic(trap)),
+        Flow::More { opcode, units } => Ok(Flow::More { opcode, units }),
+        Flow::Ended(ending) => Ok(Flow::Ended(ending)),
+    }
+}
+
+/// A step up to its exception, if it raises one.
+#[inline(always)]
+#[tactic(auto, unfolding(vax_flat::specs::Step::whole))]
+fn work<P: Port>(txn: &mut Txn<P>) -> Result<Flow, CutShort>
+    requires { 46 ≤ room txn.old }
+    ensures exact { Follows (whole (present P.view txn.old).state) (present P.view txn.old) (told txn.new result) (present P.view txn.new) }
+    ensures keeps { KeepsUnlessDone P.view P.since 46 result txn.old txn.new }
     ensures same { IsSame P.since txn.old txn.new }
 {
     let flow = begin(txn)?;
@@ -105,15 +204,14 @@ fn work_once<P: Port>(txn: &mut Txn<P>) -> Result<Flow, CutShort>
 
 /// The delivery of an exception, and the clock.
 #[inline]
-#[tactic(auto, using(vax_undo::proofs::Left::always), unfolding(vax_flat::specs::Step::delivered))]
+#[tactic(auto, using(vax_undo::proofs::Left::always))]
 fn work_delivery<P: Port>(txn: &mut Txn<P>, exception: Exception) -> Result<Flow, CutShort>
-    requires { 2 ≤ room txn.old }
+    requires { 18 ≤ room txn.old }
     ensures exact { Follows (delivered exception (present P.view txn.old).state) (present P.view txn.old) (told txn.new result) (present P.view txn.new) }
-    ensures keeps { KeepsUnlessDone P.view P.since 2 result txn.old txn.new }
+    ensures keeps { KeepsUnlessDone P.view P.since 18 result txn.old txn.new }
     ensures same { IsSame P.since txn.old txn.new }
 {
-    let flow = deliver(txn, exception)?;
-    finish(txn, flow)
+    deliver_and_tick(txn, exception)
 }
 
 /// How an instruction that went so ends the run, if it does.

@@ -1,41 +1,13 @@
 //! The instruction at PC, by the action that the table gives its opcode.
 ghost use Rattle.std.specs.Prelude.{◌≡◌, ◌≤◌};
-ghost use Rattle.vax_flat.specs.System.{halt, performed};
 ghost use Rattle.vax_flat.specs.Instruction.{acted, acted_if, instruction};
 ghost use Rattle.vax_flat.specs.OverPort.{Follows};
-ghost use Rattle.vax_undo.specs.Transaction.{present, room, told, IsSame, Keeps, KeepsUnlessDone};
+ghost use Rattle.vax_undo.specs.Transaction.{present, room, told, IsSame, KeepsUnlessDone};
 
 use vax_flat::{Ending, Exception};
-use vax_isa::{Action, System, action};
+use vax_isa::{Action, action};
 use vax_operand::{Cut, Flow, fetch};
 use vax_undo::{CutShort, Port, Txn};
-
-/// HALT, in kernel mode alone (VAX MACRO and Instruction Set Reference Manual, HALT).
-#[inline(never)]
-#[tactic(auto, using(vax_flat::proofs::Leaves::over_port_raises), unfolding(vax_flat::specs::System::halt))]
-fn halt<P: Port>(txn: &mut Txn<P>) -> Result<Flow, CutShort>
-    ensures exact { Follows (halt (present P.view txn.old).state) (present P.view txn.old) (told txn.new result) (present P.view txn.new) }
-    ensures keeps { Keeps P.view P.since 0 txn.old txn.new }
-{
-    if txn.psl().mode() == 0 {
-        Ok(Flow::Ended(Ending::Halt))
-    } else {
-        Err(txn.cut(Cut::Event(Exception::Privileged)))
-    }
-}
-
-/// The instructions on access modes, exceptions and the processor's registers, of which only HALT is built yet.
-#[inline]
-#[tactic(auto, unfolding(vax_flat::specs::System::performed))]
-fn system<P: Port>(txn: &mut Txn<P>, instruction: System) -> Result<Flow, CutShort>
-    ensures exact { Follows (performed instruction (present P.view txn.old).state) (present P.view txn.old) (told txn.new result) (present P.view txn.new) }
-    ensures keeps { Keeps P.view P.since 0 txn.old txn.new }
-{
-    match instruction {
-        System::Halt => halt(txn),
-        _ => Ok(Flow::Ended(Ending::Unbuilt)),
-    }
-}
 
 /// What the instruction does whose opcode PC is past.
 #[inline(always)]
@@ -49,7 +21,7 @@ fn act<P: Port>(txn: &mut Txn<P>, action: Action) -> Result<Flow, CutShort>
     match action {
         Action::Integer(instruction) => vax_x_int::run(txn, instruction),
         Action::Control(instruction) => vax_x_flow::run(txn, instruction),
-        Action::System(instruction) => system(txn, instruction),
+        Action::System(instruction) => vax_x_sys::run(txn, instruction),
         Action::Field(_) | Action::Call(_) | Action::Queue(_) | Action::Text(_) => {
             Ok(Flow::Ended(Ending::Unbuilt))
         }

@@ -4,9 +4,9 @@ use crate::instruction::execute;
 use std::alloc::Global;
 use std::process::Abort;
 use std::test::Fail;
-use vax_flat::{Flow, Trap};
-use vax_space::{Area, Bytes, Space};
-use vax_undo::{Plain, Term, Txn};
+use vax_flat::{Cut, Exception, Flow};
+use vax_space::{Area, Bytes, Space, Violation};
+use vax_undo::{CutShort, Plain, Term, Txn};
 use vax_word::{Core, Psl};
 
 /// Where the bytes of a row's data begin; its code begins at 0.
@@ -32,7 +32,7 @@ macro_rules! row {
         row!(@ $name $code, $before, $psl, &[]; $after, $psl_after, $pc, &[], Flow::Done)
     };
     ($name:literal $code:expr, $before:expr, psl $psl:literal; $after:expr, psl $psl_after:literal, pc $pc:literal, trap $trap:ident) => {
-        row!(@ $name $code, $before, $psl, &[]; $after, $psl_after, $pc, &[], Flow::Trap(Trap::$trap))
+        row!(@ $name $code, $before, $psl, &[]; $after, $psl_after, $pc, &[], Flow::Trap(vax_flat::Trap::$trap))
     };
     ($name:literal $code:expr, $before:expr, psl $psl:literal, data $data:expr; $after:expr, psl $psl_after:literal, pc $pc:literal, data $data_after:expr) => {
         row!(@ $name $code, $before, $psl, &$data; $after, $psl_after, $pc, &$data_after, Flow::Done)
@@ -164,4 +164,98 @@ fn branches_and_subroutines(rt: HostRuntime) -> Result<(), Fail> {
 #[test]
 fn loops_and_cases(rt: HostRuntime) -> Result<(), Fail> {
     compare(&rt, rt.alloc(), &loops::ROWS)
+}
+
+/// An instruction, where it begins, R1 and R2 and SP, and the exception that it raises.
+type Fault = (&'static [u8], u32, [u32; 3], Exception);
+
+/// A violation at an address.
+fn violated(addr: u32, write: bool) -> Exception {
+    Exception::Access(Violation {
+        addr,
+        length: false,
+        write,
+    })
+}
+
+/// Pages 0 to 7, which every mode may write, page 8, which it may read alone, and page 9, which none may use. The code is at 0, and at the end of
+/// page 8.
+fn guarded_memory(alloc: Global, code: &[u8]) -> Result<Plain, Fail> {
+    let mut end = [0; 512];
+    end[509..].copy_from_slice(&[0xF2, 5, 0x61]);
+    let mut areas = Vec::new(alloc);
+    for (first, pages, prot, bytes) in [
+        (0, 8, 4, code),
+        (8, 1, 15, end.as_slice()),
+        (9, 1, 0, [].as_slice()),
+    ] {
+        areas.push(Area {
+            first,
+            pages,
+            prot,
+            bytes: Bytes::from(bytes.to_vec(alloc)?),
+        })?;
+    }
+    Ok(Plain::new(alloc, Space::new(alloc, areas)?)?)
+}
+
+fn raised_by(alloc: Global, fault: &Fault) -> Result<Option<Cut>, Fail> {
+    let (code, pc, [r1, r2, sp], _) = *fault;
+    let mut port = guarded_memory(alloc, code)?;
+    let mut core = Core {
+        regs: [0, r1, r2, 7, 0, 0, 0, 0, 0, 0, 0, 0, 0, 0, sp, pc],
+        psl: Psl(0x03C0_0000),
+        stacks: [0; 5],
+        sisr: 0,
+        iccs: 0,
+        clock: 0,
+    };
+    let mut term = Term {
+        input: Vec::new(alloc),
+        place: 0,
+        out: None,
+    };
+    let mut txn = Txn::begin(&mut core, &mut term, &mut port);
+    let why = match execute(&mut txn) {
+        Ok(_) => None,
+        Err(CutShort) => Some(txn.why()),
+    };
+    let _ = txn.commit();
+    Ok(why)
+}
+
+#[test]
+fn faults_in_their_order(rt: HostRuntime) -> Result<(), Fail> {
+    let rows: [Fault; 5] = [
+        // EDIV #2,R3,(R1),#5: a quotient that may not be written is found behind a reserved specifier
+        (
+            &[0x7B, 2, 0x53, 0x61, 5],
+            0,
+            [0x1000, 0, 0x410],
+            Exception::Mode,
+        ),
+        // EDIV #2,R3,(R1),(R2), neither of which may be written
+        (
+            &[0x7B, 2, 0x53, 0x61, 0x62],
+            0,
+            [0x1000, 0x1004, 0x410],
+            violated(0x1000, true),
+        ),
+        // INCL (R2), which may neither be read nor written
+        (&[0xD6, 0x62], 0, [0, 0x1200, 0x410], violated(0x1200, true)),
+        // AOBLSS #5,(R1), of which the displacement can't be read
+        (&[], 0x11FD, [0x1000, 0, 0x410], violated(0x1000, true)),
+        // PUSHL (R2), which can't be read, on a stack that can't be written
+        (
+            &[0xDD, 0x62],
+            0,
+            [0, 0x1200, 0x1004],
+            violated(0x1200, false),
+        ),
+    ];
+    for row in &rows {
+        let (_, _, _, exception) = *row;
+        assert_eq!(rt; raised_by(rt.alloc(), row)?, Some(Cut::Event(exception)));
+    }
+    Ok(())
 }

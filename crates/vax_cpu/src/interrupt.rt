@@ -1,5 +1,6 @@
 //! Interrupts, and the interval clock (VAX Architecture Reference Manual, interrupts; interval clock).
-ghost use Rattle.std.specs.Prelude.{◌≡◌, ◌≤◌};
+ghost use Rattle.std.specs.Prelude.{◌≡◌, ◌<◌, ◌≤◌};
+ghost use Rattle.vax_x_sys.specs.Frames.{IsLevel};
 ghost use Rattle.vax_flat.specs.Step.{highest, level, ticked};
 ghost use Rattle.vax_undo.specs.Transaction.{present, room, Keeps, with_state};
 
@@ -10,6 +11,7 @@ use vax_undo::{Port, Txn};
 #[tactic(auto, using(crate::proofs::Levels::highest_none, crate::proofs::Levels::highest_step, crate::proofs::Levels::highest_here), unfolding(vax_flat::specs::Step::highest))]
 fn highest(requests: u16) -> u8
     ensures exact { result ≡ highest 15 requests }
+    ensures within { result < 16 }
 {
     if requests == 0 {
         return 0;
@@ -25,7 +27,8 @@ fn highest(requests: u16) -> u8
 #[inline(always)]
 #[tactic(auto, unfolding(vax_flat::specs::Step::level))]
 pub(crate) fn requested<P: Port>(txn: &Txn<P>) -> u8
-    ensures { result ≡ level (present P.view txn.now).state.core }
+    ensures exact { result ≡ level (present P.view txn.now).state.core }
+    ensures of_level { IsLevel result }
 {
     let timer = txn.iccs();
     if timer / 0x40 % 2 == 1 && timer / 0x80 % 2 == 1 {

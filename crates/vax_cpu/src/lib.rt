@@ -3,6 +3,8 @@
 
 mod attempt;
 mod cpu;
+#[cfg(test)]
+mod exception_tests;
 mod instruction;
 #[cfg(test)]
 mod instruction_tests;

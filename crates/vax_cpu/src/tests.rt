@@ -183,8 +183,8 @@ fn a_batch_up_to_a_halt(rt: HostRuntime) -> Result<(), Fail> {
 #[test]
 fn an_instruction_that_is_not_built(rt: HostRuntime) -> Result<(), Fail> {
     let alloc = rt.alloc();
-    // NOP
-    let mut port = memory(alloc, &[0x01])?;
+    // INSQUE
+    let mut port = memory(alloc, &[0x0E])?;
     let core = registers(0, 0);
     assert_eq!(rt;
         attempt(alloc, &mut port, core),

@@ -10,5 +10,12 @@ pub mod Runs
 pub mod Specifiers
 pub mod Sequences
 pub mod Listed
+pub mod Quiet
+pub mod Closed
+pub mod Windows
+pub mod OperandBounds
+pub mod Bounds
+pub mod Steps
+pub mod Results
 pub mod Worked
 pub mod Fronts

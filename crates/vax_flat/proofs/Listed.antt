@@ -1,11 +1,11 @@
 -- The operands that an action takes are those that its instruction lists: its tree goes from one to the next, and then does its own part.
 use Rattle.std.proofs.Common.{◌≡◌, ℕ, ◌%◌, false, List, [], ◌∷◌, refl, arith}
-use Rattle.std.specs.Prelude.{◌==◌, Bool, true, if◌then◌else◌, slice_index_or}
+use Rattle.std.specs.Prelude.{◌==◌, Bool, true, max, if◌then◌else◌, slice_index_or}
 use Rattle.std.specs.Int.Bits.{bit_and}
 use Rattle.vax_space.specs.declared.Area.{Area}
 use Rattle.vax_word.specs.declared.Size.TheVariants.{B, L}
 use Rattle.vax_word.specs.Arithmetic.{bytes_of, signed, compared, answer, sum, difference, shifted, extended_product, extended_quotient}
-use Rattle.vax_word.specs.Status.{codes_of}
+use Rattle.vax_word.specs.Status.{codes_of, prev_of}
 use Rattle.vax_isa.specs.declared.actions.Action.{Action}
 use Rattle.vax_isa.specs.declared.actions.Action.TheVariants as action
 use Rattle.vax_isa.specs.declared.actions.Integer.{Integer}
@@ -23,13 +23,14 @@ use Rattle.vax_flat.specs.declared.Flow.{Flow}
 use Rattle.vax_flat.specs.declared.Flow.TheVariants.{Done}
 use Rattle.vax_flat.specs.declared.Flow.TheVariants as flow
 use Rattle.vax_flat.specs.declared.Ending.TheVariants as ending
-use Rattle.vax_flat.specs.declared.Exception.TheVariants.{Privileged}
+use Rattle.vax_flat.specs.declared.Exception.TheVariants.{Privileged, Customer, Breakpoint}
 use Rattle.vax_flat.specs.State.{State, with_conditions, mode}
 use Rattle.vax_flat.specs.Accesses.{Accesses, Raises, Leaf}
 use Rattle.vax_flat.specs.Rows.{read_value, modify_value, write_place, address_value, branch_target, address_in, stored, settled, answered, carry_of}
 use Rattle.vax_flat.specs.Integer.{of_one, of_two, is_by_zero, rotated, unary, two, three, by_one, clear, test, compare, bit_test, shift, rotate, move_address, pushed_result, push_address, push, extended_multiply, extended_divide, subscript_flow, index_of, index, performed as integer_performed}
 use Rattle.vax_flat.specs.Control.{holds, compares, jumped, jumped_if, branch, called, branch_subroutine, jump, jump_subroutine, return_subroutine, low_bit, looped, add_one, subtract_one, within, add_compare, chosen, case_of, performed as control_performed}
-use Rattle.vax_flat.specs.System.{halt, is_for_kernel, is_system_built, unless_privileged, performed as system_performed}
+use Rattle.vax_flat.specs.Delivery.{change_mode}
+use Rattle.vax_flat.specs.System.{halt, is_for_kernel, flow_of_delivery, return_exception, change_of_mode, probed, probe, with_moved, set_processor, to_register, get_processor, from_register, move_status, status_set, status_cleared, set_status, clear_status, unless_privileged, performed as system_performed}
 use Rattle.vax_flat.specs.Instruction.{acted, acted_if, instruction, is_built, is_privileged}
 use Rattle.vax_flat.specs.Grammar.{Sequence, IsInstruction}
 use Rattle.vax_flat.specs.Evaluation.{past, passed, taken, all_come_to, next_operands, AreAhead, DoSame, Takes}
@@ -37,22 +38,22 @@ use Rattle.vax_flat.proofs.Specifiers.{ahead_past, same_first}
 use Rattle.vax_flat.proofs.Sequences.{operands_agree}
 
 -- an operand that was taken, by its place in the list
-abbrev place : ℕ → List (Operand × ℕ) → Operand
+abbrev pub place : ℕ → List (Operand × ℕ) → Operand
 place k xs = (slice_index_or xs k (operand.Value 0, 0)).0
 
 -- its value
-abbrev value : ℕ → List (Operand × ℕ) → ℕ
+abbrev pub value : ℕ → List (Operand × ℕ) → ℕ
 value k xs = (slice_index_or xs k (operand.Value 0, 0)).1
 
 -- where it is in memory, or where it goes
-abbrev target : ℕ → List (Operand × ℕ) → ℕ
+abbrev pub target : ℕ → List (Operand × ℕ) → ℕ
 target k xs = address_in (place k xs)
 
-abbrev Rest : Type 0
+abbrev pub Rest : Type 0
 Rest = List (Operand × ℕ) → State → (Flow → State → Accesses Leaf) → Accesses Leaf
 
 -- what an integer instruction does behind its last operand
-unfoldable of_integers : Integer → Rest
+unfoldable pub of_integers : Integer → Rest
 of_integers (integer.Unary operation from to) xs s next =
     answered (bytes_of to) (place 1 xs) false (of_one operation from to (value 0 xs) (carry_of s)) s next
 of_integers (integer.Two operation size) xs s next =
@@ -83,7 +84,7 @@ of_integers integer.Index xs s next =
     next (subscript_flow (value 0 xs) (value 1 xs) (value 2 xs)) (with_conditions s (answer L (index_of (value 0 xs) (value 3 xs) (value 4 xs)) false false).1))
 
 -- what a control instruction does behind its last operand
-unfoldable of_controls : Control → Rest
+unfoldable pub of_controls : Control → Rest
 of_controls (control.Branch condition size) xs s next = next Done (jumped_if (holds condition (codes_of s.core.psl)) (target 0 xs) s)
 of_controls (control.BranchSubroutine size) xs s next = called (target 0 xs) s next
 of_controls control.Jump xs s next = next Done (jumped (target 0 xs) s)
@@ -99,7 +100,7 @@ of_controls (control.AddCompare size) xs s next =
     looped (size_of size) (place 2 xs) (sum (size_of size) (value 2 xs) (value 1 xs) false) (within (size_of size) (value 1 xs) (value 0 xs) (sum (size_of size) (value 2 xs) (value 1 xs) false).0) (target 3 xs) s next
 of_controls (control.Case size) xs s next = chosen (size_of size) (difference (size_of size) (value 0 xs) (value 1 xs) false).0 (value 2 xs) s next
 
-integer_takes : (i : Integer) (s : State) (next : Flow → State → Accesses Leaf) → integer_performed i s next ≡ next_operands (of_integer i) s (λ xs s. of_integers i xs s next)
+pub integer_takes : (i : Integer) (s : State) (next : Flow → State → Accesses Leaf) → integer_performed i s next ≡ next_operands (of_integer i) s (λ xs s. of_integers i xs s next)
 unfolding integer_performed unary two three by_one clear test compare bit_test shift rotate move_address push_address push extended_multiply extended_divide index read_value modify_value write_place address_value next_operands taken of_integers
 integer_takes (integer.Unary operation from to) s next = refl
 integer_takes (integer.Two operation size) s next = refl
@@ -118,7 +119,7 @@ integer_takes integer.ExtendedMultiply s next = refl
 integer_takes integer.ExtendedDivide s next = refl
 integer_takes integer.Index s next = refl
 
-control_takes : (c : Control) (s : State) (next : Flow → State → Accesses Leaf) → control_performed c s next ≡ next_operands (of_control c) s (λ xs s. of_controls c xs s next)
+pub control_takes : (c : Control) (s : State) (next : Flow → State → Accesses Leaf) → control_performed c s next ≡ next_operands (of_control c) s (λ xs s. of_controls c xs s next)
 unfolding control_performed branch branch_subroutine jump jump_subroutine low_bit add_one subtract_one add_compare case_of read_value modify_value address_value branch_target next_operands taken of_controls
 control_takes (control.Branch condition size) s next = refl
 control_takes (control.BranchSubroutine size) s next = refl
@@ -132,24 +133,35 @@ control_takes (control.AddCompare size) s next = refl
 control_takes (control.Case size) s next = refl
 
 -- what a system instruction does behind its last operand
-unfoldable of_systems : System → Rest
+unfoldable pub of_systems : System → Rest
 of_systems system.Halt xs s next = next (flow.Ended ending.Halt) s
-of_systems other xs s next = Raises Privileged
+of_systems system.NoOperation xs s next = next Done s
+of_systems system.Breakpoint xs s next = Raises Breakpoint
+of_systems system.Customer xs s next = Raises Customer
+of_systems system.Return xs s next = return_exception s next
+of_systems (system.ChangeMode target) xs s next = change_mode target (value 0 xs) s (λ how s. next (flow_of_delivery how) s)
+of_systems (system.Probe writing) xs s next = probed writing (max (value 0 xs % 4) (prev_of s.core.psl)) (value 1 xs) (target 2 xs) s next
+of_systems system.ToRegister xs s next = set_processor (value 1 xs) (value 0 xs) (with_moved (value 0 xs) s) next
+of_systems system.FromRegister xs s next =
+    get_processor (value 0 xs) s (λ value s. stored 4 (place 1 xs) value s (λ s. next Done (with_moved value s)))
+of_systems system.MoveStatus xs s next = stored 4 (place 0 xs) s.core.psl.0 s (λ s. next Done s)
+of_systems system.SetStatus xs s next = status_set (value 0 xs) s next
+of_systems system.ClearStatus xs s next = status_cleared (value 0 xs) s next
 
-system_takes : (i : System) → is_system_built i ≡ true → (s : State) (next : Flow → State → Accesses Leaf) → system_performed i s next ≡ unless_privileged (is_for_kernel i) s (next_operands (of_system i) s (λ xs s. of_systems i xs s next))
-unfolding system_performed halt next_operands of_systems
-system_takes system.Halt built s next = refl
-system_takes system.NoOperation built s next = absurd (cc)
-system_takes system.Breakpoint built s next = absurd (cc)
-system_takes system.Customer built s next = absurd (cc)
-system_takes system.Return built s next = absurd (cc)
-system_takes (system.ChangeMode target) built s next = absurd (cc)
-system_takes (system.Probe writing) built s next = absurd (cc)
-system_takes system.ToRegister built s next = absurd (cc)
-system_takes system.FromRegister built s next = absurd (cc)
-system_takes system.MoveStatus built s next = absurd (cc)
-system_takes system.SetStatus built s next = absurd (cc)
-system_takes system.ClearStatus built s next = absurd (cc)
+pub system_takes : (i : System) (s : State) (next : Flow → State → Accesses Leaf) → system_performed i s next ≡ unless_privileged (is_for_kernel i) s (next_operands (of_system i) s (λ xs s. of_systems i xs s next))
+unfolding system_performed halt change_of_mode probe to_register from_register move_status set_status clear_status read_value write_place address_value next_operands taken of_systems
+system_takes system.Halt s next = refl
+system_takes system.NoOperation s next = refl
+system_takes system.Breakpoint s next = refl
+system_takes system.Customer s next = refl
+system_takes system.Return s next = refl
+system_takes (system.ChangeMode target) s next = refl
+system_takes (system.Probe writing) s next = refl
+system_takes system.ToRegister s next = refl
+system_takes system.FromRegister s next = refl
+system_takes system.MoveStatus s next = refl
+system_takes system.SetStatus s next = refl
+system_takes system.ClearStatus s next = refl
 
 pub action_takes : (a : Action) → is_built a ≡ true → Takes (is_privileged a) (operands_of a) (acted a)
 unfolding acted
@@ -158,7 +170,7 @@ action_takes (action.Control c) built = record { rest = of_controls c; takes = �
 action_takes (action.Field f) built = absurd (cc)
 action_takes (action.Call c) built = absurd (cc)
 action_takes (action.Queue q) built = absurd (cc)
-action_takes (action.System i) built = record { rest = of_systems i; takes = λ s next. system_takes i built s next }
+action_takes (action.System i) built = record { rest = of_systems i; takes = λ s next. system_takes i s next }
 action_takes (action.Text t) built = absurd (cc)
 
 -- where two trees do the same, they do with the same privilege

@@ -12,7 +12,7 @@ use Rattle.vax_flat.specs.Accesses.{Accesses, Raises, Leaf}
 use Rattle.vax_flat.specs.Operand.{fetched}
 use Rattle.vax_flat.specs.Integer.{performed as integer}
 use Rattle.vax_flat.specs.Control.{performed as control}
-use Rattle.vax_flat.specs.System.{is_for_kernel, is_system_built, performed as system}
+use Rattle.vax_flat.specs.System.{is_for_kernel, performed as system}
 
 -- what isn't built yet
 abbrev unbuilt : State → (Flow → State → Accesses Leaf) → Accesses Leaf
@@ -34,7 +34,7 @@ is_built (action.Control c) = true
 is_built (action.Field f) = false
 is_built (action.Call c) = false
 is_built (action.Queue q) = false
-is_built (action.System i) = is_system_built i
+is_built (action.System i) = true
 is_built (action.Text t) = false
 
 -- the instructions for kernel mode alone

@@ -6,7 +6,9 @@ pub mod Outcome
 pub mod OverPort
 pub mod Inside
 pub mod Operand
+pub mod Quiet
 pub mod Rows
+pub mod Delivery
 pub mod Integer
 pub mod Control
 pub mod System
@@ -14,4 +16,5 @@ pub mod Instruction
 pub mod Grammar
 pub mod Evaluation
 pub mod Step
+pub mod Bound
 pub mod Start

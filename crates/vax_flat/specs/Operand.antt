@@ -12,7 +12,7 @@ use Rattle.vax_flat.specs.declared.Form.TheVariants as form
 use Rattle.vax_flat.specs.declared.Operand.{Operand}
 use Rattle.vax_flat.specs.declared.Operand.TheVariants.{Value, Register, Memory, FieldRegister, Target}
 use Rattle.vax_flat.specs.State.{State, register, with_register, mode}
-use Rattle.vax_flat.specs.Accesses.{Accesses, Raises, Checks, Reads, Writes, Leaf}
+use Rattle.vax_flat.specs.Accesses.{Accesses, Raises, Checks, Asks, Reads, Writes, Leaf}
 
 -- a specifier byte's form
 unfoldable pub form_of : ℕ → Form
@@ -45,6 +45,17 @@ read_at addr len s next = Reads addr len (mode s) (λ x. next x s)
 
 unfoldable pub write_at : ℕ → ℕ → ℕ → State → (State → Accesses Leaf) → Accesses Leaf
 write_at addr len value s next = Writes addr len value (mode s) (next s)
+
+-- one access in this access mode
+unfoldable pub read_in : ℕ → ℕ → ℕ → State → (ℕ → State → Accesses Leaf) → Accesses Leaf
+read_in addr len mode s next = Reads addr len mode (λ x. next x s)
+
+unfoldable pub write_in : ℕ → ℕ → ℕ → ℕ → State → (State → Accesses Leaf) → Accesses Leaf
+write_in addr len value mode s next = Writes addr len value mode (next s)
+
+-- whether this access mode may use a range so; nothing is touched
+unfoldable pub asked : ℕ → ℕ → ℕ → Access → State → (Bool → State → Accesses Leaf) → Accesses Leaf
+asked addr len mode kind s next = Asks addr len mode kind (λ allowed. next allowed s)
 
 unfoldable pub check_at : ℕ → ℕ → Access → State → (State → Accesses Leaf) → Accesses Leaf
 check_at addr len kind s next = Checks addr len (mode s) kind (next s)

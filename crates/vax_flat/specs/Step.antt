@@ -7,11 +7,15 @@ use Rattle.vax_flat.specs.declared.Exception.{Exception}
 use Rattle.vax_flat.specs.declared.Exception.TheVariants.{Arithmetic}
 use Rattle.vax_flat.specs.declared.Ending.{Ending}
 use Rattle.vax_flat.specs.declared.Ending.TheVariants.{Unbuilt}
+use Rattle.vax_flat.specs.declared.Delivery.{Delivery}
+use Rattle.vax_flat.specs.declared.Delivery.TheVariants.{Entered, Ended}
 use Rattle.vax_flat.specs.declared.Flow.{Flow}
 use Rattle.vax_flat.specs.declared.Flow.TheVariants as flow
 use Rattle.vax_flat.specs.State.{State, priority, with_timer, with_clock}
 use Rattle.vax_flat.specs.Accesses.{Accesses, Done, Leaf, Went, Found}
 use Rattle.vax_flat.specs.Outcome.{Outcome, Range, Ends, Raised, outcome_of, touches_of}
+use Rattle.vax_flat.specs.Delivery.{delivery, interrupt}
+use Rattle.vax_flat.specs.System.{flow_of_delivery}
 use Rattle.vax_flat.specs.Instruction.{instruction}
 
 -- the flat machine: registers, memory, the whole input with the number of its bytes taken, the output so far, and how it ended, if it did
@@ -44,23 +48,22 @@ ticked s =
     then (if nat_lt s.core.clock 999 then with_clock s (s.core.clock + 1) else with_timer (with_clock s 0) (s.core.iccs % 128 + 128))
     else s
 
--- the delivery of an exception, from the state at the start of the instruction or, for a trap, behind it
-unfoldable pub delivery : Exception → State → (Flow → State → Accesses Leaf) → Accesses Leaf
-delivery e s next = next (flow.Ended Unbuilt) s
-
--- the delivery of an interrupt
-unfoldable pub interrupt : ℕ → State → (Flow → State → Accesses Leaf) → Accesses Leaf
-interrupt level s next = next (flow.Ended Unbuilt) s
-
 -- an interrupt above the priority, or the instruction at PC
 unfoldable pub begun : State → (Flow → State → Accesses Leaf) → Accesses Leaf
-begun s next = if nat_lt (priority s) (level s.core) then interrupt (level s.core) s next else instruction s next
+begun s next =
+    if nat_lt (priority s) (level s.core) then interrupt (level s.core) s (λ how s. next (flow_of_delivery how) s)
+    else instruction s next
+
+-- what follows a delivery: the clock, where the handler is entered
+unfoldable pub handed_over : Delivery → State → (Flow → State → Accesses Leaf) → Accesses Leaf
+handed_over Entered s next = next flow.Done (ticked s)
+handed_over (Ended e) s next = next (flow.Ended e) s
 
 -- what follows: a trap's delivery, and the clock
 unfoldable pub finished : Flow → State → (Flow → State → Accesses Leaf) → Accesses Leaf
 finished flow.Done s next = next flow.Done (ticked s)
 finished flow.Clocked s next = next flow.Done s
-finished (flow.Trap kind) s next = delivery (Arithmetic kind) s (λ how s. next how (ticked s))
+finished (flow.Trap kind) s next = delivery (Arithmetic kind) s (λ how s. handed_over how s next)
 finished (flow.More opcode units) s next = next (flow.More opcode units) s
 finished (flow.Ended e) s next = next (flow.Ended e) s
 
@@ -76,7 +79,7 @@ whole_step s = whole s leaf
 
 -- the delivery of the exception that a step raised, and the clock
 unfoldable pub delivered : Exception → State → (Flow → State → Accesses Leaf) → Accesses Leaf
-delivered e s next = delivery e s (λ how s. finished how s next)
+delivered e s next = delivery e s (λ how s. handed_over how s next)
 
 abbrev pub whole_delivery : Exception → State → Accesses Leaf
 whole_delivery e s = delivered e s leaf

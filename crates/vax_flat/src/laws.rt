@@ -1,5 +1,5 @@
 //! The laws of the flat machine, each the contract of a call that does nothing.
-ghost use Rattle.std.specs.Prelude.{◌≡◌, ℕ, ◌≤◌, Bool, true, Some, IsSome, List, [], ◌∷◌, ◌++◌, length};
+ghost use Rattle.std.specs.Prelude.{◌≡◌, ◌<◌, ◌%◌, pos, ℕ, ◌≤◌, Bool, true, false, Some, IsSome, List, [], ◌∷◌, ◌++◌, length};
 ghost use Rattle.vax_space.specs.declared.Area.{Area};
 ghost use Rattle.vax_flat.specs.Accesses.{Accesses, Leaf};
 ghost use Rattle.vax_flat.specs.declared.Cut.TheVariants.{Absent};
@@ -17,6 +17,17 @@ ghost use Rattle.vax_flat.specs.State.{State};
 ghost use Rattle.vax_flat.specs.Operand.{next_operand};
 ghost use Rattle.vax_flat.specs.System.{unless_privileged};
 ghost use Rattle.vax_flat.specs.Instruction.{acted, instruction, is_built, is_privileged};
+ghost use Rattle.vax_flat.specs.declared.Exception.{Exception};
+ghost use Rattle.vax_flat.specs.declared.Delivery.{Delivery};
+ghost use Rattle.vax_word.specs.declared.Size.{Size};
+ghost use Rattle.vax_word.specs.Arithmetic.{answer, modulus, shifted};
+ghost use Rattle.vax_isa.specs.declared.actions.Unary.TheVariants.{Negate};
+ghost use Rattle.vax_isa.specs.declared.actions.Binary.TheVariants.{Add, AddWithCarry, Subtract, SubtractWithCarry};
+ghost use Rattle.vax_flat.specs.Integer.{of_one, of_two, rotated};
+ghost use Rattle.vax_flat.specs.Quiet.{RaisesNothing};
+ghost use Rattle.vax_flat.specs.Delivery.{delivery, interrupt};
+ghost use Rattle.vax_flat.specs.Step.{Flat, leaf, step_touches, whole_delivery};
+ghost use Rattle.vax_flat.specs.Bound.{AreFew, LeavesNoPart, is_string};
 ghost use Rattle.vax_flat.specs.Grammar.{Specifier, Reading, Reads, Sequence, IsInstruction, read_operand, read_operands};
 ghost use Rattle.vax_flat.specs.Evaluation.{AreAhead, DoSame, Takes, comes_to, all_come_to, passed, next_operands, next_instruction};
 
@@ -48,6 +59,32 @@ pub fn grammar_agrees()
 pub fn operands_are_listed()
     ensures listed { (action : Action) → is_built action ≡ true → Takes (is_privileged action) (operands_of action) (acted action) }
     ensures instruction { (memory : List Area) → (s : State) → (bytes : List ℕ) → (row : Instruction) → (operands : Sequence) → (count : ℕ) → (privileged : Bool) → (takes : Takes privileged row.operands (acted row.action)) → (next : Flow → State → Accesses Leaf) → AreAhead memory s bytes → IsInstruction bytes row operands count → DoSame memory (instruction s next) (passed (1 ∷ []) s (λ t. unless_privileged privileged t (all_come_to operands t (λ xs u. takes.rest xs u next)))) }
+{}
+
+/// A delivery raises no exception where what follows it raises none: it asks whether it may read the vector and push, and ends the run where it
+/// may not. So the delivery of what a step raised ends in every case.
+pub fn deliveries_raise_nothing()
+    ensures exception { (e : Exception) → (s : State) → (next : Delivery → State → Accesses Leaf) → ((how : Delivery) → (t : State) → RaisesNothing (next how t)) → RaisesNothing (delivery e s next) }
+    ensures interrupt { (level : ℕ) → (s : State) → (next : Delivery → State → Accesses Leaf) → ((how : Delivery) → (t : State) → RaisesNothing (next how t)) → RaisesNothing (interrupt level s next) }
+    ensures step { (e : Exception) → (s : State) → RaisesNothing (whole_delivery e s) }
+{}
+
+/// Whatever the state, a step touches ranges that lie in at most 20 windows of 512 bytes, and so in at most 40 pages, its delivery's among them.
+/// Only a string instruction leaves a part of itself for a later attempt.
+pub fn steps_are_bounded()
+    ensures touches { (m : Flat) → AreFew (step_touches m) }
+    ensures whole { (action : Action) → is_string action ≡ false → (s : State) → (memory : List Area) → LeavesNoPart (outcome_of (acted action s leaf) memory) }
+    ensures delivery { (e : Exception) → (s : State) → (memory : List Area) → LeavesNoPart (outcome_of (whole_delivery e s) memory) }
+{}
+
+/// Results that say something apart from how they are worked out: MNEG is SUB from 0, ADWC without a carry is ADD and SBWC without a borrow is SUB,
+/// ROTL turns by its count modulo 32, and ASH by 0 leaves the value, with V and C clear.
+pub fn results_agree()
+    ensures negated { (size : Size) → (x : ℕ) → (c other : Bool) → x < modulus size → of_one Negate size size x c ≡ of_two Subtract size x 0 other }
+    ensures added { (size : Size) → (a b : ℕ) → (c : Bool) → of_two AddWithCarry size a b false ≡ of_two Add size a b c }
+    ensures subtracted { (size : Size) → (a b : ℕ) → (c : Bool) → of_two SubtractWithCarry size a b false ≡ of_two Subtract size a b c }
+    ensures turned { (count x : ℕ) → rotated count x ≡ rotated (count % 32) x }
+    ensures unshifted { (size : Size) → (x : ℕ) → x < modulus size → shifted size (pos 0) x ≡ answer size x false false }
 {}
 
 /// A reading rests on the bytes at the front alone: it stays with more bytes behind, takes no more than there are, and nine bytes are enough

@@ -9,10 +9,9 @@
 mod laws;
 
 pub use crate::laws::{
-    arrival_agrees, grammar_agrees, grammar_reads, joined_ranges, operands_are_listed,
-    stops_for_missing_pages,
+    arrival_agrees, deliveries_raise_nothing, grammar_agrees, grammar_reads, joined_ranges,
+    operands_are_listed, results_agree, steps_are_bounded, stops_for_missing_pages,
 };
-use vax_isa::AccessMode;
 use vax_space::Violation;
 
 /// What interrupts an instruction (VAX Architecture Reference Manual, exceptions and interrupts).
@@ -32,8 +31,6 @@ pub enum Exception {
     Breakpoint,
     /// An arithmetic trap, vector 34.
     Arithmetic(Trap),
-    /// A change of mode, vectors 40 to 4C: the mode that the instruction names, and its code.
-    Change { target: AccessMode, code: u16 },
 }
 
 /// An arithmetic trap, which follows a completed instruction (VAX Architecture Reference Manual, arithmetic exceptions).
@@ -131,6 +128,15 @@ pub enum Flow {
     Trap(Trap),
     /// A part of the string instruction with this opcode was completed, so many of its units, and more remains.
     More { opcode: u8, units: u32 },
+    /// It ends the run.
+    Ended(Ending),
+}
+
+/// How the delivery of an exception, of a change of mode or of an interrupt went.
+#[derive(Clone, Copy, Debug, PartialEq, Eq)]
+pub enum Delivery {
+    /// Control is at the handler.
+    Entered,
     /// It ends the run.
     Ended(Ending),
 }

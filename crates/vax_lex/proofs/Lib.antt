@@ -9,3 +9,6 @@ pub mod Runs
 pub mod Spelling
 pub mod Symbols
 pub mod Unique
+pub mod Reader
+pub mod Scans
+pub mod Naming

@@ -1,77 +1,67 @@
--- One step of a scan, and what has been scanned before it.
-use Rattle.std.proofs.Common.{◌≡◌, ◌<◌, ◌≤◌, ℕ, zero, suc, ◌+◌, ◌-◌, Bool, true, cond, List, [], ◌∷◌, ◌++◌, length, get_or, take, drop, Result, Ok, Err, refl, ap, arith, ◌∙◌, append_assoc, sym, subst}
-use Rattle.std.specs.Prelude.{All, AllPairs}
+-- One step through the pieces of a line, and what has been passed before it.
+use Rattle.std.proofs.Common.{◌≡◌, ◌<◌, ◌≤◌, ℕ, zero, suc, ◌+◌, ◌-◌, Bool, true, cond, List, [], ◌∷◌, ◌++◌, length, get_or, map, take, drop, Result, Ok, Err, refl, ap, arith, ◌∙◌, append_assoc, sym, subst, inl, inr, ⊎_elim}
+use Rattle.std.specs.Prelude.{All, AllPairs, Any, ◌⊎◌}
 use Rattle.std.proofs.lemmas.List.Elements.{All-push}
-use Rattle.std.proofs.lemmas.List.Quantifiers.{all_pairs_push}
-use Rattle.std.proofs.lemmas.List.{take_rest, drop-drop, length-drop}
-use Rattle.vax_lex.specs.Tokens.{HeadFits, IsTokenOf, Precedes, head_of, tokens_from, tokens_of, with_first}
+use Rattle.std.proofs.lemmas.List.Quantifiers.{all_pairs_push, Any-push}
+use Rattle.std.proofs.lemmas.List.{take_rest, drop-drop, length-drop, get_or-drop, map_push}
+use Rattle.std.proofs.Common.{length-append}
+use Rattle.std.proofs.Math.ListN.{get_or-append}
+use Rattle.std.proofs.lemmas.Bool.{cases_lt}
+use Rattle.vax_lex.specs.Characters.{is_blank}
+use Rattle.vax_lex.specs.Tokens.{Head, blank, no_more, begins, too_wide, no_token, HeadFits, PieceFits, IsPieceOf, PiecePrecedes, piece, pieces_from, pieces_of, head_of, piece_span, Holds, CoversTo, Covers}
 use Rattle.vax_lex.proofs.Heads.{head_fits}
-use Rattle.vax_lex.specs.Statements.{context_after, context_after_blank, line_start}
-use Rattle.vax_lex.specs.declared.token.Token.{Token}
+use Rattle.vax_lex.specs.Statements.{Context, context_after, context_after_blank, line_start}
+use Rattle.vax_lex.specs.declared.token.Piece.{Piece}
+use Rattle.vax_lex.specs.declared.token.Span.{Span}
+use Rattle.vax_lex.specs.declared.token.PieceKind.{PieceKind}
+use Rattle.vax_lex.specs.declared.token.PieceKind.TheVariants as kinds
 use Rattle.vax_lex.specs.declared.token.TokenKind.{TokenKind}
-use Rattle.vax_lex.specs.declared.token.LexError.{LexError}
-use Rattle.vax_lex.specs.declared.token.LexError.TheVariants as errors
-use Rattle.vax_lex.specs.declared.context.Context.{Context}
-use Rattle.vax_lex.specs.declared.head.Head.{Head}
-use Rattle.vax_lex.specs.declared.head.Head.TheVariants.{Blank, End, Begins, Wide, Nothing}
+use Rattle.vax_lex.specs.declared.token.TokenKind.TheVariants.{Number, Mark}
 
--- tokens, and what is to come
-abbrev pub with_front : List Token → Result (List Token) LexError → Result (List Token) LexError
-with_front front (Ok tokens) = Ok (front ++ tokens)
-with_front front (Err e) = Err e
+-- what pieces_from does with a piece at the head of the bytes
+abbrev pub goes_on : Context → ℕ → List ℕ → PieceKind → TokenKind → ℕ → List Piece
+goes_on c at bytes kind token n = piece kind at n ∷ pieces_from (context_after c token (take n bytes)) (at + n) zero (drop n bytes)
 
-pub with_front-nil : (r : Result (List Token) LexError) → with_front [] r ≡ r
-with_front-nil (Ok tokens) = refl
-with_front-nil (Err e) = refl
+-- what pieces_from does with the head of the bytes
+abbrev pub step : Context → ℕ → List ℕ → Head → List Piece
+step c at bytes blank = pieces_from (context_after_blank c) (at + 1) zero (drop 1 bytes)
+step c at bytes no_more = []
+step c at bytes (begins kind n) = goes_on c at bytes (kinds.Token kind) kind n
+step c at bytes (too_wide n) = goes_on c at bytes kinds.Wide (Number 0) n
+step c at bytes no_token = goes_on c at bytes kinds.Bad (Mark (get_or bytes 0 0)) 1
 
-pub with_front-first : (front : List Token) (t : Token) (r : Result (List Token) LexError) → with_front front (with_first t r) ≡ with_front (front ++ t ∷ []) r
-with_front-first front t (Ok tokens) = ap (λ us. Ok us) (sym (append_assoc front (t ∷ []) tokens))
-with_front-first front t (Err e) = refl
-
--- a token of so many bytes
-abbrev pub token : TokenKind → ℕ → ℕ → Token
-token kind at n = record { kind = kind; start = at; end = at + n }
-
--- what tokens_from does with the head of the bytes
-abbrev pub step : Context → ℕ → List ℕ → Head → Result (List Token) LexError
-step c at bytes Blank = tokens_from (context_after_blank c) (at + 1) zero (drop 1 bytes)
-step c at bytes End = Ok []
-step c at bytes (Begins kind n) = with_first (token kind at n) (tokens_from (context_after c kind (take n bytes)) (at + n) zero (drop n bytes))
-step c at bytes Wide = Err (errors.Wide at)
-step c at bytes Nothing = Err (errors.Token at)
-
--- the bytes of a token are passed over
-pub passes : (c : Context) (at n : ℕ) (bytes : List ℕ) → tokens_from c at n bytes ≡ tokens_from c (at + n) zero (drop n bytes)
-unfolding tokens_from
+-- the bytes of a piece are passed over
+pub passes : (c : Context) (at n : ℕ) (bytes : List ℕ) → pieces_from c at n bytes ≡ pieces_from c (at + n) zero (drop n bytes)
+unfolding pieces_from
 passes c at zero [] = refl
-passes c at zero (b ∷ bytes) = ap (λ k. tokens_from c k zero (b ∷ bytes)) (omega arith)
+passes c at zero (b ∷ bytes) = ap (λ k. pieces_from c k zero (b ∷ bytes)) (omega arith)
 passes c at (suc n) [] = refl
-passes c at (suc n) (b ∷ bytes) = passes c (at + 1) n bytes ∙ ap (λ k. tokens_from c k zero (drop n bytes)) (omega arith)
+passes c at (suc n) (b ∷ bytes) = passes c (at + 1) n bytes ∙ ap (λ k. pieces_from c k zero (drop n bytes)) (omega arith)
 
--- where the bytes of a token end
-later : (c : Context) (at b : ℕ) (bytes : List ℕ) (kind : TokenKind) (n : ℕ)
-    → tokens_from (context_after c kind (take (suc n) (b ∷ bytes))) (at + 1 + (suc n - 1)) zero (drop (suc n - 1) bytes)
-    ≡ tokens_from (context_after c kind (take (suc n) (b ∷ bytes))) (at + suc n) zero (drop (suc n) (b ∷ bytes))
-later c at b bytes kind n =
-    let here : at + 1 + (suc n - 1) ≡ at + suc n = omega arith in
+-- where the bytes of a piece end
+later : (next : Context) (at b : ℕ) (bytes : List ℕ) (n : ℕ)
+    → pieces_from next (at + 1) (suc n - 1) bytes ≡ pieces_from next (at + suc n) zero (drop (suc n) (b ∷ bytes))
+later next at b bytes n =
+    let here : at + 1 + n ≡ at + suc n = omega arith in
     let same : suc n - 1 ≡ n = omega arith in
-    rw here (rw same refl)
+    ap (λ k. pieces_from next (at + 1) k bytes) same ∙ passes next (at + 1) n bytes ∙ ap (λ k. pieces_from next k zero (drop n bytes)) here
 
 -- one step
-pub steps_on : (c : Context) (at b : ℕ) (bytes : List ℕ) (h : Head) → head_of c (b ∷ bytes) ≡ h → HeadFits (b ∷ bytes) h
-    → tokens_from c at zero (b ∷ bytes) ≡ step c at (b ∷ bytes) h
-unfolding tokens_from
-steps_on c at b bytes Blank e f = rw (e, tokens_from) refl
-steps_on c at b bytes End e f = rw (e, tokens_from) refl
-steps_on c at b bytes (Begins kind zero) e f = absurd (omega (arith, f.0))
-steps_on c at b bytes (Begins kind (suc n)) e f = rw (e, tokens_from) (ap (with_first _) (passes (context_after c kind (take (suc n) (b ∷ bytes))) (at + 1) (suc n - 1) bytes ∙ later c at b bytes kind n))
-steps_on c at b bytes Wide e f = rw (e, tokens_from) refl
-steps_on c at b bytes Nothing e f = rw (e, tokens_from) refl
+steps_on : (c : Context) (at b : ℕ) (bytes : List ℕ) (h : Head) → head_of c (b ∷ bytes) ≡ h → HeadFits (b ∷ bytes) h
+    → pieces_from c at zero (b ∷ bytes) ≡ step c at (b ∷ bytes) h
+unfolding pieces_from
+steps_on c at b bytes blank e f = rw (e, pieces_from) refl
+steps_on c at b bytes no_more e f = rw (e, pieces_from) refl
+steps_on c at b bytes (begins kind zero) e f = absurd (omega (arith, f.0))
+steps_on c at b bytes (begins kind (suc n)) e f = rw (e, pieces_from) (ap (λ ps. piece (kinds.Token kind) at (suc n) ∷ ps) (later (context_after c kind (take (suc n) (b ∷ bytes))) at b bytes n))
+steps_on c at b bytes (too_wide zero) e f = absurd (omega (arith, f.0))
+steps_on c at b bytes (too_wide (suc n)) e f = rw (e, pieces_from) (ap (λ ps. piece kinds.Wide at (suc n) ∷ ps) (later (context_after c (Number 0) (take (suc n) (b ∷ bytes))) at b bytes n))
+steps_on c at b bytes no_token e f = rw (e, pieces_from) refl
 
 -- one step, at any bytes
 pub steps : (c : Context) (at : ℕ) (bytes : List ℕ) (h : Head) → h ≡ head_of c bytes → HeadFits bytes h
-    → tokens_from c at zero bytes ≡ step c at bytes h
-unfolding tokens_from head_of
+    → pieces_from c at zero bytes ≡ step c at bytes h
+unfolding pieces_from head_of
 steps c at [] h e f = ap (step c at []) (sym e)
 steps c at (b ∷ bytes) h e f = steps_on c at b bytes h (sym e) f
 
@@ -83,71 +73,108 @@ fits_at c line at r h e i =
     let P : Head → Type 0 = λ x. HeadFits (drop at line) x in
     subst P here (head_fits c (drop at line))
 
--- one step at a place of a line, behind the tokens so far
-pub steps_at : (front : List Token) (c : Context) (line : List ℕ) (at : ℕ) (r h : Head) (all : Result (List Token) LexError)
+-- one step at a place of a line, behind the pieces so far
+pub steps_at : (front : List Piece) (c : Context) (line : List ℕ) (at : ℕ) (r h : Head) (all : List Piece)
     → r ≡ head_of c (take (length line - at) (drop at line)) → r ≡ h
-    → with_front front (tokens_from c at zero (drop at line)) ≡ all
-    → with_front front (step c at (drop at line) h) ≡ all
+    → front ++ pieces_from c at zero (drop at line) ≡ all
+    → front ++ step c at (drop at line) h ≡ all
 steps_at front c line at r h all e i so_far =
     let here : h ≡ head_of c (drop at line) = sym i ∙ e ∙ ap (head_of c) (take_rest line at) in
-    ap (with_front front) (sym (steps c at (drop at line) h here (fits_at c line at r h e i))) ∙ so_far
+    ap (λ ps. front ++ ps) (sym (steps c at (drop at line) h here (fits_at c line at r h e i))) ∙ so_far
 
 -- behind a blank
-pub blank_at : (front : List Token) (c next : Context) (line : List ℕ) (at : ℕ) (r : Head) (all : Result (List Token) LexError)
-    → r ≡ head_of c (take (length line - at) (drop at line)) → r ≡ Blank → next ≡ context_after_blank c
-    → with_front front (tokens_from c at zero (drop at line)) ≡ all
-    → with_front front (tokens_from next (at + 1) zero (drop (at + 1) line)) ≡ all
+pub blank_at : (front : List Piece) (c next : Context) (line : List ℕ) (at : ℕ) (r : Head) (all : List Piece)
+    → r ≡ head_of c (take (length line - at) (drop at line)) → r ≡ blank → next ≡ context_after_blank c
+    → front ++ pieces_from c at zero (drop at line) ≡ all
+    → front ++ pieces_from next (at + 1) zero (drop (at + 1) line) ≡ all
 blank_at front c next line at r all e i n so_far =
-    let step : with_front front (tokens_from (context_after_blank c) (at + 1) zero (drop 1 (drop at line))) ≡ all = steps_at front c line at r Blank all e i so_far in
+    let step : front ++ pieces_from (context_after_blank c) (at + 1) zero (drop 1 (drop at line)) ≡ all = steps_at front c line at r blank all e i so_far in
     let further : drop 1 (drop at line) ≡ drop (at + 1) line = drop-drop 1 at line in
     rw n (rw (← further) step)
 
--- behind a token
-pub token_at : (front items : List Token) (c next : Context) (line : List ℕ) (at : ℕ) (kind : TokenKind) (n : ℕ) (r : Head) (all : Result (List Token) LexError)
-    → r ≡ head_of c (take (length line - at) (drop at line)) → r ≡ Begins kind n
-    → next ≡ context_after c kind (take n (take (length line - at) (drop at line)))
-    → items ≡ front ++ token kind at n ∷ []
-    → with_front front (tokens_from c at zero (drop at line)) ≡ all
-    → with_front items (tokens_from next (at + n) zero (drop (at + n) line)) ≡ all
-token_at front items c next line at kind n r all e i x p so_far =
-    let step : with_front front (with_first (token kind at n) (tokens_from (context_after c kind (take n (drop at line))) (at + n) zero (drop n (drop at line)))) ≡ all
-    = steps_at front c line at r (Begins kind n) all e i so_far in
+-- behind a piece
+pub piece_at : (front items : List Piece) (c next : Context) (line : List ℕ) (at : ℕ) (kind : PieceKind) (token : TokenKind) (n : ℕ) (all : List Piece)
+    → front ++ goes_on c at (drop at line) kind token n ≡ all
+    → next ≡ context_after c token (take n (take (length line - at) (drop at line)))
+    → items ≡ front ++ piece kind at n ∷ []
+    → items ++ pieces_from next (at + n) zero (drop (at + n) line) ≡ all
+piece_at front items c next line at kind token n all step x p =
     let further : drop n (drop at line) ≡ drop (at + n) line = drop-drop n at line in
-    let there : next ≡ context_after c kind (take n (drop at line)) = x ∙ ap (λ (bytes : List ℕ). context_after c kind (take n bytes)) (take_rest line at) in
-    rw p (rw there (rw (← further) (sym (with_front-first front (token kind at n) _) ∙ step)))
+    let there : next ≡ context_after c token (take n (drop at line)) = x ∙ ap (λ (bytes : List ℕ). context_after c token (take n bytes)) (take_rest line at) in
+    rw p (rw there (rw (← further) (append_assoc front (piece kind at n ∷ []) _ ∙ step)))
 
--- a token lies within the line
-pub token_is : (c : Context) (line : List ℕ) (at : ℕ) (kind : TokenKind) (n : ℕ) (r : Head)
-    → r ≡ head_of c (take (length line - at) (drop at line)) → r ≡ Begins kind n
-    → (0 < n) × (at + n ≤ length line) × IsTokenOf line (token kind at n)
-token_is c line at kind n r e i =
-    let fits : HeadFits (drop at line) (Begins kind n) = fits_at c line at r (Begins kind n) e i in
-    let within : at + n ≤ length line = omega (arith, fits.0, fits.1, length-drop at line) in
+-- a piece lies within the line
+pub piece_is : (line : List ℕ) (at : ℕ) (kind : PieceKind) (n : ℕ) → 0 < n → n ≤ length (drop at line) → PieceFits kind (take n (drop at line))
+    → (at + n ≤ length line) × IsPieceOf line (piece kind at n)
+piece_is line at kind n some room fits =
+    let within : at + n ≤ length line = omega (arith, length-drop at line) in
     let same : at + n - at ≡ n = omega arith in
-    (fits.0, within, record { some = omega (arith, fits.0); within = within; kind = rw same fits.2 })
+    (within, record { some = omega arith; within = within; kind = rw same fits })
 
--- a blank lies within the line
-pub blank_room : (c : Context) (line : List ℕ) (at : ℕ) (r : Head) → r ≡ head_of c (take (length line - at) (drop at line)) → r ≡ Blank → at < length line
-blank_room c line at r e i = let fits : 0 < length (drop at line) = fits_at c line at r Blank e i in omega (arith, length-drop at line)
+-- before the first piece
+pub start_at : (items : List Piece) (c : Context) (line : List ℕ) → items ≡ [] → c ≡ line_start → items ++ pieces_from c 0 zero line ≡ pieces_of line
+unfolding pieces_of
+start_at items c line e i = rw e (rw i refl)
 
--- before the first token
-pub start_at : (items : List Token) (c : Context) (line : List ℕ) → items ≡ [] → c ≡ line_start → with_front items (tokens_from c 0 zero line) ≡ tokens_of line
-unfolding tokens_of
-start_at items c line e i = rw e (rw i (with_front-nil (tokens_from line_start 0 zero line)))
+-- the piece ends by this byte
+abbrev pub EndsBy : ℕ → Piece → Type 0
+EndsBy at p = p.end ≤ at
 
--- a push that succeeded
-pub pushed : (items front : List Token) (t : Token) (ok : Bool) → items ≡ cond ok (front ++ t ∷ []) front → ok ≡ true → items ≡ front ++ t ∷ []
-pushed items front t ok e i = rw i at e
-
--- the token ends by this byte
-abbrev pub EndsBy : ℕ → Token → Type 0
-EndsBy at t = t.end ≤ at
-
-pub ends_later : (front : List Token) (at further : ℕ) → at ≤ further → All (EndsBy at) front → All (EndsBy further) front
+pub ends_later : (front : List Piece) (at further : ℕ) → at ≤ further → All (EndsBy at) front → All (EndsBy further) front
 ends_later front at further h f k d i = let before : (get_or front k d).end ≤ at = f k d i in omega arith
 
-pub ends_push : (front : List Token) (kind : TokenKind) (at n : ℕ) → All (EndsBy at) front → All (EndsBy (at + n)) (front ++ token kind at n ∷ [])
-ends_push front kind at n f = All-push (EndsBy (at + n)) front (token kind at n) (ends_later front at (at + n) (omega arith) f) (omega arith)
+-- What holds of the pieces so far: each lies within the line, they end by a place, they are in order, and they cover
+-- what is before the place but its blanks.
+pub record SoFar (line : List ℕ) (at : ℕ) (front : List Piece) : Type 0 where
+  pub within : All (IsPieceOf line) front
+  pub before : All (EndsBy at) front
+  pub in_order : AllPairs PiecePrecedes front
+  pub covered : CoversTo at line (map piece_span front)
 
-pub in_order_push : (front : List Token) (kind : TokenKind) (at n : ℕ) → AllPairs Precedes front → All (EndsBy at) front → AllPairs Precedes (front ++ token kind at n ∷ [])
-in_order_push front kind at n p f = all_pairs_push Precedes front (token kind at n) p (λ k d h. f k d h)
+any_before : (P : Span → Type 0) (front : List Piece) (p : Piece) → Any P (map piece_span front) → Any P (map piece_span (front ++ p ∷ []))
+any_before P front p (k, x, h, is, q) =
+    let spans : map piece_span (front ++ p ∷ []) ≡ map piece_span front ++ piece_span p ∷ [] = map_push piece_span front p in
+    let Q : List Span → Type 0 = λ ss. Any P ss in
+    subst Q (sym spans) (k, x, omega (arith, length-append (map piece_span front) (piece_span p ∷ [])), get_or-append (map piece_span front) (piece_span p ∷ []) x k h ∙ is, q)
+
+any_last : (P : Span → Type 0) (front : List Piece) (p : Piece) → P (piece_span p) → Any P (map piece_span (front ++ p ∷ []))
+any_last P front p h = let Q : List Span → Type 0 = λ ss. Any P ss in subst Q (sym (map_push piece_span front p)) (Any-push P (map piece_span front) (piece_span p) h)
+
+-- a piece more
+pub one_more : (line : List ℕ) (at : ℕ) (front items : List Piece) (kind : PieceKind) (n : ℕ) → items ≡ front ++ piece kind at n ∷ [] → IsPieceOf line (piece kind at n) → SoFar line at front
+    → SoFar line (at + n) items
+one_more line at front items kind n p is so_far = let P : List Piece → Type 0 = λ ps. SoFar line (at + n) ps in subst P (sym p) (record {
+  within = All-push (IsPieceOf line) front (piece kind at n) so_far.within is;
+  before = All-push (EndsBy (at + n)) front (piece kind at n) (ends_later front at (at + n) (omega arith) so_far.before) (omega arith);
+  in_order = all_pairs_push PiecePrecedes front (piece kind at n) so_far.in_order (λ k d h. so_far.before k d h);
+  covered = λ k h. by_place k h (cases_lt k at);
+})
+  where
+    by_place : (k : ℕ) → k < at + n → (k < at) ⊎ (at ≤ k) → Any (Holds k) (map piece_span (front ++ piece kind at n ∷ [])) ⊎ (is_blank (get_or line k 0) ≡ true)
+    by_place k h (inl b) = ⊎_elim (λ (a : Any (Holds k) (map piece_span front)). inl (any_before (Holds k) front (piece kind at n) a)) (λ (e : is_blank (get_or line k 0) ≡ true). inr e) (so_far.covered k b)
+    by_place k h (inr a) = inl (any_last (Holds k) front (piece kind at n) (a, h))
+
+-- a blank more
+pub blank_more : (line : List ℕ) (at : ℕ) (front : List Piece) → is_blank (get_or line at 0) ≡ true → SoFar line at front → SoFar line (at + 1) front
+blank_more line at front e so_far = record {
+  within = so_far.within;
+  before = ends_later front at (at + 1) (omega arith) so_far.before;
+  in_order = so_far.in_order;
+  covered = λ k h. by_place k h (cases_lt k at);
+}
+  where
+    by_place : (k : ℕ) → k < at + 1 → (k < at) ⊎ (at ≤ k) → Any (Holds k) (map piece_span front) ⊎ (is_blank (get_or line k 0) ≡ true)
+    by_place k h (inl b) = so_far.covered k b
+    by_place k h (inr a) = inr (ap (λ (j : ℕ). is_blank (get_or line j 0)) (omega arith) ∙ e)
+
+-- a blank at a place of a line
+pub blank_here : (line : List ℕ) (at : ℕ) → HeadFits (drop at line) blank → (at < length line) × (is_blank (get_or line at 0) ≡ true)
+blank_here line at f = (omega (arith, f.0, length-drop at line), ap is_blank (sym (get_or-drop at line 0 0 ∙ ap (λ (k : ℕ). get_or line k 0) (omega arith))) ∙ f.1)
+
+-- behind the last piece
+pub covers_all : (line : List ℕ) (at : ℕ) (front : List Piece) → at ≤ length line → HeadFits (drop at line) no_more → SoFar line at front → Covers line (map piece_span front)
+covers_all line at front room f so_far = record {
+  comment = at;
+  begins_it = ⊎_elim (λ (e : length (drop at line) ≡ 0). inl (omega (arith, length-drop at line))) (λ (e : get_or (drop at line) 0 0 ≡ 59). inr (sym (get_or-drop at line 0 0 ∙ ap (λ (k : ℕ). get_or line k 0) (omega arith)) ∙ e)) f;
+  covered = so_far.covered;
+}

@@ -5,7 +5,7 @@ use Rattle.std.proofs.lemmas.List.{drop_all, length-drop}
 use Rattle.std.specs.Int.{w64, cast_signed}
 use Rattle.vax_lex.specs.Characters.{canonical_name}
 use Rattle.vax_lex.specs.Tokens.{token_text}
-use Rattle.vax_lex.specs.Values.{characters_value, mask_bit, combine, negated, complemented, named}
+use Rattle.vax_lex.specs.Values.{Operation, characters_value, mask_bit, combine, negated, complemented, named}
 use Rattle.vax_lex.specs.Grammar.{Symbol, number, name, characters, mark, characters_in, symbol, symbol_of, symbols_of, is_that_mark, operator_in, operator_mark, names_then, term_then, joined_then, Term, constant, named_by, quoted, mask, plus, minus, complement, bracketed, Joined, finish, joined, with_bit, mask_outcome, mask_value, term_value, joined_value, Expression, spelling, value_of, Evaluates}
 use Rattle.vax_lex.specs.Reading.{NoTerm, ReadsTerm, NotOperator, ReadsExpression, ReadsNames, ReadsQuoted, ReadsMask}
 use Rattle.vax_lex.specs.declared.expression.Read.{Read}
@@ -16,12 +16,11 @@ use Rattle.vax_lex.specs.declared.value.Value.{Value}
 use Rattle.vax_lex.specs.declared.value.Value.TheVariants.{Absolute}
 use Rattle.vax_lex.specs.declared.value.ExprError.{ExprError}
 use Rattle.vax_lex.specs.declared.value.ExprError.TheVariants.{Form}
-use Rattle.vax_lex.specs.declared.value.Binary.{Binary}
 use Rattle.vax_lex.proofs.Symbols.{Stands, length-symbols, token_stands, nothing_stands, mark_stands, no_mark, operator_stands, no_operator}
 use Rattle.vax_lex.proofs.Unique.{first_code, second_code, letter_code, unique_term, unique_joined, bracket_ends}
 
 -- An expression of which the terms before `end` have been read. What follows continues it, and nothing else does.
-pub record SoFar (names : List (List ℕ × Value)) (all : List Symbol) (at : ℕ) (answer : Result Value ExprError) (end : ℕ) : Type 0 where
+pub record SoFar (names : (List ℕ → Option Value)) (all : List Symbol) (at : ℕ) (answer : Result Value ExprError) (end : ℕ) : Type 0 where
   pub begins : at < end
   pub within : end ≤ length all
   pub continues : (more : Joined) (rest : List Symbol) → joined_then more rest ≡ drop end all
@@ -233,7 +232,7 @@ module _ (line : List ℕ) (tokens : List Token) where
 
   -- ---- terms
 
-  module _ (names : List (List ℕ × Value)) where
+  module _ (names : (List ℕ → Option Value)) where
     -- a term that one symbol spells
     pub constant_read : (at n : ℕ) (answer : Result Value ExprError) → Stands line tokens at (number n) → answer ≡ Ok (Absolute (cast_signed w64 n))
         → ReadsTerm names all at (Some (record { answer = answer; end = at + 1 }))
@@ -341,12 +340,12 @@ module _ (line : List ℕ) (tokens : List Token) where
     }
 
     -- what is left behind an operator
-    behind_operator : (operator : Binary) (symbols : List Symbol) (more : Joined) (rest : List Symbol) → NotOperator rest → joined_then more rest ≡ mark (operator_mark operator) ∷ symbols
+    behind_operator : (operator : Operation) (symbols : List Symbol) (more : Joined) (rest : List Symbol) → NotOperator rest → joined_then more rest ≡ mark (operator_mark operator) ∷ symbols
         → (u : Term) × (others : Joined) × (term_then u (joined_then others rest) ≡ symbols)
     behind_operator operator symbols finish rest q e = absurd (q operator symbols e)
     behind_operator operator symbols (joined b u others) rest q e = (u, others, cc)
 
-    pub so_far_more : (at end : ℕ) (answer new : Result Value ExprError) (operator : Binary) (r : Read) → SoFar names all at answer end → operator_in (slice_get tokens end) ≡ Some operator
+    pub so_far_more : (at end : ℕ) (answer new : Result Value ExprError) (operator : Operation) (r : Read) → SoFar names all at answer end → operator_in (slice_get tokens end) ≡ Some operator
         → ReadsTerm names all (end + 1) (Some r) → new ≡ combine operator answer r.answer → SoFar names all at new r.end
     so_far_more at end answer new operator r s o h v = let x = h.2 in let there = operator_stands line tokens end operator o in record {
       begins = omega (arith, s.begins, h.0);
@@ -363,7 +362,7 @@ module _ (line : List ℕ) (tokens : List Token) where
           (left.1, same.1);
     }
 
-    pub so_far_none : (at end : ℕ) (answer : Result Value ExprError) (operator : Binary) → SoFar names all at answer end → operator_in (slice_get tokens end) ≡ Some operator
+    pub so_far_none : (at end : ℕ) (answer : Result Value ExprError) (operator : Operation) → SoFar names all at answer end → operator_in (slice_get tokens end) ≡ Some operator
         → ReadsTerm names all (end + 1) None → ReadsExpression names all at None
     so_far_none at end answer operator s o h t whole rest q e =
         let there = operator_stands line tokens end operator o in

@@ -9,11 +9,10 @@ use Rattle.vax_lex.specs.Tokens.{token_text, IsTokenOf, KindFits}
 use Rattle.vax_lex.specs.Characters.{canonical_name}
 use Rattle.vax_lex.specs.Grammar.{Symbol, number, name, mark, symbol, symbol_of, symbols_of, is_that_mark, operator_in, operator_of, operator_of_mark, operator_mark}
 use Rattle.vax_lex.specs.Reading.{NotOperator}
+use Rattle.vax_lex.specs.Values.{Operation, addition, subtraction, multiplication, division, arithmetic_shift, logical_and, inclusive_or, exclusive_or}
 use Rattle.vax_lex.specs.declared.token.Token.{Token}
 use Rattle.vax_lex.specs.declared.token.TokenKind.{TokenKind}
 use Rattle.vax_lex.specs.declared.token.TokenKind.TheVariants.{Name, Number, Mark, Text}
-use Rattle.vax_lex.specs.declared.value.Binary.{Binary}
-use Rattle.vax_lex.specs.declared.value.Binary.TheVariants.{Add, Subtract, Multiply, Divide, Shift, And, Or, ExclusiveOr}
 
 -- a token, and what follows
 pub record Stands (line : List ℕ) (tokens : List Token) (at : ℕ) (s : Symbol) : Type 0 where
@@ -82,23 +81,23 @@ pub text_fits : (line : List ℕ) (t : Token) → IsTokenOf line t → t.kind �
 text_fits line t w k = let P : TokenKind → Type 0 = λ kind. KindFits kind (token_text line t) in subst P k w.kind
 
 -- an operator between terms
-mark_operator : (m : ℕ) (operator : Binary) → operator_of_mark m ≡ Some operator → m ≡ operator_mark operator
-mark_operator m Add e = grind (arith, nat_tests)
-mark_operator m Subtract e = grind (arith, nat_tests)
-mark_operator m Multiply e = grind (arith, nat_tests)
-mark_operator m Divide e = grind (arith, nat_tests)
-mark_operator m Shift e = grind (arith, nat_tests)
-mark_operator m And e = grind (arith, nat_tests)
-mark_operator m Or e = grind (arith, nat_tests)
-mark_operator m ExclusiveOr e = grind (arith, nat_tests)
+pub mark_operator : (m : ℕ) (operator : Operation) → operator_of_mark m ≡ Some operator → m ≡ operator_mark operator
+mark_operator m addition e = grind (arith, nat_tests)
+mark_operator m subtraction e = grind (arith, nat_tests)
+mark_operator m multiplication e = grind (arith, nat_tests)
+mark_operator m division e = grind (arith, nat_tests)
+mark_operator m arithmetic_shift e = grind (arith, nat_tests)
+mark_operator m logical_and e = grind (arith, nat_tests)
+mark_operator m inclusive_or e = grind (arith, nat_tests)
+mark_operator m exclusive_or e = grind (arith, nat_tests)
 
-operator_symbol : (kind : TokenKind) (text : List ℕ) (operator : Binary) → operator_of kind ≡ Some operator → symbol kind text ≡ mark (operator_mark operator)
+operator_symbol : (kind : TokenKind) (text : List ℕ) (operator : Operation) → operator_of kind ≡ Some operator → symbol kind text ≡ mark (operator_mark operator)
 operator_symbol (Mark m) text operator e = ap mark (mark_operator m operator e)
 operator_symbol Name text operator e = absurd cc
 operator_symbol (Number n) text operator e = absurd cc
 operator_symbol Text text operator e = absurd cc
 
-pub operator_stands : (line : List ℕ) (tokens : List Token) (at : ℕ) (operator : Binary) → operator_in (slice_get tokens at) ≡ Some operator → Stands line tokens at (mark (operator_mark operator))
+pub operator_stands : (line : List ℕ) (tokens : List Token) (at : ℕ) (operator : Operation) → operator_in (slice_get tokens at) ≡ Some operator → Stands line tokens at (mark (operator_mark operator))
 operator_stands line tokens at operator e = by_token (slice_get tokens at) refl e
   where
     by_token : (o : Option Token) → slice_get tokens at ≡ o → operator_in o ≡ Some operator → Stands line tokens at (mark (operator_mark operator))
@@ -108,17 +107,17 @@ operator_stands line tokens at operator e = by_token (slice_get tokens at) refl 
         record { room = there.room; is = there.is ∙ ap (λ (s : Symbol). s ∷ drop (at + 1) (symbols_of line tokens)) (operator_symbol t.kind (token_text line t) operator g) }
 
 -- each operator's mark is its own
-operator_known : (operator : Binary) → operator_of_mark (operator_mark operator) ≡ Some operator
-operator_known Add = refl
-operator_known Subtract = refl
-operator_known Multiply = refl
-operator_known Divide = refl
-operator_known Shift = refl
-operator_known And = refl
-operator_known Or = refl
-operator_known ExclusiveOr = refl
+pub operator_known : (operator : Operation) → operator_of_mark (operator_mark operator) ≡ Some operator
+operator_known addition = refl
+operator_known subtraction = refl
+operator_known multiplication = refl
+operator_known division = refl
+operator_known arithmetic_shift = refl
+operator_known logical_and = refl
+operator_known inclusive_or = refl
+operator_known exclusive_or = refl
 
-no_operator_symbol : (kind : TokenKind) (text : List ℕ) (operator : Binary) → operator_of kind ≡ None → symbol kind text ≢ mark (operator_mark operator)
+no_operator_symbol : (kind : TokenKind) (text : List ℕ) (operator : Operation) → operator_of kind ≡ None → symbol kind text ≢ mark (operator_mark operator)
 no_operator_symbol (Mark m) text operator e f =
     let same : m ≡ operator_mark operator = cc in
     let known : operator_of_mark m ≡ Some operator = ap operator_of_mark same ∙ operator_known operator in

@@ -2,8 +2,7 @@
 use Rattle.std.proofs.Common.{◌≡◌, ℕ, List, [], ◌∷◌, refl, ap, arith, sym}
 use Rattle.vax_lex.specs.Grammar.{Symbol, number, name, characters, mark, Term, constant, named_by, quoted, mask, plus, minus, complement, bracketed, Joined, finish, joined, operator_mark, names_then, term_then, joined_then}
 use Rattle.vax_lex.specs.Reading.{NotOperator}
-use Rattle.vax_lex.specs.declared.value.Binary.{Binary}
-use Rattle.vax_lex.specs.declared.value.Binary.TheVariants.{Add, Subtract, Multiply, Divide, Shift, And, Or, ExclusiveOr}
+use Rattle.vax_lex.specs.Values.{Operation, addition, subtraction, multiplication, division, arithmetic_shift, logical_and, inclusive_or, exclusive_or}
 
 -- what tells the terms apart: their first symbol, and behind a `^` the letter
 abbrev pub first_code : List Symbol → ℕ
@@ -22,26 +21,26 @@ second_code (first ∷ mark m ∷ rest) = m
 second_code _ = 1000
 
 -- of numbers of operators
-operator_code : (a b : Binary) → operator_mark a ≡ operator_mark b → a ≡ b
-operator_code Add Add e = refl
-operator_code Subtract Subtract e = refl
-operator_code Multiply Multiply e = refl
-operator_code Divide Divide e = refl
-operator_code Shift Shift e = refl
-operator_code And And e = refl
-operator_code Or Or e = refl
-operator_code ExclusiveOr ExclusiveOr e = refl
+operator_code : (a b : Operation) → operator_mark a ≡ operator_mark b → a ≡ b
+operator_code addition addition e = refl
+operator_code subtraction subtraction e = refl
+operator_code multiplication multiplication e = refl
+operator_code division division e = refl
+operator_code arithmetic_shift arithmetic_shift e = refl
+operator_code logical_and logical_and e = refl
+operator_code inclusive_or inclusive_or e = refl
+operator_code exclusive_or exclusive_or e = refl
 operator_code _ _ e = absurd (omega (arith, e))
 
 pub bracket_ends : (rest : List Symbol) → NotOperator (mark 62 ∷ rest)
-bracket_ends rest Add more e = absurd (omega (arith, ap first_code e))
-bracket_ends rest Subtract more e = absurd (omega (arith, ap first_code e))
-bracket_ends rest Multiply more e = absurd (omega (arith, ap first_code e))
-bracket_ends rest Divide more e = absurd (omega (arith, ap first_code e))
-bracket_ends rest Shift more e = absurd (omega (arith, ap first_code e))
-bracket_ends rest And more e = absurd (omega (arith, ap first_code e))
-bracket_ends rest Or more e = absurd (omega (arith, ap first_code e))
-bracket_ends rest ExclusiveOr more e = absurd (omega (arith, ap first_code e))
+bracket_ends rest addition more e = absurd (omega (arith, ap first_code e))
+bracket_ends rest subtraction more e = absurd (omega (arith, ap first_code e))
+bracket_ends rest multiplication more e = absurd (omega (arith, ap first_code e))
+bracket_ends rest division more e = absurd (omega (arith, ap first_code e))
+bracket_ends rest arithmetic_shift more e = absurd (omega (arith, ap first_code e))
+bracket_ends rest logical_and more e = absurd (omega (arith, ap first_code e))
+bracket_ends rest inclusive_or more e = absurd (omega (arith, ap first_code e))
+bracket_ends rest exclusive_or more e = absurd (omega (arith, ap first_code e))
 
 pub unique_names : (a b : List (List ℕ)) (r s : List Symbol) → names_then a (mark 62 ∷ r) ≡ names_then b (mark 62 ∷ s) → (a ≡ b) × (r ≡ s)
 unique_names [] [] r s e = (refl, cc)

@@ -1,11 +1,11 @@
 -- The grammar of expressions, and their values (VAX MACRO and Instruction Set Reference Manual, "Terms and
--- expressions", "Unary operators" and "Binary operators").
+-- expressions", "Unary operators" and "Operation operators").
 use Rattle.std.specs.Prelude.{◌≡◌, ◌≢◌, ℕ, Bool, false, ◌-◌, ◌^◌, ◌⊎◌, List, [], ◌∷◌, length, map, take, drop, Option, Some, None, Result, Ok, Err, bit_or, pos, ◌==◌, if◌then◌else◌}
 use Rattle.std.specs.Int.{w64, cast_signed}
 use Rattle.vax_lex.specs.Characters.{canonical_name}
 use Rattle.vax_lex.specs.Tokens.{token_text}
 use Rattle.vax_lex.specs.Statements.{is_mark}
-use Rattle.vax_lex.specs.Values.{combine, negated, complemented, named, characters_value, mask_bit}
+use Rattle.vax_lex.specs.Values.{Operation, addition, subtraction, multiplication, division, arithmetic_shift, logical_and, inclusive_or, exclusive_or, combine, negated, complemented, named, characters_value, mask_bit}
 use Rattle.vax_lex.specs.declared.token.TokenKind.{TokenKind}
 use Rattle.vax_lex.specs.declared.token.TokenKind.TheVariants.{Name, Number, Mark, Text}
 use Rattle.vax_lex.specs.declared.token.Token.{Token}
@@ -13,8 +13,6 @@ use Rattle.vax_lex.specs.declared.value.Value.{Value}
 use Rattle.vax_lex.specs.declared.value.Value.TheVariants.{Absolute}
 use Rattle.vax_lex.specs.declared.value.ExprError.{ExprError}
 use Rattle.vax_lex.specs.declared.value.ExprError.TheVariants.{Form}
-use Rattle.vax_lex.specs.declared.value.Binary.{Binary}
-use Rattle.vax_lex.specs.declared.value.Binary.TheVariants.{Add, Subtract, Multiply, Divide, Shift, And, Or, ExclusiveOr}
 
 -- What the grammar sees of a token: a number, a name as it is kept, the characters between the delimiters of a text,
 -- or a mark.
@@ -54,18 +52,18 @@ mutual
 
   pub data Joined : Type 0 where
     finish : Joined
-    joined : Binary → Term → Joined → Joined
+    joined : Operation → Term → Joined → Joined
 
 -- The marks of the operators between terms: `+`, `-`, `*`, `/`, `@`, `&`, `!` and `\`.
-abbrev pub operator_mark : Binary → ℕ
-operator_mark Add = 43
-operator_mark Subtract = 45
-operator_mark Multiply = 42
-operator_mark Divide = 47
-operator_mark Shift = 64
-operator_mark And = 38
-operator_mark Or = 33
-operator_mark ExclusiveOr = 92
+abbrev pub operator_mark : Operation → ℕ
+operator_mark addition = 43
+operator_mark subtraction = 45
+operator_mark multiplication = 42
+operator_mark division = 47
+operator_mark arithmetic_shift = 64
+operator_mark logical_and = 38
+operator_mark inclusive_or = 33
+operator_mark exclusive_or = 92
 
 -- names with commas between them, and then more
 abbrev pub names_then : List (List ℕ) → List Symbol → List Symbol
@@ -109,7 +107,7 @@ mask_value names = mask_outcome (mask_with (Some 0) names)
 -- The value of a term, and that of terms joined to one whose value is known: operators have equal rank, and the left
 -- one comes first.
 abbrev mutual
-  pub term_value : List (List ℕ × Value) → Term → Result Value ExprError
+  pub term_value : (List ℕ → Option Value) → Term → Result Value ExprError
   term_value names (constant n) = Ok (Absolute (cast_signed w64 n))
   term_value names (named_by s) = named names s
   term_value names (quoted text) = characters_value text
@@ -119,7 +117,7 @@ abbrev mutual
   term_value names (complement t) = complemented (term_value names t)
   term_value names (bracketed t more) = joined_value names (term_value names t) more
 
-  pub joined_value : List (List ℕ × Value) → Result Value ExprError → Joined → Result Value ExprError
+  pub joined_value : (List ℕ → Option Value) → Result Value ExprError → Joined → Result Value ExprError
   joined_value names left finish = left
   joined_value names left (joined operator t more) = joined_value names (combine operator left (term_value names t)) more
 
@@ -131,29 +129,29 @@ pub record Expression : Type 0 where
 abbrev pub spelling : Expression → List Symbol
 spelling e = term_then e.first (joined_then e.more [])
 
-abbrev pub value_of : List (List ℕ × Value) → Expression → Result Value ExprError
+abbrev pub value_of : (List ℕ → Option Value) → Expression → Result Value ExprError
 value_of names e = joined_value names (term_value names e.first) e.more
 
 -- The answer is the value of an expression that the symbols spell, or they spell none.
-abbrev pub Evaluates : List (List ℕ × Value) → List Symbol → Result Value ExprError → Type 0
+abbrev pub Evaluates : (List ℕ → Option Value) → List Symbol → Result Value ExprError → Type 0
 Evaluates names symbols answer =
     ((e : Expression) × (spelling e ≡ symbols) × (answer ≡ value_of names e))
     ⊎ (((e : Expression) → spelling e ≢ symbols) × (answer ≡ Err Form))
 
 -- the operator that a token is
-abbrev pub operator_of_mark : ℕ → Option Binary
+abbrev pub operator_of_mark : ℕ → Option Operation
 operator_of_mark m =
-    if m == 43 then Some Add
-    else (if m == 45 then Some Subtract
-    else (if m == 42 then Some Multiply
-    else (if m == 47 then Some Divide
-    else (if m == 64 then Some Shift
-    else (if m == 38 then Some And
-    else (if m == 33 then Some Or
-    else (if m == 92 then Some ExclusiveOr
+    if m == 43 then Some addition
+    else (if m == 45 then Some subtraction
+    else (if m == 42 then Some multiplication
+    else (if m == 47 then Some division
+    else (if m == 64 then Some arithmetic_shift
+    else (if m == 38 then Some logical_and
+    else (if m == 33 then Some inclusive_or
+    else (if m == 92 then Some exclusive_or
     else None)))))))
 
-abbrev pub operator_of : TokenKind → Option Binary
+abbrev pub operator_of : TokenKind → Option Operation
 operator_of (Mark m) = operator_of_mark m
 operator_of Name = None
 operator_of (Number n) = None
@@ -165,6 +163,6 @@ is_that_mark m (Some t) = is_mark m t.kind
 is_that_mark m None = false
 
 -- There is a token, and it is this operator.
-abbrev pub operator_in : Option Token → Option Binary
+abbrev pub operator_in : Option Token → Option Operation
 operator_in (Some t) = operator_of t.kind
 operator_in None = None

@@ -4,3 +4,8 @@ pub mod Reading
 pub mod Statements
 pub mod Tokens
 pub mod Values
+pub mod Views
+pub mod Expressions
+pub mod Words
+pub mod WordViews
+pub mod KeptNames

@@ -4,13 +4,53 @@ use Rattle.std.specs.Prelude.{ℕ, zero, suc, ◌+◌, ◌-◌, Bool, true, fals
 use Rattle.vax_lex.specs.Characters.{is_delimiter, spells}
 use Rattle.vax_lex.specs.declared.token.TokenKind.{TokenKind}
 use Rattle.vax_lex.specs.declared.token.TokenKind.TheVariants.{Name, Number, Mark, Text}
-use Rattle.vax_lex.specs.declared.context.Operator.{Operator}
-use Rattle.vax_lex.specs.declared.context.Operator.TheVariants as operators
-use Rattle.vax_lex.specs.declared.context.Place.{Place}
-use Rattle.vax_lex.specs.declared.context.Place.TheVariants.{Statement, FirstName, AfterLabel, Piece, Bracketed, Condition, Expression, Argument, BetweenArguments, Operands}
-use Rattle.vax_lex.specs.declared.context.Before.{Before}
-use Rattle.vax_lex.specs.declared.context.Before.TheVariants as before
-use Rattle.vax_lex.specs.declared.context.Context.{Context}
+
+-- a statement's operator: one whose operands are pieces of text, `.IIF`, behind whose condition a statement stands, or
+-- any other
+pub data Operator : Type 0 where
+  text_directive : Operator
+  immediate_if : Operator
+  other_operator : Operator
+
+-- The part of a statement that is due.
+pub data Place : Type 0 where
+  -- the statement itself: its label or its operator
+  statement : Place
+  -- what follows its first name: a colon makes that name a label, else it is the operator
+  first_name : Operator → Place
+  -- the operator, behind a label
+  behind_label : Place
+  -- a piece of text
+  text_piece : Place
+  -- the rest of a piece in brackets, of which so many are open
+  bracketed_piece : ℕ → Place
+  -- the name of a condition
+  condition_name : Place
+  -- the rest of a condition's expression or name, in so many open brackets
+  expression_rest : ℕ → Place
+  -- the rest of a condition's argument that is any text: the last one or not, something of it stands before or not,
+  -- and so many of the brackets round it are open
+  text_argument : (last begun : Bool) → ℕ → Place
+  -- the second of two such arguments, or a comma before it: a blank ended the first
+  between_arguments : Place
+  operands : Place
+
+-- What stands right before a place of a line.
+pub data Before : Type 0 where
+  nothing_special : Before
+  -- the name `B`, `W`, `L`, `G`, `S` or `I`, behind which a `^` belongs to the operand
+  size_letter : Before
+  -- the `^` of an operator, whose letter follows
+  operator_caret : Before
+  -- `^A`, perhaps with blanks behind it
+  text_sign : Before
+  -- the first colon of a label
+  label_colon : Before
+
+-- Where in its statement a place of a line is, and what stands before it.
+pub record Context : Type 0 where
+  pub place : Place
+  pub before : Before
 
 -- the directives whose operands are pieces of text
 abbrev pub is_text_directive : List ℕ → Bool
@@ -18,15 +58,15 @@ is_text_directive name = spells (codes ".ASCII") name || spells (codes ".ASCIC")
 
 abbrev pub operator_of : List ℕ → Operator
 operator_of name =
-    if is_text_directive name then operators.Text
-    else (if spells (codes ".IIF") name then operators.Conditional
-    else operators.Plain)
+    if is_text_directive name then text_directive
+    else (if spells (codes ".IIF") name then immediate_if
+    else other_operator)
 
 -- what is due behind an operator
 abbrev pub operand_place : Operator → Place
-operand_place operators.Text = Piece
-operand_place operators.Conditional = Condition
-operand_place operators.Plain = Operands
+operand_place text_directive = text_piece
+operand_place immediate_if = condition_name
+operand_place other_operator = operands
 
 -- the conditions on two texts, and on one
 abbrev pub compares_texts : List ℕ → Bool
@@ -38,9 +78,9 @@ tests_text name = spells (codes "B") name || spells (codes "NB") name || spells 
 -- what is due behind the name of a condition: two texts, one text, or an expression or a name
 abbrev pub condition_place : List ℕ → Place
 condition_place name =
-    if compares_texts name then Argument false false 0
-    else (if tests_text name then Argument true false 0
-    else Expression 0)
+    if compares_texts name then text_argument false false 0
+    else (if tests_text name then text_argument true false 0
+    else expression_rest 0)
 
 -- the token is this mark
 abbrev pub is_mark : ℕ → TokenKind → Bool
@@ -58,62 +98,62 @@ is_text Text = true
 is_text _ = false
 
 abbrev pub is_colon : Before → Bool
-is_colon before.Colon = true
+is_colon label_colon = true
 is_colon _ = false
 
 abbrev pub is_caret : Before → Bool
-is_caret before.Caret = true
+is_caret operator_caret = true
 is_caret _ = false
 
 abbrev pub is_size : Before → Bool
-is_size before.SizeLetter = true
+is_size size_letter = true
 is_size _ = false
 
 abbrev pub is_text_sign : Before → Bool
-is_text_sign before.TextSign = true
+is_text_sign text_sign = true
 is_text_sign _ = false
 
 abbrev pub is_first_name : Place → Bool
-is_first_name (FirstName operator) = true
+is_first_name (first_name operator) = true
 is_first_name _ = false
 
 -- An argument ends at a comma. Brackets protect commas where they stand round the whole argument.
 abbrev pub argument_after : Bool → Bool → ℕ → TokenKind → Place
 argument_after last begun (suc depth) kind =
-    if is_mark 60 kind then Argument last true (suc depth + 1)
-    else (if is_mark 62 kind then Argument last true depth
-    else Argument last true (suc depth))
+    if is_mark 60 kind then text_argument last true (suc depth + 1)
+    else (if is_mark 62 kind then text_argument last true depth
+    else text_argument last true (suc depth))
 argument_after last begun zero kind =
-    if is_mark 44 kind then (if last then Statement else Argument true false 0)
-    else (if is_mark 60 kind && not begun then Argument last true 1
-    else Argument last true 0)
+    if is_mark 44 kind then (if last then statement else text_argument true false 0)
+    else (if is_mark 60 kind && not begun then text_argument last true 1
+    else text_argument last true 0)
 
 -- What is due after a token of the operands.
 abbrev pub operand_after : Place → TokenKind → List ℕ → Place
-operand_after Piece kind text =
-    if is_text kind then Piece else (if is_mark 60 kind then Bracketed 1 else Operands)
-operand_after (Bracketed depth) kind text =
-    if is_mark 60 kind then Bracketed (depth + 1)
-    else (if is_mark 62 kind then (if nat_le depth 1 then Piece else Bracketed (depth - 1))
-    else Bracketed depth)
-operand_after Condition kind text = if is_name kind then condition_place text else Operands
-operand_after (Expression depth) kind text =
-    if is_mark 60 kind then Expression (depth + 1)
-    else (if is_mark 62 kind then Expression (depth - 1)
-    else (if is_mark 44 kind && (depth == 0) then Statement
-    else Expression depth))
-operand_after (Argument last begun depth) kind text = argument_after last begun depth kind
-operand_after BetweenArguments kind text =
-    if is_mark 44 kind then Argument true false 0 else argument_after true false 0 kind
-operand_after _ kind text = Operands
+operand_after text_piece kind text =
+    if is_text kind then text_piece else (if is_mark 60 kind then bracketed_piece 1 else operands)
+operand_after (bracketed_piece depth) kind text =
+    if is_mark 60 kind then bracketed_piece (depth + 1)
+    else (if is_mark 62 kind then (if nat_le depth 1 then text_piece else bracketed_piece (depth - 1))
+    else bracketed_piece depth)
+operand_after condition_name kind text = if is_name kind then condition_place text else operands
+operand_after (expression_rest depth) kind text =
+    if is_mark 60 kind then expression_rest (depth + 1)
+    else (if is_mark 62 kind then expression_rest (depth - 1)
+    else (if is_mark 44 kind && (depth == 0) then statement
+    else expression_rest depth))
+operand_after (text_argument last begun depth) kind text = argument_after last begun depth kind
+operand_after between_arguments kind text =
+    if is_mark 44 kind then text_argument true false 0 else argument_after true false 0 kind
+operand_after _ kind text = operands
 
 -- What is due after a token: a name before a colon is a label, and the next name is the operator, else the first
 -- name is. A second colon, right behind the first, makes the label global.
 abbrev pub place_after : Context → TokenKind → List ℕ → Place
 place_after c kind text = elim c.place [
-  | Statement ↦ if is_name kind then FirstName (operator_of text) else Operands
-  | FirstName operator ↦ if is_mark 58 kind then AfterLabel else operand_after (operand_place operator) kind text
-  | AfterLabel ↦ if is_name kind then operand_place (operator_of text) else (if is_mark 58 kind && is_colon c.before then AfterLabel else Operands)
+  | statement ↦ if is_name kind then first_name (operator_of text) else operands
+  | first_name operator ↦ if is_mark 58 kind then behind_label else operand_after (operand_place operator) kind text
+  | behind_label ↦ if is_name kind then operand_place (operator_of text) else (if is_mark 58 kind && is_colon c.before then behind_label else operands)
   | place ↦ operand_after place kind text
 ]
 
@@ -124,13 +164,13 @@ is_size_letter name = spells (codes "B") name || spells (codes "W") name || spel
 -- What stands before the next token, if no blank follows this one.
 abbrev pub before_after : Context → TokenKind → List ℕ → Before
 before_after c Name text =
-    if is_caret c.before then (if spells (codes "A") text then before.TextSign else before.Other)
-    else (if is_size_letter text then before.SizeLetter else before.Other)
+    if is_caret c.before then (if spells (codes "A") text then text_sign else nothing_special)
+    else (if is_size_letter text then size_letter else nothing_special)
 before_after c (Mark m) text =
-    if m == 94 then (if is_size c.before then before.Other else before.Caret)
-    else (if (m == 58) && is_first_name c.place then before.Colon else before.Other)
-before_after c (Number n) text = before.Other
-before_after c Text text = before.Other
+    if m == 94 then (if is_size c.before then nothing_special else operator_caret)
+    else (if (m == 58) && is_first_name c.place then label_colon else nothing_special)
+before_after c (Number n) text = nothing_special
+before_after c Text text = nothing_special
 
 -- The context after a token of this kind and text.
 abbrev pub context_after : Context → TokenKind → List ℕ → Context
@@ -139,15 +179,15 @@ context_after c kind text = record { place = place_after c kind text; before = b
 -- A blank parts a name from a `^`, and a colon from a colon, but not `^A` from its text. It ends the first of two texts.
 abbrev pub context_after_blank : Context → Context
 context_after_blank c = record {
-  place = elim c.place [ Argument false true zero ↦ BetweenArguments | place ↦ place ];
-  before = if is_text_sign c.before then before.TextSign else before.Other;
+  place = elim c.place [ text_argument false true zero ↦ between_arguments | place ↦ place ];
+  before = if is_text_sign c.before then text_sign else nothing_special;
 }
 
 -- A quoted text may begin with this byte: it may stand round one, and a piece is due or `^A` stands before. Behind
 -- the first name of a statement a colon makes that name a label.
 abbrev pub piece_due : Place → ℕ → Bool
-piece_due Piece b = true
-piece_due (FirstName operators.Text) b = not (b == 58)
+piece_due text_piece b = true
+piece_due (first_name text_directive) b = not (b == 58)
 piece_due _ b = false
 
 abbrev pub text_due : Context → ℕ → Bool
@@ -155,11 +195,11 @@ text_due c b = is_delimiter b && (is_text_sign c.before || piece_due c.place b)
 
 -- at the start of a line
 abbrev pub line_start : Context
-line_start = record { place = Statement; before = before.Other }
+line_start = record { place = statement; before = nothing_special }
 
 -- how many brackets are open at a place
 abbrev pub open_brackets : Place → ℕ
-open_brackets (Bracketed depth) = depth
-open_brackets (Expression depth) = depth
-open_brackets (Argument last begun depth) = depth
+open_brackets (bracketed_piece depth) = depth
+open_brackets (expression_rest depth) = depth
+open_brackets (text_argument last begun depth) = depth
 open_brackets _ = 0

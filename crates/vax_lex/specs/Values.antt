@@ -1,19 +1,23 @@
 -- Values and what operators make of them (VAX MACRO and Instruction Set Reference Manual, "Terms and expressions",
--- "Unary operators" and "Binary operators"). Values have 64 bits and wrap.
+-- "Unary operators" and "Operation operators"). Values have 64 bits and wrap.
 use Rattle.std.specs.Prelude.{ℕ, zero, ℤ, pos, negsuc, ◌+◌, min, Bool, true, false, ◌==◌, nat_lt, List, [], ◌∷◌, length, ◌*◌, ◌&&◌, nat_le, Option, Some, None, Result, Ok, Err, ok_or, if◌then◌else◌, codes}
 use Rattle.std.specs.Int.{w64, int_wrapping_add, int_wrapping_sub, int_wrapping_mul, int_wrapping_div, int_wrapping_neg, int_bit_and, int_bit_or, int_bit_xor, int_bit_not, cast_signed, int_shl, int_shr}
-use Rattle.std.specs.Map.{lookup}
 use Rattle.std.specs.Str.{bytes_eq}
 use Rattle.vax_lex.specs.declared.value.Value.{Value}
 use Rattle.vax_lex.specs.declared.value.Value.TheVariants.{Absolute, Section, External}
 use Rattle.vax_lex.specs.declared.value.ExprError.{ExprError}
 use Rattle.vax_lex.specs.declared.value.ExprError.TheVariants.{Form, Unknown, Range}
-use Rattle.vax_lex.specs.declared.value.Binary.{Binary}
-use Rattle.vax_lex.specs.declared.value.Binary.TheVariants.{Add, Subtract, Multiply, Divide, Shift, And, Or, ExclusiveOr}
 
--- the value of the first entry with this name
-abbrev pub value_of_name : List (List ℕ × Value) → List ℕ → Option Value
-value_of_name entries name = lookup (bytes_eq name) entries
+-- the operators between two terms: `+`, `-`, `*`, `/`, `@`, `&`, `!` and `\`
+pub data Operation : Type 0 where
+  addition : Operation
+  subtraction : Operation
+  multiplication : Operation
+  division : Operation
+  arithmetic_shift : Operation
+  logical_and : Operation
+  inclusive_or : Operation
+  exclusive_or : Operation
 
 -- A shift to the left, or to the right for a negative count. From 64 places on nothing is left, or the sign.
 abbrev pub shifted : ℤ → ℤ → ℤ
@@ -26,19 +30,19 @@ quotient x (pos zero) = Err Range
 quotient x y = Ok (Absolute (int_wrapping_div w64 x y))
 
 -- An operator at two numbers.
-abbrev pub arithmetic : Binary → ℤ → ℤ → Result Value ExprError
-arithmetic Add x y = Ok (Absolute (int_wrapping_add w64 x y))
-arithmetic Subtract x y = Ok (Absolute (int_wrapping_sub w64 x y))
-arithmetic Multiply x y = Ok (Absolute (int_wrapping_mul w64 x y))
-arithmetic Divide x y = quotient x y
-arithmetic Shift x y = Ok (Absolute (shifted x y))
-arithmetic And x y = Ok (Absolute (int_bit_and w64 x y))
-arithmetic Or x y = Ok (Absolute (int_bit_or w64 x y))
-arithmetic ExclusiveOr x y = Ok (Absolute (int_bit_xor w64 x y))
+abbrev pub arithmetic : Operation → ℤ → ℤ → Result Value ExprError
+arithmetic addition x y = Ok (Absolute (int_wrapping_add w64 x y))
+arithmetic subtraction x y = Ok (Absolute (int_wrapping_sub w64 x y))
+arithmetic multiplication x y = Ok (Absolute (int_wrapping_mul w64 x y))
+arithmetic division x y = quotient x y
+arithmetic arithmetic_shift x y = Ok (Absolute (shifted x y))
+arithmetic logical_and x y = Ok (Absolute (int_bit_and w64 x y))
+arithmetic inclusive_or x y = Ok (Absolute (int_bit_or w64 x y))
+arithmetic exclusive_or x y = Ok (Absolute (int_bit_xor w64 x y))
 
 -- The sum of two values, of which at most one is relocatable or external.
 abbrev pub sum_of : Value → Value → Result Value ExprError
-sum_of (Absolute x) (Absolute y) = arithmetic Add x y
+sum_of (Absolute x) (Absolute y) = arithmetic addition x y
 sum_of (Absolute x) (Section s y) = Ok (Section s (int_wrapping_add w64 y x))
 sum_of (Absolute x) (External i y) = Ok (External i (int_wrapping_add w64 y x))
 sum_of (Section s x) (Absolute y) = Ok (Section s (int_wrapping_add w64 x y))
@@ -47,20 +51,20 @@ sum_of x y = Err Form
 
 -- A value less a number, or the distance of two places of one section.
 abbrev pub difference_of : Value → Value → Result Value ExprError
-difference_of (Absolute x) (Absolute y) = arithmetic Subtract x y
+difference_of (Absolute x) (Absolute y) = arithmetic subtraction x y
 difference_of (Section s x) (Absolute y) = Ok (Section s (int_wrapping_sub w64 x y))
 difference_of (External i x) (Absolute y) = Ok (External i (int_wrapping_sub w64 x y))
 difference_of (Section s x) (Section t y) = if s == t then Ok (Absolute (int_wrapping_sub w64 x y)) else Err Form
 difference_of x y = Err Form
 
 -- Every other operator is for two numbers.
-abbrev pub product_of : Binary → Value → Value → Result Value ExprError
+abbrev pub product_of : Operation → Value → Value → Result Value ExprError
 product_of operator (Absolute x) (Absolute y) = arithmetic operator x y
 product_of operator x y = Err Form
 
-abbrev pub apply : Binary → Value → Value → Result Value ExprError
-apply Add x y = sum_of x y
-apply Subtract x y = difference_of x y
+abbrev pub apply : Operation → Value → Value → Result Value ExprError
+apply addition x y = sum_of x y
+apply subtraction x y = difference_of x y
 apply operator x y = product_of operator x y
 
 -- Of two errors the first in the order Form, Unknown, Range counts.
@@ -72,21 +76,21 @@ first_error Unknown Range = Unknown
 first_error Range e = e
 
 -- A value that no other operand of this operator could make right: on the left, and on the right.
-abbrev pub refuses_left : Binary → Value → Bool
-refuses_left Add x = false
-refuses_left Subtract x = false
+abbrev pub refuses_left : Operation → Value → Bool
+refuses_left addition x = false
+refuses_left subtraction x = false
 refuses_left operator (Absolute x) = false
 refuses_left operator x = true
 
-abbrev pub refuses_right : Binary → Value → Bool
-refuses_right Add y = false
-refuses_right Subtract (External i y) = true
-refuses_right Subtract y = false
+abbrev pub refuses_right : Operation → Value → Bool
+refuses_right addition y = false
+refuses_right subtraction (External i y) = true
+refuses_right subtraction y = false
 refuses_right operator (Absolute y) = false
 refuses_right operator y = true
 
 -- An operator at two terms, of which each has a value or an error.
-abbrev pub combine : Binary → Result Value ExprError → Result Value ExprError → Result Value ExprError
+abbrev pub combine : Operation → Result Value ExprError → Result Value ExprError → Result Value ExprError
 combine operator (Ok x) (Ok y) = apply operator x y
 combine operator (Ok x) (Err e) = Err (if refuses_left operator x then Form else e)
 combine operator (Err d) (Ok y) = Err (if refuses_right operator y then Form else d)
@@ -104,8 +108,8 @@ complemented (Ok x) = Err Form
 complemented (Err e) = Err e
 
 -- the value of a name
-abbrev pub named : List (List ℕ × Value) → List ℕ → Result Value ExprError
-named entries name = ok_or (value_of_name entries name) Unknown
+abbrev pub named : (List ℕ → Option Value) → List ℕ → Result Value ExprError
+named names name = ok_or (names name) Unknown
 
 -- 1 to 8 characters, the first in the low byte
 abbrev pub little_endian : List ℕ → ℕ

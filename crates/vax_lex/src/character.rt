@@ -8,7 +8,7 @@ ghost use Rattle.vax_lex.specs.Characters.{is_blank, is_delimiter, is_name_chara
 
 /// Space, tab and form feed.
 #[inline]
-pub(crate) fn is_blank(byte: u8) -> bool
+pub fn is_blank(byte: u8) -> bool
     ensures { result ≡ is_blank byte }
 {
     byte == b' ' || byte == b'\t' || byte == 12
@@ -16,7 +16,7 @@ pub(crate) fn is_blank(byte: u8) -> bool
 
 /// A letter, a digit, `_`, `$` or `.`.
 #[inline]
-pub(crate) fn is_name_character(byte: u8) -> bool
+pub fn is_name_character(byte: u8) -> bool
     ensures { result ≡ is_name_character byte }
 {
     byte.is_ascii_alphabetic()
@@ -65,7 +65,7 @@ pub(crate) fn radix_of(letter: u8) -> u8
 
 /// Whether a text is this word of capitals, in letters of either case.
 #[tactic(auto, using(crate::proofs::Spelling::spells_more))]
-pub(crate) fn spells(word: &[u8], text: &[u8]) -> bool
+pub fn spells(word: &[u8], text: &[u8]) -> bool
     ensures { result ≡ spells word.now text.now }
 {
     if text.len() != word.len() {

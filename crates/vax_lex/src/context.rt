@@ -2,6 +2,8 @@
 
 ghost use Rattle.std.specs.Prelude.{◌≡◌, ◌<◌, ◌+◌, ◌≤◌};
 ghost use Rattle.vax_lex.specs.Statements.{operator_of, operand_place, condition_place, argument_after, operand_after, is_size_letter, place_after, before_after, context_after, context_after_blank, line_start, text_due, open_brackets};
+ghost use Rattle.vax_lex.specs.Words.{text_start};
+ghost use Rattle.vax_lex.specs.Views.{operator_view, place_view, before_view, context_view};
 
 use crate::character::{is_delimiter, spells};
 use crate::token::TokenKind;
@@ -73,7 +75,7 @@ pub(crate) struct Context {
 
 /// What the operator of this name is.
 fn operator_of(name: &[u8]) -> Operator
-    ensures { result ≡ operator_of name.now }
+    ensures { operator_view result ≡ operator_of name.now }
 {
     if spells(b".ASCII", name) || spells(b".ASCIC", name) || spells(b".ASCIZ", name) {
         Operator::Text
@@ -86,7 +88,7 @@ fn operator_of(name: &[u8]) -> Operator
 
 /// What is due behind an operator.
 fn operand_place(operator: Operator) -> Place
-    ensures { result ≡ operand_place operator }
+    ensures { place_view result ≡ operand_place (operator_view operator) }
 {
     match operator {
         Operator::Text => Place::Piece,
@@ -97,7 +99,7 @@ fn operand_place(operator: Operator) -> Place
 
 /// What is due behind the name of a condition.
 fn condition_place(name: &[u8]) -> Place
-    ensures { result ≡ condition_place name.now }
+    ensures { place_view result ≡ condition_place name.now }
 {
     let two_texts = spells(b"IDN", name)
         || spells(b"DIF", name)
@@ -127,7 +129,7 @@ fn condition_place(name: &[u8]) -> Place
 /// What is due after a token of a condition's argument.
 fn argument_after(last: bool, begun: bool, depth: u32, kind: TokenKind) -> Place
     requires { depth < 4096 }
-    ensures { result ≡ argument_after last begun depth kind }
+    ensures { place_view result ≡ argument_after last begun depth kind }
 {
     let depth = match kind {
         TokenKind::Mark(b',') if depth == 0 => {
@@ -154,8 +156,8 @@ fn argument_after(last: bool, begun: bool, depth: u32, kind: TokenKind) -> Place
 
 /// What is due after a token of the operands.
 fn operand_after(place: Place, kind: TokenKind, text: &[u8]) -> Place
-    requires { open_brackets place < 4096 }
-    ensures { result ≡ operand_after place kind text.now }
+    requires { open_brackets (place_view place) < 4096 }
+    ensures { place_view result ≡ operand_after (place_view place) kind text.now }
 {
     match place {
         Place::Piece => match kind {
@@ -207,7 +209,7 @@ fn is_size_letter(name: &[u8]) -> bool
 impl Context {
     /// The start of a line.
     pub(crate) fn line_start() -> Context
-        ensures { result ≡ line_start }
+        ensures { context_view result ≡ line_start }
     {
         Context {
             place: Place::Statement,
@@ -215,10 +217,20 @@ impl Context {
         }
     }
 
+    /// The start of a text that is no statement.
+    pub(crate) fn text_start() -> Context
+        ensures { context_view result ≡ text_start }
+    {
+        Context {
+            place: Place::Operands,
+            before: Before::Other,
+        }
+    }
+
     /// The context after a token.
     pub(crate) fn after(self, kind: TokenKind, text: &[u8]) -> Context
-        requires { open_brackets self.place < 4096 }
-        ensures { result ≡ context_after self kind text.now }
+        requires { open_brackets (place_view self.place) < 4096 }
+        ensures { context_view result ≡ context_after (context_view self) kind text.now }
     {
         Context {
             place: self.place_after(kind, text),
@@ -227,8 +239,8 @@ impl Context {
     }
 
     fn place_after(self, kind: TokenKind, text: &[u8]) -> Place
-        requires { open_brackets self.place < 4096 }
-        ensures { result ≡ place_after self kind text.now }
+        requires { open_brackets (place_view self.place) < 4096 }
+        ensures { place_view result ≡ place_after (context_view self) kind text.now }
     {
         match (self.place, kind) {
             (Place::Statement, TokenKind::Name) => Place::FirstName(operator_of(text)),
@@ -244,7 +256,7 @@ impl Context {
     }
 
     fn before_after(self, kind: TokenKind, text: &[u8]) -> Before
-        ensures { result ≡ before_after self kind text.now }
+        ensures { before_view result ≡ before_after (context_view self) kind text.now }
     {
         match kind {
             TokenKind::Name if self.before == Before::Caret => {
@@ -266,7 +278,7 @@ impl Context {
 
     /// The context after a blank.
     pub(crate) fn after_blank(self) -> Context
-        ensures { result ≡ context_after_blank self }
+        ensures { context_view result ≡ context_after_blank (context_view self) }
     {
         let place = match self.place {
             Place::Argument {
@@ -285,7 +297,7 @@ impl Context {
 
     /// Whether a quoted text begins with this byte.
     pub(crate) fn text_due(self, byte: u8) -> bool
-        ensures { result ≡ text_due self byte }
+        ensures { result ≡ text_due (context_view self) byte }
     {
         let due = match self.place {
             Place::Piece => true,

@@ -1,11 +1,14 @@
 // The value of an expression.
 
-ghost use Rattle.std.specs.Prelude.{◌≡◌, ◌≤◌, ◌<◌, ◌+◌, ◌^◌, All, Some, None, Ok, true, IfSome, slice_get, length, take};
+ghost use Rattle.std.specs.Prelude.{◌≡◌, ◌≤◌, ◌<◌, ◌+◌, ◌^◌, All, Some, None, Ok, true, IfSome, slice_get, length, take, option_map};
+ghost use Rattle.vax_lex.specs.Views.{operation_view};
 ghost use Rattle.std.specs.Bool.{OnTrue};
 ghost use Rattle.std.specs.Int.{cast_signed, w64};
 ghost use Rattle.vax_lex.specs.Characters.{canonical_name};
 ghost use Rattle.vax_lex.specs.Tokens.{IsTokenOf, token_text};
 ghost use Rattle.vax_lex.specs.Grammar.{Evaluates, characters_in, Expression, spelling, value_of, symbols_of, with_bit, mask_outcome, is_that_mark, operator_in, operator_of};
+ghost use Rattle.vax_lex.specs.KeptNames.{kept_name};
+ghost use Rattle.vax_lex.specs.Expressions.{value_at};
 ghost use Rattle.vax_lex.specs.Statements.{is_mark};
 ghost use Rattle.vax_lex.specs.Reading.{ReadsMask, ReadsQuoted, ReadsTerm, ReadsExpression, ReadsNames};
 
@@ -39,7 +42,7 @@ fn token_at(tokens: &[Token], at: usize) -> Option<Token>
 
 /// The operator between two terms that a token is.
 fn operator_of(kind: TokenKind) -> Option<Binary>
-    ensures { result ≡ operator_of kind }
+    ensures { option_map operation_view result ≡ operator_of kind }
 {
     match kind {
         TokenKind::Mark(b'+') => Some(Binary::Add),
@@ -77,7 +80,7 @@ fn text_of(line: &[u8], token: Token) -> &[u8]
 fn name_of(line: &[u8], token: Token) -> CanonicalName
     requires within { IsTokenOf line.now token }
     requires kind { token.kind ≡ TokenKind.Name }
-    ensures { take result.length result.bytes ≡ canonical_name (token_text line.now token) }
+    ensures { kept_name result ≡ canonical_name (token_text line.now token) }
 {
     CanonicalName::of(text_of(line, token))
 }
@@ -107,7 +110,7 @@ fn is_mark_at(tokens: &[Token], at: usize, mark: u8) -> bool
 
 /// The operator that stands at a place, if there is one.
 fn operator_at(tokens: &[Token], at: usize) -> Option<Binary>
-    ensures value { result ≡ operator_in (slice_get tokens.now at) }
+    ensures value { option_map operation_view result ≡ operator_in (slice_get tokens.now at) }
     ensures room { IfSome result (λ o. at < length tokens.now) }
     ensures small { IfSome result (λ o. at + 2 < 2 ^ 64) }
 {
@@ -205,7 +208,7 @@ fn quoted_at(line: &[u8], tokens: &[Token], at: usize) -> Option<Read>
 fn operated<N: Names>(line: &[u8], tokens: &[Token], names: &N, at: usize) -> Option<Read>
     requires tokens { All (IsTokenOf line.now) tokens.now }
     requires caret { is_that_mark 94 (slice_get tokens.now at) ≡ true }
-    ensures { ReadsTerm (N.entries names.now) (symbols_of line.now tokens.now) at result }
+    ensures { ReadsTerm (N.meaning names.now) (symbols_of line.now tokens.now) at result }
 {
     let Some(token) = token_at(tokens, at + 1) else {
         return None;
@@ -236,7 +239,7 @@ fn operated<N: Names>(line: &[u8], tokens: &[Token], names: &N, at: usize) -> Op
 fn bracketed<N: Names>(line: &[u8], tokens: &[Token], names: &N, at: usize) -> Option<Read>
     requires tokens { All (IsTokenOf line.now) tokens.now }
     requires bracket { is_that_mark 60 (slice_get tokens.now at) ≡ true }
-    ensures { ReadsTerm (N.entries names.now) (symbols_of line.now tokens.now) at result }
+    ensures { ReadsTerm (N.meaning names.now) (symbols_of line.now tokens.now) at result }
 {
     let Some(read) = expression(line, tokens, names, at + 1) else {
         return None;
@@ -264,7 +267,7 @@ fn marked<N: Names>(line: &[u8], tokens: &[Token], names: &N, at: usize, mark: u
     requires tokens { All (IsTokenOf line.now) tokens.now }
     requires mark { is_that_mark mark (slice_get tokens.now at) ≡ true }
     requires room { at < length tokens.now }
-    ensures { ReadsTerm (N.entries names.now) (symbols_of line.now tokens.now) at result }
+    ensures { ReadsTerm (N.meaning names.now) (symbols_of line.now tokens.now) at result }
 {
     if mark == b'+' {
         term(line, tokens, names, at + 1)
@@ -289,7 +292,7 @@ fn marked<N: Names>(line: &[u8], tokens: &[Token], names: &N, at: usize, mark: u
 #[cycle(expression)]
 fn term<N: Names>(line: &[u8], tokens: &[Token], names: &N, at: usize) -> Option<Read>
     requires { All (IsTokenOf line.now) tokens.now }
-    ensures { ReadsTerm (N.entries names.now) (symbols_of line.now tokens.now) at result }
+    ensures { ReadsTerm (N.meaning names.now) (symbols_of line.now tokens.now) at result }
 {
     let Some(token) = token_at(tokens, at) else {
         return None;
@@ -315,7 +318,7 @@ fn term<N: Names>(line: &[u8], tokens: &[Token], names: &N, at: usize) -> Option
 #[cycle(expression)]
 fn expression<N: Names>(line: &[u8], tokens: &[Token], names: &N, at: usize) -> Option<Read>
     requires { All (IsTokenOf line.now) tokens.now }
-    ensures { ReadsExpression (N.entries names.now) (symbols_of line.now tokens.now) at result }
+    ensures { ReadsExpression (N.meaning names.now) (symbols_of line.now tokens.now) at result }
 {
     let Some(first) = term(line, tokens, names, at) else {
         return None;
@@ -347,9 +350,11 @@ pub fn evaluate<N: Names>(line: &[u8], tokens: &[Token], names: &N) -> Result<Va
     // The tokens are some of those that `scan` gives for the line.
     requires { All (IsTokenOf line.now) tokens.now }
     // The answer is the value of an expression that they spell, or they spell none.
-    ensures exact { Evaluates (N.entries names.now) (symbols_of line.now tokens.now) result }
+    ensures exact { Evaluates (N.meaning names.now) (symbols_of line.now tokens.now) result }
+    // It is a function of the symbols.
+    ensures value { result ≡ value_at (N.meaning names.now) (symbols_of line.now tokens.now) }
     // They spell no other expression.
-    ensures only { (e : Expression) → spelling e ≡ symbols_of line.now tokens.now → result ≡ value_of (N.entries names.now) e }
+    ensures only { (e : Expression) → spelling e ≡ symbols_of line.now tokens.now → result ≡ value_of (N.meaning names.now) e }
 {
     let Some(read) = expression(line, tokens, names, 0) else {
         return Err(ExprError::Form);

@@ -4,6 +4,8 @@ ghost use Rattle.std.specs.Prelude.{◌≡◌, ◌<◌, ◌+◌, ◌≤◌, ◌^
 ghost use Rattle.std.specs.List.{prefix_len};
 ghost use Rattle.vax_lex.specs.Characters.{is_digit, is_name_character, number_of, number_after};
 ghost use Rattle.vax_lex.specs.Tokens.{digit_run, numeral, based, caret, quoted, plain, head_of};
+ghost use Rattle.vax_lex.specs.Words.{word_of};
+ghost use Rattle.vax_lex.specs.Views.{context_view, head_view};
 
 use crate::character::{digit_value, is_blank, is_name_character, radix_of};
 use crate::context::{Before, Context};
@@ -18,8 +20,8 @@ pub(crate) enum Head {
     End,
     /// A token of this kind and of so many bytes.
     Begins(TokenKind, usize),
-    /// A number above 64 bits.
-    Wide,
+    /// A number above 64 bits, and of so many bytes.
+    Wide(usize),
     /// No token.
     Nothing,
 }
@@ -69,12 +71,12 @@ fn number_of(radix: u8, digits: &[u8]) -> Option<u64>
 #[tactic(auto, unfolding(crate::specs::Tokens::numeral))]
 fn numeral(bytes: &[u8]) -> Head
     requires { length bytes.now ≤ 1024 }
-    ensures { result ≡ numeral bytes.now }
+    ensures { head_view result ≡ numeral bytes.now }
 {
     let count = digit_run(10, bytes);
     let (digits, rest) = bytes.split_at(count);
     let Some(number) = number_of(10, digits) else {
-        return Head::Wide;
+        return Head::Wide(count);
     };
     match rest {
         [b'$', ..] if number >= 1 && number <= 65535 => Head::Begins(TokenKind::Name, count + 1),
@@ -86,7 +88,7 @@ fn numeral(bytes: &[u8]) -> Head
 #[tactic(auto, using(crate::proofs::Runs::no_digits), unfolding(crate::specs::Tokens::based))]
 fn based(radix: u8, bytes: &[u8]) -> Head
     requires { length bytes.now ≤ 1024 }
-    ensures { result ≡ based radix bytes.now }
+    ensures { head_view result ≡ based radix bytes.now }
 {
     let count = digit_run(radix, bytes);
     if count == 0 {
@@ -94,14 +96,14 @@ fn based(radix: u8, bytes: &[u8]) -> Head
     }
     match number_of(radix, &bytes[..count]) {
         Some(number) => Head::Begins(TokenKind::Number(number), count + 2),
-        None => Head::Wide,
+        None => Head::Wide(count + 2),
     }
 }
 
 /// What a `^` begins.
 fn caret(bytes: &[u8]) -> Head
     requires { length bytes.now ≤ 1024 }
-    ensures { result ≡ caret bytes.now }
+    ensures { head_view result ≡ caret bytes.now }
 {
     match bytes {
         [] => Head::Nothing,
@@ -124,7 +126,7 @@ fn position_of(wanted: u8, bytes: &[u8]) -> Option<usize>
 #[tactic(auto, unfolding(crate::specs::Tokens::quoted))]
 fn quoted(delimiter: u8, bytes: &[u8]) -> Head
     requires { length bytes.now ≤ 1024 }
-    ensures { result ≡ quoted delimiter bytes.now }
+    ensures { head_view result ≡ quoted delimiter bytes.now }
 {
     match position_of(delimiter, bytes) {
         Some(length) => Head::Begins(TokenKind::Text, length + 2),
@@ -136,7 +138,7 @@ fn quoted(delimiter: u8, bytes: &[u8]) -> Head
 #[tactic(auto, unfolding(crate::specs::Tokens::plain))]
 fn plain(bytes: &[u8]) -> Head
     requires { length bytes.now ≤ 1024 }
-    ensures { result ≡ plain bytes.now }
+    ensures { head_view result ≡ plain bytes.now }
 {
     let [first, rest @ ..] = bytes else {
         return Head::End;
@@ -163,7 +165,7 @@ fn plain(bytes: &[u8]) -> Head
 #[tactic(auto, unfolding(crate::specs::Tokens::head_of))]
 pub(crate) fn head_of(context: Context, bytes: &[u8]) -> Head
     requires { length bytes.now ≤ 1024 }
-    ensures { result ≡ head_of context bytes.now }
+    ensures { head_view result ≡ head_of (context_view context) bytes.now }
 {
     let Some(first) = bytes.first().copied() else {
         return Head::End;
@@ -172,6 +174,24 @@ pub(crate) fn head_of(context: Context, bytes: &[u8]) -> Head
         Head::Begins(TokenKind::Name, 1)
     } else if context.text_due(first) {
         quoted(first, &bytes[1..])
+    } else if context.before == Before::SizeLetter && first == b'^' {
+        Head::Begins(TokenKind::Mark(b'^'), 1)
+    } else {
+        plain(bytes)
+    }
+}
+
+/// What the bytes that are left of a text begin with where no quoted text begins anywhere.
+#[tactic(auto, unfolding(crate::specs::Words::word_of))]
+pub(crate) fn word_of(context: Context, bytes: &[u8]) -> Head
+    requires { length bytes.now ≤ 1024 }
+    ensures { head_view result ≡ word_of (context_view context) bytes.now }
+{
+    let Some(first) = bytes.first().copied() else {
+        return Head::End;
+    };
+    if context.before == Before::Caret {
+        Head::Begins(TokenKind::Name, 1)
     } else if context.before == Before::SizeLetter && first == b'^' {
         Head::Begins(TokenKind::Mark(b'^'), 1)
     } else {

@@ -15,8 +15,12 @@ mod name;
 mod tests;
 mod token;
 mod value;
+mod words;
 
+pub use character::{is_blank, is_name_character, spells};
 pub use expression::evaluate;
-pub use line::scan;
-pub use token::{LexError, Token, TokenKind};
+pub use line::{pieces, scan};
+pub use name::CanonicalName;
+pub use token::{LexError, Piece, PieceKind, Span, Token, TokenKind};
 pub use value::{ExprError, Names, Value};
+pub use words::names;

@@ -1,12 +1,92 @@
-// The tokens of a line.
+// The pieces and the tokens of a line.
 
-ghost use Rattle.std.specs.Prelude.{◌≡◌, ◌≤◌, length, All, AllPairs, IfOk};
-ghost use Rattle.vax_lex.specs.Tokens.{tokens_of, Answers, IsTokenOf, Precedes};
+ghost use Rattle.std.specs.Prelude.{◌≡◌, ◌≤◌, ◌+◌, ◌++◌, ◌∷◌, [], length, map, All, AllPairs, IfOk, OnOk};
+ghost use Rattle.vax_lex.specs.Tokens.{piece, pieces_of, tokens_in, tokens_of, Answers, IsPieceOf, IsTokenOf, PiecePrecedes, Precedes, Covers, piece_span, span_of};
 
 use crate::context::Context;
 use crate::head::{Head, head_of};
-use crate::token::{LexError, Token};
-use std::alloc::Global;
+use crate::token::{LexError, Piece, PieceKind, Token, TokenKind};
+use std::alloc::{AllocError, Global};
+
+/// Adds a piece of so many bytes.
+fn add(pieces: &mut Vec<Piece>, kind: PieceKind, at: usize, length: usize) -> Result<(), AllocError>
+    requires { at + length ≤ 1024 }
+    ensures { OnOk result (pieces.new.items ≡ pieces.old.items ++ piece kind at length ∷ []) }
+{
+    pieces.push(Piece {
+        kind,
+        start: at as u32,
+        end: (at + length) as u32,
+    })?;
+    Ok(())
+}
+
+/// The pieces of a line of at most 1,024 bytes, which has no line feed: its tokens, and what stands between them and is
+/// no token.
+///
+/// Blanks and the comment belong to no piece. A number above 64 bits is one piece, and so is a byte where no token
+/// begins, behind which the line goes on as behind a mark. So a line with a fault can be read for its other faults.
+pub fn pieces(alloc: Global, line: &[u8]) -> Result<Vec<Piece>, AllocError>
+    requires { length line.now ≤ 1024 }
+    // The pieces are those of the definition.
+    ensures exact { IfOk result (λ v. v.items ≡ pieces_of line.now) }
+    // Each piece lies within the line.
+    ensures within { IfOk result (λ v. All (IsPieceOf line.now) v.items) }
+    // No piece begins before one before it ends.
+    ensures in_order { IfOk result (λ v. AllPairs PiecePrecedes v.items) }
+    // The pieces cover all but blanks and the comment.
+    ensures covers { IfOk result (λ v. Covers line.now (map piece_span v.items)) }
+{
+    let mut pieces = Vec::new(alloc);
+    let mut context = Context::line_start();
+    let mut at: usize = 0;
+    loop {
+        let rest = &line[at..];
+        match head_of(context, rest) {
+            Head::End => return Ok(pieces),
+            Head::Blank => {
+                context = context.after_blank();
+                at += 1;
+            }
+            Head::Begins(kind, length) => {
+                add(&mut pieces, PieceKind::Token(kind), at, length)?;
+                context = context.after(kind, &rest[..length]);
+                at += length;
+            }
+            Head::Wide(length) => {
+                add(&mut pieces, PieceKind::Wide, at, length)?;
+                context = context.after(TokenKind::Number(0), &rest[..length]);
+                at += length;
+            }
+            Head::Nothing => {
+                add(&mut pieces, PieceKind::Bad, at, 1)?;
+                context = context.after(TokenKind::Mark(rest[0]), &rest[..1]);
+                at += 1;
+            }
+        }
+    }
+}
+
+/// The tokens that pieces are, or the first piece that is none.
+fn tokens_in(alloc: Global, pieces: &[Piece]) -> Result<Vec<Token>, LexError>
+    ensures { Answers result (tokens_in pieces.now) }
+{
+    let mut tokens = Vec::new(alloc);
+    for piece in pieces {
+        let kind = match piece.kind {
+            PieceKind::Token(kind) => kind,
+            PieceKind::Wide => return Err(LexError::Wide(piece.start)),
+            PieceKind::Bad => return Err(LexError::Token(piece.start)),
+        };
+        let token = Token {
+            kind,
+            start: piece.start,
+            end: piece.end,
+        };
+        tokens.push(token).map_err(|_| LexError::NoMemory)?;
+    }
+    Ok(tokens)
+}
 
 /// The tokens of a line of at most 1,024 bytes, which has no line feed.
 ///
@@ -22,30 +102,11 @@ pub fn scan(alloc: Global, line: &[u8]) -> Result<Vec<Token>, LexError>
     ensures within { IfOk result (λ v. All (IsTokenOf line.now) v.items) }
     // No token begins before one before it ends.
     ensures in_order { IfOk result (λ v. AllPairs Precedes v.items) }
+    // The tokens cover all but blanks and the comment.
+    ensures covers { IfOk result (λ v. Covers line.now (map span_of v.items)) }
 {
-    let mut tokens = Vec::new(alloc);
-    let mut context = Context::line_start();
-    let mut at: usize = 0;
-    loop {
-        let rest = &line[at..];
-        match head_of(context, rest) {
-            Head::End => return Ok(tokens),
-            Head::Blank => {
-                context = context.after_blank();
-                at += 1;
-            }
-            Head::Begins(kind, length) => {
-                let token = Token {
-                    kind,
-                    start: at as u32,
-                    end: (at + length) as u32,
-                };
-                tokens.push(token).map_err(|_| LexError::NoMemory)?;
-                context = context.after(kind, &rest[..length]);
-                at += length;
-            }
-            Head::Wide => return Err(LexError::Wide(at as u32)),
-            Head::Nothing => return Err(LexError::Token(at as u32)),
-        }
-    }
+    let Ok(pieces) = pieces(alloc, line) else {
+        return Err(LexError::NoMemory);
+    };
+    tokens_in(alloc, &pieces)
 }

@@ -7,7 +7,7 @@ ghost use Rattle.vax_lex.specs.Characters.{canonical_name, is_zero};
 
 /// A name as it is kept: in capitals, and a local label without zeros before its number.
 #[derive(Drop)]
-pub(crate) struct CanonicalName {
+pub struct CanonicalName {
     bytes: [u8; 31],
     length: usize,
     ghost in_range: { length ≤ 31 },
@@ -27,6 +27,8 @@ fn zeros_before(text: &[u8]) -> usize
 }
 
 impl CanonicalName {
+    ghost use Rattle.vax_lex.specs.KeptNames.{kept_name};
+
     /// These characters in capitals.
     #[tactic(auto, using(crate::proofs::Canonical::capital_more, crate::proofs::Canonical::capital_all))]
     fn capitals(text: &[u8]) -> CanonicalName
@@ -44,16 +46,16 @@ impl CanonicalName {
     }
 
     /// How the name of this text is kept.
-    pub(crate) fn of(text: &[u8]) -> CanonicalName
+    pub fn of(text: &[u8]) -> CanonicalName
         requires { length (canonical_name text.now) ≤ 31 }
-        ensures { take result.length result.bytes ≡ canonical_name text.now }
+        ensures { kept_name result ≡ canonical_name text.now }
     {
         CanonicalName::capitals(&text[zeros_before(text)..])
     }
 
     /// Its characters.
-    pub(crate) fn as_bytes(&self) -> &[u8]
-        ensures { result.now ≡ take self.now.length self.now.bytes }
+    pub fn as_bytes(&self) -> &[u8]
+        ensures { result.now ≡ kept_name self.now }
     {
         &self.bytes[..self.length]
     }

@@ -1,11 +1,13 @@
 // Tables of lines and expressions, with what the rules give for them.
 
-ghost use Rattle.std.specs.Prelude.{ℕ, ℤ, pos, negsuc, List, [], ◌∷◌, codes};
-ghost use Rattle.vax_lex.specs.declared.value.Value.{Value};
+ghost use Rattle.std.specs.Prelude.{Some, None, pos, negsuc, codes, if◌then◌else◌};
+ghost use Rattle.std.specs.Str.{bytes_eq};
 ghost use Rattle.vax_lex.specs.declared.value.Value.TheVariants.{Absolute, Section, External};
 
 use crate::character::is_word;
-use crate::{ExprError, LexError, Names, TokenKind, Value, evaluate, scan};
+use crate::{
+    ExprError, LexError, Names, PieceKind, Span, TokenKind, Value, evaluate, names, pieces, scan,
+};
 use std::alloc::Global;
 use std::process::Abort;
 use std::test::Fail;
@@ -14,9 +16,17 @@ use std::test::Fail;
 struct Symbols;
 
 impl Names for Symbols {
-    ghost entries = { λ _. (codes "A", Absolute (pos 5)) ∷ (codes "MIN", Absolute (negsuc 9223372036854775807)) ∷ (codes ".", Absolute (pos 512))
-        ∷ (codes "L", Section 1 (pos 16)) ∷ (codes "M2", Section 1 (pos 40)) ∷ (codes "10$", Section 1 (pos 20)) ∷ (codes "K", Section 2 (pos 8))
-        ∷ (codes "E", External 0 (pos 0)) ∷ (codes "F", External 1 (pos 4)) ∷ [] };
+    ghost meaning = { λ _ name.
+        if bytes_eq name (codes "A") then Some (Absolute (pos 5))
+        else (if bytes_eq name (codes "MIN") then Some (Absolute (negsuc 9223372036854775807))
+        else (if bytes_eq name (codes ".") then Some (Absolute (pos 512))
+        else (if bytes_eq name (codes "L") then Some (Section 1 (pos 16))
+        else (if bytes_eq name (codes "M2") then Some (Section 1 (pos 40))
+        else (if bytes_eq name (codes "10$") then Some (Section 1 (pos 20))
+        else (if bytes_eq name (codes "K") then Some (Section 2 (pos 8))
+        else (if bytes_eq name (codes "E") then Some (External 0 (pos 0))
+        else (if bytes_eq name (codes "F") then Some (External 1 (pos 4))
+        else None)))))))) };
 
     fn lookup(&self, name: &[u8]) -> Option<Value> {
         if is_word(name, b"A") {
@@ -487,6 +497,34 @@ fn expressions_are_refused(rt: HostRuntime) -> Result<(), Fail> {
     for line in RANGE.iter() {
         let found = value(&rt, rt.alloc(), line)?;
         assert!(rt; found == Err(ExprError::Range), "{line}: {found:?}");
+    }
+    Ok(())
+}
+
+#[test]
+fn a_faulty_line_has_its_pieces(rt: HostRuntime) -> Result<(), Fail> {
+    let found = pieces(rt.alloc(), b"5 99999999999999999999,^Q ; ^R")?;
+    let kinds = [
+        PieceKind::Token(TokenKind::Number(5)),
+        PieceKind::Wide,
+        PieceKind::Token(TokenKind::Mark(b',')),
+        PieceKind::Bad,
+        PieceKind::Token(TokenKind::Name),
+    ];
+    assert_eq!(rt; found.len(), kinds.len());
+    for (piece, kind) in found.iter().zip(kinds) {
+        assert!(rt; piece.kind == kind, "{piece:?}");
+    }
+    Ok(())
+}
+
+#[test]
+fn names_are_found_everywhere(rt: HostRuntime) -> Result<(), Fail> {
+    let found = names(rt.alloc(), b"A5 ^XA B^XA 5C /D/ ;E")?;
+    let spans = [(0, 2), (7, 8), (9, 11), (13, 14), (16, 17), (20, 21)];
+    assert_eq!(rt; found.len(), spans.len());
+    for (span, (start, end)) in found.iter().zip(spans) {
+        assert!(rt; *span == Span { start, end }, "{span:?}");
     }
     Ok(())
 }

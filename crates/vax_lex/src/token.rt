@@ -21,6 +21,31 @@ pub struct Token {
     pub end: u32,
 }
 
+/// What a piece of a line is.
+#[derive(Clone, Copy, Debug, PartialEq, Eq)]
+pub enum PieceKind {
+    Token(TokenKind),
+    /// A number above 64 bits.
+    Wide,
+    /// A byte where no token begins.
+    Bad,
+}
+
+/// A piece of a line, and the bytes that it takes: from `start` up to `end`, which is past its last.
+#[derive(Clone, Copy, Debug, PartialEq, Eq)]
+pub struct Piece {
+    pub kind: PieceKind,
+    pub start: u32,
+    pub end: u32,
+}
+
+/// Some bytes of a text: from `start` up to `end`, which is past the last.
+#[derive(Clone, Copy, Debug, PartialEq, Eq)]
+pub struct Span {
+    pub start: u32,
+    pub end: u32,
+}
+
 /// Why a line has no tokens.
 #[derive(Clone, Copy, Debug, PartialEq, Eq, thiserror::Error)]
 pub enum LexError {

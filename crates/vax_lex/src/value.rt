@@ -1,7 +1,8 @@
 // Values, and what the operators of expressions make of them.
 
-ghost use Rattle.std.specs.Prelude.{◌≡◌, ℕ, ℤ, List, ◌+◌, ◌<◌, ◌≤◌, length, IfSome};
-ghost use Rattle.vax_lex.specs.Values.{value_of_name, quotient, shifted, arithmetic, apply, first_error, refuses_left, refuses_right, combine, negated, complemented, named, little_endian, characters_value, mask_bit};
+ghost use Rattle.std.specs.Prelude.{◌≡◌, ℕ, ℤ, List, Option, ◌+◌, ◌<◌, ◌≤◌, length, IfSome};
+ghost use Rattle.vax_lex.specs.Views.{operation_view};
+ghost use Rattle.vax_lex.specs.Values.{quotient, shifted, arithmetic, apply, first_error, refuses_left, refuses_right, combine, negated, complemented, named, little_endian, characters_value, mask_bit};
 ghost use Rattle.vax_lex.specs.declared.value.Value.{Value};
 
 use crate::character::is_word;
@@ -33,13 +34,13 @@ pub enum ExprError {
 
 /// The names that an expression may use, and their values.
 pub trait Names {
-    /// A finite map from names to values, by its entries. A name stands in it as it is kept: in capitals, and a
-    /// local label without zeros before its number. Of two entries with one name the first counts.
-    ghost entries: { Self → List (List ℕ × Value) };
+    /// The values of names, which are given as they are kept: in capitals, and a local label without zeros before its
+    /// number.
+    ghost meaning: { Self → (List ℕ → Option Value) };
 
     /// The value of a name.
     fn lookup(&self, name: &[u8]) -> Option<Value>
-        ensures { result ≡ value_of_name (entries self.now) name.now };
+        ensures { result ≡ meaning self.now name.now };
 }
 
 /// The value so far, or why there is none.
@@ -82,7 +83,7 @@ fn quotient(left: i64, right: i64) -> Outcome
 
 /// An operator at two numbers.
 fn arithmetic(operator: Binary, left: i64, right: i64) -> Outcome
-    ensures { result ≡ arithmetic operator left right }
+    ensures { result ≡ arithmetic (operation_view operator) left right }
 {
     let value = match operator {
         Binary::Add => left.wrapping_add(right),
@@ -99,7 +100,7 @@ fn arithmetic(operator: Binary, left: i64, right: i64) -> Outcome
 
 /// An operator at two values.
 fn apply(operator: Binary, left: Value, right: Value) -> Outcome
-    ensures { result ≡ apply operator left right }
+    ensures { result ≡ apply (operation_view operator) left right }
 {
     match (operator, left, right) {
         (_, Value::Absolute(x), Value::Absolute(y)) => arithmetic(operator, x, y),
@@ -157,7 +158,7 @@ fn first_error(left: ExprError, right: ExprError) -> ExprError
 
 /// Whether the operator has no value with this left operand, whatever the right one is.
 fn refuses_left(operator: Binary, left: Value) -> bool
-    ensures { result ≡ refuses_left operator left }
+    ensures { result ≡ refuses_left (operation_view operator) left }
 {
     match (operator, left) {
         (Binary::Add | Binary::Subtract, _) | (_, Value::Absolute(_)) => false,
@@ -167,7 +168,7 @@ fn refuses_left(operator: Binary, left: Value) -> bool
 
 /// Whether the operator has no value with this right operand, whatever the left one is.
 fn refuses_right(operator: Binary, right: Value) -> bool
-    ensures { result ≡ refuses_right operator right }
+    ensures { result ≡ refuses_right (operation_view operator) right }
 {
     match (operator, right) {
         (Binary::Subtract, Value::External { .. }) => true,
@@ -178,7 +179,7 @@ fn refuses_right(operator: Binary, right: Value) -> bool
 
 /// An operator at two terms.
 pub(crate) fn combine(operator: Binary, left: Outcome, right: Outcome) -> Outcome
-    ensures { result ≡ combine operator left right }
+    ensures { result ≡ combine (operation_view operator) left right }
 {
     match (left, right) {
         (Ok(x), Ok(y)) => apply(operator, x, y),
@@ -214,7 +215,7 @@ pub(crate) fn complemented(term: Outcome) -> Outcome
 
 /// The value of a name.
 pub(crate) fn named<N: Names>(names: &N, name: &[u8]) -> Outcome
-    ensures { result ≡ named (N.entries names.now) name.now }
+    ensures { result ≡ named (N.meaning names.now) name.now }
 {
     names.lookup(name).ok_or(ExprError::Unknown)
 }

@@ -13,7 +13,7 @@ mod specifier;
 mod tests;
 
 pub use crate::access::{next_address, next_modified, next_place, next_target, next_value, store};
-pub use crate::memory::{check, fetch, read, write};
+pub use crate::memory::{check, fetch, is_allowed, read, read_in, write, write_in};
 pub use crate::results::{answer, push, set_codes, settle};
 pub use crate::specifier::next;
 pub use vax_flat::{Cut, Flow, Operand};

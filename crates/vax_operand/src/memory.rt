@@ -1,6 +1,6 @@
 //! Single accesses of an instruction, in the current access mode.
-ghost use Rattle.std.specs.Prelude.{◌≡◌, ℕ, ◌+◌, ◌*◌, ◌%◌, ◌^◌, ◌<◌, ◌≤◌, IfOk};
-ghost use Rattle.vax_flat.specs.Operand.{read_at, write_at, check_at, fetched};
+ghost use Rattle.std.specs.Prelude.{◌≡◌, ℕ, ◌+◌, ◌*◌, ◌%◌, ◌^◌, ◌<◌, ◌≤◌, IfOk, Ok};
+ghost use Rattle.vax_flat.specs.Operand.{read_at, write_at, check_at, read_in, write_in, asked, fetched};
 ghost use Rattle.vax_flat.specs.OverPort.{Follows, Performs};
 ghost use Rattle.vax_undo.specs.Transaction.{present, room, Keeps, told};
 
@@ -58,6 +58,59 @@ pub fn check<P: Port>(txn: &mut Txn<P>, addr: u32, n: u32, access: Access) -> Re
         Ok(()) => Ok(()),
         Err(violation) => Err(txn.cut(Cut::Event(Exception::Access(violation)))),
     }
+}
+
+/// The number that `n` bytes are, in this access mode.
+#[inline]
+#[tactic(auto, unfolding(vax_flat::specs::OverPort::over_port, vax_flat::specs::Operand::read_in))]
+pub fn read_in<P: Port>(txn: &mut Txn<P>, addr: u32, n: u32, mode: u8) -> Result<u64, CutShort>
+    requires some { 1 ≤ n }
+    requires few { n ≤ 8 }
+    requires of_mode { mode ≤ 3 }
+    ensures exact { Follows (read_in addr n mode (present P.view txn.old).state) (present P.view txn.old) (told txn.new result) (present P.view txn.new) }
+    ensures same { present P.view txn.new ≡ present P.view txn.old }
+    ensures fits { IfOk result (λ x. x < 256 ^ n) }
+    ensures keeps { Keeps P.view P.since 0 txn.old txn.new }
+{
+    match txn.read(addr, n, mode) {
+        Ok(value) => Ok(value),
+        Err(stop) => Err(txn.cut(Cut::from(stop))),
+    }
+}
+
+/// Writes the `n` bytes of a number, in this access mode.
+#[inline]
+#[tactic(auto, unfolding(vax_flat::specs::OverPort::over_port, vax_flat::specs::Operand::write_in))]
+pub fn write_in<P: Port>(
+    txn: &mut Txn<P>,
+    addr: u32,
+    n: u32,
+    value: u64,
+    mode: u8,
+) -> Result<(), CutShort>
+    requires some { 1 ≤ n }
+    requires few { n ≤ 8 }
+    requires of_mode { mode ≤ 3 }
+    requires fits { value < 256 ^ n }
+    requires room { 1 ≤ room txn.old }
+    ensures exact { Performs (write_in addr n value mode (present P.view txn.old).state) (present P.view txn.old) (told txn.new result) (present P.view txn.new) }
+    ensures keeps { Keeps P.view P.since 1 txn.old txn.new }
+{
+    match txn.write(addr, n, value, mode) {
+        Ok(()) => Ok(()),
+        Err(stop) => Err(txn.cut(Cut::from(stop))),
+    }
+}
+
+/// Whether this access mode may use `n` bytes so, resident or not.
+#[inline]
+#[tactic(auto, unfolding(vax_flat::specs::OverPort::over_port, vax_flat::specs::Operand::asked))]
+pub fn is_allowed<P: Port>(txn: &Txn<P>, addr: u32, n: u32, mode: u8, access: Access) -> bool
+    requires short { n ≤ 65536 }
+    requires of_mode { mode ≤ 3 }
+    ensures { Follows (asked addr n mode access (present P.view txn.now).state) (present P.view txn.now) (Ok result) (present P.view txn.now) }
+{
+    txn.check(addr, n, mode, access).is_ok()
 }
 
 /// The number that the next `n` bytes of the instruction are. PC moves past them.

@@ -125,4 +125,4 @@ pub reach_at : (areas : List Area) (i : ℕ) (area : Area) → IsSpace areas →
 reach_at areas i area space below is =
     let fits = fits_at areas i area space below is in
     let end = end_at areas i area below is in
-    record { more = rw end (reach_more _ area fits); end = rw end (reach_end _ area fits); }
+    record { more = rw end (reach_more _ area fits); end = rw end (reach_end _ area fits) }

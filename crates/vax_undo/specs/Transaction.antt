@@ -1,5 +1,5 @@
 -- What a transaction means, and how its log is undone.
-use Rattle.std.specs.Prelude.{◌≡◌, ℕ, ◌+◌, ◌-◌, ◌^◌, ◌<◌, ◌≤◌, Bool, true, Option, Some, None, Result, Ok, Err, List, [], ◌∷◌, length, slice_get}
+use Rattle.std.specs.Prelude.{◌≡◌, ℕ, ◌+◌, ◌-◌, ◌^◌, ◌<◌, ◌≤◌, Bool, true, nat_lt, if◌then◌else◌, Option, Some, None, Result, Ok, Err, List, [], ◌∷◌, length}
 use Rattle.vax_word.specs.declared.Core.{Core}
 use Rattle.vax_space.specs.declared.Access.TheVariants.{Write}
 use Rattle.vax_space.specs.declared.Area.{Area}
@@ -7,7 +7,7 @@ use Rattle.vax_space.specs.Reference.{violation}
 use Rattle.vax_flat.specs.declared.Cut.{Cut}
 use Rattle.vax_flat.specs.declared.Flow.{Flow}
 use Rattle.vax_flat.specs.declared.Flow.TheVariants as flow
-use Rattle.vax_flat.specs.State.{State, with_register, with_psl, with_stack, with_requests, with_timer, with_clock, with_taken, with_sent}
+use Rattle.vax_flat.specs.State.{State, with_register, with_psl, with_stack, with_requests, with_timer, with_clock, with_taken, with_sent, next_input}
 use Rattle.vax_flat.specs.Port.{View, first_absent, is_in, unmarked, with_number_back}
 use Rattle.vax_flat.specs.OverPort.{Present}
 use Rattle.vax_undo.specs.declared.entry.Entry.{Entry}
@@ -34,7 +34,7 @@ bare p = with_view p (unmarked p.view)
 
 -- the next byte of the console's input, and the state once it is taken
 abbrev pub next_byte : State → Option ℕ
-next_byte s = slice_get s.input s.taken
+next_byte s = next_input s
 
 abbrev pub if_some : {A B : Type 0} → Option A → B → B → B
 if_some None x y = x
@@ -42,6 +42,10 @@ if_some (Some a) x y = y
 
 abbrev pub after_take : State → State
 after_take s = if_some (next_byte s) s (with_taken s (s.taken + 1))
+
+-- what was sent to the console, from a number that is 256 where nothing was
+abbrev pub sent_of : ℕ → Option ℕ
+sent_of number = if nat_lt number 256 then Some number else None
 
 -- the old value of an entry is put back
 abbrev pub put_back : Kept → Entry → Present → Present
@@ -51,7 +55,7 @@ put_back Requests e p = with_state p (with_requests p.state e.old)
 put_back Timer e p = with_state p (with_timer p.state e.old)
 put_back Clock e p = with_state p (with_clock p.state e.old)
 put_back Taken e p = with_state p (with_taken p.state e.old)
-put_back Sent e p = with_state p (with_sent p.state None)
+put_back Sent e p = with_state p (with_sent p.state (sent_of e.old))
 put_back Bytes e p = with_view p (with_number_back p.view e.addr e.number e.old)
 
 abbrev pub undo : Entry → Present → Present

@@ -1,5 +1,5 @@
 //! Transactions.
-ghost use Rattle.std.specs.Prelude.{◌≡◌, ℕ, ◌+◌, ◌%◌, ◌^◌, ◌<◌, ◌≤◌, None, Some, [], length, slice_index, IfOk, OnOk, OnErr};
+ghost use Rattle.std.specs.Prelude.{◌≡◌, ℕ, ◌+◌, ◌%◌, ◌^◌, ◌<◌, ◌≤◌, None, Some, [], is_some, nat_lt, ◌-◌, if◌then◌else◌, length, slice_get, slice_index, IfOk, OnOk, OnErr};
 ghost use Rattle.vax_undo.specs.Answers.{err_of};
 
 use crate::entry::{Entry, Kept};
@@ -35,6 +35,7 @@ pub(crate) struct Origin {
 }
 
 ghost use Rattle.vax_undo.specs.declared.txn.Origin.{Origin};
+ghost use Rattle.vax_undo.specs.Transaction.{sent_of};
 
 #[inline(always)]
 fn origin_of(core: &Core) -> Origin
@@ -64,6 +65,36 @@ fn stack_of(core: &Core, i: u8) -> u32
     core.stacks[i as usize]
 }
 
+/// What was sent to the console as a number: 256 stands for nothing.
+#[inline]
+fn sent_number(sent: Option<u8>) -> u64
+    ensures { sent_of result ≡ sent }
+{
+    match sent {
+        Some(byte) => byte as u64,
+        None => 256,
+    }
+}
+
+#[inline]
+fn sent_of(number: u64) -> Option<u8>
+    ensures { result ≡ sent_of number }
+{
+    if number < 256 {
+        Some(number as u8)
+    } else {
+        None
+    }
+}
+
+/// Whether a byte of the input is left, behind a shared reference.
+#[inline]
+fn input_is_left(term: &Term) -> bool
+    ensures { result ≡ is_some (if nat_lt term.now.place (2 ^ 32 - 1) then slice_get term.now.input.items term.now.place else None) }
+{
+    term.place < u32::MAX && (term.place as usize) < term.input.len()
+}
+
 /// Takes a log back to empty. It has one or two entries as a rule, so nothing is filled.
 #[inline(always)]
 fn forget(log: &mut ArrayVec<Entry, 96>)
@@ -90,7 +121,7 @@ fn put_back<P: Port>(entry: Entry, core: &mut Core, term: &mut Term, port: &mut 
         Kept::Timer => core.iccs = entry.old as u8,
         Kept::Clock => core.clock = entry.old as u16,
         Kept::Taken => term.place = entry.old as u32,
-        Kept::Sent => term.out = None,
+        Kept::Sent => term.out = sent_of(entry.old),
         Kept::Bytes => {
             let _ = port.write(entry.addr, entry.number as u32, entry.old, entry.mode);
         }
@@ -273,13 +304,12 @@ impl<'a, P: Port> Txn<'a, P> {
     #[inline]
     pub fn take(&mut self) -> Option<u8>
         requires room { 1 ≤ room self.old }
-        requires short { length (present P.view self.old).state.input < 2 ^ 32 }
         ensures answer { result ≡ next_byte (present P.view self.old).state }
         ensures present { present P.view self.new ≡ with_state (present P.view self.old) (after_take (present P.view self.old).state) }
         ensures keeps { Keeps P.view P.since 1 self.old self.new }
     {
         let place = self.term.place;
-        if place as usize >= self.term.input.len() {
+        if place == u32::MAX || place as usize >= self.term.input.len() {
             return None;
         }
         let byte = self.term.input[place as usize];
@@ -288,15 +318,23 @@ impl<'a, P: Port> Txn<'a, P> {
         Some(byte)
     }
 
-    /// Sends a byte to the console, where none was sent since the transaction began.
+    /// Whether a byte of the console's input is left.
+    #[inline]
+    pub fn has_input(&self) -> bool
+        ensures { result ≡ is_some (next_byte (present P.view self.now).state) }
+    {
+        input_is_left(self.term)
+    }
+
+    /// Sends a byte to the console, in place of one that was sent since the transaction began.
     #[inline]
     pub fn emit(&mut self, byte: u8)
         requires room { 1 ≤ room self.old }
-        requires nothing_yet { (present P.view self.old).state.sent ≡ None }
         ensures present { present P.view self.new ≡ with_state (present P.view self.old) (with_sent (present P.view self.old).state (Some byte)) }
         ensures keeps { Keeps P.view P.since 1 self.old self.new }
     {
-        self.log.push(Entry::of(Kept::Sent, 0, 0));
+        let old = sent_number(self.term.out);
+        self.log.push(Entry::of(Kept::Sent, 0, old));
         self.term.out = Some(byte);
     }
 

@@ -11,4 +11,4 @@ returns-clause-tried g c =
     tried_at (whole_delivery c.args.exception) old c.conclude.result (record { state = _; view = _ }) _ _ (search rules) (search rules)
     (c.conclude.ensures.tried old (delivered c.args.exception)
     (subst (λ (p : Present). Follows ((delivered c.args.exception) p.state) p (told c.work_delivery-done.new.txn c.work_delivery-done.result) (present g.P.Port.view c.work_delivery-done.new.txn)) c.begin-txn.ensures.present c.work_delivery-done.ensures.exact)
-    (undone_unless g.P.Port.view g.P.Port.since 2 c.work_delivery-done.result c.begin-txn.result c.work_delivery-done.new.txn c.work_delivery-done.ensures.keeps old (c.begin-txn.ensures.undone ∙ ap bare c.begin-txn.ensures.present)))
+    (undone_unless g.P.Port.view g.P.Port.since 18 c.work_delivery-done.result c.begin-txn.result c.work_delivery-done.new.txn c.work_delivery-done.ensures.keeps old (c.begin-txn.ensures.undone ∙ ap bare c.begin-txn.ensures.present)))

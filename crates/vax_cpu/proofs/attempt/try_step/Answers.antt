@@ -11,4 +11,4 @@ returns-clause-tried g c =
     tried_at whole_step old c.conclude.result (record { state = _; view = _ }) _ _ (search rules) (search rules)
     (c.conclude.ensures.tried old whole
     (subst (λ (p : Present). Follows (whole p.state) p (told c.work-done.new.txn c.work-done.result) (present g.P.Port.view c.work-done.new.txn)) c.begin-txn.ensures.present c.work-done.ensures.exact)
-    (undone_unless g.P.Port.view g.P.Port.since 30 c.work-done.result c.begin-txn.result c.work-done.new.txn c.work-done.ensures.keeps old (c.begin-txn.ensures.undone ∙ ap bare c.begin-txn.ensures.present)))
+    (undone_unless g.P.Port.view g.P.Port.since 46 c.work-done.result c.begin-txn.result c.work-done.new.txn c.work-done.ensures.keeps old (c.begin-txn.ensures.undone ∙ ap bare c.begin-txn.ensures.present)))

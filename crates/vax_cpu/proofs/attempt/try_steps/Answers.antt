@@ -51,7 +51,7 @@ returns-clause-ran g c =
       c.loop-steps.invariant.ran,
       tried_at whole_step now c.conclude-last-2.result (record { state = _; view = _ }) _ _ (search rules) (search rules)
           (c.conclude-last-2.ensures.tried now whole c.work-done-2.ensures.exact
-          (undone_unless g.P.Port.view g.P.Port.since 30 c.work-done-2.result c.loop-steps.txn c.work-done-2.new.txn c.work-done-2.ensures.keeps now c.loop-steps.invariant.undone)),
+          (undone_unless g.P.Port.view g.P.Port.since 46 c.work-done-2.result c.loop-steps.txn c.work-done-2.new.txn c.work-done-2.ensures.keeps now c.loop-steps.invariant.undone)),
     )
 
 pub returns-then-not-is_done-clause-ran : goal.returns-then-not-is_done-clause-ran
@@ -61,5 +61,5 @@ returns-then-not-is_done-clause-ran g c =
       c.loop-steps.invariant.ran,
       tried_at whole_step now c.conclude-last.result (record { state = _; view = _ }) _ _ (search rules) (search rules)
           (c.conclude-last.ensures.tried now whole c.work-done.ensures.exact
-          (undone_unless g.P.Port.view g.P.Port.since 30 c.work-done.result c.loop-steps.txn c.work-done.new.txn c.work-done.ensures.keeps now c.loop-steps.invariant.undone)),
+          (undone_unless g.P.Port.view g.P.Port.since 46 c.work-done.result c.loop-steps.txn c.work-done.new.txn c.work-done.ensures.keeps now c.loop-steps.invariant.undone)),
     )

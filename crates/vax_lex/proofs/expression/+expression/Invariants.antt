@@ -19,7 +19,7 @@ abbrev pub decreases-expression : goal.decreases-expression
 decreases-expression g l = 4 * (length l.tokens.now - l.at) + 3
 
 abbrev pub invariant-expression-loop-operator : goal.invariant-expression-loop-operator
-invariant-expression-loop-operator g l = SoFar (g.N.Names.entries l.names) (symbols_of l.line l.tokens) l.at l.answer l.end
+invariant-expression-loop-operator g l = SoFar (g.N.Names.meaning l.names) (symbols_of l.line l.tokens) l.at l.answer l.end
 
 abbrev pub decreases-expression-loop-operator : goal.decreases-expression-loop-operator
 decreases-expression-loop-operator g l = length l.tokens - l.end

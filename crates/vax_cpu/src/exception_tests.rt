@@ -1,0 +1,163 @@
+//! Runs with exceptions, changes of stack, interrupts and the console. The expected values are worked by hand from the manual's rules.
+use super::*;
+use std::alloc::Global;
+use std::test::Fail;
+use vax_flat::Ending;
+use vax_space::{Area, Bytes, Space};
+use vax_undo::{Plain, Term};
+use vax_word::{Core, Psl};
+
+/// A program at 80000200 and what its run leaves.
+struct Row {
+    /// The offset of a vector in the system control block, and where its handler is. Every other vector ends the run.
+    vector: (usize, u32),
+    code: &'static [u8],
+    steps: u64,
+    ending: Ending,
+    /// R1, SP, PC and the status longword.
+    registers: [u32; 4],
+    /// How many bytes of the console's input are taken.
+    taken: u32,
+    /// Bytes in memory, and where.
+    bytes: &'static [u8],
+    at: u32,
+}
+
+static ROWS: [Row; 5] = [
+    // DIVL3 #0,#7,R1; NOP; and a handler of arithmetic traps, HALT
+    Row {
+        vector: (0x34, 0x8000_0208),
+        code: &[0xC7, 0x00, 0x07, 0x51, 0x01, 0, 0, 0, 0x00],
+        steps: 1,
+        ending: Ending::Halt,
+        registers: [7, 0x8010_1FF4, 0x8000_0208, 0x1F_0000],
+        taken: 0,
+        bytes: &[2, 0, 0, 0, 4, 2, 0, 0x80, 2, 0, 0x1F, 0],
+        at: 0x8010_1FF4,
+    },
+    // MOVAL @#^X80000240,R1; MFPR #33,(R1)+; HALT
+    Row {
+        vector: (0, 2),
+        code: &[0xDE, 0x9F, 0x40, 2, 0, 0x80, 0x51, 0xDB, 0x21, 0x81, 0x00],
+        steps: 2,
+        ending: Ending::Halt,
+        registers: [0x8000_0244, 0x8010_2000, 0x8000_020A, 0x1F_0000],
+        taken: 1,
+        bytes: &[0x41, 0, 0, 0],
+        at: 0x8000_0240,
+    },
+    // PUSHL #^X03C00000; PUSHAB U; REI; U: PUSHL #0; PUSHAB U; REI, which is refused in user mode
+    Row {
+        vector: (0, 2),
+        code: &[
+            0xDD, 0x8F, 0, 0, 0xC0, 3, 0x9F, 0xEF, 1, 0, 0, 0, 0x02, 0xDD, 0x00, 0x9F, 0xAF, 0xFB,
+            0x02,
+        ],
+        steps: 5,
+        ending: Ending::Vector(0x18),
+        registers: [0, 0x7FFF_FFF8, 0x8000_0212, 0x03C0_0008],
+        taken: 0,
+        bytes: &[0x0D, 2, 0, 0x80, 0, 0, 0, 0],
+        at: 0x7FFF_FFF8,
+    },
+    // MTPR #3,#20; MTPR #0,#18; NOP; and a handler of the software interrupt at level 3, HALT
+    Row {
+        vector: (0x8C, 0x8000_0208),
+        code: &[0xDA, 3, 20, 0xDA, 0, 18, 0x01, 0, 0x00],
+        steps: 3,
+        ending: Ending::Halt,
+        registers: [0, 0x8010_1FF8, 0x8000_0208, 0x3_0000],
+        taken: 0,
+        bytes: &[6, 2, 0, 0x80, 4, 0, 0, 0],
+        at: 0x8010_1FF8,
+    },
+    // MTPR #64,#24; MTPR #0,#18; BRB to itself; and a handler of the interval clock, HALT
+    Row {
+        vector: (0xC0, 0x8000_020C),
+        code: &[0xDA, 0x8F, 64, 0, 0, 0, 24, 0xDA, 0, 18, 0x11, 0xFE, 0x00],
+        steps: 1002,
+        ending: Ending::Halt,
+        registers: [0, 0x8010_1FF8, 0x8000_020C, 0x16_0000],
+        taken: 0,
+        bytes: &[0x0A, 2, 0, 0x80, 4, 0, 0, 0],
+        at: 0x8010_1FF8,
+    },
+];
+
+fn area(alloc: Global, first: u32, pages: u32, prot: u8, bytes: &[u8]) -> Result<Area, Fail> {
+    Ok(Area {
+        first,
+        pages,
+        prot,
+        bytes: Bytes::from(bytes.to_vec(alloc)?),
+    })
+}
+
+/// A user stack, the system control block, the program and a kernel stack.
+fn memory(alloc: Global, row: &Row) -> Result<Plain, Fail> {
+    let mut vectors = [0; 512];
+    for byte in vectors.iter_mut().step_by(4) {
+        *byte = 2;
+    }
+    let (offset, handler) = row.vector;
+    vectors[offset..offset + 4].copy_from_slice(&handler.to_le_bytes());
+    let mut areas = Vec::new(alloc);
+    areas.push(area(alloc, 0x3F_FFFF, 1, 4, &[])?)?;
+    areas.push(area(alloc, 0x40_0000, 1, 2, &vectors)?)?;
+    areas.push(area(alloc, 0x40_0001, 1, 14, row.code)?)?;
+    areas.push(area(alloc, 0x40_080F, 1, 2, &[])?)?;
+    Ok(Plain::new(alloc, Space::new(alloc, areas)?)?)
+}
+
+fn has_bytes(port: &Plain, row: &Row) -> bool {
+    let mut addr = row.at;
+    for byte in row.bytes {
+        if port.byte(addr) != Some(*byte) {
+            return false;
+        }
+        addr = addr.wrapping_add(1);
+    }
+    true
+}
+
+#[test]
+fn exceptions_and_interrupts(rt: HostRuntime) -> Result<(), Fail> {
+    let alloc = rt.alloc();
+    for row in &ROWS {
+        let mut port = memory(alloc, row)?;
+        let mut core = Core {
+            regs: [0; 16],
+            psl: Psl(0x1F_0000),
+            stacks: [0, 0, 0, 0x8000_0000, 0],
+            sisr: 0,
+            iccs: 0,
+            clock: 0,
+        };
+        core.regs[14] = 0x8010_2000;
+        core.regs[15] = 0x8000_0200;
+        let mut cpu = Cpu {
+            core,
+            term: Term {
+                input: b"AB".to_vec(alloc)?,
+                place: 0,
+                out: None,
+            },
+            latch: None,
+        };
+        let batch = cpu.attempts(&mut port, 5000);
+        let last = Attempt::Ended(row.ending);
+        assert_eq!(rt;
+            batch,
+            Batch {
+                steps: row.steps,
+                last
+            }
+        );
+        let regs = &cpu.core.regs;
+        let Psl(psl) = cpu.core.psl;
+        assert_eq!(rt; [regs[1], regs[14], regs[15], psl], row.registers);
+        assert_eq!(rt; cpu.term.place, row.taken);
+        assert!(rt; has_bytes(&port, row));
+    }
+    Ok(())
+}

@@ -1,0 +1,5 @@
+mod Fitting
+mod Back
+pub mod Standing
+pub mod Extending
+pub mod Writing

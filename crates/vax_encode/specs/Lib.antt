@@ -1,0 +1,3 @@
+pub mod Operands
+pub mod Bytes
+pub mod Fields
