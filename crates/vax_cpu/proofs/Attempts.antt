@@ -1,5 +1,5 @@
 -- From what a transaction followed to what an attempt came to.
-use Rattle.std.proofs.Common.{Bool, true, false, Result, add-one, ◌+◌, ◌≡◌, ℕ, Option, Some, None, Ok, Err, refl, sym, ap, subst, ◌∙◌}
+use Rattle.std.proofs.Common.{true, false, Result, add-one, ◌+◌, ◌≡◌, ℕ, Option, Some, None, Ok, Err, refl, sym, ap, subst, ◌∙◌}
 use Rattle.vax_flat.specs.declared.Cut.{Cut}
 use Rattle.vax_flat.specs.declared.Cut.TheVariants as cut
 use Rattle.vax_flat.specs.declared.Ending.{Ending}

@@ -10,7 +10,7 @@ use Rattle.vax_flat.specs.Port.{View, StandsFor, with_marks}
 use Rattle.vax_flat.specs.Accesses.{Went}
 use Rattle.vax_flat.specs.Outcome.{first_missing, marked_by, outcome_of}
 use Rattle.vax_flat.specs.OverPort.{Present}
-use Rattle.vax_flat.specs.Step.{Flat, step, step_touches, run, state_of, whole_step, whole_delivery, concluded, with_byte_sent}
+use Rattle.vax_flat.specs.Step.{Flat, step, step_touches, run, state_of, whole_step, concluded, with_byte_sent}
 use Rattle.vax_cpu.specs.declared.attempt.Tried.{Tried}
 use Rattle.vax_cpu.specs.declared.attempt.Tried.TheVariants as tried
 use Rattle.vax_cpu.specs.Tried.{IsFinal, IsTried, Made, marked_as}
@@ -18,7 +18,6 @@ use Rattle.vax_cpu.specs.Batch.{Ran}
 use Rattle.vax_cpu.specs.declared.cpu.Attempt.{Attempt}
 use Rattle.vax_cpu.specs.declared.cpu.Attempt.TheVariants as attempt
 use Rattle.vax_cpu.specs.declared.cpu.Cpu.{Cpu}
-use Rattle.vax_flat.specs.declared.Ending.{Ending}
 use Rattle.vax_flat.specs.declared.Ending.TheVariants.{Unbuilt}
 use Rattle.vax_undo.specs.declared.term.Term.{Term}
 use Rattle.vax_undo.specs.Transaction.{state_of as state_at}

@@ -28,7 +28,7 @@ use Rattle.vax_cpu.specs.declared.attempt.Tried.TheVariants as tried
 use Rattle.vax_cpu.specs.declared.cpu.Attempt.TheVariants as attempt
 use Rattle.vax_cpu.specs.declared.cpu.Cpu.{Cpu}
 use Rattle.vax_cpu.specs.Tried.{IsFinal, IsTried, Made, AtOnce, Delivered, ending_of, marked_as}
-use Rattle.vax_cpu.specs.Attempt.{flat_of, answer_of, Attempted, IsStep, Marks, StopsInside}
+use Rattle.vax_cpu.specs.Attempt.{flat_of, answer_of, Attempted, Marks, StopsInside}
 
 flat_alike : (c d : Core) (memory : List Area) (i j : List ℕ) (t u : ℕ) (o p : List ℕ) (e f : Option Ending) → c ≡ d → i ≡ j → t ≡ u → o ≡ p → e ≡ f →
     ◌≡◌ {A = Flat} (record { core = c; memory = memory; input = i; taken = t; output = o; ending = e }) (record { core = d; memory = memory; input = j; taken = u; output = p; ending = f })

@@ -166,15 +166,64 @@ fn loops_and_cases(rt: HostRuntime) -> Result<(), Fail> {
     compare(&rt, rt.alloc(), &loops::ROWS)
 }
 
-/// An instruction, where it begins, R1 and R2 and SP, and the exception that it raises.
-type Fault = (&'static [u8], u32, [u32; 3], Exception);
+/// An instruction, where it begins, R1, R2 and SP, and the exception that it raises.
+struct Fault {
+    code: &'static [u8],
+    pc: u32,
+    registers: [u32; 3],
+    raises: Exception,
+}
 
-/// A violation at an address.
-fn violated(addr: u32, write: bool) -> Exception {
-    Exception::Access(Violation {
-        addr,
-        length: false,
-        write,
+macro_rules! violated {
+    ($addr:literal, $write:literal) => {
+        Exception::Access(Violation { addr: $addr, length: false, write: $write })
+    };
+}
+
+static FAULTS: [Fault; 5] = [
+    // EDIV #2,R3,(R1),#5: a quotient that may not be written is found behind a reserved specifier
+    Fault {
+        code: &[0x7B, 2, 0x53, 0x61, 5],
+        pc: 0,
+        registers: [0x1000, 0, 0x410],
+        raises: Exception::Mode,
+    },
+    // EDIV #2,R3,(R1),(R2), neither of which may be written
+    Fault {
+        code: &[0x7B, 2, 0x53, 0x61, 0x62],
+        pc: 0,
+        registers: [0x1000, 0x1004, 0x410],
+        raises: violated!(0x1000, true),
+    },
+    // INCL (R2), which may neither be read nor written
+    Fault {
+        code: &[0xD6, 0x62],
+        pc: 0,
+        registers: [0, 0x1200, 0x410],
+        raises: violated!(0x1200, true),
+    },
+    // AOBLSS #5,(R1), of which the displacement can't be read
+    Fault {
+        code: &[],
+        pc: 0x11FD,
+        registers: [0x1000, 0, 0x410],
+        raises: violated!(0x1000, true),
+    },
+    // PUSHL (R2), which can't be read, on a stack that can't be written
+    Fault {
+        code: &[0xDD, 0x62],
+        pc: 0,
+        registers: [0, 0x1200, 0x1004],
+        raises: violated!(0x1200, false),
+    },
+];
+
+fn area(alloc: Global, first: u32, pages: u32, prot: u8, bytes: &[u8]) -> Result<Area, Fail> {
+    Ok(Area {
+        first,
+        pages,
+        prot,
+        bytes: Bytes::from(bytes.to_vec(alloc)?),
     })
 }
 
@@ -184,26 +233,17 @@ fn guarded_memory(alloc: Global, code: &[u8]) -> Result<Plain, Fail> {
     let mut end = [0; 512];
     end[509..].copy_from_slice(&[0xF2, 5, 0x61]);
     let mut areas = Vec::new(alloc);
-    for (first, pages, prot, bytes) in [
-        (0, 8, 4, code),
-        (8, 1, 15, end.as_slice()),
-        (9, 1, 0, [].as_slice()),
-    ] {
-        areas.push(Area {
-            first,
-            pages,
-            prot,
-            bytes: Bytes::from(bytes.to_vec(alloc)?),
-        })?;
-    }
+    areas.push(area(alloc, 0, 8, 4, code)?)?;
+    areas.push(area(alloc, 8, 1, 15, &end)?)?;
+    areas.push(area(alloc, 9, 1, 0, &[])?)?;
     Ok(Plain::new(alloc, Space::new(alloc, areas)?)?)
 }
 
 fn raised_by(alloc: Global, fault: &Fault) -> Result<Option<Cut>, Fail> {
-    let (code, pc, [r1, r2, sp], _) = *fault;
-    let mut port = guarded_memory(alloc, code)?;
+    let [r1, r2, sp] = fault.registers;
+    let mut port = guarded_memory(alloc, fault.code)?;
     let mut core = Core {
-        regs: [0, r1, r2, 7, 0, 0, 0, 0, 0, 0, 0, 0, 0, 0, sp, pc],
+        regs: [0, r1, r2, 7, 0, 0, 0, 0, 0, 0, 0, 0, 0, 0, sp, fault.pc],
         psl: Psl(0x03C0_0000),
         stacks: [0; 5],
         sisr: 0,
@@ -226,36 +266,9 @@ fn raised_by(alloc: Global, fault: &Fault) -> Result<Option<Cut>, Fail> {
 
 #[test]
 fn faults_in_their_order(rt: HostRuntime) -> Result<(), Fail> {
-    let rows: [Fault; 5] = [
-        // EDIV #2,R3,(R1),#5: a quotient that may not be written is found behind a reserved specifier
-        (
-            &[0x7B, 2, 0x53, 0x61, 5],
-            0,
-            [0x1000, 0, 0x410],
-            Exception::Mode,
-        ),
-        // EDIV #2,R3,(R1),(R2), neither of which may be written
-        (
-            &[0x7B, 2, 0x53, 0x61, 0x62],
-            0,
-            [0x1000, 0x1004, 0x410],
-            violated(0x1000, true),
-        ),
-        // INCL (R2), which may neither be read nor written
-        (&[0xD6, 0x62], 0, [0, 0x1200, 0x410], violated(0x1200, true)),
-        // AOBLSS #5,(R1), of which the displacement can't be read
-        (&[], 0x11FD, [0x1000, 0, 0x410], violated(0x1000, true)),
-        // PUSHL (R2), which can't be read, on a stack that can't be written
-        (
-            &[0xDD, 0x62],
-            0,
-            [0, 0x1200, 0x1004],
-            violated(0x1200, false),
-        ),
-    ];
-    for row in &rows {
-        let (_, _, _, exception) = *row;
-        assert_eq!(rt; raised_by(rt.alloc(), row)?, Some(Cut::Event(exception)));
+    for fault in &FAULTS {
+        let why = raised_by(rt.alloc(), fault)?;
+        assert_eq!(rt; why, Some(Cut::Event(fault.raises)));
     }
     Ok(())
 }

@@ -8,7 +8,7 @@ use Rattle.std.proofs.lemmas.List.Sums.{prefix_len-le-length}
 use Rattle.std.proofs.lemmas.Bool.Decides.{nat_tests}
 use Rattle.vax_lex.specs.Characters.{is_blank, is_digit, is_name_character, radix_of, number_of}
 use Rattle.vax_lex.specs.Statements.{Context, text_due, is_caret, is_size}
-use Rattle.vax_lex.specs.Tokens.{Head, blank, no_more, begins, too_wide, no_token, HeadFits, head_of, plain, caret, based, numeral, quoted, text_head, number_head, digit_run, is_label_number, is_operator_letter}
+use Rattle.vax_lex.specs.Tokens.{Head, begins, too_wide, HeadFits, head_of, plain, caret, based, numeral, quoted, text_head, number_head, digit_run, is_label_number, is_operator_letter}
 use Rattle.vax_lex.specs.declared.token.TokenKind.TheVariants.{Name, Number, Mark}
 use Rattle.vax_lex.specs.Words.{word_of}
 use Rattle.vax_lex.proofs.Canonical.{name_short, label_short}

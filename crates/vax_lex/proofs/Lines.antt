@@ -1,5 +1,5 @@
 -- One step through the pieces of a line, and what has been passed before it.
-use Rattle.std.proofs.Common.{◌≡◌, ◌<◌, ◌≤◌, ℕ, zero, suc, ◌+◌, ◌-◌, Bool, true, cond, List, [], ◌∷◌, ◌++◌, length, get_or, map, take, drop, Result, Ok, Err, refl, ap, arith, ◌∙◌, append_assoc, sym, subst, inl, inr, ⊎_elim}
+use Rattle.std.proofs.Common.{◌≡◌, ◌<◌, ◌≤◌, ℕ, zero, suc, ◌+◌, ◌-◌, true, List, [], ◌∷◌, ◌++◌, length, get_or, map, take, drop, refl, ap, arith, ◌∙◌, append_assoc, sym, subst, inl, inr, ⊎_elim}
 use Rattle.std.specs.Prelude.{All, AllPairs, Any, ◌⊎◌}
 use Rattle.std.proofs.lemmas.List.Elements.{All-push}
 use Rattle.std.proofs.lemmas.List.Quantifiers.{all_pairs_push, Any-push}

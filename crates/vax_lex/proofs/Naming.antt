@@ -1,5 +1,5 @@
 -- One step through the names of a text.
-use Rattle.std.proofs.Common.{◌≡◌, ◌<◌, ◌≤◌, ℕ, zero, suc, ◌+◌, ◌-◌, List, [], ◌∷◌, ◌++◌, length, get_or, take, drop, refl, ap, arith, ◌∙◌, append_assoc, sym, subst}
+use Rattle.std.proofs.Common.{◌≡◌, ◌<◌, ◌≤◌, ℕ, zero, suc, ◌+◌, ◌-◌, List, [], ◌∷◌, ◌++◌, length, take, drop, refl, ap, arith, ◌∙◌, sym}
 use Rattle.std.proofs.lemmas.List.{take_rest, drop-drop, length-drop, drop_all, append-nil}
 use Rattle.vax_lex.specs.Statements.{Context}
 use Rattle.vax_lex.specs.Words.{Word, word, with_name, names_from, names_of, text_start}

@@ -1,6 +1,6 @@
 -- The reader of expressions reads exactly the expression that symbols spell.
-use Rattle.std.proofs.Common.{◌≡◌, ◌≢◌, ◌<◌, ◌≤◌, ℕ, zero, suc, ◌+◌, Bool, true, false, cond, List, [], ◌∷◌, length, Option, Some, None, Result, Ok, Err, refl, ap, arith, ◌∙◌, sym, subst, inl, inr, ⊎_elim}
-use Rattle.std.specs.Prelude.{◌⊎◌, ◌==◌, codes}
+use Rattle.std.proofs.Common.{◌≡◌, ◌≢◌, ◌<◌, ◌≤◌, ℕ, zero, suc, Bool, true, false, cond, List, [], ◌∷◌, length, Option, Some, None, Result, Err, refl, ap, arith, ◌∙◌, sym, subst, ⊎_elim}
+use Rattle.std.specs.Prelude.{◌==◌, codes}
 use Rattle.std.specs.Str.{bytes_eq}
 use Rattle.std.proofs.lemmas.Bool.Decides.{nat_tests}
 use Rattle.std.proofs.lemmas.Slice.Eq.{bytes_eq-Decides}

@@ -1,6 +1,6 @@
 -- The tokens of a line (VAX MACRO and Instruction Set Reference Manual, "Components of MACRO source statements",
 -- "Symbols", "Numbers" and "ASCII operator"): each is the longest that begins at its place.
-use Rattle.std.specs.Prelude.{◌≡◌, ◌⊎◌, ℕ, zero, suc, ◌+◌, ◌-◌, ◌^◌, ◌<◌, ◌≤◌, min, Bool, true, false, ◌&&◌, ◌||◌, ◌==◌, nat_lt, nat_le, List, [], ◌∷◌, length, slice_index, Any, map, take, drop, position, Option, Some, None, Result, Ok, Err, Vec, if◌then◌else◌}
+use Rattle.std.specs.Prelude.{◌≡◌, ◌⊎◌, ℕ, zero, suc, ◌+◌, ◌-◌, ◌^◌, ◌<◌, ◌≤◌, min, Bool, true, false, ◌&&◌, ◌||◌, ◌==◌, nat_lt, nat_le, List, [], ◌∷◌, length, slice_index, Any, take, drop, position, Option, Some, None, Result, Ok, Err, Vec, if◌then◌else◌}
 use Rattle.std.specs.List.{prefix_len}
 use Rattle.std.specs.Char.{is_ascii_graphic, to_ascii_uppercase}
 use Rattle.vax_lex.specs.Characters.{is_blank, is_digit, is_name_character, radix_of, number_of, canonical_name}

@@ -1,5 +1,4 @@
 -- What the scanner's own types mean.
-use Rattle.std.specs.Prelude.{ℕ}
 use Rattle.vax_lex.specs.Statements.{Operator, text_directive, immediate_if, other_operator, Place, statement, first_name, behind_label, text_piece, bracketed_piece, condition_name, expression_rest, text_argument, between_arguments, operands, Before, nothing_special, size_letter, operator_caret, text_sign, label_colon, Context}
 use Rattle.vax_lex.specs.Tokens.{Head, blank, no_more, begins, too_wide, no_token}
 use Rattle.vax_lex.specs.Values.{Operation, addition, subtraction, multiplication, division, arithmetic_shift, logical_and, inclusive_or, exclusive_or}

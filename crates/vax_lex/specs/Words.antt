@@ -1,11 +1,10 @@
 -- The names of a text, wherever they stand: also in quoted texts and in the comment (VAX MACRO and Instruction Set
 -- Reference Manual, "Macro arguments").
-use Rattle.std.specs.Prelude.{ℕ, zero, suc, ◌+◌, ◌-◌, Bool, true, false, ◌&&◌, ◌==◌, List, [], ◌∷◌, take, slice_index, if◌then◌else◌}
+use Rattle.std.specs.Prelude.{ℕ, zero, suc, ◌+◌, ◌-◌, Bool, false, ◌&&◌, ◌==◌, List, [], ◌∷◌, take, slice_index, if◌then◌else◌}
 use Rattle.vax_lex.specs.Statements.{Context, operands, nothing_special, is_caret, is_size, is_name, context_after, context_after_blank}
 use Rattle.vax_lex.specs.Tokens.{Head, blank, no_more, begins, too_wide, no_token, plain}
 use Rattle.vax_lex.specs.declared.token.Span.{Span}
-use Rattle.vax_lex.specs.declared.token.TokenKind.{TokenKind}
-use Rattle.vax_lex.specs.declared.token.TokenKind.TheVariants.{Name, Number, Mark, Text}
+use Rattle.vax_lex.specs.declared.token.TokenKind.TheVariants.{Name, Number, Mark}
 
 -- What the bytes begin with where no quoted text begins anywhere.
 unfoldable pub word_of : Context → List ℕ → Head

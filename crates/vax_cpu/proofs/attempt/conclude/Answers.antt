@@ -1,6 +1,6 @@
-use Rattle.std.proofs.Common.{◌≡◌, ◌∙◌, Ok, Err, ap, subst, sym, rules}
-use Rattle.vax_flat.specs.OverPort.{Present, Follows}
-use Rattle.vax_undo.specs.Transaction.{bare, present, state_of, told, undone, IsReady}
+use Rattle.std.proofs.Common.{◌≡◌, subst, rules}
+use Rattle.vax_flat.specs.OverPort.{Follows}
+use Rattle.vax_undo.specs.Transaction.{bare, present, told, undone}
 use Rattle.vax_cpu.specs.Tried.{UnlessDone}
 use Rattle.vax_cpu.proofs.Attempts.{done_from, kept, finished, undone_as, unless_ended}
 use Rattle.vax_cpu.proofs.attempt.conclude.Goals as goal

@@ -1,9 +1,9 @@
-use Rattle.std.proofs.Common.{◌≡◌, ◌∙◌, Ok, None, ap, subst, arith, rules}
+use Rattle.std.proofs.Common.{◌∙◌, Ok, ap, subst, arith, rules}
 use Rattle.vax_flat.specs.declared.Flow.TheVariants as flow
 use Rattle.vax_flat.specs.OverPort.{Present, Follows}
 use Rattle.vax_flat.specs.Step.{whole, whole_step}
 use Rattle.vax_undo.specs.Transaction.{present, told}
-use Rattle.vax_cpu.proofs.Attempts.{done_of, not_done, renewed_step, sent_step, ran_more, tried_at, undone_unless}
+use Rattle.vax_cpu.proofs.Attempts.{done_of, renewed_step, sent_step, ran_more, tried_at, undone_unless}
 use Rattle.vax_cpu.proofs.attempt.try_steps.Goals as goal
 
 pub loop-steps-preserved : goal.loop-steps-preserved

@@ -1,11 +1,11 @@
-use Rattle.std.proofs.Common.{arith, ℕ, ◌≡◌, ◌+◌, ◌≤◌, ◌-◌, ◌<◌, length, take, drop, get_or, refl, sym, ap, subst, ◌∙◌, List, [], ◌∷◌, ◌++◌}
+use Rattle.std.proofs.Common.{arith, ℕ, ◌-◌, length, take, drop, get_or, sym, ap, ◌∙◌, List}
 use Rattle.std.proofs.lemmas.List.{append-nil, length-take, length-drop, take_rest}
-use Rattle.vax_lex.specs.Tokens.{Head, HeadFits, blank, no_more, begins, too_wide, no_token}
+use Rattle.vax_lex.specs.Tokens.{HeadFits, blank, no_more, begins, too_wide, no_token}
 use Rattle.vax_lex.specs.Statements.{Context, open_brackets, context_after}
 use Rattle.vax_lex.specs.Views.{context_view, head_view}
 use Rattle.vax_lex.specs.declared.token.PieceKind.TheVariants as kinds
 use Rattle.vax_lex.specs.declared.token.TokenKind.TheVariants.{Number, Mark}
-use Rattle.vax_lex.proofs.Lines.{SoFar, steps_at, blank_at, blank_here, fits_at, piece_at, piece_is, start_at, one_more, blank_more, covers_all, goes_on}
+use Rattle.vax_lex.proofs.Lines.{steps_at, blank_at, blank_here, fits_at, piece_at, piece_is, start_at, one_more, blank_more, covers_all}
 use Rattle.vax_lex.proofs.Depth.{depth_after, depth_after_blank}
 use Rattle.vax_lex.proofs.line.pieces.Goals as goal
 

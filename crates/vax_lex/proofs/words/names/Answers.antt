@@ -1,4 +1,4 @@
-use Rattle.std.proofs.Common.{arith, ◌≡◌, ◌<◌, ◌≤◌, ◌+◌, ◌-◌, length, take, drop, sym, ap, ◌∙◌}
+use Rattle.std.proofs.Common.{arith, ◌≤◌, ◌-◌, length, drop, ap}
 use Rattle.std.proofs.lemmas.List.{length-take, length-drop}
 use Rattle.vax_lex.specs.Statements.{Context, open_brackets}
 use Rattle.vax_lex.specs.Views.{context_view}

@@ -1,4 +1,4 @@
-use Rattle.std.proofs.Common.{arith, ◌≡◌, ◌<◌, ◌≤◌, length, take, sym, ap, ◌∙◌}
+use Rattle.std.proofs.Common.{arith, take, sym, ap, ◌∙◌}
 use Rattle.std.proofs.lemmas.List.{length-take}
 use Rattle.vax_lex.specs.Tokens.{HeadFits, begins, too_wide}
 use Rattle.vax_lex.specs.Views.{context_view, head_view}

@@ -1,0 +1,61 @@
+// What the sections are built of.
+
+ghost use Rattle.std.specs.Prelude.{◌<◌, ◌≤◌, length};
+
+use thiserror::Error;
+
+/// What a section holds, one behind another.
+#[derive(Drop)]
+pub enum Piece<F> {
+    /// So many zero bytes.
+    Zeros(u32),
+    Bytes(Vec<u8>),
+    /// What is filled in later.
+    Field(F),
+}
+
+/// What a `.PSECT` says: the power of two to align to, and whether the section may be written.
+#[derive(Clone, Copy, Debug, PartialEq, Eq)]
+pub struct Attributes {
+    pub align: Option<u8>,
+    pub write: Option<bool>,
+}
+
+/// A section that is being built.
+#[derive(Drop)]
+pub struct Building<F> {
+    pub name: Vec<u8>,
+    /// The power of two that its first `.PSECT` said, or 0.
+    pub declared: u8,
+    /// Whether it may be written: what its first `.PSECT` said, or true.
+    pub write: bool,
+    /// The power of two that it is aligned to.
+    pub align: u8,
+    /// Its size in bytes, at most 1,048,576.
+    pub size: u32,
+    pub pieces: Vec<Piece<F>>,
+    pub ghost aligned: { align ≤ 9 },
+}
+
+/// Why a section can't be chosen or grow.
+#[derive(Clone, Copy, Debug, PartialEq, Eq, Error)]
+pub enum Refusal {
+    /// A `.PSECT` says otherwise than the section's first.
+    #[error("the section has another alignment or protection")]
+    Conflict,
+    /// A section would be longer than 1,048,576 bytes, or all together than 16,777,216.
+    #[error("a section or a module is too long")]
+    TooLong,
+    /// Memory was refused.
+    #[error("out of memory")]
+    NoMemory,
+}
+
+/// The sections of a module while it is assembled, with the one that has no name first.
+#[derive(Drop)]
+pub struct Layout<F> {
+    pub(crate) sections: Vec<Building<F>>,
+    pub(crate) current: usize,
+    pub(crate) total: u32,
+    pub ghost in_range: { current < length sections.items },
+}
