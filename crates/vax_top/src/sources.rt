@@ -300,7 +300,7 @@ fn runs_sources(rt: HostRuntime) -> Result<(), Fail> {
         // absent address
         Run {
             source: "A: MOVL #3,R0\nMOVL (R1)+,R2\nHALT\n.END A\n",
-            ending: "UNBUILT",
+            ending: "VECTOR 020",
             steps: 2,
             registers: [3, 0, 0, 0, 0, 0, 0, 0, 0, 0, 0, 0],
             pc: 0x8000_0203,
@@ -309,7 +309,7 @@ fn runs_sources(rt: HostRuntime) -> Result<(), Fail> {
         // end of the stack
         Run {
             source: "A: MOVL #^X80101FFE,R1\nADDL2 #1,(R1)+\nHALT\n.END A\n",
-            ending: "UNBUILT",
+            ending: "VECTOR 020",
             steps: 2,
             registers: [0, 0x8010_1FFE, 0, 0, 0, 0, 0, 0, 0, 0, 0, 0],
             pc: 0x8000_0207,
