@@ -135,68 +135,10 @@ fn work<P: Port>(txn: &mut Txn<P>) -> Result<Flow, CutShort>
 
 /// [`work`] as a call of its own, for the attempts outside the loop.
 #[inline(never)]
-/// The delivery of an exception, and the clock.
-#[cold]
-#[tactic(auto, unfolding(vax_flat::specs::Step::delivered))]
-fn deliver_and_tick<P: Port>(txn: &mut Txn<P>, exception: Exception) -> Result<Flow, CutShort>
-    requires { 18 ≤ room txn.old }
-    ensures exact { Follows (delivered exception (present P.view txn.old).state) (present P.view txn.old) (told txn.new result) (present P.view txn.new) }
-    ensures keeps { Keeps P.view P.since 18 txn.old txn.new }
-{
-    let how = deliver(txn, exception)?;
-    hand_over(txn, how)
-}
-
-/// The interval clock counts an instruction that was completed.
-#[inline]
-fn complete<P: Port>(txn: &mut Txn<P>)
-    requires { 18 ≤ room txn.old }
-    ensures exact { present P.view txn.new ≡ with_state (present P.view txn.old) (ticked (present P.view txn.old).state) }
-    ensures keeps { Keeps P.view P.since 18 txn.old txn.new }
-{
-    tick(txn);
-}
-
-/// What follows an instruction: a trap's delivery, and the clock.
-#[inline(always)]
-#[tactic(auto, using(vax_undo::proofs::Left::always, vax_undo::proofs::Left::kept_through, vax_undo::proofs::Left::left_then), unfolding(vax_flat::specs::Step::finished, vax_flat::specs::Step::delivered))]
-fn finish<P: Port>(txn: &mut Txn<P>, flow: Flow) -> Result<Flow, CutShort>
-    requires { 18 ≤ room txn.old }
-    ensures exact { Follows (finished flow (present P.view txn.old).state) (present P.view txn.old) (told txn.new result) (present P.view txn.new) }
-    ensures keeps { (count : ℕ) → (start : _) → KeepsUnlessDone P.view P.since count (Ok flow) start txn.old → KeepsUnlessDone P.view P.since (count + 18) result start txn.new }
-    ensures same { IsSame P.since txn.old txn.new }
-{
-    match flow {
-        Flow::Done => {
-            complete(txn);
-            Ok(Flow::Done)
-        }
-        Flow::Clocked => Ok(Flow::Done),
-        Flow::Trap(trap) => deliver_and_tick(txn, Exception::Arithmetic(trap)),
-        Flow::More { opcode, units } => Ok(Flow::More { opcode, units }),
-        Flow::Ended(ending) => Ok(Flow::Ended(ending)),
-    }
-}
-
-/// A step up to its exception, if it raises one.
-#[inline(always)]
-#[tactic(auto, unfolding(vax_flat::specs::Step::whole))]
-fn work<P: Port>(txn: &mut Txn<P>) -> Result<Flow, CutShort>
+fn work_once<P: Port>(txn: &mut Txn<P>) -> Result<Flow, CutShort>
     requires { 46 ≤ room txn.old }
     ensures exact { Follows (whole (present P.view txn.old).state) (present P.view txn.old) (told txn.new result) (present P.view txn.new) }
     ensures keeps { KeepsUnlessDone P.view P.since 46 result txn.old txn.new }
-    ensures same { IsSame P.since txn.old txn.new }
-{
-    let flow = begin(txn)?;
-    finish(txn, flow)
-}
-
-/// [`work`] as a call of its own, for the attempts outside the loop.
-#[inline(never)]
-fn work_once<P: Port>(txn: &mut Txn<P>) -> Result<Flow, CutShort>
-    requires { 30 ≤ room txn.old }
-    ensures exact { Follows (whole (present P.view txn.old).state) (present P.view txn.old) (told txn.new result) (present P.view txn.new) }
-    ensures keeps { KeepsUnlessDone P.view P.since 30 result txn.old txn.new }
     ensures same { IsSame P.since txn.old txn.new }
 {
     work(txn)
