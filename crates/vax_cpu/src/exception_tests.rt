@@ -9,8 +9,8 @@ use vax_word::{Core, Psl};
 
 /// A program at 80000200 and what its run leaves.
 struct Row {
-    /// The offset of a vector in the system control block, and where its handler is. Every other vector ends the run.
-    vector: (usize, u32),
+    /// The longword of the system control block that is this handler's vector. Every other vector ends the run.
+    vector: (u32, u32),
     code: &'static [u8],
     steps: u64,
     ending: Ending,
@@ -26,7 +26,7 @@ struct Row {
 static ROWS: [Row; 5] = [
     // DIVL3 #0,#7,R1; NOP; and a handler of arithmetic traps, HALT
     Row {
-        vector: (0x34, 0x8000_0208),
+        vector: (0x34 / 4, 0x8000_0208),
         code: &[0xC7, 0x00, 0x07, 0x51, 0x01, 0, 0, 0, 0x00],
         steps: 1,
         ending: Ending::Halt,
@@ -62,7 +62,7 @@ static ROWS: [Row; 5] = [
     },
     // MTPR #3,#20; MTPR #0,#18; NOP; and a handler of the software interrupt at level 3, HALT
     Row {
-        vector: (0x8C, 0x8000_0208),
+        vector: (0x8C / 4, 0x8000_0208),
         code: &[0xDA, 3, 20, 0xDA, 0, 18, 0x01, 0, 0x00],
         steps: 3,
         ending: Ending::Halt,
@@ -73,7 +73,7 @@ static ROWS: [Row; 5] = [
     },
     // MTPR #64,#24; MTPR #0,#18; BRB to itself; and a handler of the interval clock, HALT
     Row {
-        vector: (0xC0, 0x8000_020C),
+        vector: (0xC0 / 4, 0x8000_020C),
         code: &[0xDA, 0x8F, 64, 0, 0, 0, 24, 0xDA, 0, 18, 0x11, 0xFE, 0x00],
         steps: 1002,
         ending: Ending::Halt,
@@ -95,12 +95,12 @@ fn area(alloc: Global, first: u32, pages: u32, prot: u8, bytes: &[u8]) -> Result
 
 /// A user stack, the system control block, the program and a kernel stack.
 fn memory(alloc: Global, row: &Row) -> Result<Plain, Fail> {
-    let mut vectors = [0; 512];
-    for byte in vectors.iter_mut().step_by(4) {
-        *byte = 2;
+    let (place, handler) = row.vector;
+    let mut vectors = Vec::new(alloc);
+    for k in 0..128u32 {
+        let vector = if k == place { handler } else { 2 };
+        vectors.extend_from_slice(&vector.to_le_bytes())?;
     }
-    let (offset, handler) = row.vector;
-    vectors[offset..offset + 4].copy_from_slice(&handler.to_le_bytes());
     let mut areas = Vec::new(alloc);
     areas.push(area(alloc, 0x3F_FFFF, 1, 4, &[])?)?;
     areas.push(area(alloc, 0x40_0000, 1, 2, &vectors)?)?;

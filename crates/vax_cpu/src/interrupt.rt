@@ -6,21 +6,28 @@ ghost use Rattle.vax_undo.specs.Transaction.{present, room, Keeps, with_state};
 
 use vax_undo::{Port, Txn};
 
-/// The highest software interrupt level that is requested, or 0.
+/// The highest software interrupt level of requests, sought from above; 0 where there is none.
 #[cold]
-#[tactic(auto, using(crate::proofs::Levels::highest_none, crate::proofs::Levels::highest_step, crate::proofs::Levels::highest_here), unfolding(vax_flat::specs::Step::highest))]
-fn highest(requests: u16) -> u8
+#[tactic(auto, using(crate::proofs::Levels::highest_step, crate::proofs::Levels::highest_here), unfolding(vax_flat::specs::Step::highest))]
+fn sought(requests: u16) -> u8
     ensures exact { result ≡ highest 15 requests }
     ensures within { result < 16 }
 {
-    if requests == 0 {
-        return 0;
-    }
     let mut level = 15;
     while level > 0 && (requests >> level) % 2 != 1 {
         level -= 1;
     }
     level
+}
+
+/// The highest software interrupt level that is requested, or 0.
+#[inline(always)]
+#[tactic(auto, using(crate::proofs::Levels::highest_none))]
+fn highest(requests: u16) -> u8
+    ensures exact { result ≡ highest 15 requests }
+    ensures within { result < 16 }
+{
+    if requests == 0 { 0 } else { sought(requests) }
 }
 
 /// The level of the interrupt that is requested, or 0.
@@ -34,10 +41,7 @@ pub(crate) fn requested<P: Port>(txn: &Txn<P>) -> u8
     if timer / 0x40 % 2 == 1 && timer / 0x80 % 2 == 1 {
         22
     } else {
-        match txn.sisr() {
-            0 => 0,
-            requests => highest(requests),
-        }
+        highest(txn.sisr())
     }
 }
 

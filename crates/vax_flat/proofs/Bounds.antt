@@ -1,6 +1,6 @@
 -- What each instruction and each delivery adds to what is touched. An instruction has at most 11 ranges for its operands and 2 for its work; a
 -- delivery has its vector, and a window at the stack.
-use Rattle.std.proofs.Common.{◌≡◌, ℕ, suc, zero, ◌+◌, ◌*◌, ◌/◌, ◌%◌, ◌^◌, ◌<◌, ◌≤◌, Bool, true, false, not, ◌||◌, ◌&&◌, Option, Some, None, List, [], ◌∷◌, length, refl, sym, subst, inl, arith}
+use Rattle.std.proofs.Common.{ℕ, suc, ◌+◌, ◌*◌, ◌/◌, ◌%◌, ◌^◌, ◌≤◌, Bool, true, false, not, ◌||◌, ◌&&◌, Option, Some, None, List, [], ◌∷◌, length, refl, sym, subst, inl, arith}
 use Rattle.std.specs.Prelude.{◌==◌, nat_lt, nat_le, min, if◌then◌else◌}
 use Rattle.vax_word.specs.declared.Codes.{Codes}
 use Rattle.vax_word.specs.declared.Psl.{Psl}
@@ -8,20 +8,17 @@ use Rattle.vax_word.specs.declared.Size.{Size}
 use Rattle.vax_word.specs.declared.Size.TheVariants as size
 use Rattle.vax_word.specs.Arithmetic.{bytes_of, is_less}
 use Rattle.vax_word.specs.Status.{is_one, ipl_of}
-use Rattle.vax_space.specs.declared.Access.{Access}
 use Rattle.vax_isa.specs.declared.OperandKind.{OperandKind}
 use Rattle.vax_isa.specs.declared.actions.AccessMode.{AccessMode}
 use Rattle.vax_isa.specs.declared.actions.Action.{Action}
 use Rattle.vax_isa.specs.declared.actions.Action.TheVariants as action
-use Rattle.vax_isa.specs.declared.actions.Narrow.{Narrow}
-use Rattle.vax_isa.specs.declared.actions.Narrow.TheVariants as narrow
 use Rattle.vax_isa.specs.declared.actions.Integer.{Integer}
 use Rattle.vax_isa.specs.declared.actions.Integer.TheVariants as integer
 use Rattle.vax_isa.specs.declared.actions.Control.{Control}
 use Rattle.vax_isa.specs.declared.actions.Control.TheVariants as control
 use Rattle.vax_isa.specs.declared.actions.System.{System}
 use Rattle.vax_isa.specs.declared.actions.System.TheVariants as system
-use Rattle.vax_isa.specs.Actions.{mode_number, size_of, of_integer, of_control, of_system, operands_of}
+use Rattle.vax_isa.specs.Actions.{mode_number, size_of, of_integer, of_control, of_system}
 use Rattle.vax_isa.specs.Rows.{action_of}
 use Rattle.vax_flat.specs.declared.Delivery.{Delivery}
 use Rattle.vax_flat.specs.declared.Delivery.TheVariants.{Entered, Ended}
@@ -33,20 +30,20 @@ use Rattle.vax_flat.specs.declared.Flow.TheVariants as flow
 use Rattle.vax_flat.specs.declared.Trap.TheVariants as trap
 use Rattle.vax_flat.specs.declared.Operand.{Operand}
 use Rattle.vax_flat.specs.declared.Operand.TheVariants as operand
-use Rattle.vax_flat.specs.State.{State, register, with_register, mode, priority, overflow_enabled, next_input}
+use Rattle.vax_flat.specs.State.{State, register, mode, priority, overflow_enabled, next_input}
 use Rattle.vax_flat.specs.Accesses.{Accesses, Raises, Leaf}
-use Rattle.vax_flat.specs.Operand.{plus, extended, write_at, read_in, write_in, asked}
-use Rattle.vax_flat.specs.Rows.{stored, flow_of, settled, answered, pushed, with_value}
+use Rattle.vax_flat.specs.Operand.{extended, write_in, asked}
+use Rattle.vax_flat.specs.Rows.{stored, flow_of, settled, answered, pushed}
 use Rattle.vax_flat.specs.Integer.{subscript_flow, pushed_result, performed as integer_performed}
 use Rattle.vax_flat.specs.Control.{called, return_subroutine, looped, chosen, performed as control_performed}
 use Rattle.vax_flat.specs.Delivery.{on_interrupt_stack, takes_interrupt_stack, status, at_handler, served, interrupt_vector, change_vector, vectored, pushed_in, pushed_if, pushed_all, entered, dispatched, vector_of, parameters, delivery, interrupted, interrupt, changed, pushed_outside, changed_to, change_by, change_mode}
 use Rattle.vax_flat.specs.System.{flow_of_delivery, return_from, is_refused, pointer, input_byte, input_after, input_ready, return_exception, probed, set_processor, get_processor, status_set, status_cleared, unless_privileged, is_for_kernel, performed as system_performed}
 use Rattle.vax_flat.specs.Instruction.{acted, acted_if, instruction}
 use Rattle.vax_flat.specs.Evaluation.{next_operands}
-use Rattle.vax_flat.specs.Step.{level, ticked, begun, finished, handed_over, whole, leaf, whole_step, delivered, whole_delivery}
+use Rattle.vax_flat.specs.Step.{level, begun, finished, handed_over, whole, delivered}
 use Rattle.vax_flat.specs.Bound.{IsClosed, IsWhole}
 use Rattle.vax_flat.proofs.Listed.{value, of_integers, of_controls, of_systems, integer_takes, control_takes, system_takes}
-use Rattle.vax_flat.proofs.Windows.{IsPcNear, near_here, IsStackNear, stack_here, stack_below, stack_pushed, stack_window, read_adds, write_adds, read_in_adds, fetched_adds, at_most, either}
+use Rattle.vax_flat.proofs.Windows.{IsPcNear, near_here, IsStackNear, stack_here, stack_below, stack_pushed, read_adds, write_adds, read_in_adds, fetched_adds, at_most, either}
 use Rattle.vax_flat.proofs.OperandBounds.{costs, AreWide, operands_add}
 
 -- the operands of each instruction are 1 to 8 bytes wide, and have few ranges

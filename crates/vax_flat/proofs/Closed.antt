@@ -1,15 +1,13 @@
 -- The touches of trees, and the parts that they leave, are properties that are kept where a tree grows by an access.
-use Rattle.std.proofs.Common.{◌≡◌, ℕ, suc, zero, ◌+◌, ◌<◌, ◌≤◌, Bool, Option, Some, None, List, [], ◌∷◌, ◌++◌, length, refl, ap, sym, subst, append_assoc, append-nil, length-append, inl, inr, arith}
+use Rattle.std.proofs.Common.{ℕ, Option, Some, None, List, [], ◌∷◌, ◌++◌, length, inl, inr, arith}
 use Rattle.vax_space.specs.declared.Area.{Area}
-use Rattle.vax_space.specs.declared.Access.{Access}
 use Rattle.vax_space.specs.declared.Access.TheVariants.{Read, Write}
 use Rattle.vax_space.specs.declared.Violation.{Violation}
 use Rattle.vax_space.specs.Reference.{violation}
-use Rattle.vax_flat.specs.declared.Exception.{Exception}
-use Rattle.vax_flat.specs.Accesses.{Accesses, Raises, Checks, Asks, Reads, Writes, ReadsRun, WritesRun, Leaf}
+use Rattle.vax_flat.specs.Accesses.{Leaf}
 use Rattle.vax_flat.specs.Memory.{byte_at, number, bytes_from, written, written_run}
 use Rattle.vax_flat.specs.Outcome.{Outcome, Range, outcome_of, touches_of, is_allowed, unless_stopped, unless_violated}
-use Rattle.vax_flat.specs.Bound.{IsWithin, IsCovered, AreCovered, LieIn, IsClosed, IsWhole, LeavesNoPart}
+use Rattle.vax_flat.specs.Bound.{IsCovered, AreCovered, LieIn, IsClosed, LeavesNoPart}
 
 -- what is covered stays so with more windows around
 pub covered_behind : (ws more : List ℕ) (addr len : ℕ) → IsCovered ws addr len → IsCovered (ws ++ more) addr len

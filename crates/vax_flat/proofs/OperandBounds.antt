@@ -1,5 +1,5 @@
 -- What operands add to what is touched: the pieces of the instruction lie in the window at PC; a pointer and a value are ranges of their own.
-use Rattle.std.proofs.Common.{◌≡◌, ◌≢◌, ◌⊎◌, ℕ, suc, zero, ◌+◌, ◌*◌, ◌%◌, ◌^◌, ◌<◌, ◌≤◌, Bool, true, false, ◌||◌, List, [], ◌∷◌, length, refl, sym, subst, inl, inr, arith}
+use Rattle.std.proofs.Common.{◌≡◌, ◌≢◌, ℕ, suc, ◌+◌, ◌*◌, ◌%◌, ◌≤◌, Bool, true, false, ◌||◌, List, [], ◌∷◌, length, refl, sym, subst, arith}
 use Rattle.std.specs.Prelude.{◌==◌, nat_lt, if◌then◌else◌}
 use Rattle.std.proofs.lemmas.Bool.{eqb-true}
 use Rattle.vax_isa.specs.declared.OperandKind.{OperandKind}
@@ -12,11 +12,11 @@ use Rattle.vax_flat.specs.declared.Operand.{Operand}
 use Rattle.vax_flat.specs.declared.Operand.TheVariants as operand
 use Rattle.vax_flat.specs.State.{State, register, with_register}
 use Rattle.vax_flat.specs.Accesses.{Accesses, Raises, Leaf}
-use Rattle.vax_flat.specs.Operand.{form_of, plus, fetched, check_at, at_address, literal, in_register, reaches_pc, register_value, addressed, is_reserved, is_no_base, indexed, in_memory, after_prefix, formed, specified, branched, next_operand}
-use Rattle.vax_flat.specs.Rows.{value_at, stored, value_of}
+use Rattle.vax_flat.specs.Operand.{form_of, plus, check_at, at_address, literal, in_register, reaches_pc, register_value, addressed, is_reserved, is_no_base, indexed, in_memory, after_prefix, formed, specified, branched, next_operand}
+use Rattle.vax_flat.specs.Rows.{value_at}
 use Rattle.vax_flat.specs.Evaluation.{taken, next_operands}
 use Rattle.vax_flat.specs.Bound.{IsClosed}
-use Rattle.vax_flat.proofs.Windows.{IsPcNear, near_later, near_past, near_other, read_adds, write_adds, fetched_adds, at_most, either}
+use Rattle.vax_flat.proofs.Windows.{IsPcNear, near_later, near_past, near_other, read_adds, fetched_adds, at_most, either}
 
 -- the widths that displacements have
 abbrev pub IsDisplaced : Form → Type 0

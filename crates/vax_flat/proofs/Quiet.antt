@@ -1,6 +1,6 @@
 -- A delivery raises no exception: what it reads and what it pushes it has asked for before.
-use Rattle.std.proofs.Common.{◌≡◌, ℕ, ◌%◌, Bool, true, false, Option, Some, None, List, [], ◌∷◌, refl, sym, subst}
-use Rattle.std.specs.Prelude.{◌==◌, nat_le, if◌then◌else◌}
+use Rattle.std.proofs.Common.{◌≡◌, ℕ, Bool, true, false, Option, Some, None, List, [], ◌∷◌, refl, sym, subst}
+use Rattle.std.specs.Prelude.{if◌then◌else◌}
 use Rattle.vax_word.specs.declared.Psl.{Psl}
 use Rattle.vax_space.specs.declared.Access.TheVariants.{Read, Write}
 use Rattle.vax_space.specs.declared.Area.{Area}
@@ -9,7 +9,6 @@ use Rattle.vax_space.specs.Reference.{violation}
 use Rattle.vax_flat.specs.declared.Delivery.{Delivery}
 use Rattle.vax_flat.specs.declared.Delivery.TheVariants.{Entered, Ended}
 use Rattle.vax_flat.specs.declared.Exception.{Exception}
-use Rattle.vax_flat.specs.declared.Flow.TheVariants as flow
 use Rattle.vax_flat.specs.declared.Ending.TheVariants as ending
 use Rattle.vax_flat.specs.Memory.{byte_at, number, written}
 use Rattle.vax_flat.specs.State.{State}

@@ -1,16 +1,16 @@
 -- A step touches few windows and pages, and only string instructions leave parts.
-use Rattle.std.proofs.Common.{◌≡◌, ◌⊎◌, ℕ, suc, zero, ◌+◌, ◌*◌, ◌/◌, ◌%◌, ◌^◌, ◌<◌, ◌≤◌, false, Option, Some, None, List, [], ◌∷◌, ◌++◌, length, refl, ap, sym, subst, ◌∙◌, length-append, inl, inr, arith}
+use Rattle.std.proofs.Common.{◌≡◌, ◌⊎◌, ℕ, suc, zero, ◌+◌, ◌*◌, ◌^◌, ◌<◌, ◌≤◌, false, List, [], ◌∷◌, ◌++◌, length, refl, ap, sym, subst, ◌∙◌, length-append, inl, inr, arith}
 use Rattle.vax_space.specs.declared.Area.{Area}
 use Rattle.vax_space.specs.Reference.{page_of, byte_after}
 use Rattle.vax_isa.specs.declared.actions.Action.{Action}
 use Rattle.vax_flat.specs.declared.Exception.{Exception}
 use Rattle.vax_flat.specs.declared.Flow.{Flow}
 use Rattle.vax_flat.specs.State.{State, register}
-use Rattle.vax_flat.specs.Accesses.{Accesses, Leaf}
+use Rattle.vax_flat.specs.Accesses.{Leaf}
 use Rattle.vax_flat.specs.Outcome.{Outcome, Ends, Raised, Range, outcome_of, touches_of}
 use Rattle.vax_flat.specs.Instruction.{acted}
 use Rattle.vax_flat.specs.Step.{Flat, state_of, leaf, whole_step, whole_delivery, step_touches, touches_after}
-use Rattle.vax_flat.specs.Bound.{place, IsWithin, IsCovered, AreCovered, LieIn, IsOneOf, AreOn, AreFew, IsWhole, LeavesNoPart, is_string}
+use Rattle.vax_flat.specs.Bound.{place, IsCovered, AreCovered, LieIn, IsOneOf, AreOn, AreFew, IsWhole, LeavesNoPart, is_string}
 use Rattle.vax_flat.proofs.Closed.{covered_behind, all_covered, touches_lie, leaves_no_part}
 use Rattle.vax_flat.proofs.Windows.{near_here}
 use Rattle.vax_flat.proofs.Bounds.{acted_adds, whole_adds, delivered_adds}

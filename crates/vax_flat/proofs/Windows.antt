@@ -1,11 +1,11 @@
 -- Where PC and the stack pointer are in their windows, and what an access adds to what is touched.
-use Rattle.std.proofs.Common.{◌≡◌, ◌≢◌, ◌⊎◌, ℕ, suc, zero, ◌+◌, ◌-◌, ◌*◌, ◌/◌, ◌%◌, ◌^◌, ◌<◌, ◌≤◌, Bool, true, false, List, [], ◌∷◌, refl, ap, sym, subst, ◌∙◌, inl, inr, arith, zero-add}
+use Rattle.std.proofs.Common.{◌≡◌, ◌≢◌, ◌⊎◌, ℕ, suc, zero, ◌+◌, ◌-◌, ◌*◌, ◌%◌, ◌^◌, ◌<◌, ◌≤◌, Bool, true, false, List, [], ◌∷◌, refl, ap, sym, subst, ◌∙◌, inl, inr, arith, zero-add}
 use Rattle.std.specs.Prelude.{slice_index, slice_set, if◌then◌else◌}
 use Rattle.std.proofs.lemmas.List.{get_or-set_other}
-use Rattle.vax_space.specs.Reference.{page_of, byte_after}
+use Rattle.vax_space.specs.Reference.{byte_after}
 use Rattle.vax_flat.specs.State.{State, register, with_register}
 use Rattle.vax_flat.specs.Accesses.{Accesses, Leaf}
-use Rattle.vax_flat.specs.Operand.{plus, read_at, write_at, read_in, write_in, fetched}
+use Rattle.vax_flat.specs.Operand.{plus, read_at, write_at, read_in, fetched}
 use Rattle.vax_flat.specs.Bound.{place, IsWithin, IsCovered, IsClosed}
 
 -- a register that is set has the value, or the list of registers is too short and it reads as before

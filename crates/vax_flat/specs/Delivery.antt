@@ -6,7 +6,6 @@ use Rattle.std.specs.Int.{from_bool}
 use Rattle.std.specs.Int.Bits.{bit_and}
 use Rattle.vax_word.specs.declared.Psl.{Psl}
 use Rattle.vax_word.specs.Status.{is_one, mode_of, ipl_of}
-use Rattle.vax_space.specs.declared.Access.{Access}
 use Rattle.vax_space.specs.declared.Access.TheVariants as access
 use Rattle.vax_space.specs.declared.Violation.{Violation}
 use Rattle.vax_isa.specs.declared.actions.AccessMode.{AccessMode}

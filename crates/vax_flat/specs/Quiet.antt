@@ -1,5 +1,5 @@
 -- Trees that raise no exception.
-use Rattle.std.specs.Prelude.{ℕ, List}
+use Rattle.std.specs.Prelude.{List}
 use Rattle.vax_space.specs.declared.Area.{Area}
 use Rattle.vax_flat.specs.declared.Cut.TheVariants.{Absent, Event}
 use Rattle.vax_flat.specs.Accesses.{Accesses, Leaf}

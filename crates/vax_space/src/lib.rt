@@ -73,9 +73,10 @@ static PROTECTION: [[Right; 4]; 16] = [
     [ReadOnly, ReadOnly, ReadOnly, ReadOnly],
 ];
 
+/// What a mode (0 kernel, 1 executive, 2 supervisor, 3 user) may do to a page with this protection code.
 #[inline(always)]
 #[tactic(auto, unfolding(crate::specs::Protection::right_of))]
-fn right_of(prot: u8, mode: u8) -> Right
+pub fn right_of(prot: u8, mode: u8) -> Right
     requires of_code { prot ≤ 15 }
     requires of_mode { mode ≤ 3 }
     ensures { result ≡ spec.right_of prot mode }

@@ -10,11 +10,12 @@ use Rattle.vax_space.specs.Reference.{is_past_region}
 use Rattle.vax_table.specs.declared.Walk.{Walk}
 use Rattle.vax_table.specs.declared.Walk.TheVariants.{Resident, Absent, Outside}
 use Rattle.vax_table.specs.declared.memory.Memory.{Memory}
-use Rattle.vax_table.specs.Entry.{entry_at, said_by, entry_with, prot_in, is_valid, is_modified, frame_in}
-use Rattle.vax_table.specs.Layout.{walked_in, place_of, IsSound}
-use Rattle.vax_table.specs.Mapping.{changed, mapped, inside, present, is_inside, is_resident, set_in, cleared, marked, dirty, Held}
+use Rattle.vax_table.specs.Entry.{entry_at, said_by, kept_by, entry_with, prot_in, is_valid, is_modified, frame_in}
+use Rattle.vax_table.specs.Layout.{walked_in, kept_in, place_of, IsSound}
+use Rattle.vax_table.specs.Mapping.{changed, mapped, inside, present, is_inside, is_resident, frame_of, set_in, cleared, marked, dirty, Held}
+use Rattle.vax_table.proofs.Entries.{valid_keeps_none, cleared_keeps_none, kept_keeps}
 use Rattle.vax_table.proofs.Filled.{said_made}
-use Rattle.vax_table.proofs.Walks.{said_at, walked_at, said_outside, changed_here, changed_other}
+use Rattle.vax_table.proofs.Walks.{said_at, walked_at, kept_at, kept_is, said_outside, changed_here, changed_other}
 
 pub old_says : (memory : Memory) (page place : ℕ) → IsSound memory → place_of memory.p0_end memory.p1_start page ≡ Some place → walked_in memory page ≡ said_by (entry_at memory.bytes.items place)
 old_says memory page place sound found = walked_at memory page sound ∙ ap (said_at memory.bytes.items) found
@@ -116,3 +117,37 @@ marked_mapped areas held page = marked_inside (prot_of areas page) (is_past_regi
 
 pub none_outside : (memory : Memory) (page : ℕ) → IsSound memory → place_of memory.p0_end memory.p1_start page ≡ None → walked_in memory page ≡ Outside true
 none_outside memory page sound none = walked_at memory page sound ∙ ap (said_at memory.bytes.items) none
+
+pub said_kept : (old : ℕ) → is_inside (said_by old) ≡ true → said_by (entry_with false (prot_in old) true (frame_in old)) ≡ cleared (said_by old)
+said_kept old h =
+    said_made false (prot_in old) true (frame_in old) (prot_fits old) (named old h) (frame_fits old)
+    ∙ sym (cleared_state (is_valid old) (prot_in old) (frame_in old) (is_modified old))
+    ∙ ap cleared (sym (said_named old (named old h)))
+
+-- what the entries that the calls write remember
+pub keeps_none : (old frame : ℕ) (modified : Bool) → frame < 2 ^ 21 → kept_by (entry_with true (prot_in old) modified frame) ≡ None
+keeps_none old frame modified small = valid_keeps_none (prot_in old) modified frame (prot_fits old) small
+
+pub keeps_no_more : (old : ℕ) → kept_by (entry_with false (prot_in old) false 0) ≡ None
+keeps_no_more old = cleared_keeps_none (prot_in old) 0 (prot_fits old) (omega arith)
+
+pub keeps_frame : (old : ℕ) → kept_by (entry_with false (prot_in old) true (frame_in old)) ≡ Some (frame_in old)
+keeps_frame old = kept_keeps (prot_in old) (frame_in old) (prot_fits old) (frame_fits old)
+
+pub frame_fits_in : (old : ℕ) → frame_in old < 2 ^ 21
+frame_fits_in old = frame_fits old
+
+frame_state : (valid : Bool) (prot old : ℕ) (modified : Bool) → is_resident (if valid then Resident old prot modified else Absent prot) ≡ true → frame_of (if valid then Resident old prot modified else Absent prot) ≡ Some old
+frame_state true prot old modified h = refl
+frame_state false prot old modified h = absurd (false≢true h)
+
+pub frame_said : (old : ℕ) → is_resident (said_by old) ≡ true → frame_of (said_by old) ≡ Some (frame_in old)
+frame_said old h =
+    let is = said_named old (named old (resident_inside (said_by old) h)) in
+    ap frame_of is ∙ frame_state (is_valid old) (prot_in old) (frame_in old) (is_modified old) (sym (ap is_resident is) ∙ h)
+
+pub old_keeps : (memory : Memory) (page place : ℕ) → IsSound memory → place_of memory.p0_end memory.p1_start page ≡ Some place → kept_in memory page ≡ kept_by (entry_at memory.bytes.items place)
+old_keeps memory page place sound found = kept_is memory page sound ∙ ap (kept_at memory.bytes.items) found
+
+pub none_keeps : (memory : Memory) (page : ℕ) → IsSound memory → place_of memory.p0_end memory.p1_start page ≡ None → kept_in memory page ≡ None
+none_keeps memory page sound none = kept_is memory page sound ∙ ap (kept_at memory.bytes.items) none

@@ -1,7 +1,7 @@
 -- What an entry that was made says.
-use Rattle.std.proofs.Common.{◌≡◌, ℕ, ◌+◌, ◌*◌, ◌/◌, ◌%◌, ◌<◌, ◌≤◌, ◌^◌, Bool, true, false, refl, ◌∙◌, ap, sym, arith}
+use Rattle.std.proofs.Common.{◌≡◌, ℕ, ◌+◌, ◌*◌, ◌/◌, ◌%◌, ◌<◌, ◌≤◌, ◌^◌, Bool, true, false, Option, Some, None, refl, ◌∙◌, ap, sym, arith}
 use Rattle.std.proofs.lemmas.Bool.Decides.{nat_tests}
-use Rattle.vax_table.specs.Entry.{entry_with, said_by, prot_in, is_valid, is_modified, frame_in, bit}
+use Rattle.vax_table.specs.Entry.{entry_with, said_by, kept_by, prot_in, is_valid, is_modified, frame_in, bit}
 
 pub prot_made : (valid : Bool) (prot : ℕ) (modified : Bool) (frame : ℕ) → prot ≤ 15 → frame < 2 ^ 21 → prot_in (entry_with valid prot modified frame) ≡ prot
 unfolding entry_with
@@ -30,3 +30,16 @@ modified_made true prot true frame p f = grind (arith, nat_tests)
 modified_made true prot false frame p f = grind (arith, nat_tests)
 modified_made false prot true frame p f = grind (arith, nat_tests)
 modified_made false prot false frame p f = grind (arith, nat_tests)
+
+-- what it remembers
+pub valid_keeps_none : (prot : ℕ) (modified : Bool) (frame : ℕ) → prot ≤ 15 → frame < 2 ^ 21 → kept_by (entry_with true prot modified frame) ≡ None
+unfolding kept_by
+valid_keeps_none prot modified frame p f = rw (valid_made true prot modified frame p f) refl
+
+pub cleared_keeps_none : (prot frame : ℕ) → prot ≤ 15 → frame < 2 ^ 21 → kept_by (entry_with false prot false frame) ≡ None
+unfolding kept_by
+cleared_keeps_none prot frame p f = rw (valid_made false prot false frame p f, modified_made false prot false frame p f) refl
+
+pub kept_keeps : (prot frame : ℕ) → prot ≤ 15 → frame < 2 ^ 21 → kept_by (entry_with false prot true frame) ≡ Some frame
+unfolding kept_by
+kept_keeps prot frame p f = rw (valid_made false prot true frame p f, modified_made false prot true frame p f, frame_made false prot true frame f) refl

@@ -13,12 +13,12 @@ use Rattle.vax_space.proofs.PastRegions.{past_has_none, tables_have_none, prot_v
 use Rattle.vax_table.specs.declared.Walk.{Walk}
 use Rattle.vax_table.specs.declared.Walk.TheVariants.{Resident, Absent, Outside}
 use Rattle.vax_table.specs.declared.memory.Memory.{Memory}
-use Rattle.vax_table.specs.Entry.{entry_at, said_by, entry_with, prot_in, is_valid, is_modified, frame_in}
-use Rattle.vax_table.specs.Layout.{walked_in, place_of, table_page, absent_entry, first_entry, p0_tables, p1_first, p1_place, total, IsFilled, IsSound}
-use Rattle.vax_table.specs.Mapping.{changed, mapped, all_absent, inside}
-use Rattle.vax_table.proofs.Entries.{prot_made, valid_made, modified_made, frame_made}
+use Rattle.vax_table.specs.Entry.{entry_at, said_by, kept_by, entry_with, prot_in, is_valid, is_modified, frame_in}
+use Rattle.vax_table.specs.Layout.{walked_in, kept_in, frame_at, place_of, table_page, absent_entry, first_entry, p0_tables, p1_first, p1_place, total, IsFilled, IsSound}
+use Rattle.vax_table.specs.Mapping.{changed, mapped, all_absent, none_kept, inside}
+use Rattle.vax_table.proofs.Entries.{prot_made, valid_made, modified_made, frame_made, valid_keeps_none, cleared_keeps_none}
 use Rattle.vax_table.proofs.Places.{place_cases, place_within, place_p0, place_p0_past, place_p1, place_p1_past, place_system, place_past, InP0, InP1, InSystem}
-use Rattle.vax_table.proofs.Walks.{said_at, walked_at, said_outside, table_says, changed_here, changed_other}
+use Rattle.vax_table.proofs.Walks.{said_at, walked_at, kept_at, kept_is, said_outside, table_says, changed_here, changed_other}
 
 pub filled_more : (areas : List Area) (p0 p1 place entry : ℕ) (old new : List ℕ) → length new ≡ length old → ((n : ℕ) → entry_at new n ≡ changed (entry_at old) place entry n) → entry ≡ first_entry areas p0 p1 place → IsFilled areas p0 p1 place old → IsFilled areas p0 p1 (place + 1) new
 filled_more areas p0 p1 place entry old new size put is filled = record {
@@ -167,3 +167,48 @@ walked_new areas memory space e0 e1 high low end filled =
     let filled' : IsFilled areas (program_end areas) (control_start areas) (total (program_end areas) (control_start areas)) memory.bytes.items = rw (e0, e1) at filled in
     fun_ext (λ page. walked_at memory page sound ∙ rw (e0, e1)
     (place_mapped areas memory.bytes.items page (place_of (program_end areas) (control_start areas) page) space (rw e0 at high) (rw e1 at low) filled' refl))
+
+-- new tables remember no frame
+keeps_either : (test : Bool) (x y : ℕ) → kept_by x ≡ None → kept_by y ≡ None → kept_by (if test then x else y) ≡ None
+keeps_either true x y a b = a
+keeps_either false x y a b = b
+
+table_keeps : (p0 p1 n : ℕ) → p0 ≤ 0x8000 → n < 512 → kept_by (table_page p0 p1 n) ≡ None
+unfolding table_page
+table_keeps p0 p1 n high few =
+    let none : kept_by (entry_with false 1 false 0) ≡ None = cleared_keeps_none 1 0 (omega arith) (omega arith) in
+    keeps_either (nat_lt n 256) _ _
+    (keeps_either (nat_lt n (p0_tables p0)) _ _ (valid_keeps_none 1 false (frame_at (4608 + 128 * n)) (omega arith) (omega arith)) none)
+    (keeps_either (nat_le (p1_first p1) (0x3F8000 + 128 * (n - 256))) _ _ (valid_keeps_none 1 false (frame_at (p1_place p0 + (0x3F8000 + 128 * (n - 256) - p1_first p1))) (omega arith) (omega arith)) none)
+
+unwrapped : (areas : List Area) (page : ℕ) (prot : Option ℕ) → IsSpace areas → prot_of areas page ≡ prot → unwrap_or prot 1 ≤ 15
+unwrapped areas page None space e = omega arith
+unwrapped areas page (Some code) space e = (prot_bounds code (prot_valid areas page code space e)).0
+
+absent_keeps : (areas : List Area) (page : ℕ) → IsSpace areas → kept_by (absent_entry areas page) ≡ None
+absent_keeps areas page space = cleared_keeps_none (unwrap_or (prot_of areas page) 1) 0 (unwrapped areas page (prot_of areas page) space refl) (omega arith)
+
+first_keeps : (areas : List Area) (p0 p1 place : ℕ) → IsSpace areas → p0 ≤ 0x8000 → kept_by (first_entry areas p0 p1 place) ≡ None
+unfolding first_entry
+first_keeps areas p0 p1 place space high =
+    elim (cases_lt place 4096) [
+      | inl low ↦ let t : nat_lt place 4096 ≡ true = grind (arith, nat_tests) in rw t (absent_keeps areas (0x400000 + place) space)
+      | inr up ↦
+          let t : nat_lt place 4096 ≡ false = grind (arith, nat_tests) in
+          rw t (elim (cases_lt place 4608) [
+            | inl low ↦ let u : nat_lt place 4608 ≡ true = grind (arith, nat_tests) in rw u (table_keeps p0 p1 (place - 4096) high (omega arith))
+            | inr past ↦
+                let u : nat_lt place 4608 ≡ false = grind (arith, nat_tests) in
+                rw u (keeps_either (nat_lt place (p1_place p0)) _ _ (absent_keeps areas (place - 4608) space) (absent_keeps areas (p1_first p1 + (place - p1_place p0)) space))
+          ])
+    ]
+
+place_keeps : (areas : List Area) (p0 p1 page : ℕ) (bytes : List ℕ) (place : Option ℕ) → IsSpace areas → p0 ≤ 0x8000 → 0x3F8000 ≤ p1 → IsFilled areas p0 p1 (total p0 p1) bytes → place_of p0 p1 page ≡ place → kept_at bytes place ≡ None
+place_keeps areas p0 p1 page bytes None space high low filled found = refl
+place_keeps areas p0 p1 page bytes (Some place) space high low filled found =
+    ap kept_by (filled.entries place (place_within _ _ page place high low found)) ∙ first_keeps areas p0 p1 place space high
+
+pub kept_new : (areas : List Area) (memory : Memory) → IsSpace areas → memory.p0_end ≤ 0x8000 → 0x3F8000 ≤ memory.p1_start → memory.p1_start ≤ 0x400000 → IsFilled areas memory.p0_end memory.p1_start (total memory.p0_end memory.p1_start) memory.bytes.items → kept_in memory ≡ none_kept
+kept_new areas memory space high low end filled =
+    let sound = sound_new areas memory high low end filled in
+    fun_ext (λ page. kept_is memory page sound ∙ place_keeps areas memory.p0_end memory.p1_start page memory.bytes.items (place_of memory.p0_end memory.p1_start page) space high low filled refl)

@@ -1,6 +1,6 @@
 -- What a walk says of each page, by the entries at the pages' places.
 use Rattle.std.proofs.Common.{◌≡◌, ℕ, ◌+◌, ◌-◌, ◌*◌, ◌/◌, ◌%◌, ◌<◌, ◌≤◌, ◌^◌, Bool, true, false, refl, ◌∙◌, ap, sym, arith, cond, nat_lt, nat_le, nat_eq, inl, inr, List, Option, Some, None, length}
-use Rattle.std.specs.Prelude.{option_map, if◌then◌else◌}
+use Rattle.std.specs.Prelude.{option_map, option_and_then, if◌then◌else◌}
 use Rattle.std.proofs.Math.Path.{fun_ext}
 use Rattle.std.proofs.lemmas.Bool.{cases_lt, cases_eq, false≢true}
 use Rattle.std.proofs.lemmas.Bool.Decides.{nat_tests}
@@ -8,8 +8,8 @@ use Rattle.std.proofs.lemmas.Option.{none-some, same_Some}
 use Rattle.vax_table.specs.declared.Walk.{Walk}
 use Rattle.vax_table.specs.declared.Walk.TheVariants.{Resident, Absent, Outside}
 use Rattle.vax_table.specs.declared.memory.Memory.{Memory}
-use Rattle.vax_table.specs.Entry.{entry_at, said_by, entry_with, prot_in}
-use Rattle.vax_table.specs.Layout.{p0_base, p1_base, process_entry, entry_of, said_or_past, walked_in, place_of, table_page, table_entry, frame_at, p0_tables, p1_first, p1_place, total, IsSound}
+use Rattle.vax_table.specs.Entry.{entry_at, said_by, kept_by, entry_with, prot_in}
+use Rattle.vax_table.specs.Layout.{p0_base, p1_base, process_entry, entry_of, said_or_past, walked_in, kept_in, place_of, table_page, table_entry, frame_at, p0_tables, p1_first, p1_place, total, IsSound}
 use Rattle.vax_table.specs.Mapping.{changed, is_inside}
 use Rattle.vax_table.proofs.Entries.{prot_made}
 use Rattle.vax_table.proofs.Places.{found_p0, found_p1, place_cases, place_within, place_apart, InP0, InP1, InSystem}
@@ -113,4 +113,28 @@ walked_put memory after page place entry sound e0 e1 size put found inside =
       | inr ne ↦
           let other : place_of memory.p0_end memory.p1_start q ≡ Some place → ⊥ = λ h. ne (place_apart memory.p0_end memory.p1_start page place q sound.p0_high found h) in
           walked_at after q sound' ∙ rw (e0, e1) (said_changed memory after place entry (place_of memory.p0_end memory.p1_start q) put other) ∙ sym (walked_at memory q sound) ∙ sym (changed_other _ page _ q ne)
+    ])
+
+-- what the entry at a place, if there is one, remembers
+abbrev pub kept_at : List ℕ → Option ℕ → Option ℕ
+kept_at bytes place = option_and_then kept_by (option_map (entry_at bytes) place)
+
+pub kept_is : (memory : Memory) (page : ℕ) → IsSound memory → kept_in memory page ≡ kept_at memory.bytes.items (place_of memory.p0_end memory.p1_start page)
+unfolding kept_in
+kept_is memory page sound = ap (option_and_then kept_by) (entry_found memory page sound)
+
+kept_changed : (memory after : Memory) (place entry : ℕ) (q : Option ℕ) → ((n : ℕ) → entry_at after.bytes.items n ≡ changed (entry_at memory.bytes.items) place entry n) → (q ≡ Some place → ⊥) → kept_at after.bytes.items q ≡ kept_at memory.bytes.items q
+kept_changed memory after place entry None put ne = refl
+kept_changed memory after place entry (Some n) put ne = ap kept_by (put n ∙ changed_other _ place entry n (λ e. ne (ap Some e)))
+
+pub kept_put : (memory after : Memory) (page place entry : ℕ) → IsSound memory → after.p0_end ≡ memory.p0_end → after.p1_start ≡ memory.p1_start → length after.bytes.items ≡ length memory.bytes.items → ((n : ℕ) → entry_at after.bytes.items n ≡ changed (entry_at memory.bytes.items) place entry n) → place_of memory.p0_end memory.p1_start page ≡ Some place → is_inside (walked_in memory page) ≡ true → kept_in after ≡ changed (kept_in memory) page (kept_by entry)
+kept_put memory after page place entry sound e0 e1 size put found inside =
+    let sound' = sound_put memory after page place entry sound e0 e1 size put found inside in
+    fun_ext (λ q. elim (cases_eq q page) [
+      | inl e ↦
+          let at : place_of after.p0_end after.p1_start q ≡ Some place = rw (e0, e1, e) found in
+          kept_is after q sound' ∙ ap (kept_at after.bytes.items) at ∙ ap kept_by (put place ∙ changed_here _ place entry place refl) ∙ sym (changed_here _ page _ q e)
+      | inr ne ↦
+          let other : place_of memory.p0_end memory.p1_start q ≡ Some place → ⊥ = λ h. ne (place_apart memory.p0_end memory.p1_start page place q sound.p0_high found h) in
+          kept_is after q sound' ∙ rw (e0, e1) (kept_changed memory after place entry (place_of memory.p0_end memory.p1_start q) put other) ∙ sym (kept_is memory q sound) ∙ sym (changed_other _ page _ q ne)
     ])

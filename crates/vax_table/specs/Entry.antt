@@ -1,6 +1,6 @@
 -- A page table entry (VAX Architecture Reference Manual, memory management, page table entry): a longword with the
 -- valid bit 31, the protection code in bits 30:27, the modify bit 26 and the page frame number in bits 20:0.
-use Rattle.std.specs.Prelude.{ℕ, ◌+◌, ◌*◌, ◌/◌, ◌%◌, ◌^◌, Bool, true, false, ◌==◌, if◌then◌else◌, List, drop}
+use Rattle.std.specs.Prelude.{ℕ, ◌+◌, ◌*◌, ◌/◌, ◌%◌, ◌^◌, Bool, true, false, ◌==◌, if◌then◌else◌, Option, Some, None, List, drop}
 use Rattle.byteorder.specs.Endian.{little_number}
 use Rattle.vax_table.specs.declared.Walk.{Walk}
 use Rattle.vax_table.specs.declared.Walk.TheVariants.{Resident, Absent, Outside}
@@ -22,6 +22,11 @@ unfoldable pub said_by : ℕ → Walk
 said_by entry =
     if prot_in entry == 1 then Outside false
     else (if is_valid entry then Resident (frame_in entry) (prot_in entry) (is_modified entry) else Absent (prot_in entry))
+
+-- the frame that the entry of an absent page remembers: nothing else reads bits 26:0 of an entry that isn't valid, and
+-- bit 26 is set there where bits 20:0 have a frame
+unfoldable pub kept_by : ℕ → Option ℕ
+kept_by entry = if is_valid entry then None else (if is_modified entry then Some (frame_in entry) else None)
 
 abbrev pub bit : Bool → ℕ
 bit true = 1

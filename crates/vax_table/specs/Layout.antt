@@ -1,12 +1,12 @@
 -- The page tables in physical memory, and the translation through them
 -- (VAX Architecture Reference Manual, memory management, address translation).
-use Rattle.std.specs.Prelude.{◌≡◌, ℕ, ◌+◌, ◌-◌, ◌*◌, ◌/◌, ◌%◌, ◌^◌, ◌<◌, ◌≤◌, Bool, true, false, if◌then◌else◌, nat_lt, nat_le, Option, Some, None, unwrap_or, List, length}
+use Rattle.std.specs.Prelude.{◌≡◌, ℕ, ◌+◌, ◌-◌, ◌*◌, ◌/◌, ◌%◌, ◌^◌, ◌<◌, ◌≤◌, Bool, true, false, if◌then◌else◌, nat_lt, nat_le, Option, Some, None, option_and_then, unwrap_or, List, length}
 use Rattle.vax_space.specs.declared.Area.{Area}
 use Rattle.vax_space.specs.Areas.{prot_of}
 use Rattle.vax_table.specs.declared.Walk.{Walk}
 use Rattle.vax_table.specs.declared.Walk.TheVariants.{Outside}
 use Rattle.vax_table.specs.declared.memory.Memory.{Memory}
-use Rattle.vax_table.specs.Entry.{entry_at, entry_with, frame_in, said_by}
+use Rattle.vax_table.specs.Entry.{entry_at, entry_with, frame_in, said_by, kept_by}
 
 -- the first frame of the wired memory, which begins with the system page table: its base register has 01000000
 abbrev pub wired_frame : ℕ
@@ -44,6 +44,10 @@ said_or_past (Some entry) = said_by entry
 -- what a walk of the tables says of a page
 unfoldable pub walked_in : Memory → ℕ → Walk
 walked_in memory page = said_or_past (entry_of memory page)
+
+-- the frame that an absent page's entry remembers
+unfoldable pub kept_in : Memory → ℕ → Option ℕ
+kept_in memory page = option_and_then kept_by (entry_of memory page)
 
 -- how many pages P0's table takes
 abbrev pub p0_tables : ℕ → ℕ

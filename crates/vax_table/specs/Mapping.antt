@@ -43,6 +43,22 @@ is_resident (Resident frame prot modified) = true
 is_resident (Absent prot) = false
 is_resident (Outside past) = false
 
+-- the protection code of a page, none where no area has it
+abbrev pub prot_said : Walk → Option ℕ
+prot_said (Resident frame prot modified) = Some prot
+prot_said (Absent prot) = Some prot
+prot_said (Outside past) = None
+
+-- the frame that a resident page is in
+abbrev pub frame_of : Walk → Option ℕ
+frame_of (Resident frame prot modified) = Some frame
+frame_of (Absent prot) = None
+frame_of (Outside past) = None
+
+-- no page is kept
+abbrev pub none_kept : ℕ → Option ℕ
+none_kept page = None
+
 -- the page in a frame, not modified
 abbrev pub set_in : Walk → ℕ → Walk
 set_in (Resident old prot modified) frame = Resident frame prot false

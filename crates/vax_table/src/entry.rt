@@ -1,7 +1,7 @@
 //! Page table entries.
-ghost use Rattle.std.specs.Prelude.{◌≡◌, ℕ, ◌+◌, ◌*◌, ◌≤◌, ◌<◌, ◌^◌, length};
+ghost use Rattle.std.specs.Prelude.{◌≡◌, ℕ, ◌+◌, ◌*◌, ◌≤◌, ◌<◌, ◌^◌, length, IfSome};
 ghost use Rattle.vax_table.specs.Entry as spec;
-ghost use Rattle.vax_table.specs.Mapping.{changed};
+ghost use Rattle.vax_table.specs.Mapping.{changed, prot_said};
 
 use crate::Walk;
 use byteorder::{ByteOrder, LittleEndian};
@@ -50,7 +50,8 @@ pub fn entry_with(valid: bool, prot: u8, modified: bool, frame: u32) -> u32
 #[inline]
 #[tactic(auto, unfolding(crate::specs::Entry::said_by))]
 pub fn said_by(entry: u32) -> Walk
-    ensures { result ≡ spec.said_by entry }
+    ensures value { result ≡ spec.said_by entry }
+    ensures small { IfSome (prot_said result) (λ prot. prot ≤ 15) }
 {
     let prot = prot_in(entry);
     if prot == NO_AREA {
@@ -63,6 +64,20 @@ pub fn said_by(entry: u32) -> Walk
         }
     } else {
         Walk::Absent { prot }
+    }
+}
+
+/// The frame that the entry of an absent page remembers.
+#[inline]
+#[tactic(auto, unfolding(crate::specs::Entry::kept_by))]
+pub fn kept_by(entry: u32) -> Option<u32>
+    ensures value { result ≡ spec.kept_by entry }
+    ensures small { IfSome result (λ frame. frame < 2 ^ 21) }
+{
+    if entry / VALID % 2 == 0 && entry / MODIFIED % 2 == 1 {
+        Some(frame_in(entry))
+    } else {
+        None
     }
 }
 

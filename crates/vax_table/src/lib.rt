@@ -5,14 +5,14 @@
 //! of theirs is found through the system's entry for the page of the table. All entries are longwords, low byte first.
 #![tactic(auto)]
 
-ghost use Rattle.std.specs.Prelude.{◌≡◌, ◌<◌, true, false, ℕ, List, Option, Some, None, IfOk, option_map};
+ghost use Rattle.std.specs.Prelude.{◌≡◌, ◌<◌, ◌≤◌, true, false, ℕ, List, Option, Some, None, IfOk, IfSome, option_map};
 ghost use Rattle.vax_table.specs.Layout.{IsSound};
-ghost use Rattle.vax_table.specs.Mapping.{mapped, all_absent, changed, is_inside, is_resident, set_in, cleared, marked, dirty, Held};
+ghost use Rattle.vax_table.specs.Mapping.{mapped, all_absent, changed, is_inside, is_resident, frame_of, none_kept, prot_said, set_in, cleared, marked, dirty, Held};
 
 mod entry;
 mod memory;
 
-use entry::{entry_at, entry_with, frame_in, prot_in, said_by};
+use entry::{entry_at, entry_with, frame_in, kept_by, prot_in, said_by};
 use memory::{Memory, new_memory};
 use std::alloc::Global;
 use vax_space::{NoMemory, Space};
@@ -45,12 +45,13 @@ pub struct Tables {
 
 impl Tables {
     ghost use Rattle.vax_space.specs.declared.Area.{Area};
-    ghost use Rattle.vax_table.specs.Tables.{walked};
+    ghost use Rattle.vax_table.specs.Tables.{walked, kept};
 
     /// The tables of a space, all its pages absent. They take less than 300 KB: a longword for each of the 4,608 pages
     /// of the system region and its tables, and one for each page within the lengths of P0 and P1, in whole pages.
     pub fn new(alloc: Global, space: &Space) -> Result<Tables, NoMemory>
-        ensures { IfOk result (λ tables. walked tables ≡ mapped space.now all_absent) }
+        ensures walked { IfOk result (λ tables. walked tables ≡ mapped space.now all_absent) }
+        ensures kept { IfOk result (λ tables. kept tables ≡ none_kept) }
     {
         let memory = new_memory(alloc, space)?;
         Ok(Tables { memory })
@@ -59,11 +60,23 @@ impl Tables {
     /// What the tables say of a page: `Outside` exactly where no area has the page.
     #[inline]
     pub fn walk(&self, page: u32) -> Walk
-        ensures { result ≡ walked self.now page }
+        ensures value { result ≡ walked self.now page }
+        ensures small { IfSome (prot_said result) (λ prot. prot ≤ 15) }
     {
         match self.memory.place_of(page) {
             Some(place) => said_by(entry_at(&self.memory.bytes, place)),
             None => Walk::Outside { length: true },
+        }
+    }
+
+    /// The frame that an absent page was in when it was kept; none where it wasn't kept, or was set or cleared since.
+    #[inline]
+    pub fn kept_frame(&self, page: u32) -> Option<u32>
+        ensures { result ≡ kept self.now page }
+    {
+        match self.memory.place_of(page) {
+            Some(place) => kept_by(entry_at(&self.memory.bytes, place)),
+            None => None,
         }
     }
 
@@ -73,6 +86,7 @@ impl Tables {
         requires inside { is_inside (walked self.old page) ≡ true }
         requires frame { frame < 32768 }
         ensures walked { walked self.new ≡ changed (walked self.old) page (set_in (walked self.old page) frame) }
+        ensures kept { kept self.new ≡ changed (kept self.old) page None }
         ensures mapped { (areas : List Area) → (held : ℕ → Option Held) → walked self.old ≡ mapped areas held
             → walked self.new ≡ mapped areas (changed held page (Some (record { frame = frame; modified = false }))) }
     {
@@ -82,11 +96,27 @@ impl Tables {
         self.memory.put(page, place, entry);
     }
 
+    /// Makes a resident page absent and remembers its frame, and leaves all other pages.
+    #[inline]
+    pub fn keep(&mut self, page: u32)
+        requires resident { is_resident (walked self.old page) ≡ true }
+        ensures walked { walked self.new ≡ changed (walked self.old) page (cleared (walked self.old page)) }
+        ensures kept { kept self.new ≡ changed (kept self.old) page (frame_of (walked self.old page)) }
+        ensures mapped { (areas : List Area) → (held : ℕ → Option Held) → walked self.old ≡ mapped areas held
+            → walked self.new ≡ mapped areas (changed held page None) }
+    {
+        let place = self.memory.place_inside(page);
+        let old = entry_at(&self.memory.bytes, place);
+        let entry = entry_with(false, prot_in(old), true, frame_in(old));
+        self.memory.put(page, place, entry);
+    }
+
     /// Makes a page of an area absent, and leaves all other pages.
     #[inline]
     pub fn clear(&mut self, page: u32)
         requires inside { is_inside (walked self.old page) ≡ true }
         ensures walked { walked self.new ≡ changed (walked self.old) page (cleared (walked self.old page)) }
+        ensures kept { kept self.new ≡ changed (kept self.old) page None }
         ensures mapped { (areas : List Area) → (held : ℕ → Option Held) → walked self.old ≡ mapped areas held
             → walked self.new ≡ mapped areas (changed held page None) }
     {
@@ -101,6 +131,7 @@ impl Tables {
     pub fn mark(&mut self, page: u32)
         requires resident { is_resident (walked self.old page) ≡ true }
         ensures walked { walked self.new ≡ changed (walked self.old) page (marked (walked self.old page)) }
+        ensures kept { kept self.new ≡ changed (kept self.old) page None }
         ensures mapped { (areas : List Area) → (held : ℕ → Option Held) → walked self.old ≡ mapped areas held
             → walked self.new ≡ mapped areas (changed held page (option_map dirty (held page))) }
     {

@@ -2,8 +2,8 @@
 ghost use Rattle.std.specs.Prelude.{◌≡◌, ◌≤◌, ◌<◌, ◌*◌, ◌+◌, ◌-◌, ◌/◌, ◌^◌, ℕ, true, length, Some, IfOk, IfSome};
 ghost use Rattle.vax_table.specs.Entry as entry_spec;
 ghost use Rattle.vax_table.specs.Layout as layout;
-ghost use Rattle.vax_table.specs.Layout.{IsSound, walked_in, total, IsFilled};
-ghost use Rattle.vax_table.specs.Mapping.{changed, is_inside, mapped, all_absent};
+ghost use Rattle.vax_table.specs.Layout.{IsSound, walked_in, kept_in, total, IsFilled};
+ghost use Rattle.vax_table.specs.Mapping.{changed, is_inside, mapped, all_absent, none_kept};
 ghost use Rattle.vax_space.specs.Faults.{IsSpace};
 ghost use Rattle.vax_space.specs.Areas.{prot_of};
 ghost use Rattle.vax_space.specs.Reference.{program_end, control_start};
@@ -98,6 +98,7 @@ impl Memory {
         requires inside { is_inside (walked_in self.old page) ≡ true }
         ensures sound { IsSound self.new }
         ensures walked { walked_in self.new ≡ changed (walked_in self.old) page (entry_spec.said_by entry) }
+        ensures kept { kept_in self.new ≡ changed (kept_in self.old) page (entry_spec.kept_by entry) }
     {
         put_entry(&mut self.bytes, place, entry);
     }
@@ -194,6 +195,7 @@ fn first_bytes(
 pub fn new_memory(alloc: Global, space: &Space) -> Result<Memory, NoMemory>
     ensures sound { IfOk result IsSound }
     ensures walked { IfOk result (λ memory. walked_in memory ≡ mapped space.now all_absent) }
+    ensures kept { IfOk result (λ memory. kept_in memory ≡ none_kept) }
 {
     let p0_end = space.p0_end();
     let p1_start = space.p1_start();

@@ -102,6 +102,52 @@ fn clear(tables: &mut Tables, page: u32) {
     tables.clear(page);
 }
 
+/// Keeps the page's frame where it is resident.
+fn keep(tables: &mut Tables, page: u32) {
+    if let Walk::Resident {
+        frame: _,
+        prot: _,
+        modified: _,
+    } = tables.walk(page)
+    {
+        tables.keep(page);
+    }
+}
+
+#[test]
+fn kept_frames(rt: HostRuntime) -> Result<(), Fail> {
+    let mut tables = Tables::new(rt.alloc(), &space(rt.alloc())?)?;
+    set(&mut tables, 1, 7);
+    mark(&mut tables, 1);
+    keep(&mut tables, 1);
+    set(&mut tables, 0x2FF, 0);
+    keep(&mut tables, 0x2FF);
+    set(&mut tables, 0x400000, 9);
+    keep(&mut tables, 0x400000);
+    set(&mut tables, 0x400000, 10);
+    set(&mut tables, 0x3FFFFD, 5);
+    keep(&mut tables, 0x3FFFFD);
+    clear(&mut tables, 0x3FFFFD);
+    let rows = [
+        (0, None),
+        (1, Some(7)),
+        (2, None),
+        (0x2FF, Some(0)),
+        (0x3FFFFD, None),
+        (0x400000, None),
+        (0x401000, None),
+        (0x401200, None),
+    ];
+    for (page, want) in rows {
+        assert_eq!(rt; tables.kept_frame(page), want, "page {page:X}");
+    }
+    assert_eq!(rt; tables.walk(1), absent(4));
+    assert!(rt; tables.memory.bytes.len() > 18_440);
+    // not valid, protection 4 in bits 30:27, bit 26 for the frame 7 that it remembers
+    assert_eq!(rt; entry_at(&tables.memory.bytes, 4609), 0x2400_0007);
+    Ok(())
+}
+
 #[test]
 fn last_call_counts(rt: HostRuntime) -> Result<(), Fail> {
     let mut tables = Tables::new(rt.alloc(), &space(rt.alloc())?)?;

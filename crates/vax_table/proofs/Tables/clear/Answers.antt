@@ -1,7 +1,7 @@
-use Rattle.std.proofs.Common.{◌≡◌, true, false, ap, sym, ◌∙◌}
-use Rattle.vax_table.specs.Entry.{said_by, entry_at, prot_in, frame_in, entry_with}
+use Rattle.std.proofs.Common.{◌≡◌, ◌<◌, ◌^◌, None, arith, true, false, ap, sym, ◌∙◌}
+use Rattle.vax_table.specs.Entry.{said_by, kept_by, entry_at, prot_in, frame_in, entry_with}
 use Rattle.vax_table.specs.Mapping.{changed, set_in, cleared, marked, is_inside, is_resident}
-use Rattle.vax_table.proofs.Changes.{old_says, said_set, said_cleared, said_marked, change_mapped, set_mapped, cleared_mapped, marked_mapped, resident_is_inside}
+use Rattle.vax_table.proofs.Changes.{old_says, said_set, said_cleared, said_marked, change_mapped, set_mapped, cleared_mapped, marked_mapped, resident_is_inside, keeps_none, keeps_no_more, frame_fits_in}
 use Rattle.vax_table.proofs.Tables.clear.Goals as goal
 
 pub returns-clause-walked : goal.returns-clause-walked
@@ -12,6 +12,12 @@ returns-clause-walked c =
     c.put.ensures.walked
     ∙ ap (changed _ c.args.page)
     (ap said_by entry ∙ said_cleared _ (sym (ap is_inside says) ∙ c.requires.inside) ∙ ap cleared (sym says))
+
+pub returns-clause-kept : goal.returns-clause-kept
+returns-clause-kept c =
+    let old = c.entry_at-old.ensures ∙ ap (λ bytes. entry_at bytes c.place_inside-place.result) c.deref.ensures.value in
+    let entry = c.entry_with-entry.ensures ∙ ap (λ prot. entry_with false prot false 0) (c.prot_in.ensures.value ∙ ap prot_in old) in
+    c.put.ensures.kept ∙ ap (changed _ c.args.page) (ap kept_by entry ∙ keeps_no_more _)
 
 pub returns-clause-mapped : goal.returns-clause-mapped
 returns-clause-mapped c areas held =

@@ -1,7 +1,7 @@
-use Rattle.std.proofs.Common.{◌≡◌, true, false, ap, sym, ◌∙◌}
-use Rattle.vax_table.specs.Entry.{said_by, entry_at, prot_in, frame_in, entry_with}
+use Rattle.std.proofs.Common.{◌≡◌, ◌<◌, ◌^◌, None, arith, true, false, ap, sym, ◌∙◌}
+use Rattle.vax_table.specs.Entry.{said_by, kept_by, entry_at, prot_in, frame_in, entry_with}
 use Rattle.vax_table.specs.Mapping.{changed, set_in, cleared, marked, is_inside, is_resident}
-use Rattle.vax_table.proofs.Changes.{old_says, said_set, said_cleared, said_marked, change_mapped, set_mapped, cleared_mapped, marked_mapped, resident_is_inside}
+use Rattle.vax_table.proofs.Changes.{old_says, said_set, said_cleared, said_marked, change_mapped, set_mapped, cleared_mapped, marked_mapped, resident_is_inside, keeps_none, keeps_no_more, frame_fits_in}
 use Rattle.vax_table.proofs.Tables.mark.Goals as goal
 
 pub returns-clause-walked : goal.returns-clause-walked
@@ -14,6 +14,14 @@ returns-clause-walked c =
     c.put.ensures.walked
     ∙ ap (changed _ c.args.page)
     (ap said_by entry ∙ said_marked _ (sym (ap is_resident says) ∙ c.requires.resident) ∙ ap marked (sym says))
+
+pub returns-clause-kept : goal.returns-clause-kept
+returns-clause-kept c =
+    let old = c.entry_at-old.ensures ∙ ap (λ bytes. entry_at bytes c.place_inside-place.result) c.deref.ensures.value in
+    let prot = c.prot_in.ensures.value ∙ ap prot_in old in
+    let frame = c.frame_in.ensures.value ∙ ap frame_in old in
+    let entry = c.entry_with-entry.ensures ∙ ap (λ p. entry_with true p true c.frame_in.result) prot ∙ ap (λ f. entry_with true (prot_in (entry_at c.args.self.now.memory.bytes.items c.place_inside-place.result)) true f) frame in
+    c.put.ensures.kept ∙ ap (changed _ c.args.page) (ap kept_by entry ∙ keeps_none _ _ true (frame_fits_in _))
 
 pub returns-clause-mapped : goal.returns-clause-mapped
 returns-clause-mapped c areas held =

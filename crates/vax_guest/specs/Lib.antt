@@ -1,0 +1,2 @@
+pub mod Executive
+pub mod Workload
