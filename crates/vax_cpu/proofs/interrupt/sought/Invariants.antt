@@ -1,6 +1,6 @@
 use Rattle.std.proofs.Common.{◌≡◌, ◌≤◌}
 use Rattle.vax_flat.specs.Step.{highest}
-use Rattle.vax_cpu.proofs.interrupt.highest.Given as goal
+use Rattle.vax_cpu.proofs.interrupt.sought.Given as goal
 
 -- no level above is requested
 abbrev pub invariant-loop-level : goal.invariant-loop-level
