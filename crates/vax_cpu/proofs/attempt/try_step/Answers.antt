@@ -10,5 +10,5 @@ returns-clause-tried g c =
     let old : Present = record { state = state_of c.args.core.now c.args.term.now; view = g.P.Port.view c.args.port.now } in
     tried_at whole_step old c.conclude.result (record { state = _; view = _ }) _ _ (search rules) (search rules)
     (c.conclude.ensures.tried old whole
-    (subst (λ (p : Present). Follows (whole p.state) p (told c.work-done.new.txn c.work-done.result) (present g.P.Port.view c.work-done.new.txn)) c.begin-txn.ensures.present c.work-done.ensures.exact)
-    (undone_unless g.P.Port.view g.P.Port.since 46 c.work-done.result c.begin-txn.result c.work-done.new.txn c.work-done.ensures.keeps old (c.begin-txn.ensures.undone ∙ ap bare c.begin-txn.ensures.present)))
+    (subst (λ (p : Present). Follows (whole p.state) p (told c.work_once-done.new.txn c.work_once-done.result) (present g.P.Port.view c.work_once-done.new.txn)) c.begin-txn.ensures.present c.work_once-done.ensures.exact)
+    (undone_unless g.P.Port.view g.P.Port.since 46 c.work_once-done.result c.begin-txn.result c.work_once-done.new.txn c.work_once-done.ensures.keeps old (c.begin-txn.ensures.undone ∙ ap bare c.begin-txn.ensures.present)))

@@ -50,8 +50,8 @@ returns-clause-ran g c =
       now,
       c.loop-steps.invariant.ran,
       tried_at whole_step now c.conclude-last-2.result (record { state = _; view = _ }) _ _ (search rules) (search rules)
-          (c.conclude-last-2.ensures.tried now whole c.work-done-2.ensures.exact
-          (undone_unless g.P.Port.view g.P.Port.since 46 c.work-done-2.result c.loop-steps.txn c.work-done-2.new.txn c.work-done-2.ensures.keeps now c.loop-steps.invariant.undone)),
+          (c.conclude-last-2.ensures.tried now whole c.work_once-done.ensures.exact
+          (undone_unless g.P.Port.view g.P.Port.since 46 c.work_once-done.result c.loop-steps.txn c.work_once-done.new.txn c.work_once-done.ensures.keeps now c.loop-steps.invariant.undone)),
     )
 
 pub returns-then-not-is_done-clause-ran : goal.returns-then-not-is_done-clause-ran
