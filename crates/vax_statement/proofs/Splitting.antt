@@ -1,8 +1,7 @@
 -- A statement's operands, one token after another.
-use Rattle.std.proofs.Common.{◌≡◌, ℕ, zero, suc, ◌+◌, ◌-◌, ◌<◌, ◌≤◌, Bool, true, false, ◌&&◌, ◌==◌, List, [], ◌∷◌, ◌++◌, length, take, drop, get_or, refl, sym, ap, ◌∙◌, arith, append_assoc, append-nil}
+use Rattle.std.proofs.Common.{◌≡◌, ℕ, ◌+◌, ◌-◌, ◌<◌, ◌≤◌, true, false, List, [], ◌∷◌, ◌++◌, length, take, drop, get_or, refl, sym, arith, append_assoc}
 use Rattle.std.proofs.lemmas.List.{drop_more, take_more, get_or-drop, length-drop, drop_all, take_all}
 use Rattle.vax_lex.specs.declared.token.Token.{Token}
-use Rattle.vax_statement.specs.Tokens.{is_mark}
 use Rattle.vax_statement.specs.Parts.{depth_after, separates, split_from}
 
 -- what stands between two places, with one token more

@@ -1,5 +1,5 @@
 -- What the code's tables of names mean.
-use Rattle.std.proofs.Common.{◌≡◌, ℕ, List, [], ◌∷◌, Option, Some, None, cond, map, refl, ap, ◌∙◌, true, false, ◌+◌, ◌<◌, length, drop, get_or}
+use Rattle.std.proofs.Common.{◌≡◌, ℕ, List, [], ◌∷◌, Option, Some, cond, map, refl, ap, ◌∙◌, true, false, ◌+◌, ◌<◌, length, drop, get_or}
 use Rattle.std.proofs.lemmas.List.{drop_more}
 use Rattle.std.specs.Str.{str_eq_ignore_ascii_case}
 use Rattle.vax_statement.specs.declared.directives.Named.{Named}

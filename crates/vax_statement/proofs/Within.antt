@@ -1,5 +1,5 @@
 -- The parts of a statement are made of its tokens.
-use Rattle.std.proofs.Common.{◌≡◌, ℕ, ◌+◌, ◌-◌, Bool, true, false, ◌&&◌, ◌==◌, cond, List, [], ◌∷◌, ◌++◌, drop, take, length, slice_get, IfSome, Option, Some, None}
+use Rattle.std.proofs.Common.{ℕ, ◌+◌, ◌-◌, true, false, ◌&&◌, ◌==◌, cond, List, [], ◌∷◌, ◌++◌, drop, take, length, slice_get, IfSome, Option, Some, None}
 use Rattle.std.specs.List.{All}
 use Rattle.std.proofs.lemmas.List.Elements.{All-append, All-take, All-drop, All-head, All-tail, All-cons, All-nil}
 use Rattle.vax_lex.specs.declared.token.Token.{Token}
@@ -7,7 +7,7 @@ use Rattle.vax_lex.specs.Tokens.{IsTokenOf}
 use Rattle.vax_statement.specs.Tokens.{is_mark, is_name_token, is_text_token}
 use Rattle.vax_statement.specs.Items.{bracket_from, ends_with_bracket, whole, item_at, item_of, Piece, Characters, Value, with_piece, closes, pieces_from, pieces_of}
 use Rattle.vax_statement.specs.Parts.{depth_after, split_from, parts}
-use Rattle.vax_statement.specs.Reading.{Headed, doubled, behind_marks, headed, What, Nothing, Operation, Assignment, Malformed, operation, assignment_or, Parsed, behind_label, parsed}
+use Rattle.vax_statement.specs.Reading.{Headed, doubled, behind_marks, headed, What, Operation, Malformed, operation, assignment_or, behind_label, parsed}
 use Rattle.vax_statement.specs.Within.{WhatWithin, Within, ItemWithin, PieceWithin}
 
 abbrev HeadWithin : List ℕ → Option Headed → Type 0

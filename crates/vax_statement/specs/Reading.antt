@@ -1,8 +1,8 @@
 -- The parts of a statement (VAX MACRO and Instruction Set Reference Manual, "VAX MACRO source statement format" and
 -- "Direct assignment statement").
-use Rattle.std.specs.Prelude.{ℕ, ◌+◌, Bool, true, false, ◌&&◌, ◌==◌, not, if◌then◌else◌, List, [], ◌∷◌, drop, Option, Some, None}
+use Rattle.std.specs.Prelude.{ℕ, Bool, true, false, ◌&&◌, ◌==◌, if◌then◌else◌, List, [], ◌∷◌, drop, Option, Some, None}
 use Rattle.vax_lex.specs.declared.token.Token.{Token}
-use Rattle.vax_statement.specs.Tokens.{is_mark, begins_with, is_name_token}
+use Rattle.vax_statement.specs.Tokens.{is_mark, is_name_token}
 use Rattle.vax_statement.specs.declared.reading.Label.{Label}
 use Rattle.vax_statement.specs.declared.reading.Body.{Body}
 use Rattle.vax_statement.specs.declared.reading.Body.TheVariants as body

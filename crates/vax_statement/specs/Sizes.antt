@@ -1,5 +1,5 @@
 -- The operands that modes come to (VAX MACRO and Instruction Set Reference Manual, "Addressing modes").
-use Rattle.std.specs.Prelude.{ℕ, Bool, true, false, ◌==◌, nat_lt, if◌then◌else◌, ℤ, pos, negsuc, Option, Some, None, Result, Ok, Err, is_ok}
+use Rattle.std.specs.Prelude.{ℕ, Bool, true, ◌==◌, nat_lt, if◌then◌else◌, pos, negsuc, Option, Some, None, Result, Ok, Err, is_ok}
 use Rattle.vax_isa.specs.declared.actions.Narrow.{Narrow}
 use Rattle.vax_isa.specs.declared.actions.Narrow.TheVariants as narrow
 use Rattle.vax_lex.specs.declared.value.Value.{Value}

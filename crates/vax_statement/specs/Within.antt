@@ -1,6 +1,5 @@
 -- The parts of a statement are made of its tokens.
-use Rattle.std.specs.Prelude.{ℕ, List, All, Option, IfSome}
-use Rattle.vax_lex.specs.declared.token.Token.{Token}
+use Rattle.std.specs.Prelude.{ℕ, List, All, IfSome}
 use Rattle.vax_lex.specs.Tokens.{IsTokenOf}
 use Rattle.vax_statement.specs.Items.{Item, Piece, Characters, Value}
 use Rattle.vax_statement.specs.Reading.{What, Nothing, Assignment, Operation, Malformed, Parsed}

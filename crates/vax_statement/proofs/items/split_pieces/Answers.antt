@@ -1,4 +1,4 @@
-use Rattle.std.proofs.Common.{◌≡◌, ◌+◌, ◌-◌, map, take, drop, sym, ◌∙◌, arith, ap}
+use Rattle.std.proofs.Common.{◌≡◌, map, sym, ◌∙◌, arith, ap}
 use Rattle.std.proofs.lemmas.List.{map-append}
 use Rattle.vax_statement.specs.Items.{piece_seen, prefixed}
 use Rattle.vax_statement.proofs.Texts.{text_piece, value_ends, value_grows}
