@@ -1,0 +1,4 @@
+pub mod Within
+pub mod Splitting
+pub mod Tables
+pub mod Texts

@@ -1,0 +1,9 @@
+pub mod Tokens
+pub mod Registers
+pub mod Modes
+pub mod Parts
+pub mod Reading
+pub mod Directives
+pub mod Sizes
+pub mod Within
+pub mod Items
