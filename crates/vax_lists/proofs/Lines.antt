@@ -1,12 +1,12 @@
 -- Lists of pages in frames.
-use Rattle.std.proofs.Common.{ℕ, zero, suc, ◌≡◌, ◌≢◌, ◌+◌, ◌-◌, ◌<◌, ◌≤◌, Bool, true, false, Option, Some, None, List, [], ◌∷◌, ◌++◌, length, length-append, slice_index, slice_index_or, slice_set, length-set, get_or-set_same, get_or-set_other, refl, ap, sym, ◌∙◌, subst, arith, inl, inr, eqb, replicate}
-use Rattle.std.proofs.lemmas.Bool.{cases_Bool, cases_eq, eq-eqb, ne_eqb, eqb-true}
+use Rattle.std.proofs.Common.{ℕ, zero, suc, ◌≡◌, ◌≢◌, ◌+◌, ◌-◌, ◌<◌, ◌≤◌, Some, None, List, [], ◌∷◌, ◌++◌, length, length-append, slice_index, slice_index_or, slice_set, length-set, get_or-set_same, get_or-set_other, refl, ap, sym, ◌∙◌, subst, arith, inl, inr, replicate}
+use Rattle.std.proofs.lemmas.Bool.{cases_eq, eq-eqb, ne_eqb}
 use Rattle.std.proofs.lemmas.List.{length-replicate}
 use Rattle.std.specs.Prelude.{◌==◌, if◌then◌else◌, slice_get}
 use Rattle.vax_lists.specs.declared.line.Placed.{Placed}
-use Rattle.vax_lists.specs.Lines.{Line, frame_in, without, pages_of, placed, EachOnce}
+use Rattle.vax_lists.specs.Lines.{Line, frame_in, without, placed, EachOnce}
 use Rattle.vax_lists.specs.Links.{Chain, Away, Once, AllBelow, walk, pages_at, AreLinked, nodes_of}
-use Rattle.vax_lists.proofs.Links.{pushed, removed, last_within, before_within, after_within, walk_chain, walk-length, limit_away, away_push, once_push, below_push, below_remove, below_at, once_remove, away_parts, empty_chain, few_nodes}
+use Rattle.vax_lists.proofs.Links.{pushed, removed, last_within, before_within, after_within, walk_chain, walk-length, limit_away, once_push, below_push, below_remove, below_at, once_remove, empty_chain, few_nodes}
 
 -- what stands in a list with one more, and with one less
 pub in_appended : (xs : List Placed) (p q f : ℕ) → frame_in xs p ≡ None → frame_in (xs ++ placed p f ∷ []) q ≡ (if q == p then Some f else frame_in xs q)
@@ -372,3 +372,6 @@ takes next before pages limit count page frame after prior l a b is linked there
     let t = takes_at next before pages limit count page frame l is linked there in
     subst (λ (z : ℕ). Takes next before pages limit count page frame z prior l) (sym (read next frame after t.frame_next a))
     (subst (λ (z : ℕ). Takes next before pages limit count page frame (slice_index next frame) z l) (sym (read before frame prior t.frame_before b)) t)
+
+pub each_once : (next before pages : List ℕ) (limit count : ℕ) (l : Line) → line_of next pages limit count ≡ l → IsLinked next before pages limit count → EachOnce l.items
+each_once next before pages limit count l is linked = subst EachOnce (ap (λ (z : Line). z.items) is) linked.each_once

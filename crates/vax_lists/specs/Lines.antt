@@ -1,5 +1,5 @@
 -- Pages in frames, in the order in which they came.
-use Rattle.std.specs.Prelude.{◌≡◌, ℕ, ◌==◌, if◌then◌else◌, Option, Some, None, option_map, List, [], ◌∷◌, ◌++◌, map, slice_get}
+use Rattle.std.specs.Prelude.{◌≡◌, ℕ, ◌==◌, if◌then◌else◌, Option, Some, None, List, [], ◌∷◌, ◌++◌}
 use Rattle.vax_lists.specs.declared.line.Placed.{Placed}
 
 -- the pages with their frames; the frames are below a limit

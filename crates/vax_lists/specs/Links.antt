@@ -1,5 +1,5 @@
 -- A list of frames, each of which names the next and the one before, in a circle through a node of its own.
-use Rattle.std.specs.Prelude.{◌≡◌, ◌≢◌, ℕ, zero, suc, ◌+◌, ◌<◌, ◌≤◌, List, [], ◌∷◌, map, length, slice_index}
+use Rattle.std.specs.Prelude.{◌≡◌, ◌≢◌, ℕ, zero, suc, ◌+◌, ◌<◌, ◌≤◌, List, [], ◌∷◌, length, slice_index}
 use Rattle.vax_lists.specs.declared.line.Placed.{Placed}
 use Rattle.vax_lists.specs.Lines.{EachOnce, placed}
 

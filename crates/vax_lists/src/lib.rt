@@ -3,6 +3,8 @@
 
 mod line;
 mod lists;
+#[cfg(test)]
+mod tests;
 
 pub use crate::line::{PageList, Placed};
 pub use crate::lists::Lists;

@@ -1,6 +1,6 @@
 //! A list of pages in frames, doubly linked.
 ghost use Rattle.std.specs.Prelude.{◌≡◌, ◌≢◌, ◌+◌, ◌<◌, ◌≤◌, ℕ, Some, None, [], length, slice_get, IfOk};
-ghost use Rattle.vax_lists.specs.Lines.{Line, frame_in, without, with_items, appended};
+ghost use Rattle.vax_lists.specs.Lines.{EachOnce, Line, frame_in, without, with_items, appended};
 
 use std::alloc::Global;
 use std::marker::Model;
@@ -68,7 +68,8 @@ impl PageList {
     /// The page that came first, none where no page stands in it.
     #[inline]
     pub fn first(&self) -> Option<Placed>
-        ensures { result ≡ slice_get self.now.items 0 }
+        ensures first { result ≡ slice_get self.now.items 0 }
+        ensures once { EachOnce self.now.items }
     {
         if self.count == 0 {
             return None;

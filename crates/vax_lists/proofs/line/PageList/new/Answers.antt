@@ -1,4 +1,4 @@
-use Rattle.std.proofs.Common.{◌≡◌, ◌+◌, refl, arith}
+use Rattle.std.proofs.Common.{◌+◌, refl}
 use Rattle.vax_lists.proofs.Lines.{new_linked, new_line}
 use Rattle.vax_lists.proofs.line.PageList.new.Goals as goal
 

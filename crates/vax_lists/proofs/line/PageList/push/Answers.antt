@@ -1,4 +1,4 @@
-use Rattle.std.proofs.Common.{◌≡◌, arith}
+use Rattle.std.proofs.Common.{arith}
 use Rattle.vax_lists.proofs.Lines.{pushes}
 use Rattle.vax_lists.proofs.line.PageList.push.Goals as goal
 

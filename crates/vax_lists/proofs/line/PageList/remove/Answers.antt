@@ -1,4 +1,4 @@
-use Rattle.std.proofs.Common.{◌≡◌, ap, length, arith}
+use Rattle.std.proofs.Common.{ap, length, arith}
 use Rattle.vax_lists.specs.Lines.{Line}
 use Rattle.vax_lists.proofs.Lines.{takes, takes_at}
 use Rattle.vax_lists.proofs.line.PageList.remove.Goals as goal
