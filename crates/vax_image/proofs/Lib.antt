@@ -1,0 +1,9 @@
+pub mod Steps
+pub mod FieldLaws
+pub mod FirstVersion
+pub mod SecondVersion
+pub mod Whole
+pub mod Loops
+pub mod Spaces
+pub mod Taking
+pub mod WritingLaws

@@ -1,0 +1,6 @@
+pub mod Image
+pub mod Texts
+pub mod File
+pub mod Reading
+pub mod Views
+pub mod Start
