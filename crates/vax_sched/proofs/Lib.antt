@@ -1,0 +1,8 @@
+pub mod LineLaws
+pub mod WordLaws
+pub mod NumberLaws
+pub mod DueLaws
+pub mod ReadLaws
+pub mod KeptLaws
+pub mod PrintLaws
+pub mod SameLaws

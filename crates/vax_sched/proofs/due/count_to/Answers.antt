@@ -1,0 +1,9 @@
+use Rattle.std.proofs.Common.{rules, nat_le}
+use Rattle.std.proofs.lemmas.List.Sorted.{IsPartitionPoint-from_clause, IsPartitionedBy-leb}
+use Rattle.vax_sched.proofs.DueLaws.{split_to}
+use Rattle.vax_sched.proofs.due.count_to.Goals as goal
+
+pub returns-clause-split : goal.returns-clause-split
+returns-clause-split c =
+    split_to c.args.rules.now c.args.turn c.partition_point.result
+    (IsPartitionPoint-from_clause (λ rule. nat_le rule.turn c.args.turn) c.args.rules.now c.partition_point.result c.partition_point.ensures.partitioned (IsPartitionedBy-leb (λ rule. rule.turn) c.args.rules.now c.args.turn c.requires) (λ a r q k. search rules))

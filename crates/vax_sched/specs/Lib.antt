@@ -1,0 +1,8 @@
+pub mod Lines
+pub mod Words
+pub mod Rules
+pub mod Views
+pub mod Kept
+pub mod Faults
+pub mod Due
+pub mod Printed
