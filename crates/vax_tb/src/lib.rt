@@ -3,5 +3,7 @@
 #![tactic(auto)]
 
 mod buffer;
+#[cfg(test)]
+mod tests;
 
 pub use crate::buffer::Buffer;
