@@ -16,6 +16,7 @@ pub mod Windows
 pub mod OperandBounds
 pub mod Bounds
 pub mod Steps
+pub mod Parts
 pub mod Results
 pub mod Worked
 pub mod Fronts

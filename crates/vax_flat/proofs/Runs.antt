@@ -56,7 +56,7 @@ none_missing (ReadsRun addr len mode next) resident memory all =
 none_missing (WritesRun addr bytes mode next) resident memory all =
     none_more resident (violation memory addr (length bytes) mode Write) (record { addr = addr; len = length bytes; writes = true }) _ (none_absent resident memory addr (length bytes) mode Write all) (λ fine. none_missing next resident (written_run memory addr bytes) (still_resident_run resident memory addr bytes all))
 
-after_none : (m : Flat) (resident : ℕ → Bool) (outcome : Outcome Leaf) → AllResident resident m.memory → first_missing resident (touches_after m outcome) ≡ None
+pub after_none : (m : Flat) (resident : ℕ → Bool) (outcome : Outcome Leaf) → AllResident resident m.memory → first_missing resident (touches_after m outcome) ≡ None
 unfolding first_missing
 after_none m resident (Ends leaf memory) all = refl
 after_none m resident (Raised e) all = none_missing (whole_delivery e (state_of m)) resident m.memory all

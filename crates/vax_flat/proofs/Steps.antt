@@ -71,17 +71,17 @@ both_covered : (ws : List ℕ) (xs ys : List Range) → AreCovered ws xs → Are
 both_covered ws [] ys cx cy = cy
 both_covered ws (x ∷ xs) ys cx cy = (cx.0, both_covered ws xs ys cx.1 cy)
 
-joined : (n m : ℕ) (xs ys : List Range) → n + m ≤ 20 → LieIn [] n xs → LieIn [] m ys → AreFew (xs ++ ys)
+pub joined : (n m : ℕ) (xs ys : List Range) → n + m ≤ 20 → LieIn [] n xs → LieIn [] m ys → AreFew (xs ++ ys)
 joined n m xs ys few x y =
     few_of (x.others ++ y.others) (xs ++ ys) (let a = x.few in let b = y.few in simp length-append (omega arith))
     (both_covered _ xs ys (all_covered x.others (x.others ++ y.others) (λ addr len c. covered_behind x.others y.others addr len c) xs x.covered)
     (all_covered y.others (x.others ++ y.others) (λ addr len c. covered_ahead x.others y.others addr len c) ys y.covered))
 
-nothing : (how : Flow) (t : State) → IsWhole how → (memory : List Area) → LieIn [] 0 (touches_of (leaf how t) memory)
+pub nothing : (how : Flow) (t : State) → IsWhole how → (memory : List Area) → LieIn [] 0 (touches_of (leaf how t) memory)
 unfolding touches_of
 nothing how t h memory = record { others = []; few = omega arith; covered = tt }
 
-touched_after : (m : Flat) (outcome : Outcome Leaf) → LieIn [] 2 (touches_after m outcome)
+pub touched_after : (m : Flat) (outcome : Outcome Leaf) → LieIn [] 2 (touches_after m outcome)
 touched_after m (Ends x memory) = record { others = []; few = omega arith; covered = tt }
 touched_after m (Raised e) = delivered_adds _ touches_lie [] 0 leaf nothing e (state_of m) m.memory
 
@@ -89,7 +89,7 @@ pub step_is_few : (m : Flat) → AreFew (step_touches m)
 step_is_few m =
     joined 16 2 _ _ (omega arith) (whole_adds _ touches_lie [] 0 leaf nothing (state_of m) m.memory) (touched_after m (outcome_of (whole_step (state_of m)) m.memory))
 
-whole_leaf : (how : Flow) (t : State) → IsWhole how → (memory : List Area) → LeavesNoPart (outcome_of (leaf how t) memory)
+pub whole_leaf : (how : Flow) (t : State) → IsWhole how → (memory : List Area) → LeavesNoPart (outcome_of (leaf how t) memory)
 unfolding outcome_of
 whole_leaf how t h memory = h
 

@@ -1,5 +1,5 @@
 -- The instruction at PC, by the action that the table gives its opcode (VAX Architecture Reference Manual, instruction descriptions).
-use Rattle.std.specs.Prelude.{Bool, true, false, Option, Some, None}
+use Rattle.std.specs.Prelude.{ℕ, Bool, true, false, Option, Some, None}
 use Rattle.vax_isa.specs.declared.actions.Action.{Action}
 use Rattle.vax_isa.specs.declared.actions.Action.TheVariants as action
 use Rattle.vax_isa.specs.Rows.{action_of}
@@ -27,6 +27,20 @@ acted (action.Queue q) s next = unbuilt s next
 acted (action.System i) s next = system i s next
 acted (action.Text t) s next = unbuilt s next
 
+-- the first part of it: of a string instruction, which may be made in parts, so many of its units; of any other all
+unfoldable pub acted_part : Action → State → (Flow → State → Accesses Leaf) → Accesses Leaf
+acted_part (action.Integer i) s next = integer i s next
+acted_part (action.Control c) s next = control c s next
+acted_part (action.Field f) s next = unbuilt s next
+acted_part (action.Call c) s next = unbuilt s next
+acted_part (action.Queue q) s next = unbuilt s next
+acted_part (action.System i) s next = system i s next
+acted_part (action.Text t) s next = unbuilt s next
+
+-- a later part of the string instruction with this opcode, by the registers alone, which say what remains
+unfoldable pub resumed : ℕ → State → (Flow → State → Accesses Leaf) → Accesses Leaf
+resumed opcode s next = unbuilt s next
+
 -- the actions of which the definition stands above
 abbrev pub is_built : Action → Bool
 is_built (action.Integer i) = true
@@ -52,5 +66,13 @@ unfoldable pub acted_if : Option Action → State → (Flow → State → Access
 acted_if (Some a) s next = acted a s next
 acted_if None s next = Raises Privileged
 
+unfoldable pub acted_part_if : Option Action → State → (Flow → State → Accesses Leaf) → Accesses Leaf
+acted_part_if (Some a) s next = acted_part a s next
+acted_part_if None s next = Raises Privileged
+
 unfoldable pub instruction : State → (Flow → State → Accesses Leaf) → Accesses Leaf
 instruction s next = fetched 1 s (λ opcode s. acted_if (action_of opcode) s next)
+
+-- its first part
+unfoldable pub first_part : State → (Flow → State → Accesses Leaf) → Accesses Leaf
+first_part s next = fetched 1 s (λ opcode s. acted_part_if (action_of opcode) s next)

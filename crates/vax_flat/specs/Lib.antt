@@ -16,5 +16,6 @@ pub mod Instruction
 pub mod Grammar
 pub mod Evaluation
 pub mod Step
+pub mod Parts
 pub mod Bound
 pub mod Start

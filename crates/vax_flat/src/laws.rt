@@ -1,5 +1,5 @@
 //! The laws of the flat machine, each the contract of a call that does nothing.
-ghost use Rattle.std.specs.Prelude.{◌≡◌, ◌<◌, ◌%◌, pos, ℕ, ◌≤◌, Bool, true, false, Some, IsSome, List, [], ◌∷◌, ◌++◌, length};
+ghost use Rattle.std.specs.Prelude.{◌≡◌, ◌<◌, ◌%◌, pos, ℕ, ◌≤◌, Bool, true, false, None, Some, IsSome, List, [], ◌∷◌, ◌++◌, length};
 ghost use Rattle.vax_space.specs.declared.Area.{Area};
 ghost use Rattle.vax_flat.specs.Accesses.{Accesses, Leaf};
 ghost use Rattle.vax_flat.specs.declared.Cut.TheVariants.{Absent};
@@ -26,7 +26,8 @@ ghost use Rattle.vax_isa.specs.declared.actions.Binary.TheVariants.{Add, AddWith
 ghost use Rattle.vax_flat.specs.Integer.{of_one, of_two, rotated};
 ghost use Rattle.vax_flat.specs.Quiet.{RaisesNothing};
 ghost use Rattle.vax_flat.specs.Delivery.{delivery, interrupt};
-ghost use Rattle.vax_flat.specs.Step.{Flat, leaf, step_touches, whole_delivery};
+ghost use Rattle.vax_flat.specs.Step.{Flat, leaf, step, step_touches, whole_delivery};
+ghost use Rattle.vax_flat.specs.Parts.{Place, Completes, GoesBy, touches_at, turn};
 ghost use Rattle.vax_flat.specs.Bound.{AreFew, LeavesNoPart, is_string};
 ghost use Rattle.vax_flat.specs.Grammar.{Specifier, Reading, Reads, Sequence, IsInstruction, read_operand, read_operands};
 ghost use Rattle.vax_flat.specs.Evaluation.{AreAhead, DoSame, Takes, comes_to, all_come_to, passed, next_operands, next_instruction};
@@ -69,12 +70,20 @@ pub fn deliveries_raise_nothing()
     ensures step { (e : Exception) → (s : State) → RaisesNothing (whole_delivery e s) }
 {}
 
-/// Whatever the state, a step touches ranges that lie in at most 20 windows of 512 bytes, and so in at most 40 pages, its delivery's among them.
+/// Whatever the state, a step touches ranges that lie in at most 20 windows of 512 bytes, and so in at most 40 pages, its delivery's among them; and
+/// so does an attempt at a part of one.
 /// Only a string instruction leaves a part of itself for a later attempt.
 pub fn steps_are_bounded()
     ensures touches { (m : Flat) → AreFew (step_touches m) }
+    ensures attempts { (place : Place) → AreFew (touches_at place) }
     ensures whole { (action : Action) → is_string action ≡ false → (s : State) → (memory : List Area) → LeavesNoPart (outcome_of (acted action s leaf) memory) }
     ensures delivery { (e : Exception) → (s : State) → (memory : List Area) → LeavesNoPart (outcome_of (whole_delivery e s) memory) }
+{}
+
+/// A step that is made in parts comes to the step: whichever part completes it, and whether by its end, by its ending or by the delivery of an
+/// exception that a later part meets.
+pub fn parts_agree()
+    ensures { (m : Flat) → (place : Place) → (next : Flat) → m.ending ≡ None → GoesBy m place → turn place ≡ Completes next → step m ≡ next }
 {}
 
 /// Results that say something apart from how they are worked out: MNEG is SUB from 0, ADWC without a carry is ADD and SBWC without a borrow is SUB,

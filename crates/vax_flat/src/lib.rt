@@ -10,7 +10,7 @@ mod laws;
 
 pub use crate::laws::{
     arrival_agrees, deliveries_raise_nothing, grammar_agrees, grammar_reads, joined_ranges,
-    operands_are_listed, results_agree, steps_are_bounded, stops_for_missing_pages,
+    operands_are_listed, parts_agree, results_agree, steps_are_bounded, stops_for_missing_pages,
 };
 use vax_space::Violation;
 
