@@ -1,11 +1,12 @@
 -- Calls that can be undone unless they completed an instruction.
-use Rattle.std.proofs.Common.{◌≡◌, ℕ, ◌+◌, ◌≤◌, Result, Ok, Err, ◌∙◌, arith}
+use Rattle.std.proofs.Common.{◌≡◌, ℕ, ◌+◌, ◌≤◌, Result, Ok, Err, ap, ◌∙◌, arith}
 use Rattle.vax_flat.specs.declared.Flow.{Flow}
 use Rattle.vax_flat.specs.declared.Flow.TheVariants as flow
 use Rattle.vax_flat.specs.Port.{View}
+use Rattle.vax_flat.specs.OverPort.{Present}
 use Rattle.vax_undo.specs.declared.txn.CutShort.{CutShort}
 use Rattle.vax_undo.specs.declared.txn.Txn.{Txn as Transaction}
-use Rattle.vax_undo.specs.Transaction.{IsLeft, IsSame, Keeps, KeepsUnlessDone}
+use Rattle.vax_undo.specs.Transaction.{IsLeft, IsLeftOpen, IsSame, Keeps, KeepsUnlessDone}
 
 module _ {P : Type 0} (view : P → View) (along : P → P → Type 0) where
   abbrev Kept : ℕ → Transaction P → Transaction P → Type 0
@@ -37,12 +38,23 @@ module _ {P : Type 0} (view : P → View) (along : P → P → Type 0) where
   left_through : (n m : ℕ) (a b c : Transaction P) → Kept n a b → IsLeft along m b c → IsLeft along (n + m) a c
   left_through n m a b c first second = record { room = omega (arith, first.room, second.room); same = same_through a b c first.same second.same }
 
+  open_of : (n : ℕ) (a b : Transaction P) → Kept n a b → IsLeftOpen view along n a b
+  open_of n a b keeps = record { state = ap (λ (p : Present). p.state) keeps.undone; ready = keeps.ready; room = keeps.room; same = keeps.same }
+
+  open_through : (n m : ℕ) (a b c : Transaction P) → Kept n a b → IsLeftOpen view along m b c → IsLeftOpen view along (n + m) a c
+  open_through n m a b c first second = record {
+    state = second.state ∙ ap (λ (p : Present). p.state) first.undone;
+    ready = λ h. second.ready (first.ready h);
+    room = omega (arith, first.room, second.room);
+    same = same_through a b c first.same second.same;
+  }
+
   -- what can always be undone
   pub always : (n : ℕ) (r : Result Flow CutShort) (a b : Transaction P) → Kept n a b → KeepsUnlessDone view along n r a b
   always n (Ok flow.Done) a b keeps = left_of n a b keeps
   always n (Ok flow.Clocked) a b keeps = keeps
   always n (Ok (flow.Trap trap)) a b keeps = keeps
-  always n (Ok (flow.More opcode units)) a b keeps = keeps
+  always n (Ok (flow.More opcode units)) a b keeps = open_of n a b keeps
   always n (Ok (flow.Ended e)) a b keeps = keeps
   always n (Err e) a b keeps = keeps
 
@@ -51,6 +63,6 @@ module _ {P : Type 0} (view : P → View) (along : P → P → Type 0) where
   behind n m (Ok flow.Done) a b c first second = left_through n m a b c first second
   behind n m (Ok flow.Clocked) a b c first second = kept_through n m a b c first second
   behind n m (Ok (flow.Trap trap)) a b c first second = kept_through n m a b c first second
-  behind n m (Ok (flow.More opcode units)) a b c first second = kept_through n m a b c first second
+  behind n m (Ok (flow.More opcode units)) a b c first second = open_through n m a b c first second
   behind n m (Ok (flow.Ended e)) a b c first second = kept_through n m a b c first second
   behind n m (Err e) a b c first second = kept_through n m a b c first second

@@ -1,5 +1,6 @@
 pub mod Undo
 pub mod Left
+pub mod Open
 pub mod Numbers
 pub mod Ranges
 pub mod Blocks

@@ -1,5 +1,5 @@
 -- What a transaction means, and how its log is undone.
-use Rattle.std.specs.Prelude.{◌≡◌, ℕ, ◌+◌, ◌-◌, ◌^◌, ◌<◌, ◌≤◌, Bool, true, nat_lt, if◌then◌else◌, Option, Some, None, Result, Ok, Err, List, [], ◌∷◌, length}
+use Rattle.std.specs.Prelude.{◌≡◌, ℕ, ◌+◌, ◌-◌, ◌^◌, ◌<◌, ◌≤◌, Bool, true, nat_lt, if◌then◌else◌, Option, Some, None, Result, Ok, Err, List, [], ◌∷◌, length, slice_set}
 use Rattle.vax_word.specs.declared.Core.{Core}
 use Rattle.vax_space.specs.declared.Access.TheVariants.{Write}
 use Rattle.vax_space.specs.declared.Area.{Area}
@@ -60,6 +60,28 @@ put_back Bytes e p = with_view p (with_number_back p.view e.addr e.number e.old)
 
 abbrev pub undo : Entry → Present → Present
 undo e p = put_back e.kept e p
+
+-- the registers with the old value of an entry, where it is one of theirs
+abbrev pub restored_by : Kept → Entry → Core → Core
+restored_by Register e core = record core { regs = slice_set core.regs e.number e.old }
+restored_by Stack e core = record core { stacks = slice_set core.stacks e.number e.old }
+restored_by Requests e core = record core { sisr = e.old }
+restored_by Timer e core = record core { iccs = e.old }
+restored_by Clock e core = record core { clock = e.old }
+restored_by Taken e core = core
+restored_by Sent e core = core
+restored_by Bytes e core = core
+
+-- what that needs
+abbrev pub FitsIn : Kept → Entry → Type 0
+FitsIn Register e = (e.number < 16) × (e.old < 2 ^ 32)
+FitsIn Stack e = (e.number < 5) × (e.old < 2 ^ 32)
+FitsIn Requests e = e.old < 2 ^ 16
+FitsIn Timer e = e.old < 2 ^ 8
+FitsIn Clock e = e.old < 2 ^ 16
+FitsIn Taken e = Unit {0}
+FitsIn Sent e = Unit {0}
+FitsIn Bytes e = Unit {0}
 
 -- a log is undone from its last entry backwards
 abbrev pub undo_all : List Entry → Present → Present
@@ -131,11 +153,19 @@ module _ {P : Type 0} where
     pub room : room old ≤ room new + count
     pub same : IsSame along old new
 
-  -- An instruction that was completed may have written last of all what the log doesn't undo; any other can be undone.
+  -- A call used at most so many entries; its log still tells registers and console as they were, and need not undo the bytes.
+  pub record IsLeftOpen (view : P → View) (along : P → P → Type 0) (count : ℕ) (old new : Transaction P) : Type 0 where
+    pub state : (undone view new).state ≡ (undone view old).state
+    pub ready : IsReady view old → IsReady view new
+    pub room : room old ≤ room new + count
+    pub same : IsSame along old new
+
+  -- An instruction that was completed may have written last of all what the log doesn't undo, and so may a part of a string
+  -- instruction, of which the log still tells the registers at the start; any other can be undone.
   abbrev pub KeepsUnlessDone : (P → View) → (P → P → Type 0) → ℕ → Result Flow CutShort → Transaction P → Transaction P → Type 0
   KeepsUnlessDone view along count (Ok flow.Done) old new = IsLeft along count old new
   KeepsUnlessDone view along count (Ok flow.Clocked) old new = Keeps view along count old new
   KeepsUnlessDone view along count (Ok (flow.Trap trap)) old new = Keeps view along count old new
-  KeepsUnlessDone view along count (Ok (flow.More opcode units)) old new = Keeps view along count old new
+  KeepsUnlessDone view along count (Ok (flow.More opcode units)) old new = IsLeftOpen view along count old new
   KeepsUnlessDone view along count (Ok (flow.Ended e)) old new = Keeps view along count old new
   KeepsUnlessDone view along count (Err e) old new = Keeps view along count old new

@@ -167,6 +167,35 @@ fn changes_are_kept(rt: HostRuntime) -> Result<(), Fail> {
 }
 
 #[test]
+fn a_part_is_kept(rt: HostRuntime) -> Result<(), Fail> {
+    let start = core();
+    let mut core = core();
+    let mut term = Term {
+        input: Vec::new(rt.alloc()),
+        place: 0,
+        out: None,
+    };
+    let mut memory = memory(rt.alloc())?;
+    let mut txn = Txn::begin(&mut core, &mut term, &mut memory);
+    txn.set_reg(3, 70);
+    txn.set_reg(3, 71);
+    txn.set_reg(15, 72);
+    txn.set_psl(Psl(8));
+    txn.set_stack(4, 73);
+    txn.set_sisr(74);
+    txn.set_iccs(75);
+    txn.set_clock(76);
+    assert_eq!(rt; txn.write_run(0x402, &[5, 6], USER), Ok(()));
+    assert_eq!(rt; txn.commit_part(), start);
+    assert_eq!(rt;
+        (core.regs[3], core.regs[15], core.psl, core.stacks[4]),
+        (71, 72, Psl(8), 73)
+    );
+    assert_eq!(rt; memory.read(0x402, 2, USER), Ok(0x0605));
+    Ok(())
+}
+
+#[test]
 fn input_is_taken(rt: HostRuntime) -> Result<(), Fail> {
     let mut core = core();
     let mut term = Term {

@@ -16,7 +16,7 @@ pub struct CutShort;
 
 /// Work on the registers, the console and a port, with a log of the old values of all that it changed.
 ///
-/// A transaction ends by [`Txn::commit`] or by [`Txn::unwind`]. Its log takes 96 entries; a call that changes something takes at most one.
+/// A transaction ends by [`Txn::commit`], by [`Txn::commit_part`] or by [`Txn::unwind`]. Its log takes 96 entries; a call that changes something takes at most one.
 pub struct Txn<'a, P: Port> {
     core: &'a mut Core,
     term: &'a mut Term,
@@ -128,12 +128,29 @@ fn put_back<P: Port>(entry: Entry, core: &mut Core, term: &mut Term, port: &mut 
     }
 }
 
+ghost use Rattle.vax_undo.specs.Transaction.{restored_by, FitsIn};
+
+/// Puts the old value of an entry back into these registers, where it is one of theirs.
+fn restore(entry: Entry, core: &mut Core)
+    requires { FitsIn entry.kept entry }
+    ensures { core.new ≡ restored_by entry.kept entry core.old }
+{
+    match entry.kept {
+        Kept::Register => core.regs[entry.number as usize] = entry.old as u32,
+        Kept::Stack => core.stacks[entry.number as usize] = entry.old as u32,
+        Kept::Requests => core.sisr = entry.old as u16,
+        Kept::Timer => core.iccs = entry.old as u8,
+        Kept::Clock => core.clock = entry.old as u16,
+        Kept::Taken | Kept::Sent | Kept::Bytes => {}
+    }
+}
+
 impl<'a, P: Port> Txn<'a, P> {
     ghost use Rattle.vax_space.specs.Reference.{violation};
     ghost use Rattle.vax_flat.specs.State.{register, with_register, with_psl, with_stack, with_requests, with_timer, with_clock, with_taken, with_sent};
     ghost use Rattle.vax_flat.specs.Memory.{bytes_from};
     ghost use Rattle.vax_flat.specs.Port.{loaded, stored, stored_run, stop, unmarked};
-    ghost use Rattle.vax_undo.specs.Transaction.{bare, state_of, present, undone, room, IsReady, IsSame, Keeps, with_state, with_view, next_byte, after_take};
+    ghost use Rattle.vax_undo.specs.Transaction.{bare, state_of, present, undone, room, IsLeftOpen, IsReady, IsSame, Keeps, with_state, with_view, next_byte, after_take};
 
     /// Begins a transaction, at which nothing is sent to the console yet.
     #[inline]
@@ -425,6 +442,7 @@ impl<'a, P: Port> Txn<'a, P> {
         ensures answer { err_of result ≡ stop (present P.view self.old).view addr (length from.now) mode Access.Write }
         ensures present { present P.view self.new ≡ with_view (present P.view self.old) (stored_run (present P.view self.old).view addr from.now mode) }
         ensures keeps { OnErr result (Keeps P.view P.since 0 self.old self.new) }
+        ensures left { IsLeftOpen P.view P.since 0 self.old self.new }
         ensures room { room self.new ≡ room self.old }
         ensures same { IsSame P.since self.old self.new }
     {
@@ -468,6 +486,33 @@ impl<'a, P: Port> Txn<'a, P> {
         let sent = term.out;
         term.out = None;
         sent
+    }
+
+    /// Keeps all, and tells the registers as they were when the transaction began: a part of an instruction was completed.
+    #[cold]
+    pub fn commit_part(self) -> Core
+        requires { IsReady P.view self }
+        ensures core { self.exit.0.now ≡ self.entry.core.now }
+        ensures term { self.exit.1.0.now ≡ record self.entry.term.now { out = None } }
+        ensures port { self.exit.1.1.0.now ≡ self.entry.port.now }
+        ensures start { result ≡ (undone P.view self.entry).state.core }
+    {
+        let Txn {
+            core,
+            term,
+            port: _,
+            mut log,
+            origin,
+            why: _,
+        } = self;
+        term.out = None;
+        let mut start = *core;
+        while let Some(last) = log.pop() {
+            restore(last, &mut start);
+        }
+        start.regs[15] = origin.pc;
+        start.psl = origin.psl;
+        start
     }
 
     /// Puts everything back as it was when the transaction began. Pages that were written to stay marked.
