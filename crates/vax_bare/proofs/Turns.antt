@@ -6,7 +6,9 @@ use Rattle.vax_flat.specs.Port.{View, StandsFor, layout}
 use Rattle.vax_flat.specs.Step.{Flat, run, step, ended, with_byte_sent}
 use Rattle.vax_flat.specs.Memory.{is_mapped, AllResident}
 use Rattle.vax_flat.proofs.Memory.{is_mapped-layout}
-use Rattle.vax_flat.proofs.Runs.{none_missing_step, run-run, going_back, output_extends}
+use Rattle.vax_flat.specs.Parts.{At}
+use Rattle.vax_flat.proofs.Parts.{leaves_nothing, none_missing_attempt}
+use Rattle.vax_flat.proofs.Runs.{run-run, going_back, output_extends}
 use Rattle.vax_outside.specs.Channels.{Channels, Grew, GrewByPrefix, only}
 use Rattle.vax_outside.specs.declared.traits.Chan.TheVariants.{Out}
 use Rattle.vax_outside.proofs.Growth.{prefix_within}
@@ -56,7 +58,7 @@ module _ (m : Flat) (n : ℕ) (cpu next : Cpu) (view after : View) (old mid : Op
 
 module _ (m : Flat) (n : ℕ) (cpu next : Cpu) (view after : View) (old mid : Option Channels) (at : IsAt m n cpu view old mid) (count : ℕ) (sent : Option ℕ) (a : AreAttempts view (flat_of cpu at.memory (run n m).output) count (attempt.Step sent) next after) where
   stepped : run (n + (count + 1)) m ≡ flat_of next a.attempted.1.memory (with_byte_sent a.here.output sent)
-  stepped = turn m n cpu next view after old mid at count (attempt.Step sent) a ∙ a.attempted.1.step
+  stepped = turn m n cpu next view after old mid at count (attempt.Step sent) a ∙ a.attempted.1.step a.here a.running refl
 
   output_is : (run (n + (count + 1)) m).output ≡ with_byte_sent (run n m).output sent
   output_is = ap (λ (x : Flat). x.output) stepped ∙ ap (λ o. with_byte_sent o sent) a.silent
@@ -66,9 +68,9 @@ module _ (m : Flat) (n : ℕ) (cpu next : Cpu) (view after : View) (old mid : Op
   goes_on new wrote = record {
     memory = a.attempted.1.memory;
     here = stepped ∙ ap (flat_of next a.attempted.1.memory) (sym (ap (λ (x : Flat). x.output) stepped));
-    stands = a.attempted.1.stands;
+    stands = a.attempted.1.leaves.stands;
     resident = alike_resident view.resident after.resident at.memory a.attempted.1.memory a.pages
-        (a.attempted.1.stands.areas ∙ (ap layout a.areas ∙ sym at.stands.areas)) at.resident;
+        (a.attempted.1.leaves.stands.areas ∙ (ap layout a.areas ∙ sym at.stands.areas)) at.resident;
     wrote = subst (λ o. Grew old new (only Out o)) (sym output_is) wrote;
   }
 
@@ -137,7 +139,7 @@ module _ (limit : ℕ) (m : Flat) (n : ℕ) (cpu next : Cpu) (view after : View)
   pub ends : (e : Ending) → AreAttempts view (flat_of cpu at.memory (run n m).output) count (attempt.Ended e) next after → n + (count + 1) ≤ limit → IsRun limit m next after old mid (record { ending = Some e; steps = n + (count + 1) })
   unfolding run
   ends e a low =
-      let is : run (n + (count + 1)) m ≡ ended a.here e = turn m n cpu next view after old mid at count (attempt.Ended e) a ∙ a.attempted.1 in
+      let is : run (n + (count + 1)) m ≡ ended a.here e = turn m n cpu next view after old mid at count (attempt.Ended e) a ∙ a.attempted.1.step a.here a.running refl in
       let same : a.here ≡ run (count + n) m = from_start m n cpu next view after old mid at count (attempt.Ended e) a in
       let going : (run (count + n) m).ending ≡ None = ap (λ (x : Flat). x.ending) (sym same ∙ sym a.stays.0) in
       let stays : a.here ≡ flat_of next a.here.memory a.here.output = sym a.stays.0 in
@@ -159,9 +161,13 @@ module _ (limit : ℕ) (m : Flat) (n : ℕ) (cpu next : Cpu) (view after : View)
   none_absent page a =
       let all : AllResident view.resident a.here.memory =
       alike_resident view.resident view.resident at.memory a.here.memory refl (a.stays.1.areas ∙ (ap layout a.areas ∙ sym at.stands.areas)) at.resident in
-      let none = none_missing_step a.here view.resident all in
+      let none = none_missing_attempt (At a.here) view.resident all in
       let no : Some page ≡ None = sym a.attempted.0 ∙ none in
       cc
+
+  -- nor is a part left
+  pub none_left : AreAttempts view (flat_of cpu at.memory (run n m).output) count attempt.Part next after → ⊥
+  none_left a = leaves_nothing a.here a.attempted.1.next a.attempted.1.turn
 
   -- a byte that couldn't be written
   pub cut_short : (byte : ℕ) (new : Option Channels) → AreAttempts view (flat_of cpu at.memory (run n m).output) count (attempt.Step (Some byte)) next after → n + (count + 1) ≤ limit → GrewByPrefix mid new (only Out (byte ∷ [])) → IsCutShort limit m old new

@@ -24,7 +24,6 @@ fn core_of(begin: u32) -> Core {
 
 /// Makes so many steps, and answers how many weren't made.
 fn make_steps(cpu: &mut Cpu, port: &mut Plain, steps: u64) -> u64
-    requires closed { cpu.old.latch ≡ None }
     requires unsent { cpu.old.term.out ≡ None }
 {
     let mut left = steps;

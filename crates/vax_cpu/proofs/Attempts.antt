@@ -10,14 +10,17 @@ use Rattle.vax_flat.specs.State.{State, with_sent}
 use Rattle.vax_flat.specs.Port.{View, unmarked, with_marks}
 use Rattle.vax_flat.specs.Accesses.{Accesses, Leaf, Went}
 use Rattle.vax_flat.specs.OverPort.{Present, Comes, Stops, over_port, Follows}
-use Rattle.vax_flat.specs.Step.{leaf, whole, whole_step}
+use Rattle.vax_flat.specs.Bound.{IsWhole}
+use Rattle.vax_flat.specs.Step.{leaf}
+use Rattle.vax_flat.specs.Parts.{part, part_step}
 use Rattle.std.specs.Prelude.{is_none}
 use Rattle.vax_undo.specs.declared.txn.CutShort.{CutShort}
 use Rattle.vax_undo.specs.declared.txn.Txn.{Txn as Transaction}
 use Rattle.vax_undo.specs.Transaction.{bare, undone, IsReady, Keeps, KeepsUnlessDone}
 use Rattle.vax_cpu.specs.declared.attempt.Tried.{Tried}
 use Rattle.vax_cpu.specs.declared.attempt.Tried.TheVariants as tried
-use Rattle.vax_cpu.specs.Tried.{IsTried, UnlessDone, UnlessEnded, ending_of, is_done, marked_as}
+use Rattle.vax_cpu.specs.Tried.{IsTried, LeadsBack, UnlessDone, UnlessEnded, ending_of, is_done, marked_as}
+use Rattle.vax_cpu.specs.declared.cpu.Open.{Open}
 use Rattle.vax_cpu.specs.Batch.{Ran}
 
 -- what was undone is as before, but for the marks
@@ -44,9 +47,18 @@ module _ (tree : State → (Flow → State → Accesses Leaf) → Accesses Leaf)
     byte,
   )
 
+  -- a part that is kept
+  pub parted : (done : Open) → Follows (tree old.state) old (Ok (flow.More done.opcode done.units)) mid → new.state ≡ with_sent mid.state None → new.view ≡ mid.view → done.start ≡ old.state.core → IsTried (λ s. tree s leaf) old (tried.Part done) new
+  parted done follows state view start = (
+    mid.state,
+    came (flow.More done.opcode done.units) follows ∙ ap (λ v. Comes (Went (flow.More done.opcode done.units) mid.state) v) (sym view),
+    state,
+    start,
+  )
+
   -- one that ends the run
-  pub finished : (how : Flow) (e : Ending) → Follows (tree old.state) old (Ok how) mid → ending_of how ≡ Some e → new.view.marked ≡ mid.view.marked → new ≡ marked_as old new.view → IsTried (λ s. tree s leaf) old (tried.Ended e) new
-  finished how e follows is marks same = (how, mid.state, mid.view, came how follows, is, sym marks, same)
+  pub finished : (how : Flow) (e : Ending) → Follows (tree old.state) old (Ok how) mid → ending_of how ≡ Some e → new.view.marked ≡ mid.view.marked → new ≡ marked_as old new.view → IsWhole how → IsTried (λ s. tree s leaf) old (tried.Ended e) new
+  finished how e follows is marks same whole = (how, mid.state, mid.view, came how follows, is, sym marks, same, whole)
 
   -- one that was cut short
   pub missed : (page : ℕ) → Follows (tree old.state) old (Err (cut.Absent page)) mid → new.view.marked ≡ mid.view.marked → new ≡ marked_as old new.view → IsTried (λ s. tree s leaf) old (tried.Absent page) new
@@ -78,10 +90,6 @@ done_of (Err short) h = cc
 pub not_done : (work : Result Flow CutShort) → is_done work ≡ false → work ≡ Ok flow.Done → ⊥
 not_done work h is = let no : true ≡ false = sym (ap is_done is) ∙ h in cc
 
-pub unless_ended : (ended : Option Ending) (e : Ending) (fact : Type 0) → ended ≡ Some e → UnlessEnded ended fact → fact
-unless_ended None e fact is holds = cc
-unless_ended (Some x) e fact is holds = holds
-
 pub unless_in : (ended : Option Ending) (a b : Type 0) → (a → b) → UnlessEnded ended a → UnlessEnded ended b
 unless_in None a b f holds = tt
 unless_in (Some e) a b f holds = f holds
@@ -90,37 +98,57 @@ pub unless : (work : Result Flow CutShort) (a b : Type 0) → (a → b) → Unle
 unless (Ok how) a b f holds = unless_in (ending_of how) a b f holds
 unless (Err short) a b f holds = f holds
 
-pub kept_unless : {P : Type 0} (view : P → View) (along : P → P → Type 0) (count : ℕ) (work : Result Flow CutShort) (old next : Transaction P) → KeepsUnlessDone view along count work old next → UnlessDone work (Keeps view along count old next)
-kept_unless view along count (Ok flow.Done) old next keeps = tt
-kept_unless view along count (Ok flow.Clocked) old next keeps = keeps
-kept_unless view along count (Ok (flow.Trap trap)) old next keeps = keeps
-kept_unless view along count (Ok (flow.More opcode units)) old next keeps = keeps
-kept_unless view along count (Ok (flow.Ended e)) old next keeps = keeps
-kept_unless view along count (Err short) old next keeps = keeps
+-- what isn't a part is undone
+pub ended_back : {P : Type 0} (view : P → View) (old : Present) (how : Flow) (e : Ending) (txn : Transaction P) → IsWhole how → ending_of how ≡ Some e → LeadsBack view old (Ok how) txn → undone view txn ≡ bare old
+ended_back view old flow.Done e txn whole is back = cc
+ended_back view old flow.Clocked e txn whole is back = back
+ended_back view old (flow.Trap trap) e txn whole is back = back
+ended_back view old (flow.More opcode units) e txn whole is back = absurd whole
+ended_back view old (flow.Ended x) e txn whole is back = back
 
--- what conclude needs of the work of a transaction that had just begun
-module _ {P : Type 0} (view : P → View) (along : P → P → Type 0) (count : ℕ) (work : Result Flow CutShort) (old next : Transaction P) (keeps : KeepsUnlessDone view along count work old next) where
-  pub ready_unless : IsReady view old → UnlessDone work (IsReady view next)
-  ready_unless ready = unless work _ _ (λ (k : Keeps view along count old next). k.ready ready) (kept_unless view along count work old next keeps)
+-- what isn't completed leads back to registers and console, and its log can be undone
+abbrev Backs : {P : Type 0} → (P → View) → Transaction P → Transaction P → Type 0
+Backs view old next = ((undone view next).state ≡ (undone view old).state) × (IsReady view old → IsReady view next)
 
-  pub undone_unless : (start : Present) → undone view old ≡ bare start → UnlessDone work (undone view next ≡ bare start)
-  undone_unless start e = unless work _ _ (λ (k : Keeps view along count old next). k.undone ∙ e) (kept_unless view along count work old next keeps)
+module _ {P : Type 0} (view : P → View) (along : P → P → Type 0) (count : ℕ) where
+  backs_of : (old next : Transaction P) → Keeps view along count old next → Backs view old next
+  backs_of old next keeps = (ap (λ (p : Present). p.state) keeps.undone, keeps.ready)
 
-  pub unsent_unless : (undone view old).state.sent ≡ None → UnlessDone work ((undone view next).state.sent ≡ None)
-  unsent_unless e = unless work _ _ (λ (k : Keeps view along count old next). ap (λ (p : Present). p.state.sent) k.undone ∙ e) (kept_unless view along count work old next keeps)
+  backs_unless : (work : Result Flow CutShort) (old next : Transaction P) → KeepsUnlessDone view along count work old next → UnlessDone work (Backs view old next)
+  backs_unless (Ok flow.Done) old next keeps = tt
+  backs_unless (Ok flow.Clocked) old next keeps = backs_of old next keeps
+  backs_unless (Ok (flow.Trap trap)) old next keeps = backs_of old next keeps
+  backs_unless (Ok (flow.More opcode units)) old next keeps = (keeps.state, keeps.ready)
+  backs_unless (Ok (flow.Ended e)) old next keeps = backs_of old next keeps
+  backs_unless (Err short) old next keeps = backs_of old next keeps
+
+  -- what conclude needs of the work of a transaction that had just begun
+  pub leads_back : (work : Result Flow CutShort) (old next : Transaction P) → KeepsUnlessDone view along count work old next → (start : Present) → undone view old ≡ bare start → LeadsBack view start work next
+  leads_back (Ok flow.Done) old next keeps start e = tt
+  leads_back (Ok flow.Clocked) old next keeps start e = keeps.undone ∙ e
+  leads_back (Ok (flow.Trap trap)) old next keeps start e = keeps.undone ∙ e
+  leads_back (Ok (flow.More opcode units)) old next keeps start e = keeps.state ∙ ap (λ (p : Present). p.state) e
+  leads_back (Ok (flow.Ended e)) old next keeps start is = keeps.undone ∙ is
+  leads_back (Err short) old next keeps start e = keeps.undone ∙ e
+
+  pub ready_unless : (work : Result Flow CutShort) (old next : Transaction P) → KeepsUnlessDone view along count work old next → IsReady view old → UnlessDone work (IsReady view next)
+  ready_unless work old next keeps ready = unless work _ _ (λ (k : Backs view old next). k.1 ready) (backs_unless work old next keeps)
+
+  pub unsent_unless : (work : Result Flow CutShort) (old next : Transaction P) → KeepsUnlessDone view along count work old next → (undone view old).state.sent ≡ None → UnlessDone work ((undone view next).state.sent ≡ None)
+  unsent_unless work old next keeps e = unless work _ _ (λ (k : Backs view old next). ap (λ (s : State). s.sent) k.0 ∙ e) (backs_unless work old next keeps)
 
 -- a step that was kept and sent nothing, and what it began anew from
-pub renewed_step : (now mid next : Present) → Follows (whole now.state) now (Ok flow.Done) mid →
-    next ≡ record { state = with_sent mid.state None; view = mid.view } → None ≡ mid.state.sent → IsTried whole_step now (tried.Step None) next
+pub renewed_step : (now mid next : Present) → Follows (part now.state) now (Ok flow.Done) mid →
+    next ≡ record { state = with_sent mid.state None; view = mid.view } → None ≡ mid.state.sent → IsTried part_step now (tried.Step None) next
 renewed_step now mid next follows same silent =
-    kept whole now mid next flow.Done None follows refl (ap (λ (p : Present). p.state) same) (ap (λ (p : Present). p.view) same) silent
+    kept part now mid next flow.Done None follows refl (ap (λ (p : Present). p.state) same) (ap (λ (p : Present). p.view) same) silent
 
 -- one that sent a byte
-pub sent_step : (now mid next new : Present) (byte : ℕ) → Follows (whole now.state) now (Ok flow.Done) mid →
+pub sent_step : (now mid next new : Present) (byte : ℕ) → Follows (part now.state) now (Ok flow.Done) mid →
     next ≡ record { state = with_sent mid.state None; view = mid.view } → new.state ≡ with_sent next.state None → new.view ≡ next.view → Some byte ≡ mid.state.sent →
-    IsTried whole_step now (tried.Step (Some byte)) new
+    IsTried part_step now (tried.Step (Some byte)) new
 sent_step now mid next new byte follows same state view sent =
-    kept whole now mid new flow.Done (Some byte) follows refl (state ∙ ap (λ (p : Present). with_sent p.state None) same) (view ∙ ap (λ (p : Present). p.view) same) sent
+    kept part now mid new flow.Done (Some byte) follows refl (state ∙ ap (λ (p : Present). with_sent p.state None) same) (view ∙ ap (λ (p : Present). p.view) same) sent
 
-pub ran_more : (count : ℕ) (old now next : Present) → Ran count old now → IsTried whole_step now (tried.Step None) next → next.state.input ≡ now.state.input → Ran (count + 1) old next
+pub ran_more : (count : ℕ) (old now next : Present) → Ran count old now → IsTried part_step now (tried.Step None) next → next.state.input ≡ now.state.input → Ran (count + 1) old next
 ran_more count old now next ran one input = rw add-one (now, ran, one, input)

@@ -1,4 +1,5 @@
 pub mod Levels
 pub mod Attempts
+pub mod Settled
 pub mod Steps
 pub mod Runs

@@ -1,32 +1,36 @@
 -- Several attempts, said by the flat machine.
 use Rattle.std.proofs.Common.{Bool, false, ◌+◌, ◌⊎◌, ◌≡◌, ◌<◌, ℕ, zero, suc, Option, Some, None, List, [], refl, sym, ap, subst, ◌∙◌, arith, inl, inr}
 use Rattle.std.proofs.lemmas.Bool.{cases_lt}
+use Rattle.vax_word.specs.declared.Core.{Core}
 use Rattle.vax_space.specs.declared.Area.{Area}
 use Rattle.vax_space.specs.Reference.{page_of}
 use Rattle.vax_flat.specs.declared.Flow.TheVariants as flow
 use Rattle.vax_flat.specs.State.{State, with_sent}
 use Rattle.vax_flat.specs.Memory.{byte_at}
 use Rattle.vax_flat.specs.Port.{View, StandsFor, with_marks}
-use Rattle.vax_flat.specs.Accesses.{Went}
-use Rattle.vax_flat.specs.Outcome.{first_missing, marked_by, outcome_of}
+use Rattle.vax_flat.specs.Accesses.{Accesses, Leaf, Went}
+use Rattle.vax_flat.specs.Outcome.{Raised, first_missing, marked_by}
 use Rattle.vax_flat.specs.OverPort.{Present}
-use Rattle.vax_flat.specs.Step.{Flat, step, step_touches, run, state_of, whole_step, concluded, with_byte_sent}
+use Rattle.vax_flat.specs.Step.{Flat, step, run, state_of, concluded, with_byte_sent}
+use Rattle.vax_flat.specs.Parts.{Place, At, machine_at, outcome_at, part_step, start_of, touches_at, tree_at}
+use Rattle.vax_flat.proofs.Parts.{turns_agree}
 use Rattle.vax_cpu.specs.declared.attempt.Tried.{Tried}
 use Rattle.vax_cpu.specs.declared.attempt.Tried.TheVariants as tried
-use Rattle.vax_cpu.specs.Tried.{IsFinal, IsTried, Made, marked_as}
+use Rattle.vax_cpu.specs.Tried.{IsFinal, IsTried, Made, marked_as, start_by, tree_of, with_registers}
 use Rattle.vax_cpu.specs.Batch.{Ran}
 use Rattle.vax_cpu.specs.declared.cpu.Attempt.{Attempt}
 use Rattle.vax_cpu.specs.declared.cpu.Attempt.TheVariants as attempt
 use Rattle.vax_cpu.specs.declared.cpu.Cpu.{Cpu}
+use Rattle.vax_cpu.specs.declared.cpu.Open.{Open}
 use Rattle.vax_flat.specs.declared.Ending.TheVariants.{Unbuilt}
 use Rattle.vax_undo.specs.declared.term.Term.{Term}
 use Rattle.vax_undo.specs.Transaction.{state_of as state_at}
-use Rattle.vax_cpu.specs.Attempt.{flat_of, answer_of, Attempted, IsAsBefore, Marks, StopsInside}
+use Rattle.vax_cpu.specs.Attempt.{flat_of, answer_of, open_after, Attempted, IsAsBefore, IsAt, IsOpenAfter, LeavesMemory, Marks, StopsInside}
 use Rattle.vax_cpu.specs.Batch.{AreAttempts, Raises, StaysAt, marks_after}
-use Rattle.vax_cpu.proofs.Steps.{Unmoved, attempted, inside, raises_there, stands_marked, step_concluded, unmoved}
+use Rattle.vax_cpu.proofs.Steps.{Unmoved, attempted, inside, raises_there, stands_marked, start_there, step_concluded, tree_there, unmoved}
 use Rattle.vax_flat.proofs.Inside.{tree_alike}
 use Rattle.vax_space.specs.Areas.{area_of}
-use Rattle.std.specs.Prelude.{is_some}
+use Rattle.std.specs.Prelude.{is_some, IsSome}
 
 -- the flat machine is where a transaction is
 pub record IsWhere (view : View) (p : Present) (m : Flat) : Type 0 where
@@ -40,7 +44,7 @@ pub record IsWhere (view : View) (p : Present) (m : Flat) : Type 0 where
 pub record Reaches (view : View) (m : Flat) (count : ℕ) (p : Present) : Type 0 where
   pub here : Flat
   pub steps : run count m ≡ here
-  pub resident : (k : ℕ) → k < count → first_missing view.resident (step_touches (run k m)) ≡ None
+  pub resident : (k : ℕ) → k < count → first_missing view.resident (touches_at (At (run k m))) ≡ None
   pub silent : here.output ≡ m.output
   pub input : here.input ≡ m.input
   pub absent : (addr : ℕ) → view.resident (page_of addr) ≡ false → byte_at here.memory addr ≡ byte_at m.memory addr
@@ -55,36 +59,36 @@ state_after : (s : State) (m : Flat) (memory : List Area) → s.input ≡ m.inpu
 state_after s m memory e k = record { core = s.core; input = e k; taken = s.taken; sent = None }
 
 -- one more step
-reaches_more : (view : View) (m : Flat) (count : ℕ) (mid next : Present) → Reaches view m count mid → IsTried whole_step mid (tried.Step None) next → next.state.input ≡ mid.state.input → Reaches view m (suc count) next
+reaches_more : (view : View) (m : Flat) (count : ℕ) (mid next : Present) → Reaches view m count mid → IsTried part_step mid (tried.Step None) next → next.state.input ≡ mid.state.input → Reaches view m (suc count) next
 unfolding run marks_after
 reaches_more view m count mid next r t input =
     let here = r.here in
-    let from_here : IsTried whole_step (record { state = state_of here; view = mid.view }) (tried.Step None) next =
-    subst (λ (s : State). IsTried whole_step (record { state = s; view = mid.view }) (tried.Step None) next) r.is.state t in
-    let one = step_concluded mid.view here r.is.running r.is.stands from_here.0 next.view from_here.1 in
+    let from_here : IsTried part_step (record { state = state_of here; view = mid.view }) (tried.Step None) next =
+    subst (λ (s : State). IsTried part_step (record { state = s; view = mid.view }) (tried.Step None) next) r.is.state t in
+    let one = step_concluded mid.view (At here) r.is.stands from_here.0 next.view from_here.1 in
     record {
       here = concluded here (Went flow.Done from_here.0) one.memory;
-      steps = ap step r.steps ∙ one.step;
+      steps = ap step r.steps ∙ turns_agree here (At here) (concluded here (Went flow.Done from_here.0) one.memory) r.is.running refl one.turn;
       resident = λ k below. elim (cases_lt k count) [
         | inl earlier ↦ r.resident k earlier
         | inr late ↦
             let last : k ≡ count = omega arith in
-            ap (λ n. first_missing view.resident (step_touches (run n m))) last
-            ∙ (ap (λ x. first_missing view.resident (step_touches x)) r.steps ∙ (ap (λ f. first_missing f (step_touches here)) (sym r.is.resident) ∙ one.first))
+            ap (λ n. first_missing view.resident (touches_at (At (run n m)))) last
+            ∙ (ap (λ x. first_missing view.resident (touches_at (At x))) r.steps ∙ (ap (λ f. first_missing f (touches_at (At here))) (sym r.is.resident) ∙ one.first))
       ];
       silent = sent_nothing here.output from_here.0.sent from_here.3 ∙ r.silent;
       input = r.input;
-      absent = λ addr gone. one.absent addr (ap (λ (f : ℕ → Bool). f (page_of addr)) r.is.resident ∙ gone) ∙ r.absent addr gone;
-      marks = one.marks
-          ∙ (ap (λ (f : ℕ → Bool). marked_by f mid.view.marked (step_touches here)) r.is.resident
-          ∙ (ap (λ (f : ℕ → Bool). marked_by view.resident f (step_touches here)) r.marks
-          ∙ ap (λ (x : Flat). marked_by view.resident (marks_after view.resident view.marked count m) (step_touches x)) (sym r.steps)));
+      absent = λ addr gone. one.leaves.absent addr (ap (λ (f : ℕ → Bool). f (page_of addr)) r.is.resident ∙ gone) ∙ r.absent addr gone;
+      marks = one.leaves.marks
+          ∙ (ap (λ (f : ℕ → Bool). marked_by f mid.view.marked (touches_at (At here))) r.is.resident
+          ∙ (ap (λ (f : ℕ → Bool). marked_by view.resident f (touches_at (At here))) r.marks
+          ∙ ap (λ (x : Flat). marked_by view.resident (marks_after view.resident view.marked count m) (touches_at (At x))) (sym r.steps)));
       is = record {
         running = r.is.running;
         state = from_here.2 ∙ state_after from_here.0 here one.memory (sym (ap (λ (s : State). s.input) from_here.2) ∙ (input ∙ ap (λ (s : State). s.input) r.is.state));
-        stands = one.stands;
-        resident = one.resident ∙ r.is.resident;
-        areas = one.areas ∙ r.is.areas;
+        stands = one.leaves.stands;
+        resident = one.leaves.resident ∙ r.is.resident;
+        areas = one.leaves.areas ∙ r.is.areas;
       };
     }
 
@@ -107,29 +111,33 @@ pub is_here : (view : View) (m : Flat) (p : Present) → IsWhere view p m → p 
 is_here view m p w = λ k. record { state = w.state k; view = p.view }
 
 -- an attempt seen from a view with the same areas, resident pages and marks
-module _ (a b : View) (m : Flat) (cpu : Cpu) (after : View) (resident : a.resident ≡ b.resident) (areas : a.areas ≡ b.areas) (marked : a.marked ≡ b.marked) where
-  first_seen : (first : Option ℕ) → first_missing a.resident (step_touches m) ≡ first → first_missing b.resident (step_touches m) ≡ first
-  first_seen first e = ap (λ f. first_missing f (step_touches m)) (sym resident) ∙ e
+module _ (a b : View) (place : Place) (cpu : Cpu) (after : View) (resident : a.resident ≡ b.resident) (areas : a.areas ≡ b.areas) (marked : a.marked ≡ b.marked) where
+  first_seen : (first : Option ℕ) → first_missing a.resident (touches_at place) ≡ first → first_missing b.resident (touches_at place) ≡ first
+  first_seen first e = ap (λ f. first_missing f (touches_at place)) (sym resident) ∙ e
 
-  marks_seen : Marks a m after → Marks b m after
-  marks_seen e = e ∙ (ap (λ (f : ℕ → Bool). marked_by f a.marked (step_touches m)) resident ∙ ap (λ (f : ℕ → Bool). marked_by b.resident f (step_touches m)) marked)
+  marks_seen : Marks a place after → Marks b place after
+  marks_seen e = e ∙ (ap (λ (f : ℕ → Bool). marked_by f a.marked (touches_at place)) resident ∙ ap (λ (f : ℕ → Bool). marked_by b.resident f (touches_at place)) marked)
 
-  pub seen : (answer : Attempt) → Attempted a m answer cpu after → Attempted b m answer cpu after
+  leaves_seen : (memory : List Area) → LeavesMemory a place memory after → LeavesMemory b place memory after
+  leaves_seen memory k = record {
+    stands = k.stands;
+    absent = λ addr gone. k.absent addr (ap (λ (f : ℕ → Bool). f (page_of addr)) resident ∙ gone);
+    resident = k.resident ∙ resident;
+    areas = k.areas ∙ areas;
+    marks = marks_seen k.marks;
+  }
+
+  pub seen : (answer : Attempt) → Attempted a place answer cpu after → Attempted b place answer cpu after
   seen (attempt.Step sent) k = (
     first_seen None k.0,
-    record {
-      memory = k.1.memory;
-      step = k.1.step;
-      stands = k.1.stands;
-      absent = λ addr gone. k.1.absent addr (ap (λ (f : ℕ → Bool). f (page_of addr)) resident ∙ gone);
-      resident = k.1.resident ∙ resident;
-      areas = k.1.areas ∙ areas;
-      marks = marks_seen k.1.marks;
-    },
+    record { memory = k.1.memory; turn = k.1.turn; step = k.1.step; leaves = leaves_seen k.1.memory k.1.leaves },
   )
-  seen attempt.Part k = k
+  seen attempt.Part k = (
+    first_seen None k.0,
+    record { next = k.1.next; turn = k.1.turn; by = k.1.by; at = k.1.at; leaves = leaves_seen k.1.next.now.memory k.1.leaves },
+  )
   seen (attempt.Absent page) k = (first_seen (Some page) k.0, marks_seen k.1)
-  seen (attempt.Ended e) k = (first_seen None k.0, k.1, marks_seen k.2)
+  seen (attempt.Ended e) k = (first_seen None k.0, record { turn = k.1.turn; step = k.1.step; marks = marks_seen k.1.marks })
 
 -- the last attempt, from where the steps before it came to
 module _ (view : View) (m : Flat) (count : ℕ) (mid : Present) (r : Reaches view m count mid) (cpu : Cpu) (after : View) (input : m.input ≡ cpu.term.input.items) where
@@ -157,41 +165,44 @@ module _ (view : View) (m : Flat) (count : ℕ) (mid : Present) (r : Reaches vie
   abbrev before : View
   before = with_marks view (marks_after view.resident view.marked count m)
 
-  all : (answer : Attempt) → Attempted before r.here answer cpu after → StaysAt r.here answer cpu after → after.resident ≡ view.resident → after.areas ≡ view.areas → AreAttempts view m count answer cpu after
-  all answer attempted stays_at pages areas = record { here = r.here; steps = r.steps; resident = r.resident; silent = r.silent; absent = r.absent; attempted = attempted; stays = stays_at; pages = pages; areas = areas }
+  all : (answer : Attempt) → Attempted before (At r.here) answer cpu after → StaysAt r.here answer cpu after → after.resident ≡ view.resident → after.areas ≡ view.areas → AreAttempts view m count answer cpu after
+  all answer attempted stays_at pages areas = record { here = r.here; steps = r.steps; running = r.is.running; resident = r.resident; silent = r.silent; absent = r.absent; attempted = attempted; stays = stays_at; pages = pages; areas = areas }
 
   -- where the last attempt made no step
-  none_made : (answer : Attempt) → Attempted before r.here answer cpu after → StaysAt r.here answer cpu after → new ≡ marked_as mid after → AreAttempts view m count answer cpu after
+  none_made : (answer : Attempt) → Attempted before (At r.here) answer cpu after → StaysAt r.here answer cpu after → new ≡ marked_as mid after → AreAttempts view m count answer cpu after
   none_made answer attempted stays_at e =
       all answer attempted stays_at (ap (λ (p : Present). p.view.resident) e ∙ r.is.resident) (ap (λ (p : Present). p.view.areas) e ∙ r.is.areas)
 
-  by_answer : (t : Tried) → Unmoved t mid new → Attempted before r.here (answer_of t) cpu after → AreAttempts view m count (answer_of t) cpu after
-  by_answer (tried.Step sent) u k = all (attempt.Step sent) k tt k.1.resident k.1.areas
+  by_answer : (t : Tried) → Unmoved mid.state.core t mid new → Attempted before (At r.here) (answer_of t) cpu after → AreAttempts view m count (answer_of t) cpu after
+  by_answer (tried.Step sent) u k = all (attempt.Step sent) k tt k.1.leaves.resident k.1.leaves.areas
+  by_answer (tried.Part done) u k = all attempt.Part k tt k.1.leaves.resident k.1.leaves.areas
   by_answer (tried.Absent page) u k = none_made (attempt.Absent page) k (stays u) u
   by_answer (tried.Ended e) u k = none_made (attempt.Ended e) k (stays u) u
   by_answer (tried.Event e) u k = none_made (attempt.Ended Unbuilt) k (stays u) u
 
-  pub are_attempts : (t : Tried) → Made mid t new → AreAttempts view m count (answer_of t) cpu after
-  are_attempts t made =
+  pub are_attempts : (t : Tried) → Made part_step mid.state.core mid t new → cpu.latch ≡ open_after None t → AreAttempts view m count (answer_of t) cpu after
+  are_attempts t made latched =
       let here = is_here view r.here mid r.is in
-      let from_here : Made (record { state = state_of r.here; view = mid.view }) t new = subst (λ (p : Present). Made p t new) here made in
-      by_answer t (unmoved t mid new made)
-      (seen mid.view before r.here cpu after r.is.resident r.is.areas r.marks (answer_of t) (attempted mid.view r.here r.is.running r.is.stands cpu after input_here t from_here))
+      let from_here : Made part_step r.here.core (record { state = state_of r.here; view = mid.view }) t new = subst (λ (p : Present). Made part_step p.state.core p t new) here made in
+      by_answer t (unmoved mid.state.core mid new part_step t made)
+      (seen mid.view before (At r.here) cpu after r.is.resident r.is.areas r.marks (answer_of t) (attempted mid.view (At r.here) r.is.stands r.is.running cpu after input_here t from_here latched))
 
 -- a batch goes on to its end, unless a step wasn't completed, sent a byte or raised an exception
-pub goes_on : (view : View) (m : Flat) (count : ℕ) (mid : Present) (r : Reaches view m count mid) (most : ℕ) (t settled : Tried) (raised : Present) → (IsFinal t → settled ≡ t) → (t ≡ tried.Step None → count + 1 ≡ most) → IsTried whole_step mid t raised →
+pub goes_on : (view : View) (m : Flat) (count : ℕ) (mid : Present) (r : Reaches view m count mid) (most : ℕ) (t settled : Tried) (raised : Present) → (IsFinal t → settled ≡ t) → (t ≡ tried.Step None → count + 1 ≡ most) → IsTried part_step mid t raised →
     answer_of settled ≡ attempt.Step None → (count + 1 ≡ most) ⊎ Raises (run count m)
 goes_on view m count mid r most (tried.Step sent) settled raised kept all is answer =
     let step : attempt.Step sent ≡ attempt.Step None = sym (ap answer_of (kept tt)) ∙ answer in
     let nothing : sent ≡ None = cc in
     inl (all (ap (λ x. tried.Step x) nothing))
+goes_on view m count mid r most (tried.Part done) settled raised kept all is answer =
+    let no : attempt.Part ≡ attempt.Step None = sym (ap answer_of (kept tt)) ∙ answer in cc
 goes_on view m count mid r most (tried.Absent page) settled raised kept all is answer =
     let no : attempt.Absent page ≡ attempt.Step None = sym (ap answer_of (kept tt)) ∙ answer in cc
 goes_on view m count mid r most (tried.Ended e) settled raised kept all is answer =
     let no : attempt.Ended e ≡ attempt.Step None = sym (ap answer_of (kept tt)) ∙ answer in cc
 goes_on view m count mid r most (tried.Event x) settled raised kept all is answer =
-    let from_here = subst (λ (p : Present). IsTried whole_step p (tried.Event x) raised) (is_here view r.here mid r.is) is in
-    inr (x, ap (λ (h : Flat). outcome_of (whole_step (state_of h)) h.memory) r.steps ∙ raises_there mid.view r.here r.is.running r.is.stands x raised from_here)
+    let from_here = subst (λ (p : Present). IsTried part_step p (tried.Event x) raised) (is_here view r.here mid r.is) is in
+    inr (x, ap (λ (h : Flat). outcome_at (At h)) r.steps ∙ raises_there mid.view (At r.here) r.is.stands x raised from_here)
 
 -- the start
 pub at_start : (core : _) (term : Term) (view : View) (m : Flat) → m.ending ≡ None → term.out ≡ None → m.core ≡ core → m.input ≡ term.input.items → m.taken ≡ term.place → StandsFor view m.memory →
@@ -204,7 +215,7 @@ at_start core term view m running out c i t st = record {
   areas = refl;
 }
 
--- where no step was made, registers and console are as before
+-- where no step was made, registers and console are as before, or as at the start
 module _ (before cpu : Cpu) (view after : View) (input : cpu.term.input.items ≡ before.term.input.items) where
   abbrev from : Present
   from = record { state = state_at before.core before.term; view = view }
@@ -212,23 +223,32 @@ module _ (before cpu : Cpu) (view after : View) (input : cpu.term.input.items �
   abbrev to : Present
   to = record { state = state_at cpu.core cpu.term; view = after }
 
-  same_place : to ≡ marked_as from after → (flat_of cpu [] [] ≡ flat_of before [] []) × (after ≡ with_marks view after.marked)
-  same_place e =
-      let s : to.state ≡ from.state = ap (λ (p : Present). p.state) e in
+  same_place : (core : Core) → to ≡ with_registers core (marked_as from after) → (flat_of cpu [] [] ≡ record (flat_of before [] []) { core = core }) × (after ≡ with_marks view after.marked)
+  same_place core e =
+      let s : to.state ≡ record from.state { core = core } = ap (λ (p : Present). p.state) e in
       (λ k. record { core = ap (λ (x : State). x.core) s k; memory = []; input = input k; taken = ap (λ (x : State). x.taken) s k; output = []; ending = None }, ap (λ (p : Present). p.view) e)
 
-  pub as_before : (t : Tried) → Unmoved t from to → IsAsBefore (answer_of t) (flat_of before [] []) view (flat_of cpu [] []) after
+  pub as_before : (t : Tried) → Unmoved (start_by before.latch before.core) t from to → IsAsBefore (answer_of t) before view cpu after
   as_before (tried.Step sent) u = tt
-  as_before (tried.Absent page) u = same_place u
-  as_before (tried.Ended e) u = same_place u
-  as_before (tried.Event e) u = same_place u
+  as_before (tried.Part done) u = tt
+  as_before (tried.Absent page) u = same_place before.core u
+  as_before (tried.Ended e) u = same_place (start_by before.latch before.core) u
+  as_before (tried.Event e) u = same_place (start_by before.latch before.core) u
+
+-- what is open afterwards
+pub opens : (latch now : Option Open) (t : Tried) → now ≡ open_after latch t → IsOpenAfter (answer_of t) latch now
+opens latch now (tried.Step sent) e = e
+opens latch now (tried.Part done) e = subst IsSome (sym e) refl
+opens latch now (tried.Absent page) e = e
+opens latch now (tried.Ended e) is = is
+opens latch now (tried.Event e) is = is
 
 -- the pages for which the last of several attempts stops
 ran_alike : (count : ℕ) (old now : Present) → Ran count old now → (now.view.resident ≡ old.view.resident) × (now.view.areas ≡ old.view.areas)
 ran_alike zero old now ran = (ap (λ (p : Present). p.view.resident) ran, ap (λ (p : Present). p.view.areas) ran)
 ran_alike (suc count) old now ran =
     let before = ran_alike count old ran.0 ran.1 in
-    let one = tree_alike (whole_step ran.0.state) ran.0.view (Went flow.Done ran.2.0) now.view ran.2.1 in
+    let one = tree_alike (part_step ran.0.state) ran.0.view (Went flow.Done ran.2.0) now.view ran.2.1 in
     (one.0 ∙ before.0, one.1 ∙ before.1)
 
 inside_alike : (a b : View) (answer : Attempt) → a.resident ≡ b.resident → a.areas ≡ b.areas → StopsInside answer a → StopsInside answer b
@@ -237,7 +257,29 @@ inside_alike a b attempt.Part r s h = tt
 inside_alike a b (attempt.Absent page) r s h = (ap (λ (f : ℕ → Bool). f page) (sym r) ∙ h.0, ap (λ areas. is_some (area_of areas page)) (sym s) ∙ h.1)
 inside_alike a b (attempt.Ended e) r s h = tt
 
-pub inside_batch : (count : ℕ) (old mid now : Present) (t : Tried) → Ran count old mid → Made mid t now → StopsInside (answer_of t) old.view
-inside_batch count old mid now t ran made =
+pub inside_batch : (count : ℕ) (start : Core) (old mid now : Present) (t : Tried) → Ran count old mid → Made part_step start mid t now → StopsInside (answer_of t) old.view
+inside_batch count start old mid now t ran made =
     let same = ran_alike count old mid ran in
-    inside_alike mid.view old.view (answer_of t) same.0 same.1 (inside t mid now made)
+    inside_alike mid.view old.view (answer_of t) same.0 same.1 (inside part_step start t mid now made)
+
+-- a processor at a place
+module _ (cpu : Cpu) (view : View) (place : Place) (at : IsAt cpu place) where
+  pub running_there : (machine_at place).ending ≡ None
+  running_there = ap (λ (m : Flat). m.ending) (sym at.machine)
+
+  pub input_there : (machine_at place).input ≡ cpu.term.input.items
+  input_there = ap (λ (m : Flat). m.input) (sym at.machine)
+
+  state_there : cpu.term.out ≡ None → state_at cpu.core cpu.term ≡ state_of (machine_at place)
+  state_there out k = record { core = (at.machine k).core; input = (at.machine k).input; taken = (at.machine k).taken; sent = out k }
+
+  pub made_there : (t : Tried) (new : Present) → cpu.term.out ≡ None →
+      Made (tree_of cpu.latch) (start_by cpu.latch cpu.core) (record { state = state_at cpu.core cpu.term; view = view }) t new →
+      Made (tree_at place) (start_of place) (record { state = state_of (machine_at place); view = view }) t new
+  made_there t new out made =
+      let start : start_by cpu.latch cpu.core ≡ start_of place = (λ k. start_by (at.open_one k) (at.machine k).core) ∙ start_there place in
+      let tree : tree_of cpu.latch ≡ tree_at place = ap tree_of at.open_one ∙ tree_there place in
+      let state = state_there out in
+      subst (λ (x : State). Made (tree_at place) (start_of place) (record { state = x; view = view }) t new) state
+      (subst (λ (c : Core). Made (tree_at place) c (record { state = state_at cpu.core cpu.term; view = view }) t new) start
+      (subst (λ (f : State → Accesses Leaf). Made f (start_by cpu.latch cpu.core) (record { state = state_at cpu.core cpu.term; view = view }) t new) tree made))

@@ -1,5 +1,6 @@
 -- What a transaction that makes the accesses of a tree came to.
-use Rattle.std.specs.Prelude.{◌≡◌, Bool, false, is_none, Option, Some, None, Result, Ok, Err}
+use Rattle.std.specs.Prelude.{◌≡◌, ℕ, Bool, false, is_none, Option, Some, None, Result, Ok, Err}
+use Rattle.vax_word.specs.declared.Core.{Core}
 use Rattle.vax_flat.specs.declared.Cut.TheVariants as cut
 use Rattle.vax_flat.specs.declared.Ending.{Ending}
 use Rattle.vax_flat.specs.declared.Ending.TheVariants.{Unbuilt}
@@ -10,10 +11,15 @@ use Rattle.vax_flat.specs.State.{State, with_sent}
 use Rattle.vax_flat.specs.Port.{View, with_marks}
 use Rattle.vax_flat.specs.Accesses.{Accesses, Leaf, Went}
 use Rattle.vax_flat.specs.OverPort.{Present, Comes, Stops, over_port}
-use Rattle.vax_flat.specs.Step.{whole_step, whole_delivery}
+use Rattle.vax_flat.specs.Bound.{IsWhole}
+use Rattle.vax_flat.specs.Step.{whole_delivery}
+use Rattle.vax_flat.specs.Parts.{part_step, later_step}
 use Rattle.vax_undo.specs.declared.txn.CutShort.{CutShort}
+use Rattle.vax_undo.specs.declared.txn.Txn.{Txn as Transaction}
+use Rattle.vax_undo.specs.Transaction.{bare, undone}
 use Rattle.vax_cpu.specs.declared.attempt.Tried.{Tried}
-use Rattle.vax_cpu.specs.declared.attempt.Tried.TheVariants.{Step, Absent, Ended, Event}
+use Rattle.vax_cpu.specs.declared.attempt.Tried.TheVariants.{Step, Part, Absent, Ended, Event}
+use Rattle.vax_cpu.specs.declared.cpu.Open.{Open}
 
 -- how an instruction that went so ends the run, if it does
 abbrev pub ending_of : Flow → Option Ending
@@ -37,6 +43,15 @@ abbrev pub UnlessDone : Result Flow CutShort → Type 0 → Type 0
 UnlessDone (Ok how) fact = UnlessEnded (ending_of how) fact
 UnlessDone (Err short) fact = fact
 
+-- The log of what wasn't completed leads back to where it began: of a part to its registers and its console, of all else to everything.
+abbrev pub LeadsBack : {P : Type 0} → (P → View) → Present → Result Flow CutShort → Transaction P → Type 0
+LeadsBack view old (Ok flow.Done) txn = Unit {0}
+LeadsBack view old (Ok flow.Clocked) txn = undone view txn ≡ bare old
+LeadsBack view old (Ok (flow.Trap kind)) txn = undone view txn ≡ bare old
+LeadsBack view old (Ok (flow.More opcode units)) txn = (undone view txn).state ≡ old.state
+LeadsBack view old (Ok (flow.Ended e)) txn = undone view txn ≡ bare old
+LeadsBack view old (Err short) txn = undone view txn ≡ bare old
+
 -- all is as before but for the marks: a page stays marked where the write to it was undone
 abbrev pub marked_as : Present → View → Present
 marked_as p view = record { state = p.state; view = with_marks p.view view.marked }
@@ -45,20 +60,54 @@ marked_as p view = record { state = p.state; view = with_marks p.view view.marke
 abbrev pub IsTried : (State → Accesses Leaf) → Present → Tried → Present → Type 0
 IsTried tree old (Step sent) new =
     (s : State) × (over_port (tree old.state) old.view ≡ Comes (Went flow.Done s) new.view) × (new.state ≡ with_sent s None) × (sent ≡ s.sent)
+IsTried tree old (Part part) new =
+    (s : State) × (over_port (tree old.state) old.view ≡ Comes (Went (flow.More part.opcode part.units) s) new.view) × (new.state ≡ with_sent s None)
+    × (part.start ≡ old.state.core)
 IsTried tree old (Ended e) new =
     (how : Flow) × (s : State) × (view : View) × (over_port (tree old.state) old.view ≡ Comes (Went how s) view) × (ending_of how ≡ Some e)
-    × (view.marked ≡ new.view.marked) × (new ≡ marked_as old new.view)
+    × (view.marked ≡ new.view.marked) × (new ≡ marked_as old new.view) × IsWhole how
 IsTried tree old (Absent page) new = (over_port (tree old.state) old.view ≡ Stops (cut.Absent page) new.view.marked) × (new ≡ marked_as old new.view)
 IsTried tree old (Event e) new = (over_port (tree old.state) old.view ≡ Stops (cut.Event e) new.view.marked) × (new ≡ marked_as old new.view)
 
 -- it raises no exception
 abbrev pub IsFinal : Tried → Type 0
 IsFinal (Step sent) = Unit {0}
+IsFinal (Part part) = Unit {0}
 IsFinal (Ended e) = Unit {0}
 IsFinal (Absent page) = Unit {0}
 IsFinal (Event e) = ⊥
 
--- an instruction that raised no exception, or the delivery of the exception that it raised
-pub data Made (old : Present) (tried : Tried) (new : Present) : Type 0 where
-  AtOnce : IsFinal tried → IsTried whole_step old tried new → Made old tried new
-  Delivered : (e : Exception) → (raised : Present) → IsTried whole_step old (Event e) raised → IsTried (whole_delivery e) raised tried new → Made old tried new
+-- what an attempt goes through: the first part of the step at PC, or a later part of the instruction that is open
+abbrev pub tree_of : Option Open → State → Accesses Leaf
+tree_of None = part_step
+tree_of (Some latched) = later_step latched.opcode
+
+-- the registers at the start of the instruction that is open, and else these
+abbrev pub start_by : Option Open → Core → Core
+start_by None core = core
+start_by (Some latched) core = latched.start
+
+abbrev pub with_registers : Core → Present → Present
+with_registers core p = record { state = record p.state { core = core }; view = p.view }
+
+-- an ending goes back to the registers at the instruction's start
+abbrev pub led_back : Core → Tried → Present → Present
+led_back start (Step sent) p = p
+led_back start (Part part) p = p
+led_back start (Absent page) p = p
+led_back start (Ended e) p = with_registers start p
+led_back start (Event e) p = p
+
+-- where a page is absent, the registers are those before the attempt
+abbrev pub put_again : Core → Tried → Present → Present
+put_again before (Step sent) p = p
+put_again before (Part part) p = p
+put_again before (Absent page) p = with_registers before p
+put_again before (Ended e) p = p
+put_again before (Event e) p = p
+
+-- an attempt that raised no exception, or the delivery of the exception that it raised, from the registers at the instruction's start
+pub data Made (tree : State → Accesses Leaf) (start : Core) (old : Present) (tried : Tried) (new : Present) : Type 0 where
+  AtOnce : (mid : Present) → IsFinal tried → IsTried tree old tried mid → new ≡ led_back start tried mid → Made tree start old tried new
+  Delivered : (e : Exception) → (raised mid : Present) → IsTried tree old (Event e) raised → IsTried (whole_delivery e) (with_registers start raised) tried mid →
+      new ≡ put_again old.state.core tried mid → Made tree start old tried new

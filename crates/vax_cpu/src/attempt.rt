@@ -6,12 +6,14 @@ ghost use Rattle.vax_flat.specs.OverPort.{Follows, Present};
 ghost use Rattle.vax_flat.specs.Delivery.{interrupt};
 ghost use Rattle.vax_flat.specs.System.{flow_of_delivery};
 ghost use Rattle.vax_x_sys.specs.Frames.{IsLevel};
-ghost use Rattle.vax_flat.specs.Step.{begun, finished, handed_over, leaf, ticked, whole, whole_step, delivered, whole_delivery};
+ghost use Rattle.vax_flat.specs.Step.{finished, handed_over, leaf, ticked, delivered, whole_delivery};
+ghost use Rattle.vax_flat.specs.Parts.{begun_part, part, part_step, later, later_step};
 ghost use Rattle.vax_undo.specs.Transaction.{bare, present, room, state_of, told, undone, with_state, IsReady, IsSame, Keeps, KeepsUnlessDone};
-ghost use Rattle.vax_cpu.specs.Tried.{IsFinal, IsTried, Made, UnlessDone, ending_of, is_done};
+ghost use Rattle.vax_cpu.specs.Tried.{IsFinal, IsTried, LeadsBack, Made, UnlessDone, ending_of, is_done, put_again, start_by, tree_of, with_registers};
 ghost use Rattle.vax_cpu.specs.Batch.{Ran};
 
-use crate::instruction::execute;
+use crate::cpu::Open;
+use crate::instruction::{execute, resume};
 use crate::interrupt::{requested, tick};
 use vax_flat::{Delivery, Ending, Exception};
 use vax_operand::{Cut, Flow};
@@ -24,6 +26,8 @@ use vax_x_sys::{deliver, flow_of, interrupt};
 pub(crate) enum Tried {
     /// It was completed, and sent this byte.
     Step(Option<u8>),
+    /// A part of a string instruction was completed: its opcode, the registers before it, and how many units it has.
+    Part(Open),
     /// This page is needed and absent.
     Absent(u32),
     /// It ends the run.
@@ -44,12 +48,12 @@ fn take_interrupt<P: Port>(txn: &mut Txn<P>, level: u8) -> Result<Flow, CutShort
     Ok(flow_of(how))
 }
 
-/// An interrupt above the priority, or the instruction at PC.
+/// An interrupt above the priority, or the instruction at PC, of a string instruction its first part.
 #[inline(always)]
-#[tactic(auto, using(vax_undo::proofs::Left::always), unfolding(vax_flat::specs::Step::begun))]
+#[tactic(auto, using(vax_undo::proofs::Left::always), unfolding(vax_flat::specs::Parts::begun_part))]
 fn begin<P: Port>(txn: &mut Txn<P>) -> Result<Flow, CutShort>
     requires { 28 ≤ room txn.old }
-    ensures exact { Follows (begun (present P.view txn.old).state) (present P.view txn.old) (told txn.new result) (present P.view txn.new) }
+    ensures exact { Follows (begun_part (present P.view txn.old).state) (present P.view txn.old) (told txn.new result) (present P.view txn.new) }
     ensures keeps { KeepsUnlessDone P.view P.since 28 result txn.old txn.new }
     ensures same { IsSame P.since txn.old txn.new }
 {
@@ -122,10 +126,10 @@ fn finish<P: Port>(txn: &mut Txn<P>, flow: Flow) -> Result<Flow, CutShort>
 
 /// A step up to its exception, if it raises one.
 #[inline(always)]
-#[tactic(auto, unfolding(vax_flat::specs::Step::whole))]
+#[tactic(auto, unfolding(vax_flat::specs::Parts::part))]
 fn work<P: Port>(txn: &mut Txn<P>) -> Result<Flow, CutShort>
     requires { 46 ≤ room txn.old }
-    ensures exact { Follows (whole (present P.view txn.old).state) (present P.view txn.old) (told txn.new result) (present P.view txn.new) }
+    ensures exact { Follows (part (present P.view txn.old).state) (present P.view txn.old) (told txn.new result) (present P.view txn.new) }
     ensures keeps { KeepsUnlessDone P.view P.since 46 result txn.old txn.new }
     ensures same { IsSame P.since txn.old txn.new }
 {
@@ -137,11 +141,24 @@ fn work<P: Port>(txn: &mut Txn<P>) -> Result<Flow, CutShort>
 #[inline(never)]
 fn work_once<P: Port>(txn: &mut Txn<P>) -> Result<Flow, CutShort>
     requires { 46 ≤ room txn.old }
-    ensures exact { Follows (whole (present P.view txn.old).state) (present P.view txn.old) (told txn.new result) (present P.view txn.new) }
+    ensures exact { Follows (part (present P.view txn.old).state) (present P.view txn.old) (told txn.new result) (present P.view txn.new) }
     ensures keeps { KeepsUnlessDone P.view P.since 46 result txn.old txn.new }
     ensures same { IsSame P.since txn.old txn.new }
 {
     work(txn)
+}
+
+/// A later part of the string instruction with this opcode.
+#[cold]
+#[tactic(auto, unfolding(vax_flat::specs::Parts::later))]
+fn work_later<P: Port>(txn: &mut Txn<P>, opcode: u8) -> Result<Flow, CutShort>
+    requires { 46 ≤ room txn.old }
+    ensures exact { Follows (later opcode (present P.view txn.old).state) (present P.view txn.old) (told txn.new result) (present P.view txn.new) }
+    ensures keeps { KeepsUnlessDone P.view P.since 46 result txn.old txn.new }
+    ensures same { IsSame P.since txn.old txn.new }
+{
+    let flow = resume(txn, opcode)?;
+    finish(txn, flow)
 }
 
 /// The delivery of an exception, and the clock.
@@ -181,12 +198,12 @@ fn is_done(work: Result<Flow, CutShort>) -> bool
     }
 }
 
-/// Keeps a transaction whose work was completed, and undoes any other.
+/// Keeps a transaction whose work was completed, or a part of it, and undoes any other.
 #[inline]
 fn conclude<P: Port>(txn: Txn<P>, work: Result<Flow, CutShort>) -> Tried
     requires ready { UnlessDone work (IsReady P.view txn) }
     requires unsent { UnlessDone work ((undone P.view txn).state.sent ≡ None) }
-    ensures tried { (old : Present) → (tree : State → (Flow → State → Accesses Leaf) → Accesses Leaf) → Follows (tree old.state) old (told txn.entry work) (present P.view txn.entry) → UnlessDone work (undone P.view txn.entry ≡ bare old) → IsTried (λ s. tree s leaf) old result (record { state = state_of txn.exit.0.now txn.exit.1.0.now; view = P.view txn.exit.1.1.0.now }) }
+    ensures tried { (old : Present) → (tree : State → (Flow → State → Accesses Leaf) → Accesses Leaf) → Follows (tree old.state) old (told txn.entry work) (present P.view txn.entry) → LeadsBack P.view old work txn.entry → IsTried (λ s. tree s leaf) old result (record { state = state_of txn.exit.0.now txn.exit.1.0.now; view = P.view txn.exit.1.1.0.now }) }
     ensures completed { (sent : Option ℕ) → result ≡ Tried.Step sent → work ≡ Ok Flow.Done }
     ensures unsent { txn.exit.1.0.now.out ≡ None }
     ensures input { txn.exit.1.0.now.input ≡ txn.entry.term.now.input }
@@ -194,12 +211,22 @@ fn conclude<P: Port>(txn: Txn<P>, work: Result<Flow, CutShort>) -> Tried
 {
     let why = txn.why();
     match work {
-        Ok(flow) => match ending_of(flow) {
-            None => Tried::Step(txn.commit()),
-            Some(ending) => {
-                txn.unwind();
-                Tried::Ended(ending)
+        Ok(flow) => match flow {
+            Flow::More { opcode, units } => {
+                let start = txn.commit_part();
+                Tried::Part(Open {
+                    opcode,
+                    start,
+                    units,
+                })
             }
+            _ => match ending_of(flow) {
+                None => Tried::Step(txn.commit()),
+                Some(ending) => {
+                    txn.unwind();
+                    Tried::Ended(ending)
+                }
+            },
         },
         Err(CutShort) => {
             txn.unwind();
@@ -214,7 +241,7 @@ fn conclude<P: Port>(txn: Txn<P>, work: Result<Flow, CutShort>) -> Tried
 /// Makes an attempt at a step, which is undone where it isn't completed.
 pub(crate) fn try_step<P: Port>(core: &mut Core, term: &mut Term, port: &mut P) -> Tried
     requires { term.old.out ≡ None }
-    ensures tried { IsTried whole_step (record { state = state_of core.old term.old; view = P.view port.old }) result (record { state = state_of core.new term.new; view = P.view port.new }) }
+    ensures tried { IsTried part_step (record { state = state_of core.old term.old; view = P.view port.old }) result (record { state = state_of core.new term.new; view = P.view port.new }) }
     ensures unsent { term.new.out ≡ None }
     ensures input { term.new.input ≡ term.old.input }
     ensures since { (start : P) → P.since start port.old → P.since start port.new }
@@ -243,12 +270,25 @@ fn try_delivery<P: Port>(
     conclude(txn, done)
 }
 
+/// Makes an attempt at a later part of the string instruction with this opcode, which is undone where it isn't completed.
+fn try_later<P: Port>(core: &mut Core, term: &mut Term, port: &mut P, opcode: u8) -> Tried
+    requires { term.old.out ≡ None }
+    ensures tried { IsTried (later_step opcode) (record { state = state_of core.old term.old; view = P.view port.old }) result (record { state = state_of core.new term.new; view = P.view port.new }) }
+    ensures unsent { term.new.out ≡ None }
+    ensures input { term.new.input ≡ term.old.input }
+    ensures since { (start : P) → P.since start port.old → P.since start port.new }
+{
+    let mut txn = Txn::begin(core, term, port);
+    let done = work_later(&mut txn, opcode);
+    conclude(txn, done)
+}
+
 /// Delivers the exception that an attempt at a step raised, if it raised one.
 #[inline]
 pub(crate) fn settle<P: Port>(core: &mut Core, term: &mut Term, port: &mut P, tried: Tried) -> Tried
     requires { term.old.out ≡ None }
     ensures kept { IsFinal tried → result ≡ tried }
-    ensures made { (old : Present) → IsTried whole_step old tried (record { state = state_of core.old term.old; view = P.view port.old }) → Made old result (record { state = state_of core.new term.new; view = P.view port.new }) }
+    ensures made { (tree : State → Accesses Leaf) → (old : Present) → IsTried tree old tried (record { state = state_of core.old term.old; view = P.view port.old }) → Made tree old.state.core old result (record { state = state_of core.new term.new; view = P.view port.new }) }
     ensures unsent { term.new.out ≡ None }
     ensures input { term.new.input ≡ term.old.input }
     ensures since { (start : P) → P.since start port.old → P.since start port.new }
@@ -259,6 +299,82 @@ pub(crate) fn settle<P: Port>(core: &mut Core, term: &mut Term, port: &mut P, tr
     }
 }
 
+/// Delivers an exception from the registers at an instruction's start. Where a page is absent, the registers are again those before.
+fn deliver_from<P: Port>(
+    core: &mut Core,
+    term: &mut Term,
+    port: &mut P,
+    start: Core,
+    exception: Exception,
+) -> Tried
+    requires { term.old.out ≡ None }
+    ensures delivered { (mid : Present) × IsTried (whole_delivery exception) (with_registers start (record { state = state_of core.old term.old; view = P.view port.old })) result mid × (record { state = state_of core.new term.new; view = P.view port.new } ≡ put_again core.old result mid) }
+    ensures unsent { term.new.out ≡ None }
+    ensures input { term.new.input ≡ term.old.input }
+    ensures since { (start : P) → P.since start port.old → P.since start port.new }
+{
+    let before = *core;
+    *core = start;
+    let delivered = try_delivery(core, term, port, exception);
+    match delivered {
+        Tried::Absent(_) => {
+            *core = before;
+            delivered
+        }
+        _ => delivered,
+    }
+}
+
+/// What follows an attempt at a later part of an instruction that began with these registers: the delivery of its exception from these, and
+/// these registers where it ends the run.
+fn settle_later<P: Port>(
+    core: &mut Core,
+    term: &mut Term,
+    port: &mut P,
+    start: Core,
+    tried: Tried,
+) -> Tried
+    requires { term.old.out ≡ None }
+    ensures made { (tree : State → Accesses Leaf) → (old : Present) → IsTried tree old tried (record { state = state_of core.old term.old; view = P.view port.old }) → Made tree start old result (record { state = state_of core.new term.new; view = P.view port.new }) }
+    ensures unsent { term.new.out ≡ None }
+    ensures input { term.new.input ≡ term.old.input }
+    ensures since { (start : P) → P.since start port.old → P.since start port.new }
+{
+    match tried {
+        Tried::Event(exception) => deliver_from(core, term, port, start, exception),
+        Tried::Ended(_) => {
+            *core = start;
+            tried
+        }
+        _ => tried,
+    }
+}
+
+/// Makes one attempt at a step, or at the next part of the instruction that is open.
+pub(crate) fn try_once<P: Port>(
+    core: &mut Core,
+    term: &mut Term,
+    port: &mut P,
+    latch: Option<Open>,
+) -> Tried
+    requires { term.old.out ≡ None }
+    ensures made { Made (tree_of latch) (start_by latch core.old) (record { state = state_of core.old term.old; view = P.view port.old }) result (record { state = state_of core.new term.new; view = P.view port.new }) }
+    ensures unsent { term.new.out ≡ None }
+    ensures input { term.new.input ≡ term.old.input }
+    ensures since { (start : P) → P.since start port.old → P.since start port.new }
+{
+    match latch {
+        None => {
+            let tried = try_step(core, term, port);
+            settle(core, term, port, tried)
+        }
+        Some(latched) => {
+            let tried = try_later(core, term, port, latched.opcode);
+            settle_later(core, term, port, latched.start, tried)
+        }
+    }
+}
+
 /// Steps that were completed with no byte sent, and what the attempt after them came to.
 #[derive(Clone, Copy, Debug, PartialEq, Eq)]
 pub(crate) struct Several {
@@ -266,7 +382,7 @@ pub(crate) struct Several {
     pub(crate) last: Tried,
 }
 
-/// Makes at most `most` attempts at steps, up to the first that isn't completed or that sends a byte. They share one log.
+/// Makes at most `most` attempts at steps, up to the first that isn't completed at once or that sends a byte. They share one log.
 pub(crate) fn try_steps<P: Port>(
     core: &mut Core,
     term: &mut Term,
@@ -275,7 +391,7 @@ pub(crate) fn try_steps<P: Port>(
 ) -> Several
     requires unsent { term.old.out ≡ None }
     requires some { 1 ≤ most }
-    ensures ran { (mid : Present) × Ran result.steps (record { state = state_of core.old term.old; view = P.view port.old }) mid × IsTried whole_step mid result.last (record { state = state_of core.new term.new; view = P.view port.new }) }
+    ensures ran { (mid : Present) × Ran result.steps (record { state = state_of core.old term.old; view = P.view port.old }) mid × IsTried part_step mid result.last (record { state = state_of core.new term.new; view = P.view port.new }) }
     ensures few { result.steps < most }
     ensures all { result.last ≡ Tried.Step None → result.steps + 1 ≡ most }
     ensures unsent { term.new.out ≡ None }

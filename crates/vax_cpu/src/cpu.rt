@@ -1,10 +1,11 @@
 //! The processor.
-ghost use Rattle.std.specs.Prelude.{◌≡◌, ◌⊎◌, ◌+◌, ◌<◌, ◌≤◌, ℕ, List, [], None};
+ghost use Rattle.std.specs.Prelude.{◌≡◌, ◌⊎◌, ◌+◌, ◌<◌, ◌≤◌, ℕ, List, None, IsSome};
 ghost use Rattle.vax_space.specs.declared.Area.{Area};
 ghost use Rattle.vax_flat.specs.Port.{StandsFor};
-ghost use Rattle.vax_cpu.specs.Attempt.{answer_of};
+ghost use Rattle.vax_cpu.specs.Attempt.{answer_of, open_after};
+ghost use Rattle.vax_flat.specs.Parts.{Place, machine_at, units_after};
 
-use crate::attempt::{Tried, settle, try_step, try_steps};
+use crate::attempt::{Tried, settle, try_once, try_steps};
 use vax_flat::Ending;
 use vax_undo::{Port, Term};
 use vax_word::Core;
@@ -26,7 +27,8 @@ pub enum Attempt {
     Part,
     /// The attempt needs this page, which isn't resident. Everything is as before.
     Absent(u32),
-    /// The step from here ends the run. Everything is as before.
+    /// The step from here ends the run. Everything is as at its start: as before, and where a string instruction was open, the registers are
+    /// those at its start, and none is open.
     Ended(Ending),
 }
 
@@ -52,57 +54,94 @@ fn answer_of(tried: Tried) -> Attempt
 {
     match tried {
         Tried::Step(sent) => Attempt::Step(sent),
+        Tried::Part(_) => Attempt::Part,
         Tried::Absent(page) => Attempt::Absent(page),
         Tried::Ended(ending) => Attempt::Ended(ending),
         Tried::Event(_) => Attempt::Ended(Ending::Unbuilt),
     }
 }
 
-impl Cpu {
-    ghost use Rattle.vax_cpu.specs.Attempt.{flat_of, Attempted, IsAsBefore, StopsInside};
-    ghost use Rattle.vax_flat.specs.Step.{run};
-    ghost use Rattle.vax_cpu.specs.Batch.{AreAttempts, Raises};
+/// So many units more. They are counted up to 2^32 - 1.
+#[inline]
+fn units_after(units: u32, more: u32) -> u32
+    ensures { result ≡ units_after units more }
+{
+    units.saturating_add(more)
+}
 
-    /// Makes one attempt at the instruction at PC, where no instruction is open, and nothing that was sent to the console is left.
+/// The string instruction that is open after an attempt: a part more of the one that was open, or the first part of one.
+#[inline]
+fn open_after(latch: Option<Open>, tried: Tried) -> Option<Open>
+    ensures { result ≡ open_after latch tried }
+{
+    match tried {
+        Tried::Part(part) => match latch {
+            None => Some(Open {
+                opcode: part.opcode,
+                start: part.start,
+                units: units_after(0, part.units),
+            }),
+            Some(latched) => Some(Open {
+                opcode: part.opcode,
+                start: latched.start,
+                units: units_after(latched.units, part.units),
+            }),
+        },
+        Tried::Absent(_) => latch,
+        Tried::Step(_) | Tried::Ended(_) | Tried::Event(_) => None,
+    }
+}
+
+impl Cpu {
+    ghost use Rattle.vax_cpu.specs.Attempt.{flat_of, Attempted, IsAsBefore, IsAt, IsOpenAfter, StopsInside};
+    ghost use Rattle.vax_flat.specs.Step.{run};
+    ghost use Rattle.vax_cpu.specs.Batch.{AreAttempts, IsOneAttempt, Raises};
+
+    /// Makes one attempt at the step at PC, or at the next part of the string instruction that is open. Nothing that was sent to the console
+    /// is left.
     ///
-    /// It answers the first page, in the order in which the step touches memory, that isn't resident, and then everything is as before; else
-    /// it makes the step of the flat machine. Pages to which the step wrote are marked, also where it was undone.
+    /// It answers the first page, in the order in which the attempt touches memory, that isn't resident, and then everything is as before; else
+    /// it makes the step of the flat machine, or a part of it. Pages to which it wrote are marked, also where it was undone.
     pub fn attempt<P: Port>(&mut self, port: &mut P) -> Attempt
-        requires closed { self.old.latch ≡ None }
         requires unsent { self.old.term.out ≡ None }
-        ensures step { (memory : List Area) → (output : List ℕ) → StandsFor (P.view port.old) memory → Attempted (P.view port.old) (flat_of self.old memory output) result self.new (P.view port.new) }
-        ensures before { IsAsBefore result (flat_of self.old [] []) (P.view port.old) (flat_of self.new [] []) (P.view port.new) }
+        ensures attempted { (place : Place) → IsAt self.old place → StandsFor (P.view port.old) (machine_at place).memory → Attempted (P.view port.old) place result self.new (P.view port.new) }
+        ensures before { IsAsBefore result self.old (P.view port.old) self.new (P.view port.new) }
         ensures absent { StopsInside result (P.view port.old) }
-        ensures latch { self.new.latch ≡ self.old.latch }
+        ensures latch { IsOpenAfter result self.old.latch self.new.latch }
         ensures unsent { self.new.term.out ≡ None }
         ensures input { self.new.term.input ≡ self.old.term.input }
         ensures since { (start : P) → P.since start port.old → P.since start port.new }
     {
-        let tried = try_step(&mut self.core, &mut self.term, port);
-        let settled = settle(&mut self.core, &mut self.term, port, tried);
-        answer_of(settled)
+        let tried = try_once(&mut self.core, &mut self.term, port, self.latch);
+        self.latch = open_after(self.latch, tried);
+        answer_of(tried)
     }
 
-    /// Makes at most `most` attempts, at least one, up to the first that doesn't complete a step, that sends a byte to the console, or that
-    /// delivers an exception.
+    /// Makes at most `most` attempts, at least one, up to the first that doesn't complete a step at once, that sends a byte to the console, or
+    /// that delivers an exception. Where a string instruction is open, it makes one attempt, at its next part.
     ///
     /// It does what as many calls of [`Cpu::attempt`] do, and spends less on each.
     pub fn attempts<P: Port>(&mut self, port: &mut P, most: u64) -> Batch
-        requires closed { self.old.latch ≡ None }
         requires unsent { self.old.term.out ≡ None }
         requires some { 1 ≤ most }
-        ensures steps { (memory : List Area) → (output : List ℕ) → StandsFor (P.view port.old) memory → AreAttempts (P.view port.old) (flat_of self.old memory output) result.steps result.last self.new (P.view port.new) }
-        ensures before { result.steps ≡ 0 → IsAsBefore result.last (flat_of self.old [] []) (P.view port.old) (flat_of self.new [] []) (P.view port.new) }
+        ensures steps { self.old.latch ≡ None → (memory : List Area) → (output : List ℕ) → StandsFor (P.view port.old) memory → AreAttempts (P.view port.old) (flat_of self.old memory output) result.steps result.last self.new (P.view port.new) }
+        ensures within { IsSome self.old.latch → (place : Place) → IsAt self.old place → StandsFor (P.view port.old) (machine_at place).memory → IsOneAttempt (P.view port.old) place result.steps result.last self.new (P.view port.new) }
+        ensures before { result.steps ≡ 0 → IsAsBefore result.last self.old (P.view port.old) self.new (P.view port.new) }
         ensures absent { StopsInside result.last (P.view port.old) }
         ensures few { result.steps < most }
-        ensures all { (memory : List Area) → (output : List ℕ) → StandsFor (P.view port.old) memory → result.last ≡ Attempt.Step None → (result.steps + 1 ≡ most) ⊎ Raises (run result.steps (flat_of self.old memory output)) }
-        ensures latch { self.new.latch ≡ self.old.latch }
+        ensures all { self.old.latch ≡ None → (memory : List Area) → (output : List ℕ) → StandsFor (P.view port.old) memory → result.last ≡ Attempt.Step None → (result.steps + 1 ≡ most) ⊎ Raises (run result.steps (flat_of self.old memory output)) }
+        ensures latch { IsOpenAfter result.last self.old.latch self.new.latch }
         ensures unsent { self.new.term.out ≡ None }
         ensures input { self.new.term.input ≡ self.old.term.input }
         ensures since { (start : P) → P.since start port.old → P.since start port.new }
     {
+        if self.latch.is_some() {
+            let last = self.attempt(port);
+            return Batch { steps: 0, last };
+        }
         let several = try_steps(&mut self.core, &mut self.term, port, most);
         let last = settle(&mut self.core, &mut self.term, port, several.last);
+        self.latch = open_after(None, last);
         Batch {
             steps: several.steps,
             last: answer_of(last),

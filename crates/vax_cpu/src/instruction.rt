@@ -1,6 +1,6 @@
-//! The instruction at PC, by the action that the table gives its opcode.
+//! The instruction at PC, by the action that the table gives its opcode, and the later parts of a string instruction.
 ghost use Rattle.std.specs.Prelude.{◌≡◌, ◌≤◌};
-ghost use Rattle.vax_flat.specs.Instruction.{acted, acted_if, instruction};
+ghost use Rattle.vax_flat.specs.Instruction.{acted_part, acted_part_if, first_part, resumed};
 ghost use Rattle.vax_flat.specs.OverPort.{Follows};
 ghost use Rattle.vax_undo.specs.Transaction.{present, room, told, IsSame, KeepsUnlessDone};
 
@@ -9,12 +9,12 @@ use vax_isa::{Action, action};
 use vax_operand::{Cut, Flow, fetch};
 use vax_undo::{CutShort, Port, Txn};
 
-/// What the instruction does whose opcode PC is past.
+/// What the instruction does whose opcode PC is past; of a string instruction its first part.
 #[inline(always)]
-#[tactic(auto, using(vax_undo::proofs::Left::always), unfolding(vax_flat::specs::Instruction::acted))]
+#[tactic(auto, using(vax_undo::proofs::Left::always), unfolding(vax_flat::specs::Instruction::acted_part))]
 fn act<P: Port>(txn: &mut Txn<P>, action: Action) -> Result<Flow, CutShort>
     requires { 27 ≤ room txn.old }
-    ensures exact { Follows (acted action (present P.view txn.old).state) (present P.view txn.old) (told txn.new result) (present P.view txn.new) }
+    ensures exact { Follows (acted_part action (present P.view txn.old).state) (present P.view txn.old) (told txn.new result) (present P.view txn.new) }
     ensures keeps { KeepsUnlessDone P.view P.since 27 result txn.old txn.new }
     ensures same { IsSame P.since txn.old txn.new }
 {
@@ -30,10 +30,10 @@ fn act<P: Port>(txn: &mut Txn<P>, action: Action) -> Result<Flow, CutShort>
 
 /// What an opcode does; one that the table hasn't is reserved.
 #[inline(always)]
-#[tactic(auto, using(vax_flat::proofs::Leaves::over_port_raises, vax_undo::proofs::Left::always), unfolding(vax_flat::specs::Instruction::acted_if))]
+#[tactic(auto, using(vax_flat::proofs::Leaves::over_port_raises, vax_undo::proofs::Left::always), unfolding(vax_flat::specs::Instruction::acted_part_if))]
 fn act_if<P: Port>(txn: &mut Txn<P>, action: Option<Action>) -> Result<Flow, CutShort>
     requires { 27 ≤ room txn.old }
-    ensures exact { Follows (acted_if action (present P.view txn.old).state) (present P.view txn.old) (told txn.new result) (present P.view txn.new) }
+    ensures exact { Follows (acted_part_if action (present P.view txn.old).state) (present P.view txn.old) (told txn.new result) (present P.view txn.new) }
     ensures keeps { KeepsUnlessDone P.view P.since 27 result txn.old txn.new }
     ensures same { IsSame P.since txn.old txn.new }
 {
@@ -43,15 +43,28 @@ fn act_if<P: Port>(txn: &mut Txn<P>, action: Option<Action>) -> Result<Flow, Cut
     }
 }
 
-/// The instruction at PC.
+/// The instruction at PC; of a string instruction its first part.
 #[inline(always)]
-#[tactic(auto, using(vax_undo::proofs::Left::behind), unfolding(vax_flat::specs::Instruction::instruction))]
+#[tactic(auto, using(vax_undo::proofs::Left::behind), unfolding(vax_flat::specs::Instruction::first_part))]
 pub(crate) fn execute<P: Port>(txn: &mut Txn<P>) -> Result<Flow, CutShort>
     requires { 28 ≤ room txn.old }
-    ensures exact { Follows (instruction (present P.view txn.old).state) (present P.view txn.old) (told txn.new result) (present P.view txn.new) }
+    ensures exact { Follows (first_part (present P.view txn.old).state) (present P.view txn.old) (told txn.new result) (present P.view txn.new) }
     ensures keeps { KeepsUnlessDone P.view P.since 28 result txn.old txn.new }
     ensures same { IsSame P.since txn.old txn.new }
 {
     let opcode = fetch(txn, 1)? as u8;
     act_if(txn, action(opcode))
+}
+
+/// A later part of the string instruction with this opcode.
+#[inline]
+#[tactic(auto, using(vax_undo::proofs::Left::always), unfolding(vax_flat::specs::Instruction::resumed))]
+pub(crate) fn resume<P: Port>(txn: &mut Txn<P>, opcode: u8) -> Result<Flow, CutShort>
+    requires { 28 ≤ room txn.old }
+    ensures exact { Follows (resumed opcode (present P.view txn.old).state) (present P.view txn.old) (told txn.new result) (present P.view txn.new) }
+    ensures keeps { KeepsUnlessDone P.view P.since 28 result txn.old txn.new }
+    ensures same { IsSame P.since txn.old txn.new }
+{
+    let _ = opcode;
+    Ok(Flow::Ended(Ending::Unbuilt))
 }

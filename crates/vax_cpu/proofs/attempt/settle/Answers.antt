@@ -1,12 +1,17 @@
-use Rattle.std.proofs.Common.{subst}
+use Rattle.std.proofs.Common.{◌≡◌, subst}
 use Rattle.vax_flat.specs.OverPort.{Present}
-use Rattle.vax_flat.specs.Step.{whole_step}
 use Rattle.vax_undo.specs.Transaction.{state_of}
 use Rattle.vax_cpu.specs.declared.attempt.Tried.{Tried}
-use Rattle.vax_cpu.specs.Tried.{IsTried, Delivered}
+use Rattle.vax_cpu.specs.Tried.{IsTried}
+use Rattle.vax_cpu.proofs.Settled.{first_delivered, first_made}
+use Rattle.vax_cpu.proofs.Steps.{final_of}
 use Rattle.vax_cpu.proofs.attempt.settle.Goals as goal
 
 pub returns-in-Event-clause-made : goal.returns-in-Event-clause-made
-returns-in-Event-clause-made g c = λ old is.
+returns-in-Event-clause-made g c = λ tree old is.
     let now : Present = record { state = state_of c.args.core.now c.args.term.now; view = g.P.Port.view c.args.port.now } in
-    Delivered c.in-Event.exception now (subst (λ (t : Tried). IsTried whole_step old t now) c.in-Event.is is) c.try_delivery.ensures.tried
+    let new : Present = record { state = state_of c.try_delivery.new.core c.try_delivery.new.term; view = g.P.Port.view c.try_delivery.new.port } in
+    first_delivered tree old now new c.in-Event.exception c.try_delivery.result (subst (λ (t : Tried). IsTried tree old t now) c.in-Event.is is) c.try_delivery.ensures.tried
+
+pub returns-in_default-clause-made : goal.returns-in_default-clause-made
+returns-in_default-clause-made g c = λ tree old is. first_made tree old _ c.args.tried (final_of c.args.tried c.in_default.not-Event) is

@@ -2,7 +2,7 @@ use Rattle.std.proofs.Common.{◌∙◌, ap, subst, rules}
 use Rattle.vax_flat.specs.OverPort.{Present, Follows}
 use Rattle.vax_flat.specs.Step.{delivered, whole_delivery}
 use Rattle.vax_undo.specs.Transaction.{bare, present, state_of, told}
-use Rattle.vax_cpu.proofs.Attempts.{tried_at, undone_unless}
+use Rattle.vax_cpu.proofs.Attempts.{leads_back, tried_at}
 use Rattle.vax_cpu.proofs.attempt.try_delivery.Goals as goal
 
 pub returns-clause-tried : goal.returns-clause-tried
@@ -11,4 +11,4 @@ returns-clause-tried g c =
     tried_at (whole_delivery c.args.exception) old c.conclude.result (record { state = _; view = _ }) _ _ (search rules) (search rules)
     (c.conclude.ensures.tried old (delivered c.args.exception)
     (subst (λ (p : Present). Follows ((delivered c.args.exception) p.state) p (told c.work_delivery-done.new.txn c.work_delivery-done.result) (present g.P.Port.view c.work_delivery-done.new.txn)) c.begin-txn.ensures.present c.work_delivery-done.ensures.exact)
-    (undone_unless g.P.Port.view g.P.Port.since 18 c.work_delivery-done.result c.begin-txn.result c.work_delivery-done.new.txn c.work_delivery-done.ensures.keeps old (c.begin-txn.ensures.undone ∙ ap bare c.begin-txn.ensures.present)))
+    (leads_back g.P.Port.view g.P.Port.since 18 c.work_delivery-done.result c.begin-txn.result c.work_delivery-done.new.txn c.work_delivery-done.ensures.keeps old (c.begin-txn.ensures.undone ∙ ap bare c.begin-txn.ensures.present)))

@@ -1,14 +1,14 @@
 use Rattle.std.proofs.Common.{◌∙◌, ap, subst, rules}
 use Rattle.vax_flat.specs.OverPort.{Present, Follows}
-use Rattle.vax_flat.specs.Step.{whole, whole_step}
+use Rattle.vax_flat.specs.Parts.{part, part_step}
 use Rattle.vax_undo.specs.Transaction.{bare, present, state_of, told}
-use Rattle.vax_cpu.proofs.Attempts.{tried_at, undone_unless}
+use Rattle.vax_cpu.proofs.Attempts.{leads_back, tried_at}
 use Rattle.vax_cpu.proofs.attempt.try_step.Goals as goal
 
 pub returns-clause-tried : goal.returns-clause-tried
 returns-clause-tried g c =
     let old : Present = record { state = state_of c.args.core.now c.args.term.now; view = g.P.Port.view c.args.port.now } in
-    tried_at whole_step old c.conclude.result (record { state = _; view = _ }) _ _ (search rules) (search rules)
-    (c.conclude.ensures.tried old whole
-    (subst (λ (p : Present). Follows (whole p.state) p (told c.work_once-done.new.txn c.work_once-done.result) (present g.P.Port.view c.work_once-done.new.txn)) c.begin-txn.ensures.present c.work_once-done.ensures.exact)
-    (undone_unless g.P.Port.view g.P.Port.since 46 c.work_once-done.result c.begin-txn.result c.work_once-done.new.txn c.work_once-done.ensures.keeps old (c.begin-txn.ensures.undone ∙ ap bare c.begin-txn.ensures.present)))
+    tried_at part_step old c.conclude.result (record { state = _; view = _ }) _ _ (search rules) (search rules)
+    (c.conclude.ensures.tried old part
+    (subst (λ (p : Present). Follows (part p.state) p (told c.work_once-done.new.txn c.work_once-done.result) (present g.P.Port.view c.work_once-done.new.txn)) c.begin-txn.ensures.present c.work_once-done.ensures.exact)
+    (leads_back g.P.Port.view g.P.Port.since 46 c.work_once-done.result c.begin-txn.result c.work_once-done.new.txn c.work_once-done.ensures.keeps old (c.begin-txn.ensures.undone ∙ ap bare c.begin-txn.ensures.present)))

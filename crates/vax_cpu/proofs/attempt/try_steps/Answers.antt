@@ -1,9 +1,9 @@
 use Rattle.std.proofs.Common.{◌∙◌, Ok, ap, subst, arith, rules}
 use Rattle.vax_flat.specs.declared.Flow.TheVariants as flow
 use Rattle.vax_flat.specs.OverPort.{Present, Follows}
-use Rattle.vax_flat.specs.Step.{whole, whole_step}
+use Rattle.vax_flat.specs.Parts.{part, part_step}
 use Rattle.vax_undo.specs.Transaction.{present, told}
-use Rattle.vax_cpu.proofs.Attempts.{done_of, renewed_step, sent_step, ran_more, tried_at, undone_unless}
+use Rattle.vax_cpu.proofs.Attempts.{done_of, renewed_step, sent_step, ran_more, tried_at, leads_back}
 use Rattle.vax_cpu.proofs.attempt.try_steps.Goals as goal
 
 pub loop-steps-preserved : goal.loop-steps-preserved
@@ -14,7 +14,7 @@ loop-steps-preserved g c =
     let now = present view c.loop-steps.txn in
     let mid = present view c.work-done.new.txn in
     let done = done_of c.work-done.result (search rules) in
-    let follows : Follows (whole now.state) now (Ok flow.Done) mid = subst (λ w. Follows (whole now.state) now (told c.work-done.new.txn w) mid) done c.work-done.ensures.exact in
+    let follows : Follows (part now.state) now (Ok flow.Done) mid = subst (λ w. Follows (part now.state) now (told c.work-done.new.txn w) mid) done c.work-done.ensures.exact in
     record {
       ran = ran_more c.loop-steps.steps _ now (present view c.renew.new.self) inv.ran
           (renewed_step now mid (present view c.renew.new.self) follows c.renew.ensures.present c.in-None.ensures.sent)
@@ -37,7 +37,7 @@ returns-in-Some-clause-ran g c =
     let now = present view c.loop-steps.txn in
     let mid = present view c.work-done.new.txn in
     let done = done_of c.work-done.result (search rules) in
-    let follows : Follows (whole now.state) now (Ok flow.Done) mid = subst (λ w. Follows (whole now.state) now (told c.work-done.new.txn w) mid) done c.work-done.ensures.exact in (
+    let follows : Follows (part now.state) now (Ok flow.Done) mid = subst (λ w. Follows (part now.state) now (told c.work-done.new.txn w) mid) done c.work-done.ensures.exact in (
       now,
       c.loop-steps.invariant.ran,
       sent_step now mid (present view c.renew.new.self) (record { state = _; view = _ }) c.in-Some.byte follows
@@ -49,9 +49,9 @@ returns-clause-ran g c =
     let now = present g.P.Port.view c.loop-steps.txn in (
       now,
       c.loop-steps.invariant.ran,
-      tried_at whole_step now c.conclude-last-2.result (record { state = _; view = _ }) _ _ (search rules) (search rules)
-          (c.conclude-last-2.ensures.tried now whole c.work_once-done.ensures.exact
-          (undone_unless g.P.Port.view g.P.Port.since 46 c.work_once-done.result c.loop-steps.txn c.work_once-done.new.txn c.work_once-done.ensures.keeps now c.loop-steps.invariant.undone)),
+      tried_at part_step now c.conclude-last-2.result (record { state = _; view = _ }) _ _ (search rules) (search rules)
+          (c.conclude-last-2.ensures.tried now part c.work_once-done.ensures.exact
+          (leads_back g.P.Port.view g.P.Port.since 46 c.work_once-done.result c.loop-steps.txn c.work_once-done.new.txn c.work_once-done.ensures.keeps now c.loop-steps.invariant.undone)),
     )
 
 pub returns-then-not-is_done-clause-ran : goal.returns-then-not-is_done-clause-ran
@@ -59,7 +59,7 @@ returns-then-not-is_done-clause-ran g c =
     let now = present g.P.Port.view c.loop-steps.txn in (
       now,
       c.loop-steps.invariant.ran,
-      tried_at whole_step now c.conclude-last.result (record { state = _; view = _ }) _ _ (search rules) (search rules)
-          (c.conclude-last.ensures.tried now whole c.work-done.ensures.exact
-          (undone_unless g.P.Port.view g.P.Port.since 46 c.work-done.result c.loop-steps.txn c.work-done.new.txn c.work-done.ensures.keeps now c.loop-steps.invariant.undone)),
+      tried_at part_step now c.conclude-last.result (record { state = _; view = _ }) _ _ (search rules) (search rules)
+          (c.conclude-last.ensures.tried now part c.work-done.ensures.exact
+          (leads_back g.P.Port.view g.P.Port.since 46 c.work-done.result c.loop-steps.txn c.work-done.new.txn c.work-done.ensures.keeps now c.loop-steps.invariant.undone)),
     )

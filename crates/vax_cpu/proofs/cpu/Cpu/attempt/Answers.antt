@@ -1,26 +1,43 @@
-use Rattle.std.proofs.Common.{refl, sym, ap, subst, ◌∙◌}
+use Rattle.std.proofs.Common.{sym, ap, subst, ◌∙◌}
 use Rattle.vax_flat.specs.OverPort.{Present}
 use Rattle.vax_undo.specs.Transaction.{state_of}
 use Rattle.vax_cpu.specs.declared.cpu.Attempt.{Attempt}
 use Rattle.vax_cpu.specs.declared.cpu.Cpu.{Cpu}
-use Rattle.vax_cpu.specs.Tried.{Made}
-use Rattle.vax_cpu.specs.Attempt.{flat_of, Attempted, StopsInside}
-use Rattle.vax_cpu.proofs.Steps.{attempted, inside, unsent}
+use Rattle.vax_cpu.specs.Attempt.{Attempted, IsAsBefore, IsOpenAfter, StopsInside, open_after}
+use Rattle.vax_cpu.specs.Tried.{start_by, tree_of}
+use Rattle.vax_cpu.proofs.Steps.{attempted, inside, unmoved}
+use Rattle.vax_cpu.proofs.Runs.{as_before, input_there, made_there, opens, running_there}
 use Rattle.vax_cpu.proofs.cpu.Cpu.attempt.Goals as goal
 
-pub returns-clause-step : goal.returns-clause-step
-returns-clause-step g c = λ memory output st.
+pub returns-clause-attempted : goal.returns-clause-attempted
+returns-clause-attempted g c = λ place at st.
+    let old = c.args.self.now in
     let view = g.P.Port.view c.args.port.now in
-    let cpu : Cpu = record { core = c.settle-settled.new.core; term = c.settle-settled.new.term; latch = c.args.self.now.latch } in
-    let after = g.P.Port.view c.settle-settled.new.port in
-    let new : Present = record { state = state_of c.settle-settled.new.core c.settle-settled.new.term; view = after } in
-    let made = c.settle-settled.ensures.made _ c.try_step-tried.ensures.tried in
-    subst (λ (a : Attempt). Attempted view (flat_of c.args.self.now memory output) a cpu after) (sym c.answer_of.ensures)
-    (attempted view (flat_of c.args.self.now memory output) refl st cpu after (ap (λ v. v.items) (sym c.try_step-tried.ensures.input ∙ sym c.settle-settled.ensures.input)) c.settle-settled.result
-    (subst (λ (p : Present). Made p c.settle-settled.result new) (unsent c.args.self.now.core c.args.self.now.term view c.requires.unsent) made))
+    let after = g.P.Port.view c.try_once-tried.new.port in
+    let cpu : Cpu = record { core = c.try_once-tried.new.core; term = c.try_once-tried.new.term; latch = c.open_after-self.result } in
+    let new : Present = record { state = state_of c.try_once-tried.new.core c.try_once-tried.new.term; view = after } in
+    subst (λ (a : Attempt). Attempted view place a cpu after) (sym c.answer_of.ensures)
+    (attempted view place st (running_there old view place at) cpu after (input_there old view place at ∙ ap (λ v. v.items) (sym c.try_once-tried.ensures.input)) c.try_once-tried.result
+    (made_there old view place at c.try_once-tried.result new c.requires.unsent c.try_once-tried.ensures.made)
+    (c.open_after-self.ensures ∙ ap (λ latch. open_after latch c.try_once-tried.result) at.open_one))
+
+pub returns-clause-before : goal.returns-clause-before
+returns-clause-before g c =
+    let old = c.args.self.now in
+    let view = g.P.Port.view c.args.port.now in
+    let after = g.P.Port.view c.try_once-tried.new.port in
+    let cpu : Cpu = record { core = c.try_once-tried.new.core; term = c.try_once-tried.new.term; latch = c.open_after-self.result } in
+    subst (λ (a : Attempt). IsAsBefore a old view cpu after) (sym c.answer_of.ensures)
+    (as_before old cpu view after (ap (λ v. v.items) c.try_once-tried.ensures.input) c.try_once-tried.result
+    (unmoved (start_by old.latch old.core) _ _ (tree_of old.latch) c.try_once-tried.result c.try_once-tried.ensures.made))
 
 pub returns-clause-absent : goal.returns-clause-absent
 returns-clause-absent g c =
-    let new : Present = record { state = state_of c.settle-settled.new.core c.settle-settled.new.term; view = g.P.Port.view c.settle-settled.new.port } in
+    let old = c.args.self.now in
     subst (λ (a : Attempt). StopsInside a (g.P.Port.view c.args.port.now)) (sym c.answer_of.ensures)
-    (inside c.settle-settled.result _ new (c.settle-settled.ensures.made _ c.try_step-tried.ensures.tried))
+    (inside (tree_of old.latch) (start_by old.latch old.core) c.try_once-tried.result _ _ c.try_once-tried.ensures.made)
+
+pub returns-clause-latch : goal.returns-clause-latch
+returns-clause-latch g c =
+    subst (λ (a : Attempt). IsOpenAfter a c.args.self.now.latch c.open_after-self.result) (sym c.answer_of.ensures)
+    (opens c.args.self.now.latch c.open_after-self.result c.try_once-tried.result c.open_after-self.ensures)

@@ -1,0 +1,22 @@
+use Rattle.std.proofs.Common.{◌≡◌, subst}
+use Rattle.vax_flat.specs.OverPort.{Present}
+use Rattle.vax_undo.specs.Transaction.{state_of}
+use Rattle.vax_cpu.specs.declared.attempt.Tried.{Tried}
+use Rattle.vax_cpu.specs.Tried.{IsTried}
+use Rattle.vax_cpu.proofs.Settled.{later_delivered, later_ended, later_made}
+use Rattle.vax_cpu.proofs.Steps.{final_of}
+use Rattle.vax_cpu.proofs.attempt.settle_later.Goals as goal
+
+pub returns-in-Event-clause-made : goal.returns-in-Event-clause-made
+returns-in-Event-clause-made g c = λ tree old is.
+    let now : Present = record { state = state_of c.args.core.now c.args.term.now; view = g.P.Port.view c.args.port.now } in
+    let d = c.deliver_from.ensures.delivered in
+    later_delivered tree c.args.start old now d.0 _ c.in-Event.exception c.deliver_from.result (subst (λ (t : Tried). IsTried tree old t now) c.in-Event.is is) d.1 d.2
+
+pub returns-in-Ended-clause-made : goal.returns-in-Ended-clause-made
+returns-in-Ended-clause-made g c = λ tree old is.
+    let now : Present = record { state = state_of c.args.core.now c.args.term.now; view = g.P.Port.view c.args.port.now } in
+    later_ended tree old now c.args.start c.args.tried _ c.in-Ended.is is
+
+pub returns-in_default-clause-made : goal.returns-in_default-clause-made
+returns-in_default-clause-made g c = λ tree old is. later_made tree old _ c.args.start c.args.tried (final_of c.args.tried c.in_default.not-Event) c.in_default.not-Ended is
