@@ -3,6 +3,7 @@ ghost use Rattle.std.specs.Prelude.{◌≡◌, ◌<◌, ◌≤◌};
 ghost use Rattle.vax_flat.specs.Operand.{extended};
 ghost use Rattle.vax_flat.specs.Delivery.{change_by, change_mode, change_vector, changed, changed_to, delivery, dispatched, entered, interrupt, interrupt_vector, interrupted, pushed_outside, served, vector_of, vectored};
 ghost use Rattle.vax_flat.specs.OverPort.{Follows, Performs};
+ghost use Rattle.vax_undo.specs.Rooms.{room_of_delivery};
 ghost use Rattle.vax_undo.specs.Transaction.{present, room, Keeps, with_state, told};
 ghost use Rattle.vax_x_sys.specs.Frames.{listed, IsLevel};
 
@@ -110,9 +111,9 @@ fn dispatch<P: Port>(
 /// The run ends where the vector can't be read or asks for it, or where the frame can't be pushed. The cut is a page that is absent alone.
 #[tactic(auto, unfolding(vax_flat::specs::Delivery::delivery))]
 pub fn deliver<P: Port>(txn: &mut Txn<P>, exception: Exception) -> Result<Delivery, CutShort>
-    requires { 16 ≤ room txn.old }
+    requires { room_of_delivery ≤ room txn.old }
     ensures exact { Follows (delivery exception (present P.view txn.old).state) (present P.view txn.old) (told txn.new result) (present P.view txn.new) }
-    ensures keeps { Keeps P.view P.since 16 txn.old txn.new }
+    ensures keeps { Keeps P.view P.since room_of_delivery txn.old txn.new }
 {
     let vector = vector(txn, vector_of(exception))?;
     dispatch(txn, exception, vector)
@@ -183,9 +184,9 @@ fn interrupt_by<P: Port>(
 #[tactic(auto, unfolding(vax_flat::specs::Delivery::interrupt))]
 pub fn interrupt<P: Port>(txn: &mut Txn<P>, level: u8) -> Result<Delivery, CutShort>
     requires of_level { IsLevel level }
-    requires room { 16 ≤ room txn.old }
+    requires room { room_of_delivery ≤ room txn.old }
     ensures exact { Follows (interrupt level (present P.view txn.old).state) (present P.view txn.old) (told txn.new result) (present P.view txn.new) }
-    ensures keeps { Keeps P.view P.since 16 txn.old txn.new }
+    ensures keeps { Keeps P.view P.since room_of_delivery txn.old txn.new }
 {
     let vector = vector(txn, interrupt_vector(level))?;
     interrupt_by(txn, level, vector)
@@ -303,9 +304,9 @@ pub(crate) fn change_mode<P: Port>(
     target: AccessMode,
     code: u16,
 ) -> Result<Delivery, CutShort>
-    requires { 16 ≤ room txn.old }
+    requires { room_of_delivery ≤ room txn.old }
     ensures exact { Follows (change_mode target code (present P.view txn.old).state) (present P.view txn.old) (told txn.new result) (present P.view txn.new) }
-    ensures keeps { Keeps P.view P.since 16 txn.old txn.new }
+    ensures keeps { Keeps P.view P.since room_of_delivery txn.old txn.new }
 {
     if on_interrupt_stack(txn.psl()) {
         return Ok(Delivery::Ended(Ending::Change));
