@@ -68,6 +68,10 @@ quiet_final e old new (tried.Absent page) is = tt
 quiet_final e old new (tried.Ended x) is = tt
 quiet_final e old new (tried.Event x) is = let P : Arrival Leaf → Type 0 = λ a. IsQuiet a in subst P is.0 ((quiet_whole e old.state).port old.view)
 
+-- the same of a clock that has counted the same
+pub clock_at : (clock mid : ℕ) → clock ≡ mid → mid ≤ 999 → clock ≤ 999
+clock_at clock mid e within = subst (λ x. x ≤ 999) (sym e) within
+
 -- what was completed, and what wasn't
 pub done_from : (how : Flow) → ending_of how ≡ None → how ≡ flow.Done
 done_from flow.Done h = refl
