@@ -1,5 +1,5 @@
 -- What an attempt does, by the flat machine.
-use Rattle.std.specs.Prelude.{◌≡◌, ℕ, false, IsSome, Option, Some, None, List, []}
+use Rattle.std.specs.Prelude.{◌≡◌, ◌≤◌, ℕ, false, IsSome, IfSome, Option, Some, None, List, []}
 use Rattle.vax_space.specs.declared.Area.{Area}
 use Rattle.vax_space.specs.Reference.{page_of}
 use Rattle.vax_flat.specs.Memory.{byte_at}
@@ -87,6 +87,10 @@ IsAsBefore Part old before new after = Unit {0}
 IsAsBefore (Absent page) old before new after = (flat_of new [] [] ≡ flat_of old [] []) × (after ≡ with_marks before after.marked)
 IsAsBefore (Ended e) old before new after =
     (flat_of new [] [] ≡ record (flat_of old [] []) { core = start_by old.latch old.core }) × (after ≡ with_marks before after.marked)
+
+-- the interval clock counts milliseconds up to 999, now and at the start of the string instruction that is open
+abbrev pub KeepsTime : Cpu → Type 0
+KeepsTime cpu = (cpu.core.clock ≤ 999) × IfSome cpu.latch (λ latched. latched.start.clock ≤ 999)
 
 -- the string instruction that is open afterwards
 abbrev pub IsOpenAfter : Attempt → Option Open → Option Open → Type 0

@@ -1,5 +1,5 @@
 -- What a transaction that makes the accesses of a tree came to.
-use Rattle.std.specs.Prelude.{◌≡◌, ℕ, Bool, false, is_none, Option, Some, None, Result, Ok, Err}
+use Rattle.std.specs.Prelude.{◌≡◌, ◌≤◌, ℕ, Bool, false, is_none, Option, Some, None, Result, Ok, Err}
 use Rattle.vax_word.specs.declared.Core.{Core}
 use Rattle.vax_flat.specs.declared.Cut.TheVariants as cut
 use Rattle.vax_flat.specs.declared.Ending.{Ending}
@@ -21,7 +21,16 @@ use Rattle.vax_cpu.specs.declared.attempt.Tried.{Tried}
 use Rattle.vax_cpu.specs.declared.attempt.Tried.TheVariants.{Step, Part, Absent, Ended, Event}
 use Rattle.vax_cpu.specs.declared.cpu.Open.{Open}
 
--- how an instruction that went so ends the run, if it does
+-- how a step may go, behind what follows its instruction: a trap is delivered there, and the interval clock has counted
+abbrev pub IsLast : Result Flow CutShort → Type 0
+IsLast (Ok flow.Done) = Unit {0}
+IsLast (Ok flow.Clocked) = ⊥
+IsLast (Ok (flow.Trap kind)) = ⊥
+IsLast (Ok (flow.More opcode units)) = Unit {0}
+IsLast (Ok (flow.Ended e)) = Unit {0}
+IsLast (Err short) = Unit {0}
+
+-- how a step that went so ends the run, if it does
 abbrev pub ending_of : Flow → Option Ending
 ending_of flow.Done = None
 ending_of flow.Clocked = Some Unbuilt
@@ -76,6 +85,14 @@ IsFinal (Part part) = Unit {0}
 IsFinal (Ended e) = Unit {0}
 IsFinal (Absent page) = Unit {0}
 IsFinal (Event e) = ⊥
+
+-- the interval clock counts up to 999, also at the start of a part
+abbrev pub KeepsTime : Core → Tried → Type 0
+KeepsTime core (Step sent) = core.clock ≤ 999
+KeepsTime core (Part part) = (core.clock ≤ 999) × (part.start.clock ≤ 999)
+KeepsTime core (Ended e) = core.clock ≤ 999
+KeepsTime core (Absent page) = core.clock ≤ 999
+KeepsTime core (Event e) = core.clock ≤ 999
 
 -- what an attempt goes through: the first part of the step at PC, or a later part of the instruction that is open
 abbrev pub tree_of : Option Open → State → Accesses Leaf

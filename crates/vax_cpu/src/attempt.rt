@@ -8,8 +8,9 @@ ghost use Rattle.vax_flat.specs.System.{flow_of_delivery};
 ghost use Rattle.vax_x_sys.specs.Frames.{IsLevel};
 ghost use Rattle.vax_flat.specs.Step.{finished, handed_over, leaf, ticked, delivered, whole_delivery};
 ghost use Rattle.vax_flat.specs.Parts.{begun_part, part, part_step, later, later_step};
+ghost use Rattle.vax_undo.specs.Rooms.{room_of_beginning, room_of_end, room_of_step, room_of_tick};
 ghost use Rattle.vax_undo.specs.Transaction.{bare, present, room, state_of, told, undone, with_state, IsReady, IsSame, Keeps, KeepsUnlessDone};
-ghost use Rattle.vax_cpu.specs.Tried.{IsFinal, IsTried, LeadsBack, Made, UnlessDone, ending_of, is_done, put_again, start_by, tree_of, with_registers};
+ghost use Rattle.vax_cpu.specs.Tried.{IsFinal, IsLast, IsTried, KeepsTime, LeadsBack, Made, UnlessDone, ending_of, is_done, put_again, start_by, tree_of, with_registers};
 ghost use Rattle.vax_cpu.specs.Batch.{Ran};
 
 use crate::cpu::Open;
@@ -40,9 +41,9 @@ pub(crate) enum Tried {
 #[cold]
 fn take_interrupt<P: Port>(txn: &mut Txn<P>, level: u8) -> Result<Flow, CutShort>
     requires of_level { IsLevel level }
-    requires room { 28 ≤ room txn.old }
+    requires room { room_of_beginning ≤ room txn.old }
     ensures exact { Follows (λ next. interrupt level (present P.view txn.old).state (λ how s. next (flow_of_delivery how) s)) (present P.view txn.old) (told txn.new result) (present P.view txn.new) }
-    ensures keeps { Keeps P.view P.since 28 txn.old txn.new }
+    ensures keeps { Keeps P.view P.since room_of_beginning txn.old txn.new }
 {
     let how = interrupt(txn, level)?;
     Ok(flow_of(how))
@@ -52,9 +53,9 @@ fn take_interrupt<P: Port>(txn: &mut Txn<P>, level: u8) -> Result<Flow, CutShort
 #[inline(always)]
 #[tactic(auto, using(vax_undo::proofs::Left::always), unfolding(vax_flat::specs::Parts::begun_part))]
 fn begin<P: Port>(txn: &mut Txn<P>) -> Result<Flow, CutShort>
-    requires { 28 ≤ room txn.old }
+    requires { room_of_beginning ≤ room txn.old }
     ensures exact { Follows (begun_part (present P.view txn.old).state) (present P.view txn.old) (told txn.new result) (present P.view txn.new) }
-    ensures keeps { KeepsUnlessDone P.view P.since 28 result txn.old txn.new }
+    ensures keeps { KeepsUnlessDone P.view P.since room_of_beginning result txn.old txn.new }
     ensures same { IsSame P.since txn.old txn.new }
 {
     let level = requested(txn);
@@ -68,9 +69,10 @@ fn begin<P: Port>(txn: &mut Txn<P>) -> Result<Flow, CutShort>
 #[inline]
 #[tactic(auto, unfolding(vax_flat::specs::Step::handed_over))]
 fn hand_over<P: Port>(txn: &mut Txn<P>, how: Delivery) -> Result<Flow, CutShort>
-    requires { 2 ≤ room txn.old }
+    requires { room_of_tick ≤ room txn.old }
     ensures exact { Follows (handed_over how (present P.view txn.old).state) (present P.view txn.old) (told txn.new result) (present P.view txn.new) }
-    ensures keeps { Keeps P.view P.since 2 txn.old txn.new }
+    ensures keeps { Keeps P.view P.since room_of_tick txn.old txn.new }
+    ensures last { IsLast result }
 {
     match how {
         Delivery::Entered => {
@@ -85,9 +87,10 @@ fn hand_over<P: Port>(txn: &mut Txn<P>, how: Delivery) -> Result<Flow, CutShort>
 #[cold]
 #[tactic(auto, unfolding(vax_flat::specs::Step::delivered))]
 fn deliver_and_tick<P: Port>(txn: &mut Txn<P>, exception: Exception) -> Result<Flow, CutShort>
-    requires { 18 ≤ room txn.old }
+    requires { room_of_end ≤ room txn.old }
     ensures exact { Follows (delivered exception (present P.view txn.old).state) (present P.view txn.old) (told txn.new result) (present P.view txn.new) }
-    ensures keeps { Keeps P.view P.since 18 txn.old txn.new }
+    ensures keeps { Keeps P.view P.since room_of_end txn.old txn.new }
+    ensures last { IsLast result }
 {
     let how = deliver(txn, exception)?;
     hand_over(txn, how)
@@ -96,9 +99,9 @@ fn deliver_and_tick<P: Port>(txn: &mut Txn<P>, exception: Exception) -> Result<F
 /// The interval clock counts an instruction that was completed.
 #[inline]
 fn complete<P: Port>(txn: &mut Txn<P>)
-    requires { 18 ≤ room txn.old }
+    requires { room_of_end ≤ room txn.old }
     ensures exact { present P.view txn.new ≡ with_state (present P.view txn.old) (ticked (present P.view txn.old).state) }
-    ensures keeps { Keeps P.view P.since 18 txn.old txn.new }
+    ensures keeps { Keeps P.view P.since room_of_end txn.old txn.new }
 {
     tick(txn);
 }
@@ -107,10 +110,11 @@ fn complete<P: Port>(txn: &mut Txn<P>)
 #[inline(always)]
 #[tactic(auto, using(vax_undo::proofs::Left::always, vax_undo::proofs::Left::kept_through, vax_undo::proofs::Left::left_then), unfolding(vax_flat::specs::Step::finished, vax_flat::specs::Step::delivered))]
 fn finish<P: Port>(txn: &mut Txn<P>, flow: Flow) -> Result<Flow, CutShort>
-    requires { 18 ≤ room txn.old }
+    requires { room_of_end ≤ room txn.old }
     ensures exact { Follows (finished flow (present P.view txn.old).state) (present P.view txn.old) (told txn.new result) (present P.view txn.new) }
-    ensures keeps { (count : ℕ) → (start : _) → KeepsUnlessDone P.view P.since count (Ok flow) start txn.old → KeepsUnlessDone P.view P.since (count + 18) result start txn.new }
+    ensures keeps { (count : ℕ) → (start : _) → KeepsUnlessDone P.view P.since count (Ok flow) start txn.old → KeepsUnlessDone P.view P.since (count + room_of_end) result start txn.new }
     ensures same { IsSame P.since txn.old txn.new }
+    ensures last { IsLast result }
 {
     match flow {
         Flow::Done => {
@@ -128,10 +132,11 @@ fn finish<P: Port>(txn: &mut Txn<P>, flow: Flow) -> Result<Flow, CutShort>
 #[inline(always)]
 #[tactic(auto, unfolding(vax_flat::specs::Parts::part))]
 fn work<P: Port>(txn: &mut Txn<P>) -> Result<Flow, CutShort>
-    requires { 46 ≤ room txn.old }
+    requires { room_of_step ≤ room txn.old }
     ensures exact { Follows (part (present P.view txn.old).state) (present P.view txn.old) (told txn.new result) (present P.view txn.new) }
-    ensures keeps { KeepsUnlessDone P.view P.since 46 result txn.old txn.new }
+    ensures keeps { KeepsUnlessDone P.view P.since room_of_step result txn.old txn.new }
     ensures same { IsSame P.since txn.old txn.new }
+    ensures last { IsLast result }
 {
     let flow = begin(txn)?;
     finish(txn, flow)
@@ -140,10 +145,11 @@ fn work<P: Port>(txn: &mut Txn<P>) -> Result<Flow, CutShort>
 /// [`work`] as a call of its own, for the attempts outside the loop.
 #[inline(never)]
 fn work_once<P: Port>(txn: &mut Txn<P>) -> Result<Flow, CutShort>
-    requires { 46 ≤ room txn.old }
+    requires { room_of_step ≤ room txn.old }
     ensures exact { Follows (part (present P.view txn.old).state) (present P.view txn.old) (told txn.new result) (present P.view txn.new) }
-    ensures keeps { KeepsUnlessDone P.view P.since 46 result txn.old txn.new }
+    ensures keeps { KeepsUnlessDone P.view P.since room_of_step result txn.old txn.new }
     ensures same { IsSame P.since txn.old txn.new }
+    ensures last { IsLast result }
 {
     work(txn)
 }
@@ -152,10 +158,11 @@ fn work_once<P: Port>(txn: &mut Txn<P>) -> Result<Flow, CutShort>
 #[cold]
 #[tactic(auto, unfolding(vax_flat::specs::Parts::later))]
 fn work_later<P: Port>(txn: &mut Txn<P>, opcode: u8) -> Result<Flow, CutShort>
-    requires { 46 ≤ room txn.old }
+    requires { room_of_step ≤ room txn.old }
     ensures exact { Follows (later opcode (present P.view txn.old).state) (present P.view txn.old) (told txn.new result) (present P.view txn.new) }
-    ensures keeps { KeepsUnlessDone P.view P.since 46 result txn.old txn.new }
+    ensures keeps { KeepsUnlessDone P.view P.since room_of_step result txn.old txn.new }
     ensures same { IsSame P.since txn.old txn.new }
+    ensures last { IsLast result }
 {
     let flow = resume(txn, opcode)?;
     finish(txn, flow)
@@ -165,23 +172,25 @@ fn work_later<P: Port>(txn: &mut Txn<P>, opcode: u8) -> Result<Flow, CutShort>
 #[inline]
 #[tactic(auto, using(vax_undo::proofs::Left::always))]
 fn work_delivery<P: Port>(txn: &mut Txn<P>, exception: Exception) -> Result<Flow, CutShort>
-    requires { 18 ≤ room txn.old }
+    requires { room_of_end ≤ room txn.old }
     ensures exact { Follows (delivered exception (present P.view txn.old).state) (present P.view txn.old) (told txn.new result) (present P.view txn.new) }
-    ensures keeps { KeepsUnlessDone P.view P.since 18 result txn.old txn.new }
+    ensures keeps { KeepsUnlessDone P.view P.since room_of_end result txn.old txn.new }
     ensures same { IsSame P.since txn.old txn.new }
+    ensures last { IsLast result }
 {
     deliver_and_tick(txn, exception)
 }
 
-/// How an instruction that went so ends the run, if it does.
+/// How a step that went so ends the run, if it does.
 #[inline]
 fn ending_of(flow: Flow) -> Option<Ending>
+    requires { IsLast (Ok flow) }
     ensures { result ≡ ending_of flow }
 {
     match flow {
         Flow::Done => None,
-        Flow::Clocked => Some(Ending::Unbuilt),
-        Flow::Trap(_) => Some(Ending::Unbuilt),
+        // What follows an instruction makes something else of these.
+        Flow::Clocked | Flow::Trap(_) => unreachable!(),
         Flow::More { .. } => Some(Ending::Unbuilt),
         Flow::Ended(ending) => Some(ending),
     }
@@ -190,6 +199,7 @@ fn ending_of(flow: Flow) -> Option<Ending>
 /// Whether the work was completed.
 #[inline]
 fn is_done(work: Result<Flow, CutShort>) -> bool
+    requires { IsLast work }
     ensures { result ≡ is_done work }
 {
     match work {
@@ -201,12 +211,14 @@ fn is_done(work: Result<Flow, CutShort>) -> bool
 /// Keeps a transaction whose work was completed, or a part of it, and undoes any other.
 #[inline]
 fn conclude<P: Port>(txn: Txn<P>, work: Result<Flow, CutShort>) -> Tried
+    requires last { IsLast work }
     requires ready { UnlessDone work (IsReady P.view txn) }
     requires unsent { UnlessDone work ((undone P.view txn).state.sent ≡ None) }
     ensures tried { (old : Present) → (tree : State → (Flow → State → Accesses Leaf) → Accesses Leaf) → Follows (tree old.state) old (told txn.entry work) (present P.view txn.entry) → LeadsBack P.view old work txn.entry → IsTried (λ s. tree s leaf) old result (record { state = state_of txn.exit.0.now txn.exit.1.0.now; view = P.view txn.exit.1.1.0.now }) }
     ensures completed { (sent : Option ℕ) → result ≡ Tried.Step sent → work ≡ Ok Flow.Done }
     ensures unsent { txn.exit.1.0.now.out ≡ None }
     ensures input { txn.exit.1.0.now.input ≡ txn.entry.term.now.input }
+    ensures clock { UnlessDone work ((undone P.view txn.entry).state.core.clock ≤ 999) → txn.entry.core.now.clock ≤ 999 → KeepsTime txn.exit.0.now result }
     ensures since { (start : P) → P.since start txn.entry.port.now → P.since start txn.exit.1.1.0.now }
 {
     let why = txn.why();
@@ -244,6 +256,7 @@ pub(crate) fn try_step<P: Port>(core: &mut Core, term: &mut Term, port: &mut P) 
     ensures tried { IsTried part_step (record { state = state_of core.old term.old; view = P.view port.old }) result (record { state = state_of core.new term.new; view = P.view port.new }) }
     ensures unsent { term.new.out ≡ None }
     ensures input { term.new.input ≡ term.old.input }
+    ensures clock { core.old.clock ≤ 999 → KeepsTime core.new result }
     ensures since { (start : P) → P.since start port.old → P.since start port.new }
 {
     let mut txn = Txn::begin(core, term, port);
@@ -251,7 +264,7 @@ pub(crate) fn try_step<P: Port>(core: &mut Core, term: &mut Term, port: &mut P) 
     conclude(txn, done)
 }
 
-/// Makes an attempt at the delivery of an exception, from the state at the start of the instruction.
+/// Makes an attempt at the delivery of an exception, from the state at the start of the instruction. It raises no other.
 #[cold]
 fn try_delivery<P: Port>(
     core: &mut Core,
@@ -260,9 +273,11 @@ fn try_delivery<P: Port>(
     exception: Exception,
 ) -> Tried
     requires { term.old.out ≡ None }
+    ensures quiet { IsFinal result }
     ensures tried { IsTried (whole_delivery exception) (record { state = state_of core.old term.old; view = P.view port.old }) result (record { state = state_of core.new term.new; view = P.view port.new }) }
     ensures unsent { term.new.out ≡ None }
     ensures input { term.new.input ≡ term.old.input }
+    ensures clock { core.old.clock ≤ 999 → KeepsTime core.new result }
     ensures since { (start : P) → P.since start port.old → P.since start port.new }
 {
     let mut txn = Txn::begin(core, term, port);
@@ -276,6 +291,7 @@ fn try_later<P: Port>(core: &mut Core, term: &mut Term, port: &mut P, opcode: u8
     ensures tried { IsTried (later_step opcode) (record { state = state_of core.old term.old; view = P.view port.old }) result (record { state = state_of core.new term.new; view = P.view port.new }) }
     ensures unsent { term.new.out ≡ None }
     ensures input { term.new.input ≡ term.old.input }
+    ensures clock { core.old.clock ≤ 999 → KeepsTime core.new result }
     ensures since { (start : P) → P.since start port.old → P.since start port.new }
 {
     let mut txn = Txn::begin(core, term, port);
@@ -288,9 +304,11 @@ fn try_later<P: Port>(core: &mut Core, term: &mut Term, port: &mut P, opcode: u8
 pub(crate) fn settle<P: Port>(core: &mut Core, term: &mut Term, port: &mut P, tried: Tried) -> Tried
     requires { term.old.out ≡ None }
     ensures kept { IsFinal tried → result ≡ tried }
+    ensures quiet { IsFinal result }
     ensures made { (tree : State → Accesses Leaf) → (old : Present) → IsTried tree old tried (record { state = state_of core.old term.old; view = P.view port.old }) → Made tree old.state.core old result (record { state = state_of core.new term.new; view = P.view port.new }) }
     ensures unsent { term.new.out ≡ None }
     ensures input { term.new.input ≡ term.old.input }
+    ensures clock { KeepsTime core.old tried → KeepsTime core.new result }
     ensures since { (start : P) → P.since start port.old → P.since start port.new }
 {
     match tried {
@@ -308,9 +326,11 @@ fn deliver_from<P: Port>(
     exception: Exception,
 ) -> Tried
     requires { term.old.out ≡ None }
+    ensures quiet { IsFinal result }
     ensures delivered { (mid : Present) × IsTried (whole_delivery exception) (with_registers start (record { state = state_of core.old term.old; view = P.view port.old })) result mid × (record { state = state_of core.new term.new; view = P.view port.new } ≡ put_again core.old result mid) }
     ensures unsent { term.new.out ≡ None }
     ensures input { term.new.input ≡ term.old.input }
+    ensures clock { core.old.clock ≤ 999 → start.clock ≤ 999 → KeepsTime core.new result }
     ensures since { (start : P) → P.since start port.old → P.since start port.new }
 {
     let before = *core;
@@ -335,9 +355,11 @@ fn settle_later<P: Port>(
     tried: Tried,
 ) -> Tried
     requires { term.old.out ≡ None }
+    ensures quiet { IsFinal result }
     ensures made { (tree : State → Accesses Leaf) → (old : Present) → IsTried tree old tried (record { state = state_of core.old term.old; view = P.view port.old }) → Made tree start old result (record { state = state_of core.new term.new; view = P.view port.new }) }
     ensures unsent { term.new.out ≡ None }
     ensures input { term.new.input ≡ term.old.input }
+    ensures clock { KeepsTime core.old tried → start.clock ≤ 999 → KeepsTime core.new result }
     ensures since { (start : P) → P.since start port.old → P.since start port.new }
 {
     match tried {
@@ -358,9 +380,11 @@ pub(crate) fn try_once<P: Port>(
     latch: Option<Open>,
 ) -> Tried
     requires { term.old.out ≡ None }
+    ensures quiet { IsFinal result }
     ensures made { Made (tree_of latch) (start_by latch core.old) (record { state = state_of core.old term.old; view = P.view port.old }) result (record { state = state_of core.new term.new; view = P.view port.new }) }
     ensures unsent { term.new.out ≡ None }
     ensures input { term.new.input ≡ term.old.input }
+    ensures clock { core.old.clock ≤ 999 → (start_by latch core.old).clock ≤ 999 → KeepsTime core.new result }
     ensures since { (start : P) → P.since start port.old → P.since start port.new }
 {
     match latch {
@@ -396,6 +420,7 @@ pub(crate) fn try_steps<P: Port>(
     ensures all { result.last ≡ Tried.Step None → result.steps + 1 ≡ most }
     ensures unsent { term.new.out ≡ None }
     ensures input { term.new.input ≡ term.old.input }
+    ensures clock { core.old.clock ≤ 999 → KeepsTime core.new result.last }
     ensures since { (start : P) → P.since start port.old → P.since start port.new }
 {
     let mut txn = Txn::begin(core, term, port);

@@ -4,6 +4,7 @@ ghost use Rattle.vax_space.specs.declared.Area.{Area};
 ghost use Rattle.vax_flat.specs.Port.{StandsFor};
 ghost use Rattle.vax_cpu.specs.Attempt.{answer_of, open_after};
 ghost use Rattle.vax_flat.specs.Parts.{Place, machine_at, units_after};
+ghost use Rattle.vax_cpu.specs.Tried.{IsFinal};
 
 use crate::attempt::{Tried, settle, try_once, try_steps};
 use vax_flat::Ending;
@@ -50,6 +51,7 @@ pub struct Cpu {
 /// What is answered of an instruction with the delivery of its exception.
 #[inline]
 fn answer_of(tried: Tried) -> Attempt
+    requires { IsFinal tried }
     ensures { result ≡ answer_of tried }
 {
     match tried {
@@ -57,7 +59,7 @@ fn answer_of(tried: Tried) -> Attempt
         Tried::Part(_) => Attempt::Part,
         Tried::Absent(page) => Attempt::Absent(page),
         Tried::Ended(ending) => Attempt::Ended(ending),
-        Tried::Event(_) => Attempt::Ended(Ending::Unbuilt),
+        Tried::Event(_) => unreachable!(),
     }
 }
 
@@ -93,7 +95,7 @@ fn open_after(latch: Option<Open>, tried: Tried) -> Option<Open>
 }
 
 impl Cpu {
-    ghost use Rattle.vax_cpu.specs.Attempt.{flat_of, Attempted, IsAsBefore, IsAt, IsOpenAfter, StopsInside};
+    ghost use Rattle.vax_cpu.specs.Attempt.{flat_of, Attempted, IsAsBefore, IsAt, IsOpenAfter, KeepsTime, StopsInside};
     ghost use Rattle.vax_flat.specs.Step.{run};
     ghost use Rattle.vax_cpu.specs.Batch.{AreAttempts, IsOneAttempt, Raises};
 
@@ -101,7 +103,8 @@ impl Cpu {
     /// is left.
     ///
     /// It answers the first page, in the order in which the attempt touches memory, that isn't resident, and then everything is as before; else
-    /// it makes the step of the flat machine, or a part of it. Pages to which it wrote are marked, also where it was undone.
+    /// it makes the step of the flat machine, or a part of it. Pages to which it wrote are marked, also where it was undone. The interval
+    /// clock counts to 999.
     pub fn attempt<P: Port>(&mut self, port: &mut P) -> Attempt
         requires unsent { self.old.term.out ≡ None }
         ensures attempted { (place : Place) → IsAt self.old place → StandsFor (P.view port.old) (machine_at place).memory → Attempted (P.view port.old) place result self.new (P.view port.new) }
@@ -110,6 +113,7 @@ impl Cpu {
         ensures latch { IsOpenAfter result self.old.latch self.new.latch }
         ensures unsent { self.new.term.out ≡ None }
         ensures input { self.new.term.input ≡ self.old.term.input }
+        ensures clock { KeepsTime self.old → KeepsTime self.new }
         ensures since { (start : P) → P.since start port.old → P.since start port.new }
     {
         let tried = try_once(&mut self.core, &mut self.term, port, self.latch);
@@ -133,6 +137,7 @@ impl Cpu {
         ensures latch { IsOpenAfter result.last self.old.latch self.new.latch }
         ensures unsent { self.new.term.out ≡ None }
         ensures input { self.new.term.input ≡ self.old.term.input }
+        ensures clock { KeepsTime self.old → KeepsTime self.new }
         ensures since { (start : P) → P.since start port.old → P.since start port.new }
     {
         if self.latch.is_some() {
