@@ -1,5 +1,6 @@
 -- From what a transaction followed to what an attempt came to.
 use Rattle.std.proofs.Common.{true, false, Result, add-one, ◌+◌, ◌≤◌, ◌≡◌, ℕ, Option, Some, None, Ok, Err, refl, sym, ap, subst, ◌∙◌}
+use Rattle.vax_word.specs.declared.Core.{Core}
 use Rattle.vax_flat.specs.declared.Cut.{Cut}
 use Rattle.vax_flat.specs.declared.Cut.TheVariants as cut
 use Rattle.vax_flat.specs.declared.Ending.{Ending}
@@ -21,7 +22,7 @@ use Rattle.vax_undo.specs.declared.txn.Txn.{Txn as Transaction}
 use Rattle.vax_undo.specs.Transaction.{bare, undone, IsReady, Keeps, KeepsUnlessDone}
 use Rattle.vax_cpu.specs.declared.attempt.Tried.{Tried}
 use Rattle.vax_cpu.specs.declared.attempt.Tried.TheVariants as tried
-use Rattle.vax_cpu.specs.Tried.{IsFinal, IsTried, LeadsBack, UnlessDone, UnlessEnded, ending_of, is_done, marked_as}
+use Rattle.vax_cpu.specs.Tried.{IsFinal, IsTried, KeepsTime, LeadsBack, UnlessDone, UnlessEnded, ending_of, is_done, marked_as}
 use Rattle.vax_cpu.specs.declared.cpu.Open.{Open}
 use Rattle.vax_cpu.specs.Batch.{Ran}
 
@@ -81,9 +82,13 @@ quiet_final e old new (tried.Absent page) is = tt
 quiet_final e old new (tried.Ended x) is = tt
 quiet_final e old new (tried.Event x) is = let P : Arrival Leaf → Type 0 = λ a. IsQuiet a in subst P is.0 ((quiet_whole e old.state).port old.view)
 
--- the same of a clock that has counted the same
-pub clock_at : (clock mid : ℕ) → clock ≡ mid → mid ≤ 999 → clock ≤ 999
-clock_at clock mid e within = subst (λ x. x ≤ 999) (sym e) within
+-- the same of registers whose clock has counted the same
+pub clock_at : (core mid : Core) (t : Tried) → core.clock ≡ mid.clock → KeepsTime mid t → KeepsTime core t
+clock_at core mid (tried.Step sent) e within = subst (λ x. x ≤ 999) (sym e) within
+clock_at core mid (tried.Part part) e within = (subst (λ x. x ≤ 999) (sym e) within.0, within.1)
+clock_at core mid (tried.Ended x) e within = subst (λ x. x ≤ 999) (sym e) within
+clock_at core mid (tried.Absent page) e within = subst (λ x. x ≤ 999) (sym e) within
+clock_at core mid (tried.Event x) e within = subst (λ x. x ≤ 999) (sym e) within
 
 -- what was completed, and what wasn't
 pub done_from : (how : Flow) → ending_of how ≡ None → how ≡ flow.Done
