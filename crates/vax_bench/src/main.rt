@@ -51,11 +51,7 @@ fn main(rt: HostRuntime) -> anyhow::Result<()> {
     let mut port = memory_of(alloc, code)?;
     let mut cpu = Cpu {
         core: core_of(0x8000_0200),
-        term: Term {
-            input: Vec::new(alloc),
-            place: 0,
-            out: None,
-        },
+        term: Term::new(Vec::new(alloc)),
         latch: None,
     };
     let left = make_steps(&mut cpu, &mut port, steps);

@@ -1,5 +1,5 @@
 -- From what a transaction followed to what an attempt came to.
-use Rattle.std.proofs.Common.{true, false, Result, add-one, ◌+◌, ◌≡◌, ℕ, Option, Some, None, Ok, Err, refl, sym, ap, subst, ◌∙◌}
+use Rattle.std.proofs.Common.{true, false, Result, add-one, ◌+◌, ◌≤◌, ◌≡◌, ℕ, Option, Some, None, Ok, Err, refl, sym, ap, subst, ◌∙◌}
 use Rattle.vax_flat.specs.declared.Cut.{Cut}
 use Rattle.vax_flat.specs.declared.Cut.TheVariants as cut
 use Rattle.vax_flat.specs.declared.Ending.{Ending}
@@ -9,15 +9,17 @@ use Rattle.vax_flat.specs.declared.Flow.TheVariants as flow
 use Rattle.vax_flat.specs.State.{State, with_sent}
 use Rattle.vax_flat.specs.Port.{View, unmarked, with_marks}
 use Rattle.vax_flat.specs.Accesses.{Accesses, Leaf, Went}
-use Rattle.vax_flat.specs.OverPort.{Present, Comes, Stops, over_port, Follows}
-use Rattle.vax_flat.specs.Step.{leaf, whole, whole_step}
+use Rattle.vax_flat.specs.OverPort.{Present, Arrival, Comes, Stops, over_port, Follows}
+use Rattle.vax_flat.specs.Step.{leaf, whole, whole_step, whole_delivery}
+use Rattle.vax_flat.specs.Quiet.{IsQuiet}
+use Rattle.vax_flat.proofs.Quiet.{quiet_whole}
 use Rattle.std.specs.Prelude.{is_none}
 use Rattle.vax_undo.specs.declared.txn.CutShort.{CutShort}
 use Rattle.vax_undo.specs.declared.txn.Txn.{Txn as Transaction}
 use Rattle.vax_undo.specs.Transaction.{bare, undone, IsReady, Keeps, KeepsUnlessDone}
 use Rattle.vax_cpu.specs.declared.attempt.Tried.{Tried}
 use Rattle.vax_cpu.specs.declared.attempt.Tried.TheVariants as tried
-use Rattle.vax_cpu.specs.Tried.{IsTried, UnlessDone, UnlessEnded, ending_of, is_done, marked_as}
+use Rattle.vax_cpu.specs.Tried.{IsFinal, IsTried, UnlessDone, UnlessEnded, ending_of, is_done, marked_as}
 use Rattle.vax_cpu.specs.Batch.{Ran}
 
 -- what was undone is as before, but for the marks
@@ -58,6 +60,17 @@ module _ (tree : State → (Flow → State → Accesses Leaf) → Accesses Leaf)
 -- the same of what a present is made of
 pub tried_at : (tree : State → Accesses Leaf) (old : Present) (t : Tried) (mid : Present) (state : State) (view : View) → state ≡ mid.state → view ≡ mid.view → IsTried tree old t mid → IsTried tree old t (record { state = state; view = view })
 tried_at tree old t mid state view s v h = subst (IsTried tree old t) (λ k. record { state = sym s k; view = sym v k }) h
+
+-- a delivery raises no exception
+pub quiet_final : (e : Exception) (old new : Present) (t : Tried) → IsTried (whole_delivery e) old t new → IsFinal t
+quiet_final e old new (tried.Step sent) is = tt
+quiet_final e old new (tried.Absent page) is = tt
+quiet_final e old new (tried.Ended x) is = tt
+quiet_final e old new (tried.Event x) is = let P : Arrival Leaf → Type 0 = λ a. IsQuiet a in subst P is.0 ((quiet_whole e old.state).port old.view)
+
+-- the same of a clock that has counted the same
+pub clock_at : (clock mid : ℕ) → clock ≡ mid → mid ≤ 999 → clock ≤ 999
+clock_at clock mid e within = subst (λ x. x ≤ 999) (sym e) within
 
 -- what was completed, and what wasn't
 pub done_from : (how : Flow) → ending_of how ≡ None → how ≡ flow.Done
@@ -105,6 +118,9 @@ module _ {P : Type 0} (view : P → View) (along : P → P → Type 0) (count : 
 
   pub undone_unless : (start : Present) → undone view old ≡ bare start → UnlessDone work (undone view next ≡ bare start)
   undone_unless start e = unless work _ _ (λ (k : Keeps view along count old next). k.undone ∙ e) (kept_unless view along count work old next keeps)
+
+  pub clock_unless : (undone view old).state.core.clock ≤ 999 → UnlessDone work ((undone view next).state.core.clock ≤ 999)
+  clock_unless within = unless work _ _ (λ (k : Keeps view along count old next). subst (λ (p : Present). p.state.core.clock ≤ 999) (sym k.undone) within) (kept_unless view along count work old next keeps)
 
   pub unsent_unless : (undone view old).state.sent ≡ None → UnlessDone work ((undone view next).state.sent ≡ None)
   unsent_unless e = unless work _ _ (λ (k : Keeps view along count old next). ap (λ (p : Present). p.state.sent) k.undone ∙ e) (kept_unless view along count work old next keeps)

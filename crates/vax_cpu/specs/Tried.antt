@@ -15,7 +15,16 @@ use Rattle.vax_undo.specs.declared.txn.CutShort.{CutShort}
 use Rattle.vax_cpu.specs.declared.attempt.Tried.{Tried}
 use Rattle.vax_cpu.specs.declared.attempt.Tried.TheVariants.{Step, Absent, Ended, Event}
 
--- how an instruction that went so ends the run, if it does
+-- how a step may go, behind what follows its instruction: a trap is delivered there, and the interval clock has counted
+abbrev pub IsLast : Result Flow CutShort → Type 0
+IsLast (Ok flow.Done) = Unit {0}
+IsLast (Ok flow.Clocked) = ⊥
+IsLast (Ok (flow.Trap kind)) = ⊥
+IsLast (Ok (flow.More opcode units)) = Unit {0}
+IsLast (Ok (flow.Ended e)) = Unit {0}
+IsLast (Err short) = Unit {0}
+
+-- how a step that went so ends the run, if it does
 abbrev pub ending_of : Flow → Option Ending
 ending_of flow.Done = None
 ending_of flow.Clocked = Some Unbuilt

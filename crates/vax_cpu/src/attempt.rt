@@ -7,8 +7,9 @@ ghost use Rattle.vax_flat.specs.Delivery.{interrupt};
 ghost use Rattle.vax_flat.specs.System.{flow_of_delivery};
 ghost use Rattle.vax_x_sys.specs.Frames.{IsLevel};
 ghost use Rattle.vax_flat.specs.Step.{begun, finished, handed_over, leaf, ticked, whole, whole_step, delivered, whole_delivery};
+ghost use Rattle.vax_undo.specs.Rooms.{room_of_beginning, room_of_end, room_of_step, room_of_tick};
 ghost use Rattle.vax_undo.specs.Transaction.{bare, present, room, state_of, told, undone, with_state, IsReady, IsSame, Keeps, KeepsUnlessDone};
-ghost use Rattle.vax_cpu.specs.Tried.{IsFinal, IsTried, Made, UnlessDone, ending_of, is_done};
+ghost use Rattle.vax_cpu.specs.Tried.{IsFinal, IsLast, IsTried, Made, UnlessDone, ending_of, is_done};
 ghost use Rattle.vax_cpu.specs.Batch.{Ran};
 
 use crate::instruction::execute;
@@ -36,9 +37,9 @@ pub(crate) enum Tried {
 #[cold]
 fn take_interrupt<P: Port>(txn: &mut Txn<P>, level: u8) -> Result<Flow, CutShort>
     requires of_level { IsLevel level }
-    requires room { 28 ≤ room txn.old }
+    requires room { room_of_beginning ≤ room txn.old }
     ensures exact { Follows (λ next. interrupt level (present P.view txn.old).state (λ how s. next (flow_of_delivery how) s)) (present P.view txn.old) (told txn.new result) (present P.view txn.new) }
-    ensures keeps { Keeps P.view P.since 28 txn.old txn.new }
+    ensures keeps { Keeps P.view P.since room_of_beginning txn.old txn.new }
 {
     let how = interrupt(txn, level)?;
     Ok(flow_of(how))
@@ -48,9 +49,9 @@ fn take_interrupt<P: Port>(txn: &mut Txn<P>, level: u8) -> Result<Flow, CutShort
 #[inline(always)]
 #[tactic(auto, using(vax_undo::proofs::Left::always), unfolding(vax_flat::specs::Step::begun))]
 fn begin<P: Port>(txn: &mut Txn<P>) -> Result<Flow, CutShort>
-    requires { 28 ≤ room txn.old }
+    requires { room_of_beginning ≤ room txn.old }
     ensures exact { Follows (begun (present P.view txn.old).state) (present P.view txn.old) (told txn.new result) (present P.view txn.new) }
-    ensures keeps { KeepsUnlessDone P.view P.since 28 result txn.old txn.new }
+    ensures keeps { KeepsUnlessDone P.view P.since room_of_beginning result txn.old txn.new }
     ensures same { IsSame P.since txn.old txn.new }
 {
     let level = requested(txn);
@@ -64,9 +65,10 @@ fn begin<P: Port>(txn: &mut Txn<P>) -> Result<Flow, CutShort>
 #[inline]
 #[tactic(auto, unfolding(vax_flat::specs::Step::handed_over))]
 fn hand_over<P: Port>(txn: &mut Txn<P>, how: Delivery) -> Result<Flow, CutShort>
-    requires { 2 ≤ room txn.old }
+    requires { room_of_tick ≤ room txn.old }
     ensures exact { Follows (handed_over how (present P.view txn.old).state) (present P.view txn.old) (told txn.new result) (present P.view txn.new) }
-    ensures keeps { Keeps P.view P.since 2 txn.old txn.new }
+    ensures keeps { Keeps P.view P.since room_of_tick txn.old txn.new }
+    ensures last { IsLast result }
 {
     match how {
         Delivery::Entered => {
@@ -81,9 +83,10 @@ fn hand_over<P: Port>(txn: &mut Txn<P>, how: Delivery) -> Result<Flow, CutShort>
 #[cold]
 #[tactic(auto, unfolding(vax_flat::specs::Step::delivered))]
 fn deliver_and_tick<P: Port>(txn: &mut Txn<P>, exception: Exception) -> Result<Flow, CutShort>
-    requires { 18 ≤ room txn.old }
+    requires { room_of_end ≤ room txn.old }
     ensures exact { Follows (delivered exception (present P.view txn.old).state) (present P.view txn.old) (told txn.new result) (present P.view txn.new) }
-    ensures keeps { Keeps P.view P.since 18 txn.old txn.new }
+    ensures keeps { Keeps P.view P.since room_of_end txn.old txn.new }
+    ensures last { IsLast result }
 {
     let how = deliver(txn, exception)?;
     hand_over(txn, how)
@@ -92,9 +95,9 @@ fn deliver_and_tick<P: Port>(txn: &mut Txn<P>, exception: Exception) -> Result<F
 /// The interval clock counts an instruction that was completed.
 #[inline]
 fn complete<P: Port>(txn: &mut Txn<P>)
-    requires { 18 ≤ room txn.old }
+    requires { room_of_end ≤ room txn.old }
     ensures exact { present P.view txn.new ≡ with_state (present P.view txn.old) (ticked (present P.view txn.old).state) }
-    ensures keeps { Keeps P.view P.since 18 txn.old txn.new }
+    ensures keeps { Keeps P.view P.since room_of_end txn.old txn.new }
 {
     tick(txn);
 }
@@ -103,10 +106,11 @@ fn complete<P: Port>(txn: &mut Txn<P>)
 #[inline(always)]
 #[tactic(auto, using(vax_undo::proofs::Left::always, vax_undo::proofs::Left::kept_through, vax_undo::proofs::Left::left_then), unfolding(vax_flat::specs::Step::finished, vax_flat::specs::Step::delivered))]
 fn finish<P: Port>(txn: &mut Txn<P>, flow: Flow) -> Result<Flow, CutShort>
-    requires { 18 ≤ room txn.old }
+    requires { room_of_end ≤ room txn.old }
     ensures exact { Follows (finished flow (present P.view txn.old).state) (present P.view txn.old) (told txn.new result) (present P.view txn.new) }
-    ensures keeps { (count : ℕ) → (start : _) → KeepsUnlessDone P.view P.since count (Ok flow) start txn.old → KeepsUnlessDone P.view P.since (count + 18) result start txn.new }
+    ensures keeps { (count : ℕ) → (start : _) → KeepsUnlessDone P.view P.since count (Ok flow) start txn.old → KeepsUnlessDone P.view P.since (count + room_of_end) result start txn.new }
     ensures same { IsSame P.since txn.old txn.new }
+    ensures last { IsLast result }
 {
     match flow {
         Flow::Done => {
@@ -124,10 +128,11 @@ fn finish<P: Port>(txn: &mut Txn<P>, flow: Flow) -> Result<Flow, CutShort>
 #[inline(always)]
 #[tactic(auto, unfolding(vax_flat::specs::Step::whole))]
 fn work<P: Port>(txn: &mut Txn<P>) -> Result<Flow, CutShort>
-    requires { 46 ≤ room txn.old }
+    requires { room_of_step ≤ room txn.old }
     ensures exact { Follows (whole (present P.view txn.old).state) (present P.view txn.old) (told txn.new result) (present P.view txn.new) }
-    ensures keeps { KeepsUnlessDone P.view P.since 46 result txn.old txn.new }
+    ensures keeps { KeepsUnlessDone P.view P.since room_of_step result txn.old txn.new }
     ensures same { IsSame P.since txn.old txn.new }
+    ensures last { IsLast result }
 {
     let flow = begin(txn)?;
     finish(txn, flow)
@@ -136,10 +141,11 @@ fn work<P: Port>(txn: &mut Txn<P>) -> Result<Flow, CutShort>
 /// [`work`] as a call of its own, for the attempts outside the loop.
 #[inline(never)]
 fn work_once<P: Port>(txn: &mut Txn<P>) -> Result<Flow, CutShort>
-    requires { 46 ≤ room txn.old }
+    requires { room_of_step ≤ room txn.old }
     ensures exact { Follows (whole (present P.view txn.old).state) (present P.view txn.old) (told txn.new result) (present P.view txn.new) }
-    ensures keeps { KeepsUnlessDone P.view P.since 46 result txn.old txn.new }
+    ensures keeps { KeepsUnlessDone P.view P.since room_of_step result txn.old txn.new }
     ensures same { IsSame P.since txn.old txn.new }
+    ensures last { IsLast result }
 {
     work(txn)
 }
@@ -148,23 +154,25 @@ fn work_once<P: Port>(txn: &mut Txn<P>) -> Result<Flow, CutShort>
 #[inline]
 #[tactic(auto, using(vax_undo::proofs::Left::always))]
 fn work_delivery<P: Port>(txn: &mut Txn<P>, exception: Exception) -> Result<Flow, CutShort>
-    requires { 18 ≤ room txn.old }
+    requires { room_of_end ≤ room txn.old }
     ensures exact { Follows (delivered exception (present P.view txn.old).state) (present P.view txn.old) (told txn.new result) (present P.view txn.new) }
-    ensures keeps { KeepsUnlessDone P.view P.since 18 result txn.old txn.new }
+    ensures keeps { KeepsUnlessDone P.view P.since room_of_end result txn.old txn.new }
     ensures same { IsSame P.since txn.old txn.new }
+    ensures last { IsLast result }
 {
     deliver_and_tick(txn, exception)
 }
 
-/// How an instruction that went so ends the run, if it does.
+/// How a step that went so ends the run, if it does.
 #[inline]
 fn ending_of(flow: Flow) -> Option<Ending>
+    requires { IsLast (Ok flow) }
     ensures { result ≡ ending_of flow }
 {
     match flow {
         Flow::Done => None,
-        Flow::Clocked => Some(Ending::Unbuilt),
-        Flow::Trap(_) => Some(Ending::Unbuilt),
+        // What follows an instruction makes something else of these.
+        Flow::Clocked | Flow::Trap(_) => unreachable!(),
         Flow::More { .. } => Some(Ending::Unbuilt),
         Flow::Ended(ending) => Some(ending),
     }
@@ -173,6 +181,7 @@ fn ending_of(flow: Flow) -> Option<Ending>
 /// Whether the work was completed.
 #[inline]
 fn is_done(work: Result<Flow, CutShort>) -> bool
+    requires { IsLast work }
     ensures { result ≡ is_done work }
 {
     match work {
@@ -184,12 +193,14 @@ fn is_done(work: Result<Flow, CutShort>) -> bool
 /// Keeps a transaction whose work was completed, and undoes any other.
 #[inline]
 fn conclude<P: Port>(txn: Txn<P>, work: Result<Flow, CutShort>) -> Tried
+    requires last { IsLast work }
     requires ready { UnlessDone work (IsReady P.view txn) }
     requires unsent { UnlessDone work ((undone P.view txn).state.sent ≡ None) }
     ensures tried { (old : Present) → (tree : State → (Flow → State → Accesses Leaf) → Accesses Leaf) → Follows (tree old.state) old (told txn.entry work) (present P.view txn.entry) → UnlessDone work (undone P.view txn.entry ≡ bare old) → IsTried (λ s. tree s leaf) old result (record { state = state_of txn.exit.0.now txn.exit.1.0.now; view = P.view txn.exit.1.1.0.now }) }
     ensures completed { (sent : Option ℕ) → result ≡ Tried.Step sent → work ≡ Ok Flow.Done }
     ensures unsent { txn.exit.1.0.now.out ≡ None }
     ensures input { txn.exit.1.0.now.input ≡ txn.entry.term.now.input }
+    ensures clock { UnlessDone work ((undone P.view txn.entry).state.core.clock ≤ 999) → txn.entry.core.now.clock ≤ 999 → txn.exit.0.now.clock ≤ 999 }
     ensures since { (start : P) → P.since start txn.entry.port.now → P.since start txn.exit.1.1.0.now }
 {
     let why = txn.why();
@@ -217,6 +228,7 @@ pub(crate) fn try_step<P: Port>(core: &mut Core, term: &mut Term, port: &mut P) 
     ensures tried { IsTried whole_step (record { state = state_of core.old term.old; view = P.view port.old }) result (record { state = state_of core.new term.new; view = P.view port.new }) }
     ensures unsent { term.new.out ≡ None }
     ensures input { term.new.input ≡ term.old.input }
+    ensures clock { core.old.clock ≤ 999 → core.new.clock ≤ 999 }
     ensures since { (start : P) → P.since start port.old → P.since start port.new }
 {
     let mut txn = Txn::begin(core, term, port);
@@ -224,7 +236,7 @@ pub(crate) fn try_step<P: Port>(core: &mut Core, term: &mut Term, port: &mut P) 
     conclude(txn, done)
 }
 
-/// Makes an attempt at the delivery of an exception, from the state at the start of the instruction.
+/// Makes an attempt at the delivery of an exception, from the state at the start of the instruction. It raises no other.
 #[cold]
 fn try_delivery<P: Port>(
     core: &mut Core,
@@ -233,9 +245,11 @@ fn try_delivery<P: Port>(
     exception: Exception,
 ) -> Tried
     requires { term.old.out ≡ None }
+    ensures quiet { IsFinal result }
     ensures tried { IsTried (whole_delivery exception) (record { state = state_of core.old term.old; view = P.view port.old }) result (record { state = state_of core.new term.new; view = P.view port.new }) }
     ensures unsent { term.new.out ≡ None }
     ensures input { term.new.input ≡ term.old.input }
+    ensures clock { core.old.clock ≤ 999 → core.new.clock ≤ 999 }
     ensures since { (start : P) → P.since start port.old → P.since start port.new }
 {
     let mut txn = Txn::begin(core, term, port);
@@ -248,9 +262,11 @@ fn try_delivery<P: Port>(
 pub(crate) fn settle<P: Port>(core: &mut Core, term: &mut Term, port: &mut P, tried: Tried) -> Tried
     requires { term.old.out ≡ None }
     ensures kept { IsFinal tried → result ≡ tried }
+    ensures quiet { IsFinal result }
     ensures made { (old : Present) → IsTried whole_step old tried (record { state = state_of core.old term.old; view = P.view port.old }) → Made old result (record { state = state_of core.new term.new; view = P.view port.new }) }
     ensures unsent { term.new.out ≡ None }
     ensures input { term.new.input ≡ term.old.input }
+    ensures clock { core.old.clock ≤ 999 → core.new.clock ≤ 999 }
     ensures since { (start : P) → P.since start port.old → P.since start port.new }
 {
     match tried {
@@ -280,6 +296,7 @@ pub(crate) fn try_steps<P: Port>(
     ensures all { result.last ≡ Tried.Step None → result.steps + 1 ≡ most }
     ensures unsent { term.new.out ≡ None }
     ensures input { term.new.input ≡ term.old.input }
+    ensures clock { core.old.clock ≤ 999 → core.new.clock ≤ 999 }
     ensures since { (start : P) → P.since start port.old → P.since start port.new }
 {
     let mut txn = Txn::begin(core, term, port);

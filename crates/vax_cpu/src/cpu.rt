@@ -3,6 +3,7 @@ ghost use Rattle.std.specs.Prelude.{◌≡◌, ◌⊎◌, ◌+◌, ◌<◌, ◌�
 ghost use Rattle.vax_space.specs.declared.Area.{Area};
 ghost use Rattle.vax_flat.specs.Port.{StandsFor};
 ghost use Rattle.vax_cpu.specs.Attempt.{answer_of};
+ghost use Rattle.vax_cpu.specs.Tried.{IsFinal};
 
 use crate::attempt::{Tried, settle, try_step, try_steps};
 use vax_flat::Ending;
@@ -48,13 +49,14 @@ pub struct Cpu {
 /// What is answered of an instruction with the delivery of its exception.
 #[inline]
 fn answer_of(tried: Tried) -> Attempt
+    requires { IsFinal tried }
     ensures { result ≡ answer_of tried }
 {
     match tried {
         Tried::Step(sent) => Attempt::Step(sent),
         Tried::Absent(page) => Attempt::Absent(page),
         Tried::Ended(ending) => Attempt::Ended(ending),
-        Tried::Event(_) => Attempt::Ended(Ending::Unbuilt),
+        Tried::Event(_) => unreachable!(),
     }
 }
 
@@ -66,7 +68,8 @@ impl Cpu {
     /// Makes one attempt at the instruction at PC, where no instruction is open, and nothing that was sent to the console is left.
     ///
     /// It answers the first page, in the order in which the step touches memory, that isn't resident, and then everything is as before; else
-    /// it makes the step of the flat machine. Pages to which the step wrote are marked, also where it was undone.
+    /// it makes the step of the flat machine. Pages to which the step wrote are marked, also where it was undone. The interval clock counts to
+    /// 999.
     pub fn attempt<P: Port>(&mut self, port: &mut P) -> Attempt
         requires closed { self.old.latch ≡ None }
         requires unsent { self.old.term.out ≡ None }
@@ -76,6 +79,7 @@ impl Cpu {
         ensures latch { self.new.latch ≡ self.old.latch }
         ensures unsent { self.new.term.out ≡ None }
         ensures input { self.new.term.input ≡ self.old.term.input }
+        ensures clock { self.old.core.clock ≤ 999 → self.new.core.clock ≤ 999 }
         ensures since { (start : P) → P.since start port.old → P.since start port.new }
     {
         let tried = try_step(&mut self.core, &mut self.term, port);
@@ -99,6 +103,7 @@ impl Cpu {
         ensures latch { self.new.latch ≡ self.old.latch }
         ensures unsent { self.new.term.out ≡ None }
         ensures input { self.new.term.input ≡ self.old.term.input }
+        ensures clock { self.old.core.clock ≤ 999 → self.new.core.clock ≤ 999 }
         ensures since { (start : P) → P.since start port.old → P.since start port.new }
     {
         let several = try_steps(&mut self.core, &mut self.term, port, most);

@@ -137,11 +137,7 @@ fn exceptions_and_interrupts(rt: HostRuntime) -> Result<(), Fail> {
         core.regs[15] = 0x8000_0200;
         let mut cpu = Cpu {
             core,
-            term: Term {
-                input: b"AB".to_vec(alloc)?,
-                place: 0,
-                out: None,
-            },
+            term: Term::new(b"AB".to_vec(alloc)?),
             latch: None,
         };
         let batch = cpu.attempts(&mut port, 5000);

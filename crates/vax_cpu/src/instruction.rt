@@ -2,6 +2,7 @@
 ghost use Rattle.std.specs.Prelude.{◌≡◌, ◌≤◌};
 ghost use Rattle.vax_flat.specs.Instruction.{acted, acted_if, instruction};
 ghost use Rattle.vax_flat.specs.OverPort.{Follows};
+ghost use Rattle.vax_undo.specs.Rooms.{room_of_beginning, room_of_instruction};
 ghost use Rattle.vax_undo.specs.Transaction.{present, room, told, IsSame, KeepsUnlessDone};
 
 use vax_flat::{Ending, Exception};
@@ -13,9 +14,9 @@ use vax_undo::{CutShort, Port, Txn};
 #[inline(always)]
 #[tactic(auto, using(vax_undo::proofs::Left::always), unfolding(vax_flat::specs::Instruction::acted))]
 fn act<P: Port>(txn: &mut Txn<P>, action: Action) -> Result<Flow, CutShort>
-    requires { 27 ≤ room txn.old }
+    requires { room_of_instruction ≤ room txn.old }
     ensures exact { Follows (acted action (present P.view txn.old).state) (present P.view txn.old) (told txn.new result) (present P.view txn.new) }
-    ensures keeps { KeepsUnlessDone P.view P.since 27 result txn.old txn.new }
+    ensures keeps { KeepsUnlessDone P.view P.since room_of_instruction result txn.old txn.new }
     ensures same { IsSame P.since txn.old txn.new }
 {
     match action {
@@ -32,9 +33,9 @@ fn act<P: Port>(txn: &mut Txn<P>, action: Action) -> Result<Flow, CutShort>
 #[inline(always)]
 #[tactic(auto, using(vax_flat::proofs::Leaves::over_port_raises, vax_undo::proofs::Left::always), unfolding(vax_flat::specs::Instruction::acted_if))]
 fn act_if<P: Port>(txn: &mut Txn<P>, action: Option<Action>) -> Result<Flow, CutShort>
-    requires { 27 ≤ room txn.old }
+    requires { room_of_instruction ≤ room txn.old }
     ensures exact { Follows (acted_if action (present P.view txn.old).state) (present P.view txn.old) (told txn.new result) (present P.view txn.new) }
-    ensures keeps { KeepsUnlessDone P.view P.since 27 result txn.old txn.new }
+    ensures keeps { KeepsUnlessDone P.view P.since room_of_instruction result txn.old txn.new }
     ensures same { IsSame P.since txn.old txn.new }
 {
     match action {
@@ -47,9 +48,9 @@ fn act_if<P: Port>(txn: &mut Txn<P>, action: Option<Action>) -> Result<Flow, Cut
 #[inline(always)]
 #[tactic(auto, using(vax_undo::proofs::Left::behind), unfolding(vax_flat::specs::Instruction::instruction))]
 pub(crate) fn execute<P: Port>(txn: &mut Txn<P>) -> Result<Flow, CutShort>
-    requires { 28 ≤ room txn.old }
+    requires { room_of_beginning ≤ room txn.old }
     ensures exact { Follows (instruction (present P.view txn.old).state) (present P.view txn.old) (told txn.new result) (present P.view txn.new) }
-    ensures keeps { KeepsUnlessDone P.view P.since 28 result txn.old txn.new }
+    ensures keeps { KeepsUnlessDone P.view P.since room_of_beginning result txn.old txn.new }
     ensures same { IsSame P.since txn.old txn.new }
 {
     let opcode = fetch(txn, 1)? as u8;

@@ -108,11 +108,7 @@ fn left_by(alloc: Global, row: &Row) -> Result<Left, Fail> {
         iccs: 0,
         clock: 0,
     };
-    let mut term = Term {
-        input: Vec::new(alloc),
-        place: 0,
-        out: None,
-    };
+    let mut term = Term::new(Vec::new(alloc));
     let mut txn = Txn::begin(&mut core, &mut term, &mut port);
     let flow = execute(&mut txn).ok();
     let _ = txn.commit();
@@ -250,11 +246,7 @@ fn raised_by(alloc: Global, fault: &Fault) -> Result<Option<Cut>, Fail> {
         iccs: 0,
         clock: 0,
     };
-    let mut term = Term {
-        input: Vec::new(alloc),
-        place: 0,
-        out: None,
-    };
+    let mut term = Term::new(Vec::new(alloc));
     let mut txn = Txn::begin(&mut core, &mut term, &mut port);
     let why = match execute(&mut txn) {
         Ok(_) => None,

@@ -37,11 +37,7 @@ fn registers(pc: u32, psl: u32) -> Core {
 fn attempt(alloc: Global, port: &mut Plain, core: Core) -> (Attempt, Core) {
     let mut cpu = Cpu {
         core,
-        term: Term {
-            input: Vec::new(alloc),
-            place: 0,
-            out: None,
-        },
+        term: Term::new(Vec::new(alloc)),
         latch: None,
     };
     let answer = cpu.attempt(port);
@@ -148,11 +144,7 @@ fn a_batch_up_to_a_halt(rt: HostRuntime) -> Result<(), Fail> {
     let mut port = memory(alloc, &[0xD0, 0x05, 0x51, 0xD0, 0x51, 0x52, 0x00])?;
     let mut cpu = Cpu {
         core: registers(0, 0),
-        term: Term {
-            input: Vec::new(alloc),
-            place: 0,
-            out: None,
-        },
+        term: Term::new(Vec::new(alloc)),
         latch: None,
     };
     // The interval clock is on, and runs out with the first step. Its interrupt waits at this priority.

@@ -1,5 +1,5 @@
 -- What an instruction may change beside memory.
-use Rattle.std.specs.Prelude.{ℕ, ◌-◌, ◌^◌, Bool, nat_lt, if◌then◌else◌, Option, None, List, slice_get, slice_index, slice_set}
+use Rattle.std.specs.Prelude.{ℕ, Bool, Option, List, slice_get, slice_index, slice_set}
 use Rattle.vax_word.specs.declared.Core.{Core}
 use Rattle.vax_word.specs.declared.Codes.{Codes}
 use Rattle.vax_word.specs.declared.Psl.{Psl}
@@ -60,9 +60,9 @@ with_timer s value = record s { core = record s.core { iccs = value } }
 abbrev pub with_clock : State → ℕ → State
 with_clock s value = record s { core = record s.core { clock = value } }
 
--- the next byte of the console's input, of which 2^32 - 1 bytes can be taken
+-- the next byte of the console's input
 abbrev pub next_input : State → Option ℕ
-next_input s = if nat_lt s.taken (2 ^ 32 - 1) then slice_get s.input s.taken else None
+next_input s = slice_get s.input s.taken
 
 abbrev pub with_taken : State → ℕ → State
 with_taken s place = record s { taken = place }

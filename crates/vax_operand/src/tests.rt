@@ -73,11 +73,7 @@ fn operand_at(alloc: Global, port: &mut Plain, kind: OperandKind, pc: u32) -> Re
         clock: 0,
     };
     core.regs[15] = pc;
-    let mut term = Term {
-        input: Vec::new(alloc),
-        place: 0,
-        out: None,
-    };
+    let mut term = Term::new(Vec::new(alloc));
     let mut txn = Txn::begin(&mut core, &mut term, port);
     let operand = match next(&mut txn, kind) {
         Ok(operand) => Ok(operand),

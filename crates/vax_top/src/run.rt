@@ -45,11 +45,7 @@ fn start(alloc: Global, begin: u32) -> Cpu
 {
     Cpu {
         core: core_at(begin),
-        term: Term {
-            input: Vec::new(alloc),
-            place: 0,
-            out: None,
-        },
+        term: Term::new(Vec::new(alloc)),
         latch: None,
     }
 }

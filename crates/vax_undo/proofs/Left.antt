@@ -17,6 +17,7 @@ module _ {P : Type 0} (view : P → View) (along : P → P → Type 0) where
     term = second.term ∙ first.term;
     port = second.port ∙ first.port;
     input = second.input ∙ first.input;
+    clock = λ h. second.clock (first.clock h);
     since = λ start h. second.since start (first.since start h);
   }
 

@@ -3,7 +3,7 @@ use Rattle.std.proofs.Common.{Bool, true, false, zero, suc, inl, inr, ◌≡◌,
 use Rattle.std.proofs.lemmas.Bool.{cases_Bool}
 use Rattle.std.proofs.lemmas.List.{set-get_or, set-set}
 use Rattle.std.proofs.Math.Path.{fun_ext}
-use Rattle.std.specs.Prelude.{slice_index, slice_set, IfOk, ◌||◌}
+use Rattle.std.specs.Prelude.{slice_index, slice_set, IfOk, ◌||◌, vec_len}
 use Rattle.vax_space.specs.declared.Access.TheVariants.{Read, Write}
 use Rattle.vax_space.specs.declared.Area.{Area}
 use Rattle.vax_space.specs.declared.Violation.{Violation}
@@ -43,13 +43,13 @@ module _ (marked : ℕ → Bool) (addr len : ℕ) (all : (page : ℕ) → is_in 
   pub put_again : (view : View) (value mode : ℕ) → view.marked ≡ marked → violation view.areas addr len mode Write ≡ None → first_absent view.resident addr len ≡ None → stored view addr len value mode ≡ with_number_back view addr len value
   put_again view value mode is v p = rw (v, p) (ap (λ (m : ℕ → Bool). record view { byte = put view.byte addr len value; marked = m }) (ap (λ (m : ℕ → Bool). marking m addr len) is ∙ (marked_again ∙ sym is)))
 
-pub allows_one_more : (areas : List Area) (resident marked : ℕ → Bool) (log : List Entry) (e : Entry) → AllowsAll areas resident marked log → Allows areas resident marked e.kept e → AllowsAll areas resident marked (log ++ e ∷ [])
-allows_one_more areas resident marked [] e all one = (one, all)
-allows_one_more areas resident marked (x ∷ xs) e all one = (all.0, allows_one_more areas resident marked xs e all.1 one)
+pub allows_one_more : (long : ℕ) (areas : List Area) (resident marked : ℕ → Bool) (log : List Entry) (e : Entry) → AllowsAll long areas resident marked log → Allows long areas resident marked e.kept e → AllowsAll long areas resident marked (log ++ e ∷ [])
+allows_one_more long areas resident marked [] e all one = (one, all)
+allows_one_more long areas resident marked (x ∷ xs) e all one = (all.0, allows_one_more long areas resident marked xs e all.1 one)
 
 -- more pages may be marked
-module _ (areas : List Area) (resident old new : ℕ → Bool) (more : (page : ℕ) → old page ≡ true → new page ≡ true) where
-  allows_marked : (k : Kept) (e : Entry) → Allows areas resident old k e → Allows areas resident new k e
+module _ (long : ℕ) (areas : List Area) (resident old new : ℕ → Bool) (more : (page : ℕ) → old page ≡ true → new page ≡ true) where
+  allows_marked : (k : Kept) (e : Entry) → Allows long areas resident old k e → Allows long areas resident new k e
   allows_marked kept.Register e a = a
   allows_marked kept.Stack e a = a
   allows_marked kept.Requests e a = a
@@ -59,7 +59,7 @@ module _ (areas : List Area) (resident old new : ℕ → Bool) (more : (page : �
   allows_marked kept.Sent e a = a
   allows_marked kept.Bytes e a = (a.0, a.1, a.2, a.3, a.4, a.5, λ page h. more page (a.6 page h))
 
-  pub all_marked : (log : List Entry) → AllowsAll areas resident old log → AllowsAll areas resident new log
+  pub all_marked : (log : List Entry) → AllowsAll long areas resident old log → AllowsAll long areas resident new log
   all_marked [] all = all
   all_marked (e ∷ es) all = (allows_marked e.kept e all.0, all_marked es all.1)
 
@@ -89,13 +89,13 @@ pub logged_marked : {P : Type 0} (view : P → View) (along : P → P → Type 0
     new.log.items ≡ old.log.items ++ e ∷ [] → new.origin ≡ old.origin → IsSame along old new → undo e (bare (present view new)) ≡ bare (present view old) →
     (view new.port.now).areas ≡ (view old.port.now).areas → (view new.port.now).resident ≡ (view old.port.now).resident →
     ((page : ℕ) → (view old.port.now).marked page ≡ true → (view new.port.now).marked page ≡ true) →
-    Allows (view old.port.now).areas (view old.port.now).resident (view new.port.now).marked e.kept e → Keeps view along 1 old new
+    Allows (vec_len old.term.now.input) (view old.port.now).areas (view old.port.now).resident (view new.port.now).marked e.kept e → Keeps view along 1 old new
 logged_marked view along old new e items origin same back areas resident more one = record {
   undone = ap (λ o. restart o (undo_all new.log.items (bare (present view new)))) origin
       ∙ ap (restart old.origin) (ap (λ log. undo_all log (bare (present view new))) items ∙ (undo_all-append old.log.items e (bare (present view new)) ∙ ap (undo_all old.log.items) back));
-  ready = λ ready. rw (items, areas, resident)
-      (allows_one_more (view old.port.now).areas (view old.port.now).resident (view new.port.now).marked old.log.items e
-      (all_marked (view old.port.now).areas (view old.port.now).resident (view old.port.now).marked (view new.port.now).marked more old.log.items ready) one);
+  ready = λ ready. rw (items, same.input, areas, resident)
+      (allows_one_more (vec_len old.term.now.input) (view old.port.now).areas (view old.port.now).resident (view new.port.now).marked old.log.items e
+      (all_marked (vec_len old.term.now.input) (view old.port.now).areas (view old.port.now).resident (view old.port.now).marked (view new.port.now).marked more old.log.items ready) one);
   room = rw items (simp length-append (omega arith));
   same = same;
 }
@@ -104,12 +104,12 @@ logged_marked view along old new e items origin same back areas resident more on
 pub logged : {P : Type 0} (view : P → View) (along : P → P → Type 0) (old new : Transaction P) (e : Entry) →
     new.log.items ≡ old.log.items ++ e ∷ [] → new.origin ≡ old.origin → IsSame along old new → undo e (present view new) ≡ present view old →
     (view new.port.now).areas ≡ (view old.port.now).areas → (view new.port.now).resident ≡ (view old.port.now).resident →
-    Allows (view old.port.now).areas (view old.port.now).resident (view old.port.now).marked e.kept e → Keeps view along 1 old new
+    Allows (vec_len old.term.now.input) (view old.port.now).areas (view old.port.now).resident (view old.port.now).marked e.kept e → Keeps view along 1 old new
 logged view along old new e items origin same back areas resident one =
     let marks : (view new.port.now).marked ≡ (view old.port.now).marked = sym (put_back-marked e.kept e (present view new)) ∙ ap (λ (p : Present). p.view.marked) back in
     logged_marked view along old new e items origin same (sym (put_back-bare e.kept e (present view new)) ∙ ap bare back) areas resident
     (λ page h. ap (λ (m : ℕ → Bool). m page) marks ∙ h)
-    (subst (λ (m : ℕ → Bool). Allows (view old.port.now).areas (view old.port.now).resident m e.kept e) (sym marks) one)
+    (subst (λ (m : ℕ → Bool). Allows (vec_len old.term.now.input) (view old.port.now).areas (view old.port.now).resident m e.kept e) (sym marks) one)
 
 -- a register that is put back at the end may have been anything before
 sets_over : (xs : List ℕ) (n m v w : ℕ) → slice_set (slice_set xs n v) m w ≡ slice_set (slice_set (slice_set xs m w) n v) m w
@@ -249,12 +249,12 @@ pub unwound : (log rest : List Entry) (e : Entry) (p now start : Present) → lo
 unwound log rest e p now start items back before =
     rw (back, put_back-bare e.kept e p) (sym (undo_all-append rest e (bare p)) ∙ (ap (λ l. undo_all l (bare p)) (sym items) ∙ before))
 
-parts_of : (areas : List Area) (resident marked : ℕ → Bool) (rest : List Entry) (e : Entry) → AllowsAll areas resident marked (rest ++ e ∷ []) → AllowsAll areas resident marked rest × Allows areas resident marked e.kept e
-parts_of areas resident marked [] e all = (tt, all.0)
-parts_of areas resident marked (x ∷ xs) e all = let p = parts_of areas resident marked xs e all.1 in ((all.0, p.0), p.1)
+parts_of : (long : ℕ) (areas : List Area) (resident marked : ℕ → Bool) (rest : List Entry) (e : Entry) → AllowsAll long areas resident marked (rest ++ e ∷ []) → AllowsAll long areas resident marked rest × Allows long areas resident marked e.kept e
+parts_of long areas resident marked [] e all = (tt, all.0)
+parts_of long areas resident marked (x ∷ xs) e all = let p = parts_of long areas resident marked xs e all.1 in ((all.0, p.0), p.1)
 
-pub last_allowed : (areas : List Area) (resident marked : ℕ → Bool) (log rest : List Entry) (e : Entry) → log ≡ rest ++ e ∷ [] → AllowsAll areas resident marked log → AllowsAll areas resident marked rest × Allows areas resident marked e.kept e
-last_allowed areas resident marked log rest e items all = parts_of areas resident marked rest e (subst (AllowsAll areas resident marked) items all)
+pub last_allowed : (long : ℕ) (areas : List Area) (resident marked : ℕ → Bool) (log rest : List Entry) (e : Entry) → log ≡ rest ++ e ∷ [] → AllowsAll long areas resident marked log → AllowsAll long areas resident marked rest × Allows long areas resident marked e.kept e
+last_allowed long areas resident marked log rest e items all = parts_of long areas resident marked rest e (subst (AllowsAll long areas resident marked) items all)
 
 pub present_alike : (p q : Present) → p.state ≡ q.state → p.view ≡ q.view → p ≡ q
 present_alike p q s v = ap (λ x. record { state = x; view = p.view }) s ∙ ap (λ x. record { state = q.state; view = x }) v
@@ -280,8 +280,8 @@ put_back-resident kept.Taken e p = refl
 put_back-resident kept.Sent e p = refl
 put_back-resident kept.Bytes e p = refl
 
-pub still_allowed : (e : Entry) (p : Present) (now : View) (log : List Entry) → now ≡ (undo e p).view → AllowsAll p.view.areas p.view.resident p.view.marked log → AllowsAll now.areas now.resident now.marked log
-still_allowed e p now log is all = rw (is, put_back-areas e.kept e p, put_back-resident e.kept e p, put_back-marked e.kept e p) all
+pub still_allowed : (long : ℕ) (e : Entry) (p : Present) (now : View) (log : List Entry) → now ≡ (undo e p).view → AllowsAll long p.view.areas p.view.resident p.view.marked log → AllowsAll long now.areas now.resident now.marked log
+still_allowed long e p now log is all = rw (is, put_back-areas e.kept e p, put_back-resident e.kept e p, put_back-marked e.kept e p) all
 
 pub still_marked : (e : Entry) (p : Present) (now : View) → now ≡ (undo e p).view → now.marked ≡ p.view.marked
 still_marked e p now is = ap (λ (v : View). v.marked) is ∙ put_back-marked e.kept e p

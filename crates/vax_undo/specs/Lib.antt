@@ -2,3 +2,4 @@ pub mod Answers
 pub mod Transaction
 pub mod Blocks
 pub mod Plain
+pub mod Rooms

@@ -1,5 +1,5 @@
 -- What a transaction means, and how its log is undone.
-use Rattle.std.specs.Prelude.{◌≡◌, ℕ, ◌+◌, ◌-◌, ◌^◌, ◌<◌, ◌≤◌, Bool, true, nat_lt, if◌then◌else◌, Option, Some, None, Result, Ok, Err, List, [], ◌∷◌, length}
+use Rattle.std.specs.Prelude.{◌≡◌, ℕ, ◌+◌, ◌-◌, ◌^◌, ◌<◌, ◌≤◌, Bool, true, nat_lt, if◌then◌else◌, Option, Some, None, Result, Ok, Err, List, [], ◌∷◌, length, vec_len}
 use Rattle.vax_word.specs.declared.Core.{Core}
 use Rattle.vax_space.specs.declared.Access.TheVariants.{Write}
 use Rattle.vax_space.specs.declared.Area.{Area}
@@ -70,24 +70,25 @@ undo_all (e ∷ es) p = undo e (undo_all es p)
 abbrev pub restart : Origin → Present → Present
 restart origin p = with_state p (with_psl (with_register p.state 15 origin.pc) origin.psl)
 
--- what undoing an entry needs of the areas, of the resident pages and of the marked ones: bytes are put back where the mode may write and the
--- pages are there, and where the write that they undo has marked them
-abbrev pub Allows : List Area → (ℕ → Bool) → (ℕ → Bool) → Kept → Entry → Type 0
-Allows areas resident marked Register e = (e.number < 16) × (e.old < 2 ^ 32)
-Allows areas resident marked Stack e = (e.number < 5) × (e.old < 2 ^ 32)
-Allows areas resident marked Requests e = e.old < 2 ^ 16
-Allows areas resident marked Timer e = e.old < 2 ^ 8
-Allows areas resident marked Clock e = e.old < 2 ^ 16
-Allows areas resident marked Taken e = e.old < 2 ^ 32
-Allows areas resident marked Sent e = Unit {0}
-Allows areas resident marked Bytes e =
+-- what undoing an entry needs of the console's input, which is so long, of the areas, of the resident pages and of the marked ones: a place is
+-- put back where the input has it, and bytes where the mode may write, where the pages are there, and where the write that they undo has
+-- marked them
+abbrev pub Allows : ℕ → List Area → (ℕ → Bool) → (ℕ → Bool) → Kept → Entry → Type 0
+Allows long areas resident marked Register e = (e.number < 16) × (e.old < 2 ^ 32)
+Allows long areas resident marked Stack e = (e.number < 5) × (e.old < 2 ^ 32)
+Allows long areas resident marked Requests e = e.old < 2 ^ 16
+Allows long areas resident marked Timer e = e.old < 2 ^ 8
+Allows long areas resident marked Clock e = e.old < 2 ^ 16
+Allows long areas resident marked Taken e = e.old ≤ long
+Allows long areas resident marked Sent e = Unit {0}
+Allows long areas resident marked Bytes e =
     (1 ≤ e.number) × (e.number ≤ 8) × (e.mode ≤ 3) × (e.old < 256 ^ e.number)
     × (violation areas e.addr e.number e.mode Write ≡ None) × (first_absent resident e.addr e.number ≡ None)
     × ((page : ℕ) → is_in e.addr e.number page ≡ true → marked page ≡ true)
 
-abbrev pub AllowsAll : List Area → (ℕ → Bool) → (ℕ → Bool) → List Entry → Type 0
-AllowsAll areas resident marked [] = Unit {0}
-AllowsAll areas resident marked (e ∷ es) = Allows areas resident marked e.kept e × AllowsAll areas resident marked es
+abbrev pub AllowsAll : ℕ → List Area → (ℕ → Bool) → (ℕ → Bool) → List Entry → Type 0
+AllowsAll long areas resident marked [] = Unit {0}
+AllowsAll long areas resident marked (e ∷ es) = Allows long areas resident marked e.kept e × AllowsAll long areas resident marked es
 
 module _ {P : Type 0} where
   -- what a transaction works on, as it is now
@@ -109,14 +110,16 @@ module _ {P : Type 0} where
 
   -- the log can be undone
   abbrev pub IsReady : (P → View) → Transaction P → Type 0
-  IsReady view t = AllowsAll (view t.port.now).areas (view t.port.now).resident (view t.port.now).marked t.log.items
+  IsReady view t = AllowsAll (vec_len t.term.now.input) (view t.port.now).areas (view t.port.now).resident (view t.port.now).marked t.log.items
 
-  -- the transaction is over the same registers, console and port, and the console's input is as it was
+  -- the transaction is over the same registers, console and port, the console's input is as it was, and the interval clock has counted fewer
+  -- than a thousand steps
   pub record IsSame (along : P → P → Type 0) (old new : Transaction P) : Type 0 where
     pub core : new.core.ghost_name ≡ old.core.ghost_name
     pub term : new.term.ghost_name ≡ old.term.ghost_name
     pub port : new.port.ghost_name ≡ old.port.ghost_name
     pub input : new.term.now.input ≡ old.term.now.input
+    pub clock : old.core.now.clock ≤ 999 → new.core.now.clock ≤ 999
     pub since : (start : P) → along start old.port.now → along start new.port.now
 
   -- A call leaves the transaction so that undoing its log gives what it gave before, and used at most so many entries.

@@ -130,11 +130,7 @@ fn absent_pages(rt: HostRuntime) -> Result<(), Fail> {
 #[test]
 fn changes_are_kept(rt: HostRuntime) -> Result<(), Fail> {
     let mut core = core();
-    let mut term = Term {
-        input: b"hi".to_vec(rt.alloc())?,
-        place: 0,
-        out: None,
-    };
+    let mut term = Term::new(b"hi".to_vec(rt.alloc())?);
     let mut memory = memory(rt.alloc())?;
     let mut txn = Txn::begin(&mut core, &mut term, &mut memory);
     txn.emit(b'!');
@@ -169,11 +165,7 @@ fn changes_are_kept(rt: HostRuntime) -> Result<(), Fail> {
 #[test]
 fn input_is_taken(rt: HostRuntime) -> Result<(), Fail> {
     let mut core = core();
-    let mut term = Term {
-        input: Vec::new(rt.alloc()),
-        place: 0,
-        out: None,
-    };
+    let mut term = Term::new(Vec::new(rt.alloc()));
     term.input.push(b'h')?;
     let mut memory = memory(rt.alloc())?;
     let mut txn = Txn::begin(&mut core, &mut term, &mut memory);
@@ -188,11 +180,7 @@ fn input_is_taken(rt: HostRuntime) -> Result<(), Fail> {
 #[test]
 fn changes_are_undone(rt: HostRuntime) -> Result<(), Fail> {
     let mut core = core();
-    let mut term = Term {
-        input: b"hi".to_vec(rt.alloc())?,
-        place: 0,
-        out: None,
-    };
+    let mut term = Term::new(b"hi".to_vec(rt.alloc())?);
     let mut memory = memory(rt.alloc())?;
     let mut txn = Txn::begin(&mut core, &mut term, &mut memory);
     txn.emit(b'!');

@@ -1,5 +1,5 @@
 //! Transactions.
-ghost use Rattle.std.specs.Prelude.{◌≡◌, ℕ, ◌+◌, ◌%◌, ◌^◌, ◌<◌, ◌≤◌, None, Some, [], is_some, nat_lt, ◌-◌, if◌then◌else◌, length, slice_get, slice_index, IfOk, OnOk, OnErr};
+ghost use Rattle.std.specs.Prelude.{◌≡◌, ℕ, ◌+◌, ◌%◌, ◌^◌, ◌<◌, ◌≤◌, None, Some, [], is_some, length, slice_get, slice_index, vec_len, IfOk, OnOk, OnErr};
 ghost use Rattle.vax_undo.specs.Answers.{err_of};
 
 use crate::entry::{Entry, Kept};
@@ -90,9 +90,9 @@ fn sent_of(number: u64) -> Option<u8>
 /// Whether a byte of the input is left, behind a shared reference.
 #[inline]
 fn input_is_left(term: &Term) -> bool
-    ensures { result ≡ is_some (if nat_lt term.now.place (2 ^ 32 - 1) then slice_get term.now.input.items term.now.place else None) }
+    ensures { result ≡ is_some (slice_get term.now.input.items term.now.place) }
 {
-    term.place < u32::MAX && (term.place as usize) < term.input.len()
+    (term.place as usize) < term.input.len()
 }
 
 /// Takes a log back to empty. It has one or two entries as a rule, so nothing is filled.
@@ -108,7 +108,7 @@ ghost use Rattle.vax_undo.specs.Transaction.{state_of, undo, Allows};
 /// Puts the old value of an entry back.
 #[tactic(auto, using(crate::proofs::Undo::put_again))]
 fn put_back<P: Port>(entry: Entry, core: &mut Core, term: &mut Term, port: &mut P)
-    requires { Allows (P.view port.old).areas (P.view port.old).resident (P.view port.old).marked entry.kept entry }
+    requires { Allows (vec_len term.old.input) (P.view port.old).areas (P.view port.old).resident (P.view port.old).marked entry.kept entry }
     ensures state { state_of core.new term.new ≡ (undo entry (record { state = state_of core.old term.old; view = P.view port.old })).state }
     ensures view { P.view port.new ≡ (undo entry (record { state = state_of core.old term.old; view = P.view port.old })).view }
     ensures input { term.new.input ≡ term.old.input }
@@ -289,9 +289,11 @@ impl<'a, P: Port> Txn<'a, P> {
         self.core.clock
     }
 
+    /// Sets what the interval clock has counted, at most 999: at the thousandth step it begins anew.
     #[inline]
     pub fn set_clock(&mut self, v: u16)
-        requires { 1 ≤ room self.old }
+        requires of_clock { v ≤ 999 }
+        requires room { 1 ≤ room self.old }
         ensures present { present P.view self.new ≡ with_state (present P.view self.old) (with_clock (present P.view self.old).state v) }
         ensures keeps { Keeps P.view P.since 1 self.old self.new }
     {
@@ -308,13 +310,14 @@ impl<'a, P: Port> Txn<'a, P> {
         ensures present { present P.view self.new ≡ with_state (present P.view self.old) (after_take (present P.view self.old).state) }
         ensures keeps { Keeps P.view P.since 1 self.old self.new }
     {
-        let place = self.term.place;
-        if place == u32::MAX || place as usize >= self.term.input.len() {
+        let term = &mut *self.term;
+        let place = term.place;
+        if place as usize >= term.input.len() {
             return None;
         }
-        let byte = self.term.input[place as usize];
+        let byte = term.input[place as usize];
+        term.place = place + 1;
         self.log.push(Entry::of(Kept::Taken, 0, place as u64));
-        self.term.place = place + 1;
         Some(byte)
     }
 
@@ -453,7 +456,9 @@ impl<'a, P: Port> Txn<'a, P> {
     #[inline]
     pub fn commit(self) -> Option<u8>
         ensures core { self.exit.0.now ≡ self.entry.core.now }
-        ensures term { self.exit.1.0.now ≡ record self.entry.term.now { out = None } }
+        ensures input { self.exit.1.0.now.input ≡ self.entry.term.now.input }
+        ensures place { self.exit.1.0.now.place ≡ self.entry.term.now.place }
+        ensures unsent { self.exit.1.0.now.out ≡ None }
         ensures port { self.exit.1.1.0.now ≡ self.entry.port.now }
         ensures sent { result ≡ self.entry.term.now.out }
     {

@@ -11,6 +11,7 @@ mod tests;
 ghost use Rattle.std.specs.Prelude.{◌≡◌, ◌≤◌};
 ghost use Rattle.vax_flat.specs.Control.{performed};
 ghost use Rattle.vax_flat.specs.OverPort.{Follows};
+ghost use Rattle.vax_undo.specs.Rooms.{room_of_transfer};
 ghost use Rattle.vax_undo.specs.Transaction.{present, room, Keeps, told};
 ghost use Rattle.vax_operand.specs.Located.{GoesEverywhere};
 
@@ -25,10 +26,10 @@ use vax_undo::{CutShort, Port, Txn};
 /// where the instruction says.
 #[inline(always)]
 pub fn run<P: Port>(txn: &mut Txn<P>, instruction: Control) -> Result<Flow, CutShort>
-    requires { 20 ≤ room txn.old }
+    requires { room_of_transfer ≤ room txn.old }
     ensures exact { Follows (performed instruction (present P.view txn.old).state) (present P.view txn.old) (told txn.new result) (present P.view txn.new) }
     ensures everywhere { GoesEverywhere (performed instruction (present P.view txn.old).state) (present P.view txn.old) (told txn.new result) (present P.view txn.new) }
-    ensures keeps { Keeps P.view P.since 20 txn.old txn.new }
+    ensures keeps { Keeps P.view P.since room_of_transfer txn.old txn.new }
 {
     shapes::perform(txn, instruction)
 }

@@ -30,11 +30,7 @@ fn after(alloc: Global, code: &[u8]) -> Result<(Option<Flow>, u32, Psl), Fail> {
         clock: 0,
     };
     core.regs[15] = START + 1;
-    let mut term = Term {
-        input: Vec::new(alloc),
-        place: 0,
-        out: None,
-    };
+    let mut term = Term::new(Vec::new(alloc));
     let mut txn = Txn::begin(&mut core, &mut term, &mut port);
     let flow = match code.first().and_then(|opcode| action(*opcode)) {
         Some(Action::Control(instruction)) => run(&mut txn, instruction).ok(),

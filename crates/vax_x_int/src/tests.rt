@@ -29,11 +29,7 @@ fn after(alloc: Global, code: &[u8], regs: [u32; 6]) -> Result<(Option<Flow>, Co
         iccs: 0,
         clock: 0,
     };
-    let mut term = Term {
-        input: Vec::new(alloc),
-        place: 0,
-        out: None,
-    };
+    let mut term = Term::new(Vec::new(alloc));
     let mut txn = Txn::begin(&mut core, &mut term, &mut port);
     let flow = match code.first().and_then(|opcode| action(*opcode)) {
         Some(Action::Integer(instruction)) => run(&mut txn, instruction).ok(),

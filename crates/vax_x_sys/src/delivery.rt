@@ -3,8 +3,10 @@ ghost use Rattle.std.specs.Prelude.{◌≡◌, ◌<◌, ◌≤◌};
 ghost use Rattle.vax_flat.specs.Operand.{extended};
 ghost use Rattle.vax_flat.specs.Delivery.{change_by, change_mode, change_vector, changed, changed_to, delivery, dispatched, entered, interrupt, interrupt_vector, interrupted, pushed_outside, served, vector_of, vectored};
 ghost use Rattle.vax_flat.specs.OverPort.{Follows, Performs};
+ghost use Rattle.vax_undo.specs.Rooms.{room_of_delivery};
 ghost use Rattle.vax_undo.specs.Transaction.{present, room, Keeps, with_state, told};
 ghost use Rattle.vax_x_sys.specs.Frames.{listed, IsLevel};
+ghost use Rattle.vax_x_sys.specs.Raised.{RaisedNothing};
 
 use crate::frames::{Parameters, parameters_of, push_frame, push_in};
 use crate::stacks::{go_on, on_interrupt_stack, stack_in_use, status, switch};
@@ -104,18 +106,29 @@ fn dispatch<P: Port>(
     }
 }
 
+/// Delivers an exception by the vector that is read.
+#[inline]
+#[tactic(auto, unfolding(vax_flat::specs::Delivery::delivery))]
+fn deliver_by_vector<P: Port>(txn: &mut Txn<P>, exception: Exception) -> Result<Delivery, CutShort>
+    requires { room_of_delivery ≤ room txn.old }
+    ensures exact { Follows (delivery exception (present P.view txn.old).state) (present P.view txn.old) (told txn.new result) (present P.view txn.new) }
+    ensures keeps { Keeps P.view P.since room_of_delivery txn.old txn.new }
+{
+    let vector = vector(txn, vector_of(exception))?;
+    dispatch(txn, exception, vector)
+}
+
 /// Delivers an exception, from the state at the start of the instruction or, for a trap, behind it: PSL, PC and what the exception tells are pushed,
 /// and control goes on at the handler in kernel mode.
 ///
 /// The run ends where the vector can't be read or asks for it, or where the frame can't be pushed. The cut is a page that is absent alone.
-#[tactic(auto, unfolding(vax_flat::specs::Delivery::delivery))]
 pub fn deliver<P: Port>(txn: &mut Txn<P>, exception: Exception) -> Result<Delivery, CutShort>
-    requires { 16 ≤ room txn.old }
+    requires { room_of_delivery ≤ room txn.old }
     ensures exact { Follows (delivery exception (present P.view txn.old).state) (present P.view txn.old) (told txn.new result) (present P.view txn.new) }
-    ensures keeps { Keeps P.view P.since 16 txn.old txn.new }
+    ensures quiet { RaisedNothing (told txn.new result) }
+    ensures keeps { Keeps P.view P.since room_of_delivery txn.old txn.new }
 {
-    let vector = vector(txn, vector_of(exception))?;
-    dispatch(txn, exception, vector)
+    deliver_by_vector(txn, exception)
 }
 
 /// The offset of an interrupt's vector.
@@ -178,17 +191,29 @@ fn interrupt_by<P: Port>(
     )
 }
 
-/// Delivers an interrupt at a level, 1 to 15 or the interval clock's 22: PSL and PC are pushed, the request is taken back, and control goes on at
-/// the handler in kernel mode, at that priority. It ends the run where a delivery does.
+/// Delivers an interrupt by the vector that is read.
+#[inline]
 #[tactic(auto, unfolding(vax_flat::specs::Delivery::interrupt))]
-pub fn interrupt<P: Port>(txn: &mut Txn<P>, level: u8) -> Result<Delivery, CutShort>
+fn interrupt_by_vector<P: Port>(txn: &mut Txn<P>, level: u8) -> Result<Delivery, CutShort>
     requires of_level { IsLevel level }
-    requires room { 16 ≤ room txn.old }
+    requires room { room_of_delivery ≤ room txn.old }
     ensures exact { Follows (interrupt level (present P.view txn.old).state) (present P.view txn.old) (told txn.new result) (present P.view txn.new) }
-    ensures keeps { Keeps P.view P.since 16 txn.old txn.new }
+    ensures keeps { Keeps P.view P.since room_of_delivery txn.old txn.new }
 {
     let vector = vector(txn, interrupt_vector(level))?;
     interrupt_by(txn, level, vector)
+}
+
+/// Delivers an interrupt at a level, 1 to 15 or the interval clock's 22: PSL and PC are pushed, the request is taken back, and control goes on at
+/// the handler in kernel mode, at that priority. It ends the run where a delivery does.
+pub fn interrupt<P: Port>(txn: &mut Txn<P>, level: u8) -> Result<Delivery, CutShort>
+    requires of_level { IsLevel level }
+    requires room { room_of_delivery ≤ room txn.old }
+    ensures exact { Follows (interrupt level (present P.view txn.old).state) (present P.view txn.old) (told txn.new result) (present P.view txn.new) }
+    ensures quiet { RaisedNothing (told txn.new result) }
+    ensures keeps { Keeps P.view P.since room_of_delivery txn.old txn.new }
+{
+    interrupt_by_vector(txn, level)
 }
 
 /// Pushes PSL, PC and code on the stack of a mode other than kernel, in that mode.
@@ -303,9 +328,9 @@ pub(crate) fn change_mode<P: Port>(
     target: AccessMode,
     code: u16,
 ) -> Result<Delivery, CutShort>
-    requires { 16 ≤ room txn.old }
+    requires { room_of_delivery ≤ room txn.old }
     ensures exact { Follows (change_mode target code (present P.view txn.old).state) (present P.view txn.old) (told txn.new result) (present P.view txn.new) }
-    ensures keeps { Keeps P.view P.since 16 txn.old txn.new }
+    ensures keeps { Keeps P.view P.since room_of_delivery txn.old txn.new }
 {
     if on_interrupt_stack(txn.psl()) {
         return Ok(Delivery::Ended(Ending::Change));

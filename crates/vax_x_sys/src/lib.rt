@@ -16,6 +16,7 @@ mod tests;
 ghost use Rattle.std.specs.Prelude.{◌≡◌, ◌≤◌};
 ghost use Rattle.vax_flat.specs.System.{performed};
 ghost use Rattle.vax_flat.specs.OverPort.{Follows};
+ghost use Rattle.vax_undo.specs.Rooms.{room_of_transfer};
 ghost use Rattle.vax_undo.specs.Transaction.{present, room, Keeps, told};
 ghost use Rattle.vax_operand.specs.Located.{GoesEverywhere};
 
@@ -30,10 +31,10 @@ use vax_undo::{CutShort, Port, Txn};
 /// The cut is the first exception of its operands or of its work, or the first page that it needs and that is absent. [`Flow::Clocked`] comes
 /// exactly where the interval clock was set.
 pub fn run<P: Port>(txn: &mut Txn<P>, instruction: System) -> Result<Flow, CutShort>
-    requires { 20 ≤ room txn.old }
+    requires { room_of_transfer ≤ room txn.old }
     ensures exact { Follows (performed instruction (present P.view txn.old).state) (present P.view txn.old) (told txn.new result) (present P.view txn.new) }
     ensures everywhere { GoesEverywhere (performed instruction (present P.view txn.old).state) (present P.view txn.old) (told txn.new result) (present P.view txn.new) }
-    ensures keeps { Keeps P.view P.since 20 txn.old txn.new }
+    ensures keeps { Keeps P.view P.since room_of_transfer txn.old txn.new }
 {
     shapes::perform(txn, instruction)
 }

@@ -54,11 +54,7 @@ fn went(
     core: &mut Core,
     instruction: System,
 ) -> Result<Flow, Cut> {
-    let mut term = Term {
-        input: Vec::new(alloc),
-        place: 0,
-        out: None,
-    };
+    let mut term = Term::new(Vec::new(alloc));
     let mut txn = Txn::begin(core, &mut term, port);
     let done = match run(&mut txn, instruction) {
         Ok(flow) => Ok(flow),
@@ -206,11 +202,7 @@ fn an_arithmetic_trap_and_an_interrupt(rt: HostRuntime) -> Result<(), Fail> {
     vectors[0x8C..0x90].copy_from_slice(&0x8000_0205u32.to_le_bytes());
     let mut port = memory(alloc, &vectors, 4, &[])?;
     let mut core = registers(0x8000_0204, 0x8000_0300, 2);
-    let mut term = Term {
-        input: Vec::new(alloc),
-        place: 0,
-        out: None,
-    };
+    let mut term = Term::new(Vec::new(alloc));
     let mut txn = Txn::begin(&mut core, &mut term, &mut port);
     let trap = deliver(&mut txn, Exception::Arithmetic(Trap::IntegerDivide)).ok();
     // level 3, on the interrupt stack

@@ -1,8 +1,8 @@
-use Rattle.std.proofs.Common.{◌∙◌, ap, subst, rules}
+use Rattle.std.proofs.Common.{◌≤◌, ◌∙◌, ap, subst, sym, rules}
 use Rattle.vax_flat.specs.OverPort.{Present, Follows}
 use Rattle.vax_flat.specs.Step.{delivered, whole_delivery}
 use Rattle.vax_undo.specs.Transaction.{bare, present, state_of, told}
-use Rattle.vax_cpu.proofs.Attempts.{tried_at, undone_unless}
+use Rattle.vax_cpu.proofs.Attempts.{clock_at, clock_unless, quiet_final, tried_at, undone_unless}
 use Rattle.vax_cpu.proofs.attempt.try_delivery.Goals as goal
 
 pub returns-clause-tried : goal.returns-clause-tried
@@ -12,3 +12,18 @@ returns-clause-tried g c =
     (c.conclude.ensures.tried old (delivered c.args.exception)
     (subst (λ (p : Present). Follows ((delivered c.args.exception) p.state) p (told c.work_delivery-done.new.txn c.work_delivery-done.result) (present g.P.Port.view c.work_delivery-done.new.txn)) c.begin-txn.ensures.present c.work_delivery-done.ensures.exact)
     (undone_unless g.P.Port.view g.P.Port.since 18 c.work_delivery-done.result c.begin-txn.result c.work_delivery-done.new.txn c.work_delivery-done.ensures.keeps old (c.begin-txn.ensures.undone ∙ ap bare c.begin-txn.ensures.present)))
+
+pub returns-clause-quiet : goal.returns-clause-quiet
+returns-clause-quiet g c =
+    let old : Present = record { state = state_of c.args.core.now c.args.term.now; view = g.P.Port.view c.args.port.now } in
+    quiet_final c.args.exception old (record { state = _; view = _ }) c.conclude.result
+    (c.conclude.ensures.tried old (delivered c.args.exception)
+    (subst (λ (p : Present). Follows ((delivered c.args.exception) p.state) p (told c.work_delivery-done.new.txn c.work_delivery-done.result) (present g.P.Port.view c.work_delivery-done.new.txn)) c.begin-txn.ensures.present c.work_delivery-done.ensures.exact)
+    (undone_unless g.P.Port.view g.P.Port.since 18 c.work_delivery-done.result c.begin-txn.result c.work_delivery-done.new.txn c.work_delivery-done.ensures.keeps old (c.begin-txn.ensures.undone ∙ ap bare c.begin-txn.ensures.present)))
+
+pub returns-clause-clock : goal.returns-clause-clock
+returns-clause-clock g c = λ within.
+    let begun = c.begin-txn.ensures.undone ∙ ap bare c.begin-txn.ensures.present in
+    clock_at _ c.conclude.new.txn.0.clock (search rules) (c.conclude.ensures.clock
+    (clock_unless g.P.Port.view g.P.Port.since 18 c.work_delivery-done.result c.begin-txn.result c.work_delivery-done.new.txn c.work_delivery-done.ensures.keeps (subst (λ (p : Present). p.state.core.clock ≤ 999) (sym begun) within))
+    (c.work_delivery-done.ensures.same.clock (subst (λ (p : Present). p.state.core.clock ≤ 999) (sym c.begin-txn.ensures.present) within)))

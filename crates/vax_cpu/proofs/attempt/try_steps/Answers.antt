@@ -1,9 +1,9 @@
-use Rattle.std.proofs.Common.{◌∙◌, Ok, ap, subst, arith, rules}
+use Rattle.std.proofs.Common.{◌≤◌, ◌∙◌, Ok, ap, subst, sym, arith, rules}
 use Rattle.vax_flat.specs.declared.Flow.TheVariants as flow
 use Rattle.vax_flat.specs.OverPort.{Present, Follows}
 use Rattle.vax_flat.specs.Step.{whole, whole_step}
 use Rattle.vax_undo.specs.Transaction.{present, told}
-use Rattle.vax_cpu.proofs.Attempts.{done_of, renewed_step, sent_step, ran_more, tried_at, undone_unless}
+use Rattle.vax_cpu.proofs.Attempts.{clock_at, clock_unless, done_of, renewed_step, sent_step, ran_more, tried_at, undone_unless}
 use Rattle.vax_cpu.proofs.attempt.try_steps.Goals as goal
 
 pub loop-steps-preserved : goal.loop-steps-preserved
@@ -28,6 +28,7 @@ loop-steps-preserved g c =
       port = c.renew.ensures.same.port ∙ same.port ∙ inv.port;
       unsent = ap (λ (p : Present). p.state.sent) c.renew.ensures.present;
       input = c.renew.ensures.same.input ∙ same.input ∙ inv.input;
+      clock = λ h. c.renew.ensures.same.clock (same.clock (inv.clock h));
       since = λ start h. c.renew.ensures.same.since start (same.since start (inv.since start h));
     }
 
@@ -63,3 +64,17 @@ returns-then-not-is_done-clause-ran g c =
           (c.conclude-last.ensures.tried now whole c.work-done.ensures.exact
           (undone_unless g.P.Port.view g.P.Port.since 46 c.work-done.result c.loop-steps.txn c.work-done.new.txn c.work-done.ensures.keeps now c.loop-steps.invariant.undone)),
     )
+
+pub returns-clause-clock : goal.returns-clause-clock
+returns-clause-clock g c = λ within.
+    let now = c.loop-steps.invariant.clock within in
+    clock_at _ c.conclude-last-2.new.txn.0.clock (search rules) (c.conclude-last-2.ensures.clock
+    (clock_unless g.P.Port.view g.P.Port.since 46 c.work_once-done.result c.loop-steps.txn c.work_once-done.new.txn c.work_once-done.ensures.keeps (subst (λ (p : Present). p.state.core.clock ≤ 999) (sym c.loop-steps.invariant.undone) now))
+    (c.work_once-done.ensures.same.clock now))
+
+pub returns-then-not-is_done-clause-clock : goal.returns-then-not-is_done-clause-clock
+returns-then-not-is_done-clause-clock g c = λ within.
+    let now = c.loop-steps.invariant.clock within in
+    clock_at _ c.conclude-last.new.txn.0.clock (search rules) (c.conclude-last.ensures.clock
+    (clock_unless g.P.Port.view g.P.Port.since 46 c.work-done.result c.loop-steps.txn c.work-done.new.txn c.work-done.ensures.keeps (subst (λ (p : Present). p.state.core.clock ≤ 999) (sym c.loop-steps.invariant.undone) now))
+    (c.work-done.ensures.same.clock now))

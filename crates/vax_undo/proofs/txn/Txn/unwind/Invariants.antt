@@ -1,4 +1,4 @@
-use Rattle.std.proofs.Common.{◌≡◌, length}
+use Rattle.std.proofs.Common.{◌≡◌, length, vec_len}
 use Rattle.vax_undo.specs.Transaction.{bare, state_of, present, undo_all, AllowsAll}
 use Rattle.vax_undo.proofs.txn.Txn.unwind.Given as goal
 
@@ -6,7 +6,7 @@ use Rattle.vax_undo.proofs.txn.Txn.unwind.Given as goal
 abbrev pub invariant-loop-entry : goal.invariant-loop-entry
 invariant-loop-entry g l = record {
   undone : undo_all l.log.items (bare (record { state = state_of l.core l.term; view = g.P.Port.view l.port })) ≡ undo_all l.fn.self.log.items (bare (present g.P.Port.view l.fn.self));
-  ready : AllowsAll (g.P.Port.view l.port).areas (g.P.Port.view l.port).resident (g.P.Port.view l.port).marked l.log.items;
+  ready : AllowsAll (vec_len l.fn.self.term.now.input) (g.P.Port.view l.port).areas (g.P.Port.view l.port).resident (g.P.Port.view l.port).marked l.log.items;
   marks : (g.P.Port.view l.port).marked ≡ (g.P.Port.view l.fn.self.port.now).marked;
   input : l.term.input ≡ l.fn.self.term.now.input;
   since : (start : _) → g.P.Port.since start l.fn.self.port.now → g.P.Port.since start l.port;
