@@ -1,6 +1,8 @@
 -- What a log tells of the registers at the start.
-use Rattle.std.proofs.Common.{Bool, true, ◌≡◌, ℕ, ◌≤◌, ◌+◌, Option, Some, None, List, [], ◌∷◌, ◌++◌, length, refl, ap, sym, subst, ◌∙◌}
-use Rattle.std.specs.Prelude.{slice_set}
+use Rattle.std.proofs.Common.{Bool, true, ◌≡◌, ℕ, ◌≤◌, ◌<◌, ◌^◌, ◌+◌, Option, Some, None, List, [], ◌∷◌, ◌++◌, length, refl, ap, sym, subst, ◌∙◌}
+use Rattle.std.specs.Prelude.{slice_set, vec_len}
+use Rattle.std.specs.Global.{Vec}
+use Rattle.std.proofs.Math.Bridge.{le_prop}
 use Rattle.vax_word.specs.declared.Core.{Core}
 use Rattle.vax_space.specs.declared.Area.{Area}
 use Rattle.vax_space.specs.declared.Access.TheVariants.{Write}
@@ -11,10 +13,14 @@ use Rattle.vax_flat.specs.State.{State}
 use Rattle.vax_undo.specs.declared.entry.Entry.{Entry}
 use Rattle.vax_undo.specs.declared.entry.Kept.{Kept}
 use Rattle.vax_undo.specs.declared.entry.Kept.TheVariants as kept
+use Rattle.vax_undo.specs.declared.term.Term.{Term}
 use Rattle.vax_undo.specs.declared.txn.Origin.{Origin}
 use Rattle.vax_undo.specs.declared.txn.Txn.{Txn as Transaction}
 use Rattle.vax_undo.specs.Transaction.{bare, put_back, restored_by, undo, undo_all, restart, present, undone, room, Allows, AllowsAll, FitsIn, IsLeftOpen, IsReady, IsSame, with_view}
 use Rattle.vax_undo.proofs.Undo.{all_marked, marks_stay, undo_all-append}
+
+abbrev pub console : (input : Vec ℕ) (place : ℕ) → Option ℕ → vec_len input < 2 ^ 32 → place ≤ vec_len input → Term
+console input place out short within = record { input = input; place = place; out = out; short = short; within = within }
 
 put_back-core : (k : Kept) (e : Entry) (p : Present) → (put_back k e p).state.core ≡ restored_by k e p.state.core
 put_back-core kept.Register e p = refl
@@ -26,15 +32,15 @@ put_back-core kept.Taken e p = refl
 put_back-core kept.Sent e p = refl
 put_back-core kept.Bytes e p = refl
 
-pub fits : (areas : List Area) (resident marked : ℕ → Bool) (k : Kept) (e : Entry) → Allows areas resident marked k e → FitsIn k e
-fits areas resident marked kept.Register e a = a
-fits areas resident marked kept.Stack e a = a
-fits areas resident marked kept.Requests e a = a
-fits areas resident marked kept.Timer e a = a
-fits areas resident marked kept.Clock e a = a
-fits areas resident marked kept.Taken e a = tt
-fits areas resident marked kept.Sent e a = tt
-fits areas resident marked kept.Bytes e a = tt
+pub fits : (long : ℕ) (areas : List Area) (resident marked : ℕ → Bool) (k : Kept) (e : Entry) → Allows long areas resident marked k e → FitsIn k e
+fits long areas resident marked kept.Register e a = a
+fits long areas resident marked kept.Stack e a = a
+fits long areas resident marked kept.Requests e a = a
+fits long areas resident marked kept.Timer e a = a
+fits long areas resident marked kept.Clock e a = a
+fits long areas resident marked kept.Taken e a = tt
+fits long areas resident marked kept.Sent e a = tt
+fits long areas resident marked kept.Bytes e a = tt
 
 -- the registers from which the rest of a log gives what the whole log gives
 abbrev pub IsBackTo : Core → List Entry → Present → Type 0
@@ -81,8 +87,8 @@ left_open view along old new items origin state same areas resident more enough 
       ∙ (ap (λ log. (restart old.origin (undo_all log (bare (present view new)))).state) items
       ∙ restart-state old.origin (undo_all old.log.items (bare (present view new))) (undo_all old.log.items (bare (present view old)))
       (undo_all-state old.log.items (bare (present view new)) (bare (present view old)) state));
-  ready = λ ready. rw (items, areas, resident)
-      (all_marked (view old.port.now).areas (view old.port.now).resident (view old.port.now).marked (view new.port.now).marked more old.log.items ready);
+  ready = λ ready. rw (items, areas, resident, same.input)
+      (all_marked (vec_len old.term.now.input) (view old.port.now).areas (view old.port.now).resident (view old.port.now).marked (view new.port.now).marked more old.log.items ready);
   room = enough;
   same = same;
 }
@@ -102,3 +108,7 @@ run_left view along old new addr bytes mode items origin is same enough =
     let a = stored_alike (stop (view old.port.now) addr (length bytes) mode Write) (view old.port.now) addr bytes in
     left_open view along old new items origin (ap (λ (p : Present). p.state) is) same (ap (λ (x : View). x.areas) v ∙ a.0) (ap (λ (x : View). x.resident) v ∙ a.1)
     (λ page h. ap (λ (x : View). x.marked page) v ∙ a.2 page h) enough
+
+-- a console is its input, its place and its byte
+pub same_console : (input : Vec ℕ) (place : ℕ) (out : Option ℕ) (s t : vec_len input < 2 ^ 32) (v w : place ≤ vec_len input) → console input place out s v ≡ console input place out t w
+same_console input place out s t v w k = console input place out (le_prop s t k) (le_prop v w k)

@@ -510,13 +510,13 @@ impl<'a, P: Port> Txn<'a, P> {
             origin,
             why: _,
         } = self;
-        term.out = None;
         let mut start = *core;
         while let Some(last) = log.pop() {
             restore(last, &mut start);
         }
         start.regs[15] = origin.pc;
         start.psl = origin.psl;
+        term.out = None;
         start
     }
 

@@ -1,4 +1,4 @@
-use Rattle.std.proofs.Common.{length}
+use Rattle.std.proofs.Common.{length, vec_len}
 use Rattle.vax_undo.specs.Transaction.{bare, present, undo_all, AllowsAll}
 use Rattle.vax_undo.proofs.Open.{IsBackTo}
 use Rattle.vax_undo.proofs.txn.Txn.commit_part.Given as goal
@@ -7,7 +7,7 @@ use Rattle.vax_undo.proofs.txn.Txn.commit_part.Given as goal
 abbrev pub invariant-loop-last : goal.invariant-loop-last
 invariant-loop-last g l = record {
   back : IsBackTo l.start l.log.items (undo_all l.fn.self.log.items (bare (present g.P.Port.view l.fn.self)));
-  ready : AllowsAll (g.P.Port.view l.fn.self.port.now).areas (g.P.Port.view l.fn.self.port.now).resident (g.P.Port.view l.fn.self.port.now).marked l.log.items;
+  ready : AllowsAll (vec_len l.fn.self.term.now.input) (g.P.Port.view l.fn.self.port.now).areas (g.P.Port.view l.fn.self.port.now).resident (g.P.Port.view l.fn.self.port.now).marked l.log.items;
 }
 
 abbrev pub decreases-loop-last : goal.decreases-loop-last
