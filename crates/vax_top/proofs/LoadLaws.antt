@@ -1,9 +1,10 @@
 -- Files that are read one behind the other.
-use Rattle.std.proofs.Common.{◌≡◌, List, [], ◌∷◌, Option, None, Some, Result, Ok, Err, refl}
+use Rattle.std.proofs.Common.{◌≡◌, ℕ, List, IfOk, [], ◌∷◌, Option, None, Some, Result, Ok, Err, refl}
+use Rattle.std.specs.Global.{Vec}
 use Rattle.vax_outside.specs.Directory.{Directory, read_result}
 use Rattle.vax_outside.specs.declared.traits.FilesFault.{FilesFault}
 use Rattle.vax_words.specs.Words.{Text}
-use Rattle.vax_top.specs.Top.{file_limit, joined_reads, read_files, Reads, ReadEnds}
+use Rattle.vax_top.specs.Top.{file_limit, input_in, joined_reads, read_files, Reads, ReadEnds}
 use Rattle.vax_top.specs.declared.status.Status.{Status}
 use Rattle.vax_top.specs.declared.status.Status.TheVariants.{Done, Usage, Missing, Large, Refused, Link, Schedule, Image, Turns, PageFault, ReadFault, WriteFault, NoMemory}
 
@@ -59,3 +60,8 @@ ends_behind rose later contents name bytes names PageFault up first e = e
 ends_behind rose later contents name bytes names ReadFault up first e = up e
 ends_behind rose later contents name bytes names WriteFault up first e = e
 ends_behind rose later contents name bytes names NoMemory up first e = e
+
+-- the one file that is read is the input
+pub input_read : {E : Type 0} (contents : Option Directory) (names : List Text) (r : Result (Vec ℕ) E) → IfOk r (λ v. Reads contents names (Ok (v.items ∷ []))) → IfOk r (λ v. (rest : List Text) × Reads contents names (Ok rest) × (v.items ≡ input_in rest))
+input_read contents names (Ok v) read = (v.items ∷ [], read, refl)
+input_read contents names (Err e) read = tt

@@ -1,5 +1,5 @@
 //! The files that a command reads.
-ghost use Rattle.std.specs.Prelude.{◌≡◌, ◌≢◌, ◌≤◌, List, ℕ, [], ◌∷◌, Ok, IfOk, IfErr, IsErrOf, length};
+ghost use Rattle.std.specs.Prelude.{◌≡◌, ◌≢◌, ◌⊎◌, ◌≤◌, List, ℕ, [], ◌∷◌, Ok, IfOk, IfErr, IsErrOf, length};
 ghost use Rattle.std.specs.Option.{option_copied};
 ghost use Rattle.vax_outside.specs.Faults.{Rose};
 ghost use Rattle.vax_words.specs.Said.{said_bare};
@@ -82,8 +82,8 @@ pub(crate) fn load_bare<S: Files>(
     ensures later { S.faults files.old ≤ S.faults files.new }
     ensures failed { S.faults files.new ≢ S.faults files.old → IsErrOf result Status.ReadFault }
     ensures bound { IfOk result (λ l. length l.input.items ≤ file_limit) }
-    ensures ok { IfOk result (λ l. (rest : List (List ℕ)) × Reads (S.contents files.old) (reads_of (said_bare bare)) (Ok (l.source.items ∷ rest)) × (l.input.items ≡ input_in rest)) }
-    ensures ends { IfErr result (λ status. ReadEnds (Rose (S.faults files.old) (S.faults files.new)) (S.contents files.old) (reads_of (said_bare bare)) status) }
+    ensures ok { IfOk result (λ l. (rest : List (List ℕ)) × Reads (S.contents files.old) (reads_of (said_bare bare.entry)) (Ok (l.source.items ∷ rest)) × (l.input.items ≡ input_in rest)) }
+    ensures ends { IfErr result (λ status. ReadEnds (Rose (S.faults files.old) (S.faults files.new)) (S.contents files.old) (reads_of (said_bare bare.entry)) status) }
 {
     let source = load(alloc, bare.name, files)?;
     let input = load_input(alloc, bare.options.input, files)?;

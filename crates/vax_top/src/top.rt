@@ -1,6 +1,7 @@
 //! The top call.
 ghost use Rattle.std.specs.Prelude.{◌≡◌, ◌≢◌, ◌⊎◌, ◌≤◌, ℕ, List, [], ◌∷◌, None, Some, Ok, Err, IfSome, IfOk, IfErr, IsErrOf};
 ghost use Rattle.vax_outside.specs.Faults.{Rose};
+ghost use Rattle.vax_outside.specs.declared.traits.FilesFault.TheVariants as files_fault;
 ghost use Rattle.vax_outside.specs.Channels.{Channels, Grew, only};
 ghost use Rattle.vax_words.specs.Words.{command_of as said_of, bare};
 ghost use Rattle.vax_words.specs.Said.{texts};
@@ -53,8 +54,8 @@ pub fn vax_main<S: Files, K: Sink, F: PageFile>(
     ensures pages { pages.new ≡ pages.old }
     ensures usage { result ≡ Status.Usage → said_of (texts words.now) ≡ None }
     ensures not_plain { said_of (texts words.now) ≡ None → (result ≡ Status.Usage) ⊎ (result ≡ Status.WriteFault) }
-    ensures missing { (name : List ℕ) → result ≡ Status.Missing name → Reads (S.contents files.old) (reads (texts words.now)) (Err (name, FilesFault.Missing)) }
-    ensures large { (name : List ℕ) → result ≡ Status.Large name → Reads (S.contents files.old) (reads (texts words.now)) (Err (name, FilesFault.Large)) }
+    ensures missing { (name : List ℕ) → result ≡ Status.Missing name → Reads (S.contents files.old) (reads (texts words.now)) (Err (name, files_fault.Missing)) }
+    ensures large { (name : List ℕ) → result ≡ Status.Large name → Reads (S.contents files.old) (reads (texts words.now)) (Err (name, files_fault.Large)) }
     ensures read { result ≡ Status.ReadFault → Rose (S.faults files.old) (S.faults files.new) }
     ensures write { result ≡ Status.WriteFault → Rose (K.faults sink.old) (K.faults sink.new) }
     ensures read_failed { S.faults files.new ≢ S.faults files.old → (result ≡ Status.ReadFault) ⊎ (result ≡ Status.WriteFault) }

@@ -1,5 +1,5 @@
 -- Numbers that `parse` reads, where no sign stands in front.
-use Rattle.std.proofs.Common.{◌≡◌, ◌<◌, ◌≤◌, ◌^◌, ◌&&◌, ◌==◌, ℕ, Bool, true, false, None, Some, List, [], ◌∷◌, length, nat_le, nat_lt, arith, refl, slice_index, sym, ◌∙◌}
+use Rattle.std.proofs.Common.{◌≡◌, ◌<◌, ◌≤◌, ◌^◌, ◌&&◌, ◌==◌, ℕ, Bool, true, false, None, Some, [], ◌∷◌, nat_le, nat_lt, arith, refl, slice_index}
 use Rattle.std.proofs.lemmas.Bool.Decides.{nat_tests}
 use Rattle.std.specs.Char.{digit_value}
 use Rattle.std.specs.List.{list_all}

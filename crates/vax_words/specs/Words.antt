@@ -1,5 +1,5 @@
 -- Which words name a command, and what they say.
-use Rattle.std.specs.Prelude.{ℕ, Bool, true, false, not, nat_le, nat_lt, ◌&&◌, ◌||◌, ◌==◌, ◌^◌, List, [], ◌∷◌, length, codes, Option, None, Some, is_none, if◌then◌else◌}
+use Rattle.std.specs.Prelude.{ℕ, Bool, false, not, nat_le, nat_lt, ◌&&◌, ◌||◌, ◌==◌, ◌^◌, List, [], ◌∷◌, length, codes, Option, None, Some, is_none, if◌then◌else◌}
 use Rattle.std.specs.Option.{option_map, option_and_then}
 use Rattle.std.specs.List.{list_all, before_first, after_first, position_or_len}
 use Rattle.std.specs.Char.{digit_value}
