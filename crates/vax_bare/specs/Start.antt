@@ -42,6 +42,6 @@ core start = record {
   clock = 0;
 }
 
--- the flat machine at the start of a program, without input: its bytes, and the address at which it begins
-abbrev pub start_of : List ℕ → ℕ → Flat
-start_of bytes begin = record { core = core begin; memory = memory bytes; input = []; taken = 0; output = []; ending = None }
+-- the flat machine at the start of a program: its bytes, the address at which it begins, and the console's input
+abbrev pub start_of : List ℕ → ℕ → List ℕ → Flat
+start_of bytes begin input = record { core = core begin; memory = memory bytes; input = input; taken = 0; output = []; ending = None }

@@ -6,7 +6,7 @@ use Rattle.vax_outside.specs.Directory.{Directory, read_result}
 use Rattle.vax_outside.specs.declared.traits.FilesFault.{FilesFault}
 use Rattle.vax_outside.specs.declared.traits.FilesFault.TheVariants as faults
 use Rattle.vax_outside.specs.declared.traits.Chan.TheVariants as channel
-use Rattle.vax_words.specs.Words.{Text, Said, bare, about, command_of}
+use Rattle.vax_words.specs.Words.{Text, Options, Said, bare, about, command_of}
 use Rattle.vax_source.specs.Program.{Assembles, Faults}
 use Rattle.vax_flat.specs.declared.Ending.{Ending}
 use Rattle.vax_flat.specs.Step.{Flat, run}
@@ -23,13 +23,14 @@ use Rattle.vax_top.specs.declared.status.Status.TheVariants.{Done, Usage, Missin
 abbrev pub file_limit : ℕ
 file_limit = 4194304
 
--- the most steps of a run
-abbrev pub step_limit : ℕ
-step_limit = 10000000
+-- the file of the console's input, if one is given
+abbrev pub input_files : Option Text → List Text
+input_files None = []
+input_files (Some name) = name ∷ []
 
 -- the files that a command reads, in order
 abbrev pub reads_of : Said → List Text
-reads_of (bare name) = name ∷ []
+reads_of (bare name options) = name ∷ input_files options.input
 reads_of about = []
 
 -- the files that the words have read, in order
@@ -86,30 +87,36 @@ pub record IsRefused (source : Text) (status : Status) : Type 0 where
   pub answer : status ≡ Refused 1 line kind
   pub fault : Faults source line kind
 
--- the program of a source was run, as far as it goes within the limit of steps
-pub record IsRun (source : Text) (grown : Channels) : Type 0 where
+-- the program of a source was run with this input, as far as it goes within so many steps
+pub record IsRun (source input : Text) (most : ℕ) (grown : Channels) : Type 0 where
   pub bytes : List ℕ
   pub start : ℕ
   pub program : Assembles source bytes start
   pub steps : ℕ
-  pub stops : StopsAt steps step_limit (start_of bytes start)
-  pub wrote : grown ≡ run_output (start_of bytes start) steps
+  pub stops : StopsAt steps most (start_of bytes start input)
+  pub wrote : grown ≡ run_output (start_of bytes start input) steps
 
 -- `bare`: a source with a fault is refused, and the program of another is run
-abbrev pub BareDoes : Text → Status → Channels → Type 0
-BareDoes source status grown = (IsRefused source status × (grown ≡ refusal_growth status)) ⊎ ((status ≡ Done) × IsRun source grown)
+abbrev pub BareDoes : Text → Text → ℕ → Status → Channels → Type 0
+BareDoes source input most status grown = (IsRefused source status × (grown ≡ refusal_growth status)) ⊎ ((status ≡ Done) × IsRun source input most grown)
 
 -- a text about the program was shown, or memory was refused before
 abbrev pub IsAbout : Status → Channels → Type 0
 IsAbout status grown = ((status ≡ NoMemory) × (grown ≡ refusal_growth NoMemory)) ⊎ ((text : Text) × (status ≡ Done) × (grown ≡ only channel.Out text))
 
 -- `bare` went so, or memory was refused before the run
-abbrev pub IsBare : Text → Status → Channels → Type 0
-IsBare source status grown = ((status ≡ NoMemory) × (grown ≡ refusal_growth NoMemory)) ⊎ BareDoes source status grown
+abbrev pub IsBare : Text → Text → ℕ → Status → Channels → Type 0
+IsBare source input most status grown = ((status ≡ NoMemory) × (grown ≡ refusal_growth NoMemory)) ⊎ BareDoes source input most status grown
+
+-- the bytes of the input's file, none where no file is given
+abbrev pub input_in : List Text → Text
+input_in [] = []
+input_in (bytes ∷ files) = bytes
 
 -- what a command does with its files: the table of commands
 abbrev pub Does : Said → List Text → Status → Channels → Type 0
-Does (bare name) files status grown = (source : Text) × (files ≡ source ∷ []) × BareDoes source status grown
+Does (bare name options) [] status grown = ⊥
+Does (bare name options) (source ∷ files) status grown = BareDoes source (input_in files) options.steps status grown
 Does about files status grown = (text : Text) × (status ≡ Done) × (grown ≡ only channel.Out text)
 
 -- the answer that a command is to give, and what it is to write

@@ -1,5 +1,5 @@
 //! The command `bare`: reads a source, runs its program, and reports.
-ghost use Rattle.std.specs.Prelude.{◌≡◌, ◌⊎◌, ◌≤◌, ℕ, [], None, IfOk, IfErr, length};
+ghost use Rattle.std.specs.Prelude.{◌≡◌, ◌⊎◌, ◌≤◌, ℕ, None, IfOk, IfErr, length};
 ghost use Rattle.vax_outside.specs.Channels.{Channels};
 ghost use Rattle.vax_flat.specs.Port.{StandsFor};
 ghost use Rattle.vax_flat.specs.Memory.{AllResident};
@@ -9,8 +9,9 @@ ghost use Rattle.vax_bare.specs.Run.{StopsAt};
 ghost use Rattle.vax_source.specs.Program.{Assembles};
 ghost use Rattle.vax_top.specs.Status.{refusal_growth};
 ghost use Rattle.vax_top.specs.Ends.{Ends};
-ghost use Rattle.vax_top.specs.Top.{IsBare, IsRefused, last_of, run_output, run_report, step_limit};
+ghost use Rattle.vax_top.specs.Top.{IsBare, IsRefused, last_of, file_limit, run_output, run_report};
 
+use crate::load::Loaded;
 use crate::refuse::refuse;
 use crate::status::Status;
 use std::alloc::Global;
@@ -22,9 +23,6 @@ use vax_report::{Last, write_report};
 use vax_source::{Program, SourceError, read_source};
 use vax_undo::{Plain, Term};
 
-/// The most steps of a run.
-const STEP_LIMIT: u64 = 10_000_000;
-
 /// Why a run stopped.
 fn last_of(ending: Option<Ending>) -> Last
     ensures { result ≡ last_of ending }
@@ -35,31 +33,39 @@ fn last_of(ending: Option<Ending>) -> Last
     }
 }
 
-/// A processor at the start of a program, without input.
-fn start(alloc: Global, begin: u32) -> Cpu
+/// A processor at the start of a program.
+fn start(begin: u32, input: Vec<u8>) -> Cpu
+    requires { length input.items ≤ file_limit }
     ensures core { result.core ≡ core begin }
     ensures place { result.term.place ≡ 0 }
     ensures out { result.term.out ≡ None }
     ensures latch { result.latch ≡ None }
-    ensures none { result.term.input.items ≡ [] }
+    ensures input { result.term.input.items ≡ input.items }
 {
     Cpu {
         core: core_at(begin),
-        term: Term::new(Vec::new(alloc)),
+        term: Term::new(input),
         latch: None,
     }
 }
 
-/// Runs a program and writes the report.
-fn execute<K: Sink>(alloc: Global, program: &Program, memory: Plain, sink: &mut K) -> Status
+/// Runs a program for at most so many steps, and writes the report.
+fn execute<K: Sink>(
+    program: &Program,
+    memory: Plain,
+    input: Vec<u8>,
+    most: u64,
+    sink: &mut K,
+) -> Status
     requires stands { StandsFor (view_of memory) (memory_at_start program.now.bytes.items) }
     requires resident { AllResident (view_of memory).resident (view_of memory).areas }
-    ensures { (n : ℕ) × StopsAt n step_limit (start_of program.now.bytes.items program.now.start)
-        × Ends (K.faults sink.old) (K.faults sink.new) (K.contents sink.old) (K.contents sink.new) Status.Done (run_output (start_of program.now.bytes.items program.now.start) n) result }
+    requires short { length input.items ≤ file_limit }
+    ensures { (n : ℕ) × StopsAt n most (start_of program.now.bytes.items program.now.start input.items)
+        × Ends (K.faults sink.old) (K.faults sink.new) (K.contents sink.old) (K.contents sink.new) Status.Done (run_output (start_of program.now.bytes.items program.now.start input.items) n) result }
 {
     let mut memory = memory;
-    let mut cpu = start(alloc, program.start);
-    match run(&mut cpu, &mut memory, STEP_LIMIT, sink) {
+    let mut cpu = start(program.start, input);
+    match run(&mut cpu, &mut memory, most, sink) {
         Ok(stopped) => {
             let last = last_of(stopped.ending);
             let taken = cpu.term.place;
@@ -89,18 +95,19 @@ fn assemble(alloc: Global, source: &[u8]) -> Result<Program, Status>
     }
 }
 
-/// Runs a source.
-pub(crate) fn run_source<K: Sink>(alloc: Global, source: &[u8], sink: &mut K) -> Status
+/// Runs a source with its input, for at most so many steps.
+pub(crate) fn run_bare<K: Sink>(alloc: Global, loaded: Loaded, most: u64, sink: &mut K) -> Status
+    requires { length loaded.input.items ≤ file_limit }
     ensures { (meant : Status) × (grown : Channels)
-        × IsBare source.now meant grown
+        × IsBare loaded.source.items loaded.input.items most meant grown
         × Ends (K.faults sink.old) (K.faults sink.new) (K.contents sink.old) (K.contents sink.new) meant grown result }
 {
-    let program = match assemble(alloc, source) {
+    let program = match assemble(alloc, &loaded.source) {
         Ok(program) => program,
         Err(status) => return refuse(status, sink),
     };
     match memory_of(alloc, &program.bytes) {
-        Ok(memory) => execute(alloc, &program, memory, sink),
+        Ok(memory) => execute(&program, memory, loaded.input, most, sink),
         Err(_) => refuse(Status::NoMemory, sink),
     }
 }

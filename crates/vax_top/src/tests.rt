@@ -69,6 +69,15 @@ pub(crate) fn expect_report<R: Abort>(rt: &R, left: &Left, code: u8, report: &[u
 fn runs_the_smallest_source(rt: HostRuntime) -> Result<(), Fail> {
     let left = call(&rt, &["bare", "A"], SOURCE, None, None)?;
     expect_report(&rt, &left, 0, REPORT.as_bytes());
+    let words = ["bare", "--input=A", "--steps", "2", "A"];
+    let left = call(&rt, &words, SOURCE, None, None)?;
+    expect_report(&rt, &left, 0, REPORT.as_bytes());
+    let left = call(&rt, &["bare", "A", "--steps=0"], SOURCE, None, None)?;
+    assert!(rt;
+        left.sink
+            .bytes(Chan::Report)
+            .starts_with(b"ENDING STEPS\nSTEPS 0\n")
+    );
     Ok(())
 }
 
@@ -78,6 +87,8 @@ fn refuses(rt: HostRuntime) -> Result<(), Fail> {
     expect_report(&rt, &left, 1, b"vax: usage\n");
     let left = call(&rt, &["bare", "NONE"], SOURCE, None, None)?;
     expect_report(&rt, &left, 2, b"vax: missing NONE\n");
+    let left = call(&rt, &["bare", "--input", "NO", "A"], SOURCE, None, None)?;
+    expect_report(&rt, &left, 2, b"vax: missing NO\n");
     let left = call(&rt, &["bare", "A"], b"FROB R1\n", None, None)?;
     expect_report(&rt, &left, 4, b"vax: source 1 line 1 fault 2\n");
     Ok(())
@@ -86,6 +97,9 @@ fn refuses(rt: HostRuntime) -> Result<(), Fail> {
 #[test]
 fn tells_failures(rt: HostRuntime) -> Result<(), Fail> {
     let left = call(&rt, &["bare", "A"], SOURCE, Some(Failing::Read(1)), None)?;
+    expect_report(&rt, &left, 10, b"vax: read\n");
+    let words = ["bare", "A", "--input", "A"];
+    let left = call(&rt, &words, SOURCE, Some(Failing::Read(2)), None)?;
     expect_report(&rt, &left, 10, b"vax: read\n");
     let left = call(&rt, &["bare", "A"], SOURCE, None, Some(Failing::Write(3)))?;
     expect_report(&rt, &left, 11, b"ENDING HALT\nST");

@@ -1,6 +1,7 @@
 //! The top call.
 ghost use Rattle.std.specs.Prelude.{◌≡◌, ◌≢◌, ◌⊎◌, ◌≤◌, ℕ, List, [], ◌∷◌, None, Some, Ok, Err, IfSome, IfOk, IfErr, IsErrOf};
 ghost use Rattle.vax_outside.specs.Faults.{Rose};
+ghost use Rattle.vax_outside.specs.declared.traits.FilesFault.TheVariants as files_fault;
 ghost use Rattle.vax_outside.specs.Channels.{Channels, Grew, only};
 ghost use Rattle.vax_words.specs.Words.{command_of as said_of, bare};
 ghost use Rattle.vax_words.specs.Said.{texts};
@@ -9,52 +10,13 @@ ghost use Rattle.vax_top.specs.Status.{refusal, refusal_growth, IsBuilt};
 ghost use Rattle.vax_top.specs.Ends.{Ends};
 ghost use Rattle.vax_top.specs.Top.{Comes, IsAbout, Reads, ReadEnds, reads};
 
-use crate::name::Name;
+use crate::load::load_bare;
 use crate::refuse::refuse;
-use crate::run::run_source;
+use crate::run::run_bare;
 use crate::status::Status;
 use std::alloc::Global;
-use vax_outside::{Chan, Failed, Files, FilesFault, PageFile, Sink, put_all};
+use vax_outside::{Chan, Failed, Files, PageFile, Sink, put_all};
 use vax_words::{Command, WordsError, command_of};
-
-/// The most bytes of a file.
-const FILE_LIMIT: u32 = 4_194_304;
-
-/// The answer for a file that isn't there.
-fn missing(alloc: Global, name: &str) -> Status
-    ensures { (result ≡ Status.Missing name.now) ⊎ (result ≡ Status.NoMemory) }
-{
-    match String::from_str(alloc, name) {
-        Ok(text) => Status::Missing(Name::from(text)),
-        Err(_) => Status::NoMemory,
-    }
-}
-
-/// The answer for a file that is too long.
-fn large(alloc: Global, name: &str) -> Status
-    ensures { (result ≡ Status.Large name.now) ⊎ (result ≡ Status.NoMemory) }
-{
-    match String::from_str(alloc, name) {
-        Ok(text) => Status::Large(Name::from(text)),
-        Err(_) => Status::NoMemory,
-    }
-}
-
-/// Reads a source.
-fn load<S: Files>(alloc: Global, name: &str, files: &mut S) -> Result<Vec<u8>, Status>
-    ensures later { S.faults files.old ≤ S.faults files.new }
-    ensures failed { S.faults files.new ≢ S.faults files.old → IsErrOf result Status.ReadFault }
-    ensures ok { IfOk result (λ v. Reads (S.contents files.old) (name.now ∷ []) (Ok (v.items ∷ []))) }
-    ensures ends { IfErr result (λ status. ReadEnds (Rose (S.faults files.old) (S.faults files.new)) (S.contents files.old) (name.now ∷ []) status) }
-{
-    match files.read(alloc, name, FILE_LIMIT) {
-        Ok(bytes) => Ok(bytes),
-        Err(FilesFault::Missing) => Err(missing(alloc, name)),
-        Err(FilesFault::Large) => Err(large(alloc, name)),
-        Err(FilesFault::Failed) => Err(Status::ReadFault),
-        Err(FilesFault::NoMemory) => Err(Status::NoMemory),
-    }
-}
 
 /// Writes a text to Out.
 fn show<K: Sink>(text: &[u8], sink: &mut K) -> Status
@@ -92,8 +54,8 @@ pub fn vax_main<S: Files, K: Sink, F: PageFile>(
     ensures pages { pages.new ≡ pages.old }
     ensures usage { result ≡ Status.Usage → said_of (texts words.now) ≡ None }
     ensures not_plain { said_of (texts words.now) ≡ None → (result ≡ Status.Usage) ⊎ (result ≡ Status.WriteFault) }
-    ensures missing { (name : List ℕ) → result ≡ Status.Missing name → Reads (S.contents files.old) (reads (texts words.now)) (Err (name, FilesFault.Missing)) }
-    ensures large { (name : List ℕ) → result ≡ Status.Large name → Reads (S.contents files.old) (reads (texts words.now)) (Err (name, FilesFault.Large)) }
+    ensures missing { (name : List ℕ) → result ≡ Status.Missing name → Reads (S.contents files.old) (reads (texts words.now)) (Err (name, files_fault.Missing)) }
+    ensures large { (name : List ℕ) → result ≡ Status.Large name → Reads (S.contents files.old) (reads (texts words.now)) (Err (name, files_fault.Large)) }
     ensures read { result ≡ Status.ReadFault → Rose (S.faults files.old) (S.faults files.new) }
     ensures write { result ≡ Status.WriteFault → Rose (K.faults sink.old) (K.faults sink.new) }
     ensures read_failed { S.faults files.new ≢ S.faults files.old → (result ≡ Status.ReadFault) ⊎ (result ≡ Status.WriteFault) }
@@ -105,8 +67,8 @@ pub fn vax_main<S: Files, K: Sink, F: PageFile>(
         Err(WordsError::Usage) => refuse(Status::Usage, sink),
         Err(WordsError::NoMemory) => refuse(Status::NoMemory, sink),
         Ok(Command::About) => tell(alloc, words, sink),
-        Ok(Command::Bare(name)) => match load(alloc, name, files) {
-            Ok(source) => run_source(alloc, &source, sink),
+        Ok(Command::Bare(bare)) => match load_bare(alloc, bare, files) {
+            Ok(loaded) => run_bare(alloc, loaded, bare.options.steps, sink),
             Err(status) => refuse(status, sink),
         },
     }

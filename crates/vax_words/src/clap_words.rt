@@ -13,19 +13,43 @@ fn help<'a>(alloc: Global) -> Arg<'a> {
         .help("Print help")
 }
 
-/// The whole command line.
-fn command_line<'a>(alloc: Global) -> Result<Command<'a>, AllocError> {
-    let file = Arg::new(alloc, "FILE")
+/// An option with its value.
+fn option<'a>(alloc: Global, name: &'a str, value: &'a str, help: &'a str) -> Arg<'a> {
+    Arg::new(alloc, name)
+        .long(name)
+        .value_name(value)
+        .help(help)
+}
+
+/// `bare`.
+fn bare<'a>(alloc: Global) -> Result<Command<'a>, AllocError> {
+    let name = Arg::new(alloc, "NAME")
         .required(true)
         .action(ArgAction::Set)
         .help("A source: labels, MOVL, ADDL2, HALT and .END");
-    let bare = Command::new(alloc, "bare")
+    Command::new(alloc, "bare")
         .bin_name("vax bare")?
         .about("Run a source in kernel mode and report the registers on standard error")
         .after_help(WHERE_TO_READ)
         .disable_help_flag(true)
         .arg(help(alloc))?
-        .arg(file)?;
+        .arg(option(
+            alloc,
+            "input",
+            "FILE",
+            "The bytes that the console gives the program; none where it isn't given",
+        ))?
+        .arg(option(
+            alloc,
+            "steps",
+            "N",
+            "Stop after so many steps, at most 10^15; 10000000 where it isn't given",
+        ))?
+        .arg(name)
+}
+
+/// The whole command line.
+fn command_line<'a>(alloc: Global) -> Result<Command<'a>, AllocError> {
     let version = Arg::new(alloc, "version")
         .long("version")
         .action(ArgAction::Version)
@@ -42,7 +66,7 @@ fn command_line<'a>(alloc: Global) -> Result<Command<'a>, AllocError> {
         .disable_version_flag(true)
         .arg(help(alloc))?
         .arg(version)?
-        .subcommand(bare)
+        .subcommand(bare(alloc)?)
 }
 
 /// What `clap` makes of the words.

@@ -12,4 +12,4 @@ mod tests;
 mod words;
 
 pub use read::{WordsError, about, command_of};
-pub use words::Command;
+pub use words::{Bare, Command, Options};

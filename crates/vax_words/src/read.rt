@@ -4,7 +4,7 @@ ghost use Rattle.vax_words.specs.Words.{command_of as said_of};
 ghost use Rattle.vax_words.specs.Said.{said, texts};
 
 use crate::clap_words::read;
-use crate::words::{Command, plain_command};
+use crate::words::{Bare, Command, Written, bare_written, plain_command};
 use clap::error::ErrorKind;
 use std::alloc::Global;
 
@@ -16,10 +16,15 @@ pub enum WordsError {
     NoMemory,
 }
 
-/// The name that `clap` finds behind `bare`.
-fn bare_name<'a>(alloc: Global, words: &'a [String]) -> Option<&'a str> {
+/// What `clap` finds behind `bare`.
+fn bare_by_clap<'a>(alloc: Global, words: &'a [String]) -> Option<Bare<'a>> {
     let matches = read(alloc, words).ok()?;
-    matches.subcommand_matches("bare")?.get_str("FILE")
+    let bare = matches.subcommand_matches("bare")?;
+    bare_written(Written {
+        name: bare.get_str("NAME"),
+        input: bare.get_str("input"),
+        steps: bare.get_str("steps"),
+    })
 }
 
 /// The command that the words name.
@@ -32,7 +37,9 @@ pub fn command_of<'a>(alloc: Global, words: &'a [String]) -> Result<Command<'a>,
         return Err(WordsError::Usage);
     };
     match command {
-        Command::Bare(name) if bare_name(alloc, words) != Some(name) => Err(WordsError::NoMemory),
+        Command::Bare(bare) if bare_by_clap(alloc, words) != Some(bare) => Err(
+            WordsError::NoMemory,
+        ),
         _ => Ok(command),
     }
 }

@@ -7,16 +7,16 @@ pub returns-in-Ok-write_report : goal.returns-in-Ok-write_report
 returns-in-Ok-write_report g c =
     let program = c.args.program.now in
     let cpu = c.start-cpu.result in
-    let is = started cpu program.bytes.items program.start c.start-cpu.ensures.core c.start-cpu.ensures.none c.start-cpu.ensures.place in
-    run_whole program.bytes.items program.start cpu c.run.new.cpu is _ (g.K.Sink.contents c.run.new.sink) _ _ _ c.in-Ok.stopped c.last_of-last.result
+    let is = started cpu program.bytes.items program.start c.args.input.items c.start-cpu.ensures.core c.start-cpu.ensures.input c.start-cpu.ensures.place in
+    run_whole program.bytes.items program.start c.args.input.items c.args.most cpu c.run.new.cpu is _ (g.K.Sink.contents c.run.new.sink) _ _ _ c.in-Ok.stopped c.last_of-last.result
     (c.in-Ok.ensures.ok (memory program.bytes.items) c.requires.stands) c.last_of-last.ensures c.in-Ok-write_report.ensures.ok (c.in-Ok-write_report.ensures.quiet ∙ c.in-Ok.ensures.quiet)
 
 pub returns-in-Ok : goal.returns-in-Ok
 returns-in-Ok g c =
     let program = c.args.program.now in
     let cpu = c.start-cpu.result in
-    let is = started cpu program.bytes.items program.start c.start-cpu.ensures.core c.start-cpu.ensures.none c.start-cpu.ensures.place in
-    report_cut_short program.bytes.items program.start cpu c.run.new.cpu is _ (g.K.Sink.contents c.run.new.sink) _ _ _ c.in-Ok.stopped c.last_of-last.result
+    let is = started cpu program.bytes.items program.start c.args.input.items c.start-cpu.ensures.core c.start-cpu.ensures.input c.start-cpu.ensures.place in
+    report_cut_short program.bytes.items program.start c.args.input.items c.args.most cpu c.run.new.cpu is _ (g.K.Sink.contents c.run.new.sink) _ _ _ c.in-Ok.stopped c.last_of-last.result
     (c.in-Ok.ensures.ok (memory program.bytes.items) c.requires.stands) c.last_of-last.ensures c.in-Err-write_report.ensures.prefix
     (rose_later _ _ _ c.in-Ok.ensures.later c.in-Err-write_report.ensures.cause)
 
@@ -24,6 +24,6 @@ pub returns : goal.returns
 returns g c =
     let program = c.args.program.now in
     let cpu = c.start-cpu.result in
-    let is = started cpu program.bytes.items program.start c.start-cpu.ensures.core c.start-cpu.ensures.none c.start-cpu.ensures.place in
-    output_cut_short program.bytes.items program.start cpu c.run.new.cpu is _ _ _ _
+    let is = started cpu program.bytes.items program.start c.args.input.items c.start-cpu.ensures.core c.start-cpu.ensures.input c.start-cpu.ensures.place in
+    output_cut_short program.bytes.items program.start c.args.input.items c.args.most cpu c.run.new.cpu is _ _ _ _
     (c.in-Err.ensures.err (memory program.bytes.items) c.requires.stands) c.in-Err.ensures.cause
