@@ -185,6 +185,37 @@ fn an_instruction_that_is_not_built(rt: HostRuntime) -> Result<(), Fail> {
     Ok(())
 }
 
+#[test]
+fn an_instruction_that_is_open(rt: HostRuntime) -> Result<(), Fail> {
+    let alloc = rt.alloc();
+    // NOP, which isn't read: the open instruction is MOVC3, which isn't built, from other registers
+    let mut port = memory(alloc, &[0x01])?;
+    let start = registers(4, 1);
+    for batches in [false, true] {
+        let mut cpu = Cpu {
+            core: registers(0, 0x0800_0000),
+            term: Term {
+                input: Vec::new(alloc),
+                place: 0,
+                out: None,
+            },
+            latch: Some(Open {
+                opcode: 0x28,
+                start,
+                units: 7,
+            }),
+        };
+        let answer = if batches {
+            cpu.attempts(&mut port, 3).last
+        } else {
+            cpu.attempt(&mut port)
+        };
+        assert_eq!(rt; answer, Attempt::Ended(Ending::Unbuilt));
+        assert_eq!(rt; (cpu.core, cpu.latch), (start, None));
+    }
+    Ok(())
+}
+
 /// The pages of the code, which begins at 80000200 hexadecimal, and of two pages of data behind it.
 const CODE: u32 = 0x40_0001;
 
