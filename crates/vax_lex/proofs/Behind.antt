@@ -1,10 +1,10 @@
 -- What the parts before a place say of it, one by one.
-use Rattle.std.proofs.Common.{◌≡◌, ℕ, zero, suc, ◌+◌, Bool, true, false, not, cond, List, [], ◌∷◌, refl, ap, ◌∙◌, sym}
+use Rattle.std.proofs.Common.{◌≡◌, ℕ, zero, suc, Bool, true, false, not, cond, List, [], ◌∷◌, refl, ap, ◌∙◌}
 use Rattle.std.specs.Prelude.{◌&&◌, ◌==◌, codes}
 use Rattle.vax_lex.specs.Characters.{spells}
-use Rattle.vax_lex.specs.Statements.{Operator, text_directive, immediate_if, other_operator, Place, statement, first_name, behind_label, text_piece, bracketed_piece, condition_name, expression_rest, text_argument, between_arguments, operands, Before, nothing_special, size_letter, operator_caret, text_sign, label_colon, Context, context_after, context_after_blank, place_after, before_after, line_start, is_caret, is_size, is_text_sign, is_colon, is_first_name, is_size_letter}
+use Rattle.vax_lex.specs.Statements.{text_directive, immediate_if, other_operator, Place, statement, first_name, behind_label, text_piece, bracketed_piece, condition_name, expression_rest, text_argument, between_arguments, operands, Before, nothing_special, size_letter, operator_caret, text_sign, label_colon, Context, context_after, context_after_blank, place_after, before_after, line_start, is_caret, is_size, is_text_sign, is_first_name, is_size_letter}
 use Rattle.vax_lex.specs.Tokens.{stray_kind}
-use Rattle.vax_lex.specs.Parts.{Element, gap, token, wide, stray, Part, space, word, sign, quotation, numeric, part_of, behind_operator, behind_size, behind_text_operator}
+use Rattle.vax_lex.specs.Parts.{token, stray, Part, space, word, sign, quotation, numeric, part_of, behind_operator, behind_size, behind_text_operator}
 use Rattle.vax_lex.specs.declared.token.TokenKind.{TokenKind}
 use Rattle.vax_lex.specs.declared.token.TokenKind.TheVariants.{Name, Number, Mark, Text}
 

@@ -1,18 +1,18 @@
 -- What the scanner finds is the longest word at its place, or a quoted text, and nothing else is.
-use Rattle.std.proofs.Common.{◌≡◌, ◌<◌, ◌≤◌, ℕ, zero, suc, ◌+◌, ◌-◌, ◌^◌, Bool, true, false, not, cond, List, [], ◌∷◌, ◌++◌, length, get_or, take, drop, refl, ap, ◌∙◌, arith, sym, subst, inl, inr, ⊎_elim, append_assoc, min}
-use Rattle.std.specs.Prelude.{◌⊎◌, ◌&&◌, ◌||◌, ◌==◌, nat_lt, nat_le, position, Some, None}
+use Rattle.std.proofs.Common.{◌≡◌, ◌<◌, ◌≤◌, ℕ, zero, suc, ◌+◌, ◌^◌, Bool, true, false, not, cond, List, [], ◌∷◌, ◌++◌, length, get_or, take, drop, refl, ap, ◌∙◌, arith, sym, subst, inl, inr, ⊎_elim, append_assoc, min}
+use Rattle.std.specs.Prelude.{◌⊎◌, ◌==◌, nat_lt, Some, None}
 use Rattle.std.specs.List.{prefix_len, list_all}
 use Rattle.std.specs.Char.{is_ascii_graphic}
-use Rattle.std.proofs.lemmas.List.{length-take, length-drop, take-append-drop, append-nil, drop_more}
+use Rattle.std.proofs.lemmas.List.{length-take, take-append-drop, append-nil, drop_more}
 use Rattle.std.proofs.Common.{length-append}
-use Rattle.std.proofs.Math.Seq.{take-append_seam, drop-append_seam}
+use Rattle.std.proofs.Math.Seq.{take-append_seam}
 use Rattle.std.proofs.lemmas.List.Sums.{prefix_len-le-length, prefix_len_stops}
 use Rattle.std.proofs.lemmas.Bool.Decides.{nat_tests}
 use Rattle.vax_lex.specs.Characters.{is_blank, is_digit, is_name_character, radix_of, number_of}
 use Rattle.vax_lex.specs.Tokens.{Head, blank, no_more, begins, too_wide, no_token, plain, numeral, caret, number_head, is_label_number, is_operator_letter, digit_run, HeadFits, quoted, text_head}
 use Rattle.vax_lex.specs.Tokens as tokens
 use Rattle.vax_lex.specs.Parts.{Element, gap, token, wide, stray, characters}
-use Rattle.vax_lex.specs.Vocabulary.{IsName, AreDigits, IsLocalLabel, IsNumber, decimal, based, BeginsOperator, IsMark, IsWord, Longest, longest_word, no_word, Quoted, quotation, unclosed}
+use Rattle.vax_lex.specs.Vocabulary.{IsName, AreDigits, IsNumber, decimal, based, BeginsOperator, IsWord, Longest, longest_word, no_word, Quoted, quotation, unclosed}
 use Rattle.vax_lex.specs.declared.token.TokenKind.{TokenKind}
 use Rattle.vax_lex.specs.declared.token.TokenKind.TheVariants.{Name, Number, Mark, Text}
 use Rattle.vax_lex.proofs.Heads.{plain_fits}

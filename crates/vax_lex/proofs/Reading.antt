@@ -1,15 +1,13 @@
 -- The pieces of a line are the ones that the language has there, and it has no others.
-use Rattle.std.proofs.Common.{◌≡◌, ◌<◌, ◌≤◌, ℕ, zero, suc, ◌+◌, ◌-◌, Bool, true, false, cond, List, [], ◌∷◌, ◌++◌, length, take, drop, map, refl, ap, ◌∙◌, arith, sym, subst, inl, inr, ⊎_elim, append_assoc}
+use Rattle.std.proofs.Common.{◌≡◌, ◌≤◌, ℕ, zero, suc, ◌+◌, Bool, true, false, cond, List, [], ◌∷◌, ◌++◌, length, take, drop, refl, ap, ◌∙◌, arith, sym, subst, inl, inr, ⊎_elim, append_assoc}
 use Rattle.std.specs.Prelude.{Result, Vec}
 use Rattle.std.specs.Prelude.{◌⊎◌, ◌&&◌, ◌||◌, ◌==◌}
-use Rattle.std.specs.List.{flat_map}
-use Rattle.std.proofs.Common.{length-append}
 use Rattle.std.proofs.lemmas.List.{length-take, length-drop, take-append-drop}
 use Rattle.std.proofs.Math.Seq.{take-append_seam, drop-append_seam}
 use Rattle.std.proofs.lemmas.Bool.Decides.{nat_tests}
-use Rattle.vax_lex.specs.Characters.{is_blank, is_delimiter}
-use Rattle.vax_lex.specs.Statements.{Context, context_after, context_after_blank, line_start, text_due, is_caret, is_size, is_text_sign, piece_due}
-use Rattle.vax_lex.specs.Tokens.{Head, blank, no_more, begins, too_wide, no_token, quoted, plain, head_of, piece, pieces_from, pieces_of, stray_kind, HeadFits, Answers, tokens_in, tokens_of}
+use Rattle.vax_lex.specs.Characters.{is_delimiter}
+use Rattle.vax_lex.specs.Statements.{Context, context_after, line_start, text_due, is_caret, is_size, is_text_sign, piece_due}
+use Rattle.vax_lex.specs.Tokens.{Head, blank, no_more, begins, too_wide, no_token, quoted, plain, head_of, piece, pieces_from, pieces_of, HeadFits, Answers, tokens_in, tokens_of}
 use Rattle.vax_lex.specs.Parts.{Element, gap, token, wide, stray, characters, Part, part_of, behind_operator, behind_size, behind_text_operator}
 use Rattle.vax_lex.specs.Directives.{PieceDue}
 use Rattle.vax_lex.specs.Written.{Scans, TextDue, Stands, operator_letter, quoted_text, operand_caret, longest, written, Ends, AreWritten, pieces_at, IsWritten}
@@ -18,14 +16,14 @@ use Rattle.vax_lex.specs.declared.token.Token.{Token}
 use Rattle.vax_lex.specs.declared.token.LexError.{LexError}
 use Rattle.vax_lex.specs.declared.token.PieceKind.TheVariants as kinds
 use Rattle.vax_lex.specs.declared.token.TokenKind.{TokenKind}
-use Rattle.vax_lex.specs.declared.token.TokenKind.TheVariants.{Name, Number, Mark, Text}
-use Rattle.vax_lex.proofs.Behind.{after, behind, token_after, wide_after, stray_after, operator_is, size_is, text_is}
+use Rattle.vax_lex.specs.declared.token.TokenKind.TheVariants.{Name, Number, Mark}
+use Rattle.vax_lex.proofs.Behind.{behind, token_after, wide_after, stray_after, operator_is, size_is, text_is}
 use Rattle.vax_lex.proofs.Placed.{due_placed}
 use Rattle.vax_lex.proofs.Known.{due_told}
 use Rattle.vax_lex.proofs.Heads.{head_fits}
 use Rattle.vax_lex.proofs.Vocabulary.{head}
 use Rattle.vax_lex.proofs.Longest.{longest_is, is_longest, quoted_is, is_quoted}
-use Rattle.vax_lex.proofs.Lines.{step, steps, goes_on}
+use Rattle.vax_lex.proofs.Lines.{step, steps}
 
 -- a text is due by the scanner's test where it is due in the language
 and_both : (s t : Bool) → s ≡ true → t ≡ true → (s && t) ≡ true

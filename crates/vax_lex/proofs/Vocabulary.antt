@@ -1,21 +1,17 @@
 -- The scanner finds the longest word at a place.
-use Rattle.std.proofs.Common.{◌≡◌, ◌<◌, ◌≤◌, ℕ, zero, suc, ◌+◌, ◌-◌, ◌^◌, Bool, true, false, not, cond, List, [], ◌∷◌, ◌++◌, length, get_or, take, drop, refl, ap, ◌∙◌, arith, sym, subst, inl, inr, ⊎_elim, append_assoc, min}
-use Rattle.std.specs.Prelude.{◌⊎◌, ◌&&◌, ◌||◌, ◌==◌, nat_lt, nat_le}
+use Rattle.std.proofs.Common.{◌≡◌, ◌<◌, ◌≤◌, ℕ, zero, suc, ◌+◌, ◌^◌, Bool, true, false, cond, List, [], ◌∷◌, ◌++◌, length, take, drop, refl, ap, ◌∙◌, arith, sym, ⊎_elim, append_assoc, min}
+use Rattle.std.specs.Prelude.{◌&&◌, ◌||◌, ◌==◌, nat_lt}
 use Rattle.std.specs.List.{prefix_len, list_all}
 use Rattle.std.specs.Char.{is_ascii_graphic, digit_value, to_ascii_uppercase}
-use Rattle.std.proofs.lemmas.List.{length-take, length-drop, take-append-drop}
 use Rattle.std.proofs.Common.{length-append}
 use Rattle.std.proofs.Math.Seq.{take-append_seam, drop-append_seam}
-use Rattle.std.proofs.lemmas.List.Sums.{prefix_len-le-length}
 use Rattle.std.proofs.lemmas.Bool.Decides.{nat_tests}
 use Rattle.vax_lex.specs.Characters.{is_blank, is_digit, is_name_character, radix_of, number_of}
 use Rattle.vax_lex.specs.Tokens.{Head, blank, no_more, begins, too_wide, no_token, plain, numeral, caret, number_head, is_label_number, is_operator_letter, digit_run, HeadFits}
 use Rattle.vax_lex.specs.Tokens as tokens
 use Rattle.vax_lex.specs.Parts.{Element, gap, token, wide, stray, characters}
-use Rattle.vax_lex.specs.Vocabulary.{IsName, AreDigits, IsLocalLabel, IsNumber, decimal, based, BeginsOperator, IsMark, IsWord, Longest, longest_word, no_word}
-use Rattle.vax_lex.specs.declared.token.TokenKind.{TokenKind}
+use Rattle.vax_lex.specs.Vocabulary.{IsName, AreDigits, IsLocalLabel, IsNumber, decimal, based, BeginsOperator, IsMark, IsWord}
 use Rattle.vax_lex.specs.declared.token.TokenKind.TheVariants.{Name, Number, Mark, Text}
-use Rattle.vax_lex.proofs.Heads.{plain_fits}
 
 -- what the scanner finds where this element stands
 abbrev pub head : Element → Head

@@ -1,6 +1,6 @@
 -- What a line is written in: blanks, tokens, and what is no token (VAX MACRO and Instruction Set Reference Manual,
 -- "Character set" and "Components of MACRO source statements").
-use Rattle.std.specs.Prelude.{ℕ, Bool, true, false, not, ◌&&◌, ◌==◌, List, [], ◌∷◌, if◌then◌else◌, codes}
+use Rattle.std.specs.Prelude.{ℕ, Bool, false, not, ◌&&◌, ◌==◌, List, [], ◌∷◌, if◌then◌else◌, codes}
 use Rattle.vax_lex.specs.Characters.{spells}
 use Rattle.vax_lex.specs.Statements.{is_size_letter}
 use Rattle.vax_lex.specs.declared.token.TokenKind.{TokenKind}

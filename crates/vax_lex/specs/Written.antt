@@ -1,5 +1,5 @@
 -- How a line is read: as elements of which each is what the language has at its place.
-use Rattle.std.specs.Prelude.{◌≡◌, ◌⊎◌, ℕ, ◌+◌, Bool, true, false, ◌&&◌, ◌==◌, List, [], ◌∷◌, ◌++◌, length, Result, Vec}
+use Rattle.std.specs.Prelude.{◌≡◌, ◌⊎◌, ℕ, ◌+◌, true, false, ◌&&◌, ◌==◌, List, [], ◌∷◌, ◌++◌, length, Result, Vec}
 use Rattle.std.specs.List.{flat_map}
 use Rattle.vax_lex.specs.Characters.{is_delimiter}
 use Rattle.vax_lex.specs.Tokens.{piece, Answers, tokens_in}
