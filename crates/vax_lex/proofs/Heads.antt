@@ -66,7 +66,7 @@ cut_fits b bytes e =
     let most : prefix_len is_name_character (b ∷ bytes) ≤ length (b ∷ bytes) = prefix_len-le-length is_name_character (b ∷ bytes) in
     (omega arith, omega arith, name_short (b ∷ bytes) (min 31 (prefix_len is_name_character (b ∷ bytes))) (omega arith))
 
-plain_fits : (bytes : List ℕ) → HeadFits bytes (plain bytes)
+pub plain_fits : (bytes : List ℕ) → HeadFits bytes (plain bytes)
 unfolding plain
 plain_fits [] = inl refl
 plain_fits (b ∷ bytes) =

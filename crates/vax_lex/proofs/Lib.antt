@@ -12,3 +12,10 @@ pub mod Unique
 pub mod Reader
 pub mod Scans
 pub mod Naming
+pub mod Behind
+pub mod Placed
+pub mod Known
+pub mod Reading
+pub mod Vocabulary
+pub mod Longest
+pub mod Anywhere

@@ -8,7 +8,7 @@ use Rattle.std.proofs.Common.{length-append}
 use Rattle.std.proofs.Math.ListN.{get_or-append}
 use Rattle.std.proofs.lemmas.Bool.{cases_lt}
 use Rattle.vax_lex.specs.Characters.{is_blank}
-use Rattle.vax_lex.specs.Tokens.{Head, blank, no_more, begins, too_wide, no_token, HeadFits, PieceFits, IsPieceOf, PiecePrecedes, piece, pieces_from, pieces_of, head_of, piece_span, Holds, CoversTo, Covers}
+use Rattle.vax_lex.specs.Tokens.{Head, blank, no_more, begins, too_wide, no_token, HeadFits, PieceFits, IsPieceOf, PiecePrecedes, piece, stray_kind, pieces_from, pieces_of, head_of, piece_span, Holds, CoversTo, Covers}
 use Rattle.vax_lex.proofs.Heads.{head_fits}
 use Rattle.vax_lex.specs.Statements.{Context, context_after, context_after_blank, line_start}
 use Rattle.vax_lex.specs.declared.token.Piece.{Piece}
@@ -16,7 +16,7 @@ use Rattle.vax_lex.specs.declared.token.Span.{Span}
 use Rattle.vax_lex.specs.declared.token.PieceKind.{PieceKind}
 use Rattle.vax_lex.specs.declared.token.PieceKind.TheVariants as kinds
 use Rattle.vax_lex.specs.declared.token.TokenKind.{TokenKind}
-use Rattle.vax_lex.specs.declared.token.TokenKind.TheVariants.{Number, Mark}
+use Rattle.vax_lex.specs.declared.token.TokenKind.TheVariants.{Number}
 
 -- what pieces_from does with a piece at the head of the bytes
 abbrev pub goes_on : Context → ℕ → List ℕ → PieceKind → TokenKind → ℕ → List Piece
@@ -28,7 +28,7 @@ step c at bytes blank = pieces_from (context_after_blank c) (at + 1) zero (drop 
 step c at bytes no_more = []
 step c at bytes (begins kind n) = goes_on c at bytes (kinds.Token kind) kind n
 step c at bytes (too_wide n) = goes_on c at bytes kinds.Wide (Number 0) n
-step c at bytes no_token = goes_on c at bytes kinds.Bad (Mark (get_or bytes 0 0)) 1
+step c at bytes no_token = goes_on c at bytes kinds.Bad (stray_kind (get_or bytes 0 0)) 1
 
 -- the bytes of a piece are passed over
 pub passes : (c : Context) (at n : ℕ) (bytes : List ℕ) → pieces_from c at n bytes ≡ pieces_from c (at + n) zero (drop n bytes)

@@ -21,7 +21,7 @@ behind_word c at b (suc n) bytes some =
     ap (λ k. names_from c (at + 1) k bytes) same ∙ names_pass c (at + 1) n bytes ∙ ap (λ k. names_from c k zero (drop n bytes)) there
 
 -- one word
-word_step : (c : Context) (at : ℕ) (bytes : List ℕ) (w : Word) → 0 < length bytes → w ≡ word c bytes → 0 < w.length
+pub word_step : (c : Context) (at : ℕ) (bytes : List ℕ) (w : Word) → 0 < length bytes → w ≡ word c bytes → 0 < w.length
     → names_from c at zero bytes ≡ with_name w at (names_from w.context (at + w.length) zero (drop w.length bytes))
 unfolding names_from
 word_step c at [] w h e some = absurd (omega (arith, h))

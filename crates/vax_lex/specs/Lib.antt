@@ -9,3 +9,8 @@ pub mod Expressions
 pub mod Words
 pub mod WordViews
 pub mod KeptNames
+pub mod Parts
+pub mod Directives
+pub mod Written
+pub mod Vocabulary
+pub mod Named

@@ -96,9 +96,12 @@ head_of c (b ∷ bytes) =
 abbrev pub piece : PieceKind → ℕ → ℕ → Piece
 piece kind at n = record { kind = kind; start = at; end = at + n }
 
+-- A byte where no token begins counts as a mark; but such a `^` is no operator.
+abbrev pub stray_kind : ℕ → TokenKind
+stray_kind b = if b == 94 then Number 0 else Mark b
+
 -- The pieces of a line from byte `at` on, where the first bytes to come may still be those of the piece before. A number
--- above 64 bits is one piece, and a byte where no token begins is one by itself, behind which the line goes on as behind
--- a mark.
+-- above 64 bits is one piece, and a byte where no token begins is one by itself.
 unfoldable pub pieces_from : Context → ℕ → ℕ → List ℕ → List Piece
 pieces_from c at inside [] = []
 pieces_from c at (suc inside) (b ∷ bytes) = pieces_from c (at + 1) inside bytes
@@ -107,7 +110,7 @@ pieces_from c at zero (b ∷ bytes) = elim (head_of c (b ∷ bytes)) [
   | no_more ↦ []
   | begins kind n ↦ piece (kinds.Token kind) at n ∷ pieces_from (context_after c kind (take n (b ∷ bytes))) (at + 1) (n - 1) bytes
   | too_wide n ↦ piece kinds.Wide at n ∷ pieces_from (context_after c (Number 0) (take n (b ∷ bytes))) (at + 1) (n - 1) bytes
-  | no_token ↦ piece kinds.Bad at 1 ∷ pieces_from (context_after c (Mark b) (b ∷ [])) (at + 1) zero bytes
+  | no_token ↦ piece kinds.Bad at 1 ∷ pieces_from (context_after c (stray_kind b) (b ∷ [])) (at + 1) zero bytes
 ]
 
 -- The pieces of a line.

@@ -2,7 +2,7 @@
 -- Reference Manual, "Macro arguments").
 use Rattle.std.specs.Prelude.{ℕ, zero, suc, ◌+◌, ◌-◌, Bool, false, ◌&&◌, ◌==◌, List, [], ◌∷◌, take, slice_index, if◌then◌else◌}
 use Rattle.vax_lex.specs.Statements.{Context, operands, nothing_special, is_caret, is_size, is_name, context_after, context_after_blank}
-use Rattle.vax_lex.specs.Tokens.{Head, blank, no_more, begins, too_wide, no_token, plain}
+use Rattle.vax_lex.specs.Tokens.{Head, blank, no_more, begins, too_wide, no_token, plain, stray_kind}
 use Rattle.vax_lex.specs.declared.token.Span.{Span}
 use Rattle.vax_lex.specs.declared.token.TokenKind.TheVariants.{Name, Number, Mark}
 
@@ -23,10 +23,10 @@ pub record Word : Type 0 where
 -- the word that these bytes begin with, where this is at their head
 abbrev pub word_at : Context → List ℕ → Head → Word
 word_at c bytes blank = record { length = 1; is_name = false; context = context_after_blank c }
-word_at c bytes no_more = record { length = 1; is_name = false; context = context_after c (Mark (slice_index bytes 0)) (take 1 bytes) }
+word_at c bytes no_more = record { length = 1; is_name = false; context = context_after c (stray_kind (slice_index bytes 0)) (take 1 bytes) }
 word_at c bytes (begins kind n) = record { length = n; is_name = is_name kind; context = context_after c kind (take n bytes) }
 word_at c bytes (too_wide n) = record { length = n; is_name = false; context = context_after c (Number 0) (take n bytes) }
-word_at c bytes no_token = record { length = 1; is_name = false; context = context_after c (Mark (slice_index bytes 0)) (take 1 bytes) }
+word_at c bytes no_token = record { length = 1; is_name = false; context = context_after c (stray_kind (slice_index bytes 0)) (take 1 bytes) }
 
 abbrev pub word : Context → List ℕ → Word
 word c bytes = word_at c bytes (word_of c bytes)

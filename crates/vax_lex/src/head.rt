@@ -3,13 +3,24 @@
 ghost use Rattle.std.specs.Prelude.{◌≡◌, ◌<◌, ◌+◌, ◌≤◌, ◌^◌, ◌≢◌, length, IfSome, SomeIff, position, ◌==◌, [], ◌∷◌};
 ghost use Rattle.std.specs.List.{prefix_len};
 ghost use Rattle.vax_lex.specs.Characters.{is_digit, is_name_character, number_of, number_after};
-ghost use Rattle.vax_lex.specs.Tokens.{digit_run, numeral, based, caret, quoted, plain, head_of};
+ghost use Rattle.vax_lex.specs.Tokens.{stray_kind, digit_run, numeral, based, caret, quoted, plain, head_of};
 ghost use Rattle.vax_lex.specs.Words.{word_of};
 ghost use Rattle.vax_lex.specs.Views.{context_view, head_view};
 
 use crate::character::{digit_value, is_blank, is_name_character, radix_of};
 use crate::context::{Before, Context};
 use crate::token::TokenKind;
+
+/// What a byte where no token begins counts as for those behind it: a mark, but no operator.
+pub(crate) fn stray_kind(byte: u8) -> TokenKind
+    ensures { result ≡ stray_kind byte }
+{
+    if byte == b'^' {
+        TokenKind::Number(0)
+    } else {
+        TokenKind::Mark(byte)
+    }
+}
 
 /// What stands at the head of what is left of a line.
 #[derive(Clone, Copy, Debug, PartialEq, Eq)]

@@ -1,10 +1,12 @@
 // The pieces and the tokens of a line.
 
-ghost use Rattle.std.specs.Prelude.{◌≡◌, ◌≤◌, ◌+◌, ◌++◌, ◌∷◌, [], length, map, All, AllPairs, IfOk, OnOk};
+ghost use Rattle.std.specs.Prelude.{List, ◌≡◌, ◌≤◌, ◌+◌, ◌++◌, ◌∷◌, [], length, map, All, AllPairs, IfOk, OnOk};
 ghost use Rattle.vax_lex.specs.Tokens.{piece, pieces_of, tokens_in, tokens_of, Answers, IsPieceOf, IsTokenOf, PiecePrecedes, Precedes, Covers, piece_span, span_of};
+ghost use Rattle.vax_lex.specs.Written.{IsWritten, Scans};
+ghost use Rattle.vax_lex.specs.declared.token.Piece.{Piece};
 
 use crate::context::Context;
-use crate::head::{Head, head_of};
+use crate::head::{Head, head_of, stray_kind};
 use crate::token::{LexError, Piece, PieceKind, Token, TokenKind};
 use std::alloc::{AllocError, Global};
 
@@ -30,6 +32,10 @@ pub fn pieces(alloc: Global, line: &[u8]) -> Result<Vec<Piece>, AllocError>
     requires { length line.now ≤ 1024 }
     // The pieces are those of the definition.
     ensures exact { IfOk result (λ v. v.items ≡ pieces_of line.now) }
+    // The line is written as these pieces in the language.
+    ensures written { IfOk result (λ v. IsWritten line.now v.items) }
+    // It is written as no others.
+    ensures only { IfOk result (λ v. (ps : List Piece) → IsWritten line.now ps → ps ≡ v.items) }
     // Each piece lies within the line.
     ensures within { IfOk result (λ v. All (IsPieceOf line.now) v.items) }
     // No piece begins before one before it ends.
@@ -60,7 +66,7 @@ pub fn pieces(alloc: Global, line: &[u8]) -> Result<Vec<Piece>, AllocError>
             }
             Head::Nothing => {
                 add(&mut pieces, PieceKind::Bad, at, 1)?;
-                context = context.after(TokenKind::Mark(rest[0]), &rest[..1]);
+                context = context.after(stray_kind(rest[0]), &rest[..1]);
                 at += 1;
             }
         }
@@ -94,10 +100,15 @@ fn tokens_in(alloc: Global, pieces: &[Piece]) -> Result<Vec<Token>, LexError>
 /// the first error from the left: [`LexError::Token`] at a place where no token begins, or [`LexError::Wide`] at a
 /// number above 64 bits. [`LexError::NoMemory`] comes where memory is refused.
 /// (VAX MACRO and Instruction Set Reference Manual, "Components of MACRO source statements".)
+#[tactic(auto, using(crate::proofs::Reading::scans_by, crate::proofs::Reading::scans_only))]
 pub fn scan(alloc: Global, line: &[u8]) -> Result<Vec<Token>, LexError>
     requires { length line.now ≤ 1024 }
     // The tokens or the error are those of the definition.
     ensures exact { Answers result (tokens_of line.now) }
+    // They are those of the pieces that the line is written as in the language.
+    ensures written { Scans line.now result }
+    // No other pieces give anything else.
+    ensures only { (ps : List Piece) → IsWritten line.now ps → Answers result (tokens_in ps) }
     // Each token lies within the line.
     ensures within { IfOk result (λ v. All (IsTokenOf line.now) v.items) }
     // No token begins before one before it ends.

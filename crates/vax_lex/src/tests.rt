@@ -503,13 +503,14 @@ fn expressions_are_refused(rt: HostRuntime) -> Result<(), Fail> {
 
 #[test]
 fn a_faulty_line_has_its_pieces(rt: HostRuntime) -> Result<(), Fail> {
-    let found = pieces(rt.alloc(), b"5 99999999999999999999,^Q ; ^R")?;
+    let found = pieces(rt.alloc(), b"5 99999999999999999999,^QR ^; ^R")?;
     let kinds = [
         PieceKind::Token(TokenKind::Number(5)),
         PieceKind::Wide,
         PieceKind::Token(TokenKind::Mark(b',')),
         PieceKind::Bad,
         PieceKind::Token(TokenKind::Name),
+        PieceKind::Bad,
     ];
     assert_eq!(rt; found.len(), kinds.len());
     for (piece, kind) in found.iter().zip(kinds) {
@@ -520,8 +521,16 @@ fn a_faulty_line_has_its_pieces(rt: HostRuntime) -> Result<(), Fail> {
 
 #[test]
 fn names_are_found_everywhere(rt: HostRuntime) -> Result<(), Fail> {
-    let found = names(rt.alloc(), b"A5 ^XA B^XA 5C /D/ ;E")?;
-    let spans = [(0, 2), (7, 8), (9, 11), (13, 14), (16, 17), (20, 21)];
+    let found = names(rt.alloc(), b"A5 ^XA B^XA 5C /D/ ;E 2^NUM")?;
+    let spans = [
+        (0, 2),
+        (7, 8),
+        (9, 11),
+        (13, 14),
+        (16, 17),
+        (20, 21),
+        (24, 27),
+    ];
     assert_eq!(rt; found.len(), spans.len());
     for (span, (start, end)) in found.iter().zip(spans) {
         assert!(rt; *span == Span { start, end }, "{span:?}");

@@ -3,12 +3,13 @@
 ghost use Rattle.std.specs.Prelude.{◌≡◌, ◌<◌, ◌+◌, ◌≤◌, ◌++◌, List, length, IfOk, OnOk};
 ghost use Rattle.vax_lex.specs.Statements.{open_brackets};
 ghost use Rattle.vax_lex.specs.Words.{word, with_name, names_of};
+ghost use Rattle.vax_lex.specs.Named.{HasNames};
 ghost use Rattle.vax_lex.specs.Views.{context_view, place_view};
 ghost use Rattle.vax_lex.specs.WordViews.{word_view};
 ghost use Rattle.vax_lex.specs.declared.token.Span.{Span};
 
 use crate::context::Context;
-use crate::head::{Head, word_of};
+use crate::head::{Head, stray_kind, word_of};
 use crate::token::{Span, TokenKind};
 use std::alloc::{AllocError, Global};
 
@@ -50,7 +51,7 @@ fn next_word(context: Context, bytes: &[u8]) -> Word
         Head::End | Head::Nothing => Word {
             length: 1,
             is_name: false,
-            context: context.after(TokenKind::Mark(bytes[0]), &bytes[..1]),
+            context: context.after(stray_kind(bytes[0]), &bytes[..1]),
         },
     }
 }
@@ -72,7 +73,12 @@ fn add(names: &mut Vec<Span>, word: Word, at: usize) -> Result<(), AllocError>
 /// The names of a text of at most 1,024 bytes: where they stand, in order. A quoted text and a comment are searched too.
 pub fn names(alloc: Global, text: &[u8]) -> Result<Vec<Span>, AllocError>
     requires { length text.now ≤ 1024 }
-    ensures { IfOk result (λ v. v.items ≡ names_of text.now) }
+    // They are those of the definition.
+    ensures exact { IfOk result (λ v. v.items ≡ names_of text.now) }
+    // The text has these names in the language.
+    ensures found { IfOk result (λ v. HasNames text.now v.items) }
+    // It has no others.
+    ensures only { IfOk result (λ v. (spans : List Span) → HasNames text.now spans → spans ≡ v.items) }
 {
     let mut names = Vec::new(alloc);
     let mut context = Context::text_start();

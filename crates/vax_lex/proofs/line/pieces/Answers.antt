@@ -1,12 +1,14 @@
 use Rattle.std.proofs.Common.{arith, ℕ, ◌-◌, length, take, drop, get_or, sym, ap, ◌∙◌, List}
 use Rattle.std.proofs.lemmas.List.{append-nil, length-take, length-drop, take_rest}
-use Rattle.vax_lex.specs.Tokens.{HeadFits, blank, no_more, begins, too_wide, no_token}
+use Rattle.vax_lex.specs.Tokens.{HeadFits, blank, no_more, begins, too_wide, no_token, stray_kind}
 use Rattle.vax_lex.specs.Statements.{Context, open_brackets, context_after}
 use Rattle.vax_lex.specs.Views.{context_view, head_view}
 use Rattle.vax_lex.specs.declared.token.PieceKind.TheVariants as kinds
-use Rattle.vax_lex.specs.declared.token.TokenKind.TheVariants.{Number, Mark}
+use Rattle.vax_lex.specs.declared.token.TokenKind.{TokenKind}
+use Rattle.vax_lex.specs.declared.token.TokenKind.TheVariants.{Number}
 use Rattle.vax_lex.proofs.Lines.{steps_at, blank_at, blank_here, fits_at, piece_at, piece_is, start_at, one_more, blank_more, covers_all}
 use Rattle.vax_lex.proofs.Depth.{depth_after, depth_after_blank}
+use Rattle.vax_lex.proofs.Reading.{written_by, written_only}
 use Rattle.vax_lex.proofs.line.pieces.Goals as goal
 
 pub loop-pieces-init : goal.loop-pieces-init
@@ -24,6 +26,12 @@ loop-pieces-init c = record {
 
 pub returns-in-End-clause-exact : goal.returns-in-End-clause-exact
 returns-in-End-clause-exact c = sym (append-nil c.loop-pieces.pieces.items) ∙ steps_at c.loop-pieces.pieces.items (context_view c.loop-pieces.context) c.args.line.now c.loop-pieces.at (head_view c.head_of.result) no_more _ c.head_of.ensures (ap head_view c.in-End.is) c.loop-pieces.invariant.same
+
+pub returns-in-End-clause-written : goal.returns-in-End-clause-written
+returns-in-End-clause-written c = written_by c.args.line.now c.loop-pieces.pieces.items (returns-in-End-clause-exact c)
+
+pub returns-in-End-clause-only : goal.returns-in-End-clause-only
+returns-in-End-clause-only c = written_only c.args.line.now c.loop-pieces.pieces.items (returns-in-End-clause-exact c)
 
 pub returns-in-End-clause-covers : goal.returns-in-End-clause-covers
 returns-in-End-clause-covers c = covers_all c.args.line.now c.loop-pieces.at c.loop-pieces.pieces.items c.loop-pieces.invariant.in_range (fits_at (context_view c.loop-pieces.context) c.args.line.now c.loop-pieces.at (head_view c.head_of.result) no_more c.head_of.ensures (ap head_view c.in-End.is)) c.loop-pieces.invariant.so_far
@@ -97,7 +105,7 @@ pub loop-pieces-preserved : goal.loop-pieces-preserved
 loop-pieces-preserved c = let f : HeadFits (drop c.loop-pieces.at c.args.line.now) no_token = fits_at (context_view c.loop-pieces.context) c.args.line.now c.loop-pieces.at (head_view c.head_of.result) no_token c.head_of.ensures (ap head_view c.in-Nothing.is) in let is = piece_is c.args.line.now c.loop-pieces.at kinds.Bad 1 (omega arith) (omega (arith, f)) tt in
     let step = steps_at c.loop-pieces.pieces.items (context_view c.loop-pieces.context) c.args.line.now c.loop-pieces.at (head_view c.head_of.result) no_token _ c.head_of.ensures (ap head_view c.in-Nothing.is) c.loop-pieces.invariant.same in record {
       in_range = is.0;
-      brackets = omega (arith, depth_after (context_view c.loop-pieces.context) (context_view c.after-context-in-Nothing.result) (Mark (get_or (take (length c.args.line.now - c.loop-pieces.at) (drop c.loop-pieces.at c.args.line.now)) 0 0)) (take 1 (take (length c.args.line.now - c.loop-pieces.at) (drop c.loop-pieces.at c.args.line.now))) c.after-context-in-Nothing.ensures, c.loop-pieces.invariant.brackets, f);
+      brackets = omega (arith, depth_after (context_view c.loop-pieces.context) (context_view c.after-context-in-Nothing.result) c.stray_kind.result (take 1 (take (length c.args.line.now - c.loop-pieces.at) (drop c.loop-pieces.at c.args.line.now))) c.after-context-in-Nothing.ensures, c.loop-pieces.invariant.brackets, f);
       so_far = one_more c.args.line.now c.loop-pieces.at c.loop-pieces.pieces.items c.add-in-Nothing.new.pieces.items kinds.Bad 1 c.in_ok-add-in-Nothing.ensures is.1 c.loop-pieces.invariant.so_far;
-      same = piece_at c.loop-pieces.pieces.items c.add-in-Nothing.new.pieces.items (context_view c.loop-pieces.context) (context_view c.after-context-in-Nothing.result) c.args.line.now c.loop-pieces.at kinds.Bad (Mark (get_or (drop c.loop-pieces.at c.args.line.now) 0 0)) 1 _ step (c.after-context-in-Nothing.ensures ∙ ap (λ (bs : List ℕ). context_after (context_view c.loop-pieces.context) (Mark (get_or bs 0 0)) (take 1 (take (length c.args.line.now - c.loop-pieces.at) (drop c.loop-pieces.at c.args.line.now)))) (take_rest c.args.line.now c.loop-pieces.at)) c.in_ok-add-in-Nothing.ensures;
+      same = piece_at c.loop-pieces.pieces.items c.add-in-Nothing.new.pieces.items (context_view c.loop-pieces.context) (context_view c.after-context-in-Nothing.result) c.args.line.now c.loop-pieces.at kinds.Bad (stray_kind (get_or (drop c.loop-pieces.at c.args.line.now) 0 0)) 1 _ step (c.after-context-in-Nothing.ensures ∙ ap (λ (k : TokenKind). context_after (context_view c.loop-pieces.context) k (take 1 (take (length c.args.line.now - c.loop-pieces.at) (drop c.loop-pieces.at c.args.line.now)))) c.stray_kind.ensures ∙ ap (λ (bs : List ℕ). context_after (context_view c.loop-pieces.context) (stray_kind (get_or bs 0 0)) (take 1 (take (length c.args.line.now - c.loop-pieces.at) (drop c.loop-pieces.at c.args.line.now)))) (take_rest c.args.line.now c.loop-pieces.at)) c.in_ok-add-in-Nothing.ensures;
     }
