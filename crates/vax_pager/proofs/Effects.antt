@@ -1,5 +1,5 @@
 -- What the calls do, and that they lose nothing.
-use Rattle.std.proofs.Common.{ℕ, zero, suc, ◌≡◌, ◌≢◌, ◌+◌, ◌*◌, ◌/◌, ◌%◌, ◌≤◌, ◌<◌, Bool, true, false, not, ◌==◌, eqb, nat_lt, List, [], ◌∷◌, ◌++◌, length, if◌then◌else◌, refl, ap, sym, ◌∙◌, subst, arith, inl, inr, Option, Some, None, slice_index, slice_index_or}
+use Rattle.std.proofs.Common.{ℕ, zero, suc, ◌≡◌, ◌≢◌, ◌+◌, ◌*◌, ◌/◌, ◌%◌, ◌≤◌, ◌<◌, Bool, true, false, not, ◌==◌, eqb, nat_lt, List, [], ◌∷◌, ◌++◌, length, if◌then◌else◌, refl, ap, sym, ◌∙◌, subst, arith, inl, inr, Option, Some, None, slice_index, slice_index_or, get_or}
 use Rattle.std.specs.Prelude.{◌&&◌, ◌||◌, IfSome, is_some, Result, Ok, Err, OnErr}
 use Rattle.std.specs.Option.{option_map}
 use Rattle.std.specs.FinMap.{get}
@@ -17,10 +17,11 @@ use Rattle.vax_pager.specs.Calls.{PeekedFrom, seen, after_flush, put_block, wrot
 use Rattle.vax_pager.proofs.Listing.{in_push, in_without}
 use Rattle.vax_pager.proofs.Standing.{stands_flushed, stands_released, stands_taken, stands_brought, stands_forgotten, stands_removed, home_flushed, home_forgotten, home_removed}
 
-get_any : {A : Type 0} (xs : List A) (i : ℕ) (d e : A) → i < length xs → slice_index_or xs i d ≡ slice_index_or xs i e
-get_any [] i d e h = absurd (omega arith)
-get_any (x ∷ xs) zero d e h = refl
-get_any (x ∷ xs) (suc i) d e h = get_any xs i d e (omega arith)
+-- the bytes of a frame that was looked up
+pub frame_read : (frames : List (List ℕ)) (f : ℕ) (x y : List ℕ) → f < length frames → x ≡ get_or frames f x → slice_index_or frames f [] ≡ y → x ≡ y
+frame_read [] f x y low e k = absurd (omega arith)
+frame_read (z ∷ zs) zero x y low e k = e ∙ k
+frame_read (z ∷ zs) (suc f) x y low e k = frame_read zs f x y (omega arith) e k
 
 pub not_both : (b : Bool) → b ≡ true → b ≡ false → ⊥
 not_both b t f = let bad : true ≡ false = sym t ∙ f in cc

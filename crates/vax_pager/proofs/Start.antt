@@ -58,15 +58,15 @@ none_held : (prot : Option ℕ) (past : Bool) → held_by (inside prot past None
 none_held None past = refl
 none_held (Some prot) past = refl
 
-pub record IsNew (s : Store) (frames : ℕ) : Type 0 where
+pub record IsNew (s : Store) (count : ℕ) : Type 0 where
   pub tables : walked s.tables ≡ mapped s.space all_absent
   pub kept : kept s.tables ≡ none_kept
   pub buffer : buffered s.buffer ≡ empty
-  pub order : s.order ≡ record { items = []; limit = frames }
-  pub kept_list : s.lists.kept ≡ record { items = []; limit = frames }
-  pub modified_list : s.lists.modified ≡ record { items = []; limit = frames }
-  pub pins : s.pins ≡ record { items = []; room = frames }
-  pub frames : s.frames.items ≡ replicate frames (replicate 512 0)
+  pub order : s.order ≡ record { items = []; limit = count }
+  pub kept_list : s.lists.kept ≡ record { items = []; limit = count }
+  pub modified_list : s.lists.modified ≡ record { items = []; limit = count }
+  pub pins : s.pins ≡ record { items = []; room = count }
+  pub frames : s.frames.items ≡ replicate count (replicate 512 0)
   pub flags : s.blocked.items ≡ replicate 69632 false
   pub used : s.used ≡ 0
 
@@ -212,8 +212,9 @@ drop_least xs p q e = elim (cases_lt p (length xs)) [
   | inr past ↦ drop_past xs q (grind arith) ∙ sym (drop_past xs p past)
 ]
 
-pub start_bytes : (area : Area) (page place start count : ℕ) (rest : List ℕ) → place ≡ (page - area.first) * 512 → start ≡ min place (length area.bytes) → rest ≡ drop start area.bytes → count ≡ min (length rest) 512 → take count rest ++ drop count (replicate 512 0) ≡ bytes_in area page
-start_bytes area page place start count rest ep es er ec =
+pub start_bytes : (area : Area) (page place start count : ℕ) (bytes rest : List ℕ) → bytes ≡ area.bytes → place ≡ (page - area.first) * 512 → start ≡ min place (length bytes) → rest ≡ drop start bytes → count ≡ min (length rest) 512 → take count rest ++ drop count (replicate 512 0) ≡ bytes_in area page
+start_bytes area page place start count bytes rest eb ep es er ec =
     let place_is : place ≡ 512 * (page - area.first) = omega arith in
-    let tail : rest ≡ drop (512 * (page - area.first)) area.bytes = er ∙ drop_least area.bytes place start es ∙ ap (λ n. drop n area.bytes) place_is in
+    let tail : rest ≡ drop (512 * (page - area.first)) area.bytes =
+    er ∙ drop_least bytes place start es ∙ ap (λ n. drop n bytes) place_is ∙ ap (λ (xs : List ℕ). drop (512 * (page - area.first)) xs) eb in
     zeros_then count rest 512 512 (grind arith) (grind arith) (omega arith) (λ h. grind arith) ∙ ap (λ (xs : List ℕ). take 512 (xs ++ replicate 512 0)) tail

@@ -864,6 +864,14 @@ pub written_is : (s : Store) (p : ℕ) (o : Option ℕ) → o ≡ block_of s.spa
 unfolding paging has_block
 written_is s p o e = ap (flag_of s.blocked.items) e
 
+flag_same : (flags : List Bool) (i : ℕ) (b : Bool) → i < length flags → b ≡ slice_index_or flags i b → b ≡ slice_index_or flags i false
+flag_same [] i b low e = absurd (omega arith)
+flag_same (x ∷ flags) zero b low e = e
+flag_same (x ∷ flags) (suc i) b low e = flag_same flags i b (omega arith) e
+
+pub flag_there : (s : Store) (p block : ℕ) (b : Bool) → b ≡ slice_index_or s.blocked.items block b → block < 69632 → Some block ≡ block_of s.space p → IsSound 0 s → b ≡ (paging s).blocked p
+flag_there s p block b e few is h = flag_same s.blocked.items block b (omega (arith, h.flags)) e ∙ written_is s p (Some block) is
+
 pinned_resident : (s : Store) (p : ℕ) → IsSound 0 s → is_listed p (paging s).pinned ≡ true → is_listed p (paging s).order ≡ true
 unfolding paging
 pinned_resident s p h n = listed_is p s.order.items ∙ ap is_some (h.fine p).order ∙ some_frame_of (walked s.tables p) ∙ (h.fine p).pins n

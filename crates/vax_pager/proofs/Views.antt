@@ -337,6 +337,10 @@ pub once_held : (s : Store) (b : Buffer) (p mode : ℕ) (access : Access) (o : O
 once_held s b p mode access None e h = tt
 once_held s b p mode access (Some f) e h = frame_there s b p (Some f) (sym (is_at_once s p mode access f (sym e) h).walk)
 
+pub once_entry : (walk : Option Walk) (mode : ℕ) (access : Access) (o : Option ℕ) → o ≡ at_once walk mode access → is_some o ≡ true → is_some walk ≡ true
+once_entry None mode access o e h = absurd (false≢true (sym (ap is_some e) ∙ h))
+once_entry (Some walk) mode access o e h = refl
+
 pub once_resident : (s : Store) (p mode : ℕ) (access : Access) (o : Option ℕ) → o ≡ at_once (buffered s.buffer p) mode access → IsSound 0 s → is_some o ≡ true → is_listed p (paging s).order ≡ true
 once_resident s p mode access o e h there =
     let k = some_of o there in
@@ -390,7 +394,7 @@ pub held_buffer : (s : Store) (b : Buffer) → held (record s { buffer = b }) �
 unfolding held
 held_buffer s b = refl
 
-get_same : (xs : List (List ℕ)) (i : ℕ) (x : List ℕ) → i < length xs → x ≡ get_or xs i x → x ≡ slice_index_or xs i []
+pub get_same : (xs : List (List ℕ)) (i : ℕ) (x : List ℕ) → i < length xs → x ≡ get_or xs i x → x ≡ slice_index_or xs i []
 get_same [] i x low e = absurd (omega arith)
 get_same (y ∷ xs) zero x low e = e
 get_same (y ∷ xs) (suc i) x low e = get_same xs i x (omega arith) e

@@ -93,6 +93,9 @@ areas_are s = refl
 pub block_in_space : (s : Store) (p : ℕ) → is_some (block_of (paging s).areas p) ≡ true → is_some (block_of s.space p) ≡ true
 block_in_space s p h = ap (λ (z : List Area). is_some (block_of z p)) (sym (areas_are s)) ∙ h
 
+pub writable_next : (areas : List Area) (addr n mode k : ℕ) → addr < 2 ^ 32 → k < n → None ≡ violation areas addr n mode Write → is_some (block_of areas (page_of (byte_after addr k))) ≡ true
+writable_next areas addr n mode k small low free = has_block areas (page_of (byte_after addr k)) mode (accessible_from areas addr n mode Write small (sym free) k low)
+
 pub writable_at : (areas : List Area) (addr n mode : ℕ) → addr < 2 ^ 32 → 1 ≤ n → None ≡ violation areas addr n mode Write → is_some (block_of areas (page_of addr)) ≡ true
 writable_at areas addr n mode small some free =
     let at : byte_after addr 0 ≡ addr = omega arith in

@@ -1,8 +1,9 @@
 -- The steps of writes to resident pages.
-use Rattle.std.proofs.Common.{ℕ, zero, suc, ◌≡◌, ◌≢◌, ◌+◌, ◌-◌, ◌<◌, ◌≤◌, Bool, true, false, List, [], ◌∷◌, ◌++◌, length, if◌then◌else◌, refl, ap, sym, ◌∙◌, subst, arith, ◌%◌, ◌/◌, ◌^◌, inl, inr, Option, Some, None, slice_index, slice_index_or, slice_set, length-set, get_or, Vec, Global}
+use Rattle.std.proofs.Common.{ℕ, zero, suc, ◌≡◌, ◌≢◌, ◌+◌, ◌-◌, ◌<◌, ◌≤◌, Bool, true, false, List, [], ◌∷◌, ◌++◌, take, drop, length, length-append, length-drop, if◌then◌else◌, refl, ap, sym, ◌∙◌, subst, arith, ◌%◌, ◌/◌, ◌^◌, inl, inr, Option, Some, None, slice_index, slice_index_or, slice_set, length-set, get_or, Vec, Global}
 use Rattle.std.specs.Prelude.{is_some}
 use Rattle.std.proofs.lemmas.Bool.{cases_Bool, cases_lt, eq-eqb, false≢true}
 use Rattle.std.proofs.Math.Path.{fun_ext}
+use Rattle.std.proofs.lemmas.List.{length-take-le}
 use Rattle.vax_space.specs.Areas.{block_of}
 use Rattle.vax_space.specs.Reference.{page_of}
 use Rattle.vax_flat.specs.Memory.{after}
@@ -28,7 +29,7 @@ use Rattle.vax_pager.specs.Store.{IsSound, has_block, held, overwritten, paging}
 use Rattle.vax_pager.proofs.Listing.{in_push, pages_push}
 use Rattle.vax_pager.proofs.Moves.{Changes, at_itself, frames_of, frames_same, frames_set, frame_means, held_changes, held_room, modified_is, one_held, resident_is, sound_moved}
 use Rattle.vax_pager.proofs.Steps.{came_here, came_other, fits_marked, front_of, marked_held, no_some, parts, small_set, whole_set}
-use Rattle.vax_pager.proofs.Views.{only_filled, only_then, only_touched, over_inside, over_outside, run_touched, view_filled}
+use Rattle.vax_pager.proofs.Views.{get_same, only_filled, only_then, only_touched, over_inside, over_outside, run_touched, view_filled}
 
 held_frame : (walk : Walk) (left : Option ℕ) (f : ℕ) → held_by walk left ≡ Some f → is_resident walk ≡ true → frame_of walk ≡ Some f
 held_frame (Resident g pr md) left f e r = e
@@ -147,6 +148,44 @@ paging_filled s p f bytes frames ef there h =
     ap (frames_of frames.items) (held_filled s frames) ∙ ap (λ (z : List (List ℕ)). frames_of z (held s)) ef ∙ frames_set s.frames.items (held s) f p bytes low there (one_held 0 s p f h there) in
     cc
 
+-- a part of a frame that was written
+
+over-length : (k : ℕ) (xs old : List ℕ) → k + length xs ≤ length old → length (overwritten k xs old) ≡ length old
+over-length k xs old h = omega (arith, length-append (take k old) (xs ++ drop (length xs) (drop k old)), length-append xs (drop (length xs) (drop k old)), length-drop (length xs) (drop k old), length-drop k old, length-take-le k old (omega arith))
+
+put_over : (a k : ℕ) (old ys xs was : List ℕ) → k ≡ length xs → ys ≡ xs → old ≡ was → take a old ++ (ys ++ drop k (drop a old)) ≡ overwritten a xs was
+put_over a k old ys xs was ek ey eo = rw (ek, ey, eo) refl
+
+put_items : (s : Store) (addr f k : ℕ) (old ys xs : List ℕ) (frames : Vec (List ℕ) Global) → frames.items ≡ slice_set s.frames.items f (take (addr % 512) old ++ (ys ++ drop k (drop (addr % 512) old))) →
+    old ≡ get_or s.frames.items f old → k ≡ length xs → ys ≡ xs → held s (page_of addr) ≡ Some f → IsSound 0 s → frames.items ≡ slice_set s.frames.items f (overwritten (addr % 512) xs ((paging s).frame (page_of addr)))
+put_items s addr f k old ys xs frames e is ek ey there h =
+    let was : old ≡ (paging s).frame (page_of addr) = get_same s.frames.items f old (held_room 0 s (page_of addr) f h there) is ∙ frame_means s (page_of addr) f there in
+    e ∙ ap (slice_set s.frames.items f) (put_over (addr % 512) k old ys xs ((paging s).frame (page_of addr)) ek ey was)
+
+frame_bytes : (s : Store) (p f : ℕ) → held s p ≡ Some f → IsSound 0 s → (j : ℕ) → slice_index ((paging s).frame p) j < 256
+frame_bytes s p f there h j = subst (λ (z : List ℕ). slice_index z j < 256) (frame_means s p f there) (h.small f j)
+
+-- the bytes of a page that has a frame are 512
+pub frame_size : (s : Store) (p f : ℕ) → held s p ≡ Some f → IsSound 0 s → length ((paging s).frame p) ≡ 512
+frame_size s p f there h = ap (length {A = ℕ}) (sym (frame_means s p f there)) ∙ h.whole f (held_room 0 s p f h there)
+
+pub frame_length : (s : Store) (addr f : ℕ) (old : List ℕ) → old ≡ get_or s.frames.items f old → held s (page_of addr) ≡ Some f → IsSound 0 s → length old ≡ 512
+frame_length s addr f old is there h = ap (length {A = ℕ}) (get_same s.frames.items f old (held_room 0 s (page_of addr) f h there) is ∙ frame_means s (page_of addr) f there) ∙ frame_size s (page_of addr) f there h
+
+pub sound_put : (s : Store) (addr f k : ℕ) (old ys xs : List ℕ) (frames : Vec (List ℕ) Global) → frames.items ≡ slice_set s.frames.items f (take (addr % 512) old ++ (ys ++ drop k (drop (addr % 512) old))) →
+    old ≡ get_or s.frames.items f old → k ≡ length xs → ys ≡ xs → held s (page_of addr) ≡ Some f → addr % 512 + length xs ≤ 512 → ((j : ℕ) → slice_index xs j < 256) → IsSound 0 s → IsSound 0 (record s { frames = frames })
+sound_put s addr f k old ys xs frames e is ek ey there within few h =
+    let size = frame_size s (page_of addr) f there h in
+    let fit : addr % 512 + length xs ≤ length ((paging s).frame (page_of addr)) = omega (arith, size) in
+    sound_filled s f (overwritten (addr % 512) xs ((paging s).frame (page_of addr))) frames (put_items s addr f k old ys xs frames e is ek ey there h) (held_room 0 s (page_of addr) f h there)
+    (over-length (addr % 512) xs ((paging s).frame (page_of addr)) fit ∙ size)
+    (over_small (addr % 512) xs ((paging s).frame (page_of addr)) fit few (frame_bytes s (page_of addr) f there h)) h
+
+pub paging_put : (s : Store) (addr f k : ℕ) (old ys xs : List ℕ) (frames : Vec (List ℕ) Global) → frames.items ≡ slice_set s.frames.items f (take (addr % 512) old ++ (ys ++ drop k (drop (addr % 512) old))) →
+    old ≡ get_or s.frames.items f old → k ≡ length xs → ys ≡ xs → held s (page_of addr) ≡ Some f → IsSound 0 s → paging (record s { frames = frames }) ≡ filled (page_of addr) (overwritten (addr % 512) xs ((paging s).frame (page_of addr))) (paging s)
+paging_put s addr f k old ys xs frames e is ek ey there h =
+    paging_filled s (page_of addr) f (overwritten (addr % 512) xs ((paging s).frame (page_of addr))) frames (put_items s addr f k old ys xs frames e is ek ey there h) there h
+
 -- a touch and a write within a page
 
 touched_twice : (modified : List ℕ) (p : ℕ) → is_listed p (touched_by modified p) ≡ true
@@ -230,10 +269,6 @@ filled_listed s u addr n bytes k listed small within some =
     ∙ modified_filled (page_of addr) bytes s
     ∙ sym (touched_again s.modified (page_of addr) listed)
     ∙ touched_some s.modified addr n small within some
-
--- the bytes of a page that has a frame are 512
-pub frame_size : (s : Store) (p f : ℕ) → held s p ≡ Some f → IsSound 0 s → length ((paging s).frame p) ≡ 512
-frame_size s p f there h = ap (length {A = ℕ}) (sym (frame_means s p f there)) ∙ h.whole f (held_room 0 s p f h there)
 
 -- another state that means the same
 pub modified_same : (s t : Paging) (p : ℕ) → t ≡ s → is_listed p s.modified ≡ true → is_listed p t.modified ≡ true

@@ -180,20 +180,20 @@ impl Store {
     }
 
     /// A resident page is absent, and its frame is kept.
-    pub(crate) fn release(&mut self, page: u32)
+    pub(crate) fn release(&mut self, evicted: u32)
         requires sound { IsSound 0 self.old }
-        requires resident { is_listed page (paging self.old).order ≡ true }
-        requires unmodified { is_listed page (paging self.old).modified ≡ false }
+        requires resident { is_listed evicted (paging self.old).order ≡ true }
+        requires unmodified { is_listed evicted (paging self.old).modified ≡ false }
         ensures sound { IsSound 0 self.new }
-        ensures paging { paging self.new ≡ released page (paging self.old) }
+        ensures paging { paging self.new ≡ released evicted (paging self.old) }
     {
-        let frame = self.resident_frame(page);
-        let was_pinned = self.pins.contains(page);
-        self.tables.keep(page);
-        self.buffer.forget(page);
-        self.order.remove(page, frame);
-        self.pins.remove(page);
-        self.lists.keep(page, frame);
+        let frame = self.resident_frame(evicted);
+        let was_pinned = self.pins.contains(evicted);
+        self.tables.keep(evicted);
+        self.buffer.forget(evicted);
+        self.order.remove(evicted, frame);
+        self.pins.remove(evicted);
+        self.lists.keep(evicted, frame);
         self.evicted = raised(self.evicted);
         self.spoiled = raised_if(was_pinned, self.spoiled);
     }

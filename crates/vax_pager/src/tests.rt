@@ -252,7 +252,7 @@ fn failing_calls(rt: HostRuntime) -> Result<(), Fail> {
                         faults += 1;
                     }
                 }
-                let value = page + 100 * round;
+                let value = page + 60 * round;
                 assert_eq!(rt;
                     pager.write(page * 512 + 8, 4, u64::from(value), USER),
                     Ok(()),
@@ -263,7 +263,7 @@ fn failing_calls(rt: HostRuntime) -> Result<(), Fail> {
         assert_eq!(rt; faults, 1, "call {call}");
         for page in 0..70u32 {
             let byte = pager.peek(page * 512 + 8, &mut file);
-            assert_eq!(rt; byte, Ok(Some((page + 200) as u8)), "call {call}");
+            assert_eq!(rt; byte, Ok(Some((page + 120) as u8)), "call {call}");
         }
     }
     Ok(())

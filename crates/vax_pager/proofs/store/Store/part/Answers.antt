@@ -5,7 +5,7 @@ use Rattle.vax_pager.proofs.Moves.{held_room}
 use Rattle.vax_pager.proofs.store.Store.part.Goals as goal
 
 pub index-requires : goal.index-requires
-index-requires c = held_room 0 _ _ _ c.requires.sound c.requires.held
+index-requires c = omega (arith, held_room 0 c.args.self.now _ _ c.requires.sound c.requires.held, c.args.self.now.frames.ok.0)
 
 pub returns : goal.returns
 returns c =

@@ -1,5 +1,5 @@
 use Rattle.std.proofs.Common.{◌≡◌, ℕ, ◌-◌, ◌%◌, None, Ok, Option, length, arith, sym, ap, ◌∙◌, refl}
-use Rattle.vax_space.specs.Reference.{byte_after}
+use Rattle.vax_space.specs.Reference.{byte_after, page_of}
 use Rattle.vax_flat.specs.Memory.{number}
 use Rattle.vax_flat.specs.Port.{stop_of, loaded_by}
 use Rattle.vax_pager.specs.Paging.{view_of}
@@ -26,7 +26,7 @@ returns-in_default-frame_of-clause-answer c =
     sym (ap (λ (p : Option ℕ). loaded_by (stop_of None p) (number view.byte c.args.addr c.args.n)) (apart_high c.args.addr c.args.n first next view.resident h (sym c.in-Some.ensures.resident) (sym (c.in_default-frame_of.ensures.resident ∙ resident_same _ _ _ c.in-Some.ensures.paging))))
 
 pub part-requires-clause-held : goal.part-requires-clause-held
-part-requires-clause-held c = ap (λ (g : ℕ → Option ℕ). g _) c.in-Some-frame_of.ensures.frames ∙ c.in-Some.ensures.held
+part-requires-clause-held c = ap (λ (g : ℕ → Option ℕ). g (page_of c.args.addr)) c.in-Some-frame_of.ensures.frames ∙ c.in-Some.ensures.held
 
 pub number_of_parts-requires : goal.number_of_parts-requires
 number_of_parts-requires c =

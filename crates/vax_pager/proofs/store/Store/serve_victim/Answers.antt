@@ -68,4 +68,4 @@ pub returns-in_err-flush-clause-err : goal.returns-in_err-flush-clause-err
 returns-in_err-flush-clause-err g c = on_err c.from_residual.result (inl (c.in_err-flush.ensures.err, c.in_err-flush.ensures.unwritten))
 
 pub returns-in_err-bytes-clause-err : goal.returns-in_err-bytes-clause-err
-returns-in_err-bytes-clause-err g c = on_err c.from_residual.result (inr (c.in_ok-flush.ensures.ok, c.in_err-bytes.ensures.err ∙ c.in_ok-flush.ensures.wrote))
+returns-in_err-bytes-clause-err g c = on_err c.from_residual-in_err-bytes.result (inr (c.in_ok-flush.ensures.ok, c.in_err-bytes.ensures.err ∙ c.in_ok-flush.ensures.wrote))

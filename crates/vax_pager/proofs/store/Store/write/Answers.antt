@@ -17,7 +17,7 @@ pub returns-in-Some-clause-stored : goal.returns-in-Some-clause-stored
 returns-in-Some-clause-stored c =
     let e = c.in-Some.ensures.paging in
     let size : length (low_bytes c.args.n c.args.value) ≡ c.args.n = low-length c.args.n c.args.value in
-    filled_view _ _ c.args.addr (low_bytes c.args.n c.args.value) c.put_number.ensures.paging c.ranges.addr.fits (omega (arith, size, c.in-Some.ensures.one_page refl)) (omega (arith, size, c.requires.some))
+    filled_view (paging c.frame_at_once.new.self) _ c.args.addr (low_bytes c.args.n c.args.value) c.put_number.ensures.paging c.ranges.addr.fits (omega (arith, size, c.in-Some.ensures.one_page refl)) (omega (arith, size, c.requires.some))
     (frame_size _ _ _ c.in-Some.ensures.held c.in-Some.ensures.sound) (modified_same _ _ _ e (c.in-Some.ensures.marked refl refl))
     ∙ ap (λ (z : Paging). with_run (view_of z) c.args.addr (low_bytes c.args.n c.args.value)) e
     ∙ number_run (view_of (paging c.args.self.now)) c.args.addr c.args.n c.args.value

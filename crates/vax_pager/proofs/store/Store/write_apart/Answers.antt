@@ -27,7 +27,7 @@ returns-in_default-clause-stored c =
     let first : ℕ = 512 - c.args.addr % 512 in
     let next : ℕ = byte_after c.args.addr first in
     let h : IsApart c.args.addr c.args.n first next = (refl, refl, c.requires.apart, c.requires.few, c.ranges.addr.fits) in
-    sym (ap (λ (p : Option ℕ). unless_cut (stop_of None p) view (with_number view c.args.addr c.args.n c.args.value)) (apart_low c.args.addr c.args.n first next view.resident h (sym c.in_default.ensures.resident)))
+    ap (λ (z : Paging). view_of z) c.in_default.ensures.paging ∙ sym (ap (λ (p : Option ℕ). unless_cut (stop_of None p) view (with_number view c.args.addr c.args.n c.args.value)) (apart_low c.args.addr c.args.n first next view.resident h (sym c.in_default.ensures.resident)))
 
 pub returns-in_default-frame_of-clause-answer : goal.returns-in_default-frame_of-clause-answer
 returns-in_default-frame_of-clause-answer c =
@@ -43,7 +43,7 @@ returns-in_default-frame_of-clause-stored c =
     let first : ℕ = 512 - c.args.addr % 512 in
     let next : ℕ = byte_after c.args.addr first in
     let h : IsApart c.args.addr c.args.n first next = (refl, refl, c.requires.apart, c.requires.few, c.ranges.addr.fits) in
-    sym (ap (λ (p : Option ℕ). unless_cut (stop_of None p) view (with_number view c.args.addr c.args.n c.args.value)) (apart_high c.args.addr c.args.n first next view.resident h (sym c.in-Some.ensures.resident) (sym (c.in_default-frame_of.ensures.resident ∙ resident_same _ _ _ c.in-Some.ensures.paging))))
+    ap (λ (z : Paging). view_of z) (c.in_default-frame_of.ensures.paging ∙ c.in-Some.ensures.paging) ∙ sym (ap (λ (p : Option ℕ). unless_cut (stop_of None p) view (with_number view c.args.addr c.args.n c.args.value)) (apart_high c.args.addr c.args.n first next view.resident h (sym c.in-Some.ensures.resident) (sym (c.in_default-frame_of.ensures.resident ∙ resident_same _ _ _ c.in-Some.ensures.paging))))
 
 pub returns-clause-answer : goal.returns-clause-answer
 returns-clause-answer c =
@@ -124,7 +124,7 @@ pub touch-requires-clause-resident : goal.touch-requires-clause-resident
 touch-requires-clause-resident c = order_same _ _ _ (c.in-Some-frame_of.ensures.paging ∙ c.in-Some.ensures.paging) (sym c.in-Some.ensures.resident)
 
 pub touch-requires-clause-held : goal.touch-requires-clause-held
-touch-requires-clause-held c = ap (λ (g : ℕ → Option ℕ). g _) c.in-Some-frame_of.ensures.frames ∙ c.in-Some.ensures.held
+touch-requires-clause-held c = ap (λ (g : ℕ → Option ℕ). g (page_of c.args.addr)) c.in-Some-frame_of.ensures.frames ∙ c.in-Some.ensures.held
 
 pub touch-requires-clause-writable : goal.touch-requires-clause-writable
 touch-requires-clause-writable c = rw (c.in-Some-frame_of.ensures.paging, c.in-Some.ensures.paging) c.requires.low
@@ -135,7 +135,7 @@ touch-requires-2-clause-resident c =
     order_after _ _ _ _ _ e c.touch.ensures.paging (sym (c.in-Some-frame_of.ensures.resident ∙ resident_same _ _ _ c.in-Some.ensures.paging))
 
 pub touch-requires-2-clause-held : goal.touch-requires-2-clause-held
-touch-requires-2-clause-held c = ap (λ (g : ℕ → Option ℕ). g _) c.touch.ensures.held ∙ c.in-Some-frame_of.ensures.held
+touch-requires-2-clause-held c = ap (λ (g : ℕ → Option ℕ). g (page_of (byte_after c.args.addr (512 - c.args.addr % 512)))) c.touch.ensures.held ∙ c.in-Some-frame_of.ensures.held
 
 pub touch-requires-2-clause-writable : goal.touch-requires-2-clause-writable
 touch-requires-2-clause-writable c =
@@ -143,7 +143,7 @@ touch-requires-2-clause-writable c =
     rw (areas_after _ _ _ _ e c.touch.ensures.paging) c.requires.high
 
 pub put_run-requires-clause-held : goal.put_run-requires-clause-held
-put_run-requires-clause-held c = ap (λ (g : ℕ → Option ℕ). g _) (c.touch-2.ensures.held ∙ c.touch.ensures.held) ∙ c.in-Some-frame_of.ensures.held
+put_run-requires-clause-held c = ap (λ (g : ℕ → Option ℕ). g (page_of (byte_after c.args.addr (512 - c.args.addr % 512)))) (c.touch-2.ensures.held ∙ c.touch.ensures.held) ∙ c.in-Some-frame_of.ensures.held
 
 pub put_run-requires-2-clause-held : goal.put_run-requires-2-clause-held
-put_run-requires-2-clause-held c = ap (λ (g : ℕ → Option ℕ). g _) (c.put_run.ensures.held ∙ c.touch-2.ensures.held ∙ c.touch.ensures.held ∙ c.in-Some-frame_of.ensures.frames) ∙ c.in-Some.ensures.held
+put_run-requires-2-clause-held c = ap (λ (g : ℕ → Option ℕ). g (page_of c.args.addr)) (c.put_run.ensures.held ∙ c.touch-2.ensures.held ∙ c.touch.ensures.held ∙ c.in-Some-frame_of.ensures.frames) ∙ c.in-Some.ensures.held

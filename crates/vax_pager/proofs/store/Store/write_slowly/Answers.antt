@@ -1,4 +1,4 @@
-use Rattle.std.proofs.Common.{Option, ℕ, ◌≡◌, ◌+◌, ◌≤◌, ◌%◌, length, arith, refl, sym, ap, ◌∙◌}
+use Rattle.std.proofs.Common.{Option, ℕ, ◌≡◌, ◌+◌, ◌-◌, ◌≤◌, ◌%◌, length, arith, refl, sym, ap, ◌∙◌}
 use Rattle.std.specs.Prelude.{is_some}
 use Rattle.vax_space.specs.declared.Access.TheVariants.{Write}
 use Rattle.vax_space.specs.Reference.{page_of}
@@ -10,7 +10,7 @@ use Rattle.vax_undo.proofs.Numbers.{low-length}
 use Rattle.vax_pager.specs.Steps.{touched_page}
 use Rattle.vax_pager.specs.Paging.{Paging, view_of}
 use Rattle.vax_pager.specs.Store.{paging}
-use Rattle.vax_pager.proofs.Writable.{writable_at}
+use Rattle.vax_pager.proofs.Writable.{writable_at, writable_next}
 use Rattle.vax_pager.proofs.Writes.{frame_size, number_run, written_listed, written_only, written_view}
 use Rattle.vax_pager.proofs.store.Store.write_slowly.Goals as goal
 
@@ -44,3 +44,9 @@ returns-in-None-clause-answer c = sym (gone (view_of (paging c.args.self.now)) c
 
 pub returns-in-None-clause-stored : goal.returns-in-None-clause-stored
 returns-in-None-clause-stored c = ap (λ (z : Paging). view_of z) c.in-None.ensures.paging ∙ sym (ap (λ (s : Option Stop). unless_cut s (view_of (paging c.args.self.now)) (with_number (view_of (paging c.args.self.now)) c.args.addr c.args.n c.args.value)) (gone (view_of (paging c.args.self.now)) c.args.addr c.args.n c.args.mode Write c.in_default.ensures c.requires.some (sym c.in-None.ensures.resident)))
+
+pub write_apart-requires-clause-low : goal.write_apart-requires-clause-low
+write_apart-requires-clause-low c = writable_at _ c.args.addr c.args.n c.args.mode c.ranges.addr.fits c.requires.some c.in_default.ensures
+
+pub write_apart-requires-clause-high : goal.write_apart-requires-clause-high
+write_apart-requires-clause-high c = writable_next _ c.args.addr c.args.n c.args.mode (512 - c.args.addr % 512) c.ranges.addr.fits (omega (arith, c.if-addr-n-gt-PAGE_BYTES.true)) c.in_default.ensures
