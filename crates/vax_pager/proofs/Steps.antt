@@ -888,9 +888,19 @@ order_once : (s : Store) → EachOnce s.order.items → AreOnce (paging s).order
 unfolding paging
 order_once s once = once_pages s.order.items once
 
+once_end : (front end : List ℕ) → AreOnce (front ++ end) → AreOnce end
+unfolding AreOnce
+once_end [] end h = h
+once_end (x ∷ front) end h = once_end front end h.1
+
+pinned_once : (s : Store) → EachOnce s.order.items → IsSound 0 s → AreOnce (paging s).pinned
+unfolding paging
+pinned_once s once h = once_end (front_of s) s.pins.items (subst AreOnce (parts h) (once_pages s.order.items once))
+
 pub is_paging : (s : Store) → EachOnce s.order.items → IsSound 0 s → IsPaging (paging s)
 is_paging s once h = record {
   once = order_once s once;
+  pinned_once = pinned_once s once h;
   apart = λ p. resident_unkept s p h;
   pinned = λ p. pinned_resident s p h;
   dirty = λ p. dirty_there s p h;

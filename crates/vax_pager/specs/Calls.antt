@@ -126,5 +126,6 @@ pub record IsPaging (s : Paging) : Type 0 where
   pub dirty : (page : ℕ) → is_listed page s.modified ≡ true → is_listed page s.order ≡ true
   pub writable : (page : ℕ) → is_listed page s.modified ≡ true → is_some (block_of s.areas page) ≡ true
   pub once : AreOnce s.order
+  pub pinned_once : AreOnce s.pinned
   pub inside : (page : ℕ) → is_listed page s.order ≡ true → is_some (area_of s.areas page) ≡ true
   pub held : length s.order + length s.kept ≤ s.frames

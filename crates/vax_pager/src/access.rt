@@ -55,7 +55,7 @@ impl Store {
     }
 
     /// The frame of a range within a page to which the mode may make the access with no look at the tables.
-    #[inline]
+    #[inline(always)]
     fn frame_at_once(&mut self, addr: u32, n: u32, mode: u8, access: Access) -> Option<u32>
         requires sound { IsSound 0 self.old }
         requires of_mode { mode ≤ 3 }
@@ -77,7 +77,7 @@ impl Store {
     }
 
     /// The number that some bytes of a frame are.
-    #[inline]
+    #[inline(always)]
     fn number_in(&self, frame: u32, addr: u32, n: u32) -> u64
         requires sound { IsSound 0 self.now }
         requires some { 1 ≤ n }
@@ -108,7 +108,7 @@ impl Store {
     }
 
     /// Writes a number to a frame.
-    #[inline]
+    #[inline(always)]
     fn put_number(&mut self, frame: u32, addr: u32, n: u32, value: u64)
         requires sound { IsSound 0 self.old }
         requires some { 1 ≤ n }
@@ -155,7 +155,7 @@ impl Store {
     }
 
     /// The number that `n` bytes are, 1 to 8.
-    #[inline]
+    #[inline(always)]
     #[tactic(auto, using(crate::proofs::Views::are_bytes))]
     pub(crate) fn read(&mut self, addr: u32, n: u32, mode: u8) -> Result<u64, Stop>
         requires sound { IsSound 0 self.old }
@@ -224,7 +224,7 @@ impl Store {
     }
 
     /// Some bytes of a frame.
-    #[inline]
+    #[inline(always)]
     fn part(&self, frame: u32, addr: u32, len: u32) -> &[u8]
         requires sound { IsSound 0 self.now }
         requires one_page { addr % 512 + len ≤ 512 }
@@ -261,7 +261,7 @@ impl Store {
     }
 
     /// Writes the `n` bytes of a number, 1 to 8.
-    #[inline]
+    #[inline(always)]
     pub(crate) fn write(&mut self, addr: u32, n: u32, value: u64, mode: u8) -> Result<(), Stop>
         requires sound { IsSound 0 self.old }
         requires some { 1 ≤ n }

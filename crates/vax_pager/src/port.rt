@@ -25,7 +25,7 @@ impl Port for Pager {
         self.store.check(addr, len, mode, access)
     }
 
-    #[inline]
+    #[inline(always)]
     fn read(&mut self, addr: u32, n: u32, mode: u8) -> Result<u64, Stop>
         requires some { 1 ≤ n }
         requires few { n ≤ 8 }
@@ -41,7 +41,7 @@ impl Port for Pager {
         self.store.read(addr, n, mode)
     }
 
-    #[inline]
+    #[inline(always)]
     fn write(&mut self, addr: u32, n: u32, value: u64, mode: u8) -> Result<(), Stop>
         requires some { 1 ≤ n }
         requires few { n ≤ 8 }
