@@ -1,0 +1,10 @@
+pub mod Listing
+pub mod Standing
+pub mod Moves
+pub mod Steps
+pub mod Effects
+pub mod Start
+pub mod Views
+pub mod Writes
+pub mod Writable
+pub mod Apart

@@ -1,0 +1,19 @@
+use Rattle.std.proofs.Common.{◌≡◌, ◌≢◌, ◌<◌, Some, None, refl, sym, ap, ◌∙◌, arith, rules}
+use Rattle.vax_pager.proofs.Steps.{sound_forgotten, paging_forgotten, free_forgotten, kept_inside}
+use Rattle.vax_pager.proofs.store.Store.forget.Goals as goal
+
+pub clear-requires : goal.clear-requires
+clear-requires c = record { inside = kept_inside 0 _ _ _ c.requires.sound c.requires.there }
+
+pub returns-clause-sound : goal.returns-clause-sound
+returns-clause-sound c =
+    sound_forgotten c.args.self.now c.args.page c.args.frame _ _ _ (record { walk = c.clear.ensures.walked; left = c.clear.ensures.kept })
+    c.forget.ensures.entries c.take.ensures.kept c.take.ensures.fewer c.take.ensures.modified c.requires.there c.requires.sound
+
+pub returns-clause-paging : goal.returns-clause-paging
+returns-clause-paging c =
+    paging_forgotten c.args.self.now c.args.page _ _ _ (record { walk = c.clear.ensures.walked; left = c.clear.ensures.kept }) c.take.ensures.kept c.take.ensures.modified
+
+pub returns-clause-free : goal.returns-clause-free
+returns-clause-free c =
+    free_forgotten c.args.self.now c.args.page c.args.frame _ _ _ (record { walk = c.clear.ensures.walked; left = c.clear.ensures.kept }) c.requires.there c.requires.sound

@@ -1,0 +1,19 @@
+use Rattle.std.proofs.Common.{◌≡◌, ◌≢◌, ◌<◌, Some, None, refl, sym, ap, ◌∙◌, arith, rules}
+use Rattle.vax_pager.proofs.Steps.{sound_given, paging_given, free_given, resident_inside}
+use Rattle.vax_pager.proofs.store.Store.give_up.Goals as goal
+
+pub clear-requires : goal.clear-requires
+clear-requires c = record { inside = resident_inside 0 _ _ c.requires.sound c.requires.resident }
+
+pub returns-clause-sound : goal.returns-clause-sound
+returns-clause-sound c =
+    sound_given c.args.self.now c.args.page c.resident_frame-frame.result _ _ _ _ (record { walk = c.clear.ensures.walked; left = c.clear.ensures.kept })
+    c.forget.ensures.entries c.remove.ensures.items c.remove.ensures.fewer c.resident_frame-frame.ensures.order c.requires.unmodified c.requires.unpinned c.requires.sound
+
+pub returns-clause-paging : goal.returns-clause-paging
+returns-clause-paging c =
+    paging_given c.args.self.now c.args.page _ _ _ _ (record { walk = c.clear.ensures.walked; left = c.clear.ensures.kept }) c.remove.ensures.items c.raised-self.ensures
+
+pub returns-clause-free : goal.returns-clause-free
+returns-clause-free c =
+    free_given c.args.self.now c.args.page c.resident_frame-frame.result _ _ _ _ (record { walk = c.clear.ensures.walked; left = c.clear.ensures.kept }) c.resident_frame-frame.ensures.order c.requires.sound

@@ -1,0 +1,24 @@
+use Rattle.std.proofs.Common.{◌≡◌, ap, sym, ◌∙◌, refl, true, false, rules}
+use Rattle.vax_space.specs.Reference.{page_of}
+use Rattle.vax_pager.specs.Listing.{is_listed}
+use Rattle.vax_pager.specs.Store.{paging}
+use Rattle.vax_pager.proofs.Effects.{either_true, first_true, neither, peek_absent, peek_kept, peek_resident, peeked_frame, peeked_home}
+use Rattle.vax_pager.proofs.store.Store.peek.Goals as goal
+
+pub returns-then-is_resident-clause-byte : goal.returns-then-is_resident-clause-byte
+returns-then-is_resident-clause-byte g c = λ memory st. peek_resident _ _ memory c.args.addr _ (search rules) (search rules) (search rules) st
+
+pub returns-then-is_resident-clause-from : goal.returns-then-is_resident-clause-from
+returns-then-is_resident-clause-from g c = peeked_frame (paging c.args.self.now) _ c.args.addr _ (first_true (is_listed (page_of c.args.addr) (paging c.args.self.now).order) (is_listed (page_of c.args.addr) (paging c.args.self.now).kept) (search rules)) (search rules)
+
+pub returns-in-Some-clause-byte : goal.returns-in-Some-clause-byte
+returns-in-Some-clause-byte g c = λ memory st. peek_kept _ _ memory c.args.addr _ (search rules) (search rules) (search rules) (search rules) st
+
+pub returns-in-Some-clause-from : goal.returns-in-Some-clause-from
+returns-in-Some-clause-from g c = peeked_frame (paging c.args.self.now) _ c.args.addr _ (either_true (is_listed (page_of c.args.addr) (paging c.args.self.now).order) (is_listed (page_of c.args.addr) (paging c.args.self.now).kept) (search rules)) (search rules)
+
+pub returns-clause-byte : goal.returns-clause-byte
+returns-clause-byte g c = λ memory st. peek_absent _ _ memory c.args.addr _ _ (search rules) (search rules) c.in_ok-bytes.ensures.bytes (search rules) st
+
+pub returns-clause-from : goal.returns-clause-from
+returns-clause-from g c = peeked_home (paging c.args.self.now) _ c.args.addr _ c.in_ok-bytes.bytes (neither (is_listed (page_of c.args.addr) (paging c.args.self.now).order) (is_listed (page_of c.args.addr) (paging c.args.self.now).kept) (search rules) (search rules)) c.in_ok-bytes.ensures.bytes (search rules)

@@ -1,0 +1,32 @@
+use Rattle.std.proofs.Common.{rules, arith, ◌≡◌, ◌≢◌, ◌<◌, refl, sym, ◌∙◌, ap, subst, true, false, ℕ, inl, inr, Some, None}
+use Rattle.std.specs.Prelude.{is_some}
+use Rattle.vax_pager.specs.Listing.{is_listed}
+use Rattle.vax_pager.specs.Store.{paging}
+use Rattle.vax_pager.specs.Paging.{Paging}
+use Rattle.vax_pager.specs.Steps.{released, brought, forgotten, removed}
+use Rattle.vax_pager.specs.Calls.{after_flush, source, came}
+use Rattle.vax_pager.proofs.Steps.{within_prot}
+use Rattle.vax_pager.proofs.Effects.{own_brought, own_comes, keeps_brought}
+use Rattle.vax_pager.proofs.store.Store.serve_empty.Goals as goal
+
+pub bring-requires-clause-within : goal.bring-requires-clause-within
+bring-requires-clause-within g c = within_prot c.grow-frame.new.self c.args.page (rw c.grow-frame.ensures.paging c.requires.within)
+
+pub bring-requires-clause-absent : goal.bring-requires-clause-absent
+bring-requires-clause-absent g c = rw c.grow-frame.ensures.paging c.requires.absent
+
+pub bring-requires-clause-unkept : goal.bring-requires-clause-unkept
+bring-requires-clause-unkept g c = rw c.grow-frame.ensures.paging c.requires.unkept
+
+pub bring-requires-clause-pins : goal.bring-requires-clause-pins
+bring-requires-clause-pins g c = rw c.grow-frame.ensures.paging c.requires.pins
+
+pub returns-clause-ok : goal.returns-clause-ok
+returns-clause-ok g c = own_brought _ _ _ _ (c.bring.ensures.paging ∙ ap (brought c.args.page _) c.grow-frame.ensures.paging)
+
+pub returns-clause-bytes : goal.returns-clause-bytes
+returns-clause-bytes g c = own_comes c.args.page _ _ _ _ _ (c.bring.ensures.paging ∙ ap (brought c.args.page _) c.grow-frame.ensures.paging) c.in_ok-bytes.ensures.bytes
+
+pub returns-clause-keeps : goal.returns-clause-keeps
+returns-clause-keeps g c =
+    keeps_brought c.args.page _ _ _ _ _ (c.bring.ensures.paging ∙ ap (brought c.args.page _) c.grow-frame.ensures.paging) c.in_ok-bytes.ensures.read c.requires.within c.requires.absent c.in_ok-bytes.ensures.bytes

@@ -1,0 +1,8 @@
+pub mod Listing
+pub mod Paging
+pub mod Steps
+pub mod Calls
+pub mod Pins
+pub mod Frames
+pub mod Store
+pub mod Meaning

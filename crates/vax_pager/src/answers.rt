@@ -1,0 +1,83 @@
+//! What a pager answers of itself.
+ghost use Rattle.std.specs.Prelude.{◌≡◌, length, is_some};
+
+use crate::Counts;
+use crate::store::Store;
+use vax_space::Space;
+
+impl Store {
+    ghost use Rattle.vax_pager.specs.Listing.{first};
+    ghost use Rattle.vax_pager.specs.Calls.{IsPaging};
+    ghost use Rattle.vax_pager.specs.Store.{IsSound, paging};
+
+    #[tactic(auto, using(crate::proofs::Steps::is_paging))]
+    pub(crate) fn facts(&self)
+        requires sound { IsSound 0 self.now }
+        ensures { IsPaging (paging self.now) }
+    {
+        let _ = self.order.first();
+    }
+
+    #[tactic(auto, unfolding(crate::specs::Store::paging))]
+    pub(crate) fn space(&self) -> &Space
+        ensures { result.now ≡ (paging self.now).areas }
+    {
+        &self.space
+    }
+
+    #[tactic(auto, using(crate::proofs::Steps::frames_few), unfolding(crate::specs::Store::paging))]
+    pub(crate) fn frames(&self) -> u32
+        requires sound { IsSound 0 self.now }
+        ensures { result ≡ (paging self.now).frames }
+    {
+        self.frames.len() as u32
+    }
+
+    #[tactic(auto, using(crate::proofs::Steps::pins_few, crate::proofs::Steps::pinned_are))]
+    pub(crate) fn pins(&self) -> u32
+        requires sound { IsSound 0 self.now }
+        ensures { result ≡ length (paging self.now).pinned }
+    {
+        self.pins.len() as u32
+    }
+
+    #[tactic(auto, using(crate::proofs::Steps::kept_are))]
+    pub(crate) fn kept(&self) -> u32
+        ensures { result ≡ length (paging self.now).kept }
+    {
+        self.lists.kept()
+    }
+
+    #[tactic(auto, using(crate::proofs::Steps::next_is))]
+    pub(crate) fn next_flush(&self) -> Option<u32>
+        ensures { result ≡ first (paging self.now).modified }
+    {
+        self.lists.next_modified()
+    }
+
+    #[tactic(auto, unfolding(crate::specs::Store::paging))]
+    pub(crate) fn counts(&self) -> Counts
+        ensures served { result.served ≡ (paging self.now).numbers.served }
+        ensures evicted { result.evicted ≡ (paging self.now).numbers.evicted }
+        ensures written { result.written ≡ (paging self.now).numbers.written }
+    {
+        Counts {
+            served: self.served,
+            evicted: self.evicted,
+            written: self.written,
+        }
+    }
+
+    #[tactic(auto, unfolding(crate::specs::Store::paging))]
+    pub(crate) fn spoiled(&self) -> u64
+        ensures { result ≡ (paging self.now).numbers.spoiled }
+    {
+        self.spoiled
+    }
+
+    pub(crate) fn hits(&self) -> u64
+        ensures { result ≡ self.now.buffer.hits }
+    {
+        self.buffer.hits()
+    }
+}

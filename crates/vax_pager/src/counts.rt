@@ -1,0 +1,19 @@
+//! Counts that stand still at their last value.
+ghost use Rattle.std.specs.Prelude.{◌≡◌, if◌then◌else◌};
+ghost use Rattle.vax_outside.specs.Faults.{raised};
+
+/// One more, or the last value.
+#[inline]
+pub(crate) fn raised(count: u64) -> u64
+    ensures { result ≡ raised count }
+{
+    count.saturating_add(1)
+}
+
+/// One more where it is so.
+#[inline]
+pub(crate) fn raised_if(test: bool, count: u64) -> u64
+    ensures { result ≡ (if test then raised count else count) }
+{
+    if test { raised(count) } else { count }
+}

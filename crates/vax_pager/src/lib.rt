@@ -1,0 +1,16 @@
+//! The pager: the guest's memory in frames, with a page file.
+#![tactic(auto)]
+
+mod access;
+mod answers;
+mod calls;
+mod counts;
+mod pager;
+mod pins;
+mod port;
+mod store;
+#[cfg(test)]
+mod tests;
+
+pub use crate::calls::PageFault;
+pub use crate::pager::{Counts, Pager};
