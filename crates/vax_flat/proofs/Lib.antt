@@ -13,6 +13,7 @@ pub mod Listed
 pub mod Quiet
 pub mod Closed
 pub mod Windows
+pub mod Frames
 pub mod OperandBounds
 pub mod Bounds
 pub mod Steps

@@ -12,6 +12,8 @@ pub mod Delivery
 pub mod Integer
 pub mod Control
 pub mod System
+pub mod Queue
+pub mod Call
 pub mod Instruction
 pub mod Grammar
 pub mod Evaluation
