@@ -18,5 +18,6 @@ pub mod OperandBounds
 pub mod Bounds
 pub mod Steps
 pub mod Results
+pub mod Returned
 pub mod Worked
 pub mod Fronts

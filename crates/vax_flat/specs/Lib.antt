@@ -14,6 +14,7 @@ pub mod Control
 pub mod System
 pub mod Queue
 pub mod Call
+pub mod Returned
 pub mod Instruction
 pub mod Grammar
 pub mod Evaluation

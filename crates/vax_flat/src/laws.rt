@@ -1,5 +1,6 @@
 //! The laws of the flat machine, each the contract of a call that does nothing.
-ghost use Rattle.std.specs.Prelude.{◌≡◌, ◌<◌, ◌%◌, pos, ℕ, ◌≤◌, Bool, true, false, Some, IsSome, List, [], ◌∷◌, ◌++◌, length};
+ghost use Rattle.std.specs.Prelude.{◌≡◌, ◌<◌, ◌%◌, pos, ℕ, ◌≤◌, Bool, true, false, Some, IsSome, if◌then◌else◌, ◌==◌, List, [], ◌∷◌, ◌++◌, length, reverse};
+ghost use Rattle.std.specs.List.{list_any};
 ghost use Rattle.vax_space.specs.declared.Area.{Area};
 ghost use Rattle.vax_flat.specs.Accesses.{Accesses, Leaf};
 ghost use Rattle.vax_flat.specs.declared.Cut.TheVariants.{Absent};
@@ -13,8 +14,13 @@ ghost use Rattle.vax_isa.specs.Actions.{operands_of};
 ghost use Rattle.vax_isa.specs.Instructions.{Instruction};
 ghost use Rattle.vax_flat.specs.declared.Operand.{Operand};
 ghost use Rattle.vax_flat.specs.declared.Flow.{Flow};
-ghost use Rattle.vax_flat.specs.State.{State};
-ghost use Rattle.vax_flat.specs.Operand.{next_operand};
+ghost use Rattle.vax_flat.specs.declared.Flow.TheVariants.{Done};
+ghost use Rattle.vax_flat.specs.State.{State, mode, register, with_psl, with_register};
+ghost use Rattle.vax_flat.specs.Operand.{next_operand, plus};
+ghost use Rattle.vax_flat.specs.Call.{behind_arguments, frame, frame_word, linked, return_from, return_status};
+ghost use Rattle.vax_flat.specs.Returned.{AreThere, behind, caller_status, with_caller};
+ghost use Rattle.vax_word.specs.declared.Psl.{Psl};
+ghost use Rattle.vax_word.specs.Status.{field};
 ghost use Rattle.vax_flat.specs.System.{unless_privileged};
 ghost use Rattle.vax_flat.specs.Instruction.{acted, instruction, is_built, is_privileged};
 ghost use Rattle.vax_flat.specs.declared.Exception.{Exception};
@@ -99,4 +105,13 @@ pub fn grammar_reads()
 /// A tree stops over a port only for a page of an area that is absent, whatever memory the port stands for.
 pub fn stops_for_missing_pages()
     ensures { (tree : Accesses Leaf) → (view : View) → (page : ℕ) → (marked : ℕ → Bool) → over_port tree view ≡ Stops (Absent page) marked → IsMissing view page }
+{}
+
+/// RET is the inverse of a call. On a memory where a frame's longwords stand at FP, one above the other, and may be read, it comes to the caller's
+/// AP, FP, PC and saved registers, behind the frame and the bytes by which SP was brought down, behind the arguments if they are on the stack,
+/// and the caller's status word without trace and condition codes.
+pub fn frames_are_returned()
+    ensures frame { (memory : List Area) → (caller : State) → (s : State) → (mask : ℕ) → (offset : ℕ) → (on_stack : Bool) → offset < 4 → field caller.core.psl.0 8 8 ≡ 0 → AreThere memory (mode s) (register s 13) (reverse (frame mask (frame_word offset on_stack mask caller.core.psl) caller)) → outcome_of (return_from s leaf) memory ≡ outcome_of (behind_arguments on_stack (plus (behind (length (frame mask (frame_word offset on_stack mask caller.core.psl) caller)) (register s 13)) offset) (with_caller mask caller s) (λ top t. leaf Done (with_psl (with_register t 14 top) (return_status (frame_word offset on_stack mask caller.core.psl) t.core.psl)))) memory }
+    ensures registers { (mask n : ℕ) → (caller s : State) → length s.core.regs ≡ 16 → register (with_caller mask caller s) n ≡ if list_any (λ k. k == n) (linked mask) then register caller n else register s n }
+    ensures status { (offset mask : ℕ) → (on_stack : Bool) → (caller psl : Psl) → offset < 4 → return_status (frame_word offset on_stack mask caller) psl ≡ caller_status caller psl }
 {}
