@@ -135,7 +135,7 @@ module _ (memory : List Area) (caller s : State) (mask offset : ℕ) (on_stack :
 
 -- the registers that a frame gives back
 
-set_register : (s : State) (n k value : ℕ) → length s.core.regs ≡ 16 → k < 16 → register (with_register s k value) n ≡ cond (k == n) value (register s n)
+pub set_register : (s : State) (n k value : ℕ) → length s.core.regs ≡ 16 → k < 16 → register (with_register s k value) n ≡ cond (k == n) value (register s n)
 set_register s n k value full small =
     elim (cases_eq k n) [
       | inl e ↦ rw (eq-eqb k n e) (subst (λ m. register (with_register s k value) m ≡ value) e (get_or-set_same s.core.regs k value 0 (omega arith)))
