@@ -19,5 +19,6 @@ pub mod Bounds
 pub mod Steps
 pub mod Results
 pub mod Returned
+pub mod Pushed
 pub mod Worked
 pub mod Fronts

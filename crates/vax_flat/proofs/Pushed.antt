@@ -139,6 +139,10 @@ unfolding frame_word
 word_fits offset mask true psl h = omega arith
 word_fits offset mask false psl h = omega arith
 
+frame_fits : (s : State) (mask word : ℕ) → ((n : ℕ) → register s n < 2 ^ 32) → word < 2 ^ 32 → AreLongwords (frame mask word s)
+unfolding frame
+frame_fits s mask word below h = longwords_of s (reverse (linked mask)) (word ∷ 0 ∷ []) below (h, (omega arith, tt))
+
 -- FP has the address of the frame's last longword
 fp_is : (procedure mask arguments bottom : ℕ) (s : State) → length s.core.regs ≡ 16 → register (at_procedure procedure mask arguments bottom s) 13 ≡ bottom
 unfolding at_procedure
@@ -159,13 +163,9 @@ frame_there memory end procedure mask arguments top on_stack s t whole full belo
     let word = frame_word (top % 4) on_stack mask s.core.psl in
     let xs = frame mask word s in
     let few = few_framed mask word s in
-    let p = pushed_there xs [] (top / 4 * 4) s _ memory (Went flow.Done t) end whole (fits word (omega (arith, word_fits (top % 4) mask on_stack s.core.psl (omega arith)))) (omega arith) (omega arith) tt e in
+    let p = pushed_there xs [] (top / 4 * 4) s _ memory (Went flow.Done t) end whole (frame_fits s mask word below (word_fits (top % 4) mask on_stack s.core.psl (omega arith))) (omega arith) (omega arith) tt e in
     let same_memory : p.after_all ≡ end = let g = p.goes_on in cc in
     let same_state : at_procedure procedure mask arguments p.bottom s ≡ t = let g = p.goes_on in cc in
     let fp : p.bottom ≡ register t 13 = sym (fp_is procedure mask arguments p.bottom s full) ∙ ap (λ u. register u 13) same_state in
     let there : AreThere p.after_all (mode s) p.bottom (reverse xs) = subst (AreThere p.after_all (mode s) p.bottom) (append-nil (reverse xs)) p.there in
     subst (λ b. AreThere end (mode s) b (reverse xs)) fp (subst (λ after. AreThere after (mode s) p.bottom (reverse xs)) same_memory there)
-  where
-    fits : (word : ℕ) → word < 2 ^ 32 → AreLongwords (frame mask word s)
-    unfolding frame
-    fits word h = longwords_of s (reverse (linked mask)) (word ∷ 0 ∷ []) below (h, (omega arith, tt))
