@@ -251,13 +251,13 @@ fn aligned_sums(rt: HostRuntime) -> Result<(), Fail> {
             let mut core = registers([0, addend, old], word);
             let how = went(rt.alloc(), &mut port, &mut core, Queue::AddAligned);
             assert_eq!(rt; (how, core.regs[3]), (Ok(flow), new));
-            assert_eq!(rt; core.psl, Psl(0x1F_0000 + word + codes));
+            assert_eq!(rt; core.psl, Psl(0x1F_0000 | word | codes));
             // ADAWI R2,(R3)
             let mut port = memory(rt.alloc(), &[0x52, 0x63], &[old])?;
             let mut core = registers([0, addend, DATA], word);
             let how = went(rt.alloc(), &mut port, &mut core, Queue::AddAligned);
             assert_eq!(rt; (how, longword(&port, DATA)), (Ok(flow), new));
-            assert_eq!(rt; core.psl, Psl(0x1F_0000 + word + codes));
+            assert_eq!(rt; core.psl, Psl(0x1F_0000 | word | codes));
         }
     }
     Ok(())
