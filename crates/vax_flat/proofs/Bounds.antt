@@ -7,7 +7,8 @@ use Rattle.vax_word.specs.declared.Psl.{Psl}
 use Rattle.vax_word.specs.declared.Size.{Size}
 use Rattle.vax_word.specs.declared.Size.TheVariants as size
 use Rattle.vax_word.specs.Arithmetic.{bytes_of, is_less}
-use Rattle.vax_word.specs.Status.{is_one, ipl_of}
+use Rattle.vax_word.specs.Status.{field, is_one, ipl_of}
+use Rattle.std.proofs.lemmas.List.{length-map, length-reverse}
 use Rattle.vax_isa.specs.declared.OperandKind.{OperandKind}
 use Rattle.vax_isa.specs.declared.actions.AccessMode.{AccessMode}
 use Rattle.vax_isa.specs.declared.actions.Action.{Action}
@@ -18,7 +19,11 @@ use Rattle.vax_isa.specs.declared.actions.Control.{Control}
 use Rattle.vax_isa.specs.declared.actions.Control.TheVariants as control
 use Rattle.vax_isa.specs.declared.actions.System.{System}
 use Rattle.vax_isa.specs.declared.actions.System.TheVariants as system
-use Rattle.vax_isa.specs.Actions.{mode_number, size_of, of_integer, of_control, of_system}
+use Rattle.vax_isa.specs.declared.actions.Queue.{Queue}
+use Rattle.vax_isa.specs.declared.actions.Queue.TheVariants as queue
+use Rattle.vax_isa.specs.declared.actions.Call.{Call}
+use Rattle.vax_isa.specs.declared.actions.Call.TheVariants as call
+use Rattle.vax_isa.specs.Actions.{mode_number, size_of, of_integer, of_control, of_system, of_queue, of_call}
 use Rattle.vax_isa.specs.Rows.{action_of}
 use Rattle.vax_flat.specs.declared.Delivery.{Delivery}
 use Rattle.vax_flat.specs.declared.Delivery.TheVariants.{Entered, Ended}
@@ -38,12 +43,15 @@ use Rattle.vax_flat.specs.Integer.{subscript_flow, pushed_result, performed as i
 use Rattle.vax_flat.specs.Control.{called, return_subroutine, looped, chosen, performed as control_performed}
 use Rattle.vax_flat.specs.Delivery.{on_interrupt_stack, takes_interrupt_stack, status, at_handler, served, interrupt_vector, change_vector, vectored, pushed_in, pushed_if, pushed_all, entered, dispatched, vector_of, parameters, delivery, interrupted, interrupt, changed, pushed_outside, changed_to, change_by, change_mode}
 use Rattle.vax_flat.specs.System.{flow_of_delivery, return_from, is_refused, pointer, input_byte, input_after, input_ready, return_exception, probed, set_processor, get_processor, status_set, status_cleared, unless_privileged, is_for_kernel, performed as system_performed}
+use Rattle.vax_flat.specs.Queue.{inserted, removed, is_odd, aligned_sum, performed as queue_performed}
+use Rattle.vax_flat.specs.Call.{named, linked, frame, frame_word, saved, restored, registers_pushed, registers_popped, with_top, at_procedure, entered as procedure_entered, entry_mask, called_with_list, called_with_stack, is_status, behind_arguments, unwound, return_from as procedure_return, performed as call_performed}
 use Rattle.vax_flat.specs.Instruction.{acted, acted_if, instruction}
 use Rattle.vax_flat.specs.Evaluation.{next_operands}
 use Rattle.vax_flat.specs.Step.{level, begun, finished, handed_over, whole, delivered}
 use Rattle.vax_flat.specs.Bound.{IsClosed, IsWhole}
-use Rattle.vax_flat.proofs.Listed.{value, of_integers, of_controls, of_systems, integer_takes, control_takes, system_takes}
+use Rattle.vax_flat.proofs.Listed.{place, value, of_integers, of_controls, of_systems, of_queues, of_calls, integer_takes, control_takes, system_takes, queue_takes, call_takes}
 use Rattle.vax_flat.proofs.Windows.{IsPcNear, near_here, IsStackNear, stack_here, stack_below, stack_pushed, read_adds, write_adds, read_in_adds, fetched_adds, at_most, either}
+use Rattle.vax_flat.proofs.Frames.{IsTopNear, top_here, top_fewer, top_aligned, below_within, below_near, room_here, room_behind, few_named, few_framed, read_within, one_adds, pushes_add, pops_add}
 use Rattle.vax_flat.proofs.OperandBounds.{costs, AreWide, operands_add}
 
 -- the operands of each instruction are 1 to 8 bytes wide, and have few ranges
@@ -101,6 +109,29 @@ system_modest system.FromRegister = record { wide = ((size_wide size.L).0, (size
 system_modest system.MoveStatus = record { wide = ((size_wide size.L).0, (size_wide size.L).1, tt); few = omega arith; short = omega arith }
 system_modest system.SetStatus = record { wide = ((size_wide size.W).0, (size_wide size.W).1, tt); few = omega arith; short = omega arith }
 system_modest system.ClearStatus = record { wide = ((size_wide size.W).0, (size_wide size.W).1, tt); few = omega arith; short = omega arith }
+
+queue_wide : (i : Queue) → AreWide (of_queue i)
+queue_wide queue.Insert = ((size_wide size.B).0, (size_wide size.B).1, ((size_wide size.B).0, (size_wide size.B).1, tt))
+queue_wide queue.Remove = ((size_wide size.B).0, (size_wide size.B).1, ((size_wide size.L).0, (size_wide size.L).1, tt))
+queue_wide queue.AddAligned = ((size_wide size.W).0, (size_wide size.W).1, ((size_wide size.W).0, (size_wide size.W).1, tt))
+
+-- a queue instruction has fewer ranges for its operands, and more for its work
+queue_few : (i : Queue) → costs (of_queue i) ≤ 8
+queue_few queue.Insert = omega arith
+queue_few queue.Remove = omega arith
+queue_few queue.AddAligned = omega arith
+
+queue_short : (i : Queue) → length (of_queue i) ≤ 6
+queue_short queue.Insert = omega arith
+queue_short queue.Remove = omega arith
+queue_short queue.AddAligned = omega arith
+
+call_modest : (i : Call) → AreModest (of_call i)
+call_modest call.WithList = record { wide = ((size_wide size.B).0, (size_wide size.B).1, ((size_wide size.B).0, (size_wide size.B).1, tt)); few = omega arith; short = omega arith }
+call_modest call.WithStack = record { wide = ((size_wide size.L).0, (size_wide size.L).1, ((size_wide size.B).0, (size_wide size.B).1, tt)); few = omega arith; short = omega arith }
+call_modest call.Return = record { wide = tt; few = omega arith; short = omega arith }
+call_modest call.PushRegisters = record { wide = ((size_wide size.W).0, (size_wide size.W).1, tt); few = omega arith; short = omega arith }
+call_modest call.PopRegisters = record { wide = ((size_wide size.W).0, (size_wide size.W).1, tt); few = omega arith; short = omega arith }
 
 module _ (Q : List ℕ → ℕ → Accesses Leaf → Type 0) (c : IsClosed Q) where
   -- deliveries
@@ -352,6 +383,63 @@ module _ (Q : List ℕ → ℕ → Accesses Leaf → Type 0) (c : IsClosed Q) wh
     system_adds system.SetStatus xs s = either Q c ws _ (not (value 0 xs / 2 ^ 8 == 0) || is_one (value 0 xs) 4) _ _ (λ yes. c.raises _ _ _) (λ allowed. none_more _ (q flow.Done _ tt))
     system_adds system.ClearStatus xs s = either Q c ws _ (not (value 0 xs / 2 ^ 8 == 0)) _ _ (λ yes. c.raises _ _ _) (λ allowed. none_more _ (q flow.Done _ tt))
 
+    -- the link from an entry is read and four longwords are written; or two links are read and three longwords are written
+    queue_adds : (i : Queue) (xs : List (Operand × ℕ)) (s : State) → Q ws (suc (suc (suc (suc (suc n))))) (of_queues i xs s next)
+    unfolding of_queues inserted removed aligned_sum
+    queue_adds queue.Insert xs s =
+        read_adds Q c ws _ _ 4 s _ (omega arith) (λ successor.
+        write_adds Q c ws _ _ 4 _ s _ (omega arith) (write_adds Q c ws _ _ 4 _ s _ (omega arith) (write_adds Q c ws _ _ 4 _ s _ (omega arith) (
+        write_adds Q c ws _ _ 4 _ s _ (omega arith) (q flow.Done _ tt)))))
+    queue_adds queue.Remove xs s =
+        read_adds Q c ws _ _ 4 s _ (omega arith) (λ successor. read_adds Q c ws _ _ 4 s _ (omega arith) (λ predecessor.
+        write_adds Q c ws _ _ 4 _ s _ (omega arith) (write_adds Q c ws _ _ 4 _ s _ (omega arith) (
+        stored_adds 4 _ (omega arith) _ s n _ (λ t. q flow.Done _ tt)))))
+    queue_adds queue.AddAligned xs s =
+        at_most Q c ws (suc n) _ _ (omega arith)
+        (either Q c ws (suc n) (is_odd (place 1 xs)) _ _ (λ odd. c.raises _ _ _) (λ even. answered_adds 2 (omega arith) _ _ _ s))
+
+    -- a frame lies in a window at the stack
+    entered_frame : (window procedure mask arguments top : ℕ) (on_stack : Bool) (s : State) → IsTopNear top window 18 → Q (window ∷ ws) n (procedure_entered procedure mask arguments top on_stack s next)
+    unfolding procedure_entered
+    entered_frame window procedure mask arguments top on_stack s p =
+        let few = few_framed mask (frame_word (top % 4) on_stack mask s.core.psl) s in
+        pushes_add Q c window ws n _ _ s _ (top_fewer _ window 17 _ few (top_aligned top window 17 p)) (λ bottom. c.wider window ws n _ (q flow.Done (at_procedure procedure mask arguments bottom s) tt))
+
+    mask_adds : (procedure : ℕ) (s : State) (m : ℕ) (then_next : ℕ → State → Accesses Leaf) → ((mask : ℕ) → Q ws m (then_next mask s)) → Q ws (suc m) (entry_mask procedure s then_next)
+    unfolding entry_mask
+    mask_adds procedure s m then_next r =
+        read_adds Q c ws m _ 2 s _ (omega arith) (λ mask. either Q c ws m (field mask 12 2 == 0) (then_next mask s) _ (λ yes. r mask) (λ bad. c.raises _ _ _))
+
+    arguments_add : (window : ℕ) (on_stack : Bool) (top : ℕ) (s : State) (then_next : ℕ → State → Accesses Leaf) → ((behind : ℕ) → Q (window ∷ ws) n (then_next behind s)) → Q (window ∷ ws) (suc n) (behind_arguments on_stack top s then_next)
+    unfolding behind_arguments
+    arguments_add window on_stack top s then_next r =
+        either Q c _ (suc n) on_stack _ (then_next top s) (λ yes. read_adds Q c _ n _ 4 s _ (omega arith) (λ count. r _)) (λ none. c.fewer _ n _ (r _))
+
+    unwound_adds : (word : ℕ) (s : State) → Q (register s 13 ∷ ws) (suc n) (unwound word s next)
+    unfolding unwound restored
+    unwound_adds word s =
+        let few = few_named 12 (field word 16 12) in
+        pops_add Q c _ ws (suc n) _ _ s _ (room_behind (register s 13) 8 _ (omega arith) (omega arith)) (λ values behind.
+        arguments_add (register s 13) _ _ _ _ (λ top. c.wider (register s 13) ws n _ (q flow.Done _ tt)))
+
+    call_adds : (i : Call) (xs : List (Operand × ℕ)) (s : State) → Q ws (suc (suc n)) (of_calls i xs s next)
+    unfolding of_calls called_with_list called_with_stack procedure_return registers_pushed registers_popped saved restored
+    call_adds call.WithList xs s =
+        mask_adds _ s (suc n) _ (λ mask. c.opens _ ws n _ (entered_frame _ _ mask _ _ false s (top_here (register s 14) 18 (omega arith))))
+    call_adds call.WithStack xs s =
+        mask_adds _ s (suc n) _ (λ mask. c.opens _ ws n _ (
+        one_adds Q c _ ws n _ _ s _ (below_within (register s 14) _ 18 (top_here (register s 14) 19 (omega arith))) (entered_frame _ _ mask _ _ true s (below_near (register s 14) _ 18 (top_here (register s 14) 19 (omega arith))))))
+    call_adds call.Return xs s =
+        c.opens (register s 13) ws (suc n) _ (
+        read_within Q c (register s 13) ws (suc n) _ s _ (record { offset = 4; begins = refl; ends = omega arith }) (λ word.
+        either Q c _ (suc n) (is_status word) _ _ (λ fine. unwound_adds word s) (λ bad. c.raises _ _ _)))
+    call_adds call.PushRegisters xs s =
+        let few = few_named 15 (value 0 xs) in
+        two_more _ (c.opens _ ws n _ (pushes_add Q c _ ws n _ _ s _ (top_here (register s 14) _ (simp (length-map, length-reverse) (omega arith))) (λ top. c.wider _ ws n _ (q flow.Done _ tt))))
+    call_adds call.PopRegisters xs s =
+        let few = few_named 15 (value 0 xs) in
+        two_more _ (c.opens (register s 14) ws n _ (pops_add Q c _ ws n _ _ s _ (room_here (register s 14) _ (omega arith)) (λ values behind. c.wider _ ws n _ (q flow.Done _ tt))))
+
   -- a whole instruction, whose operands lie in the window at PC or have ranges of their own
   module _ (w : ℕ) (ws : List ℕ) (n : ℕ) (next : Flow → State → Accesses Leaf) (q : (how : Flow) (t : State) → IsWhole how → Q (w ∷ ws) n (next how t)) where
     listed_adds : (kinds : List OperandKind) → AreModest kinds → (s : State) (count : ℕ) → count ≤ 1 → IsPcNear s w count → (rest : List (Operand × ℕ) → State → Accesses Leaf) →
@@ -360,6 +448,12 @@ module _ (Q : List ℕ → ℕ → Accesses Leaf → Type 0) (c : IsClosed Q) wh
         let few : costs kinds ≤ 11 = modest.few in
         let short : length kinds ≤ 6 = modest.short in
         at_most Q c _ (costs kinds + suc (suc n)) _ _ (omega arith) (operands_add Q c w ws (suc (suc n)) kinds modest.wide s count (omega arith) p rest r)
+
+    -- the same where the work has five ranges
+    listed_by_five : (kinds : List OperandKind) → AreWide kinds → costs kinds ≤ 8 → length kinds ≤ 6 → (s : State) (count : ℕ) → count ≤ 1 → IsPcNear s w count → (rest : List (Operand × ℕ) → State → Accesses Leaf) →
+        ((xs : List (Operand × ℕ)) (t : State) → Q (w ∷ ws) (suc (suc (suc (suc (suc n))))) (rest xs t)) → Q (w ∷ ws) (n + 13) (next_operands kinds s rest)
+    listed_by_five kinds wide few short s count here p rest r =
+        at_most Q c _ (costs kinds + suc (suc (suc (suc (suc n))))) _ _ (omega arith) (operands_add Q c w ws (suc (suc (suc (suc (suc n))))) kinds wide s count (omega arith) p rest r)
 
     integer_acts : (i : Integer) (s : State) (count : ℕ) → count ≤ 1 → IsPcNear s w count → Q (w ∷ ws) (n + 13) (integer_performed i s next)
     integer_acts i s count here p =
@@ -377,6 +471,14 @@ module _ (Q : List ℕ → ℕ → Accesses Leaf → Type 0) (c : IsClosed Q) wh
     system_acts i s count here p =
         subst (λ tree. Q (w ∷ ws) (n + 13) tree) (sym (system_takes i s next))
         (allowed_adds (is_for_kernel i) s _ _ (listed_adds (of_system i) (system_modest i) s count here p _ (λ xs t. system_adds (w ∷ ws) n next q i xs t)))
+
+    queue_acts : (i : Queue) (s : State) (count : ℕ) → count ≤ 1 → IsPcNear s w count → Q (w ∷ ws) (n + 13) (queue_performed i s next)
+    queue_acts i s count here p =
+        subst (λ tree. Q (w ∷ ws) (n + 13) tree) (sym (queue_takes i s next)) (listed_by_five (of_queue i) (queue_wide i) (queue_few i) (queue_short i) s count here p _ (λ xs t. queue_adds (w ∷ ws) n next q i xs t))
+
+    call_acts : (i : Call) (s : State) (count : ℕ) → count ≤ 1 → IsPcNear s w count → Q (w ∷ ws) (n + 13) (call_performed i s next)
+    call_acts i s count here p =
+        subst (λ tree. Q (w ∷ ws) (n + 13) tree) (sym (call_takes i s next)) (listed_adds (of_call i) (call_modest i) s count here p _ (λ xs t. call_adds (w ∷ ws) n next q i xs t))
 
     unbuilt_acts : (s : State) → Q (w ∷ ws) (n + 13) (next (flow.Ended ending.Unbuilt) s)
     unbuilt_acts s = at_most Q c _ n _ _ (omega arith) (q _ s tt)

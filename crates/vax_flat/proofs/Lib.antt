@@ -13,10 +13,13 @@ pub mod Listed
 pub mod Quiet
 pub mod Closed
 pub mod Windows
+pub mod Frames
 pub mod OperandBounds
 pub mod Bounds
 pub mod Steps
 pub mod Parts
 pub mod Results
+pub mod Returned
+pub mod Pushed
 pub mod Worked
 pub mod Fronts

@@ -14,7 +14,11 @@ use Rattle.vax_isa.specs.declared.actions.Control.{Control}
 use Rattle.vax_isa.specs.declared.actions.Control.TheVariants as control
 use Rattle.vax_isa.specs.declared.actions.System.{System}
 use Rattle.vax_isa.specs.declared.actions.System.TheVariants as system
-use Rattle.vax_isa.specs.Actions.{size_of, of_integer, of_control, of_system, operands_of}
+use Rattle.vax_isa.specs.declared.actions.Queue.{Queue}
+use Rattle.vax_isa.specs.declared.actions.Queue.TheVariants as queue
+use Rattle.vax_isa.specs.declared.actions.Call.{Call}
+use Rattle.vax_isa.specs.declared.actions.Call.TheVariants as call
+use Rattle.vax_isa.specs.Actions.{size_of, of_integer, of_control, of_system, of_queue, of_call, operands_of}
 use Rattle.vax_isa.specs.Instructions.{Instruction}
 use Rattle.vax_isa.specs.Rows.{action_of}
 use Rattle.vax_flat.specs.declared.Operand.{Operand}
@@ -31,6 +35,8 @@ use Rattle.vax_flat.specs.Integer.{of_one, of_two, is_by_zero, rotated, unary, t
 use Rattle.vax_flat.specs.Control.{holds, compares, jumped, jumped_if, branch, called, branch_subroutine, jump, jump_subroutine, return_subroutine, low_bit, looped, add_one, subtract_one, within, add_compare, chosen, case_of, performed as control_performed}
 use Rattle.vax_flat.specs.Delivery.{change_mode}
 use Rattle.vax_flat.specs.System.{halt, is_for_kernel, flow_of_delivery, return_exception, change_of_mode, probed, probe, with_moved, set_processor, to_register, get_processor, from_register, move_status, status_set, status_cleared, set_status, clear_status, unless_privileged, performed as system_performed}
+use Rattle.vax_flat.specs.Queue.{inserted, insert, removed, remove, aligned_sum, add_aligned, performed as queue_performed}
+use Rattle.vax_flat.specs.Call.{called_with_list, call_with_list, called_with_stack, call_with_stack, return_from, registers_pushed, push_registers, registers_popped, pop_registers, performed as call_performed}
 use Rattle.vax_flat.specs.Instruction.{acted, acted_if, instruction, is_built, is_privileged}
 use Rattle.vax_flat.specs.Grammar.{Sequence, IsInstruction}
 use Rattle.vax_flat.specs.Evaluation.{past, passed, taken, all_come_to, next_operands, AreAhead, DoSame, Takes}
@@ -162,6 +168,34 @@ system_takes system.FromRegister s next = refl
 system_takes system.MoveStatus s next = refl
 system_takes system.SetStatus s next = refl
 system_takes system.ClearStatus s next = refl
+
+-- what a queue instruction does behind its last operand
+unfoldable pub of_queues : Queue → Rest
+of_queues queue.Insert xs s next = inserted (target 0 xs) (target 1 xs) s next
+of_queues queue.Remove xs s next = removed (target 0 xs) (place 1 xs) s next
+of_queues queue.AddAligned xs s next = aligned_sum (value 0 xs) (place 1 xs) (value 1 xs) s next
+
+pub queue_takes : (i : Queue) (s : State) (next : Flow → State → Accesses Leaf) → queue_performed i s next ≡ next_operands (of_queue i) s (λ xs s. of_queues i xs s next)
+unfolding queue_performed insert remove add_aligned read_value modify_value write_place address_value next_operands taken of_queues
+queue_takes queue.Insert s next = refl
+queue_takes queue.Remove s next = refl
+queue_takes queue.AddAligned s next = refl
+
+-- what a call, or a push or pop of registers, does behind its last operand
+unfoldable pub of_calls : Call → Rest
+of_calls call.WithList xs s next = called_with_list (target 0 xs) (target 1 xs) s next
+of_calls call.WithStack xs s next = called_with_stack (value 0 xs) (target 1 xs) s next
+of_calls call.Return xs s next = return_from s next
+of_calls call.PushRegisters xs s next = registers_pushed (value 0 xs) s next
+of_calls call.PopRegisters xs s next = registers_popped (value 0 xs) s next
+
+pub call_takes : (i : Call) (s : State) (next : Flow → State → Accesses Leaf) → call_performed i s next ≡ next_operands (of_call i) s (λ xs s. of_calls i xs s next)
+unfolding call_performed call_with_list call_with_stack push_registers pop_registers read_value address_value next_operands taken of_calls
+call_takes call.WithList s next = refl
+call_takes call.WithStack s next = refl
+call_takes call.Return s next = refl
+call_takes call.PushRegisters s next = refl
+call_takes call.PopRegisters s next = refl
 
 pub action_takes : (a : Action) → is_built a ≡ true → Takes (is_privileged a) (operands_of a) (acted a)
 unfolding acted

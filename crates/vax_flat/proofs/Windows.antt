@@ -27,7 +27,7 @@ pub near_later : (s : State) (window count more : ℕ) → count ≤ more → Is
 near_later s window count more h p = record { offset = p.offset; near = (let n = p.near in omega arith); is = p.is }
 
 -- so far behind a place of a window is a place of it
-place_behind : (window offset width : ℕ) → 1 ≤ width → plus (place window offset) width ≡ place window (offset + width)
+pub place_behind : (window offset width : ℕ) → 1 ≤ width → plus (place window offset) width ≡ place window (offset + width)
 place_behind window zero width h = subst (λ k. plus window width ≡ place window k) (sym (zero-add width)) (places width h)
   where
     places : (width : ℕ) → 1 ≤ width → plus window width ≡ place window width

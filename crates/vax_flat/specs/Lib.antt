@@ -12,6 +12,9 @@ pub mod Delivery
 pub mod Integer
 pub mod Control
 pub mod System
+pub mod Queue
+pub mod Call
+pub mod Returned
 pub mod Instruction
 pub mod Grammar
 pub mod Evaluation

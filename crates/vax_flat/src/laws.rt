@@ -1,11 +1,13 @@
 //! The laws of the flat machine, each the contract of a call that does nothing.
-ghost use Rattle.std.specs.Prelude.{◌≡◌, ◌<◌, ◌%◌, pos, ℕ, ◌≤◌, Bool, true, false, None, Some, IsSome, List, [], ◌∷◌, ◌++◌, length};
+ghost use Rattle.vax_flat.specs.Memory.{IsWhole};
+ghost use Rattle.std.specs.Prelude.{◌≡◌, ◌<◌, ◌%◌, ◌^◌, pos, ℕ, ◌≤◌, Bool, true, false, None, Some, IsSome, if◌then◌else◌, ◌==◌, List, [], ◌∷◌, ◌++◌, length, reverse};
+ghost use Rattle.std.specs.List.{list_any};
 ghost use Rattle.vax_space.specs.declared.Area.{Area};
-ghost use Rattle.vax_flat.specs.Accesses.{Accesses, Leaf};
+ghost use Rattle.vax_flat.specs.Accesses.{Accesses, Leaf, Went};
 ghost use Rattle.vax_flat.specs.declared.Cut.TheVariants.{Absent};
 ghost use Rattle.vax_flat.specs.Inside.{IsMissing};
 ghost use Rattle.vax_flat.specs.Port.{View, StandsFor};
-ghost use Rattle.vax_flat.specs.Outcome.{Range, first_missing, marked_by, or_else, outcome_of, touches_of, unless_absent};
+ghost use Rattle.vax_flat.specs.Outcome.{Ends, Range, first_missing, marked_by, or_else, outcome_of, touches_of, unless_absent};
 ghost use Rattle.vax_flat.specs.OverPort.{Agrees, Stops, marks_of, over_port};
 ghost use Rattle.vax_isa.specs.declared.OperandKind.{OperandKind};
 ghost use Rattle.vax_isa.specs.declared.actions.Action.{Action};
@@ -13,8 +15,13 @@ ghost use Rattle.vax_isa.specs.Actions.{operands_of};
 ghost use Rattle.vax_isa.specs.Instructions.{Instruction};
 ghost use Rattle.vax_flat.specs.declared.Operand.{Operand};
 ghost use Rattle.vax_flat.specs.declared.Flow.{Flow};
-ghost use Rattle.vax_flat.specs.State.{State};
-ghost use Rattle.vax_flat.specs.Operand.{next_operand};
+ghost use Rattle.vax_flat.specs.declared.Flow.TheVariants.{Done};
+ghost use Rattle.vax_flat.specs.State.{State, mode, register, with_psl, with_register};
+ghost use Rattle.vax_flat.specs.Operand.{next_operand, plus};
+ghost use Rattle.vax_flat.specs.Call.{behind_arguments, entered, frame, frame_word, linked, return_from, return_status};
+ghost use Rattle.vax_flat.specs.Returned.{AreThere, behind, caller_status, with_caller};
+ghost use Rattle.vax_word.specs.declared.Psl.{Psl};
+ghost use Rattle.vax_word.specs.Status.{field};
 ghost use Rattle.vax_flat.specs.System.{unless_privileged};
 ghost use Rattle.vax_flat.specs.Instruction.{acted, instruction, is_built, is_privileged};
 ghost use Rattle.vax_flat.specs.declared.Exception.{Exception};
@@ -108,4 +115,14 @@ pub fn grammar_reads()
 /// A tree stops over a port only for a page of an area that is absent, whatever memory the port stands for.
 pub fn stops_for_missing_pages()
     ensures { (tree : Accesses Leaf) → (view : View) → (page : ℕ) → (marked : ℕ → Bool) → over_port tree view ≡ Stops (Absent page) marked → IsMissing view page }
+{}
+
+/// RET is the inverse of a call. Where a call came to its end, its frame's longwords stand in memory at FP, one above the other. On a memory where
+/// they stand there, whatever else changed, RET comes to the caller's AP, FP, PC and saved registers, behind the frame and the bytes by which SP was brought down, behind the arguments if they are on the stack,
+/// and the caller's status word without trace and condition codes.
+pub fn frames_are_returned()
+    ensures pushed { (memory : List Area) → (end : List Area) → (procedure mask arguments top : ℕ) → (on_stack : Bool) → (s : State) → (t : State) → IsWhole memory → length s.core.regs ≡ 16 → ((n : ℕ) → register s n < 2 ^ 32) → top < 2 ^ 32 → outcome_of (entered procedure mask arguments top on_stack s leaf) memory ≡ Ends (Went Done t) end → AreThere end (mode s) (register t 13) (reverse (frame mask (frame_word (top % 4) on_stack mask s.core.psl) s)) }
+    ensures frame { (memory : List Area) → (caller : State) → (s : State) → (mask : ℕ) → (offset : ℕ) → (on_stack : Bool) → offset < 4 → field caller.core.psl.0 8 8 ≡ 0 → AreThere memory (mode s) (register s 13) (reverse (frame mask (frame_word offset on_stack mask caller.core.psl) caller)) → outcome_of (return_from s leaf) memory ≡ outcome_of (behind_arguments on_stack (plus (behind (length (frame mask (frame_word offset on_stack mask caller.core.psl) caller)) (register s 13)) offset) (with_caller mask caller s) (λ top t. leaf Done (with_psl (with_register t 14 top) (return_status (frame_word offset on_stack mask caller.core.psl) t.core.psl)))) memory }
+    ensures registers { (mask n : ℕ) → (caller s : State) → length s.core.regs ≡ 16 → register (with_caller mask caller s) n ≡ if list_any (λ k. k == n) (linked mask) then register caller n else register s n }
+    ensures status { (offset mask : ℕ) → (on_stack : Bool) → (caller psl : Psl) → offset < 4 → return_status (frame_word offset on_stack mask caller) psl ≡ caller_status caller psl }
 {}

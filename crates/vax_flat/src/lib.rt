@@ -9,8 +9,9 @@
 mod laws;
 
 pub use crate::laws::{
-    arrival_agrees, deliveries_raise_nothing, grammar_agrees, grammar_reads, joined_ranges,
-    operands_are_listed, parts_agree, results_agree, steps_are_bounded, stops_for_missing_pages,
+    arrival_agrees, deliveries_raise_nothing, frames_are_returned, grammar_agrees, grammar_reads,
+    joined_ranges, operands_are_listed, parts_agree, results_agree, steps_are_bounded,
+    stops_for_missing_pages,
 };
 use vax_space::Violation;
 

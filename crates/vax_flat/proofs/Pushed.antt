@@ -1,0 +1,171 @@
+-- Longwords that are pushed stand in memory, one above the other.
+use Rattle.std.proofs.Common.{◌≡◌, ◌≢◌, ℕ, suc, zero, ◌+◌, ◌-◌, ◌*◌, ◌/◌, ◌%◌, ◌^◌, ◌<◌, ◌≤◌, Bool, true, false, cond, eqb, Option, Some, None, List, [], ◌∷◌, ◌++◌, length, map, refl, ap, sym, subst, ◌∙◌, arith, append_assoc}
+use Rattle.std.specs.Prelude.{reverse}
+use Rattle.std.proofs.lemmas.Bool.{eq-eqb, ne_eqb}
+use Rattle.std.proofs.Math.Path.{fun_ext}
+use Rattle.std.proofs.lemmas.List.{reverse-append, append-nil, length-set}
+use Rattle.vax_space.specs.declared.Access.TheVariants.{Read, Write}
+use Rattle.vax_space.specs.declared.Area.{Area}
+use Rattle.vax_space.specs.declared.Violation.{Violation}
+use Rattle.vax_space.specs.Reference.{violation}
+use Rattle.vax_space.proofs.References.{writable_is_readable}
+use Rattle.vax_word.specs.declared.Psl.{Psl}
+use Rattle.vax_flat.specs.declared.Flow.TheVariants as flow
+use Rattle.vax_flat.specs.Memory.{after, byte_at, number, written, IsWhole}
+use Rattle.vax_flat.specs.Port.{put}
+use Rattle.vax_flat.specs.State.{State, register, with_register, mode}
+use Rattle.vax_flat.specs.Accesses.{Accesses, Leaf, Went}
+use Rattle.vax_flat.specs.Outcome.{Outcome, Ends, Raised, outcome_of, unless_violated}
+use Rattle.vax_flat.specs.Operand.{plus, write_at}
+use Rattle.vax_flat.specs.Call.{pushed_one, pushed_below, linked, frame, frame_word, at_procedure, entered}
+use Rattle.vax_flat.specs.Step.{leaf}
+use Rattle.vax_flat.specs.Returned.{AreThere}
+use Rattle.vax_flat.proofs.Alike.{violation-alike}
+use Rattle.vax_flat.proofs.Bytes.{is_within, put-outside}
+use Rattle.vax_flat.proofs.Frames.{few_framed}
+use Rattle.vax_flat.proofs.Returned.{set_register}
+use Rattle.vax_flat.proofs.Memory.{byte_at-written, layout-written, whole_written}
+
+-- a longword that was written is read back
+
+put_first : (f : ℕ → ℕ) (a len v : ℕ) → put f a (suc len) v a ≡ v % 256
+unfolding put
+put_first f a len v = rw (eq-eqb a a refl) refl
+
+put_next : (f : ℕ → ℕ) (a len v place : ℕ) → place ≢ a → put f a (suc len) v place ≡ put f (after a) len (v / 256) place
+unfolding put
+put_next f a len v place apart = rw (ne_eqb place a apart) refl
+
+number_put : (f : ℕ → ℕ) (a v : ℕ) → a < 2 ^ 32 → v < 2 ^ 32 → number (put f a 4 v) a 4 ≡ v
+unfolding number
+number_put f a v small fits =
+    let b = after a in
+    let d = after b in
+    let e = after d in
+    let first : put f a 4 v a ≡ v % 256 = put_first f a 3 v in
+    let second : put f a 4 v b ≡ v / 256 % 256 = put_next f a 3 v b (λ h. omega arith) ∙ put_first f b 2 (v / 256) in
+    let third : put f a 4 v d ≡ v / 256 / 256 % 256 =
+    put_next f a 3 v d (λ h. omega arith) ∙ put_next f b 2 (v / 256) d (λ h. omega arith) ∙ put_first f d 1 (v / 256 / 256) in
+    let fourth : put f a 4 v e ≡ v / 256 / 256 / 256 % 256 =
+    put_next f a 3 v e (λ h. omega arith) ∙ put_next f b 2 (v / 256) e (λ h. omega arith) ∙ put_next f d 1 (v / 256 / 256) e (λ h. omega arith) ∙ put_first f e 0 (v / 256 / 256 / 256) in
+    rw (first, second, third, fourth) (omega arith)
+
+-- and one elsewhere stays
+
+outside : (a d : ℕ) → a < 2 ^ 32 → 4 ≤ d → d < 2 ^ 32 → is_within a 4 (plus a d) ≡ false
+unfolding is_within
+outside a d small far near =
+    rw (ne_eqb (plus a d) a (λ h. omega arith), ne_eqb (plus a d) (after a) (λ h. omega arith), ne_eqb (plus a d) (after (after a)) (λ h. omega arith), ne_eqb (plus a d) (after (after (after a))) (λ h. omega arith)) refl
+
+stays : (f : ℕ → ℕ) (a v d : ℕ) → a < 2 ^ 32 → 4 ≤ d → d < 2 ^ 32 → put f a 4 v (plus a d) ≡ f (plus a d)
+stays f a v d small far near = put-outside f a 4 v (plus a d) (outside a d small far near)
+
+behind_it : (a d : ℕ) → after (plus a d) ≡ plus a (d + 1)
+behind_it a d = omega arith
+
+number_stays : (f : ℕ → ℕ) (a v d : ℕ) → a < 2 ^ 32 → 4 ≤ d → d + 4 ≤ 2 ^ 32 → number (put f a 4 v) (plus a d) 4 ≡ number f (plus a d) 4
+unfolding number
+number_stays f a v d small far near =
+    let one = behind_it a d in
+    let two : after (after (plus a d)) ≡ plus a (d + 2) = omega arith in
+    let three : after (after (after (plus a d))) ≡ plus a (d + 3) = omega arith in
+    let g : ℕ → ℕ = put f a 4 v in
+    let at0 : g (plus a d) ≡ f (plus a d) = stays f a v d small far (omega arith) in
+    let at1 : g (after (plus a d)) ≡ f (after (plus a d)) = ap g one ∙ stays f a v (d + 1) small (omega arith) (omega arith) ∙ ap f (sym one) in
+    let at2 : g (after (after (plus a d))) ≡ f (after (after (plus a d))) = ap g two ∙ stays f a v (d + 2) small (omega arith) (omega arith) ∙ ap f (sym two) in
+    let at3 : g (after (after (after (plus a d)))) ≡ f (after (after (after (plus a d)))) = ap g three ∙ stays f a v (d + 3) small (omega arith) (omega arith) ∙ ap f (sym three) in
+    rw (at0, at1, at2, at3) refl
+
+-- what stands in memory, and what is pushed below it
+
+module _ (memory : List Area) (m a x : ℕ) (whole : IsWhole memory) (small : a < 2 ^ 32) (fine : violation memory a 4 m Write ≡ None) where
+  bytes_are : byte_at (written memory a 4 x) ≡ put (byte_at memory) a 4 x
+  bytes_are = fun_ext λ place. byte_at-written memory a 4 x place m Write whole fine
+
+  readable : (addr : ℕ) → violation memory addr 4 m Read ≡ None → violation (written memory a 4 x) addr 4 m Read ≡ None
+  readable addr h = violation-alike (written memory a 4 x) memory addr 4 m Read (layout-written memory a 4 x) ∙ h
+
+  there_stays : (ys : List ℕ) (d : ℕ) → 4 ≤ d → d + 4 * length ys ≤ 2 ^ 32 → AreThere memory m (plus a d) ys → AreThere (written memory a 4 x) m (plus a d) ys
+  there_stays [] d far near t = tt
+  there_stays (y ∷ ys) d far near t =
+      let e : plus a (d + 4) ≡ plus (plus a d) 4 = omega arith in
+      let rest : AreThere memory m (plus a (d + 4)) ys = subst (λ b. AreThere memory m b ys) (sym e) t.2 in
+      let same : number (byte_at (written memory a 4 x)) (plus a d) 4 ≡ y =
+      ap (λ f. number f (plus a d) 4) bytes_are ∙ number_stays (byte_at memory) a x d small far (omega arith) ∙ t.1 in
+      (readable (plus a d) t.0, same, subst (λ b. AreThere (written memory a 4 x) m b ys) e (there_stays ys (d + 4) (omega arith) (omega arith) rest))
+
+  there_more : (ys : List ℕ) → x < 2 ^ 32 → 4 + 4 * length ys ≤ 2 ^ 32 → AreThere memory m (plus a 4) ys → AreThere (written memory a 4 x) m a (x ∷ ys)
+  there_more ys fits near t =
+      (readable a (writable_is_readable memory a 4 m fine), ap (λ f. number f a 4) bytes_are ∙ number_put (byte_at memory) a x small fits, there_stays ys 4 (omega arith) near t)
+
+abbrev pub AreLongwords : List ℕ → Type 0
+AreLongwords [] = Unit {0}
+AreLongwords (x ∷ xs) = (x < 2 ^ 32) × AreLongwords xs
+
+-- values that were pushed stand in memory where what comes next begins
+record IsPushed (s : State) (values : List ℕ) (next : ℕ → State → Accesses Leaf) (outcome : Outcome Leaf) : Type 0 where
+  after_all : List Area
+  bottom : ℕ
+  goes_on : outcome_of (next bottom s) after_all ≡ outcome
+  there : AreThere after_all (mode s) bottom values
+
+allowed : (v : Option Violation) (outcome : Outcome Leaf) (x : Leaf) (end : List Area) → unless_violated v outcome ≡ Ends x end → (v ≡ None) × (outcome ≡ Ends x end)
+allowed (Some v) outcome x end e = cc
+allowed None outcome x end e = (refl, e)
+
+pushed_there : (xs ys : List ℕ) (top : ℕ) (s : State) (next : ℕ → State → Accesses Leaf) (memory : List Area) (x : Leaf) (end : List Area) → IsWhole memory → AreLongwords xs → top < 2 ^ 32 → 4 * (length xs + length ys) ≤ 2 ^ 32 → AreThere memory (mode s) top ys →
+    outcome_of (pushed_below xs top s next) memory ≡ Ends x end → IsPushed s (reverse xs ++ ys) next (Ends x end)
+unfolding pushed_below pushed_one write_at outcome_of
+pushed_there [] ys top s next memory x end whole fit small few t e = record { after_all = memory; bottom = top; goes_on = e; there = t }
+pushed_there (v ∷ vs) ys top s next memory x end whole fit small few t e =
+    let a = plus top (2 ^ 32 - 4) in
+    let h = allowed (violation memory a 4 (mode s) Write) (outcome_of (pushed_below vs a s next) (written memory a 4 v)) x end e in
+    let above : top ≡ plus a 4 = omega arith in
+    let t4 : AreThere memory (mode s) (plus a 4) ys = subst (λ b. AreThere memory (mode s) b ys) above t in
+    let first = there_more memory (mode s) a v whole (omega arith) h.0 ys fit.0 (omega arith) t4 in
+    let rest = pushed_there vs (v ∷ ys) a s next (written memory a 4 v) x end (whole_written memory a 4 v whole) fit.1 (omega arith) (omega arith) first h.1 in
+    let turned : reverse vs ++ v ∷ ys ≡ reverse (v ∷ vs) ++ ys =
+    sym (append_assoc (reverse vs) (v ∷ []) ys) ∙ ap (λ l. l ++ ys) (sym (reverse-append (v ∷ []) vs)) in
+    record { after_all = rest.after_all; bottom = rest.bottom; goes_on = rest.goes_on; there = subst (AreThere rest.after_all (mode s) rest.bottom) turned rest.there }
+
+-- the longwords of a frame are longwords
+
+longwords_of : (s : State) (ns ws : List ℕ) → ((n : ℕ) → register s n < 2 ^ 32) → AreLongwords ws → AreLongwords (map (register s) ns ++ ws)
+longwords_of s [] ws below w = w
+longwords_of s (n ∷ ns) ws below w = (below n, longwords_of s ns ws below w)
+
+word_fits : (offset mask : ℕ) (on_stack : Bool) (psl : Psl) → offset < 4 → frame_word offset on_stack mask psl < 2 ^ 32
+unfolding frame_word
+word_fits offset mask true psl h = omega arith
+word_fits offset mask false psl h = omega arith
+
+frame_fits : (s : State) (mask word : ℕ) → ((n : ℕ) → register s n < 2 ^ 32) → word < 2 ^ 32 → AreLongwords (frame mask word s)
+unfolding frame
+frame_fits s mask word below h = longwords_of s (reverse (linked mask)) (word ∷ 0 ∷ []) below (h, (omega arith, tt))
+
+-- FP has the address of the frame's last longword
+fp_is : (procedure mask arguments bottom : ℕ) (s : State) → length s.core.regs ≡ 16 → register (at_procedure procedure mask arguments bottom s) 13 ≡ bottom
+unfolding at_procedure
+fp_is procedure mask arguments bottom s full =
+    let a = with_register s 12 arguments in
+    let b = with_register a 13 bottom in
+    let d = with_register b 14 bottom in
+    let full_a : length a.core.regs ≡ 16 = length-set s.core.regs 12 arguments ∙ full in
+    let full_b : length b.core.regs ≡ 16 = length-set a.core.regs 13 bottom ∙ full_a in
+    let full_d : length d.core.regs ≡ 16 = length-set b.core.regs 14 bottom ∙ full_b in
+    set_register d 13 15 (plus procedure 2) full_d (omega arith) ∙ set_register b 13 14 bottom full_b (omega arith) ∙ set_register a 13 13 bottom full_a (omega arith)
+
+pub frame_there : (memory end : List Area) (procedure mask arguments top : ℕ) (on_stack : Bool) (s t : State) → IsWhole memory → length s.core.regs ≡ 16 → ((n : ℕ) → register s n < 2 ^ 32) → top < 2 ^ 32 →
+    outcome_of (entered procedure mask arguments top on_stack s leaf) memory ≡ Ends (Went flow.Done t) end →
+    AreThere end (mode s) (register t 13) (reverse (frame mask (frame_word (top % 4) on_stack mask s.core.psl) s))
+unfolding entered outcome_of
+frame_there memory end procedure mask arguments top on_stack s t whole full below small e =
+    let word = frame_word (top % 4) on_stack mask s.core.psl in
+    let xs = frame mask word s in
+    let few = few_framed mask word s in
+    let p = pushed_there xs [] (top / 4 * 4) s _ memory (Went flow.Done t) end whole (frame_fits s mask word below (word_fits (top % 4) mask on_stack s.core.psl (omega arith))) (omega arith) (omega arith) tt e in
+    let same_memory : p.after_all ≡ end = let g = p.goes_on in cc in
+    let same_state : at_procedure procedure mask arguments p.bottom s ≡ t = let g = p.goes_on in cc in
+    let fp : p.bottom ≡ register t 13 = sym (fp_is procedure mask arguments p.bottom s full) ∙ ap (λ u. register u 13) same_state in
+    let there : AreThere p.after_all (mode s) p.bottom (reverse xs) = subst (AreThere p.after_all (mode s) p.bottom) (append-nil (reverse xs)) p.there in
+    subst (λ b. AreThere end (mode s) b (reverse xs)) fp (subst (λ after. AreThere after (mode s) p.bottom (reverse xs)) same_memory there)

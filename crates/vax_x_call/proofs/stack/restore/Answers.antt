@@ -1,0 +1,48 @@
+use Rattle.std.proofs.Common.{◌≡◌, ◌-◌, ◌+◌, ◌∙◌, ap, sym, refl, arith, ℕ}
+use Rattle.vax_flat.specs.Call.{named, restored}
+use Rattle.vax_flat.specs.OverPort.{over_port}
+use Rattle.vax_undo.specs.Transaction.{present}
+use Rattle.vax_x_call.proofs.StackLaws.{rest, named_all, rest_step, rest_none, stopped, keeps_more, keeps_all}
+use Rattle.vax_x_call.proofs.stack.restore.Goals as goal
+
+pub loop-n-init : goal.loop-n-init
+loop-n-init g c =
+    let p = present g.P.Port.view c.args.txn.now in
+    record {
+      few = omega arith;
+      follows = λ next. ap (λ ns. over_port (restored ns c.args.from p.state next) p.view) (named_all c.args.mask c.args.count);
+      keeps = keeps_all g.P.Port.view g.P.Port.since _ _;
+    }
+
+pub returns-in_err-at-clause-exact : goal.returns-in_err-at-clause-exact
+returns-in_err-at-clause-exact g c = λ next.
+    let p = present g.P.Port.view c.loop-n.txn in
+    c.loop-n.invariant.follows next
+    ∙ ap (λ tree. over_port tree p.view) (rest_step c.args.mask c.loop-n.n c.args.count c.loop-n.at p.state next (omega arith))
+    ∙ c.in_err-at.ensures.exact (λ addr t. restored (rest c.args.mask (c.loop-n.n + 1) c.args.count) addr t next)
+    ∙ sym (stopped c.restore_if.new.txn c.from_residual.result _ _ c.from_residual.ensures.0)
+
+pub returns-in_err-at-clause-keeps : goal.returns-in_err-at-clause-keeps
+returns-in_err-at-clause-keeps g c =
+    keeps_more g.P.Port.view g.P.Port.since c.loop-n.n 1 c.args.count _ c.loop-n.txn _ (omega arith) c.loop-n.invariant.keeps c.in_err-at.ensures.keeps
+
+pub loop-n-preserved : goal.loop-n-preserved
+loop-n-preserved g c =
+    let p = present g.P.Port.view c.loop-n.txn in
+    record {
+      few = omega arith;
+      follows = λ next.
+          c.loop-n.invariant.follows next
+          ∙ ap (λ tree. over_port tree p.view) (rest_step c.args.mask c.loop-n.n c.args.count c.loop-n.at p.state next (omega arith))
+          ∙ c.in_ok-at.ensures.exact (λ addr t. restored (rest c.args.mask (c.loop-n.n + 1) c.args.count) addr t next);
+      keeps = keeps_more g.P.Port.view g.P.Port.since c.loop-n.n 1 _ _ c.loop-n.txn _ (omega arith) c.loop-n.invariant.keeps c.in_ok-at.ensures.keeps;
+    }
+
+pub returns-clause-exact : goal.returns-clause-exact
+returns-clause-exact g c = λ next.
+    let p = present g.P.Port.view c.loop-n.txn in
+    c.loop-n.invariant.follows next ∙ ap (λ tree. over_port tree p.view) (rest_none c.args.mask c.loop-n.n c.args.count c.loop-n.at p.state next (omega arith))
+
+pub returns-clause-keeps : goal.returns-clause-keeps
+returns-clause-keeps g c =
+    keeps_more g.P.Port.view g.P.Port.since c.loop-n.n 0 c.args.count _ c.loop-n.txn _ (let few = c.loop-n.invariant.few in omega arith) c.loop-n.invariant.keeps (keeps_all g.P.Port.view g.P.Port.since 0 c.loop-n.txn)

@@ -1,0 +1,34 @@
+//! Procedure calls, and registers saved on the stack, over any port (VAX MACRO and Instruction Set Reference Manual, procedure call
+//! instructions; PUSHR, POPR).
+//!
+//! Each instruction is one function, which follows its definition in `vax_flat`. A call changes at most 31 things: 8 for its operands, 18
+//! longwords that it pushes, and 5 registers and status.
+#![tactic(auto)]
+
+mod shapes;
+mod stack;
+#[cfg(test)]
+mod tests;
+
+ghost use Rattle.std.specs.Prelude.{◌≡◌, ◌≤◌};
+ghost use Rattle.vax_flat.specs.Call.{performed};
+ghost use Rattle.vax_flat.specs.OverPort.{Follows};
+ghost use Rattle.vax_undo.specs.Transaction.{present, room, Keeps, told};
+ghost use Rattle.vax_operand.specs.Located.{GoesEverywhere};
+
+use vax_flat::Flow;
+use vax_isa::Call;
+use vax_undo::{CutShort, Port, Txn};
+
+/// Makes the instruction whose opcode PC is past.
+///
+/// The cut is the first exception of its operands and accesses, a reserved operand where bits 13:12 of an entry mask or bits 15:8 or 4
+/// of a frame's status aren't 0, or the first page that it needs and that is absent.
+pub fn run<P: Port>(txn: &mut Txn<P>, instruction: Call) -> Result<Flow, CutShort>
+    requires { 31 ≤ room txn.old }
+    ensures exact { Follows (performed instruction (present P.view txn.old).state) (present P.view txn.old) (told txn.new result) (present P.view txn.new) }
+    ensures everywhere { GoesEverywhere (performed instruction (present P.view txn.old).state) (present P.view txn.old) (told txn.new result) (present P.view txn.new) }
+    ensures keeps { Keeps P.view P.since 31 txn.old txn.new }
+{
+    shapes::perform(txn, instruction)
+}

@@ -1,0 +1,32 @@
+//! Queue instructions and the aligned sum, over any port (VAX MACRO and Instruction Set Reference Manual, queue instructions; ADAWI).
+//!
+//! Each instruction is one function, which follows its definition in `vax_flat`.
+#![tactic(auto)]
+
+mod shapes;
+#[cfg(test)]
+mod tests;
+
+ghost use Rattle.std.specs.Prelude.{◌≡◌, ◌≤◌};
+ghost use Rattle.vax_flat.specs.Queue.{performed};
+ghost use Rattle.vax_flat.specs.OverPort.{Follows};
+ghost use Rattle.vax_undo.specs.Transaction.{present, room, Keeps, told};
+ghost use Rattle.vax_operand.specs.Located.{GoesEverywhere};
+
+use vax_flat::Flow;
+use vax_isa::Queue;
+use vax_undo::{CutShort, Port, Txn};
+
+/// Makes the instruction whose opcode PC is past: reads its operands, then what it reads of the queue, then writes, and sets the codes.
+///
+/// The cut is the first exception of its operands and accesses, a reserved operand where ADAWI's sum stands at an odd address, or the
+/// first page that it needs and that is absent. A trap is answered where ADAWI's sum overflowed while the processor status word
+/// enables that trap.
+pub fn run<P: Port>(txn: &mut Txn<P>, instruction: Queue) -> Result<Flow, CutShort>
+    requires { 15 ≤ room txn.old }
+    ensures exact { Follows (performed instruction (present P.view txn.old).state) (present P.view txn.old) (told txn.new result) (present P.view txn.new) }
+    ensures everywhere { GoesEverywhere (performed instruction (present P.view txn.old).state) (present P.view txn.old) (told txn.new result) (present P.view txn.new) }
+    ensures keeps { Keeps P.view P.since 15 txn.old txn.new }
+{
+    shapes::perform(txn, instruction)
+}
