@@ -1,6 +1,5 @@
 -- From what a transaction followed to what an attempt came to.
 use Rattle.std.proofs.Common.{true, false, Result, add-one, ◌+◌, ◌≤◌, ◌≡◌, ℕ, Option, Some, None, Ok, Err, refl, sym, ap, subst, ◌∙◌}
-use Rattle.vax_word.specs.declared.Core.{Core}
 use Rattle.vax_flat.specs.declared.Cut.{Cut}
 use Rattle.vax_flat.specs.declared.Cut.TheVariants as cut
 use Rattle.vax_flat.specs.declared.Ending.{Ending}
@@ -82,13 +81,9 @@ quiet_final e old new (tried.Absent page) is = tt
 quiet_final e old new (tried.Ended x) is = tt
 quiet_final e old new (tried.Event x) is = let P : Arrival Leaf → Type 0 = λ a. IsQuiet a in subst P is.0 ((quiet_whole e old.state).port old.view)
 
--- the same of registers whose clock has counted the same
-pub clock_at : (core mid : Core) (t : Tried) → core.clock ≡ mid.clock → KeepsTime mid t → KeepsTime core t
-clock_at core mid (tried.Step sent) e within = subst (λ x. x ≤ 999) (sym e) within
-clock_at core mid (tried.Part part) e within = (subst (λ x. x ≤ 999) (sym e) within.0, within.1)
-clock_at core mid (tried.Ended x) e within = subst (λ x. x ≤ 999) (sym e) within
-clock_at core mid (tried.Absent page) e within = subst (λ x. x ≤ 999) (sym e) within
-clock_at core mid (tried.Event x) e within = subst (λ x. x ≤ 999) (sym e) within
+-- the same of a clock that has counted the same
+pub clock_at : (clock mid : ℕ) (t : Tried) → clock ≡ mid → KeepsTime mid t → KeepsTime clock t
+clock_at clock mid t e within = subst (λ x. KeepsTime x t) (sym e) within
 
 -- what was completed, and what wasn't
 pub done_from : (how : Flow) → ending_of how ≡ None → how ≡ flow.Done

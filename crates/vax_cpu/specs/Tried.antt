@@ -87,12 +87,12 @@ IsFinal (Absent page) = Unit {0}
 IsFinal (Event e) = ⊥
 
 -- the interval clock counts up to 999, also at the start of a part
-abbrev pub KeepsTime : Core → Tried → Type 0
-KeepsTime core (Step sent) = core.clock ≤ 999
-KeepsTime core (Part part) = (core.clock ≤ 999) × (part.start.clock ≤ 999)
-KeepsTime core (Ended e) = core.clock ≤ 999
-KeepsTime core (Absent page) = core.clock ≤ 999
-KeepsTime core (Event e) = core.clock ≤ 999
+abbrev pub KeepsTime : ℕ → Tried → Type 0
+KeepsTime clock (Step sent) = clock ≤ 999
+KeepsTime clock (Part part) = (clock ≤ 999) × (part.start.clock ≤ 999)
+KeepsTime clock (Ended e) = clock ≤ 999
+KeepsTime clock (Absent page) = clock ≤ 999
+KeepsTime clock (Event e) = clock ≤ 999
 
 -- what an attempt goes through: the first part of the step at PC, or a later part of the instruction that is open
 abbrev pub tree_of : Option Open → State → Accesses Leaf

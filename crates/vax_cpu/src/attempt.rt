@@ -218,7 +218,7 @@ fn conclude<P: Port>(txn: Txn<P>, work: Result<Flow, CutShort>) -> Tried
     ensures completed { (sent : Option ℕ) → result ≡ Tried.Step sent → work ≡ Ok Flow.Done }
     ensures unsent { txn.exit.1.0.now.out ≡ None }
     ensures input { txn.exit.1.0.now.input ≡ txn.entry.term.now.input }
-    ensures clock { UnlessDone work ((undone P.view txn.entry).state.core.clock ≤ 999) → txn.entry.core.now.clock ≤ 999 → KeepsTime txn.exit.0.now result }
+    ensures clock { UnlessDone work ((undone P.view txn.entry).state.core.clock ≤ 999) → txn.entry.core.now.clock ≤ 999 → KeepsTime txn.exit.0.now.clock result }
     ensures since { (start : P) → P.since start txn.entry.port.now → P.since start txn.exit.1.1.0.now }
 {
     let why = txn.why();
@@ -256,7 +256,7 @@ pub(crate) fn try_step<P: Port>(core: &mut Core, term: &mut Term, port: &mut P) 
     ensures tried { IsTried part_step (record { state = state_of core.old term.old; view = P.view port.old }) result (record { state = state_of core.new term.new; view = P.view port.new }) }
     ensures unsent { term.new.out ≡ None }
     ensures input { term.new.input ≡ term.old.input }
-    ensures clock { core.old.clock ≤ 999 → KeepsTime core.new result }
+    ensures clock { core.old.clock ≤ 999 → KeepsTime core.new.clock result }
     ensures since { (start : P) → P.since start port.old → P.since start port.new }
 {
     let mut txn = Txn::begin(core, term, port);
@@ -277,7 +277,7 @@ fn try_delivery<P: Port>(
     ensures tried { IsTried (whole_delivery exception) (record { state = state_of core.old term.old; view = P.view port.old }) result (record { state = state_of core.new term.new; view = P.view port.new }) }
     ensures unsent { term.new.out ≡ None }
     ensures input { term.new.input ≡ term.old.input }
-    ensures clock { core.old.clock ≤ 999 → KeepsTime core.new result }
+    ensures clock { core.old.clock ≤ 999 → KeepsTime core.new.clock result }
     ensures since { (start : P) → P.since start port.old → P.since start port.new }
 {
     let mut txn = Txn::begin(core, term, port);
@@ -291,7 +291,7 @@ fn try_later<P: Port>(core: &mut Core, term: &mut Term, port: &mut P, opcode: u8
     ensures tried { IsTried (later_step opcode) (record { state = state_of core.old term.old; view = P.view port.old }) result (record { state = state_of core.new term.new; view = P.view port.new }) }
     ensures unsent { term.new.out ≡ None }
     ensures input { term.new.input ≡ term.old.input }
-    ensures clock { core.old.clock ≤ 999 → KeepsTime core.new result }
+    ensures clock { core.old.clock ≤ 999 → KeepsTime core.new.clock result }
     ensures since { (start : P) → P.since start port.old → P.since start port.new }
 {
     let mut txn = Txn::begin(core, term, port);
@@ -308,7 +308,7 @@ pub(crate) fn settle<P: Port>(core: &mut Core, term: &mut Term, port: &mut P, tr
     ensures made { (tree : State → Accesses Leaf) → (old : Present) → IsTried tree old tried (record { state = state_of core.old term.old; view = P.view port.old }) → Made tree old.state.core old result (record { state = state_of core.new term.new; view = P.view port.new }) }
     ensures unsent { term.new.out ≡ None }
     ensures input { term.new.input ≡ term.old.input }
-    ensures clock { KeepsTime core.old tried → KeepsTime core.new result }
+    ensures clock { KeepsTime core.old.clock tried → KeepsTime core.new.clock result }
     ensures since { (start : P) → P.since start port.old → P.since start port.new }
 {
     match tried {
@@ -330,7 +330,7 @@ fn deliver_from<P: Port>(
     ensures delivered { (mid : Present) × IsTried (whole_delivery exception) (with_registers start (record { state = state_of core.old term.old; view = P.view port.old })) result mid × (record { state = state_of core.new term.new; view = P.view port.new } ≡ put_again core.old result mid) }
     ensures unsent { term.new.out ≡ None }
     ensures input { term.new.input ≡ term.old.input }
-    ensures clock { core.old.clock ≤ 999 → start.clock ≤ 999 → KeepsTime core.new result }
+    ensures clock { core.old.clock ≤ 999 → start.clock ≤ 999 → KeepsTime core.new.clock result }
     ensures since { (start : P) → P.since start port.old → P.since start port.new }
 {
     let before = *core;
@@ -359,7 +359,7 @@ fn settle_later<P: Port>(
     ensures made { (tree : State → Accesses Leaf) → (old : Present) → IsTried tree old tried (record { state = state_of core.old term.old; view = P.view port.old }) → Made tree start old result (record { state = state_of core.new term.new; view = P.view port.new }) }
     ensures unsent { term.new.out ≡ None }
     ensures input { term.new.input ≡ term.old.input }
-    ensures clock { KeepsTime core.old tried → start.clock ≤ 999 → KeepsTime core.new result }
+    ensures clock { KeepsTime core.old.clock tried → start.clock ≤ 999 → KeepsTime core.new.clock result }
     ensures since { (start : P) → P.since start port.old → P.since start port.new }
 {
     match tried {
@@ -384,7 +384,7 @@ pub(crate) fn try_once<P: Port>(
     ensures made { Made (tree_of latch) (start_by latch core.old) (record { state = state_of core.old term.old; view = P.view port.old }) result (record { state = state_of core.new term.new; view = P.view port.new }) }
     ensures unsent { term.new.out ≡ None }
     ensures input { term.new.input ≡ term.old.input }
-    ensures clock { core.old.clock ≤ 999 → (start_by latch core.old).clock ≤ 999 → KeepsTime core.new result }
+    ensures clock { core.old.clock ≤ 999 → (start_by latch core.old).clock ≤ 999 → KeepsTime core.new.clock result }
     ensures since { (start : P) → P.since start port.old → P.since start port.new }
 {
     match latch {
@@ -420,7 +420,7 @@ pub(crate) fn try_steps<P: Port>(
     ensures all { result.last ≡ Tried.Step None → result.steps + 1 ≡ most }
     ensures unsent { term.new.out ≡ None }
     ensures input { term.new.input ≡ term.old.input }
-    ensures clock { core.old.clock ≤ 999 → KeepsTime core.new result.last }
+    ensures clock { core.old.clock ≤ 999 → KeepsTime core.new.clock result.last }
     ensures since { (start : P) → P.since start port.old → P.since start port.new }
 {
     let mut txn = Txn::begin(core, term, port);

@@ -24,6 +24,6 @@ returns-clause-quiet g c =
 pub returns-clause-clock : goal.returns-clause-clock
 returns-clause-clock g c = λ within.
     let begun = c.begin-txn.ensures.undone ∙ ap bare c.begin-txn.ensures.present in
-    clock_at _ c.conclude.new.txn.0 c.conclude.result (search rules) (c.conclude.ensures.clock
+    clock_at _ c.conclude.new.txn.0.clock c.conclude.result (search rules) (c.conclude.ensures.clock
     (clock_unless g.P.Port.view g.P.Port.since 18 c.work_delivery-done.result c.begin-txn.result c.work_delivery-done.new.txn c.work_delivery-done.ensures.keeps (subst (λ (p : Present). p.state.core.clock ≤ 999) (sym begun) within))
     (c.work_delivery-done.ensures.same.clock (subst (λ (p : Present). p.state.core.clock ≤ 999) (sym c.begin-txn.ensures.present) within)))

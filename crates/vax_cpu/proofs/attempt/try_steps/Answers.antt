@@ -68,13 +68,13 @@ returns-then-not-is_done-clause-ran g c =
 pub returns-clause-clock : goal.returns-clause-clock
 returns-clause-clock g c = λ within.
     let now = c.loop-steps.invariant.clock within in
-    clock_at _ c.conclude-last-2.new.txn.0 c.conclude-last-2.result (search rules) (c.conclude-last-2.ensures.clock
+    clock_at _ c.conclude-last-2.new.txn.0.clock c.conclude-last-2.result (search rules) (c.conclude-last-2.ensures.clock
     (clock_unless g.P.Port.view g.P.Port.since 46 c.work_once-done.result c.loop-steps.txn c.work_once-done.new.txn c.work_once-done.ensures.keeps (subst (λ (p : Present). p.state.core.clock ≤ 999) (sym c.loop-steps.invariant.undone) now))
     (c.work_once-done.ensures.same.clock now))
 
 pub returns-then-not-is_done-clause-clock : goal.returns-then-not-is_done-clause-clock
 returns-then-not-is_done-clause-clock g c = λ within.
     let now = c.loop-steps.invariant.clock within in
-    clock_at _ c.conclude-last.new.txn.0 c.conclude-last.result (search rules) (c.conclude-last.ensures.clock
+    clock_at _ c.conclude-last.new.txn.0.clock c.conclude-last.result (search rules) (c.conclude-last.ensures.clock
     (clock_unless g.P.Port.view g.P.Port.since 46 c.work-done.result c.loop-steps.txn c.work-done.new.txn c.work-done.ensures.keeps (subst (λ (p : Present). p.state.core.clock ≤ 999) (sym c.loop-steps.invariant.undone) now))
     (c.work-done.ensures.same.clock now))
