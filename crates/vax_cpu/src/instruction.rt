@@ -61,9 +61,9 @@ pub(crate) fn execute<P: Port>(txn: &mut Txn<P>) -> Result<Flow, CutShort>
 #[inline]
 #[tactic(auto, using(vax_undo::proofs::Left::always), unfolding(vax_flat::specs::Instruction::resumed))]
 pub(crate) fn resume<P: Port>(txn: &mut Txn<P>, opcode: u8) -> Result<Flow, CutShort>
-    requires { 28 ≤ room txn.old }
+    requires { room_of_beginning ≤ room txn.old }
     ensures exact { Follows (resumed opcode (present P.view txn.old).state) (present P.view txn.old) (told txn.new result) (present P.view txn.new) }
-    ensures keeps { KeepsUnlessDone P.view P.since 28 result txn.old txn.new }
+    ensures keeps { KeepsUnlessDone P.view P.since room_of_beginning result txn.old txn.new }
     ensures same { IsSame P.since txn.old txn.new }
 {
     let _ = opcode;
