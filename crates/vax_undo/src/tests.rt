@@ -194,8 +194,7 @@ fn a_part_is_kept(rt: HostRuntime) -> Result<(), Fail> {
 #[test]
 fn input_is_taken(rt: HostRuntime) -> Result<(), Fail> {
     let mut core = core();
-    let mut term = Term::new(Vec::new(rt.alloc()));
-    term.input.push(b'h')?;
+    let mut term = Term::new(b"h".to_vec(rt.alloc())?);
     let mut memory = memory(rt.alloc())?;
     let mut txn = Txn::begin(&mut core, &mut term, &mut memory);
     let first = txn.take();
