@@ -1,5 +1,5 @@
 -- A number that goes on in the next page.
-use Rattle.std.proofs.Common.{ℕ, zero, suc, ◌≡◌, ◌+◌, ◌-◌, ◌*◌, ◌/◌, ◌%◌, ◌^◌, ◌<◌, ◌≤◌, Bool, true, false, ◌==◌, List, [], ◌∷◌, ◌++◌, length, take, drop, if◌then◌else◌, refl, ap, sym, ◌∙◌, subst, arith, Option, Some, None}
+use Rattle.std.proofs.Common.{ℕ, zero, suc, ◌≡◌, ◌+◌, ◌-◌, ◌%◌, ◌^◌, ◌<◌, ◌≤◌, Bool, true, false, ◌==◌, List, length, take, drop, refl, ap, sym, ◌∙◌, subst, arith}
 use Rattle.std.specs.Prelude.{◌||◌}
 use Rattle.std.proofs.Math.Path.{fun_ext}
 use Rattle.std.proofs.lemmas.Grind.{common_steps}
@@ -11,7 +11,7 @@ use Rattle.vax_pager.specs.Listing.{is_listed}
 use Rattle.vax_pager.specs.Paging.{Paging, view_of}
 use Rattle.vax_pager.specs.Steps.{OnlyWritten, filled, touched, touched_by, touched_page}
 use Rattle.vax_pager.specs.Store.{overwritten}
-use Rattle.vax_pager.proofs.Views.{only_filled, only_then, only_touched, range_some, touched_listed, view_filled}
+use Rattle.vax_pager.proofs.Views.{only_then, only_touched, range_some, touched_listed}
 use Rattle.vax_pager.proofs.Writes.{filled_only, filled_view, frame_touched, modified_filled, modified_touched, page_touched, touched_some}
 use Rattle.vax_pager.proofs.Moves.{at_other}
 use Rattle.std.proofs.lemmas.Bool.{false≢true}

@@ -1,20 +1,19 @@
 -- What the calls do, and that they lose nothing.
-use Rattle.std.proofs.Common.{ℕ, zero, suc, ◌≡◌, ◌≢◌, ◌+◌, ◌*◌, ◌/◌, ◌%◌, ◌≤◌, ◌<◌, Bool, true, false, not, ◌==◌, eqb, nat_lt, List, [], ◌∷◌, ◌++◌, length, if◌then◌else◌, refl, ap, sym, ◌∙◌, subst, arith, inl, inr, Option, Some, None, slice_index, slice_index_or, get_or}
+use Rattle.std.proofs.Common.{ℕ, zero, suc, ◌≡◌, ◌≢◌, ◌+◌, ◌*◌, ◌%◌, ◌<◌, Bool, true, false, not, nat_lt, List, [], ◌∷◌, length, refl, ap, sym, ◌∙◌, subst, arith, inl, inr, Option, Some, None, slice_index, slice_index_or, get_or}
 use Rattle.std.specs.Prelude.{◌&&◌, ◌||◌, IfSome, is_some, Result, Ok, Err, OnErr}
 use Rattle.std.specs.Option.{option_map}
 use Rattle.std.specs.FinMap.{get}
-use Rattle.std.proofs.lemmas.Bool.Decides.{nat_tests}
-use Rattle.std.proofs.lemmas.Bool.{cases_Bool, cases_eq, cases_lt, eq-eqb, ne_eqb, ltb-true, ltb-false}
+use Rattle.std.proofs.lemmas.Bool.{cases_Bool, cases_eq, eq-eqb, ne_eqb, ltb-true, ltb-false}
 use Rattle.vax_space.specs.declared.Area.{Area}
-use Rattle.vax_space.specs.Areas.{area_of, block_of, prot_of}
+use Rattle.vax_space.specs.Areas.{area_of, block_of}
 use Rattle.vax_space.specs.Reference.{page_of}
 use Rattle.vax_flat.specs.Memory.{byte_at}
 use Rattle.vax_outside.specs.Blocks.{BlockFile, after_write, after_read, GivesBlock}
-use Rattle.vax_pager.specs.Listing.{is_listed, leave_out, first_outside, first}
-use Rattle.vax_pager.specs.Paging.{Paging, block_in, home, content, is_clean, start_of, Backs, StandsWith, Keeps, ComesFrom}
+use Rattle.vax_pager.specs.Listing.{is_listed, first_outside, first}
+use Rattle.vax_pager.specs.Paging.{Paging, home, content, is_clean, start_of, Backs, StandsWith, Keeps, ComesFrom}
 use Rattle.vax_pager.specs.Steps.{at, flushed, released, taken_back, brought, forgotten, removed}
-use Rattle.vax_pager.specs.Calls.{PeekedFrom, seen, after_flush, put_block, wrote_back, after_evict, read_for, Source, Back, Empty, OfKept, OfVictim, taken_from, source, came}
-use Rattle.vax_pager.proofs.Listing.{in_push, in_without}
+use Rattle.vax_pager.specs.Calls.{PeekedFrom, seen, after_flush, wrote_back, after_evict, read_for, Back, Empty, OfKept, OfVictim, source}
+use Rattle.vax_pager.proofs.Listing.{in_without}
 use Rattle.vax_pager.proofs.Standing.{stands_flushed, stands_released, stands_taken, stands_brought, stands_forgotten, stands_removed, home_flushed, home_forgotten, home_removed}
 
 -- the bytes of a frame that was looked up

@@ -2,6 +2,7 @@ pub mod Listing
 pub mod Standing
 pub mod Moves
 pub mod Steps
+pub mod Told
 pub mod Effects
 pub mod Start
 pub mod Views

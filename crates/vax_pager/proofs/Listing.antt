@@ -1,11 +1,11 @@
 -- Lists of pages, and lists of pages in frames.
-use Rattle.std.proofs.Common.{ℕ, zero, suc, ◌≡◌, ◌≢◌, ◌+◌, ◌≤◌, ◌<◌, Bool, true, false, not, ◌==◌, eqb, List, [], ◌∷◌, ◌++◌, length, length-append, append_assoc, append-nil, if◌then◌else◌, refl, ap, sym, ◌∙◌, subst, arith, inl, inr, Option, Some, None}
-use Rattle.std.specs.Prelude.{◌&&◌, ◌||◌, is_some, slice_get}
+use Rattle.std.proofs.Common.{ℕ, suc, ◌≡◌, ◌≢◌, Bool, true, false, not, ◌==◌, List, [], ◌∷◌, ◌++◌, length, if◌then◌else◌, refl, ap, sym, ◌∙◌, inl, inr, Option, Some, None}
+use Rattle.std.specs.Prelude.{◌||◌, is_some, slice_get}
 use Rattle.std.specs.List.{filter, list_any}
-use Rattle.std.proofs.lemmas.Bool.{cases_Bool, cases_eq, eq-eqb, ne_eqb, eqb-true}
+use Rattle.std.proofs.lemmas.Bool.{cases_eq, eq-eqb, ne_eqb}
 use Rattle.vax_lists.specs.declared.line.Placed.{Placed}
 use Rattle.vax_lists.specs.Lines.{frame_in, without, pages_of, placed}
-use Rattle.vax_pager.specs.Listing.{is_listed, leave_out, first_outside, first, page_in}
+use Rattle.vax_pager.specs.Listing.{is_listed, leave_out, first, page_in}
 
 if_true : (b : Bool) → true ≡ (if b then true else true)
 if_true true = refl

@@ -1,14 +1,13 @@
 -- What a step of one page leaves of the parts of a pager.
-use Rattle.std.proofs.Common.{ℕ, zero, suc, ◌≡◌, ◌≢◌, ◌+◌, ◌<◌, ◌≤◌, Bool, true, false, not, ◌==◌, eqb, List, [], ◌∷◌, ◌++◌, ◌-◌, length, length-append, take, drop, take-append-drop, if◌then◌else◌, refl, ap, sym, ◌∙◌, subst, arith, inl, inr, Option, Some, None, slice_index, slice_index_or, slice_set, get_or-set_same, get_or-set_other, length-set}
+use Rattle.std.proofs.Common.{ℕ, ◌≡◌, ◌≢◌, ◌+◌, ◌<◌, true, false, List, [], ◌∷◌, ◌++◌, ◌-◌, length, length-append, take, drop, take-append-drop, refl, ap, sym, ◌∙◌, arith, inl, inr, Option, Some, None, slice_index, slice_index_or, slice_set, get_or-set_same, get_or-set_other}
 use Rattle.std.specs.Prelude.{is_some}
 use Rattle.std.proofs.Math.Path.{fun_ext}
-use Rattle.std.proofs.lemmas.Bool.{cases_Bool, cases_eq, eq-eqb, ne_eqb, false≢true}
-use Rattle.vax_space.specs.declared.Area.{Area}
+use Rattle.std.proofs.lemmas.Bool.{cases_eq, eq-eqb, ne_eqb, false≢true}
 use Rattle.vax_space.specs.Areas.{block_of, prot_of}
 use Rattle.vax_table.specs.declared.Tables.{Tables}
 use Rattle.vax_table.specs.declared.Walk.{Walk}
 use Rattle.vax_table.specs.declared.Walk.TheVariants.{Resident, Absent, Outside}
-use Rattle.vax_table.specs.Mapping.{changed, cleared, frame_of, is_inside, is_resident, marked, prot_said, set_in}
+use Rattle.vax_table.specs.Mapping.{changed, frame_of, is_resident}
 use Rattle.vax_table.specs.Tables.{walked, kept}
 use Rattle.vax_table.proofs.Walks.{changed_here, changed_other}
 use Rattle.vax_tb.specs.Buffer.{Agrees, dropped}
@@ -16,10 +15,9 @@ use Rattle.vax_tb.specs.Meaning.{buffered}
 use Rattle.vax_lists.specs.Lines.{frame_in, pages_of}
 use Rattle.vax_pager.specs.declared.store.Store.{Store}
 use Rattle.vax_pager.specs.Listing.{is_listed}
-use Rattle.vax_pager.specs.Paging.{Paging}
 use Rattle.vax_pager.specs.Steps.{at}
 use Rattle.vax_pager.specs.Frames.{held_by, dirty_frame}
-use Rattle.vax_pager.specs.Store.{held, bytes_at, paging, Fits, IsFine, IsEnd, IsSound, IsFree}
+use Rattle.vax_pager.specs.Store.{held, bytes_at, paging, Fits, IsEnd, IsSound, IsFree}
 use Rattle.vax_pager.proofs.Listing.{listed_is}
 
 pub at_same : {A : Type 0} (p : ℕ) (x : A) (f : ℕ → A) → at p x f p ≡ x

@@ -1,21 +1,17 @@
 -- Each step leaves the memories that a pager and a file stand for.
-use Rattle.std.proofs.Common.{ℕ, zero, suc, ◌≡◌, ◌≢◌, ◌+◌, ◌-◌, ◌*◌, ◌/◌, ◌%◌, ◌≤◌, ◌<◌, Bool, true, false, not, ◌==◌, eqb, List, [], ◌∷◌, ◌++◌, if◌then◌else◌, refl, ap, sym, ◌∙◌, subst, arith, inl, inr, Option, Some, None, slice_index}
-use Rattle.std.specs.Prelude.{◌&&◌, ◌||◌, is_some}
-use Rattle.std.specs.Option.{option_map}
+use Rattle.std.proofs.Common.{ℕ, ◌≡◌, ◌≢◌, ◌<◌, Bool, true, false, ◌==◌, List, if◌then◌else◌, refl, ap, sym, ◌∙◌, arith, inl, inr, Option, Some, None}
 use Rattle.std.specs.Ordering.{nat_cmp, eq_by_cmp, is_eq}
 use Rattle.std.specs.declared.cmp.Ordering.TheVariants.{Less, Equal, Greater}
 use Rattle.std.specs.Cmp.{nat_cmp_total, nat_cmp_is}
-use Rattle.std.specs.FinMap.{get, insert, get-insert}
-use Rattle.std.proofs.lemmas.Bool.Decides.{nat_tests}
-use Rattle.std.proofs.lemmas.Bool.{cases_Bool, cases_eq, cases_lt, eq-eqb, ne_eqb, eqb-true}
+use Rattle.std.specs.FinMap.{get, get-insert}
+use Rattle.std.proofs.lemmas.Bool.{cases_eq, cases_lt, eq-eqb, ne_eqb}
 use Rattle.vax_space.specs.declared.Area.{Area}
-use Rattle.vax_space.specs.Areas.{area_of, block_of}
+use Rattle.vax_space.specs.Areas.{block_of}
 use Rattle.vax_space.specs.Reference.{page_of}
 use Rattle.vax_space.proofs.Blocks.{block_page}
-use Rattle.vax_flat.specs.Memory.{byte_at}
-use Rattle.vax_outside.specs.Blocks.{BlockFile, after_write, after_read}
-use Rattle.vax_pager.specs.Listing.{is_listed, leave_out}
-use Rattle.vax_pager.specs.Paging.{Paging, block_in, home, content, is_clean, Backs, StandsWith}
+use Rattle.vax_outside.specs.Blocks.{BlockFile, after_write}
+use Rattle.vax_pager.specs.Listing.{is_listed}
+use Rattle.vax_pager.specs.Paging.{Paging, block_in, home, content, is_clean, Backs}
 use Rattle.vax_pager.specs.Steps.{at, flushed, released, taken_back, brought, forgotten, removed}
 use Rattle.vax_pager.proofs.Listing.{in_push, in_without}
 

@@ -1,11 +1,10 @@
 -- A pager at the start, and the memory that it stands for.
-use Rattle.std.proofs.Common.{ℕ, zero, suc, ◌≡◌, ◌≢◌, ◌+◌, ◌-◌, ◌*◌, ◌/◌, ◌%◌, ◌<◌, ◌≤◌, Bool, true, false, List, [], ◌∷◌, ◌++◌, length, length-append, drop, take, get_or, slice_index, slice_index_or, if◌then◌else◌, refl, ap, sym, ◌∙◌, subst, arith, inl, inr, Option, Some, None, replicate}
+use Rattle.std.proofs.Common.{ℕ, zero, suc, ◌≡◌, ◌+◌, ◌-◌, ◌*◌, ◌%◌, ◌<◌, ◌≤◌, Bool, true, false, List, [], ◌∷◌, ◌++◌, length, length-append, drop, take, get_or, slice_index, slice_index_or, refl, ap, sym, ◌∙◌, arith, inl, inr, Option, Some, None, replicate}
 use Rattle.std.specs.Prelude.{is_some, min, slice_get}
-use Rattle.std.specs.Option.{option_map}
 use Rattle.std.proofs.Math.Path.{fun_ext}
 use Rattle.std.proofs.lemmas.Bool.{cases_Bool, cases_lt, false≢true}
 use Rattle.std.proofs.lemmas.Bool.Decides.{nat_tests}
-use Rattle.std.proofs.lemmas.List.{length-replicate, get_or_append_left, get_or-append_right, get_or-take, get_or-drop, get_or-replicate, get_or_past}
+use Rattle.std.proofs.lemmas.List.{length-replicate, get_or_append_left, get_or-append_right, get_or-take, get_or-drop, get_or_past}
 use Rattle.vax_space.specs.declared.Area.{Area}
 use Rattle.vax_space.specs.Areas.{area_of, block_of, has_page, prot_of}
 use Rattle.vax_space.specs.Faults.{IsSpace}
@@ -17,18 +16,16 @@ use Rattle.vax_tb.specs.Buffer.{empty}
 use Rattle.vax_tb.specs.Meaning.{buffered}
 use Rattle.vax_lists.specs.Lines.{Line, frame_in, pages_of}
 use Rattle.vax_flat.specs.Memory.{byte_at, IsWhole}
-use Rattle.vax_flat.specs.Port.{layout}
-use Rattle.vax_flat.specs.Start.{filled, start_memory}
+use Rattle.vax_flat.specs.Start.{start_memory}
 use Rattle.vax_undo.proofs.PlainMemory.{layout_start}
 use Rattle.vax_outside.specs.Blocks.{BlockFile}
 use Rattle.vax_pager.specs.declared.store.Store.{Store}
 use Rattle.vax_pager.specs.Pins.{PinList}
 use Rattle.vax_pager.specs.Listing.{is_listed}
-use Rattle.vax_pager.specs.Paging.{Backs, Paging, bytes_in, content, home, is_clean, start_in, start_of}
+use Rattle.vax_pager.specs.Paging.{Backs, bytes_in, content, home, is_clean, start_in, start_of}
 use Rattle.vax_pager.specs.Calls.{fresh}
-use Rattle.vax_pager.specs.Frames.{held_by, dirty_frame}
+use Rattle.vax_pager.specs.Frames.{held_by}
 use Rattle.vax_pager.specs.Store.{bytes_at, flag_of, has_block, held, paging, Fits, IsSound}
-use Rattle.vax_pager.proofs.Moves.{end_of_parts}
 
 fits_fresh : (prot block : Option ℕ) (past : Bool) → Fits (inside prot past None) None None None None false prot block 0
 fits_fresh None block past = record {

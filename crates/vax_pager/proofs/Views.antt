@@ -1,5 +1,5 @@
 -- Reads and writes of resident pages.
-use Rattle.std.proofs.Common.{ℕ, zero, suc, ◌≡◌, ◌≢◌, ◌+◌, ◌-◌, ◌*◌, ◌/◌, ◌%◌, ◌^◌, ◌<◌, ◌≤◌, Bool, true, false, not, ◌==◌, eqb, List, [], ◌∷◌, ◌++◌, length, length-append, append_assoc, append-nil, take, drop, get_or, slice_index, slice_index_or, slice_set, length-set, if◌then◌else◌, refl, ap, sym, ◌∙◌, subst, arith, inl, inr, Option, Some, None, Vec, Global}
+use Rattle.std.proofs.Common.{ℕ, zero, suc, ◌≡◌, ◌+◌, ◌-◌, ◌%◌, ◌^◌, ◌<◌, ◌≤◌, Bool, true, false, ◌==◌, List, [], ◌∷◌, ◌++◌, length, append_assoc, append-nil, take, drop, get_or, slice_index, slice_index_or, if◌then◌else◌, refl, ap, sym, ◌∙◌, subst, arith, inl, inr, Option, Some, None}
 use Rattle.std.specs.Prelude.{is_some, IfSome, Ok, ◌&&◌, ◌||◌}
 use Rattle.std.proofs.Math.Path.{fun_ext}
 use Rattle.std.proofs.Math.Seq.{drop-cons}
@@ -22,8 +22,7 @@ use Rattle.vax_tb.specs.Buffer.{Agrees, at_once, leaves_entry}
 use Rattle.vax_tb.specs.Buffer.{filled as entry_filled}
 use Rattle.vax_tb.specs.Meaning.{buffered}
 use Rattle.vax_flat.specs.Memory.{after, bytes_from, number}
-use Rattle.vax_flat.specs.Port.{View, AreBytes, is_in, loaded, marking, put_run, stop, with_marks, with_run}
-use Rattle.vax_flat.specs.declared.Stop.{Stop}
+use Rattle.vax_flat.specs.Port.{View, AreBytes, is_in, loaded, marking, put_run, stop, with_run}
 use Rattle.vax_flat.specs.declared.Stop.TheVariants.{NotResident, Violated}
 use Rattle.vax_undo.specs.Blocks.{number_in}
 use Rattle.vax_undo.proofs.Accesses.{fine, gone}

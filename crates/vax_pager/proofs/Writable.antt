@@ -1,5 +1,5 @@
 -- A page that some mode may write has a block.
-use Rattle.std.proofs.Common.{ℕ, zero, suc, ◌≡◌, ◌<◌, ◌≤◌, ◌+◌, ◌^◌, ◌%◌, Bool, true, false, List, [], ◌∷◌, if◌then◌else◌, refl, ap, sym, ◌∙◌, arith, inl, inr, Option, Some, None, not, slice_index_or}
+use Rattle.std.proofs.Common.{ℕ, zero, suc, ◌≡◌, ◌<◌, ◌≤◌, ◌+◌, ◌^◌, Bool, true, false, List, [], ◌∷◌, refl, ap, sym, ◌∙◌, arith, inl, inr, Option, Some, None, not, slice_index_or}
 use Rattle.std.specs.Prelude.{is_some, ◌&&◌, ◌||◌}
 use Rattle.std.specs.Option.{option_map}
 use Rattle.std.proofs.lemmas.Bool.{cases_Bool, false≢true}
@@ -13,7 +13,6 @@ use Rattle.vax_space.specs.Reference.{byte_after, may_access, page_of, violation
 use Rattle.vax_space.proofs.Blocks.{block_here, block_later, block_skipped}
 use Rattle.vax_space.proofs.References.{accessible_from}
 use Rattle.vax_pager.specs.declared.store.Store.{Store}
-use Rattle.vax_pager.specs.Paging.{view_of}
 use Rattle.vax_pager.specs.Store.{paging}
 
 -- what a mode may write the kernel may write

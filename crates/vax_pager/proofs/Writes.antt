@@ -1,5 +1,5 @@
 -- The steps of writes to resident pages.
-use Rattle.std.proofs.Common.{ℕ, zero, suc, ◌≡◌, ◌≢◌, ◌+◌, ◌-◌, ◌<◌, ◌≤◌, Bool, true, false, List, [], ◌∷◌, ◌++◌, take, drop, length, length-append, length-drop, if◌then◌else◌, refl, ap, sym, ◌∙◌, subst, arith, ◌%◌, ◌/◌, ◌^◌, inl, inr, Option, Some, None, slice_index, slice_index_or, slice_set, length-set, get_or, Vec, Global}
+use Rattle.std.proofs.Common.{ℕ, zero, suc, ◌≡◌, ◌+◌, ◌-◌, ◌<◌, ◌≤◌, true, false, List, [], ◌∷◌, ◌++◌, take, drop, length, length-append, length-drop, refl, ap, sym, ◌∙◌, subst, arith, ◌%◌, ◌^◌, inl, inr, Option, Some, None, slice_index, slice_set, length-set, get_or, Vec, Global}
 use Rattle.std.specs.Prelude.{is_some}
 use Rattle.std.proofs.lemmas.Bool.{cases_Bool, cases_lt, eq-eqb, false≢true}
 use Rattle.std.proofs.Math.Path.{fun_ext}
@@ -19,15 +19,15 @@ use Rattle.vax_tb.specs.declared.buffer.Buffer.{Buffer}
 use Rattle.vax_tb.specs.Buffer.{dropped}
 use Rattle.vax_tb.specs.Meaning.{buffered}
 use Rattle.vax_lists.specs.declared.lists.Lists.{Lists}
-use Rattle.vax_lists.specs.Lines.{Line, appended, frame_in, pages_of, placed}
+use Rattle.vax_lists.specs.Lines.{Line, appended, frame_in, pages_of}
 use Rattle.vax_pager.specs.declared.store.Store.{Store}
 use Rattle.vax_pager.specs.Listing.{is_listed}
 use Rattle.vax_pager.specs.Paging.{Paging, view_of}
 use Rattle.vax_pager.specs.Steps.{OnlyWritten, at, filled, touched, touched_by, touched_page}
-use Rattle.vax_pager.specs.Frames.{held_by, dirty_frame}
+use Rattle.vax_pager.specs.Frames.{held_by}
 use Rattle.vax_pager.specs.Store.{IsSound, has_block, held, overwritten, paging}
 use Rattle.vax_pager.proofs.Listing.{in_push, pages_push}
-use Rattle.vax_pager.proofs.Moves.{Changes, at_itself, frames_of, frames_same, frames_set, frame_means, held_changes, held_room, modified_is, one_held, resident_is, sound_moved}
+use Rattle.vax_pager.proofs.Moves.{Changes, at_itself, frames_of, frames_set, frame_means, held_changes, held_room, modified_is, one_held, resident_is, sound_moved}
 use Rattle.vax_pager.proofs.Steps.{came_here, came_other, fits_marked, front_of, marked_held, no_some, parts, small_set, whole_set}
 use Rattle.vax_pager.proofs.Views.{get_same, only_filled, only_then, only_touched, over_inside, over_outside, run_touched, view_filled}
 

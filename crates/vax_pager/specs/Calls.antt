@@ -1,5 +1,5 @@
 -- What the calls of a pager do.
-use Rattle.std.specs.Prelude.{ℕ, ◌≡◌, ◌+◌, Bool, true, false, if◌then◌else◌, nat_lt, Option, Some, None, List, [], length, slice_index, ◌||◌, ◌%◌, ◌≤◌, ◌⊎◌, is_some}
+use Rattle.std.specs.Prelude.{ℕ, ◌≡◌, ◌+◌, true, false, if◌then◌else◌, nat_lt, Option, Some, None, List, [], length, slice_index, ◌||◌, ◌%◌, ◌≤◌, ◌⊎◌, is_some}
 use Rattle.std.specs.Option.{option_map}
 use Rattle.vax_space.specs.declared.Area.{Area}
 use Rattle.vax_space.specs.Areas.{area_of, block_of}

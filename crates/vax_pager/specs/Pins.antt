@@ -1,5 +1,5 @@
 -- The pinned pages.
-use Rattle.std.specs.Prelude.{◌≤◌, ℕ, List}
+use Rattle.std.specs.Prelude.{ℕ, List}
 
 -- the pages, and for how many there is room
 pub record PinList : Type 0 where

@@ -1,10 +1,10 @@
 -- What each step of a pager makes of it.
-use Rattle.std.specs.Prelude.{ℕ, zero, suc, ◌≡◌, ◌+◌, Bool, true, false, ◌==◌, if◌then◌else◌, List, [], ◌∷◌, ◌++◌}
+use Rattle.std.specs.Prelude.{ℕ, zero, suc, ◌≡◌, true, false, ◌==◌, if◌then◌else◌, List, [], ◌∷◌, ◌++◌}
 use Rattle.vax_outside.specs.Faults.{raised}
 use Rattle.vax_space.specs.Reference.{page_of}
 use Rattle.vax_flat.specs.Memory.{after}
 use Rattle.vax_pager.specs.Listing.{is_listed, leave_out}
-use Rattle.vax_pager.specs.Paging.{Paging, Numbers}
+use Rattle.vax_pager.specs.Paging.{Paging}
 
 -- another value at one page
 unfoldable pub at : {A : Type 0} → ℕ → A → (ℕ → A) → ℕ → A

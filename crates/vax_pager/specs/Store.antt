@@ -1,6 +1,5 @@
 -- The parts of a pager, and what they mean.
-use Rattle.std.specs.Prelude.{ℕ, ◌≡◌, ◌≢◌, ◌+◌, ◌<◌, ◌≤◌, Bool, true, false, if◌then◌else◌, Option, Some, None, is_some, List, [], ◌++◌, take, drop, ◌-◌, slice_index, slice_index_or, length}
-use Rattle.vax_space.specs.declared.Area.{Area}
+use Rattle.std.specs.Prelude.{ℕ, ◌≡◌, ◌≢◌, ◌+◌, ◌<◌, ◌≤◌, Bool, true, false, Option, Some, None, is_some, List, [], ◌++◌, take, drop, ◌-◌, slice_index, slice_index_or, length}
 use Rattle.vax_space.specs.Areas.{block_of, prot_of}
 use Rattle.vax_table.specs.declared.Walk.{Walk}
 use Rattle.vax_table.specs.Mapping.{frame_of, is_inside, is_resident, prot_said}

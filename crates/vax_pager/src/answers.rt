@@ -10,7 +10,7 @@ impl Store {
     ghost use Rattle.vax_pager.specs.Calls.{IsPaging};
     ghost use Rattle.vax_pager.specs.Store.{IsSound, paging};
 
-    #[tactic(auto, using(crate::proofs::Steps::is_paging))]
+    #[tactic(auto, using(crate::proofs::Told::is_paging))]
     pub(crate) fn facts(&self)
         requires sound { IsSound 0 self.now }
         ensures { IsPaging (paging self.now) }
@@ -25,7 +25,7 @@ impl Store {
         &self.space
     }
 
-    #[tactic(auto, using(crate::proofs::Steps::frames_few), unfolding(crate::specs::Store::paging))]
+    #[tactic(auto, using(crate::proofs::Told::frames_few), unfolding(crate::specs::Store::paging))]
     pub(crate) fn frames(&self) -> u32
         requires sound { IsSound 0 self.now }
         ensures { result ≡ (paging self.now).frames }
@@ -33,7 +33,7 @@ impl Store {
         self.frames.len() as u32
     }
 
-    #[tactic(auto, using(crate::proofs::Steps::pins_few, crate::proofs::Steps::pinned_are))]
+    #[tactic(auto, using(crate::proofs::Told::pins_few, crate::proofs::Told::pinned_are))]
     pub(crate) fn pins(&self) -> u32
         requires sound { IsSound 0 self.now }
         ensures { result ≡ length (paging self.now).pinned }
@@ -41,14 +41,14 @@ impl Store {
         self.pins.len() as u32
     }
 
-    #[tactic(auto, using(crate::proofs::Steps::kept_are))]
+    #[tactic(auto, using(crate::proofs::Told::kept_are))]
     pub(crate) fn kept(&self) -> u32
         ensures { result ≡ length (paging self.now).kept }
     {
         self.lists.kept()
     }
 
-    #[tactic(auto, using(crate::proofs::Steps::next_is))]
+    #[tactic(auto, using(crate::proofs::Told::next_is))]
     pub(crate) fn next_flush(&self) -> Option<u32>
         ensures { result ≡ first (paging self.now).modified }
     {

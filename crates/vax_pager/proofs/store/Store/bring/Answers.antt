@@ -1,5 +1,6 @@
-use Rattle.std.proofs.Common.{◌≡◌, ◌≢◌, ◌<◌, Some, None, refl, sym, ap, ◌∙◌, arith, rules}
-use Rattle.vax_pager.proofs.Steps.{pins_fit, sound_brought, paging_brought, area_inside_of, free_small, free_limit, absent_order}
+use Rattle.std.proofs.Common.{refl, arith, rules}
+use Rattle.vax_pager.proofs.Steps.{sound_brought, paging_brought}
+use Rattle.vax_pager.proofs.Told.{pins_fit, area_inside_of, free_small, free_limit, absent_order}
 use Rattle.vax_pager.proofs.Moves.{free_order}
 use Rattle.vax_pager.proofs.store.Store.bring.Goals as goal
 

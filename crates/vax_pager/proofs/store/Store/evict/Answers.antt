@@ -1,11 +1,8 @@
-use Rattle.std.proofs.Common.{rules, arith, ◌≡◌, ◌≢◌, ◌<◌, refl, sym, ◌∙◌, ap, subst, true, false, ℕ, inl, inr, Some, None}
-use Rattle.std.specs.Prelude.{is_some}
+use Rattle.std.proofs.Common.{rules, ◌≡◌, sym, ◌∙◌, ap, true, false}
 use Rattle.vax_pager.specs.Listing.{is_listed}
 use Rattle.vax_pager.specs.Store.{paging}
-use Rattle.vax_pager.specs.Paging.{Paging}
-use Rattle.vax_pager.specs.Steps.{released, brought, forgotten, removed}
-use Rattle.vax_pager.specs.Calls.{after_flush, source, came}
-use Rattle.vax_pager.proofs.Steps.{absent_clean}
+use Rattle.vax_pager.specs.Steps.{released}
+use Rattle.vax_pager.proofs.Told.{absent_clean}
 use Rattle.vax_pager.proofs.Effects.{evict_none, wrote_none, evict_one, flush_order, flush_clean, keeps_then, keeps_released}
 use Rattle.vax_pager.proofs.store.Store.evict.Goals as goal
 

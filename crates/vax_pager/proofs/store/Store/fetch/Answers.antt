@@ -1,10 +1,4 @@
-use Rattle.std.proofs.Common.{rules, arith, ◌≡◌, ◌≢◌, ◌<◌, refl, sym, ◌∙◌, ap, subst, true, false, ℕ, inl, inr, Some, None}
-use Rattle.std.specs.Prelude.{is_some}
-use Rattle.vax_pager.specs.Listing.{is_listed}
-use Rattle.vax_pager.specs.Store.{paging}
-use Rattle.vax_pager.specs.Paging.{Paging}
-use Rattle.vax_pager.specs.Steps.{released, brought, forgotten, removed}
-use Rattle.vax_pager.specs.Calls.{after_flush, source, came}
+use Rattle.std.proofs.Common.{sym, ◌∙◌}
 use Rattle.vax_pager.proofs.Effects.{read_none, read_one, comes_start, comes_block, not_both}
 use Rattle.vax_pager.proofs.store.Store.fetch.Goals as goal
 

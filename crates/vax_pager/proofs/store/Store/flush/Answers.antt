@@ -1,11 +1,6 @@
-use Rattle.std.proofs.Common.{rules, arith, ◌≡◌, ◌≢◌, ◌<◌, refl, sym, ◌∙◌, ap, subst, true, false, ℕ, inl, inr, Some, None}
+use Rattle.std.proofs.Common.{refl, sym, ◌∙◌, ap}
 use Rattle.std.specs.Prelude.{is_some}
-use Rattle.vax_pager.specs.Listing.{is_listed}
-use Rattle.vax_pager.specs.Store.{paging}
-use Rattle.vax_pager.specs.Paging.{Paging}
-use Rattle.vax_pager.specs.Steps.{released, brought, forgotten, removed}
-use Rattle.vax_pager.specs.Calls.{after_flush, source, came}
-use Rattle.vax_pager.proofs.Steps.{block_is}
+use Rattle.vax_pager.proofs.Told.{block_is}
 use Rattle.vax_pager.proofs.Effects.{flush_none, wrote_none, flush_one, frame_read, told_wrote, keeps_flush, not_both}
 use Rattle.vax_pager.proofs.store.Store.flush.Goals as goal
 

@@ -1,5 +1,5 @@
-use Rattle.std.proofs.Common.{◌≡◌, ◌≢◌, ◌<◌, Some, None, refl, sym, ap, ◌∙◌, arith, rules}
-use Rattle.vax_pager.proofs.Steps.{sound_forgotten, paging_forgotten, free_forgotten, kept_inside}
+use Rattle.vax_pager.proofs.Steps.{sound_forgotten, paging_forgotten, free_forgotten}
+use Rattle.vax_pager.proofs.Told.{kept_inside}
 use Rattle.vax_pager.proofs.store.Store.forget.Goals as goal
 
 pub clear-requires : goal.clear-requires

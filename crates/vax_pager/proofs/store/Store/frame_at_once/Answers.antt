@@ -1,4 +1,4 @@
-use Rattle.std.proofs.Common.{ap, ◌∙◌, sym, refl, rules, arith, ◌%◌, ◌/◌}
+use Rattle.std.proofs.Common.{rules}
 use Rattle.vax_space.specs.Reference.{page_of}
 use Rattle.vax_tb.specs.Meaning.{buffered}
 use Rattle.vax_pager.proofs.Views.{agrees_same, once_entry, once_free, once_held, once_marked, once_resident, paging_buffer, sound_buffer}

@@ -1,4 +1,4 @@
-use Rattle.std.proofs.Common.{ap, ◌∙◌, sym, refl}
+use Rattle.std.proofs.Common.{ap, ◌∙◌}
 use Rattle.vax_table.specs.Mapping.{frame_of}
 use Rattle.vax_pager.proofs.Views.{entry_there, frame_listed, frame_there, held_buffer, paging_buffer, sound_buffer}
 use Rattle.vax_pager.proofs.store.Store.frame_of.Goals as goal

@@ -1,5 +1,5 @@
-use Rattle.std.proofs.Common.{◌≡◌, ◌≢◌, ◌<◌, Some, None, refl, sym, ap, ◌∙◌, arith, rules}
-use Rattle.vax_pager.proofs.Steps.{sound_given, paging_given, free_given, resident_inside}
+use Rattle.vax_pager.proofs.Steps.{sound_given, paging_given, free_given}
+use Rattle.vax_pager.proofs.Told.{resident_inside}
 use Rattle.vax_pager.proofs.store.Store.give_up.Goals as goal
 
 pub clear-requires : goal.clear-requires

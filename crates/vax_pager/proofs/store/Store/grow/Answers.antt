@@ -1,5 +1,6 @@
-use Rattle.std.proofs.Common.{◌≡◌, ◌≢◌, ◌<◌, Some, None, refl, sym, ap, ◌∙◌, arith, rules}
-use Rattle.vax_pager.proofs.Steps.{sound_grown, free_grown, paging_grown, room_is}
+use Rattle.std.proofs.Common.{arith}
+use Rattle.vax_pager.proofs.Steps.{sound_grown, free_grown, paging_grown}
+use Rattle.vax_pager.proofs.Told.{room_is}
 use Rattle.vax_pager.proofs.store.Store.grow.Goals as goal
 
 pub overflow_add-self : goal.overflow_add-self

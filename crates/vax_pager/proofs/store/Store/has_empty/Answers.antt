@@ -1,5 +1,5 @@
 use Rattle.std.proofs.Common.{◌∙◌}
-use Rattle.vax_pager.proofs.Steps.{empty_is}
+use Rattle.vax_pager.proofs.Told.{empty_is}
 use Rattle.vax_pager.proofs.store.Store.has_empty.Goals as goal
 
 pub returns : goal.returns

@@ -1,5 +1,5 @@
-use Rattle.std.proofs.Common.{◌≡◌, ◌≢◌, ◌<◌, Some, None, refl, sym, ap, ◌∙◌, arith, rules}
-use Rattle.vax_pager.proofs.Steps.{told_resident}
+use Rattle.std.proofs.Common.{sym, ◌∙◌}
+use Rattle.vax_pager.proofs.Told.{told_resident}
 use Rattle.vax_pager.proofs.store.Store.is_resident.Goals as goal
 
 pub returns-in-Resident : goal.returns-in-Resident

@@ -1,5 +1,4 @@
-use Rattle.std.proofs.Common.{◌≡◌, ◌≢◌, ◌<◌, Some, None, refl, sym, ap, ◌∙◌, arith, rules}
-use Rattle.vax_pager.proofs.Steps.{kept_told, kept_frame_held, kept_frame_room, kept_frame_bytes}
+use Rattle.vax_pager.proofs.Told.{kept_told, kept_frame_held, kept_frame_room, kept_frame_bytes}
 use Rattle.vax_pager.proofs.store.Store.kept_frame.Goals as goal
 
 pub returns-clause-none : goal.returns-clause-none

@@ -1,5 +1,6 @@
-use Rattle.std.proofs.Common.{◌≡◌, ◌≢◌, ◌<◌, Some, None, refl, sym, ap, ◌∙◌, arith, rules}
-use Rattle.vax_pager.proofs.Steps.{sound_flushed, paging_flushed, modified_inside, held_small}
+use Rattle.std.proofs.Common.{refl, arith}
+use Rattle.vax_pager.proofs.Steps.{sound_flushed, paging_flushed}
+use Rattle.vax_pager.proofs.Told.{modified_inside, held_small}
 use Rattle.vax_pager.proofs.Moves.{modified_held}
 use Rattle.vax_pager.proofs.store.Store.mark_flushed.Goals as goal
 

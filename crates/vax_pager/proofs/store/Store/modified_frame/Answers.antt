@@ -1,6 +1,6 @@
-use Rattle.std.proofs.Common.{◌≡◌, ◌≢◌, ◌<◌, Some, None, refl, sym, ap, ◌∙◌, arith, rules}
+use Rattle.std.proofs.Common.{ap, ◌∙◌}
 use Rattle.vax_pager.specs.Frames.{dirty_frame}
-use Rattle.vax_pager.proofs.Steps.{modified_told, modified_frame_there, modified_frame_held, modified_frame_resident, modified_frame_room, modified_frame_bytes, modified_frame_writable}
+use Rattle.vax_pager.proofs.Told.{modified_told, modified_frame_there, modified_frame_held, modified_frame_resident, modified_frame_room, modified_frame_bytes, modified_frame_writable}
 use Rattle.vax_pager.proofs.store.Store.modified_frame.Goals as goal
 
 pub returns-clause-none : goal.returns-clause-none

@@ -1,5 +1,5 @@
-use Rattle.std.proofs.Common.{refl, rules}
-use Rattle.vax_pager.proofs.Start.{IsNew, paging_new, sound_new}
+use Rattle.std.proofs.Common.{refl}
+use Rattle.vax_pager.proofs.Start.{paging_new, sound_new}
 use Rattle.vax_pager.proofs.store.Store.new.Goals as goal
 
 pub returns-clause-sound : goal.returns-clause-sound

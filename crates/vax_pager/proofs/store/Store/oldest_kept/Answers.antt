@@ -1,5 +1,4 @@
-use Rattle.std.proofs.Common.{◌≡◌, ◌≢◌, ◌<◌, Some, None, refl, sym, ap, ◌∙◌, arith, rules}
-use Rattle.vax_pager.proofs.Steps.{oldest_page, oldest_there}
+use Rattle.vax_pager.proofs.Told.{oldest_page, oldest_there}
 use Rattle.vax_pager.proofs.store.Store.oldest_kept.Goals as goal
 
 pub returns-clause-page : goal.returns-clause-page

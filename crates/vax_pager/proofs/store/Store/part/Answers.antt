@@ -1,5 +1,4 @@
-use Rattle.std.proofs.Common.{◌≡◌, ◌+◌, ◌-◌, ◌%◌, ℕ, ap, ◌∙◌, length, arith, sym}
-use Rattle.vax_space.specs.Reference.{page_of}
+use Rattle.std.proofs.Common.{◌≡◌, ◌+◌, ◌-◌, ◌%◌, arith}
 use Rattle.vax_pager.proofs.Views.{part_of}
 use Rattle.vax_pager.proofs.Moves.{held_room}
 use Rattle.vax_pager.proofs.store.Store.part.Goals as goal

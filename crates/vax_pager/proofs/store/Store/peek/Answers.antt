@@ -1,4 +1,4 @@
-use Rattle.std.proofs.Common.{◌≡◌, ap, sym, ◌∙◌, refl, true, false, rules}
+use Rattle.std.proofs.Common.{rules}
 use Rattle.vax_space.specs.Reference.{page_of}
 use Rattle.vax_pager.specs.Listing.{is_listed}
 use Rattle.vax_pager.specs.Store.{paging}

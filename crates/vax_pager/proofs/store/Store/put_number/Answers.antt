@@ -10,25 +10,16 @@ use Rattle.vax_pager.proofs.store.Store.put_number.Goals as goal
 pub index_mut-requires : goal.index_mut-requires
 index_mut-requires c = omega (arith, held_room 0 c.args.self.now _ _ c.requires.sound c.requires.held, c.args.self.now.frames.ok.0)
 
-pub returns-clause-sound : goal.returns-clause-sound
-returns-clause-sound c =
+pub returns : goal.returns
+returns c =
     let k : ℕ = (c.args.addr % 512 + c.args.n) - c.args.addr % 512 in
     let even : k ≡ c.args.n = omega arith in
     let size : length (low_bytes c.args.n c.args.value) ≡ c.args.n = low-length c.args.n c.args.value in
     let count : k ≡ length (low_bytes c.args.n c.args.value) = even ∙ sym size in
     let whole : length c.index_mut.result.now ≡ 512 = frame_length c.args.self.now c.args.addr c.args.frame _ c.index_mut.ensures.value c.requires.held c.requires.sound in
     let put = c.put_number.ensures ∙ ap (λ (j : ℕ). low_bytes j c.args.value) (part_length (c.args.addr % 512) k c.args.n c.index_mut.result.now c.index_mut.result.now even refl (omega (arith, whole, c.requires.one_page))) in
-    sound_put c.args.self.now c.args.addr c.args.frame k c.index_mut.result.now c.put_number.new.bytes (low_bytes c.args.n c.args.value) _ refl c.index_mut.ensures.value count put c.requires.held (omega (arith, size, c.requires.one_page)) (low_small c.args.n c.args.value) c.requires.sound
-
-pub returns-clause-paging : goal.returns-clause-paging
-returns-clause-paging c =
-    let k : ℕ = (c.args.addr % 512 + c.args.n) - c.args.addr % 512 in
-    let even : k ≡ c.args.n = omega arith in
-    let size : length (low_bytes c.args.n c.args.value) ≡ c.args.n = low-length c.args.n c.args.value in
-    let count : k ≡ length (low_bytes c.args.n c.args.value) = even ∙ sym size in
-    let whole : length c.index_mut.result.now ≡ 512 = frame_length c.args.self.now c.args.addr c.args.frame _ c.index_mut.ensures.value c.requires.held c.requires.sound in
-    let put = c.put_number.ensures ∙ ap (λ (j : ℕ). low_bytes j c.args.value) (part_length (c.args.addr % 512) k c.args.n c.index_mut.result.now c.index_mut.result.now even refl (omega (arith, whole, c.requires.one_page))) in
-    paging_put c.args.self.now c.args.addr c.args.frame k c.index_mut.result.now c.put_number.new.bytes (low_bytes c.args.n c.args.value) _ refl c.index_mut.ensures.value count put c.requires.held c.requires.sound
-
-pub returns-clause-held : goal.returns-clause-held
-returns-clause-held c = held_filled c.args.self.now _
+    record {
+      sound = sound_put c.args.self.now c.args.addr c.args.frame k c.index_mut.result.now c.put_number.new.bytes (low_bytes c.args.n c.args.value) _ refl c.index_mut.ensures.value count put c.requires.held (omega (arith, size, c.requires.one_page)) (low_small c.args.n c.args.value) c.requires.sound;
+      paging = paging_put c.args.self.now c.args.addr c.args.frame k c.index_mut.result.now c.put_number.new.bytes (low_bytes c.args.n c.args.value) _ refl c.index_mut.ensures.value count put c.requires.held c.requires.sound;
+      held = held_filled c.args.self.now _;
+    }

@@ -3,7 +3,7 @@ use Rattle.vax_space.specs.Reference.{byte_after, page_of}
 use Rattle.vax_flat.specs.Memory.{number}
 use Rattle.vax_flat.specs.Port.{stop_of, loaded_by}
 use Rattle.vax_pager.specs.Paging.{view_of}
-use Rattle.vax_pager.specs.Store.{held, paging}
+use Rattle.vax_pager.specs.Store.{paging}
 use Rattle.vax_pager.proofs.Views.{resident_same, bytes_same}
 use Rattle.vax_undo.proofs.Accesses.{IsApart, apart_low, apart_high, apart_none, apart_number}
 use Rattle.vax_undo.proofs.Ranges.{bytes_length}

@@ -1,4 +1,4 @@
-use Rattle.std.proofs.Common.{Option, sym, ap, ◌∙◌}
+use Rattle.std.proofs.Common.{Option, sym, ap}
 use Rattle.vax_space.specs.declared.Access.TheVariants.{Read}
 use Rattle.vax_flat.specs.declared.Stop.{Stop}
 use Rattle.vax_flat.specs.Memory.{number}

@@ -1,6 +1,7 @@
-use Rattle.std.proofs.Common.{◌≡◌, ◌≢◌, ◌<◌, Some, None, refl, sym, ap, ◌∙◌, arith, rules}
-use Rattle.vax_pager.proofs.Steps.{sound_released, paging_released, held_limit, unkept}
-use Rattle.vax_pager.proofs.Moves.{resident_is, kept_free, order_held}
+use Rattle.std.proofs.Common.{sym, ◌∙◌, rules}
+use Rattle.vax_pager.proofs.Steps.{sound_released, paging_released}
+use Rattle.vax_pager.proofs.Told.{held_limit, unkept}
+use Rattle.vax_pager.proofs.Moves.{resident_is, kept_free}
 use Rattle.vax_pager.proofs.store.Store.release.Goals as goal
 
 pub keep-requires : goal.keep-requires

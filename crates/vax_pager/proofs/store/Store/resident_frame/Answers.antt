@@ -1,7 +1,7 @@
-use Rattle.std.proofs.Common.{◌≡◌, ◌≢◌, ◌<◌, Some, None, refl, sym, ap, ◌∙◌, arith, rules}
+use Rattle.std.proofs.Common.{sym, ◌∙◌}
 use Rattle.std.proofs.lemmas.Bool.{false≢true}
 use Rattle.vax_pager.proofs.Moves.{order_held, held_room, frame_means}
-use Rattle.vax_pager.proofs.Steps.{told_resident, told_order}
+use Rattle.vax_pager.proofs.Told.{told_resident, told_order}
 use Rattle.vax_pager.proofs.store.Store.resident_frame.Goals as goal
 
 pub unreachable-requires : goal.unreachable-requires

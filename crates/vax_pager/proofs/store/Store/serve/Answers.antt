@@ -1,11 +1,6 @@
-use Rattle.std.proofs.Common.{rules, arith, ◌≡◌, ◌≢◌, ◌<◌, refl, sym, ◌∙◌, ap, subst, true, false, ℕ, inl, inr, Some, None}
-use Rattle.std.specs.Prelude.{is_some}
-use Rattle.vax_pager.specs.Listing.{is_listed}
+use Rattle.std.proofs.Common.{rules, refl, sym}
 use Rattle.vax_pager.specs.Store.{paging}
-use Rattle.vax_pager.specs.Paging.{Paging}
-use Rattle.vax_pager.specs.Steps.{released, brought, forgotten, removed}
-use Rattle.vax_pager.specs.Calls.{after_flush, source, came}
-use Rattle.vax_pager.proofs.Effects.{on_err, source_back, source_empty, source_kept, source_victim, keeps_taken, has_room, pins_left}
+use Rattle.vax_pager.proofs.Effects.{source_back, source_empty, source_kept, source_victim, keeps_taken, has_room, pins_left}
 use Rattle.vax_pager.proofs.store.Store.serve.Goals as goal
 
 pub returns-then-has_empty-clause-answer : goal.returns-then-has_empty-clause-answer

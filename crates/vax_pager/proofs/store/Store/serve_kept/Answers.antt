@@ -1,11 +1,7 @@
-use Rattle.std.proofs.Common.{rules, arith, ◌≡◌, ◌≢◌, ◌<◌, refl, sym, ◌∙◌, ap, subst, true, false, ℕ, inl, inr, Some, None}
-use Rattle.std.specs.Prelude.{is_some}
-use Rattle.vax_pager.specs.Listing.{is_listed}
+use Rattle.std.proofs.Common.{◌∙◌, ap}
 use Rattle.vax_pager.specs.Store.{paging}
-use Rattle.vax_pager.specs.Paging.{Paging}
-use Rattle.vax_pager.specs.Steps.{released, brought, forgotten, removed}
-use Rattle.vax_pager.specs.Calls.{after_flush, source, came}
-use Rattle.vax_pager.proofs.Steps.{within_prot, kept_gone}
+use Rattle.vax_pager.specs.Steps.{brought}
+use Rattle.vax_pager.proofs.Told.{within_prot, kept_gone}
 use Rattle.vax_pager.proofs.Effects.{own_brought, own_comes, keeps_in_kept, forgotten_areas, forgotten_order, forgotten_unkept, forgotten_pins}
 use Rattle.vax_pager.proofs.store.Store.serve_kept.Goals as goal
 

@@ -1,11 +1,7 @@
-use Rattle.std.proofs.Common.{rules, arith, ◌≡◌, ◌≢◌, ◌<◌, refl, sym, ◌∙◌, ap, subst, true, false, ℕ, inl, inr, Some, None}
-use Rattle.std.specs.Prelude.{is_some}
-use Rattle.vax_pager.specs.Listing.{is_listed}
+use Rattle.std.proofs.Common.{◌∙◌, ap, inl, inr}
 use Rattle.vax_pager.specs.Store.{paging}
-use Rattle.vax_pager.specs.Paging.{Paging}
-use Rattle.vax_pager.specs.Steps.{released, brought, forgotten, removed}
-use Rattle.vax_pager.specs.Calls.{after_flush, source, came}
-use Rattle.vax_pager.proofs.Steps.{within_prot, resident_within, resident_unkept, writable_is}
+use Rattle.vax_pager.specs.Steps.{brought, removed}
+use Rattle.vax_pager.proofs.Told.{within_prot, resident_within, resident_unkept, writable_is}
 use Rattle.vax_pager.proofs.Effects.{on_err, own_brought, own_comes, keeps_in_victim, keeps_then, flush_areas, flush_order, flush_clean, flush_pinned, flush_kept, flush_frames, removed_areas, removed_absent, removed_kept, removed_pins, apart, comes_flushed, read_flushed}
 use Rattle.vax_pager.proofs.store.Store.serve_victim.Goals as goal
 

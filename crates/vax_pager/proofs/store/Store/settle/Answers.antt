@@ -1,4 +1,3 @@
-use Rattle.std.proofs.Common.{◌≡◌, ◌≢◌, ◌<◌, Some, None, refl, sym, ap, ◌∙◌, arith, rules}
 use Rattle.vax_pager.proofs.Steps.{sound_settled, paging_settled}
 use Rattle.vax_pager.proofs.store.Store.settle.Goals as goal
 

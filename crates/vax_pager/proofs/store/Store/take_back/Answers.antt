@@ -1,5 +1,5 @@
-use Rattle.std.proofs.Common.{◌≡◌, ◌≢◌, ◌<◌, Some, None, refl, sym, ap, ◌∙◌, arith, rules}
-use Rattle.vax_pager.proofs.Steps.{pins_fit, sound_taken, paging_taken, held_limit, kept_inside, held_small, kept_away}
+use Rattle.vax_pager.proofs.Steps.{sound_taken, paging_taken}
+use Rattle.vax_pager.proofs.Told.{pins_fit, held_limit, kept_inside, held_small, kept_away}
 use Rattle.vax_pager.proofs.Moves.{order_free, kept_held}
 use Rattle.vax_pager.proofs.store.Store.take_back.Goals as goal
 

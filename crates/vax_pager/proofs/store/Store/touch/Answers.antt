@@ -1,6 +1,6 @@
-use Rattle.std.proofs.Common.{ap, ◌∙◌, sym, refl, true, false, arith, rules}
+use Rattle.std.proofs.Common.{◌∙◌, sym, rules}
 use Rattle.vax_pager.proofs.Moves.{modified_free}
-use Rattle.vax_pager.proofs.Steps.{held_limit}
+use Rattle.vax_pager.proofs.Told.{held_limit}
 use Rattle.vax_pager.proofs.Writable.{block_in_space}
 use Rattle.vax_pager.proofs.Writes.{held_touched, marked_resident, paging_touched, sound_touched, touched_none, unmarked}
 use Rattle.vax_pager.proofs.store.Store.touch.Goals as goal

@@ -1,5 +1,5 @@
-use Rattle.std.proofs.Common.{◌≡◌, ◌≢◌, ◌<◌, Some, None, refl, sym, ap, ◌∙◌, arith, rules}
-use Rattle.vax_pager.proofs.Steps.{victim_is, some_first}
+use Rattle.std.proofs.Common.{sym, ◌∙◌}
+use Rattle.vax_pager.proofs.Told.{victim_is, some_first}
 use Rattle.vax_pager.proofs.store.Store.victim.Goals as goal
 
 pub unreachable-requires : goal.unreachable-requires

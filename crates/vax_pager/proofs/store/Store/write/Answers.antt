@@ -1,4 +1,4 @@
-use Rattle.std.proofs.Common.{Option, ℕ, ◌≡◌, ◌+◌, ◌≤◌, ◌%◌, length, arith, refl, sym, ap, ◌∙◌}
+use Rattle.std.proofs.Common.{Option, ◌≡◌, length, arith, refl, sym, ap, ◌∙◌}
 use Rattle.vax_space.specs.Reference.{page_of}
 use Rattle.vax_flat.specs.declared.Stop.{Stop}
 use Rattle.vax_flat.specs.Port.{unless_cut, with_number, with_run}

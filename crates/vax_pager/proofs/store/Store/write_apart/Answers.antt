@@ -1,9 +1,8 @@
 use Rattle.std.proofs.Common.{length, arith, ℕ, ◌-◌, ◌%◌, None, Option, take, drop, sym, ap, ◌∙◌, refl}
-use Rattle.std.specs.Prelude.{is_some}
 use Rattle.vax_space.specs.Reference.{byte_after}
-use Rattle.vax_flat.specs.Port.{View, stop_of, unless_cut, with_number, with_run, put_run}
+use Rattle.vax_flat.specs.Port.{stop_of, unless_cut, with_number, put_run}
 use Rattle.vax_pager.specs.Paging.{view_of}
-use Rattle.vax_pager.specs.Store.{held, paging}
+use Rattle.vax_pager.specs.Store.{paging}
 use Rattle.vax_space.specs.Reference.{page_of}
 use Rattle.vax_pager.specs.Paging.{Paging}
 use Rattle.vax_pager.specs.Steps.{touched_page}
@@ -45,80 +44,40 @@ returns-in_default-frame_of-clause-stored c =
     let h : IsApart c.args.addr c.args.n first next = (refl, refl, c.requires.apart, c.requires.few, c.ranges.addr.fits) in
     ap (λ (z : Paging). view_of z) (c.in_default-frame_of.ensures.paging ∙ c.in-Some.ensures.paging) ∙ sym (ap (λ (p : Option ℕ). unless_cut (stop_of None p) view (with_number view c.args.addr c.args.n c.args.value)) (apart_high c.args.addr c.args.n first next view.resident h (sym c.in-Some.ensures.resident) (sym (c.in_default-frame_of.ensures.resident ∙ resident_same _ _ _ c.in-Some.ensures.paging))))
 
-pub returns-clause-answer : goal.returns-clause-answer
-returns-clause-answer c =
-    let view = view_of (paging c.args.self.now) in
-    let first : ℕ = 512 - c.args.addr % 512 in
-    let next : ℕ = byte_after c.args.addr first in
-    let h : IsApart c.args.addr c.args.n first next = (refl, refl, c.requires.apart, c.requires.few, c.ranges.addr.fits) in
-    sym (ap (stop_of None) (apart_none c.args.addr c.args.n first next view.resident h (sym c.in-Some.ensures.resident) (sym (c.in-Some-frame_of.ensures.resident ∙ resident_same _ _ _ c.in-Some.ensures.paging))))
-
-pub returns-clause-stored : goal.returns-clause-stored
-returns-clause-stored c =
+pub returns : goal.returns
+returns c =
     let s = paging c.args.self.now in
+    let view = view_of s in
     let first : ℕ = 512 - c.args.addr % 512 in
     let next : ℕ = byte_after c.args.addr first in
     let h : IsApart c.args.addr c.args.n first next = (refl, refl, c.requires.apart, c.requires.few, c.ranges.addr.fits) in
     let low = take first c.to_le_bytes-bytes.result in
     let high = take (c.args.n - first) (drop first c.to_le_bytes-bytes.result) in
     let e = c.in-Some-frame_of.ensures.paging ∙ c.in-Some.ensures.paging in
+    let low_here = sym c.in-Some.ensures.resident in
+    let high_here = sym (c.in-Some-frame_of.ensures.resident ∙ resident_same _ _ _ c.in-Some.ensures.paging) in
     let k : WrittenApart s _ _ _ _ c.args.addr next low high = (record {
       first = c.touch.ensures.paging ∙ ap (touched_page (page_of c.args.addr)) e;
       second = c.touch-2.ensures.paging;
       high_put = c.put_run.ensures.paging;
       low_put = c.put_run-2.ensures.paging;
-      low_here = sym c.in-Some.ensures.resident;
-      high_here = sym (c.in-Some-frame_of.ensures.resident ∙ resident_same _ _ _ c.in-Some.ensures.paging);
+      low_here = low_here;
+      high_here = high_here;
       low_size = ap (λ (z : Paging). length (z.frame (page_of c.args.addr))) (sym c.in-Some.ensures.paging) ∙ frame_size _ _ _ c.in-Some.ensures.held c.in-Some.ensures.sound;
       high_size = ap (λ (z : Paging). length (z.frame (page_of next))) (sym e) ∙ frame_size _ _ _ c.in-Some-frame_of.ensures.held c.in-Some-frame_of.ensures.sound;
     }) in
-    let view = view_of s in
     let bytes = apart_put c.args.addr c.args.n first next view.byte (put_run view.byte next high) _ c.args.value c.to_le_bytes-bytes.result low high h c.to_le_bytes-bytes.ensures refl refl refl refl in
     let sizes = part_sizes c.to_le_bytes-bytes.result first (c.args.n - first) (omega (arith, c.requires.apart, c.requires.few, ap length c.to_le_bytes-bytes.ensures)) in
-    view_of_apart s _ _ _ _ c.args.addr c.args.n first next low high c.args.value h k sizes.0 sizes.1 bytes
-    ∙ sym (ap (λ (p : Option ℕ). unless_cut (stop_of None p) view (with_number view c.args.addr c.args.n c.args.value)) (apart_none c.args.addr c.args.n first next view.resident h (sym c.in-Some.ensures.resident) (sym (c.in-Some-frame_of.ensures.resident ∙ resident_same _ _ _ c.in-Some.ensures.paging))))
-
-pub returns-clause-listed : goal.returns-clause-listed
-returns-clause-listed c =
-    let s = paging c.args.self.now in
-    let first : ℕ = 512 - c.args.addr % 512 in
-    let next : ℕ = byte_after c.args.addr first in
-    let h : IsApart c.args.addr c.args.n first next = (refl, refl, c.requires.apart, c.requires.few, c.ranges.addr.fits) in
-    let low = take first c.to_le_bytes-bytes.result in
-    let high = take (c.args.n - first) (drop first c.to_le_bytes-bytes.result) in
-    let e = c.in-Some-frame_of.ensures.paging ∙ c.in-Some.ensures.paging in
-    let k : WrittenApart s _ _ _ _ c.args.addr next low high = (record {
-      first = c.touch.ensures.paging ∙ ap (touched_page (page_of c.args.addr)) e;
-      second = c.touch-2.ensures.paging;
-      high_put = c.put_run.ensures.paging;
-      low_put = c.put_run-2.ensures.paging;
-      low_here = sym c.in-Some.ensures.resident;
-      high_here = sym (c.in-Some-frame_of.ensures.resident ∙ resident_same _ _ _ c.in-Some.ensures.paging);
-      low_size = ap (λ (z : Paging). length (z.frame (page_of c.args.addr))) (sym c.in-Some.ensures.paging) ∙ frame_size _ _ _ c.in-Some.ensures.held c.in-Some.ensures.sound;
-      high_size = ap (λ (z : Paging). length (z.frame (page_of next))) (sym e) ∙ frame_size _ _ _ c.in-Some-frame_of.ensures.held c.in-Some-frame_of.ensures.sound;
-    }) in
-    modified_apart s _ _ _ _ c.args.addr c.args.n first next low high h k
-
-pub returns-clause-only : goal.returns-clause-only
-returns-clause-only c =
-    let s = paging c.args.self.now in
-    let first : ℕ = 512 - c.args.addr % 512 in
-    let next : ℕ = byte_after c.args.addr first in
-    let h : IsApart c.args.addr c.args.n first next = (refl, refl, c.requires.apart, c.requires.few, c.ranges.addr.fits) in
-    let low = take first c.to_le_bytes-bytes.result in
-    let high = take (c.args.n - first) (drop first c.to_le_bytes-bytes.result) in
-    let e = c.in-Some-frame_of.ensures.paging ∙ c.in-Some.ensures.paging in
-    let k : WrittenApart s _ _ _ _ c.args.addr next low high = (record {
-      first = c.touch.ensures.paging ∙ ap (touched_page (page_of c.args.addr)) e;
-      second = c.touch-2.ensures.paging;
-      high_put = c.put_run.ensures.paging;
-      low_put = c.put_run-2.ensures.paging;
-      low_here = sym c.in-Some.ensures.resident;
-      high_here = sym (c.in-Some-frame_of.ensures.resident ∙ resident_same _ _ _ c.in-Some.ensures.paging);
-      low_size = ap (λ (z : Paging). length (z.frame (page_of c.args.addr))) (sym c.in-Some.ensures.paging) ∙ frame_size _ _ _ c.in-Some.ensures.held c.in-Some.ensures.sound;
-      high_size = ap (λ (z : Paging). length (z.frame (page_of next))) (sym e) ∙ frame_size _ _ _ c.in-Some-frame_of.ensures.held c.in-Some-frame_of.ensures.sound;
-    }) in
-    only_apart s _ _ _ _ c.args.addr c.args.n first next low high k
+    let none = apart_none c.args.addr c.args.n first next view.resident h low_here high_here in
+    record {
+      sound = c.put_run-2.ensures.sound;
+      answer = sym (ap (stop_of None) none);
+      stored = view_of_apart s _ _ _ _ c.args.addr c.args.n first next low high c.args.value h k sizes.0 sizes.1 bytes
+          ∙ sym (ap (λ (p : Option ℕ). unless_cut (stop_of None p) view (with_number view c.args.addr c.args.n c.args.value)) none);
+      listed = modified_apart s _ _ _ _ c.args.addr c.args.n first next low high h k;
+      unpaged = tt;
+      only = only_apart s _ _ _ _ c.args.addr c.args.n first next low high k;
+    }
 
 pub touch-requires-clause-resident : goal.touch-requires-clause-resident
 touch-requires-clause-resident c = order_same _ _ _ (c.in-Some-frame_of.ensures.paging ∙ c.in-Some.ensures.paging) (sym c.in-Some.ensures.resident)

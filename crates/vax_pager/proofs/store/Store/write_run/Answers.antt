@@ -1,12 +1,9 @@
-use Rattle.std.proofs.Common.{Option, ℕ, ◌≡◌, ◌+◌, ◌≤◌, ◌%◌, length, arith, refl, sym, ap, ◌∙◌}
-use Rattle.std.specs.Prelude.{is_some}
+use Rattle.std.proofs.Common.{Option, length, sym, ap, ◌∙◌}
 use Rattle.vax_space.specs.declared.Access.TheVariants.{Write}
 use Rattle.vax_space.specs.Reference.{page_of}
 use Rattle.vax_flat.specs.declared.Stop.{Stop}
 use Rattle.vax_flat.specs.Port.{unless_cut, with_run}
-use Rattle.vax_undo.specs.Blocks.{low_bytes}
 use Rattle.vax_undo.proofs.Accesses.{fine, gone}
-use Rattle.vax_undo.proofs.Numbers.{low-length}
 use Rattle.vax_pager.specs.Steps.{touched_page}
 use Rattle.vax_pager.specs.Paging.{Paging, view_of}
 use Rattle.vax_pager.specs.Store.{paging}

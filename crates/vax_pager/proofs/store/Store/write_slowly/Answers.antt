@@ -1,9 +1,8 @@
-use Rattle.std.proofs.Common.{Option, ℕ, ◌≡◌, ◌+◌, ◌-◌, ◌≤◌, ◌%◌, length, arith, refl, sym, ap, ◌∙◌}
-use Rattle.std.specs.Prelude.{is_some}
+use Rattle.std.proofs.Common.{Option, ◌≡◌, ◌-◌, ◌%◌, length, arith, sym, ap, ◌∙◌}
 use Rattle.vax_space.specs.declared.Access.TheVariants.{Write}
 use Rattle.vax_space.specs.Reference.{page_of}
 use Rattle.vax_flat.specs.declared.Stop.{Stop}
-use Rattle.vax_flat.specs.Port.{unless_cut, with_number, with_run}
+use Rattle.vax_flat.specs.Port.{unless_cut, with_number}
 use Rattle.vax_undo.specs.Blocks.{low_bytes}
 use Rattle.vax_undo.proofs.Accesses.{fine, gone}
 use Rattle.vax_undo.proofs.Numbers.{low-length}

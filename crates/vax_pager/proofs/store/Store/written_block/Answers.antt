@@ -1,11 +1,5 @@
-use Rattle.std.proofs.Common.{rules, arith, ◌≡◌, ◌≢◌, ◌<◌, refl, sym, ◌∙◌, ap, subst, true, false, ℕ, inl, inr, Some, None}
-use Rattle.std.specs.Prelude.{is_some}
-use Rattle.vax_pager.specs.Listing.{is_listed}
-use Rattle.vax_pager.specs.Store.{paging}
-use Rattle.vax_pager.specs.Paging.{Paging}
-use Rattle.vax_pager.specs.Steps.{released, brought, forgotten, removed}
-use Rattle.vax_pager.specs.Calls.{after_flush, source, came}
-use Rattle.vax_pager.proofs.Steps.{block_is, flag_there, written_is}
+use Rattle.std.proofs.Common.{sym, ◌∙◌}
+use Rattle.vax_pager.proofs.Told.{block_is, flag_there, written_is}
 use Rattle.vax_pager.proofs.store.Store.written_block.Goals as goal
 
 pub returns-in-None-clause-blocked : goal.returns-in-None-clause-blocked
