@@ -1,5 +1,5 @@
 -- What a transaction that makes the accesses of a tree came to.
-use Rattle.std.specs.Prelude.{◌≡◌, ℕ, Bool, false, is_none, Option, Some, None, Result, Ok, Err}
+use Rattle.std.specs.Prelude.{◌≡◌, Bool, false, is_none, Option, Some, None, Result, Ok, Err}
 use Rattle.vax_word.specs.declared.Core.{Core}
 use Rattle.vax_flat.specs.declared.Cut.TheVariants as cut
 use Rattle.vax_flat.specs.declared.Ending.{Ending}
