@@ -1,5 +1,5 @@
 -- What a log tells of the registers at the start.
-use Rattle.std.proofs.Common.{Bool, true, ◌≡◌, ℕ, ◌≤◌, ◌+◌, Option, Some, None, List, [], ◌∷◌, ◌++◌, length, refl, ap, sym, subst, ◌∙◌}
+use Rattle.std.proofs.Common.{Bool, true, ◌≡◌, ℕ, ◌≤◌, ◌+◌, Option, Some, None, List, [], ◌∷◌, ◌++◌, length, refl, ap, sym, ◌∙◌}
 use Rattle.std.specs.Prelude.{slice_set}
 use Rattle.vax_word.specs.declared.Core.{Core}
 use Rattle.vax_space.specs.declared.Area.{Area}
@@ -13,7 +13,7 @@ use Rattle.vax_undo.specs.declared.entry.Kept.{Kept}
 use Rattle.vax_undo.specs.declared.entry.Kept.TheVariants as kept
 use Rattle.vax_undo.specs.declared.txn.Origin.{Origin}
 use Rattle.vax_undo.specs.declared.txn.Txn.{Txn as Transaction}
-use Rattle.vax_undo.specs.Transaction.{bare, put_back, restored_by, undo, undo_all, restart, present, undone, room, Allows, AllowsAll, FitsIn, IsLeftOpen, IsReady, IsSame, with_view}
+use Rattle.vax_undo.specs.Transaction.{bare, put_back, restored_by, undo, undo_all, restart, present, room, Allows, FitsIn, IsLeftOpen, IsSame, with_view}
 use Rattle.vax_undo.proofs.Undo.{all_marked, marks_stay, undo_all-append}
 
 put_back-core : (k : Kept) (e : Entry) (p : Present) → (put_back k e p).state.core ≡ restored_by k e p.state.core
