@@ -9,7 +9,7 @@ use Rattle.vax_flat.specs.State.{State, with_sent}
 use Rattle.vax_flat.specs.Memory.{byte_at}
 use Rattle.vax_flat.specs.Port.{View, StandsFor, with_marks}
 use Rattle.vax_flat.specs.Accesses.{Accesses, Leaf, Went}
-use Rattle.vax_flat.specs.Outcome.{Raised, first_missing, marked_by}
+use Rattle.vax_flat.specs.Outcome.{first_missing, marked_by}
 use Rattle.vax_flat.specs.OverPort.{Present}
 use Rattle.vax_flat.specs.Step.{Flat, step, run, state_of, concluded, with_byte_sent}
 use Rattle.vax_flat.specs.Parts.{Place, At, machine_at, outcome_at, part_step, start_of, touches_at, tree_at}

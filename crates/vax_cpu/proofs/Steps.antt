@@ -1,5 +1,5 @@
 -- What an attempt came to, said by the flat machine.
-use Rattle.std.proofs.Common.{Bool, false, ◌≡◌, ℕ, ◌+◌, suc, zero, Option, Some, None, List, refl, sym, ap, subst, ◌∙◌, arith}
+use Rattle.std.proofs.Common.{Bool, ◌≡◌, ℕ, suc, zero, Option, Some, None, List, refl, sym, ap, subst, ◌∙◌}
 use Rattle.vax_word.specs.declared.Core.{Core}
 use Rattle.vax_space.specs.declared.Area.{Area}
 use Rattle.vax_flat.specs.declared.Exception.{Exception}
@@ -15,8 +15,8 @@ use Rattle.vax_flat.specs.Accesses.{Accesses, Leaf, Went}
 use Rattle.vax_flat.specs.Outcome.{Outcome, Ends, Raised, outcome_of, touches_of, first_missing, or_else, marked_by, unless_absent}
 use Rattle.vax_flat.specs.OverPort.{Present, Arrival, Comes, Stops, Agrees, marks_of, over_port}
 use Rattle.vax_flat.specs.Bound.{IsWhole, LeavesNoPart}
-use Rattle.vax_flat.specs.Step.{Flat, step, state_of, whole_delivery, concluded, ended, after_instruction, after_delivery, touches_after, with_byte_sent}
-use Rattle.vax_flat.specs.Parts.{Partway, Place, At, Within, Turn, Completes, Leaves, GoesBy, after_part, gone_back, left_by, machine_at, outcome_at, partway, start_of, touches_at, tree_at, turn, turn_from, units_after, units_done}
+use Rattle.vax_flat.specs.Step.{Flat, state_of, whole_delivery, concluded, ended, after_delivery, touches_after, with_byte_sent}
+use Rattle.vax_flat.specs.Parts.{Partway, Place, At, Within, Completes, Leaves, GoesBy, after_part, gone_back, left_by, machine_at, outcome_at, partway, start_of, touches_at, tree_at, turn, turn_from, units_after, units_done}
 use Rattle.vax_flat.proofs.Parts.{turns_agree}
 use Rattle.vax_flat.proofs.Steps.{delivers_whole}
 use Rattle.vax_flat.proofs.Standing.{standing}
@@ -25,15 +25,13 @@ use Rattle.vax_flat.proofs.Inside.{stops_missing}
 use Rattle.vax_flat.proofs.Joined.{first_missing-append}
 use Rattle.vax_undo.specs.declared.term.Term.{Term}
 use Rattle.vax_undo.specs.Transaction.{state_of as state_at}
-use Rattle.vax_space.specs.Reference.{page_of}
-use Rattle.vax_flat.specs.Memory.{byte_at}
 use Rattle.vax_cpu.specs.declared.attempt.Tried.{Tried}
 use Rattle.vax_cpu.specs.declared.attempt.Tried.TheVariants as tried
 use Rattle.vax_cpu.specs.declared.cpu.Attempt.TheVariants as attempt
 use Rattle.vax_cpu.specs.declared.cpu.Cpu.{Cpu}
 use Rattle.vax_cpu.specs.declared.cpu.Open.{Open}
 use Rattle.vax_cpu.specs.Tried.{IsFinal, IsTried, Made, AtOnce, Delivered, ending_of, led_back, marked_as, put_again, start_by, tree_of, with_registers}
-use Rattle.vax_cpu.specs.Attempt.{flat_of, answer_of, open_after, open_at, Attempted, IsAt, LeavesMemory, Marks, StopsInside}
+use Rattle.vax_cpu.specs.Attempt.{flat_of, answer_of, open_after, open_at, Attempted, LeavesMemory, Marks, StopsInside}
 
 flat_alike : (c d : Core) (memory : List Area) (i j : List ℕ) (t u : ℕ) (o p : List ℕ) (e f : Option Ending) → c ≡ d → i ≡ j → t ≡ u → o ≡ p → e ≡ f →
     ◌≡◌ {A = Flat} (record { core = c; memory = memory; input = i; taken = t; output = o; ending = e }) (record { core = d; memory = memory; input = j; taken = u; output = p; ending = f })

@@ -7,15 +7,15 @@ use Rattle.vax_isa.specs.Rows.{action_of}
 use Rattle.vax_flat.specs.declared.Ending.TheVariants.{Unbuilt}
 use Rattle.vax_flat.specs.declared.Flow.{Flow}
 use Rattle.vax_flat.specs.declared.Flow.TheVariants as flow
-use Rattle.vax_flat.specs.State.{State, priority}
+use Rattle.vax_flat.specs.State.{State}
 use Rattle.vax_flat.specs.Accesses.{Accesses, Leaf, Went, Found}
 use Rattle.vax_flat.specs.Outcome.{Outcome, Ends, Raised, first_missing, or_else, outcome_of, touches_of}
 use Rattle.vax_flat.specs.Memory.{AllResident}
 use Rattle.vax_flat.specs.Operand.{fetched}
 use Rattle.vax_flat.specs.Instruction.{acted, acted_if, acted_part, acted_part_if, instruction, first_part, resumed}
 use Rattle.vax_flat.specs.Step.{Flat, state_of, begun, whole, whole_step, leaf, finished, step, step_from, after_instruction, touches_after}
-use Rattle.vax_flat.specs.Parts.{Partway, Place, At, Within, Turn, Completes, Leaves, GoesBy, machine_at, tree_at, begun_part, part, part_step, later, later_step, gone_back, left_by, after_part, partway, outcome_at, touches_at, turn, turn_from}
-use Rattle.vax_flat.specs.Bound.{AreFew, IsWhole, LeavesNoPart, LieIn}
+use Rattle.vax_flat.specs.Parts.{Partway, Place, At, Within, Completes, Leaves, GoesBy, machine_at, tree_at, begun_part, part, part_step, later, later_step, gone_back, left_by, after_part, partway, outcome_at, touches_at, turn, turn_from}
+use Rattle.vax_flat.specs.Bound.{AreFew, LeavesNoPart, LieIn}
 use Rattle.vax_flat.proofs.Closed.{leaves_no_part}
 use Rattle.vax_flat.proofs.Joined.{first_missing-append}
 use Rattle.vax_flat.proofs.Runs.{after_none, none_missing}

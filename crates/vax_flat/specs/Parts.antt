@@ -2,12 +2,11 @@
 -- that say what remains; any other step is made at once.
 use Rattle.std.specs.Prelude.{◌≡◌, ℕ, suc, zero, ◌+◌, ◌-◌, ◌^◌, nat_lt, if◌then◌else◌, Option, Some, None, List, ◌++◌}
 use Rattle.vax_word.specs.declared.Core.{Core}
-use Rattle.vax_space.specs.declared.Area.{Area}
 use Rattle.vax_flat.specs.declared.Flow.{Flow}
 use Rattle.vax_flat.specs.declared.Flow.TheVariants as flow
 use Rattle.vax_flat.specs.State.{State, priority}
 use Rattle.vax_flat.specs.Accesses.{Accesses, Leaf, Went}
-use Rattle.vax_flat.specs.Outcome.{Outcome, Range, Ends, Raised, outcome_of, touches_of}
+use Rattle.vax_flat.specs.Outcome.{Outcome, Range, Ends, outcome_of, touches_of}
 use Rattle.vax_flat.specs.Delivery.{interrupt}
 use Rattle.vax_flat.specs.System.{flow_of_delivery}
 use Rattle.vax_flat.specs.Instruction.{first_part, resumed}

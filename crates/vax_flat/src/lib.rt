@@ -3,7 +3,7 @@
 //! `specs/` has them in this order: `State` (what an instruction may change beside memory), `Accesses` (an instruction as a tree of its
 //! accesses to memory), `Memory` (areas with their bytes), `Outcome` (what a tree does to that memory), `Operand` and `Rows` (operands,
 //! values and results), `Integer`, `Control` and `Instruction` (the instructions as such trees), `Grammar` and `Evaluation` (what bytes are
-//! as operands, and what those come to), and `Step` (a whole step and a whole run).
+//! as operands, and what those come to), `Step` (a whole step and a whole run), and `Parts` (a step that is made in parts).
 #![tactic(auto)]
 
 mod laws;

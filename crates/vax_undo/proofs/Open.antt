@@ -1,5 +1,5 @@
 -- What a log tells of the registers at the start.
-use Rattle.std.proofs.Common.{Bool, true, ◌≡◌, ℕ, ◌≤◌, ◌<◌, ◌^◌, ◌+◌, Option, Some, None, List, [], ◌∷◌, ◌++◌, length, refl, ap, sym, subst, ◌∙◌}
+use Rattle.std.proofs.Common.{Bool, true, ◌≡◌, ℕ, ◌≤◌, ◌<◌, ◌^◌, ◌+◌, Option, Some, None, List, [], ◌∷◌, ◌++◌, length, refl, ap, sym, ◌∙◌}
 use Rattle.std.specs.Prelude.{slice_set, vec_len}
 use Rattle.std.specs.Global.{Vec}
 use Rattle.std.proofs.Math.Bridge.{le_prop}
@@ -16,7 +16,7 @@ use Rattle.vax_undo.specs.declared.entry.Kept.TheVariants as kept
 use Rattle.vax_undo.specs.declared.term.Term.{Term}
 use Rattle.vax_undo.specs.declared.txn.Origin.{Origin}
 use Rattle.vax_undo.specs.declared.txn.Txn.{Txn as Transaction}
-use Rattle.vax_undo.specs.Transaction.{bare, put_back, restored_by, undo, undo_all, restart, present, undone, room, Allows, AllowsAll, FitsIn, IsLeftOpen, IsReady, IsSame, with_view}
+use Rattle.vax_undo.specs.Transaction.{bare, put_back, restored_by, undo, undo_all, restart, present, room, Allows, FitsIn, IsLeftOpen, IsSame, with_view}
 use Rattle.vax_undo.proofs.Undo.{all_marked, marks_stay, undo_all-append}
 
 abbrev pub console : (input : Vec ℕ) (place : ℕ) → Option ℕ → vec_len input < 2 ^ 32 → place ≤ vec_len input → Term

@@ -1,8 +1,8 @@
-use Rattle.std.proofs.Common.{◌≡◌, ◌∙◌, Ok, ap, subst, rules}
+use Rattle.std.proofs.Common.{◌∙◌, Ok, ap, subst, rules}
 use Rattle.vax_flat.specs.declared.Flow.{Flow}
 use Rattle.vax_flat.specs.OverPort.{Follows}
 use Rattle.vax_flat.specs.State.{State}
-use Rattle.vax_undo.specs.Transaction.{bare, present, told, undone}
+use Rattle.vax_undo.specs.Transaction.{present, told, undone}
 use Rattle.vax_cpu.specs.Tried.{LeadsBack}
 use Rattle.vax_cpu.proofs.Attempts.{done_from, kept, finished, parted, undone_as, ended_back}
 use Rattle.vax_cpu.proofs.Settled.{whole_unless}

@@ -1,4 +1,3 @@
-use Rattle.std.proofs.Common.{◌≡◌}
 use Rattle.vax_flat.specs.OverPort.{Present}
 use Rattle.vax_undo.specs.Transaction.{state_of}
 use Rattle.vax_cpu.proofs.Settled.{put_absent, put_other}

@@ -4,10 +4,9 @@ use Rattle.vax_flat.specs.Parts.{part_step}
 use Rattle.vax_undo.specs.Transaction.{state_of}
 use Rattle.vax_cpu.specs.declared.cpu.Attempt.{Attempt}
 use Rattle.vax_cpu.specs.declared.cpu.Cpu.{Cpu}
-use Rattle.vax_cpu.specs.Attempt.{flat_of, IsAsBefore, IsOpenAfter, StopsInside}
+use Rattle.vax_cpu.specs.Attempt.{flat_of, StopsInside}
 use Rattle.vax_cpu.specs.Batch.{AreAttempts}
-use Rattle.vax_cpu.proofs.Steps.{unmoved}
-use Rattle.vax_cpu.proofs.Runs.{are_attempts, as_before, at_start, goes_on, inside_batch, opens, reaches}
+use Rattle.vax_cpu.proofs.Runs.{are_attempts, at_start, goes_on, inside_batch, reaches}
 use Rattle.vax_cpu.proofs.cpu.Cpu.attempts.Goals as goal
 
 pub returns-clause-steps : goal.returns-clause-steps
