@@ -44,7 +44,7 @@ use Rattle.vax_flat.specs.Control.{called, return_subroutine, looped, chosen, pe
 use Rattle.vax_flat.specs.Delivery.{on_interrupt_stack, takes_interrupt_stack, status, at_handler, served, interrupt_vector, change_vector, vectored, pushed_in, pushed_if, pushed_all, entered, dispatched, vector_of, parameters, delivery, interrupted, interrupt, changed, pushed_outside, changed_to, change_by, change_mode}
 use Rattle.vax_flat.specs.System.{flow_of_delivery, return_from, is_refused, pointer, input_byte, input_after, input_ready, return_exception, probed, set_processor, get_processor, status_set, status_cleared, unless_privileged, is_for_kernel, performed as system_performed}
 use Rattle.vax_flat.specs.Queue.{inserted, removed, is_odd, aligned_sum, performed as queue_performed}
-use Rattle.vax_flat.specs.Call.{named, linked, frame, frame_word, saved, restored, registers_pushed, registers_popped, with_top, at_procedure, entered as procedure_entered, entry_mask, called_with_list, called_with_stack, is_status, behind_arguments, unwound, return_from as procedure_return, performed as call_performed}
+use Rattle.vax_flat.specs.Call.{frame_word, saved, restored, registers_pushed, registers_popped, at_procedure, entered as procedure_entered, entry_mask, called_with_list, called_with_stack, is_status, behind_arguments, unwound, return_from as procedure_return, performed as call_performed}
 use Rattle.vax_flat.specs.Instruction.{acted, acted_if, instruction}
 use Rattle.vax_flat.specs.Evaluation.{next_operands}
 use Rattle.vax_flat.specs.Step.{level, begun, finished, handed_over, whole, delivered}

@@ -1,14 +1,13 @@
 -- Longwords that are pushed or popped one after the other lie in one window.
-use Rattle.std.proofs.Common.{◌≡◌, ℕ, suc, zero, ◌+◌, ◌-◌, ◌*◌, ◌/◌, ◌%◌, ◌^◌, ◌<◌, ◌≤◌, Bool, true, false, cond, List, [], ◌∷◌, ◌++◌, length, map, refl, ap, sym, ◌∙◌, inl, arith}
-use Rattle.std.specs.Prelude.{reverse}
+use Rattle.std.proofs.Common.{◌≡◌, ℕ, suc, zero, ◌+◌, ◌-◌, ◌*◌, ◌/◌, ◌%◌, ◌^◌, ◌<◌, ◌≤◌, Bool, true, false, cond, List, [], ◌∷◌, length, refl, ap, ◌∙◌, inl, arith}
 use Rattle.std.specs.List.{filter, range_with_len}
 use Rattle.std.proofs.lemmas.List.{length-append, length-map, length-reverse}
 use Rattle.vax_word.specs.Status.{is_one}
 use Rattle.vax_space.specs.Reference.{byte_after}
-use Rattle.vax_flat.specs.State.{State, register}
+use Rattle.vax_flat.specs.State.{State}
 use Rattle.vax_flat.specs.Accesses.{Accesses, Leaf}
 use Rattle.vax_flat.specs.Operand.{plus, read_at, write_at}
-use Rattle.vax_flat.specs.Call.{pushed_one, pushed_below, popped_from, named, linked, frame}
+use Rattle.vax_flat.specs.Call.{pushed_one, pushed_below, popped_from, named, frame}
 use Rattle.vax_flat.specs.Bound.{place, IsWithin, IsClosed}
 use Rattle.vax_flat.proofs.Windows.{place_behind}
 

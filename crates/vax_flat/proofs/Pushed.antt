@@ -1,5 +1,5 @@
 -- Longwords that are pushed stand in memory, one above the other.
-use Rattle.std.proofs.Common.{◌≡◌, ◌≢◌, ℕ, suc, zero, ◌+◌, ◌-◌, ◌*◌, ◌/◌, ◌%◌, ◌^◌, ◌<◌, ◌≤◌, Bool, true, false, cond, eqb, Option, Some, None, List, [], ◌∷◌, ◌++◌, length, map, refl, ap, sym, subst, ◌∙◌, arith, append_assoc}
+use Rattle.std.proofs.Common.{◌≡◌, ◌≢◌, ℕ, suc, ◌+◌, ◌-◌, ◌*◌, ◌/◌, ◌%◌, ◌^◌, ◌<◌, ◌≤◌, Bool, true, false, Option, Some, None, List, [], ◌∷◌, ◌++◌, length, map, refl, ap, sym, subst, ◌∙◌, arith, append_assoc}
 use Rattle.std.specs.Prelude.{reverse}
 use Rattle.std.proofs.lemmas.Bool.{eq-eqb, ne_eqb}
 use Rattle.std.proofs.Math.Path.{fun_ext}
@@ -15,7 +15,7 @@ use Rattle.vax_flat.specs.Memory.{after, byte_at, number, written, IsWhole}
 use Rattle.vax_flat.specs.Port.{put}
 use Rattle.vax_flat.specs.State.{State, register, with_register, mode}
 use Rattle.vax_flat.specs.Accesses.{Accesses, Leaf, Went}
-use Rattle.vax_flat.specs.Outcome.{Outcome, Ends, Raised, outcome_of, unless_violated}
+use Rattle.vax_flat.specs.Outcome.{Outcome, Ends, outcome_of, unless_violated}
 use Rattle.vax_flat.specs.Operand.{plus, write_at}
 use Rattle.vax_flat.specs.Call.{pushed_one, pushed_below, linked, frame, frame_word, at_procedure, entered}
 use Rattle.vax_flat.specs.Step.{leaf}

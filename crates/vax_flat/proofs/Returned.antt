@@ -1,7 +1,6 @@
 -- RET gives back what a call's frame holds.
-use Rattle.std.proofs.Common.{◌≡◌, ◌≢◌, ℕ, suc, zero, ◌+◌, ◌-◌, ◌*◌, ◌/◌, ◌%◌, ◌^◌, ◌<◌, ◌≤◌, ◌==◌, ◌||◌, Bool, true, false, cond, None, List, [], ◌∷◌, ◌++◌, length, map, refl, ap, sym, subst, ◌∙◌, inl, inr, arith}
-use Rattle.std.specs.Prelude.{reverse, slice_index, slice_set}
-use Rattle.std.specs.Int.{from_bool}
+use Rattle.std.proofs.Common.{◌≡◌, ℕ, suc, zero, ◌+◌, ◌-◌, ◌*◌, ◌/◌, ◌%◌, ◌^◌, ◌<◌, ◌≤◌, ◌==◌, Bool, true, false, cond, List, [], ◌∷◌, ◌++◌, length, map, refl, ap, sym, subst, ◌∙◌, inl, inr, arith}
+use Rattle.std.specs.Prelude.{reverse}
 use Rattle.std.specs.List.{filter, range_with_len, list_any}
 use Rattle.std.proofs.Math.Pow.{mod-mod-pow}
 use Rattle.std.proofs.lemmas.Nat.{field_of}
@@ -10,11 +9,8 @@ use Rattle.std.proofs.lemmas.Bool.Decides.{nat_tests}
 use Rattle.std.proofs.lemmas.List.{length-map, length-reverse, map-append, reverse-append, reverse-reverse, get_or-set_same, get_or-set_other, length-set}
 use Rattle.vax_word.specs.declared.Psl.{Psl}
 use Rattle.vax_word.specs.Status.{field, is_one}
-use Rattle.vax_space.specs.declared.Access.TheVariants.{Read}
 use Rattle.vax_space.specs.declared.Area.{Area}
-use Rattle.vax_space.specs.Reference.{violation}
 use Rattle.vax_flat.specs.declared.Flow.TheVariants as flow
-use Rattle.vax_flat.specs.Memory.{byte_at, number}
 use Rattle.vax_flat.specs.State.{State, register, with_register, with_psl, mode}
 use Rattle.vax_flat.specs.Accesses.{Accesses, Leaf}
 use Rattle.vax_flat.specs.Outcome.{Outcome, outcome_of}

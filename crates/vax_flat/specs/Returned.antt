@@ -1,5 +1,5 @@
 -- What RET gives back of the frame that a call pushed (VAX Architecture Reference Manual, procedure call instructions).
-use Rattle.std.specs.Prelude.{◌≡◌, ℕ, suc, zero, ◌+◌, ◌*◌, ◌^◌, None, List, [], ◌∷◌, length, map}
+use Rattle.std.specs.Prelude.{◌≡◌, ℕ, suc, zero, ◌+◌, ◌*◌, ◌^◌, None, List, [], ◌∷◌, map}
 use Rattle.vax_word.specs.declared.Psl.{Psl}
 use Rattle.vax_word.specs.Status.{field}
 use Rattle.vax_space.specs.declared.Access.TheVariants.{Read}
