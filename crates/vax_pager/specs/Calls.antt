@@ -1,5 +1,5 @@
 -- What the calls of a pager do.
-use Rattle.std.specs.Prelude.{ℕ, ◌≡◌, ◌+◌, true, false, if◌then◌else◌, nat_lt, Option, Some, None, List, [], length, slice_index, ◌||◌, ◌%◌, ◌≤◌, ◌⊎◌, is_some}
+use Rattle.std.specs.Prelude.{ℕ, ◌≡◌, ◌+◌, true, false, if◌then◌else◌, nat_lt, Option, Some, None, List, [], length, slice_index, ◌||◌, ◌%◌, ◌≤◌, ◌⊎◌, is_some, Bool}
 use Rattle.std.specs.Option.{option_map}
 use Rattle.vax_space.specs.declared.Area.{Area}
 use Rattle.vax_space.specs.Areas.{area_of, block_of}
@@ -54,6 +54,14 @@ victim_of Empty = None
 victim_of (OfKept old) = None
 victim_of (OfVictim victim) = Some victim
 victim_of Nowhere = None
+
+-- the frame is taken from a modified page, which is written first
+abbrev pub takes_modified : Source → Paging → Bool
+takes_modified Back s = false
+takes_modified Empty s = false
+takes_modified (OfKept old) s = false
+takes_modified (OfVictim victim) s = is_listed victim s.modified
+takes_modified Nowhere s = false
 
 -- the page with these bytes came
 abbrev pub came : Source → ℕ → List ℕ → Paging → Paging

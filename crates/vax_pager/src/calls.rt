@@ -19,7 +19,7 @@ impl Store {
     ghost use Rattle.vax_pager.specs.Listing.{is_listed};
     ghost use Rattle.vax_pager.specs.Paging.{ComesFrom, Keeps};
     ghost use Rattle.vax_pager.specs.Steps.{brought, forgotten, removed};
-    ghost use Rattle.vax_pager.specs.Calls.{OfVictim, after_flush, wrote_back, after_evict, read_for, source, victim_of, came, file_after, IsByte, IsLeft, PeekedFrom};
+    ghost use Rattle.vax_pager.specs.Calls.{OfVictim, after_flush, wrote_back, after_evict, read_for, source, victim_of, came, file_after, takes_modified, IsByte, IsLeft, PeekedFrom};
     ghost use Rattle.vax_pager.specs.Store.{IsSound, paging};
 
     /// Writes a resident modified page to its block.
@@ -150,6 +150,7 @@ impl Store {
         ensures later { F.faults file.old ≤ F.faults file.new }
         ensures cause { OnErr result (Rose (F.faults file.old) (F.faults file.new)) }
         ensures quiet { OnOk result (F.faults file.new ≡ F.faults file.old) }
+        ensures untouched { (paging self.old).blocked page ≡ false → file.new ≡ file.old }
         ensures keeps { Keeps (paging self.old) (F.contents file.old) (paging self.new) (F.contents file.new) }
     {
         let bytes = self.fetch(page, file)?;
@@ -180,6 +181,7 @@ impl Store {
         ensures later { F.faults file.old ≤ F.faults file.new }
         ensures cause { OnErr result (Rose (F.faults file.old) (F.faults file.new)) }
         ensures quiet { OnOk result (F.faults file.new ≡ F.faults file.old) }
+        ensures untouched { (paging self.old).blocked page ≡ false → file.new ≡ file.old }
         ensures keeps { Keeps (paging self.old) (F.contents file.old) (paging self.new) (F.contents file.new) }
     {
         let bytes = self.fetch(page, file)?;
@@ -210,6 +212,7 @@ impl Store {
         ensures later { F.faults file.old ≤ F.faults file.new }
         ensures cause { OnErr result (Rose (F.faults file.old) (F.faults file.new)) }
         ensures quiet { OnOk result (F.faults file.new ≡ F.faults file.old) }
+        ensures untouched { (paging self.old).blocked page ≡ false → is_listed victim (paging self.old).modified ≡ false → file.new ≡ file.old }
         ensures keeps { Keeps (paging self.old) (F.contents file.old) (paging self.new) (F.contents file.new) }
     {
         self.flush(victim, file)?;
@@ -239,6 +242,7 @@ impl Store {
         ensures later { F.faults file.old ≤ F.faults file.new }
         ensures cause { OnErr result (Rose (F.faults file.old) (F.faults file.new)) }
         ensures quiet { OnOk result (F.faults file.new ≡ F.faults file.old) }
+        ensures blockless { (paging self.old).blocked page ≡ false → takes_modified (source page (paging self.old)) (paging self.old) ≡ false → file.new ≡ file.old }
         ensures keeps { Keeps (paging self.old) (F.contents file.old) (paging self.new) (F.contents file.new) }
     {
         if let Some(frame) = self.kept_frame(page) {

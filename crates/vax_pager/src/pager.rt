@@ -38,7 +38,7 @@ impl Pager {
     ghost use Rattle.vax_flat.specs.Start.{start_memory};
     ghost use Rattle.vax_outside.specs.Blocks.{BlockFile};
     ghost use Rattle.vax_pager.specs.Steps.{settled};
-    ghost use Rattle.vax_pager.specs.Calls.{IsByte, IsLeft, IsPaging, PeekedFrom, after_evict, after_flush, came, file_after, fresh, source, victim_of, wrote_back};
+    ghost use Rattle.vax_pager.specs.Calls.{IsByte, IsLeft, IsPaging, PeekedFrom, after_evict, after_flush, came, file_after, fresh, source, takes_modified, victim_of, wrote_back};
     ghost use Rattle.vax_pager.specs.Meaning.{hits, pages};
 
     /// A pager over a space, with so many frames, 64 to 32,768. No page is resident, and with any page file it stands
@@ -57,8 +57,9 @@ impl Pager {
     /// isn't pinned and was served longest ago, and answers that page.
     ///
     /// The page's bytes come from its own frame, where that was kept, with no call on the file; else from its block,
-    /// where it has one, by one read; else they are those at the start. After a failure everything is as it was, but
-    /// the page whose frame was needed may be written to its block, and unmodified.
+    /// where it has one, by one read; else they are those at the start. Where it has no block, and the page whose frame is
+    /// taken isn't modified, no call is made. After a failure everything is as it was, but the page whose frame was
+    /// needed may be written to its block, and unmodified.
     pub fn serve<F: PageFile>(&mut self, page: u32, file: &mut F) -> Result<Option<u32>, PageFault>
         requires within { is_some (area_of (pages self.old).areas page) ≡ true }
         requires absent { is_listed page (pages self.old).order ≡ false }
@@ -72,6 +73,7 @@ impl Pager {
         ensures later { F.faults file.old ≤ F.faults file.new }
         ensures cause { OnErr result (Rose (F.faults file.old) (F.faults file.new)) }
         ensures quiet { OnOk result (F.faults file.new ≡ F.faults file.old) }
+        ensures blockless { (pages self.old).blocked page ≡ false → takes_modified (source page (pages self.old)) (pages self.old) ≡ false → file.new ≡ file.old }
         ensures keeps { Keeps (pages self.old) (F.contents file.old) (pages self.new) (F.contents file.new) }
     {
         self.store.serve(page, file)

@@ -1,4 +1,5 @@
-use Rattle.std.proofs.Common.{rules, refl, sym}
+use Rattle.std.proofs.Common.{◌≡◌, rules, refl, subst, sym, false}
+use Rattle.vax_pager.specs.Calls.{Source, takes_modified}
 use Rattle.vax_pager.specs.Store.{paging}
 use Rattle.vax_pager.proofs.Effects.{source_back, source_empty, source_kept, source_victim, keeps_taken, has_room, pins_left}
 use Rattle.vax_pager.proofs.store.Store.serve.Goals as goal
@@ -53,3 +54,9 @@ returns-in-Some-clause-file g c = rw (source_back c.args.page (paging c.args.sel
 
 pub returns-in-Some-clause-keeps : goal.returns-in-Some-clause-keeps
 returns-in-Some-clause-keeps g c = keeps_taken c.args.page (paging c.args.self.now) _ _ c.take_back.ensures.paging (sym c.in-Some.ensures.none)
+
+pub returns-in_ok-serve_victim-in-None-clause-blockless : goal.returns-in_ok-serve_victim-in-None-clause-blockless
+returns-in_ok-serve_victim-in-None-clause-blockless g c = λ none clean. c.serve_victim.ensures.untouched none (subst (λ (z : Source). takes_modified z (paging c.args.self.now) ≡ false) (source_victim c.args.page c.victim-victim.result (paging c.args.self.now) (search rules) (search rules) c.in-None.ensures.page c.victim-victim.ensures.value) clean)
+
+pub returns-in_err-serve_victim-in-None-clause-blockless : goal.returns-in_err-serve_victim-in-None-clause-blockless
+returns-in_err-serve_victim-in-None-clause-blockless g c = λ none clean. c.serve_victim.ensures.untouched none (subst (λ (z : Source). takes_modified z (paging c.args.self.now) ≡ false) (source_victim c.args.page c.victim-victim.result (paging c.args.self.now) (search rules) (search rules) c.in-None.ensures.page c.victim-victim.ensures.value) clean)

@@ -2,7 +2,7 @@ use Rattle.std.proofs.Common.{◌∙◌, ap, inl, inr}
 use Rattle.vax_pager.specs.Store.{paging}
 use Rattle.vax_pager.specs.Steps.{brought, removed}
 use Rattle.vax_pager.proofs.Told.{within_prot, resident_within, resident_unkept, writable_is}
-use Rattle.vax_pager.proofs.Effects.{on_err, own_brought, own_comes, keeps_in_victim, keeps_then, flush_areas, flush_order, flush_clean, flush_pinned, flush_kept, flush_frames, removed_areas, removed_absent, removed_kept, removed_pins, apart, comes_flushed, read_flushed}
+use Rattle.vax_pager.proofs.Effects.{flush_none, on_err, own_brought, own_comes, keeps_in_victim, keeps_then, flush_areas, flush_order, flush_clean, flush_pinned, flush_kept, flush_frames, removed_areas, removed_absent, removed_kept, removed_pins, apart, comes_flushed, read_flushed}
 use Rattle.vax_pager.proofs.store.Store.serve_victim.Goals as goal
 
 pub flush-requires-clause-within : goal.flush-requires-clause-within
@@ -65,3 +65,9 @@ returns-in_err-flush-clause-err g c = on_err c.from_residual.result (inl (c.in_e
 
 pub returns-in_err-bytes-clause-err : goal.returns-in_err-bytes-clause-err
 returns-in_err-bytes-clause-err g c = on_err c.from_residual-in_err-bytes.result (inr (c.in_ok-flush.ensures.ok, c.in_err-bytes.ensures.err ∙ c.in_ok-flush.ensures.wrote))
+
+pub returns-clause-untouched : goal.returns-clause-untouched
+returns-clause-untouched g c = λ none clean. c.fetch.ensures.untouched (rw (c.in_ok-flush.ensures.ok, flush_none c.args.victim (paging c.args.self.now) clean) none) ∙ c.flush.ensures.untouched clean
+
+pub returns-in_err-bytes-clause-untouched : goal.returns-in_err-bytes-clause-untouched
+returns-in_err-bytes-clause-untouched g c = λ none clean. c.fetch.ensures.untouched (rw (c.in_ok-flush.ensures.ok, flush_none c.args.victim (paging c.args.self.now) clean) none) ∙ c.flush.ensures.untouched clean
