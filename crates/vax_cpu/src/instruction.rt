@@ -23,9 +23,9 @@ fn act<P: Port>(txn: &mut Txn<P>, action: Action) -> Result<Flow, CutShort>
         Action::Integer(instruction) => vax_x_int::run(txn, instruction),
         Action::Control(instruction) => vax_x_flow::run(txn, instruction),
         Action::System(instruction) => vax_x_sys::run(txn, instruction),
-        Action::Field(_) | Action::Call(_) | Action::Queue(_) | Action::Text(_) => {
-            Ok(Flow::Ended(Ending::Unbuilt))
-        }
+        Action::Call(instruction) => vax_x_call::run(txn, instruction),
+        Action::Queue(instruction) => vax_x_queue::run(txn, instruction),
+        Action::Field(_) | Action::Text(_) => Ok(Flow::Ended(Ending::Unbuilt)),
     }
 }
 

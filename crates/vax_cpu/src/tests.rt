@@ -175,8 +175,8 @@ fn a_batch_up_to_a_halt(rt: HostRuntime) -> Result<(), Fail> {
 #[test]
 fn an_instruction_that_is_not_built(rt: HostRuntime) -> Result<(), Fail> {
     let alloc = rt.alloc();
-    // INSQUE
-    let mut port = memory(alloc, &[0x0E])?;
+    // EXTV
+    let mut port = memory(alloc, &[0xEE])?;
     let core = registers(0, 0);
     assert_eq!(rt;
         attempt(alloc, &mut port, core),
@@ -194,11 +194,7 @@ fn an_instruction_that_is_open(rt: HostRuntime) -> Result<(), Fail> {
     for batches in [false, true] {
         let mut cpu = Cpu {
             core: registers(0, 0x0800_0000),
-            term: Term {
-                input: Vec::new(alloc),
-                place: 0,
-                out: None,
-            },
+            term: Term::new(Vec::new(alloc)),
             latch: Some(Open {
                 opcode: 0x28,
                 start,

@@ -488,8 +488,8 @@ module _ (Q : List ℕ → ℕ → Accesses Leaf → Type 0) (c : IsClosed Q) wh
     acted_adds (action.Integer i) s count here p = integer_acts i s count here p
     acted_adds (action.Control i) s count here p = control_acts i s count here p
     acted_adds (action.Field i) s count here p = unbuilt_acts s
-    acted_adds (action.Call i) s count here p = unbuilt_acts s
-    acted_adds (action.Queue i) s count here p = unbuilt_acts s
+    acted_adds (action.Call i) s count here p = call_acts i s count here p
+    acted_adds (action.Queue i) s count here p = queue_acts i s count here p
     acted_adds (action.System i) s count here p = system_acts i s count here p
     acted_adds (action.Text i) s count here p = unbuilt_acts s
 

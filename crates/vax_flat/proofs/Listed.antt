@@ -202,8 +202,8 @@ unfolding acted
 action_takes (action.Integer i) built = record { rest = of_integers i; takes = λ s next. integer_takes i s next }
 action_takes (action.Control c) built = record { rest = of_controls c; takes = λ s next. control_takes c s next }
 action_takes (action.Field f) built = absurd (cc)
-action_takes (action.Call c) built = absurd (cc)
-action_takes (action.Queue q) built = absurd (cc)
+action_takes (action.Call c) built = record { rest = of_calls c; takes = λ s next. call_takes c s next }
+action_takes (action.Queue q) built = record { rest = of_queues q; takes = λ s next. queue_takes q s next }
 action_takes (action.System i) built = record { rest = of_systems i; takes = λ s next. system_takes i s next }
 action_takes (action.Text t) built = absurd (cc)
 

@@ -17,14 +17,26 @@ room_of_end = 18
 abbrev pub room_of_transfer : ℕ
 room_of_transfer = 20
 
+-- an integer instruction whose opcode PC is past
+abbrev pub room_of_integer : ℕ
+room_of_integer = 27
+
+-- a queue instruction
+abbrev pub room_of_queue : ℕ
+room_of_queue = 15
+
+-- a procedure call, its return, or registers pushed and popped: at most all registers but one, the stack pointer, and what was on the stack
+abbrev pub room_of_call : ℕ
+room_of_call = 31
+
 -- any instruction whose opcode PC is past
 abbrev pub room_of_instruction : ℕ
-room_of_instruction = 27
+room_of_instruction = 31
 
 -- an interrupt, or the instruction at PC with its opcode
 abbrev pub room_of_beginning : ℕ
-room_of_beginning = 28
+room_of_beginning = 32
 
 -- a step
 abbrev pub room_of_step : ℕ
-room_of_step = 46
+room_of_step = 50

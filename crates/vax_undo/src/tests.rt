@@ -166,11 +166,7 @@ fn changes_are_kept(rt: HostRuntime) -> Result<(), Fail> {
 fn a_part_is_kept(rt: HostRuntime) -> Result<(), Fail> {
     let start = core();
     let mut core = core();
-    let mut term = Term {
-        input: Vec::new(rt.alloc()),
-        place: 0,
-        out: None,
-    };
+    let mut term = Term::new(Vec::new(rt.alloc()));
     let mut memory = memory(rt.alloc())?;
     let mut txn = Txn::begin(&mut core, &mut term, &mut memory);
     txn.set_reg(3, 70);

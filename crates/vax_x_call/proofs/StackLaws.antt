@@ -124,6 +124,7 @@ keeps_more view along a b count x y z few k l = record {
     term = l.same.term ∙ k.same.term;
     port = l.same.port ∙ k.same.port;
     input = l.same.input ∙ k.same.input;
+    clock = λ h. l.same.clock (k.same.clock h);
     since = λ start h. l.same.since start (k.same.since start h);
   };
 }
@@ -133,5 +134,5 @@ keeps_all view along count x = record {
   undone = refl;
   ready = λ r. r;
   room = omega arith;
-  same = record { core = refl; term = refl; port = refl; input = refl; since = λ start h. h };
+  same = record { core = refl; term = refl; port = refl; input = refl; clock = λ h. h; since = λ start h. h };
 }

@@ -13,6 +13,7 @@ mod tests;
 ghost use Rattle.std.specs.Prelude.{◌≡◌, ◌≤◌};
 ghost use Rattle.vax_flat.specs.Call.{performed};
 ghost use Rattle.vax_flat.specs.OverPort.{Follows};
+ghost use Rattle.vax_undo.specs.Rooms.{room_of_call};
 ghost use Rattle.vax_undo.specs.Transaction.{present, room, Keeps, told};
 ghost use Rattle.vax_operand.specs.Located.{GoesEverywhere};
 
@@ -25,10 +26,10 @@ use vax_undo::{CutShort, Port, Txn};
 /// The cut is the first exception of its operands and accesses, a reserved operand where bits 13:12 of an entry mask or bits 15:8 or 4
 /// of a frame's status aren't 0, or the first page that it needs and that is absent.
 pub fn run<P: Port>(txn: &mut Txn<P>, instruction: Call) -> Result<Flow, CutShort>
-    requires { 31 ≤ room txn.old }
+    requires { room_of_call ≤ room txn.old }
     ensures exact { Follows (performed instruction (present P.view txn.old).state) (present P.view txn.old) (told txn.new result) (present P.view txn.new) }
     ensures everywhere { GoesEverywhere (performed instruction (present P.view txn.old).state) (present P.view txn.old) (told txn.new result) (present P.view txn.new) }
-    ensures keeps { Keeps P.view P.since 31 txn.old txn.new }
+    ensures keeps { Keeps P.view P.since room_of_call txn.old txn.new }
 {
     shapes::perform(txn, instruction)
 }

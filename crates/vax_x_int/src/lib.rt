@@ -12,7 +12,7 @@ mod tests;
 ghost use Rattle.std.specs.Prelude.{◌≡◌, ◌≤◌};
 ghost use Rattle.vax_flat.specs.Integer.{performed};
 ghost use Rattle.vax_flat.specs.OverPort.{Follows};
-ghost use Rattle.vax_undo.specs.Rooms.{room_of_instruction};
+ghost use Rattle.vax_undo.specs.Rooms.{room_of_integer};
 ghost use Rattle.vax_undo.specs.Transaction.{present, room, Keeps, told};
 ghost use Rattle.vax_operand.specs.Located.{GoesEverywhere};
 
@@ -27,10 +27,10 @@ use vax_undo::{CutShort, Port, Txn};
 /// the processor status word enables that trap (type 1).
 #[inline(always)]
 pub fn run<P: Port>(txn: &mut Txn<P>, instruction: Integer) -> Result<Flow, CutShort>
-    requires { room_of_instruction ≤ room txn.old }
+    requires { room_of_integer ≤ room txn.old }
     ensures exact { Follows (performed instruction (present P.view txn.old).state) (present P.view txn.old) (told txn.new result) (present P.view txn.new) }
     ensures everywhere { GoesEverywhere (performed instruction (present P.view txn.old).state) (present P.view txn.old) (told txn.new result) (present P.view txn.new) }
-    ensures keeps { Keeps P.view P.since room_of_instruction txn.old txn.new }
+    ensures keeps { Keeps P.view P.since room_of_integer txn.old txn.new }
 {
     shapes::perform(txn, instruction)
 }

@@ -10,6 +10,7 @@ mod tests;
 ghost use Rattle.std.specs.Prelude.{◌≡◌, ◌≤◌};
 ghost use Rattle.vax_flat.specs.Queue.{performed};
 ghost use Rattle.vax_flat.specs.OverPort.{Follows};
+ghost use Rattle.vax_undo.specs.Rooms.{room_of_queue};
 ghost use Rattle.vax_undo.specs.Transaction.{present, room, Keeps, told};
 ghost use Rattle.vax_operand.specs.Located.{GoesEverywhere};
 
@@ -23,10 +24,10 @@ use vax_undo::{CutShort, Port, Txn};
 /// first page that it needs and that is absent. A trap is answered where ADAWI's sum overflowed while the processor status word
 /// enables that trap.
 pub fn run<P: Port>(txn: &mut Txn<P>, instruction: Queue) -> Result<Flow, CutShort>
-    requires { 15 ≤ room txn.old }
+    requires { room_of_queue ≤ room txn.old }
     ensures exact { Follows (performed instruction (present P.view txn.old).state) (present P.view txn.old) (told txn.new result) (present P.view txn.new) }
     ensures everywhere { GoesEverywhere (performed instruction (present P.view txn.old).state) (present P.view txn.old) (told txn.new result) (present P.view txn.new) }
-    ensures keeps { Keeps P.view P.since 15 txn.old txn.new }
+    ensures keeps { Keeps P.view P.since room_of_queue txn.old txn.new }
 {
     shapes::perform(txn, instruction)
 }

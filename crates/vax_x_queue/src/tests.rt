@@ -61,11 +61,7 @@ fn registers(r: [u32; 3], word: u32) -> Core {
 
 /// How an instruction went.
 fn went(alloc: Global, port: &mut Plain, core: &mut Core, instruction: Queue) -> Result<Flow, Cut> {
-    let mut term = Term {
-        input: Vec::new(alloc),
-        place: 0,
-        out: None,
-    };
+    let mut term = Term::new(Vec::new(alloc));
     let mut txn = Txn::begin(core, &mut term, port);
     let done = match run(&mut txn, instruction) {
         Ok(flow) => Ok(flow),

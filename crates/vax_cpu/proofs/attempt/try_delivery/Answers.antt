@@ -1,6 +1,7 @@
 use Rattle.std.proofs.Common.{◌≤◌, ◌∙◌, ap, subst, sym, rules}
 use Rattle.vax_flat.specs.OverPort.{Present, Follows}
 use Rattle.vax_flat.specs.Step.{delivered, whole_delivery}
+use Rattle.vax_undo.specs.Rooms.{room_of_end}
 use Rattle.vax_undo.specs.Transaction.{bare, present, state_of, told}
 use Rattle.vax_cpu.proofs.Attempts.{clock_at, clock_unless, leads_back, quiet_final, tried_at}
 use Rattle.vax_cpu.proofs.attempt.try_delivery.Goals as goal
@@ -11,7 +12,7 @@ returns-clause-tried g c =
     tried_at (whole_delivery c.args.exception) old c.conclude.result (record { state = _; view = _ }) _ _ (search rules) (search rules)
     (c.conclude.ensures.tried old (delivered c.args.exception)
     (subst (λ (p : Present). Follows ((delivered c.args.exception) p.state) p (told c.work_delivery-done.new.txn c.work_delivery-done.result) (present g.P.Port.view c.work_delivery-done.new.txn)) c.begin-txn.ensures.present c.work_delivery-done.ensures.exact)
-    (leads_back g.P.Port.view g.P.Port.since 18 c.work_delivery-done.result c.begin-txn.result c.work_delivery-done.new.txn c.work_delivery-done.ensures.keeps old (c.begin-txn.ensures.undone ∙ ap bare c.begin-txn.ensures.present)))
+    (leads_back g.P.Port.view g.P.Port.since room_of_end c.work_delivery-done.result c.begin-txn.result c.work_delivery-done.new.txn c.work_delivery-done.ensures.keeps old (c.begin-txn.ensures.undone ∙ ap bare c.begin-txn.ensures.present)))
 
 pub returns-clause-quiet : goal.returns-clause-quiet
 returns-clause-quiet g c =
@@ -19,11 +20,11 @@ returns-clause-quiet g c =
     quiet_final c.args.exception old (record { state = _; view = _ }) c.conclude.result
     (c.conclude.ensures.tried old (delivered c.args.exception)
     (subst (λ (p : Present). Follows ((delivered c.args.exception) p.state) p (told c.work_delivery-done.new.txn c.work_delivery-done.result) (present g.P.Port.view c.work_delivery-done.new.txn)) c.begin-txn.ensures.present c.work_delivery-done.ensures.exact)
-    (leads_back g.P.Port.view g.P.Port.since 18 c.work_delivery-done.result c.begin-txn.result c.work_delivery-done.new.txn c.work_delivery-done.ensures.keeps old (c.begin-txn.ensures.undone ∙ ap bare c.begin-txn.ensures.present)))
+    (leads_back g.P.Port.view g.P.Port.since room_of_end c.work_delivery-done.result c.begin-txn.result c.work_delivery-done.new.txn c.work_delivery-done.ensures.keeps old (c.begin-txn.ensures.undone ∙ ap bare c.begin-txn.ensures.present)))
 
 pub returns-clause-clock : goal.returns-clause-clock
 returns-clause-clock g c = λ within.
     let begun = c.begin-txn.ensures.undone ∙ ap bare c.begin-txn.ensures.present in
     clock_at _ c.conclude.new.txn.0.clock c.conclude.result (search rules) (c.conclude.ensures.clock
-    (clock_unless g.P.Port.view g.P.Port.since 18 c.work_delivery-done.result c.begin-txn.result c.work_delivery-done.new.txn c.work_delivery-done.ensures.keeps (subst (λ (p : Present). p.state.core.clock ≤ 999) (sym begun) within))
+    (clock_unless g.P.Port.view g.P.Port.since room_of_end c.work_delivery-done.result c.begin-txn.result c.work_delivery-done.new.txn c.work_delivery-done.ensures.keeps (subst (λ (p : Present). p.state.core.clock ≤ 999) (sym begun) within))
     (c.work_delivery-done.ensures.same.clock (subst (λ (p : Present). p.state.core.clock ≤ 999) (sym c.begin-txn.ensures.present) within)))

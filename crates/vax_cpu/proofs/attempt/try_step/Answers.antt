@@ -1,6 +1,7 @@
 use Rattle.std.proofs.Common.{◌≤◌, ◌∙◌, ap, subst, sym, rules}
 use Rattle.vax_flat.specs.OverPort.{Present, Follows}
 use Rattle.vax_flat.specs.Parts.{part, part_step}
+use Rattle.vax_undo.specs.Rooms.{room_of_step}
 use Rattle.vax_undo.specs.Transaction.{bare, present, state_of, told}
 use Rattle.vax_cpu.proofs.Attempts.{clock_at, clock_unless, leads_back, tried_at}
 use Rattle.vax_cpu.proofs.attempt.try_step.Goals as goal
@@ -11,11 +12,11 @@ returns-clause-tried g c =
     tried_at part_step old c.conclude.result (record { state = _; view = _ }) _ _ (search rules) (search rules)
     (c.conclude.ensures.tried old part
     (subst (λ (p : Present). Follows (part p.state) p (told c.work_once-done.new.txn c.work_once-done.result) (present g.P.Port.view c.work_once-done.new.txn)) c.begin-txn.ensures.present c.work_once-done.ensures.exact)
-    (leads_back g.P.Port.view g.P.Port.since 46 c.work_once-done.result c.begin-txn.result c.work_once-done.new.txn c.work_once-done.ensures.keeps old (c.begin-txn.ensures.undone ∙ ap bare c.begin-txn.ensures.present)))
+    (leads_back g.P.Port.view g.P.Port.since room_of_step c.work_once-done.result c.begin-txn.result c.work_once-done.new.txn c.work_once-done.ensures.keeps old (c.begin-txn.ensures.undone ∙ ap bare c.begin-txn.ensures.present)))
 
 pub returns-clause-clock : goal.returns-clause-clock
 returns-clause-clock g c = λ within.
     let begun = c.begin-txn.ensures.undone ∙ ap bare c.begin-txn.ensures.present in
     clock_at _ c.conclude.new.txn.0.clock c.conclude.result (search rules) (c.conclude.ensures.clock
-    (clock_unless g.P.Port.view g.P.Port.since 46 c.work_once-done.result c.begin-txn.result c.work_once-done.new.txn c.work_once-done.ensures.keeps (subst (λ (p : Present). p.state.core.clock ≤ 999) (sym begun) within))
+    (clock_unless g.P.Port.view g.P.Port.since room_of_step c.work_once-done.result c.begin-txn.result c.work_once-done.new.txn c.work_once-done.ensures.keeps (subst (λ (p : Present). p.state.core.clock ≤ 999) (sym begun) within))
     (c.work_once-done.ensures.same.clock (subst (λ (p : Present). p.state.core.clock ≤ 999) (sym c.begin-txn.ensures.present) within)))

@@ -2,6 +2,7 @@ use Rattle.std.proofs.Common.{◌≤◌, ◌∙◌, Ok, ap, subst, sym, arith, r
 use Rattle.vax_flat.specs.declared.Flow.TheVariants as flow
 use Rattle.vax_flat.specs.OverPort.{Present, Follows}
 use Rattle.vax_flat.specs.Parts.{part, part_step}
+use Rattle.vax_undo.specs.Rooms.{room_of_step}
 use Rattle.vax_undo.specs.Transaction.{present, told}
 use Rattle.vax_cpu.proofs.Attempts.{clock_at, clock_unless, done_of, renewed_step, sent_step, ran_more, tried_at, leads_back}
 use Rattle.vax_cpu.proofs.attempt.try_steps.Goals as goal
@@ -52,7 +53,7 @@ returns-clause-ran g c =
       c.loop-steps.invariant.ran,
       tried_at part_step now c.conclude-last-2.result (record { state = _; view = _ }) _ _ (search rules) (search rules)
           (c.conclude-last-2.ensures.tried now part c.work_once-done.ensures.exact
-          (leads_back g.P.Port.view g.P.Port.since 46 c.work_once-done.result c.loop-steps.txn c.work_once-done.new.txn c.work_once-done.ensures.keeps now c.loop-steps.invariant.undone)),
+          (leads_back g.P.Port.view g.P.Port.since room_of_step c.work_once-done.result c.loop-steps.txn c.work_once-done.new.txn c.work_once-done.ensures.keeps now c.loop-steps.invariant.undone)),
     )
 
 pub returns-then-not-is_done-clause-ran : goal.returns-then-not-is_done-clause-ran
@@ -62,19 +63,19 @@ returns-then-not-is_done-clause-ran g c =
       c.loop-steps.invariant.ran,
       tried_at part_step now c.conclude-last.result (record { state = _; view = _ }) _ _ (search rules) (search rules)
           (c.conclude-last.ensures.tried now part c.work-done.ensures.exact
-          (leads_back g.P.Port.view g.P.Port.since 46 c.work-done.result c.loop-steps.txn c.work-done.new.txn c.work-done.ensures.keeps now c.loop-steps.invariant.undone)),
+          (leads_back g.P.Port.view g.P.Port.since room_of_step c.work-done.result c.loop-steps.txn c.work-done.new.txn c.work-done.ensures.keeps now c.loop-steps.invariant.undone)),
     )
 
 pub returns-clause-clock : goal.returns-clause-clock
 returns-clause-clock g c = λ within.
     let now = c.loop-steps.invariant.clock within in
     clock_at _ c.conclude-last-2.new.txn.0.clock c.conclude-last-2.result (search rules) (c.conclude-last-2.ensures.clock
-    (clock_unless g.P.Port.view g.P.Port.since 46 c.work_once-done.result c.loop-steps.txn c.work_once-done.new.txn c.work_once-done.ensures.keeps (subst (λ (p : Present). p.state.core.clock ≤ 999) (sym c.loop-steps.invariant.undone) now))
+    (clock_unless g.P.Port.view g.P.Port.since room_of_step c.work_once-done.result c.loop-steps.txn c.work_once-done.new.txn c.work_once-done.ensures.keeps (subst (λ (p : Present). p.state.core.clock ≤ 999) (sym c.loop-steps.invariant.undone) now))
     (c.work_once-done.ensures.same.clock now))
 
 pub returns-then-not-is_done-clause-clock : goal.returns-then-not-is_done-clause-clock
 returns-then-not-is_done-clause-clock g c = λ within.
     let now = c.loop-steps.invariant.clock within in
     clock_at _ c.conclude-last.new.txn.0.clock c.conclude-last.result (search rules) (c.conclude-last.ensures.clock
-    (clock_unless g.P.Port.view g.P.Port.since 46 c.work-done.result c.loop-steps.txn c.work-done.new.txn c.work-done.ensures.keeps (subst (λ (p : Present). p.state.core.clock ≤ 999) (sym c.loop-steps.invariant.undone) now))
+    (clock_unless g.P.Port.view g.P.Port.since room_of_step c.work-done.result c.loop-steps.txn c.work-done.new.txn c.work-done.ensures.keeps (subst (λ (p : Present). p.state.core.clock ≤ 999) (sym c.loop-steps.invariant.undone) now))
     (c.work-done.ensures.same.clock now))
