@@ -1,5 +1,5 @@
-use Rattle.std.proofs.Common.{◌≡◌, ◌-◌, ◌+◌, ◌∙◌, ap, sym, refl, arith, ℕ}
-use Rattle.vax_flat.specs.Call.{named, restored}
+use Rattle.std.proofs.Common.{◌+◌, ◌∙◌, ap, sym, arith}
+use Rattle.vax_flat.specs.Call.{restored}
 use Rattle.vax_flat.specs.OverPort.{over_port}
 use Rattle.vax_undo.specs.Transaction.{present}
 use Rattle.vax_x_call.proofs.StackLaws.{rest, named_all, rest_step, rest_none, stopped, keeps_more, keeps_all}

@@ -1,4 +1,4 @@
-use Rattle.std.proofs.Common.{◌≡◌, ◌∙◌, ap}
+use Rattle.std.proofs.Common.{◌∙◌, ap}
 use Rattle.vax_flat.specs.OverPort.{over_port}
 use Rattle.vax_undo.specs.Transaction.{present}
 use Rattle.vax_x_call.proofs.StackLaws.{links_popped}

@@ -1,4 +1,4 @@
-use Rattle.std.proofs.Common.{◌≡◌, ◌-◌, ◌+◌, ◌∙◌, ap, sym, refl, arith, ℕ}
+use Rattle.std.proofs.Common.{◌-◌, ◌∙◌, ap, sym, refl, arith}
 use Rattle.vax_flat.specs.Call.{named, saved}
 use Rattle.vax_flat.specs.OverPort.{over_port}
 use Rattle.vax_undo.specs.Transaction.{present}
