@@ -17,15 +17,30 @@ const MEMORY: [u8; 16] = [
 /// `A: BSBB B`, `SOBGTR R0,A`, `B: RSB`
 const CALLS: [u8; 6] = [0x10, 0x03, 0xF5, 0x50, 0xFB, 0x05];
 
+/// `A: MOVL R1,(R7)`, `ADDL2 #512,R7`, `CMPL R7,R8`, `BLSS A`, `MOVL R9,R7`, `BRB A`: a write to each page from R9 to R8 in turn
+const PAGES: [u8; 20] = [
+    0xD0, 0x51, 0x67, 0xC0, 0x8F, 0x00, 0x02, 0x00, 0x00, 0x57, 0xD1, 0x57, 0x58, 0x19, 0xF1, 0xD0,
+    0x59, 0x57, 0x11, 0xEC,
+];
+
 /// The code of a loop.
 pub(crate) fn code_of(name: &str) -> Option<&'static [u8]>
-    ensures { IfSome result (λ code. length code.now ≤ 16) }
+    ensures { IfSome result (λ code. length code.now ≤ 20) }
 {
     match name {
         "count" => Some(&COUNT),
         "registers" => Some(&REGISTERS),
         "memory" => Some(&MEMORY),
         "calls" => Some(&CALLS),
+        "pages" => Some(&PAGES),
         _ => None,
+    }
+}
+
+/// Where a loop's data begins, which is R7 at the start.
+pub(crate) fn data_of(name: &str) -> u32 {
+    match name {
+        "pages" => 0,
+        _ => 0x8010_0000,
     }
 }
