@@ -1,0 +1,10 @@
+pub mod Maps
+pub mod Runs
+pub mod Closings
+pub mod Gathering
+pub mod Frames
+pub mod Slots
+pub mod Sources
+pub mod Tokens
+pub mod Begins
+pub mod Steps

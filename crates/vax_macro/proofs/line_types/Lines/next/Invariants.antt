@@ -1,0 +1,9 @@
+use Rattle.std.proofs.Common.{◌≡◌, length}
+use Rattle.vax_macro.specs.LineViews.{lines_of}
+use Rattle.vax_macro.proofs.line_types.Lines.next.Given as goal
+
+abbrev pub invariant-loop-frame : goal.invariant-loop-frame
+invariant-loop-frame l = lines_of l.self ≡ lines_of l.fn.self
+
+abbrev pub decreases-loop-frame : goal.decreases-loop-frame
+decreases-loop-frame l = length l.self.frames.items

@@ -1,0 +1,346 @@
+-- What the lines of a source do: definitions of macros, calls, repeats and conditions (VAX MACRO and Instruction Set
+-- Reference Manual, directives `.MACRO` to `.ENDR`).
+use Rattle.std.specs.Prelude.{ℕ, ℤ, pos, negsuc, zero, suc, ◌+◌, ◌-◌, Bool, true, false, not, ◌&&◌, ◌||◌, ◌==◌, nat_lt, nat_le, List, [], ◌∷◌, ◌++◌, length, take, drop, map, replicate, Option, Some, None, unwrap_or, is_some, Result, Ok, Err, position, if◌then◌else◌}
+use Rattle.std.specs.List.{flat_map, prefix_len, list_all}
+use Rattle.vax_lex.specs.Characters.{is_blank, is_name_character, canonical_name}
+use Rattle.vax_lex.specs.declared.token.Piece.{Piece}
+use Rattle.vax_lex.specs.declared.value.Value.{Value}
+use Rattle.vax_macro.specs.declared.error.FaultKind.{FaultKind}
+use Rattle.vax_macro.specs.declared.error.FaultKind.TheVariants as faults
+use Rattle.vax_macro.specs.Names.{is_name, with_entry}
+use Rattle.vax_macro.specs.Arguments.{Argument, arguments, behind_blanks, begins_with, closing, name_length}
+use Rattle.vax_macro.specs.Heads.{Head, Word, macro_word, end_macro, repeat, repeat_arguments, repeat_characters, end_repeat, if_word, if_false, if_true, if_true_false, end_if, immediate_if, end_word, other_word, word_in, piece_text, has_bad, has_unprintable, code_from}
+use Rattle.vax_macro.specs.Templates.{Formals, no_formals, with_formal, formals_from, BodyLine, Template, template, rewritten, assigned, Filled, filled}
+use Rattle.vax_macro.specs.Conditions.{number_in, condition_in, guarded_in, Guarded, no_keyword}
+use Rattle.vax_macro.specs.Lines.{SourceLine, Reading}
+use Rattle.vax_macro.specs.Rest.{Opening, Use, macro_body, copies_of, copy_each, Pending, OpenCondition, Rest}
+
+-- a statement: the number of its line, and its text
+pub record Statement : Type 0 where
+  pub number : ℕ
+  pub text : List ℕ
+
+-- What a line does: it changes what is left to open, it is a statement, what is behind a place is read as a line of its
+-- own, a label before that is a statement of its own or there is none, or it has a fault.
+pub data Done : Type 0 where
+  Goes : Rest → Done
+  Gives : Rest → Done
+  Again : (at : ℕ) → Rest → Done
+  Label : (at : ℕ) → Rest → Done
+  Fails : FaultKind → Done
+
+-- ---- Expansions
+
+-- the lines that a template stands for with these texts
+abbrev pub expansion : List BodyLine → ℕ → ℕ → List (List ℕ) → List SourceLine
+expansion lines number depth texts = map (λ line. record { number = number; depth = depth; text = rewritten texts line }) lines
+
+abbrev pub copies : ℕ → List SourceLine → List SourceLine
+copies zero lines = []
+copies (suc n) lines = lines ++ copies n lines
+
+-- expansions and conditions that a line stands in
+abbrev pub is_deep : Reading → Rest → Bool
+is_deep line rest = nat_le 64 (line.depth + length rest.conditions)
+
+abbrev pub opening : Reading → Rest → Opening
+opening line rest = record { number = line.number; place = rest.read }
+
+abbrev pub one_formal : List ℕ → Formals
+one_formal name = with_formal no_formals (record { name = name; default = []; makes_label = false })
+
+-- ---- Bodies
+
+abbrev pub begins : Use → Word → Bool
+begins (macro_body name fs) macro_word = true
+begins (copies_of n) repeat = true
+begins (copies_of n) repeat_arguments = true
+begins (copies_of n) repeat_characters = true
+begins (copy_each name texts) repeat = true
+begins (copy_each name texts) repeat_arguments = true
+begins (copy_each name texts) repeat_characters = true
+begins _ _ = false
+
+abbrev pub ends : Use → Word → Bool
+ends (macro_body name fs) end_macro = true
+ends (copies_of n) end_repeat = true
+ends (copy_each name texts) end_repeat = true
+ends _ _ = false
+
+abbrev pub nested_after : Use → Word → ℕ → ℕ
+nested_after u word n = if begins u word then n + 1 else (if ends u word then n - 1 else n)
+
+-- a macro is defined; the copies of a repeat come next
+unfoldable pub finished : Pending → Rest → Rest
+finished p rest = elim p.use_of [
+  | macro_body name fs ↦ record rest { macros = with_entry name (Some (template fs p.lines)) rest.macros }
+  | copies_of n ↦ record rest { lines = copies n (expansion (template no_formals p.lines).lines p.begin.number p.depth []) ++ rest.lines }
+  | copy_each name texts ↦
+      record rest { lines = flat_map (λ text. expansion (template (one_formal name) p.lines).lines p.begin.number p.depth (text ∷ [])) texts ++ rest.lines }
+]
+
+-- The fault of a directive that has no operands, if it has some.
+abbrev pub operands_fault : List Piece → List Piece → Option FaultKind
+operands_fault pieces operands =
+    if has_bad pieces then Some faults.Token else (if length operands == 0 then None else Some faults.Count)
+
+abbrev pub unless_fault : Option FaultKind → Done → Done
+unless_fault (Some kind) done = Fails kind
+unless_fault None done = done
+
+abbrev pub unless_operands : List Piece → Head → Done → Done
+unless_operands pieces head done = unless_fault (operands_fault pieces head.operands) done
+
+unfoldable pub collect : Pending → Reading → List Piece → Head → Rest → Done
+collect p line pieces head rest =
+    let word = word_in line.text head.operator in
+    if (p.nested == 0) && ends p.use_of word then
+    (if head.label_end == 0 then unless_operands pieces head (Goes (finished p rest)) else Label head.label_end (record rest { collecting = Some p }))
+    else Goes (record rest { collecting = Some (record p { nested = nested_after p.use_of word p.nested; lines = p.lines ++ line.parts }) })
+
+-- ---- Conditions
+
+abbrev pub is_skipping : List OpenCondition → Bool
+is_skipping [] = false
+is_skipping (c ∷ conditions) = not (c.outer && c.here)
+
+abbrev pub open_condition : Reading → Bool → Bool → Rest → Done
+open_condition line outer holds rest =
+    if is_deep line rest then Fails faults.Depth
+    else Goes (record rest { conditions = record { begin = opening line rest; outer = outer; holds = holds; here = holds } ∷ rest.conditions })
+
+unfoldable pub begin_condition : (List ℕ → Option Value) → Reading → Head → Rest → Done
+begin_condition names line head rest = elim (condition_in names line.text head.operands) [
+  | Ok holds ↦ open_condition line true holds rest
+  | Err kind ↦ Fails kind
+]
+
+-- the part of a condition that is read: where it does not hold, where it does, or in either case
+abbrev pub switched : Word → OpenCondition → Bool
+switched if_false c = not c.holds
+switched if_true c = c.holds
+switched _ c = true
+
+-- `.IFF`, `.IFT`, `.IFTF` and `.ENDC`. In text that is skipped anyway their operands are not looked at.
+abbrev pub or_nesting : Option FaultKind → Option FaultKind
+or_nesting (Some kind) = Some kind
+or_nesting None = Some faults.Nesting
+
+abbrev pub condition_fault : List Piece → Head → List OpenCondition → Option FaultKind
+condition_fault pieces head [] = or_nesting (operands_fault pieces head.operands)
+condition_fault pieces head (c ∷ conditions) = if c.outer then operands_fault pieces head.operands else None
+
+abbrev pub at_condition : List Piece → Head → List OpenCondition → Done → Done
+at_condition pieces head conditions done = unless_fault (condition_fault pieces head conditions) done
+
+abbrev pub switch : Word → List OpenCondition → List OpenCondition
+switch word [] = []
+switch word (c ∷ conditions) = record c { here = switched word c } ∷ conditions
+
+unfoldable pub switch_condition : Word → List Piece → Head → Rest → Done
+switch_condition word pieces head rest = at_condition pieces head rest.conditions (Goes (record rest { conditions = switch word rest.conditions }))
+
+unfoldable pub end_condition : List Piece → Head → Rest → Done
+end_condition pieces head rest = at_condition pieces head rest.conditions (Goes (record rest { conditions = drop 1 rest.conditions }))
+
+-- a line of skipped text
+unfoldable pub skip : Reading → List Piece → Head → Rest → Done
+skip line pieces head rest = elim (word_in line.text head.operator) [
+  | if_word ↦ open_condition line false false rest
+  | end_if ↦ end_condition pieces head rest
+  | if_false ↦ switch_condition if_false pieces head rest
+  | if_true ↦ switch_condition if_true pieces head rest
+  | if_true_false ↦ switch_condition if_true_false pieces head rest
+  | _ ↦ Goes rest
+]
+
+-- `.IIF`
+unfoldable pub guard : (List ℕ → Option Value) → Reading → Head → Rest → Done
+guard names line head rest = elim (guarded_in names line.text head.operands) [
+  | Ok g ↦ if g.holds then Again g.statement rest else Goes rest
+  | Err kind ↦ Fails kind
+]
+
+-- ---- Begins of macros and repeats
+
+abbrev pub with_pending : Use → Reading → ℕ → Rest → Rest
+with_pending u line depth rest = record rest { collecting = Some (record { use_of = u; begin = opening line rest; depth = depth; nested = 0; lines = [] }) }
+
+abbrev pub begin_copies : Use → Reading → Rest → Done
+begin_copies u line rest = if is_deep line rest then Fails faults.Depth else Goes (with_pending u line (line.depth + 1) rest)
+
+abbrev pub count_of : ℤ → Result ℕ FaultKind
+count_of (pos n) = Ok n
+count_of (negsuc n) = Err faults.Range
+
+abbrev pub then_count : Result ℤ FaultKind → Result ℕ FaultKind
+then_count (Ok n) = count_of n
+then_count (Err kind) = Err kind
+
+unfoldable pub begin_repeat : (List ℕ → Option Value) → Reading → Head → Rest → Done
+begin_repeat names line head rest = elim (then_count (number_in names line.text head.operands)) [
+  | Ok n ↦ begin_copies (copies_of n) line rest
+  | Err kind ↦ Fails kind
+]
+
+-- The operands of `.MACRO`: a name, perhaps a comma, and formal arguments.
+abbrev pub behind_comma : List ℕ → List ℕ
+behind_comma text = if begins_with 44 (behind_blanks text) then behind_blanks (drop 1 (behind_blanks text)) else behind_blanks text
+
+abbrev pub then_formals_from : Option (List Argument) → Option Formals
+then_formals_from None = None
+then_formals_from (Some arguments) = formals_from no_formals arguments
+
+-- what is behind the name begins with a blank or a comma
+abbrev pub is_parted : List ℕ → Bool
+is_parted [] = true
+is_parted (b ∷ text) = is_blank b || (b == 44)
+
+-- a comma behind the name has formal arguments behind it
+abbrev pub is_cut_off : List ℕ → Bool
+is_cut_off text = begins_with 44 (behind_blanks text) && (length (behind_comma text) == 0)
+
+abbrev pub macro_formals : List ℕ → Option Formals
+macro_formals text =
+    if not (is_parted text) || is_cut_off text then None else then_formals_from (arguments is_name (behind_comma text))
+
+abbrev pub begin_body : List ℕ → Option Formals → Reading → Rest → Done
+begin_body name None line rest = Fails faults.Form
+begin_body name (Some fs) line rest = Goes (with_pending (macro_body name fs) line 0 rest)
+
+unfoldable pub begin_macro : Reading → Head → ℕ → Rest → Done
+begin_macro line head at rest =
+    let text = behind_blanks (code_from at head.operands line.text) in
+    if has_unprintable line.text head.operands then Fails faults.Token
+    else (if length text == 0 then Fails faults.Count
+    else (if is_name (take (name_length text) text) then begin_body (canonical_name (take (name_length text) text)) (macro_formals (drop (name_length text) text)) line rest
+    else Fails faults.Form))
+
+-- The operands of `.IRP` and `.IRPC`: a formal argument, a comma, and a text in brackets.
+abbrev pub listed_end : List ℕ → ℕ → Result (List ℕ) FaultKind
+listed_end text n =
+    if length (behind_blanks (drop (n + 1) text)) == 0 then Ok (take n text)
+    else (if begins_with 44 (behind_blanks (drop (n + 1) text)) then Err faults.Count else Err faults.Form)
+
+abbrev pub listed_in : List ℕ → Option ℕ → Result (List ℕ) FaultKind
+listed_in text None = Err faults.Form
+listed_in text (Some n) = listed_end text n
+
+unfoldable pub listed : List ℕ → Result (List ℕ) FaultKind
+listed text = if begins_with 60 text then listed_in (drop 1 text) (closing 0 (drop 1 text)) else Err faults.Form
+
+-- a name alone, perhaps with blanks behind it
+abbrev pub only_name : List ℕ → Option (List ℕ)
+only_name text =
+    if is_name (take (name_length text) text) && list_all is_blank (drop (name_length text) text) then Some (canonical_name (take (name_length text) text)) else None
+
+-- a formal argument and the text for it
+pub record Iterated : Type 0 where
+  pub name : List ℕ
+  pub text : List ℕ
+
+abbrev pub iterated : Option (List ℕ) → Result (List ℕ) FaultKind → Result Iterated FaultKind
+iterated name (Err kind) = Err kind
+iterated None (Ok text) = Err faults.Form
+iterated (Some name) (Ok text) = Ok (record { name = name; text = text })
+
+abbrev pub iterated_at : List ℕ → Option ℕ → Result Iterated FaultKind
+iterated_at text None = Err faults.Count
+iterated_at text (Some n) = iterated (only_name (behind_blanks (take n text))) (listed (behind_blanks (drop (n + 1) text)))
+
+unfoldable pub iterated_in : List ℕ → List Piece → ℕ → Result Iterated FaultKind
+iterated_in text operands at =
+    if has_unprintable text operands then Err faults.Token
+    else iterated_at (code_from at operands text) (position (λ b. b == 44) (code_from at operands text))
+
+abbrev pub argument_texts : List Argument → List (List ℕ)
+argument_texts arguments = map (λ a. unwrap_or a.text []) arguments
+
+abbrev pub character_texts : List ℕ → List (List ℕ)
+character_texts text = map (λ b. b ∷ []) text
+
+abbrev pub begin_each : List ℕ → Option (List Argument) → Reading → Rest → Done
+begin_each name None line rest = Fails faults.Form
+begin_each name (Some arguments) line rest = begin_copies (copy_each name (argument_texts arguments)) line rest
+
+unfoldable pub begin_arguments : Reading → Head → ℕ → Rest → Done
+begin_arguments line head at rest = elim (iterated_in line.text head.operands at) [
+  | Ok i ↦ begin_each i.name (arguments no_keyword i.text) line rest
+  | Err kind ↦ Fails kind
+]
+
+unfoldable pub begin_characters : Reading → Head → ℕ → Rest → Done
+begin_characters line head at rest = elim (iterated_in line.text head.operands at) [
+  | Ok i ↦ begin_copies (copy_each i.name (character_texts i.text)) line rest
+  | Err kind ↦ Fails kind
+]
+
+-- ---- Calls
+
+abbrev pub open_call : Template → Filled → Reading → Rest → Done
+open_call t f line rest =
+    if is_deep line rest then Fails faults.Depth
+    else Goes (record rest { lines = expansion t.lines line.number (line.depth + 1) f.texts ++ rest.lines; made = f.made })
+
+abbrev pub call_with : Template → Option (List (Option (List ℕ))) → Reading → Rest → Done
+call_with t None line rest = Fails faults.Count
+call_with t (Some texts) line rest = open_call t (filled rest.made t.formals.list texts) line rest
+
+abbrev pub call_by : Template → Option (List Argument) → Reading → Rest → Done
+call_by t None line rest = Fails faults.Form
+call_by t (Some arguments) line rest = call_with t (assigned t.formals arguments) line rest
+
+abbrev pub is_formal : Formals → List ℕ → Bool
+is_formal fs name = is_some (fs.index (canonical_name name))
+
+unfoldable pub call : Template → Reading → Head → ℕ → Rest → Done
+call t line head at rest =
+    if has_unprintable line.text head.operands then Fails faults.Token
+    else call_by t (arguments (is_formal t.formals) (code_from at head.operands line.text)) line rest
+
+-- ---- A line that is read
+
+-- A label before a directive or a call is a statement of its own.
+abbrev pub behind_label : Head → Rest → Done → Done
+behind_label head rest done = if head.label_end == 0 then done else Label head.label_end rest
+
+unfoldable pub direct : (List ℕ → Option Value) → Word → Reading → List Piece → Head → ℕ → Rest → Done
+direct names word line pieces head at rest = elim word [
+  | macro_word ↦ begin_macro line head at rest
+  | end_macro ↦ unless_operands pieces head (Fails faults.Nesting)
+  | repeat ↦ begin_repeat names line head rest
+  | repeat_arguments ↦ begin_arguments line head at rest
+  | repeat_characters ↦ begin_characters line head at rest
+  | end_repeat ↦ unless_operands pieces head (Fails faults.Nesting)
+  | if_word ↦ begin_condition names line head rest
+  | if_false ↦ switch_condition if_false pieces head rest
+  | if_true ↦ switch_condition if_true pieces head rest
+  | if_true_false ↦ switch_condition if_true_false pieces head rest
+  | end_if ↦ end_condition pieces head rest
+  | immediate_if ↦ guard names line head rest
+  | end_word ↦ Gives rest
+  | other_word ↦ Gives rest
+]
+
+abbrev pub read_word : (List ℕ → Option Value) → Word → Reading → List Piece → Head → ℕ → Rest → Done
+read_word names end_word line pieces head at rest = Gives (record rest { lines = [] })
+read_word names other_word line pieces head at rest = Gives rest
+read_word names word line pieces head at rest = behind_label head rest (direct names word line pieces head at rest)
+
+-- A macro comes before a directive of its name.
+abbrev pub read_operator : (List ℕ → Option Value) → Reading → List Piece → Head → Piece → Option Template → Rest → Done
+read_operator names line pieces head operator (Some t) rest = behind_label head rest (call t line head operator.end rest)
+read_operator names line pieces head operator None rest = read_word names (word_in line.text (Some operator)) line pieces head operator.end rest
+
+unfoldable pub read : (List ℕ → Option Value) → Reading → List Piece → Head → Rest → Done
+read names line pieces head rest = elim head.operator [
+  | None ↦ Gives rest
+  | Some operator ↦ read_operator names line pieces head operator (rest.macros (canonical_name (piece_text line.text operator))) rest
+]
+
+-- what a line does
+unfoldable pub done : (List ℕ → Option Value) → Reading → List Piece → Head → Rest → Done
+done names line pieces head rest = elim rest.collecting [
+  | Some p ↦ collect p line pieces head (record rest { collecting = None })
+  | None ↦ if is_skipping rest.conditions then skip line pieces head rest else read names line pieces head rest
+]

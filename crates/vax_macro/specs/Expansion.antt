@@ -1,0 +1,92 @@
+-- What comes of a source, one step after another.
+use Rattle.std.specs.Prelude.{ℕ, zero, suc, ◌+◌, ◌-◌, Bool, true, false, ◌==◌, nat_lt, nat_le, List, [], ◌∷◌, ◌++◌, length, take, drop, Option, Some, None, option_map, if◌then◌else◌}
+use Rattle.vax_lex.specs.Tokens.{pieces_of}
+use Rattle.vax_lex.specs.declared.value.Value.{Value}
+use Rattle.vax_macro.specs.declared.error.FaultKind.{FaultKind}
+use Rattle.vax_macro.specs.declared.error.FaultKind.TheVariants as faults
+use Rattle.vax_macro.specs.Heads.{head_in}
+use Rattle.vax_macro.specs.Lines.{SourceLine, Reading, dash_in, is_long, with_part}
+use Rattle.vax_macro.specs.Rest.{Opening, Pending, OpenCondition, Rest}
+use Rattle.vax_macro.specs.Directives.{Statement, Done, Goes, Gives, Again, Label, Fails, done}
+
+-- What one step does. A statement's place is the number of lines read with it, which is `read` of the rest that it
+-- leaves: two statements of one place are parts of one line, and then the first leaves `again`. A fault tells its line's
+-- number, its place in the same count, and its kind. The end tells the first begin that has no end.
+pub data Stepped : Type 0 where
+  Steps : Rest → Stepped
+  Says : Statement → Rest → Stepped
+  Faults : (number place : ℕ) → FaultKind → Stepped
+  Ends : Option Opening → Stepped
+
+-- the first begin that has no end
+abbrev pub last_begin : OpenCondition → List OpenCondition → Opening
+last_begin c [] = c.begin
+last_begin c (d ∷ conditions) = last_begin d conditions
+
+abbrev pub unclosed : List OpenCondition → Option Pending → Option Opening
+unclosed [] collecting = option_map (λ p. p.begin) collecting
+unclosed (c ∷ conditions) collecting = Some (last_begin c conditions)
+
+-- what is behind a place of a line, as a line of its own
+abbrev pub cut : ℕ → Reading → SourceLine
+cut at line = record { number = line.number; depth = line.depth; text = drop at line.text }
+
+abbrev pub outcome : Reading → ℕ → Done → Stepped
+outcome line place (Goes rest) = Steps rest
+outcome line place (Gives rest) = Says (record { number = line.number; text = line.text }) rest
+outcome line place (Again at rest) = Steps (record rest { again = Some (cut at line) })
+outcome line place (Label at rest) = Says (record { number = line.number; text = take at line.text }) (record rest { again = Some (cut at line) })
+outcome line place (Fails kind) = Faults line.number place kind
+
+unfoldable pub line_step : (List ℕ → Option Value) → Reading → Rest → Stepped
+line_step names line rest = outcome line rest.read (done names line (pieces_of line.text) (head_in (pieces_of line.text)) rest)
+
+-- a line that may be continued by those to come
+abbrev pub joined_with : Reading → List ℕ → List ℕ → Option ℕ → (Reading → Stepped) → (Reading → Stepped) → Stepped
+joined_with r text part None whole more = whole (with_part r text part)
+joined_with r text part (Some dash) whole more = more (with_part r (take dash text) part)
+
+-- the step of the line that begins with r and goes on with the lines to come
+unfoldable pub read_on : (List ℕ → Option Value) → Reading → List SourceLine → Rest → Stepped
+read_on names r [] rest = line_step names r (record rest { lines = [] })
+read_on names r (line ∷ lines) rest =
+    if is_long line.text then Faults line.number (rest.read + 1) faults.Token
+    else (if nat_le 100000 rest.read then Faults line.number (rest.read + 1) faults.Lines
+    else (if is_long (r.text ++ line.text) then Faults r.number (rest.read + 1) faults.Token
+    else joined_with r (r.text ++ line.text) line.text (dash_in (pieces_of (r.text ++ line.text)))
+    (λ whole. line_step names whole (record rest { lines = lines; read = rest.read + 1 }))
+    (λ more. read_on names more lines (record rest { read = rest.read + 1 }))))
+
+abbrev pub begun : SourceLine → Reading
+begun line = record { number = line.number; depth = line.depth; text = []; parts = [] }
+
+abbrev pub whole : SourceLine → Reading
+whole line = record { number = line.number; depth = line.depth; text = line.text; parts = line.text ∷ [] }
+
+-- One step: what is left of the line just read, else the next line.
+abbrev pub next_line_step : (List ℕ → Option Value) → List SourceLine → Rest → Stepped
+next_line_step names [] rest = Ends (unclosed rest.conditions rest.collecting)
+next_line_step names (line ∷ lines) rest = read_on names (begun line) (line ∷ lines) rest
+
+unfoldable pub step : (List ℕ → Option Value) → Rest → Stepped
+step names rest = elim rest.again [
+  | Some line ↦ line_step names (whole line) (record rest { again = None })
+  | None ↦ next_line_step names rest.lines rest
+]
+
+-- What comes next, within so many steps, of which some may be left.
+pub data Opened : Type 0 where
+  Given : Statement → (left : ℕ) → Rest → Opened
+  Faulty : (number place : ℕ) → FaultKind → Opened
+  AtEnd : Option Opening → Opened
+  Later : Opened
+
+abbrev pub behind : ℕ → Stepped → (Rest → Opened) → Opened
+behind left (Steps after) next = next after
+behind left (Says statement after) next = Given statement left after
+behind left (Faults number place kind) next = Faulty number place kind
+behind left (Ends begin) next = AtEnd begin
+
+unfoldable pub opened : ℕ → (List ℕ → Option Value) → Rest → Opened
+opened zero names rest = Later
+opened (suc left) names rest = behind left (step names rest) (λ after. opened left names after)

@@ -1,0 +1,57 @@
+-- How lines are read, with those that continue them.
+use Rattle.std.specs.Prelude.{◌≡◌, ℕ, ◌+◌, ◌<◌, ◌≤◌, List, ◌∷◌, ◌++◌, length, Option}
+use Rattle.vax_lex.specs.Tokens.{pieces_of}
+use Rattle.vax_lex.specs.declared.value.Value.{Value}
+use Rattle.vax_macro.specs.Expansion.{Stepped, Faults, Ends, line_step, read_on, joined_with, next_line_step, unclosed}
+use Rattle.vax_macro.specs.Lines.{SourceLine, Reading, dash_in}
+use Rattle.vax_macro.specs.LineViews.{reading_of}
+use Rattle.vax_macro.specs.Rest.{Rest}
+use Rattle.vax_macro.specs.declared.line_types.Joined.{Joined}
+use Rattle.vax_macro.specs.declared.line_types.Joined.TheVariants as joins
+use Rattle.vax_macro.specs.declared.line_types.Read.{Read}
+use Rattle.vax_macro.specs.declared.line_types.Read.TheVariants as reads
+
+-- a line behind the text so far: the whole, or it is continued
+abbrev pub Puts : Joined → Reading → List ℕ → Reading → Type 0
+Puts joins.Whole r part after = (whole more : Reading → Stepped) → joined_with r (r.text ++ part) part (dash_in (pieces_of (r.text ++ part))) whole more ≡ whole after
+Puts joins.More r part after = (whole more : Reading → Stepped) → joined_with r (r.text ++ part) part (dash_in (pieces_of (r.text ++ part))) whole more ≡ more after
+Puts (joins.Fault number kind) r part after = ⊥
+
+-- a line that is whole, goes on with these lines, or has a fault
+abbrev pub Joins : (List ℕ → Option Value) → Joined → List SourceLine → Reading → Rest → Stepped → Type 0
+Joins names joins.Whole lines r rest s = s ≡ line_step names r (record rest { lines = lines })
+Joins names joins.More lines r rest s = s ≡ read_on names r lines rest
+Joins names (joins.Fault number kind) lines r rest s = s ≡ Faults number rest.read kind
+
+abbrev pub IsJoined : Joined → Reading → SourceLine → Reading → (before after : ℕ) → Type 0
+IsJoined j r line next before after =
+    (names : List ℕ → Option Value) (lines : List SourceLine) (rest : Rest)
+    → Joins names j lines next (record rest { read = after }) (read_on names r (line ∷ lines) (record rest { read = before }))
+
+-- no more lines are read than may be
+abbrev pub IsWithin : Joined → ℕ → Type 0
+IsWithin joins.Whole read = read ≤ 100000
+IsWithin joins.More read = read ≤ 100000
+IsWithin (joins.Fault number kind) read = Unit {0}
+
+-- What was read of the lines to come: a line of which this is the step, the fault of one, or none.
+abbrev pub Reads : (List ℕ → Option Value) → Read → Rest → Stepped → Type 0
+Reads names (reads.Line line) after s = s ≡ line_step names (reading_of line) after
+Reads names (reads.Fault number kind) after s = s ≡ Faults number after.read kind
+Reads names reads.Nothing after s = s ≡ Ends (unclosed after.conditions after.collecting)
+
+abbrev pub IsRead : Read → (lines left : List SourceLine) → (before after : ℕ) → Type 0
+IsRead r lines left before after =
+    (names : List ℕ → Option Value) (rest : Rest) → Reads names r (record rest { lines = left; read = after }) (next_line_step names lines (record rest { read = before }))
+
+-- a line that was read is counted
+abbrev pub IsCounted : Read → (before after : ℕ) → Type 0
+IsCounted (reads.Line line) before after = (before < after) × (after ≤ 100000)
+IsCounted (reads.Fault number kind) before after = Unit {0}
+IsCounted reads.Nothing before after = Unit {0}
+
+-- what is left after a line was taken is less, by its length at least
+abbrev pub Spares : Read → (before after : ℕ) → Type 0
+Spares (reads.Line line) before after = after + length line.text.items < before
+Spares (reads.Fault number kind) before after = Unit {0}
+Spares reads.Nothing before after = Unit {0}

@@ -1,0 +1,363 @@
+// What the lines of a source do.
+
+ghost use Rattle.std.specs.Prelude.{◌≡◌, ◌+◌, ◌-◌, ◌<◌, ◌≤◌, ◌^◌, ◌++◌, ◌∷◌, [], ◌==◌, All, length, map, drop, position, option_map, IfOk, IfSome, OnOk};
+ghost use Rattle.std.specs.List.{flat_map};
+ghost use Rattle.vax_lex.specs.Characters.{canonical_name};
+ghost use Rattle.vax_lex.specs.Tokens.{IsPieceOf};
+ghost use Rattle.vax_macro.specs.Directives.{begins, ends, nested_after, finished, collect, is_skipping, open_condition, begin_condition, switched, at_condition, switch, switch_condition, end_condition, skip, guard, with_pending, begin_copies, begin_repeat, begin_macro, listed, only_name, iterated_in, begin_arguments, begin_characters, call, direct, read_word, read_operator, read, done, is_deep, opening, operands_fault, expansion, copies, one_formal, behind_comma, is_parted, macro_formals, argument_texts, character_texts, count_of};
+ghost use Rattle.vax_macro.specs.Heads.{code_from};
+ghost use Rattle.vax_macro.specs.ArgumentViews.{arguments_view};
+ghost use Rattle.vax_macro.specs.ConditionViews.{Decides, iterated_view, listed_view};
+ghost use Rattle.vax_macro.specs.HeadViews.{word_view, head_view};
+ghost use Rattle.vax_macro.specs.LineViews.{reading_of, lines_of, frame_lines, opened_lines};
+ghost use Rattle.vax_macro.specs.TemplateViews.{template_view, formals_view, texts_view};
+ghost use Rattle.vax_macro.specs.View.{use_view, pending_view, opening_of, condition_view, macros_of, rest_in, Acts};
+
+use crate::arguments::{AnyName, Argument, arguments, behind_blanks, closing, name_length};
+use crate::conditions::Refusal;
+use crate::counts::one_more;
+use crate::error::{FaultKind, NoMemory};
+use crate::heads::{Word, code_from, has_bad, has_unprintable};
+use crate::line_types::{Frame, Reading};
+use crate::names::{are_blanks, begins_with, behind, copied, is_name};
+use crate::state_types::{Begin, Use};
+use crate::template_types::{Formal, Formals, Template};
+use crate::templates::{canonical, formals_of};
+use std::alloc::Global;
+use std::collections::VecDeque;
+use std::rc::Rc;
+use vax_lex::{Piece, is_blank};
+
+/// Whether a line begins a body of such a use within it.
+fn begins(use_of: &Use, word: Word) -> bool
+    ensures { result ≡ begins (use_view use_of.now) (word_view word) }
+{
+    match use_of {
+        Use::Macro { .. } => matches!(word, Word::Macro),
+        Use::Copies(_) | Use::Each { .. } => {
+            matches!(
+                word,
+                Word::Repeat | Word::RepeatArguments | Word::RepeatCharacters
+            )
+        }
+    }
+}
+
+/// Whether a line ends a body of such a use.
+pub(crate) fn ends(use_of: &Use, word: Word) -> bool
+    ensures { result ≡ ends (use_view use_of.now) (word_view word) }
+{
+    match use_of {
+        Use::Macro { .. } => matches!(word, Word::EndMacro),
+        Use::Copies(_) | Use::Each { .. } => matches!(word, Word::EndRepeat),
+    }
+}
+
+/// How many begins in a body have no end behind a line.
+pub(crate) fn nested_after(use_of: &Use, word: Word, nested: u32) -> Result<u32, NoMemory>
+    ensures { IfOk result (λ n. n ≡ nested_after (use_view use_of.now) (word_view word) nested) }
+{
+    if begins(use_of, word) {
+        let more = one_more(nested)?;
+        return Ok(more);
+    }
+    if ends(use_of, word) {
+        return Ok(nested.saturating_sub(1));
+    }
+    Ok(nested)
+}
+
+/// Where a line is.
+pub(crate) fn begin_at(line: &Reading, read: u32) -> Begin
+    ensures { opening_of result ≡ record { number = line.now.number; place = read } }
+{
+    Begin {
+        number: line.number,
+        place: read,
+    }
+}
+
+/// The fault of a directive that has no operands, if it has some.
+pub(crate) fn operands_fault(pieces: &[Piece], operands: &[Piece]) -> Option<FaultKind>
+    ensures { result ≡ operands_fault pieces.now operands.now }
+{
+    if has_bad(pieces) {
+        Some(FaultKind::Token)
+    } else if operands.is_empty() {
+        None
+    } else {
+        Some(FaultKind::Count)
+    }
+}
+
+/// These texts, each in a list of its own.
+fn each_alone(alloc: Global, texts: Vec<Vec<u8>>) -> Result<VecDeque<Vec<Vec<u8>>>, NoMemory>
+    ensures { IfOk result (λ v. map texts_view v.items ≡ map (λ text. text ∷ []) (texts_view texts)) }
+{
+    let mut others = VecDeque::new(alloc);
+    for text in texts {
+        let mut one = Vec::new(alloc);
+        one.push(text).map_err(|_| NoMemory)?;
+        others.push_back(one).map_err(|_| NoMemory)?;
+    }
+    Ok(others)
+}
+
+/// A template that expansions share.
+fn kept(alloc: Global, template: Template) -> Result<Rc<Template>, NoMemory>
+    ensures { IfOk result (λ rc. rc.value ≡ template) }
+{
+    Rc::new(alloc, template).map_err(|_| NoMemory)
+}
+
+/// A frame of copies in one text each.
+pub(crate) fn copies_each(
+    alloc: Global,
+    template: Template,
+    texts: Vec<Vec<u8>>,
+    number: u32,
+    depth: u32,
+) -> Result<Option<Frame>, NoMemory>
+    ensures { IfOk result (λ o. opened_lines o ≡ flat_map (λ text. expansion (template_view template).lines number depth (text ∷ [])) (texts_view texts)) }
+{
+    let mut others = each_alone(alloc, texts)?;
+    let Some(first) = others.pop_front() else {
+        return Ok(None);
+    };
+    let template = kept(alloc, template)?;
+    Ok(Some(Frame {
+        template,
+        at: 0,
+        texts: first,
+        copies: 0,
+        others,
+        number,
+        depth,
+    }))
+}
+
+/// A frame of so many copies.
+#[tactic(auto, using(crate::proofs::Frames::repeated))]
+pub(crate) fn copies_of(
+    alloc: Global,
+    template: Template,
+    count: u64,
+    number: u32,
+    depth: u32,
+) -> Result<Option<Frame>, NoMemory>
+    ensures { IfOk result (λ o. opened_lines o ≡ copies count (expansion (template_view template).lines number depth [])) }
+{
+    if count == 0 {
+        return Ok(None);
+    }
+    let template = Rc::new(alloc, template).map_err(|_| NoMemory)?;
+    Ok(Some(Frame {
+        template,
+        at: 0,
+        texts: Vec::new(alloc),
+        copies: count - 1,
+        others: VecDeque::new(alloc),
+        number,
+        depth,
+    }))
+}
+
+/// A frame of a call.
+#[tactic(auto, using(crate::proofs::Frames::opens))]
+pub(crate) fn call_frame(
+    alloc: Global,
+    template: Rc<Template>,
+    texts: Vec<Vec<u8>>,
+    number: u32,
+    depth: u32,
+) -> Frame
+    ensures { frame_lines result ≡ expansion (template_view template.value).lines number depth (texts_view texts) }
+{
+    Frame {
+        template,
+        at: 0,
+        texts,
+        copies: 0,
+        others: VecDeque::new(alloc),
+        number,
+        depth,
+    }
+}
+
+/// The formal argument of a repeat alone.
+pub(crate) fn one_formal(alloc: Global, name: Vec<u8>) -> Result<Formals, NoMemory>
+    ensures { IfOk result (λ fs. formals_view fs ≡ one_formal name.items) }
+{
+    let mut formals = Formals::new(alloc);
+    let copy = copied(alloc, &name)?;
+    formals.add(
+        Formal {
+            name,
+            default: Vec::new(alloc),
+            makes_label: false,
+        },
+        copy,
+    )?;
+    Ok(formals)
+}
+
+pub(crate) fn shared(template: &Rc<Template>) -> Result<Rc<Template>, NoMemory>
+    ensures { IfOk result (λ rc. rc.value ≡ template.now.value) }
+{
+    template.clone().map_err(|_| NoMemory)
+}
+
+/// The text of a line's operands, from a place on.
+pub(crate) fn operand_text<'a>(line: &'a Reading, operands: &[Piece], at: usize) -> &'a [u8]
+    ensures { result.now ≡ code_from at operands.now line.now.text.items }
+{
+    code_from(at, operands, &line.text)
+}
+
+/// What is behind the name of a macro: perhaps a comma, and then formal arguments.
+fn behind_comma(text: &[u8]) -> &[u8]
+    ensures { result.now ≡ behind_comma text.now }
+{
+    let rest = behind_blanks(text);
+    if begins_with(b',', rest) {
+        behind_blanks(behind(rest, 1))
+    } else {
+        rest
+    }
+}
+
+/// Whether a text begins with a blank or a comma, or is none.
+fn is_parted(text: &[u8]) -> bool
+    ensures { result ≡ is_parted text.now }
+{
+    match text.first() {
+        Some(first) => is_blank(*first) || *first == b',',
+        None => true,
+    }
+}
+
+/// The formal arguments of a `.MACRO`, behind its name.
+pub(crate) fn macro_formals(alloc: Global, text: &[u8]) -> Result<Option<Formals>, NoMemory>
+    ensures { IfOk result (λ o. option_map formals_view o ≡ macro_formals text.now) }
+{
+    let rest = behind_comma(text);
+    if !is_parted(text) || (begins_with(b',', behind_blanks(text)) && rest.is_empty()) {
+        return Ok(None);
+    }
+    let Some(arguments) = arguments(alloc, &AnyName, rest)? else {
+        return Ok(None);
+    };
+    formals_of(alloc, arguments)
+}
+
+/// The text in brackets behind the comma of an `.IRP`.
+#[tactic(auto, unfolding(crate::specs::Directives::listed))]
+fn listed(text: &[u8]) -> Result<&[u8], FaultKind>
+    ensures { listed_view result ≡ listed text.now }
+{
+    if !begins_with(b'<', text) {
+        return Err(FaultKind::Form);
+    }
+    let inner = behind(text, 1);
+    let Some(length) = closing(inner) else {
+        return Err(FaultKind::Form);
+    };
+    let rest = behind_blanks(behind(inner, length + 1));
+    if rest.is_empty() {
+        Ok(&inner[..length])
+    } else if begins_with(b',', rest) {
+        Err(FaultKind::Count)
+    } else {
+        Err(FaultKind::Form)
+    }
+}
+
+/// The name that a text is, perhaps with blanks behind it.
+fn only_name(text: &[u8]) -> Option<&[u8]>
+    ensures { option_map (λ s. canonical_name s.now) result ≡ only_name text.now }
+{
+    let (name, rest) = text.split_at(name_length(text));
+    if is_name(name) && are_blanks(rest) {
+        Some(name)
+    } else {
+        None
+    }
+}
+
+/// Where the first comma stands in a text.
+fn comma_place(text: &[u8]) -> Option<usize>
+    ensures value { result ≡ position (λ b. b == 44) text.now }
+    ensures bound { IfSome result (λ k. k < length text.now) }
+{
+    text.iter().position(|byte| *byte == b',')
+}
+
+/// The formal argument of an `.IRP` or `.IRPC`, and the text for it.
+#[tactic(auto, unfolding(crate::specs::Directives::iterated_in))]
+pub(crate) fn iterated_in(
+    alloc: Global,
+    line: &Reading,
+    operands: &[Piece],
+    at: usize,
+) -> Result<(Vec<u8>, Vec<u8>), Refusal>
+    ensures { Decides iterated_view result (iterated_in line.now.text.items operands.now at) }
+{
+    if has_unprintable(&line.text, operands) {
+        return Err(Refusal::Fault(FaultKind::Token));
+    }
+    let text = operand_text(line, operands, at);
+    let Some(comma) = comma_place(text) else {
+        return Err(Refusal::Fault(FaultKind::Count));
+    };
+    let text_for = match listed(behind_blanks(&text[comma + 1..])) {
+        Ok(found) => found,
+        Err(kind) => return Err(Refusal::Fault(kind)),
+    };
+    let Some(name) = only_name(behind_blanks(&text[..comma])) else {
+        return Err(Refusal::Fault(FaultKind::Form));
+    };
+    let name = canonical(alloc, name)?;
+    let kept = copied(alloc, text_for)?;
+    Ok((name, kept))
+}
+
+/// The texts of arguments.
+pub(crate) fn argument_texts(
+    alloc: Global,
+    arguments: Vec<Argument>,
+) -> Result<Vec<Vec<u8>>, NoMemory>
+    ensures { IfOk result (λ v. texts_view v ≡ argument_texts (arguments_view arguments)) }
+{
+    let mut texts = Vec::new(alloc);
+    for argument in arguments {
+        let Argument { text, .. } = argument;
+        let text = match text {
+            Some(text) => text,
+            None => Vec::new(alloc),
+        };
+        texts.push(text).map_err(|_| NoMemory)?;
+    }
+    Ok(texts)
+}
+
+/// The characters of a text, one by one.
+pub(crate) fn character_texts(alloc: Global, text: &[u8]) -> Result<Vec<Vec<u8>>, NoMemory>
+    ensures { IfOk result (λ v. texts_view v ≡ character_texts text.now) }
+{
+    let mut texts = Vec::new(alloc);
+    for byte in text {
+        let one = copied(alloc, &[*byte])?;
+        texts.push(one).map_err(|_| NoMemory)?;
+    }
+    Ok(texts)
+}
+
+/// The count of a repeat.
+pub(crate) fn count_of(number: i64) -> Result<u64, FaultKind>
+    ensures { result ≡ count_of number }
+{
+    if number < 0 {
+        return Err(FaultKind::Range);
+    }
+    Ok(number.unsigned_abs())
+}

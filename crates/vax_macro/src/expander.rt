@@ -1,0 +1,289 @@
+// The expander.
+
+ghost use Rattle.std.specs.Prelude.{◌≡◌, ◌+◌, ◌<◌, ◌≤◌, ◌++◌, ◌∷◌, [], ℕ, None, Some, IfOk, IfErr, IfSome, OnOk, length, option_map};
+
+use crate::error::{FaultKind, MacroError, NoMemory};
+use crate::heads::head_in;
+use crate::line_types::{Lines, Read, Reading, Remainder};
+use crate::names::{behind, copied, part};
+use crate::reader::{next_reading, whole};
+use crate::state_types::{Begin, Done, OpenCondition, State};
+use std::alloc::Global;
+use std::collections::{BTreeMap, VecDeque};
+use vax_lex::{Names, pieces};
+
+/// A statement: the number of its line in the source, or of the outermost call, and its text of at most 1,024 bytes,
+/// continuations joined.
+#[derive(Debug, Drop)]
+pub struct Line {
+    pub number: u32,
+    pub text: Vec<u8>,
+    pub ghost short: { length text.items ≤ 1024 },
+}
+
+/// A source that is being expanded: what is left to open of it, and the error that was answered, if one was.
+#[derive(Drop)]
+pub struct Expander {
+    alloc: Global,
+    state: State,
+    again: Option<Remainder>,
+    read: u32,
+    error: Option<MacroError>,
+    unclosed: Option<Begin>,
+}
+
+/// What one step did.
+#[derive(Drop)]
+enum Step {
+    Goes,
+    Says(Line),
+    Faults(u32, FaultKind),
+    Ends(Option<Begin>),
+}
+
+/// Where a condition begins.
+fn begin_of(condition: &OpenCondition) -> Begin
+    ensures { result ≡ condition.now.begin }
+{
+    condition.begin
+}
+
+impl Expander {
+    ghost use Rattle.vax_macro.specs.Rest.{started, work, weight};
+    ghost use Rattle.std.specs.Prelude.{List, Option};
+    ghost use Rattle.vax_lex.specs.declared.value.Value.{Value};
+    ghost use Rattle.vax_lex.specs.Tokens.{pieces_of};
+    ghost use Rattle.vax_macro.specs.Directives.{done};
+    ghost use Rattle.vax_macro.specs.Expansion.{AtEnd, step, line_step, opened, cut, unclosed};
+    ghost use Rattle.vax_macro.specs.Heads.{head_in};
+    ghost use Rattle.vax_macro.specs.LineViews.{reading_of};
+    ghost use Rattle.vax_macro.specs.Readings.{Reads, Spares};
+    ghost use Rattle.vax_macro.specs.View.{opening_of, rest_in, Acts};
+    ghost use Rattle.vax_macro.specs.Expanders.{rest_of, error_of, unclosed_of, read_of, Does, Opens, Shrinks};
+
+    /// A source of which nothing was opened.
+    #[tactic(auto, using(crate::proofs::Begins::fresh))]
+    pub fn new(alloc: Global, source: &[u8]) -> Result<Expander, NoMemory>
+        ensures rest { IfOk result (λ e. rest_of e ≡ started source.now) }
+        ensures error { IfOk result (λ e. error_of e ≡ None) }
+    {
+        let source = copied(alloc, source)?;
+        Ok(Expander {
+            alloc,
+            state: State {
+                lines: Lines {
+                    source,
+                    at: 0,
+                    number: 0,
+                    frames: VecDeque::new(alloc),
+                },
+                macros: BTreeMap::new(alloc),
+                collecting: None,
+                conditions: VecDeque::new(alloc),
+                made: 0,
+            },
+            again: None,
+            read: 0,
+            error: None,
+            unclosed: None,
+        })
+    }
+
+    /// What is left of the line just read, or the next one.
+    #[tactic(auto, unfolding(crate::specs::Expansion::step))]
+    fn take_line(&mut self) -> Result<Read, NoMemory>
+        ensures exact { IfOk result (λ r. (names : List ℕ → Option Value) → Reads names r (rest_of self.new) (step names (rest_of self.old))) }
+        ensures again { self.new.again ≡ None }
+        ensures error { self.new.error ≡ self.old.error }
+        ensures unclosed { self.new.unclosed ≡ self.old.unclosed }
+        ensures fewer { IfOk result (λ r. Spares r (work (rest_of self.old)) (work (rest_of self.new))) }
+    {
+        match self.again.take() {
+            Some(left) => {
+                let line = whole(self.alloc, left)?;
+                Ok(Read::Line(line))
+            }
+            None => {
+                let next = next_reading(self.alloc, &mut self.state.lines, &mut self.read)?;
+                Ok(next)
+            }
+        }
+    }
+
+    /// The first begin that has no end.
+    #[tactic(auto, using(crate::proofs::Begins::outermost))]
+    fn first_begin(&self) -> Option<Begin>
+        ensures { option_map opening_of result ≡ unclosed (rest_of self.now).conditions (rest_of self.now).collecting }
+    {
+        match self.state.conditions.back() {
+            Some(condition) => Some(begin_of(condition)),
+            None => match &self.state.collecting {
+                Some(pending) => Some(pending.begin),
+                None => None,
+            },
+        }
+    }
+
+    /// What is behind a place of a line is read as a line of its own. The head of a line takes a byte at least.
+    fn cut(&mut self, line: &Reading, at: usize) -> Result<(), NoMemory>
+        ensures rest { OnOk result (rest_of self.new ≡ record (rest_of self.old) { again = Some (cut at (reading_of line.now)) }) }
+        ensures error { self.new.error ≡ self.old.error }
+        ensures unclosed { self.new.unclosed ≡ self.old.unclosed }
+        ensures fewer { OnOk result (weight (rest_of self.new).again ≤ length line.now.text.items) }
+    {
+        if at == 0 || line.text.is_empty() {
+            return Err(NoMemory);
+        }
+        let text = copied(self.alloc, behind(&line.text, at))?;
+        self.again = Some(Remainder {
+            number: line.number,
+            depth: line.depth,
+            text,
+        });
+        Ok(())
+    }
+
+    /// What a line changes.
+    fn act<N: Names>(&mut self, names: &N, line: &Reading) -> Result<Done, NoMemory>
+        ensures exact { IfOk result (λ d. Acts d self.old.read self.new.state (done (N.meaning names.now) (reading_of line.now) (pieces_of line.now.text.items) (head_in (pieces_of line.now.text.items)) (rest_in self.old.read self.old.state))) }
+        ensures read { self.new.read ≡ self.old.read }
+        ensures again { self.new.again ≡ self.old.again }
+        ensures error { self.new.error ≡ self.old.error }
+        ensures unclosed { self.new.unclosed ≡ self.old.unclosed }
+    {
+        let found = pieces(self.alloc, &line.text).map_err(|_| NoMemory)?;
+        let head = head_in(&found);
+        let done = self
+            .state
+            .act(self.alloc, names, line, &found, head, self.read)?;
+        Ok(done)
+    }
+
+    /// The step of a line.
+    #[tactic(auto, unfolding(crate::specs::Expansion::line_step))]
+    fn carry_out<N: Names>(&mut self, names: &N, line: Reading) -> Result<Step, NoMemory>
+        requires { self.old.again ≡ None }
+        ensures exact { IfOk result (λ s. Does s self.new (line_step (N.meaning names.now) (reading_of line) (rest_of self.old))) }
+        ensures error { self.new.error ≡ self.old.error }
+        ensures unclosed { self.new.unclosed ≡ self.old.unclosed }
+        ensures fewer { IfOk result (λ s. work (rest_of self.new) ≤ work (rest_of self.old) + length line.text.items) }
+    {
+        let done = self.act(names, &line)?;
+        match done {
+            Done::Goes => Ok(Step::Goes),
+            Done::Gives => {
+                let Reading { number, text, .. } = line;
+                Ok(Step::Says(Line { number, text }))
+            }
+            Done::Again(at) => {
+                self.cut(&line, at)?;
+                Ok(Step::Goes)
+            }
+            Done::Label(at) => {
+                self.cut(&line, at)?;
+                let text = copied(self.alloc, part(&line.text, 0, at))?;
+                Ok(Step::Says(Line {
+                    number: line.number,
+                    text,
+                }))
+            }
+            Done::Fails(kind) => Ok(Step::Faults(line.number, kind)),
+        }
+    }
+
+    /// One step.
+    fn step<N: Names>(&mut self, names: &N) -> Result<Step, NoMemory>
+        ensures exact { IfOk result (λ s. Does s self.new (step (N.meaning names.now) (rest_of self.old))) }
+        ensures error { self.new.error ≡ self.old.error }
+        ensures unclosed { self.new.unclosed ≡ self.old.unclosed }
+        ensures fewer { IfOk result (λ s. Shrinks s (work (rest_of self.old)) (work (rest_of self.new))) }
+    {
+        match self.take_line()? {
+            Read::Line(line) => {
+                let step = self.carry_out(names, line)?;
+                Ok(step)
+            }
+            Read::Fault(number, kind) => Ok(Step::Faults(number, kind)),
+            Read::Nothing => Ok(Step::Ends(self.first_begin())),
+        }
+    }
+
+    /// What is answered at the end of the source.
+    fn end(&mut self, begin: Option<Begin>) -> Result<Option<Line>, MacroError>
+        ensures opens { Opens result self.new (AtEnd (option_map opening_of begin)) }
+        ensures error { self.new.error ≡ self.old.error }
+        ensures nothing { IfOk result (λ o. o ≡ None) }
+    {
+        match begin {
+            None => Ok(None),
+            Some(begin) => {
+                self.unclosed = Some(begin);
+                Err(MacroError::Fault {
+                    line: begin.number,
+                    kind: FaultKind::Nesting,
+                })
+            }
+        }
+    }
+
+    /// The next statement of a source in which no error was found so far.
+    fn advance<N: Names>(&mut self, names: &N) -> Result<Option<Line>, MacroError>
+        ensures opens { (steps : ℕ) → work (rest_of self.old) < steps → Opens result self.new (opened steps (N.meaning names.now) (rest_of self.old)) }
+        ensures error { self.new.error ≡ self.old.error }
+        ensures short { IfOk result (λ o. IfSome o (λ line. length line.text.items ≤ 1024)) }
+        ensures fewer { IfOk result (λ o. IfSome o (λ line. work (rest_of self.new) < work (rest_of self.old))) }
+    {
+        self.unclosed = None;
+        'steps: loop {
+            let Ok(step) = self.step(names) else {
+                return Err(MacroError::NoMemory);
+            };
+            match step {
+                Step::Goes => {}
+                Step::Says(line) => return Ok(Some(line)),
+                Step::Faults(line, kind) => return Err(MacroError::Fault { line, kind }),
+                Step::Ends(begin) => return self.end(begin),
+            }
+        }
+    }
+
+    /// The next statement under these names; None at the end of the source and behind `.END`. After an error every
+    /// later call answers the same one.
+    pub fn next<N: Names>(&mut self, names: &N) -> Result<Option<Line>, MacroError>
+        // What the definition gives with steps enough.
+        ensures opens { error_of self.old ≡ None → (steps : ℕ) → work (rest_of self.old) < steps → Opens result self.new (opened steps (N.meaning names.now) (rest_of self.old)) }
+        // After an error, the same error and nothing else.
+        ensures again { IfSome (error_of self.old) (λ e. (result ≡ Err e) × (self.new ≡ self.old)) }
+        ensures kept { IfErr result (λ e. error_of self.new ≡ Some e) }
+        ensures none { OnOk result (error_of self.new ≡ None) }
+        // A statement's text may be scanned.
+        ensures short { IfOk result (λ o. IfSome o (λ line. length line.text.items ≤ 1024)) }
+        // A statement takes a step.
+        ensures fewer { IfOk result (λ o. IfSome o (λ line. work (rest_of self.new) < work (rest_of self.old))) }
+    {
+        if let Some(error) = self.error {
+            return Err(error);
+        }
+        match self.advance(names) {
+            Ok(line) => Ok(line),
+            Err(error) => {
+                self.error = Some(error);
+                Err(error)
+            }
+        }
+    }
+
+    /// The begin without its end, once `next` has answered that fault.
+    pub fn unclosed(&self) -> Option<Begin>
+        ensures { option_map opening_of result ≡ unclosed_of self.now }
+    {
+        self.unclosed
+    }
+
+    /// How many lines were read, from the source and from expansions, with that of the last statement or fault.
+    pub fn lines_read(&self) -> u32
+        ensures { result ≡ read_of self.now }
+    {
+        self.read
+    }
+}

@@ -1,0 +1,154 @@
+// Lines as they are read, with those that continue them.
+
+ghost use Rattle.std.specs.Prelude.{◌≡◌, ◌+◌, ◌<◌, ◌≤◌, ◌++◌, [], ℕ, All, IfOk, length};
+ghost use Rattle.vax_macro.specs.Lines.{dash_in};
+ghost use Rattle.vax_macro.specs.LineViews.{line_of, lines_of, reading_of, remainder_of};
+ghost use Rattle.vax_macro.specs.Expansion.{whole};
+ghost use Rattle.vax_macro.specs.Readings.{Puts, IsJoined, IsWithin, IsRead, IsCounted};
+
+use crate::counts::one_more;
+use crate::error::{FaultKind, NoMemory};
+use crate::heads::is_mark_piece;
+use crate::line_types::{Joined, Lines, Read, Reading, Remainder, SourceLine};
+use crate::names::{copied, part};
+use std::alloc::Global;
+use vax_lex::{Piece, pieces};
+
+/// The longest line, in bytes.
+const LONGEST: usize = 1024;
+
+/// How many lines may be read.
+const LIMIT: u32 = 100_000;
+
+/// Where the `-` stands that is last on a line.
+fn dash_in(pieces: &[Piece]) -> Option<usize>
+    ensures { result ≡ dash_in pieces.now }
+{
+    match pieces.get(pieces.len().saturating_sub(1)) {
+        Some(last) => {
+            if is_mark_piece(b'-', last.kind) {
+                Some(last.start as usize)
+            } else {
+                None
+            }
+        }
+        None => None,
+    }
+}
+
+/// The text of a line behind one that was continued.
+fn joined(alloc: Global, before: &[u8], text: &[u8]) -> Result<Vec<u8>, NoMemory>
+    ensures { IfOk result (λ v. v.items ≡ before.now ++ text.now) }
+{
+    let mut whole = copied(alloc, before)?;
+    whole.extend_from_slice(text).map_err(|_| NoMemory)?;
+    Ok(whole)
+}
+
+impl Reading {
+    /// No line so far.
+    fn new(alloc: Global, number: u32, depth: u32) -> Reading
+        ensures { reading_of result ≡ record { number = number; depth = depth; text = []; parts = [] } }
+    {
+        Reading {
+            number,
+            depth,
+            text: Vec::new(alloc),
+            parts: Vec::new(alloc),
+        }
+    }
+
+    /// Puts a line behind the text.
+    fn put(&mut self, alloc: Global, line: Vec<u8>) -> Result<Joined, NoMemory>
+        requires { length self.old.text.items + length line.items ≤ 1024 }
+        ensures { IfOk result (λ j. Puts j (reading_of self.old) line.items (reading_of self.new)) }
+    {
+        let text = joined(alloc, &self.text, &line)?;
+        let found = pieces(alloc, &text).map_err(|_| NoMemory)?;
+        let dash = dash_in(&found);
+        self.parts.push(line).map_err(|_| NoMemory)?;
+        match dash {
+            Some(dash) => {
+                self.text = copied(alloc, part(&text, 0, dash))?;
+                Ok(Joined::More)
+            }
+            None => {
+                self.text = text;
+                Ok(Joined::Whole)
+            }
+        }
+    }
+
+    /// Reads a line behind the text.
+    #[tactic(auto, unfolding(crate::specs::Expansion::read_on))]
+    fn join(&mut self, alloc: Global, line: SourceLine, read: &mut u32) -> Result<Joined, NoMemory>
+        ensures exact { IfOk result (λ j. IsJoined j (reading_of self.old) (line_of line) (reading_of self.new) read.old read.new) }
+        ensures more { IfOk result (λ j. read.old < read.new) }
+        ensures within { IfOk result (λ j. IsWithin j read.new) }
+    {
+        *read = one_more(*read)?;
+        if line.text.len() > LONGEST {
+            return Ok(Joined::Fault(line.number, FaultKind::Token));
+        }
+        if *read > LIMIT {
+            return Ok(Joined::Fault(line.number, FaultKind::Lines));
+        }
+        if self.text.len() + line.text.len() > LONGEST {
+            return Ok(Joined::Fault(self.number, FaultKind::Token));
+        }
+        let joined = self.put(alloc, line.text)?;
+        Ok(joined)
+    }
+}
+
+/// What is left of a line, as a line of its own.
+pub(crate) fn whole(alloc: Global, left: Remainder) -> Result<Reading, NoMemory>
+    ensures { IfOk result (λ r. reading_of r ≡ whole (remainder_of left)) }
+{
+    let Remainder {
+        number,
+        depth,
+        text,
+    } = left;
+    let mut parts = Vec::new(alloc);
+    let copy = copied(alloc, &text)?;
+    parts.push(copy).map_err(|_| NoMemory)?;
+    Ok(Reading {
+        number,
+        depth,
+        text,
+        parts,
+    })
+}
+
+/// The next line, with those that continue it.
+#[tactic(auto, unfolding(crate::specs::Expansion::read_on))]
+pub(crate) fn next_reading(
+    alloc: Global,
+    lines: &mut Lines,
+    read: &mut u32,
+) -> Result<Read, NoMemory>
+    ensures exact { IfOk result (λ r. IsRead r (lines_of lines.old) (lines_of lines.new) read.old read.new) }
+    ensures counted { IfOk result (λ r. IsCounted r read.old read.new) }
+{
+    let next = lines.next(alloc)?;
+    let Some(first) = next else {
+        return Ok(Read::Nothing);
+    };
+    let mut begun = Reading::new(alloc, first.number, first.depth);
+    let mut joined = begun.join(alloc, first, read)?;
+    'lines: loop {
+        match joined {
+            Joined::Whole => return Ok(Read::Line(begun)),
+            Joined::Fault(number, kind) => return Ok(Read::Fault(number, kind)),
+            Joined::More => {
+                let next = lines.next(alloc)?;
+                let Some(line) = next else {
+                    lines.clear();
+                    return Ok(Read::Line(begun));
+                };
+                joined = begun.join(alloc, line, read)?;
+            }
+        }
+    }
+}

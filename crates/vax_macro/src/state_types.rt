@@ -1,0 +1,76 @@
+// What is left to open of a source.
+
+ghost use Rattle.std.specs.Prelude.{◌≤◌, All, length};
+ghost use Rattle.std.proofs.Props.{props};
+
+use crate::line_types::{Lines, SourceLine};
+use crate::template_types::{Formals, Template};
+use std::collections::{BTreeMap, VecDeque};
+use std::rc::Rc;
+
+/// Where a condition, a macro or a repeat begins: the number of its line, and how many lines were read with it.
+#[derive(Clone, Copy, Debug, PartialEq, Eq)]
+pub struct Begin {
+    pub number: u32,
+    pub place: u32,
+}
+
+/// What a body is for.
+#[derive(Drop)]
+pub(crate) enum Use {
+    Macro {
+        name: Vec<u8>,
+        formals: Formals,
+    },
+    Copies(u64),
+    /// A copy for each text of a formal argument.
+    Each {
+        formal: Vec<u8>,
+        texts: Vec<Vec<u8>>,
+    },
+}
+
+/// The body of a macro or a repeat that is being read, and how many begins in it have no end so far.
+#[derive(Drop)]
+pub(crate) struct Pending {
+    pub(crate) use_of: Use,
+    pub(crate) begin: Begin,
+    pub(crate) depth: u32,
+    pub(crate) nested: u32,
+    pub(crate) lines: Vec<Vec<u8>>,
+    ghost short: { All (λ t. length t.items ≤ 1024) lines.items } by { Prim.hlevel props },
+}
+
+/// An open condition: whether the text around it is read, whether it holds, and whether the text here would be read.
+#[derive(Clone, Copy, Debug)]
+pub(crate) struct OpenCondition {
+    pub(crate) begin: Begin,
+    pub(crate) outer: bool,
+    pub(crate) holds: bool,
+    pub(crate) here: bool,
+}
+
+/// What lines change: the lines to come, the macros, the body that is being read, the open conditions, and how many
+/// labels were made.
+#[derive(Drop)]
+pub(crate) struct State {
+    pub(crate) lines: Lines,
+    pub(crate) macros: BTreeMap<Vec<u8>, Rc<Template>>,
+    pub(crate) collecting: Option<Pending>,
+    pub(crate) conditions: VecDeque<OpenCondition>,
+    pub(crate) made: u32,
+}
+
+/// What a line did.
+#[derive(Clone, Copy, Debug)]
+pub(crate) enum Done {
+    /// It changed what is left to open.
+    Goes,
+    /// It is a statement.
+    Gives,
+    /// What is behind a place is read as a line of its own.
+    Again(usize),
+    /// The same, and the label before is a statement.
+    Label(usize),
+    Fails(crate::error::FaultKind),
+}
