@@ -1,0 +1,3 @@
+pub mod ByName
+pub mod Names
+pub mod View
