@@ -6,7 +6,11 @@ case $1 in
   registers) code="D0 51 52 C0 01 51 D1 51 53 19 F5"; start=80000200 ;;
   memory)    code="D0 67 52 C0 01 67 D1 67 A7 04 19 F4"; start=80000200 ;;
   calls)     code="10 03 F5 50 FB 05"; start=80000200 ;;
-  *) echo "loops: count registers memory calls" >&2; exit 1 ;;
+  subroutine) code="16 AF 02 11 FB 05"; start=80000200 ;;
+  procedure) code="FB 00 AF 02 11 FA 0C 00 04"; start=80000200 ;;
+  field)     code="EF 04 08 51 52 11 F9"; start=80000200 ;;
+  addition)  code="C0 51 52 11 FB"; start=80000200 ;;
+  *) echo "loops: count registers memory calls subroutine procedure field addition" >&2; exit 1 ;;
 esac
 script=$(mktemp)
 trap 'rm -f "$script"' EXIT

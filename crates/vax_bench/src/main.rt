@@ -8,7 +8,7 @@ mod loops;
 mod paged;
 
 use anyhow::bail;
-use loops::{code_of, data_of};
+use loops::{clock_of, code_of, data_of};
 use paged::{make_paged_steps, pager_of};
 use std::alloc::Global;
 use std::env;
@@ -17,7 +17,7 @@ use vax_cpu::{Attempt, Cpu};
 use vax_outside::MemPages;
 use vax_pager::Counts;
 use vax_undo::{Plain, Term};
-use vax_word::Core;
+use vax_word::{Core, Psl};
 
 /// The registers at the start of a loop: counts that outlast any run, and where its data lies.
 fn core_of(name: &str, data_end: u32) -> Core {
@@ -26,6 +26,10 @@ fn core_of(name: &str, data_end: u32) -> Core {
     core.regs[3] = 0x7FFF_FFFF;
     core.regs[7] = data_of(name);
     core.regs[8] = data_end;
+    core.iccs = clock_of(name);
+    if name == "interrupts" {
+        core.psl = Psl(0);
+    }
     core
 }
 
@@ -91,7 +95,9 @@ fn main(rt: HostRuntime) -> anyhow::Result<()> {
         _ => bail!("use: vax_bench LOOP STEPS [FRAMES]"),
     };
     let Some(code) = code_of(name.as_str()) else {
-        bail!("loops: count registers memory calls pages");
+        bail!(
+            "loops: count registers memory calls subroutine procedure field addition change ticks interrupts pages"
+        );
     };
     let steps: u64 = steps.as_str().parse()?;
     let (core, left) = match frames {

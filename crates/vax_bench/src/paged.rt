@@ -24,6 +24,12 @@ pub(crate) fn pager_of(alloc: Global, code: &[u8], frames: u32) -> anyhow::Resul
             bytes: Bytes::from(Vec::new(alloc)),
         },
         Area {
+            first: 0x40_0000,
+            pages: 1,
+            prot: 2,
+            bytes: Bytes::from(Vec::new(alloc)),
+        },
+        Area {
             first: 0x40_0001,
             pages: 1,
             prot: 14,
