@@ -1,5 +1,7 @@
 -- From what a transaction followed to what an attempt came to.
-use Rattle.std.proofs.Common.{true, false, Result, add-one, ◌+◌, ◌≤◌, ◌≡◌, ℕ, Option, Some, None, Ok, Err, refl, sym, ap, subst, ◌∙◌}
+use Rattle.std.proofs.Common.{true, false, Result, add-one, ◌+◌, ◌≤◌, ◌≡◌, ℕ, Option, Some, None, Ok, Err, refl, sym, ap, subst, ◌∙◌, arith}
+use Rattle.vax_word.specs.declared.Core.{Core}
+use Rattle.vax_word.specs.declared.Psl.{Psl}
 use Rattle.vax_flat.specs.declared.Cut.{Cut}
 use Rattle.vax_flat.specs.declared.Cut.TheVariants as cut
 use Rattle.vax_flat.specs.declared.Ending.{Ending}
@@ -16,12 +18,14 @@ use Rattle.vax_flat.specs.Parts.{part, part_step}
 use Rattle.vax_flat.specs.Quiet.{IsQuiet}
 use Rattle.vax_flat.proofs.Quiet.{quiet_whole}
 use Rattle.std.specs.Prelude.{is_none}
+use Rattle.vax_undo.specs.FirstPart.{NothingOpen, first_part_done}
 use Rattle.vax_undo.specs.declared.txn.CutShort.{CutShort}
 use Rattle.vax_undo.specs.declared.txn.Txn.{Txn as Transaction}
 use Rattle.vax_undo.specs.Transaction.{bare, undone, IsReady, Keeps, KeepsUnlessDone}
 use Rattle.vax_cpu.specs.declared.attempt.Tried.{Tried}
 use Rattle.vax_cpu.specs.declared.attempt.Tried.TheVariants as tried
-use Rattle.vax_cpu.specs.Tried.{IsFinal, IsTried, KeepsTime, LeadsBack, UnlessDone, UnlessEnded, ending_of, is_done, marked_as}
+use Rattle.vax_cpu.specs.Tried.{ClosesIfDone, IsFinal, IsTried, KeepsClosed, KeepsClosedLater, KeepsTime, LeadsBack, UnlessDone, UnlessEnded, ending_of, is_done, marked_as, start_by}
+use Rattle.vax_cpu.specs.Attempt.{open_after}
 use Rattle.vax_cpu.specs.declared.cpu.Open.{Open}
 use Rattle.vax_cpu.specs.Batch.{Ran}
 
@@ -84,6 +88,51 @@ quiet_final e old new (tried.Event x) is = let P : Arrival Leaf → Type 0 = λ 
 -- the same of a clock that has counted the same
 pub clock_at : (clock mid : ℕ) (t : Tried) → clock ≡ mid → KeepsTime mid t → KeepsTime clock t
 clock_at clock mid t e within = subst (λ x. KeepsTime x t) (sym e) within
+
+-- the same of a status that is the same
+pub closed_at : (psl mid : Psl) (t : Tried) → psl ≡ mid → KeepsClosed mid t → KeepsClosed psl t
+closed_at psl mid t e closed = subst (λ x. KeepsClosed x t) (sym e) closed
+
+-- what leaves no instruction open
+pub still_closed : (old new : Psl) → first_part_done new ≤ first_part_done old → NothingOpen old → NothingOpen new
+still_closed old new kept closed = omega arith
+
+pub closes : (work : Result Flow CutShort) (psl : Psl) → NothingOpen psl → ClosesIfDone work psl
+closes (Ok flow.Done) psl closed = closed
+closes (Ok flow.Clocked) psl closed = closed
+closes (Ok (flow.Trap trap)) psl closed = closed
+closes (Ok (flow.More opcode units)) psl closed = tt
+closes (Ok (flow.Ended e)) psl closed = tt
+closes (Err short) psl closed = tt
+
+-- an attempt at a step, and one at a later part, by the registers at the start of what is open afterwards
+pub first_closed : (core : Core) (t : Tried) → KeepsClosed core.psl t → NothingOpen (start_by (open_after None t) core).psl
+first_closed core (tried.Step sent) closed = closed
+first_closed core (tried.Part part) closed = closed
+first_closed core (tried.Absent page) closed = closed
+first_closed core (tried.Ended e) closed = closed
+first_closed core (tried.Event e) closed = closed
+
+pub later_closed : (latched : Open) (core : Core) (t : Tried) → IsFinal t → NothingOpen latched.start.psl → KeepsClosedLater core.psl t → NothingOpen (start_by (open_after (Some latched) t) core).psl
+later_closed latched core (tried.Step sent) final start closed = closed
+later_closed latched core (tried.Part part) final start closed = start
+later_closed latched core (tried.Absent page) final start closed = start
+later_closed latched core (tried.Ended e) final start closed = closed
+later_closed latched core (tried.Event e) final start closed = absurd final
+
+pub closed_later : (psl : Psl) (t : Tried) → KeepsClosed psl t → KeepsClosedLater psl t
+closed_later psl (tried.Step sent) closed = closed
+closed_later psl (tried.Part part) closed = tt
+closed_later psl (tried.Absent page) closed = tt
+closed_later psl (tried.Ended e) closed = closed
+closed_later psl (tried.Event e) closed = tt
+
+pub step_closed_later : (psl : Psl) (t : Tried) → ((sent : Option ℕ) → t ≡ tried.Step sent → NothingOpen psl) → ((e : Ending) → t ≡ tried.Ended e → ⊥) → KeepsClosedLater psl t
+step_closed_later psl (tried.Step sent) closed other = closed sent refl
+step_closed_later psl (tried.Part part) closed other = tt
+step_closed_later psl (tried.Absent page) closed other = tt
+step_closed_later psl (tried.Ended e) closed other = absurd (other e refl)
+step_closed_later psl (tried.Event e) closed other = tt
 
 -- what was completed, and what wasn't
 pub done_from : (how : Flow) → ending_of how ≡ None → how ≡ flow.Done
@@ -153,6 +202,17 @@ module _ {P : Type 0} (view : P → View) (along : P → P → Type 0) (count : 
 
   pub clock_unless : (work : Result Flow CutShort) (old next : Transaction P) → KeepsUnlessDone view along count work old next → (undone view old).state.core.clock ≤ 999 → UnlessDone work ((undone view next).state.core.clock ≤ 999)
   clock_unless work old next keeps within = unless work _ _ (λ (k : Backs view old next). subst (λ (s : State). s.core.clock ≤ 999) (sym k.0) within) (backs_unless work old next keeps)
+
+  pub closed_unless : (work : Result Flow CutShort) (old next : Transaction P) → KeepsUnlessDone view along count work old next → NothingOpen (undone view old).state.core.psl → UnlessDone work (NothingOpen (undone view next).state.core.psl)
+  closed_unless work old next keeps closed = unless work _ _ (λ (k : Backs view old next). subst (λ (s : State). NothingOpen s.core.psl) (sym k.0) closed) (backs_unless work old next keeps)
+
+  pub closes_through : (work : Result Flow CutShort) (old next : Transaction P) → KeepsUnlessDone view along count work old next → NothingOpen old.core.now.psl → ClosesIfDone work next.core.now.psl
+  closes_through (Ok flow.Done) old next keeps closed = still_closed old.core.now.psl next.core.now.psl keeps.closed closed
+  closes_through (Ok flow.Clocked) old next keeps closed = still_closed old.core.now.psl next.core.now.psl keeps.closed closed
+  closes_through (Ok (flow.Trap trap)) old next keeps closed = still_closed old.core.now.psl next.core.now.psl keeps.closed closed
+  closes_through (Ok (flow.More opcode units)) old next keeps closed = tt
+  closes_through (Ok (flow.Ended e)) old next keeps closed = tt
+  closes_through (Err short) old next keeps closed = tt
 
 -- a step that was kept and sent nothing, and what it began anew from
 pub renewed_step : (now mid next : Present) → Follows (part now.state) now (Ok flow.Done) mid →

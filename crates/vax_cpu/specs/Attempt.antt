@@ -17,6 +17,7 @@ use Rattle.vax_cpu.specs.declared.cpu.Attempt.TheVariants.{Step, Part, Absent, E
 use Rattle.vax_cpu.specs.declared.cpu.Cpu.{Cpu}
 use Rattle.vax_cpu.specs.declared.cpu.Open.{Open}
 use Rattle.vax_cpu.specs.Tried.{start_by}
+use Rattle.vax_undo.specs.FirstPart.{NothingOpen}
 
 -- the flat machine that is where a processor is, with this memory and this output so far
 abbrev pub flat_of : Cpu → List Area → List ℕ → Flat
@@ -91,6 +92,10 @@ IsAsBefore (Ended e) old before new after =
 -- the interval clock counts milliseconds up to 999, now and at the start of the string instruction that is open
 abbrev pub KeepsTime : Cpu → Type 0
 KeepsTime cpu = (cpu.core.clock ≤ 999) × IfSome cpu.latch (λ latched. latched.start.clock ≤ 999)
+
+-- first part done is clear where no instruction is open, and in the registers at the start of the string instruction that is open
+abbrev pub StartsClosed : Cpu → Type 0
+StartsClosed cpu = NothingOpen (start_by cpu.latch cpu.core).psl
 
 -- the string instruction that is open afterwards
 abbrev pub IsOpenAfter : Attempt → Option Open → Option Open → Type 0

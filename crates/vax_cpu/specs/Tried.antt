@@ -1,6 +1,7 @@
 -- What a transaction that makes the accesses of a tree came to.
 use Rattle.std.specs.Prelude.{◌≡◌, ◌≤◌, ℕ, Bool, false, is_none, Option, Some, None, Result, Ok, Err}
 use Rattle.vax_word.specs.declared.Core.{Core}
+use Rattle.vax_word.specs.declared.Psl.{Psl}
 use Rattle.vax_flat.specs.declared.Cut.TheVariants as cut
 use Rattle.vax_flat.specs.declared.Ending.{Ending}
 use Rattle.vax_flat.specs.declared.Ending.TheVariants.{Unbuilt}
@@ -15,6 +16,7 @@ use Rattle.vax_flat.specs.Bound.{IsWhole}
 use Rattle.vax_flat.specs.Step.{whole_delivery}
 use Rattle.vax_flat.specs.Parts.{part_step, later_step}
 use Rattle.vax_undo.specs.declared.txn.CutShort.{CutShort}
+use Rattle.vax_undo.specs.FirstPart.{NothingOpen}
 use Rattle.vax_undo.specs.declared.txn.Txn.{Txn as Transaction}
 use Rattle.vax_undo.specs.Transaction.{bare, undone}
 use Rattle.vax_cpu.specs.declared.attempt.Tried.{Tried}
@@ -93,6 +95,31 @@ KeepsTime clock (Part part) = (clock ≤ 999) × (part.start.clock ≤ 999)
 KeepsTime clock (Ended e) = clock ≤ 999
 KeepsTime clock (Absent page) = clock ≤ 999
 KeepsTime clock (Event e) = clock ≤ 999
+
+-- what completes an instruction leaves none open
+abbrev pub ClosesIfDone : Result Flow CutShort → Psl → Type 0
+ClosesIfDone (Ok flow.Done) psl = NothingOpen psl
+ClosesIfDone (Ok flow.Clocked) psl = NothingOpen psl
+ClosesIfDone (Ok (flow.Trap kind)) psl = NothingOpen psl
+ClosesIfDone (Ok (flow.More opcode units)) psl = Unit {0}
+ClosesIfDone (Ok (flow.Ended e)) psl = Unit {0}
+ClosesIfDone (Err short) psl = Unit {0}
+
+-- an attempt at a step leaves no instruction open, and a part of one was begun with none open
+abbrev pub KeepsClosed : Psl → Tried → Type 0
+KeepsClosed psl (Step sent) = NothingOpen psl
+KeepsClosed psl (Part part) = NothingOpen part.start.psl
+KeepsClosed psl (Ended e) = NothingOpen psl
+KeepsClosed psl (Absent page) = NothingOpen psl
+KeepsClosed psl (Event e) = NothingOpen psl
+
+-- an attempt at a later part, with what follows it, leaves none open either, unless more remains or a page is absent
+abbrev pub KeepsClosedLater : Psl → Tried → Type 0
+KeepsClosedLater psl (Step sent) = NothingOpen psl
+KeepsClosedLater psl (Part part) = Unit {0}
+KeepsClosedLater psl (Ended e) = NothingOpen psl
+KeepsClosedLater psl (Absent page) = Unit {0}
+KeepsClosedLater psl (Event e) = Unit {0}
 
 -- what an attempt goes through: the first part of the step at PC, or a later part of the instruction that is open
 abbrev pub tree_of : Option Open → State → Accesses Leaf

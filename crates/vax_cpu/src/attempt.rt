@@ -8,9 +8,11 @@ ghost use Rattle.vax_flat.specs.System.{flow_of_delivery};
 ghost use Rattle.vax_x_sys.specs.Frames.{IsLevel};
 ghost use Rattle.vax_flat.specs.Step.{finished, handed_over, leaf, ticked, delivered, whole_delivery};
 ghost use Rattle.vax_flat.specs.Parts.{begun_part, part, part_step, later, later_step};
+ghost use Rattle.vax_undo.specs.FirstPart.{NothingOpen};
 ghost use Rattle.vax_undo.specs.Rooms.{room_of_beginning, room_of_end, room_of_step, room_of_tick};
 ghost use Rattle.vax_undo.specs.Transaction.{bare, present, room, state_of, told, undone, with_state, IsReady, IsSame, Keeps, KeepsUnlessDone};
-ghost use Rattle.vax_cpu.specs.Tried.{IsFinal, IsLast, IsTried, KeepsTime, LeadsBack, Made, UnlessDone, ending_of, is_done, put_again, start_by, tree_of, with_registers};
+ghost use Rattle.vax_cpu.specs.Tried.{ClosesIfDone, IsFinal, IsLast, IsTried, KeepsClosed, KeepsClosedLater, KeepsTime, LeadsBack, Made, UnlessDone, ending_of, is_done, put_again, start_by, tree_of, with_registers};
+ghost use Rattle.vax_cpu.specs.Attempt.{open_after};
 ghost use Rattle.vax_cpu.specs.Batch.{Ran};
 
 use crate::cpu::Open;
@@ -108,13 +110,14 @@ fn complete<P: Port>(txn: &mut Txn<P>)
 
 /// What follows an instruction: a trap's delivery, and the clock.
 #[inline(always)]
-#[tactic(auto, using(vax_undo::proofs::Left::always, vax_undo::proofs::Left::kept_through, vax_undo::proofs::Left::left_then), unfolding(vax_flat::specs::Step::finished, vax_flat::specs::Step::delivered))]
+#[tactic(auto, using(vax_undo::proofs::Left::always, vax_undo::proofs::Left::kept_through, vax_undo::proofs::Left::left_then, crate::proofs::Attempts::closes), unfolding(vax_flat::specs::Step::finished, vax_flat::specs::Step::delivered))]
 fn finish<P: Port>(txn: &mut Txn<P>, flow: Flow) -> Result<Flow, CutShort>
     requires { room_of_end ≤ room txn.old }
     ensures exact { Follows (finished flow (present P.view txn.old).state) (present P.view txn.old) (told txn.new result) (present P.view txn.new) }
     ensures keeps { (count : ℕ) → (start : _) → KeepsUnlessDone P.view P.since count (Ok flow) start txn.old → KeepsUnlessDone P.view P.since (count + room_of_end) result start txn.new }
     ensures same { IsSame P.since txn.old txn.new }
     ensures last { IsLast result }
+    ensures closed { ClosesIfDone (Ok flow) txn.old.core.now.psl → ClosesIfDone result txn.new.core.now.psl }
 {
     match flow {
         Flow::Done => {
@@ -163,6 +166,7 @@ fn work_later<P: Port>(txn: &mut Txn<P>, opcode: u8) -> Result<Flow, CutShort>
     ensures keeps { KeepsUnlessDone P.view P.since room_of_step result txn.old txn.new }
     ensures same { IsSame P.since txn.old txn.new }
     ensures last { IsLast result }
+    ensures closed { ClosesIfDone result txn.new.core.now.psl }
 {
     let flow = resume(txn, opcode)?;
     finish(txn, flow)
@@ -219,6 +223,8 @@ fn conclude<P: Port>(txn: Txn<P>, work: Result<Flow, CutShort>) -> Tried
     ensures unsent { txn.exit.1.0.now.out ≡ None }
     ensures input { txn.exit.1.0.now.input ≡ txn.entry.term.now.input }
     ensures clock { UnlessDone work ((undone P.view txn.entry).state.core.clock ≤ 999) → txn.entry.core.now.clock ≤ 999 → KeepsTime txn.exit.0.now.clock result }
+    ensures closed { UnlessDone work (NothingOpen (undone P.view txn.entry).state.core.psl) → ClosesIfDone work txn.entry.core.now.psl → KeepsClosed txn.exit.0.now.psl result }
+    ensures kept { (sent : Option ℕ) → result ≡ Tried.Step sent → txn.exit.0.now ≡ txn.entry.core.now }
     ensures since { (start : P) → P.since start txn.entry.port.now → P.since start txn.exit.1.1.0.now }
 {
     let why = txn.why();
@@ -257,6 +263,7 @@ pub(crate) fn try_step<P: Port>(core: &mut Core, term: &mut Term, port: &mut P) 
     ensures unsent { term.new.out ≡ None }
     ensures input { term.new.input ≡ term.old.input }
     ensures clock { core.old.clock ≤ 999 → KeepsTime core.new.clock result }
+    ensures closed { NothingOpen core.old.psl → KeepsClosed core.new.psl result }
     ensures since { (start : P) → P.since start port.old → P.since start port.new }
 {
     let mut txn = Txn::begin(core, term, port);
@@ -278,6 +285,7 @@ fn try_delivery<P: Port>(
     ensures unsent { term.new.out ≡ None }
     ensures input { term.new.input ≡ term.old.input }
     ensures clock { core.old.clock ≤ 999 → KeepsTime core.new.clock result }
+    ensures closed { NothingOpen core.old.psl → KeepsClosed core.new.psl result }
     ensures since { (start : P) → P.since start port.old → P.since start port.new }
 {
     let mut txn = Txn::begin(core, term, port);
@@ -292,6 +300,7 @@ fn try_later<P: Port>(core: &mut Core, term: &mut Term, port: &mut P, opcode: u8
     ensures unsent { term.new.out ≡ None }
     ensures input { term.new.input ≡ term.old.input }
     ensures clock { core.old.clock ≤ 999 → KeepsTime core.new.clock result }
+    ensures closed { (sent : Option ℕ) → result ≡ Tried.Step sent → NothingOpen core.new.psl }
     ensures since { (start : P) → P.since start port.old → P.since start port.new }
 {
     let mut txn = Txn::begin(core, term, port);
@@ -309,6 +318,7 @@ pub(crate) fn settle<P: Port>(core: &mut Core, term: &mut Term, port: &mut P, tr
     ensures unsent { term.new.out ≡ None }
     ensures input { term.new.input ≡ term.old.input }
     ensures clock { KeepsTime core.old.clock tried → KeepsTime core.new.clock result }
+    ensures closed { KeepsClosed core.old.psl tried → KeepsClosed core.new.psl result }
     ensures since { (start : P) → P.since start port.old → P.since start port.new }
 {
     match tried {
@@ -331,6 +341,7 @@ fn deliver_from<P: Port>(
     ensures unsent { term.new.out ≡ None }
     ensures input { term.new.input ≡ term.old.input }
     ensures clock { core.old.clock ≤ 999 → start.clock ≤ 999 → KeepsTime core.new.clock result }
+    ensures closed { NothingOpen start.psl → KeepsClosedLater core.new.psl result }
     ensures since { (start : P) → P.since start port.old → P.since start port.new }
 {
     let before = *core;
@@ -360,6 +371,7 @@ fn settle_later<P: Port>(
     ensures unsent { term.new.out ≡ None }
     ensures input { term.new.input ≡ term.old.input }
     ensures clock { KeepsTime core.old.clock tried → start.clock ≤ 999 → KeepsTime core.new.clock result }
+    ensures closed { NothingOpen start.psl → ((sent : Option ℕ) → tried ≡ Tried.Step sent → NothingOpen core.old.psl) → KeepsClosedLater core.new.psl result }
     ensures since { (start : P) → P.since start port.old → P.since start port.new }
 {
     match tried {
@@ -385,6 +397,7 @@ pub(crate) fn try_once<P: Port>(
     ensures unsent { term.new.out ≡ None }
     ensures input { term.new.input ≡ term.old.input }
     ensures clock { core.old.clock ≤ 999 → (start_by latch core.old).clock ≤ 999 → KeepsTime core.new.clock result }
+    ensures closed { NothingOpen (start_by latch core.old).psl → NothingOpen (start_by (open_after latch result) core.new).psl }
     ensures since { (start : P) → P.since start port.old → P.since start port.new }
 {
     match latch {
@@ -421,6 +434,7 @@ pub(crate) fn try_steps<P: Port>(
     ensures unsent { term.new.out ≡ None }
     ensures input { term.new.input ≡ term.old.input }
     ensures clock { core.old.clock ≤ 999 → KeepsTime core.new.clock result.last }
+    ensures closed { NothingOpen core.old.psl → KeepsClosed core.new.psl result.last }
     ensures since { (start : P) → P.since start port.old → P.since start port.new }
 {
     let mut txn = Txn::begin(core, term, port);

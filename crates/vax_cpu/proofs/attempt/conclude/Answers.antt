@@ -3,8 +3,9 @@ use Rattle.vax_flat.specs.declared.Flow.{Flow}
 use Rattle.vax_flat.specs.OverPort.{Follows}
 use Rattle.vax_flat.specs.State.{State}
 use Rattle.vax_undo.specs.Transaction.{present, told, undone}
-use Rattle.vax_cpu.specs.Tried.{LeadsBack}
-use Rattle.vax_cpu.proofs.Attempts.{done_from, kept, finished, parted, undone_as, ended_back}
+use Rattle.vax_cpu.specs.declared.attempt.Tried.TheVariants as tried
+use Rattle.vax_cpu.specs.Tried.{ClosesIfDone, LeadsBack}
+use Rattle.vax_cpu.proofs.Attempts.{closed_at, done_from, kept, finished, parted, undone_as, ended_back}
 use Rattle.vax_cpu.proofs.Settled.{whole_unless}
 use Rattle.vax_cpu.proofs.attempt.conclude.Goals as goal
 
@@ -33,3 +34,8 @@ returns-in-Some-clause-tried g c = λ old tree follows back.
     (undone_as old (undone g.P.Port.view c.args.txn) _ _ c.unwind.ensures.state c.unwind.ensures.view
     (ended_back g.P.Port.view old c.in-Ok.flow c.in-Some.ending c.args.txn whole (search rules) (subst (λ w. LeadsBack g.P.Port.view old w c.args.txn) c.in-Ok.is back)))
     whole
+
+pub returns-in-None-clause-closed : goal.returns-in-None-clause-closed
+returns-in-None-clause-closed g c = λ back closed.
+    let is = c.in-Ok.is ∙ ap (λ (x : Flow). Ok x) (done_from c.in-Ok.flow (search rules)) in
+    closed_at _ c.args.txn.core.now.psl (tried.Step c.commit.result) (search rules) (subst (λ w. ClosesIfDone w c.args.txn.core.now.psl) is closed)
