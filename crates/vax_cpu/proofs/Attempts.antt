@@ -12,19 +12,17 @@ use Rattle.vax_flat.specs.State.{State, with_sent}
 use Rattle.vax_flat.specs.Port.{View, unmarked, with_marks}
 use Rattle.vax_flat.specs.Accesses.{Accesses, Leaf, Went}
 use Rattle.vax_flat.specs.OverPort.{Present, Arrival, Comes, Stops, over_port, Follows}
-use Rattle.vax_flat.specs.Bound.{IsWhole}
 use Rattle.vax_flat.specs.Step.{leaf, whole_delivery}
 use Rattle.vax_flat.specs.Parts.{part, part_step}
 use Rattle.vax_flat.specs.Quiet.{IsQuiet}
 use Rattle.vax_flat.proofs.Quiet.{quiet_whole}
-use Rattle.std.specs.Prelude.{is_none}
 use Rattle.vax_undo.specs.FirstPart.{NothingOpen, first_part_done}
 use Rattle.vax_undo.specs.declared.txn.CutShort.{CutShort}
 use Rattle.vax_undo.specs.declared.txn.Txn.{Txn as Transaction}
 use Rattle.vax_undo.specs.Transaction.{bare, undone, IsReady, Keeps, KeepsUnlessDone}
 use Rattle.vax_cpu.specs.declared.attempt.Tried.{Tried}
 use Rattle.vax_cpu.specs.declared.attempt.Tried.TheVariants as tried
-use Rattle.vax_cpu.specs.Tried.{ClosesIfDone, IsFinal, IsTried, KeepsClosed, KeepsClosedLater, KeepsTime, LeadsBack, UnlessDone, UnlessEnded, ending_of, is_done, marked_as, start_by}
+use Rattle.vax_cpu.specs.Tried.{ClosesIfDone, IsFinal, IsTried, KeepsClosed, KeepsClosedLater, KeepsTime, LeadsBack, UnlessDone, is_done, marked_as, start_by}
 use Rattle.vax_cpu.specs.Attempt.{open_after}
 use Rattle.vax_cpu.specs.declared.cpu.Open.{Open}
 use Rattle.vax_cpu.specs.Batch.{Ran}
@@ -45,10 +43,10 @@ module _ (tree : State → (Flow → State → Accesses Leaf) → Accesses Leaf)
   stopped why follows = follows leaf
 
   -- a step that is kept
-  pub kept : (how : Flow) (sent : Option ℕ) → Follows (tree old.state) old (Ok how) mid → how ≡ flow.Done → new.state ≡ with_sent mid.state None → new.view ≡ mid.view → sent ≡ mid.state.sent → IsTried (λ s. tree s leaf) old (tried.Step sent) new
-  kept how sent follows is state view byte = (
+  pub kept : (sent : Option ℕ) → Follows (tree old.state) old (Ok flow.Done) mid → new.state ≡ with_sent mid.state None → new.view ≡ mid.view → sent ≡ mid.state.sent → IsTried (λ s. tree s leaf) old (tried.Step sent) new
+  kept sent follows state view byte = (
     mid.state,
-    came how follows ∙ (ap (λ x. Comes (Went x mid.state) mid.view) is ∙ ap (λ v. Comes (Went flow.Done mid.state) v) (sym view)),
+    came flow.Done follows ∙ ap (λ v. Comes (Went flow.Done mid.state) v) (sym view),
     state,
     byte,
   )
@@ -63,8 +61,8 @@ module _ (tree : State → (Flow → State → Accesses Leaf) → Accesses Leaf)
   )
 
   -- one that ends the run
-  pub finished : (how : Flow) (e : Ending) → Follows (tree old.state) old (Ok how) mid → ending_of how ≡ Some e → new.view.marked ≡ mid.view.marked → new ≡ marked_as old new.view → IsWhole how → IsTried (λ s. tree s leaf) old (tried.Ended e) new
-  finished how e follows is marks same whole = (how, mid.state, mid.view, came how follows, is, sym marks, same, whole)
+  pub finished : (e : Ending) → Follows (tree old.state) old (Ok (flow.Ended e)) mid → new.view.marked ≡ mid.view.marked → new ≡ marked_as old new.view → IsTried (λ s. tree s leaf) old (tried.Ended e) new
+  finished e follows marks same = (mid.state, mid.view, came (flow.Ended e) follows, sym marks, same)
 
   -- one that was cut short
   pub missed : (page : ℕ) → Follows (tree old.state) old (Err (cut.Absent page)) mid → new.view.marked ≡ mid.view.marked → new ≡ marked_as old new.view → IsTried (λ s. tree s leaf) old (tried.Absent page) new
@@ -135,39 +133,24 @@ step_closed_later psl (tried.Ended e) closed other = absurd (other e refl)
 step_closed_later psl (tried.Event e) closed other = tt
 
 -- what was completed, and what wasn't
-pub done_from : (how : Flow) → ending_of how ≡ None → how ≡ flow.Done
-done_from flow.Done h = refl
-done_from flow.Clocked h = cc
-done_from (flow.Trap trap) h = cc
-done_from (flow.More opcode units) h = cc
-done_from (flow.Ended e) h = cc
-
-none_of : (e : Option Ending) → is_none e ≡ true → e ≡ None
-none_of None h = refl
-none_of (Some e) h = cc
-
 pub done_of : (work : Result Flow CutShort) → is_done work ≡ true → work ≡ Ok flow.Done
-done_of (Ok how) h = ap (λ x. Ok x) (done_from how (none_of (ending_of how) h))
+done_of (Ok flow.Done) h = refl
+done_of (Ok flow.Clocked) h = cc
+done_of (Ok (flow.Trap trap)) h = cc
+done_of (Ok (flow.More opcode units)) h = cc
+done_of (Ok (flow.Ended e)) h = cc
 done_of (Err short) h = cc
 
 pub not_done : (work : Result Flow CutShort) → is_done work ≡ false → work ≡ Ok flow.Done → ⊥
 not_done work h is = let no : true ≡ false = sym (ap is_done is) ∙ h in cc
 
-pub unless_in : (ended : Option Ending) (a b : Type 0) → (a → b) → UnlessEnded ended a → UnlessEnded ended b
-unless_in None a b f holds = tt
-unless_in (Some e) a b f holds = f holds
-
 pub unless : (work : Result Flow CutShort) (a b : Type 0) → (a → b) → UnlessDone work a → UnlessDone work b
-unless (Ok how) a b f holds = unless_in (ending_of how) a b f holds
+unless (Ok flow.Done) a b f holds = tt
+unless (Ok flow.Clocked) a b f holds = f holds
+unless (Ok (flow.Trap trap)) a b f holds = f holds
+unless (Ok (flow.More opcode units)) a b f holds = f holds
+unless (Ok (flow.Ended e)) a b f holds = f holds
 unless (Err short) a b f holds = f holds
-
--- what isn't a part is undone
-pub ended_back : {P : Type 0} (view : P → View) (old : Present) (how : Flow) (e : Ending) (txn : Transaction P) → IsWhole how → ending_of how ≡ Some e → LeadsBack view old (Ok how) txn → undone view txn ≡ bare old
-ended_back view old flow.Done e txn whole is back = cc
-ended_back view old flow.Clocked e txn whole is back = back
-ended_back view old (flow.Trap trap) e txn whole is back = back
-ended_back view old (flow.More opcode units) e txn whole is back = absurd whole
-ended_back view old (flow.Ended x) e txn whole is back = back
 
 -- what isn't completed leads back to registers and console, and its log can be undone
 abbrev Backs : {P : Type 0} → (P → View) → Transaction P → Transaction P → Type 0
@@ -218,14 +201,14 @@ module _ {P : Type 0} (view : P → View) (along : P → P → Type 0) (count : 
 pub renewed_step : (now mid next : Present) → Follows (part now.state) now (Ok flow.Done) mid →
     next ≡ record { state = with_sent mid.state None; view = mid.view } → None ≡ mid.state.sent → IsTried part_step now (tried.Step None) next
 renewed_step now mid next follows same silent =
-    kept part now mid next flow.Done None follows refl (ap (λ (p : Present). p.state) same) (ap (λ (p : Present). p.view) same) silent
+    kept part now mid next None follows (ap (λ (p : Present). p.state) same) (ap (λ (p : Present). p.view) same) silent
 
 -- one that sent a byte
 pub sent_step : (now mid next new : Present) (byte : ℕ) → Follows (part now.state) now (Ok flow.Done) mid →
     next ≡ record { state = with_sent mid.state None; view = mid.view } → new.state ≡ with_sent next.state None → new.view ≡ next.view → Some byte ≡ mid.state.sent →
     IsTried part_step now (tried.Step (Some byte)) new
 sent_step now mid next new byte follows same state view sent =
-    kept part now mid new flow.Done (Some byte) follows refl (state ∙ ap (λ (p : Present). with_sent p.state None) same) (view ∙ ap (λ (p : Present). p.view) same) sent
+    kept part now mid new (Some byte) follows (state ∙ ap (λ (p : Present). with_sent p.state None) same) (view ∙ ap (λ (p : Present). p.view) same) sent
 
 pub ran_more : (count : ℕ) (old now next : Present) → Ran count old now → IsTried part_step now (tried.Step None) next → next.state.input ≡ now.state.input → Ran (count + 1) old next
 ran_more count old now next ran one input = rw add-one (now, ran, one, input)

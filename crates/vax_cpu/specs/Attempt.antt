@@ -9,7 +9,6 @@ use Rattle.vax_flat.specs.Outcome.{first_missing, marked_by}
 use Rattle.vax_flat.specs.Step.{Flat, step, ended, with_byte_sent}
 use Rattle.vax_flat.specs.Parts.{Partway, Place, At, Within, Completes, Leaves, GoesBy, gone_back, machine_at, touches_at, turn, units_after}
 use Rattle.vax_flat.specs.declared.Ending.{Ending}
-use Rattle.vax_flat.specs.declared.Ending.TheVariants.{Unbuilt}
 use Rattle.vax_cpu.specs.declared.attempt.Tried.{Tried}
 use Rattle.vax_cpu.specs.declared.attempt.Tried.TheVariants as tried
 use Rattle.vax_cpu.specs.declared.cpu.Attempt.{Attempt}
@@ -111,13 +110,13 @@ StopsInside Part before = Unit {0}
 StopsInside (Absent page) before = IsMissing before page
 StopsInside (Ended e) before = Unit {0}
 
--- what is answered of an instruction with the delivery of its exception
-abbrev pub answer_of : Tried → Attempt
-answer_of (tried.Step sent) = Step sent
-answer_of (tried.Part part) = Part
-answer_of (tried.Absent page) = Absent page
-answer_of (tried.Ended e) = Ended e
-answer_of (tried.Event e) = Ended Unbuilt
+-- what is answered of an instruction with the delivery of its exception, which raises no other
+abbrev pub answer_of : Tried → Option Attempt
+answer_of (tried.Step sent) = Some (Step sent)
+answer_of (tried.Part part) = Some Part
+answer_of (tried.Absent page) = Some (Absent page)
+answer_of (tried.Ended e) = Some (Ended e)
+answer_of (tried.Event e) = None
 
 -- a part more of the instruction that is open, or the first part of one
 abbrev pub units_by : Option Open → ℕ

@@ -11,7 +11,7 @@ ghost use Rattle.vax_flat.specs.Parts.{begun_part, part, part_step, later, later
 ghost use Rattle.vax_undo.specs.FirstPart.{NothingOpen};
 ghost use Rattle.vax_undo.specs.Rooms.{room_of_beginning, room_of_end, room_of_step, room_of_tick};
 ghost use Rattle.vax_undo.specs.Transaction.{bare, present, room, state_of, told, undone, with_state, IsReady, IsSame, Keeps, KeepsUnlessDone};
-ghost use Rattle.vax_cpu.specs.Tried.{ClosesIfDone, IsFinal, IsLast, IsTried, KeepsClosed, KeepsClosedLater, KeepsTime, LeadsBack, Made, UnlessDone, ending_of, is_done, put_again, start_by, tree_of, with_registers};
+ghost use Rattle.vax_cpu.specs.Tried.{ClosesIfDone, IsFinal, IsLast, IsTried, KeepsClosed, KeepsClosedLater, KeepsTime, LeadsBack, Made, UnlessDone, is_done, put_again, start_by, tree_of, with_registers};
 ghost use Rattle.vax_cpu.specs.Attempt.{open_after};
 ghost use Rattle.vax_cpu.specs.Batch.{Ran};
 
@@ -185,31 +185,12 @@ fn work_delivery<P: Port>(txn: &mut Txn<P>, exception: Exception) -> Result<Flow
     deliver_and_tick(txn, exception)
 }
 
-/// How a step that went so ends the run, if it does.
-#[inline]
-fn ending_of(flow: Flow) -> Option<Ending>
-    requires { IsLast (Ok flow) }
-    ensures { result ≡ ending_of flow }
-{
-    match flow {
-        Flow::Done => None,
-        // What follows an instruction makes something else of these.
-        Flow::Clocked | Flow::Trap(_) => unreachable!(),
-        Flow::More { .. } => Some(Ending::Unbuilt),
-        Flow::Ended(ending) => Some(ending),
-    }
-}
-
 /// Whether the work was completed.
 #[inline]
 fn is_done(work: Result<Flow, CutShort>) -> bool
-    requires { IsLast work }
     ensures { result ≡ is_done work }
 {
-    match work {
-        Ok(flow) => ending_of(flow).is_none(),
-        Err(CutShort) => false,
-    }
+    matches!(work, Ok(Flow::Done))
 }
 
 /// Keeps a transaction whose work was completed, or a part of it, and undoes any other.
@@ -230,6 +211,7 @@ fn conclude<P: Port>(txn: Txn<P>, work: Result<Flow, CutShort>) -> Tried
     let why = txn.why();
     match work {
         Ok(flow) => match flow {
+            Flow::Done => Tried::Step(txn.commit()),
             Flow::More { opcode, units } => {
                 let start = txn.commit_part();
                 Tried::Part(Open {
@@ -238,13 +220,12 @@ fn conclude<P: Port>(txn: Txn<P>, work: Result<Flow, CutShort>) -> Tried
                     units,
                 })
             }
-            _ => match ending_of(flow) {
-                None => Tried::Step(txn.commit()),
-                Some(ending) => {
-                    txn.unwind();
-                    Tried::Ended(ending)
-                }
-            },
+            Flow::Ended(ending) => {
+                txn.unwind();
+                Tried::Ended(ending)
+            }
+            // What follows an instruction makes something else of these.
+            Flow::Clocked | Flow::Trap(_) => unreachable!(),
         },
         Err(CutShort) => {
             txn.unwind();

@@ -1,5 +1,5 @@
 //! The processor.
-ghost use Rattle.std.specs.Prelude.{◌≡◌, ◌⊎◌, ◌+◌, ◌<◌, ◌≤◌, ℕ, List, None, IsSome};
+ghost use Rattle.std.specs.Prelude.{◌≡◌, ◌⊎◌, ◌+◌, ◌<◌, ◌≤◌, ℕ, List, None, Some, IsSome};
 ghost use Rattle.vax_space.specs.declared.Area.{Area};
 ghost use Rattle.vax_flat.specs.Port.{StandsFor};
 ghost use Rattle.vax_cpu.specs.Attempt.{answer_of, open_after};
@@ -52,7 +52,7 @@ pub struct Cpu {
 #[inline]
 fn answer_of(tried: Tried) -> Attempt
     requires { IsFinal tried }
-    ensures { result ≡ answer_of tried }
+    ensures { answer_of tried ≡ Some result }
 {
     match tried {
         Tried::Step(sent) => Attempt::Step(sent),
