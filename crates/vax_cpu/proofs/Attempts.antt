@@ -1,5 +1,7 @@
 -- From what a transaction followed to what an attempt came to.
-use Rattle.std.proofs.Common.{true, false, Result, add-one, ◌+◌, ◌≤◌, ◌≡◌, ℕ, Option, Some, None, Ok, Err, refl, sym, ap, subst, ◌∙◌}
+use Rattle.std.proofs.Common.{true, false, Result, add-one, ◌+◌, ◌≤◌, ◌≡◌, ℕ, Option, Some, None, Ok, Err, refl, sym, ap, subst, ◌∙◌, arith}
+use Rattle.vax_word.specs.declared.Core.{Core}
+use Rattle.vax_word.specs.declared.Psl.{Psl}
 use Rattle.vax_flat.specs.declared.Cut.{Cut}
 use Rattle.vax_flat.specs.declared.Cut.TheVariants as cut
 use Rattle.vax_flat.specs.declared.Ending.{Ending}
@@ -10,18 +12,18 @@ use Rattle.vax_flat.specs.State.{State, with_sent}
 use Rattle.vax_flat.specs.Port.{View, unmarked, with_marks}
 use Rattle.vax_flat.specs.Accesses.{Accesses, Leaf, Went}
 use Rattle.vax_flat.specs.OverPort.{Present, Arrival, Comes, Stops, over_port, Follows}
-use Rattle.vax_flat.specs.Bound.{IsWhole}
 use Rattle.vax_flat.specs.Step.{leaf, whole_delivery}
 use Rattle.vax_flat.specs.Parts.{part, part_step}
 use Rattle.vax_flat.specs.Quiet.{IsQuiet}
 use Rattle.vax_flat.proofs.Quiet.{quiet_whole}
-use Rattle.std.specs.Prelude.{is_none}
+use Rattle.vax_undo.specs.FirstPart.{NothingOpen, first_part_done}
 use Rattle.vax_undo.specs.declared.txn.CutShort.{CutShort}
 use Rattle.vax_undo.specs.declared.txn.Txn.{Txn as Transaction}
 use Rattle.vax_undo.specs.Transaction.{bare, undone, IsReady, Keeps, KeepsUnlessDone}
 use Rattle.vax_cpu.specs.declared.attempt.Tried.{Tried}
 use Rattle.vax_cpu.specs.declared.attempt.Tried.TheVariants as tried
-use Rattle.vax_cpu.specs.Tried.{IsFinal, IsTried, KeepsTime, LeadsBack, UnlessDone, UnlessEnded, ending_of, is_done, marked_as}
+use Rattle.vax_cpu.specs.Tried.{ClosesIfDone, IsFinal, IsTried, KeepsClosed, KeepsClosedLater, KeepsTime, LeadsBack, UnlessDone, is_done, marked_as, start_by}
+use Rattle.vax_cpu.specs.Attempt.{open_after}
 use Rattle.vax_cpu.specs.declared.cpu.Open.{Open}
 use Rattle.vax_cpu.specs.Batch.{Ran}
 
@@ -41,10 +43,10 @@ module _ (tree : State → (Flow → State → Accesses Leaf) → Accesses Leaf)
   stopped why follows = follows leaf
 
   -- a step that is kept
-  pub kept : (how : Flow) (sent : Option ℕ) → Follows (tree old.state) old (Ok how) mid → how ≡ flow.Done → new.state ≡ with_sent mid.state None → new.view ≡ mid.view → sent ≡ mid.state.sent → IsTried (λ s. tree s leaf) old (tried.Step sent) new
-  kept how sent follows is state view byte = (
+  pub kept : (sent : Option ℕ) → Follows (tree old.state) old (Ok flow.Done) mid → new.state ≡ with_sent mid.state None → new.view ≡ mid.view → sent ≡ mid.state.sent → IsTried (λ s. tree s leaf) old (tried.Step sent) new
+  kept sent follows state view byte = (
     mid.state,
-    came how follows ∙ (ap (λ x. Comes (Went x mid.state) mid.view) is ∙ ap (λ v. Comes (Went flow.Done mid.state) v) (sym view)),
+    came flow.Done follows ∙ ap (λ v. Comes (Went flow.Done mid.state) v) (sym view),
     state,
     byte,
   )
@@ -59,8 +61,8 @@ module _ (tree : State → (Flow → State → Accesses Leaf) → Accesses Leaf)
   )
 
   -- one that ends the run
-  pub finished : (how : Flow) (e : Ending) → Follows (tree old.state) old (Ok how) mid → ending_of how ≡ Some e → new.view.marked ≡ mid.view.marked → new ≡ marked_as old new.view → IsWhole how → IsTried (λ s. tree s leaf) old (tried.Ended e) new
-  finished how e follows is marks same whole = (how, mid.state, mid.view, came how follows, is, sym marks, same, whole)
+  pub finished : (e : Ending) → Follows (tree old.state) old (Ok (flow.Ended e)) mid → new.view.marked ≡ mid.view.marked → new ≡ marked_as old new.view → IsTried (λ s. tree s leaf) old (tried.Ended e) new
+  finished e follows marks same = (mid.state, mid.view, came (flow.Ended e) follows, sym marks, same)
 
   -- one that was cut short
   pub missed : (page : ℕ) → Follows (tree old.state) old (Err (cut.Absent page)) mid → new.view.marked ≡ mid.view.marked → new ≡ marked_as old new.view → IsTried (λ s. tree s leaf) old (tried.Absent page) new
@@ -85,40 +87,70 @@ quiet_final e old new (tried.Event x) is = let P : Arrival Leaf → Type 0 = λ 
 pub clock_at : (clock mid : ℕ) (t : Tried) → clock ≡ mid → KeepsTime mid t → KeepsTime clock t
 clock_at clock mid t e within = subst (λ x. KeepsTime x t) (sym e) within
 
+-- the same of a status that is the same
+pub closed_at : (psl mid : Psl) (t : Tried) → psl ≡ mid → KeepsClosed mid t → KeepsClosed psl t
+closed_at psl mid t e closed = subst (λ x. KeepsClosed x t) (sym e) closed
+
+-- what leaves no instruction open
+pub still_closed : (old new : Psl) → first_part_done new ≤ first_part_done old → NothingOpen old → NothingOpen new
+still_closed old new kept closed = omega arith
+
+pub closes : (work : Result Flow CutShort) (psl : Psl) → NothingOpen psl → ClosesIfDone work psl
+closes (Ok flow.Done) psl closed = closed
+closes (Ok flow.Clocked) psl closed = closed
+closes (Ok (flow.Trap trap)) psl closed = closed
+closes (Ok (flow.More opcode units)) psl closed = tt
+closes (Ok (flow.Ended e)) psl closed = tt
+closes (Err short) psl closed = tt
+
+-- an attempt at a step, and one at a later part, by the registers at the start of what is open afterwards
+pub first_closed : (core : Core) (t : Tried) → KeepsClosed core.psl t → NothingOpen (start_by (open_after None t) core).psl
+first_closed core (tried.Step sent) closed = closed
+first_closed core (tried.Part part) closed = closed
+first_closed core (tried.Absent page) closed = closed
+first_closed core (tried.Ended e) closed = closed
+first_closed core (tried.Event e) closed = closed
+
+pub later_closed : (latched : Open) (core : Core) (t : Tried) → IsFinal t → NothingOpen latched.start.psl → KeepsClosedLater core.psl t → NothingOpen (start_by (open_after (Some latched) t) core).psl
+later_closed latched core (tried.Step sent) final start closed = closed
+later_closed latched core (tried.Part part) final start closed = start
+later_closed latched core (tried.Absent page) final start closed = start
+later_closed latched core (tried.Ended e) final start closed = closed
+later_closed latched core (tried.Event e) final start closed = absurd final
+
+pub closed_later : (psl : Psl) (t : Tried) → KeepsClosed psl t → KeepsClosedLater psl t
+closed_later psl (tried.Step sent) closed = closed
+closed_later psl (tried.Part part) closed = tt
+closed_later psl (tried.Absent page) closed = tt
+closed_later psl (tried.Ended e) closed = closed
+closed_later psl (tried.Event e) closed = tt
+
+pub step_closed_later : (psl : Psl) (t : Tried) → ((sent : Option ℕ) → t ≡ tried.Step sent → NothingOpen psl) → ((e : Ending) → t ≡ tried.Ended e → ⊥) → KeepsClosedLater psl t
+step_closed_later psl (tried.Step sent) closed other = closed sent refl
+step_closed_later psl (tried.Part part) closed other = tt
+step_closed_later psl (tried.Absent page) closed other = tt
+step_closed_later psl (tried.Ended e) closed other = absurd (other e refl)
+step_closed_later psl (tried.Event e) closed other = tt
+
 -- what was completed, and what wasn't
-pub done_from : (how : Flow) → ending_of how ≡ None → how ≡ flow.Done
-done_from flow.Done h = refl
-done_from flow.Clocked h = cc
-done_from (flow.Trap trap) h = cc
-done_from (flow.More opcode units) h = cc
-done_from (flow.Ended e) h = cc
-
-none_of : (e : Option Ending) → is_none e ≡ true → e ≡ None
-none_of None h = refl
-none_of (Some e) h = cc
-
 pub done_of : (work : Result Flow CutShort) → is_done work ≡ true → work ≡ Ok flow.Done
-done_of (Ok how) h = ap (λ x. Ok x) (done_from how (none_of (ending_of how) h))
+done_of (Ok flow.Done) h = refl
+done_of (Ok flow.Clocked) h = cc
+done_of (Ok (flow.Trap trap)) h = cc
+done_of (Ok (flow.More opcode units)) h = cc
+done_of (Ok (flow.Ended e)) h = cc
 done_of (Err short) h = cc
 
 pub not_done : (work : Result Flow CutShort) → is_done work ≡ false → work ≡ Ok flow.Done → ⊥
 not_done work h is = let no : true ≡ false = sym (ap is_done is) ∙ h in cc
 
-pub unless_in : (ended : Option Ending) (a b : Type 0) → (a → b) → UnlessEnded ended a → UnlessEnded ended b
-unless_in None a b f holds = tt
-unless_in (Some e) a b f holds = f holds
-
 pub unless : (work : Result Flow CutShort) (a b : Type 0) → (a → b) → UnlessDone work a → UnlessDone work b
-unless (Ok how) a b f holds = unless_in (ending_of how) a b f holds
+unless (Ok flow.Done) a b f holds = tt
+unless (Ok flow.Clocked) a b f holds = f holds
+unless (Ok (flow.Trap trap)) a b f holds = f holds
+unless (Ok (flow.More opcode units)) a b f holds = f holds
+unless (Ok (flow.Ended e)) a b f holds = f holds
 unless (Err short) a b f holds = f holds
-
--- what isn't a part is undone
-pub ended_back : {P : Type 0} (view : P → View) (old : Present) (how : Flow) (e : Ending) (txn : Transaction P) → IsWhole how → ending_of how ≡ Some e → LeadsBack view old (Ok how) txn → undone view txn ≡ bare old
-ended_back view old flow.Done e txn whole is back = cc
-ended_back view old flow.Clocked e txn whole is back = back
-ended_back view old (flow.Trap trap) e txn whole is back = back
-ended_back view old (flow.More opcode units) e txn whole is back = absurd whole
-ended_back view old (flow.Ended x) e txn whole is back = back
 
 -- what isn't completed leads back to registers and console, and its log can be undone
 abbrev Backs : {P : Type 0} → (P → View) → Transaction P → Transaction P → Type 0
@@ -154,18 +186,29 @@ module _ {P : Type 0} (view : P → View) (along : P → P → Type 0) (count : 
   pub clock_unless : (work : Result Flow CutShort) (old next : Transaction P) → KeepsUnlessDone view along count work old next → (undone view old).state.core.clock ≤ 999 → UnlessDone work ((undone view next).state.core.clock ≤ 999)
   clock_unless work old next keeps within = unless work _ _ (λ (k : Backs view old next). subst (λ (s : State). s.core.clock ≤ 999) (sym k.0) within) (backs_unless work old next keeps)
 
+  pub closed_unless : (work : Result Flow CutShort) (old next : Transaction P) → KeepsUnlessDone view along count work old next → NothingOpen (undone view old).state.core.psl → UnlessDone work (NothingOpen (undone view next).state.core.psl)
+  closed_unless work old next keeps closed = unless work _ _ (λ (k : Backs view old next). subst (λ (s : State). NothingOpen s.core.psl) (sym k.0) closed) (backs_unless work old next keeps)
+
+  pub closes_through : (work : Result Flow CutShort) (old next : Transaction P) → KeepsUnlessDone view along count work old next → NothingOpen old.core.now.psl → ClosesIfDone work next.core.now.psl
+  closes_through (Ok flow.Done) old next keeps closed = still_closed old.core.now.psl next.core.now.psl keeps.closed closed
+  closes_through (Ok flow.Clocked) old next keeps closed = still_closed old.core.now.psl next.core.now.psl keeps.closed closed
+  closes_through (Ok (flow.Trap trap)) old next keeps closed = still_closed old.core.now.psl next.core.now.psl keeps.closed closed
+  closes_through (Ok (flow.More opcode units)) old next keeps closed = tt
+  closes_through (Ok (flow.Ended e)) old next keeps closed = tt
+  closes_through (Err short) old next keeps closed = tt
+
 -- a step that was kept and sent nothing, and what it began anew from
 pub renewed_step : (now mid next : Present) → Follows (part now.state) now (Ok flow.Done) mid →
     next ≡ record { state = with_sent mid.state None; view = mid.view } → None ≡ mid.state.sent → IsTried part_step now (tried.Step None) next
 renewed_step now mid next follows same silent =
-    kept part now mid next flow.Done None follows refl (ap (λ (p : Present). p.state) same) (ap (λ (p : Present). p.view) same) silent
+    kept part now mid next None follows (ap (λ (p : Present). p.state) same) (ap (λ (p : Present). p.view) same) silent
 
 -- one that sent a byte
 pub sent_step : (now mid next new : Present) (byte : ℕ) → Follows (part now.state) now (Ok flow.Done) mid →
     next ≡ record { state = with_sent mid.state None; view = mid.view } → new.state ≡ with_sent next.state None → new.view ≡ next.view → Some byte ≡ mid.state.sent →
     IsTried part_step now (tried.Step (Some byte)) new
 sent_step now mid next new byte follows same state view sent =
-    kept part now mid new flow.Done (Some byte) follows refl (state ∙ ap (λ (p : Present). with_sent p.state None) same) (view ∙ ap (λ (p : Present). p.view) same) sent
+    kept part now mid new (Some byte) follows (state ∙ ap (λ (p : Present). with_sent p.state None) same) (view ∙ ap (λ (p : Present). p.view) same) sent
 
 pub ran_more : (count : ℕ) (old now next : Present) → Ran count old now → IsTried part_step now (tried.Step None) next → next.state.input ≡ now.state.input → Ran (count + 1) old next
 ran_more count old now next ran one input = rw add-one (now, ran, one, input)

@@ -22,7 +22,6 @@ use Rattle.vax_cpu.specs.declared.cpu.Attempt.{Attempt}
 use Rattle.vax_cpu.specs.declared.cpu.Attempt.TheVariants as attempt
 use Rattle.vax_cpu.specs.declared.cpu.Cpu.{Cpu}
 use Rattle.vax_cpu.specs.declared.cpu.Open.{Open}
-use Rattle.vax_flat.specs.declared.Ending.TheVariants.{Unbuilt}
 use Rattle.vax_undo.specs.declared.term.Term.{Term}
 use Rattle.vax_undo.specs.Transaction.{state_of as state_at}
 use Rattle.vax_cpu.specs.Attempt.{flat_of, answer_of, open_after, Attempted, IsAsBefore, IsAt, IsOpenAfter, LeavesMemory, Marks, StopsInside}
@@ -30,7 +29,8 @@ use Rattle.vax_cpu.specs.Batch.{AreAttempts, Raises, StaysAt, marks_after}
 use Rattle.vax_cpu.proofs.Steps.{Unmoved, attempted, inside, raises_there, stands_marked, start_there, step_concluded, tree_there, unmoved}
 use Rattle.vax_flat.proofs.Inside.{tree_alike}
 use Rattle.vax_space.specs.Areas.{area_of}
-use Rattle.std.specs.Prelude.{is_some, IsSome}
+use Rattle.std.specs.Prelude.{is_some, IfSome, IsSome}
+use Rattle.std.proofs.lemmas.Option.{IfSome_then}
 
 -- the flat machine is where a transaction is
 pub record IsWhere (view : View) (p : Present) (m : Flat) : Type 0 where
@@ -173,33 +173,34 @@ module _ (view : View) (m : Flat) (count : ℕ) (mid : Present) (r : Reaches vie
   none_made answer attempted stays_at e =
       all answer attempted stays_at (ap (λ (p : Present). p.view.resident) e ∙ r.is.resident) (ap (λ (p : Present). p.view.areas) e ∙ r.is.areas)
 
-  by_answer : (t : Tried) → Unmoved mid.state.core t mid new → Attempted before (At r.here) (answer_of t) cpu after → AreAttempts view m count (answer_of t) cpu after
+  by_answer : (t : Tried) → Unmoved mid.state.core t mid new → IfSome (answer_of t) (λ a. Attempted before (At r.here) a cpu after) → IfSome (answer_of t) (λ a. AreAttempts view m count a cpu after)
   by_answer (tried.Step sent) u k = all (attempt.Step sent) k tt k.1.leaves.resident k.1.leaves.areas
   by_answer (tried.Part done) u k = all attempt.Part k tt k.1.leaves.resident k.1.leaves.areas
   by_answer (tried.Absent page) u k = none_made (attempt.Absent page) k (stays u) u
   by_answer (tried.Ended e) u k = none_made (attempt.Ended e) k (stays u) u
-  by_answer (tried.Event e) u k = none_made (attempt.Ended Unbuilt) k (stays u) u
+  by_answer (tried.Event e) u k = tt
 
-  pub are_attempts : (t : Tried) → Made part_step mid.state.core mid t new → cpu.latch ≡ open_after None t → AreAttempts view m count (answer_of t) cpu after
+  pub are_attempts : (t : Tried) → Made part_step mid.state.core mid t new → cpu.latch ≡ open_after None t → IfSome (answer_of t) (λ a. AreAttempts view m count a cpu after)
   are_attempts t made latched =
       let here = is_here view r.here mid r.is in
       let from_here : Made part_step r.here.core (record { state = state_of r.here; view = mid.view }) t new = subst (λ (p : Present). Made part_step p.state.core p t new) here made in
       by_answer t (unmoved mid.state.core mid new part_step t made)
-      (seen mid.view before (At r.here) cpu after r.is.resident r.is.areas r.marks (answer_of t) (attempted mid.view (At r.here) r.is.stands r.is.running cpu after input_here t from_here latched))
+      (IfSome_then (answer_of t) (attempted mid.view (At r.here) r.is.stands r.is.running cpu after input_here t from_here latched)
+      (λ answer k. seen mid.view before (At r.here) cpu after r.is.resident r.is.areas r.marks answer k))
 
 -- a batch goes on to its end, unless a step wasn't completed, sent a byte or raised an exception
 pub goes_on : (view : View) (m : Flat) (count : ℕ) (mid : Present) (r : Reaches view m count mid) (most : ℕ) (t settled : Tried) (raised : Present) → (IsFinal t → settled ≡ t) → (t ≡ tried.Step None → count + 1 ≡ most) → IsTried part_step mid t raised →
-    answer_of settled ≡ attempt.Step None → (count + 1 ≡ most) ⊎ Raises (run count m)
+    answer_of settled ≡ Some (attempt.Step None) → (count + 1 ≡ most) ⊎ Raises (run count m)
 goes_on view m count mid r most (tried.Step sent) settled raised kept all is answer =
-    let step : attempt.Step sent ≡ attempt.Step None = sym (ap answer_of (kept tt)) ∙ answer in
+    let step : Some (attempt.Step sent) ≡ Some (attempt.Step None) = sym (ap answer_of (kept tt)) ∙ answer in
     let nothing : sent ≡ None = cc in
     inl (all (ap (λ x. tried.Step x) nothing))
 goes_on view m count mid r most (tried.Part done) settled raised kept all is answer =
-    let no : attempt.Part ≡ attempt.Step None = sym (ap answer_of (kept tt)) ∙ answer in cc
+    let no : Some attempt.Part ≡ Some (attempt.Step None) = sym (ap answer_of (kept tt)) ∙ answer in cc
 goes_on view m count mid r most (tried.Absent page) settled raised kept all is answer =
-    let no : attempt.Absent page ≡ attempt.Step None = sym (ap answer_of (kept tt)) ∙ answer in cc
+    let no : Some (attempt.Absent page) ≡ Some (attempt.Step None) = sym (ap answer_of (kept tt)) ∙ answer in cc
 goes_on view m count mid r most (tried.Ended e) settled raised kept all is answer =
-    let no : attempt.Ended e ≡ attempt.Step None = sym (ap answer_of (kept tt)) ∙ answer in cc
+    let no : Some (attempt.Ended e) ≡ Some (attempt.Step None) = sym (ap answer_of (kept tt)) ∙ answer in cc
 goes_on view m count mid r most (tried.Event x) settled raised kept all is answer =
     let from_here = subst (λ (p : Present). IsTried part_step p (tried.Event x) raised) (is_here view r.here mid r.is) is in
     inr (x, ap (λ (h : Flat). outcome_at (At h)) r.steps ∙ raises_there mid.view (At r.here) r.is.stands x raised from_here)
@@ -228,20 +229,20 @@ module _ (before cpu : Cpu) (view after : View) (input : cpu.term.input.items �
       let s : to.state ≡ record from.state { core = core } = ap (λ (p : Present). p.state) e in
       (λ k. record { core = ap (λ (x : State). x.core) s k; memory = []; input = input k; taken = ap (λ (x : State). x.taken) s k; output = []; ending = None }, ap (λ (p : Present). p.view) e)
 
-  pub as_before : (t : Tried) → Unmoved (start_by before.latch before.core) t from to → IsAsBefore (answer_of t) before view cpu after
+  pub as_before : (t : Tried) → Unmoved (start_by before.latch before.core) t from to → IfSome (answer_of t) (λ a. IsAsBefore a before view cpu after)
   as_before (tried.Step sent) u = tt
   as_before (tried.Part done) u = tt
   as_before (tried.Absent page) u = same_place before.core u
   as_before (tried.Ended e) u = same_place (start_by before.latch before.core) u
-  as_before (tried.Event e) u = same_place (start_by before.latch before.core) u
+  as_before (tried.Event e) u = tt
 
 -- what is open afterwards
-pub opens : (latch now : Option Open) (t : Tried) → now ≡ open_after latch t → IsOpenAfter (answer_of t) latch now
+pub opens : (latch now : Option Open) (t : Tried) → now ≡ open_after latch t → IfSome (answer_of t) (λ a. IsOpenAfter a latch now)
 opens latch now (tried.Step sent) e = e
 opens latch now (tried.Part done) e = subst IsSome (sym e) refl
 opens latch now (tried.Absent page) e = e
 opens latch now (tried.Ended e) is = is
-opens latch now (tried.Event e) is = is
+opens latch now (tried.Event e) is = tt
 
 -- the pages for which the last of several attempts stops
 ran_alike : (count : ℕ) (old now : Present) → Ran count old now → (now.view.resident ≡ old.view.resident) × (now.view.areas ≡ old.view.areas)
@@ -257,10 +258,10 @@ inside_alike a b attempt.Part r s h = tt
 inside_alike a b (attempt.Absent page) r s h = (ap (λ (f : ℕ → Bool). f page) (sym r) ∙ h.0, ap (λ areas. is_some (area_of areas page)) (sym s) ∙ h.1)
 inside_alike a b (attempt.Ended e) r s h = tt
 
-pub inside_batch : (count : ℕ) (start : Core) (old mid now : Present) (t : Tried) → Ran count old mid → Made part_step start mid t now → StopsInside (answer_of t) old.view
+pub inside_batch : (count : ℕ) (start : Core) (old mid now : Present) (t : Tried) → Ran count old mid → Made part_step start mid t now → IfSome (answer_of t) (λ a. StopsInside a old.view)
 inside_batch count start old mid now t ran made =
     let same = ran_alike count old mid ran in
-    inside_alike mid.view old.view (answer_of t) same.0 same.1 (inside part_step start t mid now made)
+    IfSome_then (answer_of t) (inside part_step start t mid now made) (λ answer h. inside_alike mid.view old.view answer same.0 same.1 h)
 
 -- a processor at a place
 module _ (cpu : Cpu) (view : View) (place : Place) (at : IsAt cpu place) where

@@ -3,9 +3,6 @@ use Rattle.std.proofs.Common.{◌≡◌, ℕ, refl, sym, ap, subst, ◌∙◌}
 use Rattle.vax_word.specs.declared.Core.{Core}
 use Rattle.vax_flat.specs.declared.Ending.{Ending}
 use Rattle.vax_flat.specs.declared.Exception.{Exception}
-use Rattle.vax_flat.specs.declared.Flow.{Flow}
-use Rattle.vax_flat.specs.declared.Flow.TheVariants as flow
-use Rattle.vax_flat.specs.Bound.{IsWhole}
 use Rattle.vax_flat.specs.State.{State}
 use Rattle.vax_flat.specs.Accesses.{Accesses, Leaf}
 use Rattle.vax_flat.specs.OverPort.{Present}
@@ -26,7 +23,7 @@ module _ (tree : State → Accesses Leaf) (old now : Present) where
   led_same (tried.Step sent) is = refl
   led_same (tried.Part part) is = refl
   led_same (tried.Absent page) is = refl
-  led_same (tried.Ended e) is = same_registers old.state.core now (unmoved_registers old now is.6)
+  led_same (tried.Ended e) is = same_registers old.state.core now (unmoved_registers old now is.4)
   led_same (tried.Event e) is = refl
 
   put_same : (core : Core) (t : Tried) → old.state.core ≡ core → IsTried tree old t now → now ≡ put_again core t now
@@ -69,11 +66,3 @@ put_other core (tried.Part part) mid other = refl
 put_other core (tried.Absent page) mid other = absurd (other page refl)
 put_other core (tried.Ended e) mid other = refl
 put_other core (tried.Event e) mid other = refl
-
--- what isn't a part is whole
-pub whole_unless : (how : Flow) → ((opcode units : ℕ) → how ≡ flow.More opcode units → ⊥) → IsWhole how
-whole_unless flow.Done other = tt
-whole_unless flow.Clocked other = tt
-whole_unless (flow.Trap trap) other = tt
-whole_unless (flow.More opcode units) other = other opcode units refl
-whole_unless (flow.Ended e) other = tt

@@ -1,12 +1,11 @@
 -- What an attempt came to, said by the flat machine.
+use Rattle.std.specs.Prelude.{IfSome}
 use Rattle.std.proofs.Common.{Bool, ◌≡◌, ℕ, suc, zero, Option, Some, None, List, refl, sym, ap, subst, ◌∙◌}
 use Rattle.vax_word.specs.declared.Core.{Core}
 use Rattle.vax_space.specs.declared.Area.{Area}
 use Rattle.vax_flat.specs.declared.Exception.{Exception}
 use Rattle.vax_flat.specs.declared.Cut.TheVariants as cut
 use Rattle.vax_flat.specs.declared.Ending.{Ending}
-use Rattle.vax_flat.specs.declared.Ending.TheVariants.{Unbuilt}
-use Rattle.vax_flat.specs.declared.Flow.{Flow}
 use Rattle.vax_flat.specs.declared.Flow.TheVariants as flow
 use Rattle.vax_flat.specs.State.{State, with_sent}
 use Rattle.vax_flat.specs.Port.{View, StandsFor, with_marks}
@@ -14,7 +13,7 @@ use Rattle.vax_flat.specs.Inside.{IsMissing}
 use Rattle.vax_flat.specs.Accesses.{Accesses, Leaf, Went}
 use Rattle.vax_flat.specs.Outcome.{Outcome, Ends, Raised, outcome_of, touches_of, first_missing, or_else, marked_by, unless_absent}
 use Rattle.vax_flat.specs.OverPort.{Present, Arrival, Comes, Stops, Agrees, marks_of, over_port}
-use Rattle.vax_flat.specs.Bound.{IsWhole, LeavesNoPart}
+use Rattle.vax_flat.specs.Bound.{LeavesNoPart}
 use Rattle.vax_flat.specs.Step.{Flat, state_of, whole_delivery, concluded, ended, after_delivery, touches_after, with_byte_sent}
 use Rattle.vax_flat.specs.Parts.{Partway, Place, At, Within, Completes, Leaves, GoesBy, after_part, gone_back, left_by, machine_at, outcome_at, partway, start_of, touches_at, tree_at, turn, turn_from, units_after, units_done}
 use Rattle.vax_flat.proofs.Parts.{turns_agree}
@@ -30,19 +29,12 @@ use Rattle.vax_cpu.specs.declared.attempt.Tried.TheVariants as tried
 use Rattle.vax_cpu.specs.declared.cpu.Attempt.TheVariants as attempt
 use Rattle.vax_cpu.specs.declared.cpu.Cpu.{Cpu}
 use Rattle.vax_cpu.specs.declared.cpu.Open.{Open}
-use Rattle.vax_cpu.specs.Tried.{IsFinal, IsTried, Made, AtOnce, Delivered, ending_of, led_back, marked_as, put_again, start_by, tree_of, with_registers}
+use Rattle.vax_cpu.specs.Tried.{IsFinal, IsTried, Made, AtOnce, Delivered, led_back, marked_as, put_again, start_by, tree_of, with_registers}
 use Rattle.vax_cpu.specs.Attempt.{flat_of, answer_of, open_after, open_at, Attempted, LeavesMemory, Marks, StopsInside}
 
 flat_alike : (c d : Core) (memory : List Area) (i j : List ℕ) (t u : ℕ) (o p : List ℕ) (e f : Option Ending) → c ≡ d → i ≡ j → t ≡ u → o ≡ p → e ≡ f →
     ◌≡◌ {A = Flat} (record { core = c; memory = memory; input = i; taken = t; output = o; ending = e }) (record { core = d; memory = memory; input = j; taken = u; output = p; ending = f })
 flat_alike c d memory i j t u o p e f ec ei et eo ee k = record { core = ec k; memory = memory; input = ei k; taken = et k; output = eo k; ending = ee k }
-
-concluded_ends : (m : Flat) (how : Flow) (s : State) (memory : List Area) (e : Ending) → ending_of how ≡ Some e → concluded m (Went how s) memory ≡ ended m e
-concluded_ends m flow.Done s memory e h = cc
-concluded_ends m flow.Clocked s memory e h = let is : Unbuilt ≡ e = cc in ap (ended m) is
-concluded_ends m (flow.Trap kind) s memory e h = let is : Unbuilt ≡ e = cc in ap (ended m) is
-concluded_ends m (flow.More opcode units) s memory e h = let is : Unbuilt ≡ e = cc in ap (ended m) is
-concluded_ends m (flow.Ended x) s memory e h = let is : x ≡ e = cc in ap (ended m) is
 
 -- a processor after a step that was kept
 after_step : (m : Flat) (s : State) (memory : List Area) (cpu : Cpu) (sent : Option ℕ) → m.ending ≡ None → m.input ≡ cpu.term.input.items →
@@ -208,16 +200,8 @@ module _ (view : View) (place : Place) (st : StandsFor view (machine_at place).m
     at_end e first is marks_are = (first, record { turn = is; step = λ m going by. turns_agree m place _ going by is; marks = marks_are })
 
     -- an attempt that raised no exception
-    turn_ends : (how : Flow) (s : State) (memory : List Area) (e : Ending) → ending_of how ≡ Some e → IsWhole how →
-        turn_from back (units_done place) (Ends (Went how s) memory) ≡ Completes (ended back e)
-    turn_ends flow.Done s memory e h whole = cc
-    turn_ends flow.Clocked s memory e h whole = ap (λ x. Completes x) (concluded_ends back flow.Clocked s memory e h)
-    turn_ends (flow.Trap kind) s memory e h whole = ap (λ x. Completes x) (concluded_ends back (flow.Trap kind) s memory e h)
-    turn_ends (flow.More opcode units) s memory e h whole = absurd whole
-    turn_ends (flow.Ended x) s memory e h whole = ap (λ x. Completes x) (concluded_ends back (flow.Ended x) s memory e h)
-
     at_once : (t : Tried) (mid : Present) → IsFinal t → IsTried (tree_at place) (record { state = state_of here; view = view }) t mid → new ≡ led_back (start_of place) t mid →
-        cpu.latch ≡ open_after (open_at place) t → Attempted view place (answer_of t) cpu after
+        cpu.latch ≡ open_after (open_at place) t → IfSome (answer_of t) (λ a. Attempted view place a cpu after)
     at_once (tried.Step sent) mid final is led latched =
         let t : IsTried (tree_at place) (record { state = state_of here; view = view }) (tried.Step sent) new = subst (IsTried (tree_at place) (record { state = state_of here; view = view }) (tried.Step sent)) (sym led) is in
         kept t.0 sent (step_concluded t.0 after t.1) t.2 t.3
@@ -230,11 +214,11 @@ module _ (view : View) (place : Place) (st : StandsFor view (machine_at place).m
         let k = marks tree view here.memory st (Stops (cut.Absent page) after.marked) t.0 in
         (touches_are (Some page) (outcome_at place) a refl, sym (marks_join (Some page) (outcome_at place) after.marked a refl k))
     at_once (tried.Ended e) mid final is led latched =
-        let end : Leaf = Went is.0 is.1 in
-        let a = agrees tree view here.memory st (Comes end is.2) is.3 in
-        let k = marks tree view here.memory st (Comes end is.2) is.3 in
+        let end : Leaf = Went (flow.Ended e) is.0 in
+        let a = agrees tree view here.memory st (Comes end is.1) is.2 in
+        let k = marks tree view here.memory st (Comes end is.1) is.2 in
         let same : after.marked ≡ mid.view.marked = ap (λ (p : Present). p.view.marked) led in
-        at_end e (first_none end a.3.0 a.0 a.3.1) (turn_is (Ends end a.3.0) a.3.1 ∙ turn_ends is.0 is.1 a.3.0 e is.4 is.7) (marks_whole end a.3.0 after.marked a.0 a.3.1 (same ∙ (sym is.5 ∙ k)))
+        at_end e (first_none end a.3.0 a.0 a.3.1) (turn_is (Ends end a.3.0) a.3.1) (marks_whole end a.3.0 after.marked a.0 a.3.1 (same ∙ (sym is.3 ∙ k)))
     at_once (tried.Event e) mid final is led latched = absurd final
 
     -- one that raised an exception, whose delivery follows
@@ -285,7 +269,7 @@ module _ (view : View) (place : Place) (st : StandsFor view (machine_at place).m
           let a = agrees delivery_tree there here.memory stands_there (Comes (Went (flow.More opcode units) s) next) came in
           subst LeavesNoPart a.3.1 (delivers_whole x (state_of back) here.memory)
 
-      delivered : (t : Tried) (mid : Present) → IsTried (whole_delivery x) (record { state = state_of back; view = there }) t mid → new ≡ put_again here.core t mid → Attempted view place (answer_of t) cpu after
+      delivered : (t : Tried) (mid : Present) → IsTried (whole_delivery x) (record { state = state_of back; view = there }) t mid → new ≡ put_again here.core t mid → IfSome (answer_of t) (λ a. Attempted view place a cpu after)
       delivered (tried.Step sent) mid is put =
           let t : IsTried (whole_delivery x) (record { state = state_of back; view = there }) (tried.Step sent) new = subst (IsTried (whole_delivery x) (record { state = state_of back; view = there }) (tried.Step sent)) (sym put) is in
           kept t.0 sent (delivery_concluded t.0 t.1) t.2 t.3
@@ -295,18 +279,14 @@ module _ (view : View) (place : Place) (st : StandsFor view (machine_at place).m
           let k = marks delivery_tree there here.memory stands_there (Stops (cut.Absent page) mid.view.marked) is.0 in
           (touches_it ∙ agrees delivery_tree there here.memory stands_there (Stops (cut.Absent page) mid.view.marked) is.0, same ∙ (k ∙ sym marks_it))
       delivered (tried.Ended e) mid is put =
-          let end : Leaf = Went is.0 is.1 in
-          let a = agrees delivery_tree there here.memory stands_there (Comes end is.2) is.3 in
-          let k = marks delivery_tree there here.memory stands_there (Comes end is.2) is.3 in
+          let end : Leaf = Went (flow.Ended e) is.0 in
+          let a = agrees delivery_tree there here.memory stands_there (Comes end is.1) is.2 in
+          let k = marks delivery_tree there here.memory stands_there (Comes end is.1) is.2 in
           let same : after.marked ≡ mid.view.marked = ap (λ (p : Present). p.view.marked) put in
-          at_end e (touches_it ∙ a.0) (turn_it (Ends end a.3.0) a.3.1 ∙ ap (λ x. Completes x) (concluded_ends back is.0 is.1 a.3.0 e is.4)) (same ∙ (sym is.5 ∙ (k ∙ sym marks_it)))
-      delivered (tried.Event e) mid is put =
-          let a = agrees delivery_tree there here.memory stands_there (Stops (cut.Event e) mid.view.marked) is.0 in
-          let k = marks delivery_tree there here.memory stands_there (Stops (cut.Event e) mid.view.marked) is.0 in
-          let same : after.marked ≡ mid.view.marked = ap (λ (p : Present). p.view.marked) put in
-          at_end Unbuilt (touches_it ∙ a.0) (turn_it (Raised e) a.1) (same ∙ (k ∙ sym marks_it))
+          at_end e (touches_it ∙ a.0) (turn_it (Ends end a.3.0) a.3.1) (same ∙ (sym is.3 ∙ (k ∙ sym marks_it)))
+      delivered (tried.Event e) mid is put = tt
 
-    pub attempted : (t : Tried) → Made (tree_at place) (start_of place) (record { state = state_of here; view = view }) t new → cpu.latch ≡ open_after (open_at place) t → Attempted view place (answer_of t) cpu after
+    pub attempted : (t : Tried) → Made (tree_at place) (start_of place) (record { state = state_of here; view = view }) t new → cpu.latch ≡ open_after (open_at place) t → IfSome (answer_of t) (λ a. Attempted view place a cpu after)
     attempted t (AtOnce mid final is led) latched = at_once t mid final is led latched
     attempted t (Delivered x raised mid is of_it put) latched =
         delivered x raised.view.marked is.0 t mid (subst (λ (p : Present). IsTried (whole_delivery x) (with_registers (start_of place) p) t mid) is.1 of_it) put
@@ -343,8 +323,8 @@ module _ (start : Core) (old now : Present) where
   unmoved accesses (tried.Absent page) (AtOnce mid final is led) = back_seen mid.view (sym (ap (λ (p : Present). p.view) led)) (led ∙ is.1)
   unmoved accesses (tried.Absent page) (Delivered x raised mid is of_it put) = delivered_absent raised mid is.1 of_it.1 put
   unmoved accesses (tried.Ended e) (AtOnce mid final is led) =
-      start_seen mid.view (sym (ap (λ (p : Present). p.view) led)) (led ∙ ap (with_registers start) is.6)
-  unmoved accesses (tried.Ended e) (Delivered x raised mid is of_it put) = delivered_end raised mid is.1 of_it.6 put
+      start_seen mid.view (sym (ap (λ (p : Present). p.view) led)) (led ∙ ap (with_registers start) is.4)
+  unmoved accesses (tried.Ended e) (Delivered x raised mid is of_it put) = delivered_end raised mid is.1 of_it.4 put
   unmoved accesses (tried.Event e) (AtOnce mid final is led) = absurd final
   unmoved accesses (tried.Event e) (Delivered x raised mid is of_it put) = delivered_end raised mid is.1 of_it.1 put
 
@@ -352,7 +332,7 @@ module _ (start : Core) (old now : Present) where
 inside_later : (old now : Present) (page : ℕ) → now ≡ marked_as old now.view → IsMissing now.view page → IsMissing old.view page
 inside_later old now page same missing = subst (λ (p : Present). IsMissing p.view page) same missing
 
-pub inside : (accesses : State → Accesses Leaf) (start : Core) (t : Tried) (old now : Present) → Made accesses start old t now → StopsInside (answer_of t) old.view
+pub inside : (accesses : State → Accesses Leaf) (start : Core) (t : Tried) (old now : Present) → Made accesses start old t now → IfSome (answer_of t) (λ a. StopsInside a old.view)
 inside accesses start (tried.Step sent) old now made = tt
 inside accesses start (tried.Part done) old now made = tt
 inside accesses start (tried.Ended e) old now made = tt

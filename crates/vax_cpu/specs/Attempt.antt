@@ -9,7 +9,6 @@ use Rattle.vax_flat.specs.Outcome.{first_missing, marked_by}
 use Rattle.vax_flat.specs.Step.{Flat, step, ended, with_byte_sent}
 use Rattle.vax_flat.specs.Parts.{Partway, Place, At, Within, Completes, Leaves, GoesBy, gone_back, machine_at, touches_at, turn, units_after}
 use Rattle.vax_flat.specs.declared.Ending.{Ending}
-use Rattle.vax_flat.specs.declared.Ending.TheVariants.{Unbuilt}
 use Rattle.vax_cpu.specs.declared.attempt.Tried.{Tried}
 use Rattle.vax_cpu.specs.declared.attempt.Tried.TheVariants as tried
 use Rattle.vax_cpu.specs.declared.cpu.Attempt.{Attempt}
@@ -17,6 +16,7 @@ use Rattle.vax_cpu.specs.declared.cpu.Attempt.TheVariants.{Step, Part, Absent, E
 use Rattle.vax_cpu.specs.declared.cpu.Cpu.{Cpu}
 use Rattle.vax_cpu.specs.declared.cpu.Open.{Open}
 use Rattle.vax_cpu.specs.Tried.{start_by}
+use Rattle.vax_undo.specs.FirstPart.{NothingOpen}
 
 -- the flat machine that is where a processor is, with this memory and this output so far
 abbrev pub flat_of : Cpu → List Area → List ℕ → Flat
@@ -92,6 +92,10 @@ IsAsBefore (Ended e) old before new after =
 abbrev pub KeepsTime : Cpu → Type 0
 KeepsTime cpu = (cpu.core.clock ≤ 999) × IfSome cpu.latch (λ latched. latched.start.clock ≤ 999)
 
+-- first part done is clear where no instruction is open, and in the registers at the start of the string instruction that is open
+abbrev pub StartsClosed : Cpu → Type 0
+StartsClosed cpu = NothingOpen (start_by cpu.latch cpu.core).psl
+
 -- the string instruction that is open afterwards
 abbrev pub IsOpenAfter : Attempt → Option Open → Option Open → Type 0
 IsOpenAfter (Step sent) old new = new ≡ None
@@ -106,13 +110,13 @@ StopsInside Part before = Unit {0}
 StopsInside (Absent page) before = IsMissing before page
 StopsInside (Ended e) before = Unit {0}
 
--- what is answered of an instruction with the delivery of its exception
-abbrev pub answer_of : Tried → Attempt
-answer_of (tried.Step sent) = Step sent
-answer_of (tried.Part part) = Part
-answer_of (tried.Absent page) = Absent page
-answer_of (tried.Ended e) = Ended e
-answer_of (tried.Event e) = Ended Unbuilt
+-- what is answered of an instruction with the delivery of its exception, which raises no other
+abbrev pub answer_of : Tried → Option Attempt
+answer_of (tried.Step sent) = Some (Step sent)
+answer_of (tried.Part part) = Some Part
+answer_of (tried.Absent page) = Some (Absent page)
+answer_of (tried.Ended e) = Some (Ended e)
+answer_of (tried.Event e) = None
 
 -- a part more of the instruction that is open, or the first part of one
 abbrev pub units_by : Option Open → ℕ

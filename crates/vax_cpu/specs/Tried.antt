@@ -1,9 +1,9 @@
 -- What a transaction that makes the accesses of a tree came to.
-use Rattle.std.specs.Prelude.{◌≡◌, ◌≤◌, ℕ, Bool, false, is_none, Option, Some, None, Result, Ok, Err}
+use Rattle.std.specs.Prelude.{◌≡◌, ◌≤◌, ℕ, Bool, true, false, Option, Some, None, Result, Ok, Err}
 use Rattle.vax_word.specs.declared.Core.{Core}
+use Rattle.vax_word.specs.declared.Psl.{Psl}
 use Rattle.vax_flat.specs.declared.Cut.TheVariants as cut
 use Rattle.vax_flat.specs.declared.Ending.{Ending}
-use Rattle.vax_flat.specs.declared.Ending.TheVariants.{Unbuilt}
 use Rattle.vax_flat.specs.declared.Exception.{Exception}
 use Rattle.vax_flat.specs.declared.Flow.{Flow}
 use Rattle.vax_flat.specs.declared.Flow.TheVariants as flow
@@ -11,10 +11,10 @@ use Rattle.vax_flat.specs.State.{State, with_sent}
 use Rattle.vax_flat.specs.Port.{View, with_marks}
 use Rattle.vax_flat.specs.Accesses.{Accesses, Leaf, Went}
 use Rattle.vax_flat.specs.OverPort.{Present, Comes, Stops, over_port}
-use Rattle.vax_flat.specs.Bound.{IsWhole}
 use Rattle.vax_flat.specs.Step.{whole_delivery}
 use Rattle.vax_flat.specs.Parts.{part_step, later_step}
 use Rattle.vax_undo.specs.declared.txn.CutShort.{CutShort}
+use Rattle.vax_undo.specs.FirstPart.{NothingOpen}
 use Rattle.vax_undo.specs.declared.txn.Txn.{Txn as Transaction}
 use Rattle.vax_undo.specs.Transaction.{bare, undone}
 use Rattle.vax_cpu.specs.declared.attempt.Tried.{Tried}
@@ -30,26 +30,22 @@ IsLast (Ok (flow.More opcode units)) = Unit {0}
 IsLast (Ok (flow.Ended e)) = Unit {0}
 IsLast (Err short) = Unit {0}
 
--- how a step that went so ends the run, if it does
-abbrev pub ending_of : Flow → Option Ending
-ending_of flow.Done = None
-ending_of flow.Clocked = Some Unbuilt
-ending_of (flow.Trap kind) = Some Unbuilt
-ending_of (flow.More opcode units) = Some Unbuilt
-ending_of (flow.Ended e) = Some e
-
 -- an instruction that was completed
 abbrev pub is_done : Result Flow CutShort → Bool
-is_done (Ok how) = is_none (ending_of how)
+is_done (Ok flow.Done) = true
+is_done (Ok flow.Clocked) = false
+is_done (Ok (flow.Trap kind)) = false
+is_done (Ok (flow.More opcode units)) = false
+is_done (Ok (flow.Ended e)) = false
 is_done (Err short) = false
-
-abbrev pub UnlessEnded : Option Ending → Type 0 → Type 0
-UnlessEnded None fact = Unit {0}
-UnlessEnded (Some e) fact = fact
 
 -- what holds of an instruction that wasn't completed
 abbrev pub UnlessDone : Result Flow CutShort → Type 0 → Type 0
-UnlessDone (Ok how) fact = UnlessEnded (ending_of how) fact
+UnlessDone (Ok flow.Done) fact = Unit {0}
+UnlessDone (Ok flow.Clocked) fact = fact
+UnlessDone (Ok (flow.Trap kind)) fact = fact
+UnlessDone (Ok (flow.More opcode units)) fact = fact
+UnlessDone (Ok (flow.Ended e)) fact = fact
 UnlessDone (Err short) fact = fact
 
 -- The log of what wasn't completed leads back to where it began: of a part to its registers and its console, of all else to everything.
@@ -73,8 +69,8 @@ IsTried tree old (Part part) new =
     (s : State) × (over_port (tree old.state) old.view ≡ Comes (Went (flow.More part.opcode part.units) s) new.view) × (new.state ≡ with_sent s None)
     × (part.start ≡ old.state.core)
 IsTried tree old (Ended e) new =
-    (how : Flow) × (s : State) × (view : View) × (over_port (tree old.state) old.view ≡ Comes (Went how s) view) × (ending_of how ≡ Some e)
-    × (view.marked ≡ new.view.marked) × (new ≡ marked_as old new.view) × IsWhole how
+    (s : State) × (view : View) × (over_port (tree old.state) old.view ≡ Comes (Went (flow.Ended e) s) view) × (view.marked ≡ new.view.marked)
+    × (new ≡ marked_as old new.view)
 IsTried tree old (Absent page) new = (over_port (tree old.state) old.view ≡ Stops (cut.Absent page) new.view.marked) × (new ≡ marked_as old new.view)
 IsTried tree old (Event e) new = (over_port (tree old.state) old.view ≡ Stops (cut.Event e) new.view.marked) × (new ≡ marked_as old new.view)
 
@@ -93,6 +89,31 @@ KeepsTime clock (Part part) = (clock ≤ 999) × (part.start.clock ≤ 999)
 KeepsTime clock (Ended e) = clock ≤ 999
 KeepsTime clock (Absent page) = clock ≤ 999
 KeepsTime clock (Event e) = clock ≤ 999
+
+-- what completes an instruction leaves none open
+abbrev pub ClosesIfDone : Result Flow CutShort → Psl → Type 0
+ClosesIfDone (Ok flow.Done) psl = NothingOpen psl
+ClosesIfDone (Ok flow.Clocked) psl = NothingOpen psl
+ClosesIfDone (Ok (flow.Trap kind)) psl = NothingOpen psl
+ClosesIfDone (Ok (flow.More opcode units)) psl = Unit {0}
+ClosesIfDone (Ok (flow.Ended e)) psl = Unit {0}
+ClosesIfDone (Err short) psl = Unit {0}
+
+-- an attempt at a step leaves no instruction open, and a part of one was begun with none open
+abbrev pub KeepsClosed : Psl → Tried → Type 0
+KeepsClosed psl (Step sent) = NothingOpen psl
+KeepsClosed psl (Part part) = NothingOpen part.start.psl
+KeepsClosed psl (Ended e) = NothingOpen psl
+KeepsClosed psl (Absent page) = NothingOpen psl
+KeepsClosed psl (Event e) = NothingOpen psl
+
+-- an attempt at a later part, with what follows it, leaves none open either, unless more remains or a page is absent
+abbrev pub KeepsClosedLater : Psl → Tried → Type 0
+KeepsClosedLater psl (Step sent) = NothingOpen psl
+KeepsClosedLater psl (Part part) = Unit {0}
+KeepsClosedLater psl (Ended e) = NothingOpen psl
+KeepsClosedLater psl (Absent page) = Unit {0}
+KeepsClosedLater psl (Event e) = Unit {0}
 
 -- what an attempt goes through: the first part of the step at PC, or a later part of the instruction that is open
 abbrev pub tree_of : Option Open → State → Accesses Leaf

@@ -8,9 +8,11 @@ ghost use Rattle.vax_flat.specs.System.{flow_of_delivery};
 ghost use Rattle.vax_x_sys.specs.Frames.{IsLevel};
 ghost use Rattle.vax_flat.specs.Step.{finished, handed_over, leaf, ticked, delivered, whole_delivery};
 ghost use Rattle.vax_flat.specs.Parts.{begun_part, part, part_step, later, later_step};
+ghost use Rattle.vax_undo.specs.FirstPart.{NothingOpen};
 ghost use Rattle.vax_undo.specs.Rooms.{room_of_beginning, room_of_end, room_of_step, room_of_tick};
 ghost use Rattle.vax_undo.specs.Transaction.{bare, present, room, state_of, told, undone, with_state, IsReady, IsSame, Keeps, KeepsUnlessDone};
-ghost use Rattle.vax_cpu.specs.Tried.{IsFinal, IsLast, IsTried, KeepsTime, LeadsBack, Made, UnlessDone, ending_of, is_done, put_again, start_by, tree_of, with_registers};
+ghost use Rattle.vax_cpu.specs.Tried.{ClosesIfDone, IsFinal, IsLast, IsTried, KeepsClosed, KeepsClosedLater, KeepsTime, LeadsBack, Made, UnlessDone, is_done, put_again, start_by, tree_of, with_registers};
+ghost use Rattle.vax_cpu.specs.Attempt.{open_after};
 ghost use Rattle.vax_cpu.specs.Batch.{Ran};
 
 use crate::cpu::Open;
@@ -108,13 +110,14 @@ fn complete<P: Port>(txn: &mut Txn<P>)
 
 /// What follows an instruction: a trap's delivery, and the clock.
 #[inline(always)]
-#[tactic(auto, using(vax_undo::proofs::Left::always, vax_undo::proofs::Left::kept_through, vax_undo::proofs::Left::left_then), unfolding(vax_flat::specs::Step::finished, vax_flat::specs::Step::delivered))]
+#[tactic(auto, using(vax_undo::proofs::Left::always, vax_undo::proofs::Left::kept_through, vax_undo::proofs::Left::left_then, crate::proofs::Attempts::closes), unfolding(vax_flat::specs::Step::finished, vax_flat::specs::Step::delivered))]
 fn finish<P: Port>(txn: &mut Txn<P>, flow: Flow) -> Result<Flow, CutShort>
     requires { room_of_end ≤ room txn.old }
     ensures exact { Follows (finished flow (present P.view txn.old).state) (present P.view txn.old) (told txn.new result) (present P.view txn.new) }
     ensures keeps { (count : ℕ) → (start : _) → KeepsUnlessDone P.view P.since count (Ok flow) start txn.old → KeepsUnlessDone P.view P.since (count + room_of_end) result start txn.new }
     ensures same { IsSame P.since txn.old txn.new }
     ensures last { IsLast result }
+    ensures closed { ClosesIfDone (Ok flow) txn.old.core.now.psl → ClosesIfDone result txn.new.core.now.psl }
 {
     match flow {
         Flow::Done => {
@@ -163,6 +166,7 @@ fn work_later<P: Port>(txn: &mut Txn<P>, opcode: u8) -> Result<Flow, CutShort>
     ensures keeps { KeepsUnlessDone P.view P.since room_of_step result txn.old txn.new }
     ensures same { IsSame P.since txn.old txn.new }
     ensures last { IsLast result }
+    ensures closed { ClosesIfDone result txn.new.core.now.psl }
 {
     let flow = resume(txn, opcode)?;
     finish(txn, flow)
@@ -181,31 +185,12 @@ fn work_delivery<P: Port>(txn: &mut Txn<P>, exception: Exception) -> Result<Flow
     deliver_and_tick(txn, exception)
 }
 
-/// How a step that went so ends the run, if it does.
-#[inline]
-fn ending_of(flow: Flow) -> Option<Ending>
-    requires { IsLast (Ok flow) }
-    ensures { result ≡ ending_of flow }
-{
-    match flow {
-        Flow::Done => None,
-        // What follows an instruction makes something else of these.
-        Flow::Clocked | Flow::Trap(_) => unreachable!(),
-        Flow::More { .. } => Some(Ending::Unbuilt),
-        Flow::Ended(ending) => Some(ending),
-    }
-}
-
 /// Whether the work was completed.
 #[inline]
 fn is_done(work: Result<Flow, CutShort>) -> bool
-    requires { IsLast work }
     ensures { result ≡ is_done work }
 {
-    match work {
-        Ok(flow) => ending_of(flow).is_none(),
-        Err(CutShort) => false,
-    }
+    matches!(work, Ok(Flow::Done))
 }
 
 /// Keeps a transaction whose work was completed, or a part of it, and undoes any other.
@@ -219,11 +204,14 @@ fn conclude<P: Port>(txn: Txn<P>, work: Result<Flow, CutShort>) -> Tried
     ensures unsent { txn.exit.1.0.now.out ≡ None }
     ensures input { txn.exit.1.0.now.input ≡ txn.entry.term.now.input }
     ensures clock { UnlessDone work ((undone P.view txn.entry).state.core.clock ≤ 999) → txn.entry.core.now.clock ≤ 999 → KeepsTime txn.exit.0.now.clock result }
+    ensures closed { UnlessDone work (NothingOpen (undone P.view txn.entry).state.core.psl) → ClosesIfDone work txn.entry.core.now.psl → KeepsClosed txn.exit.0.now.psl result }
+    ensures kept { (sent : Option ℕ) → result ≡ Tried.Step sent → txn.exit.0.now ≡ txn.entry.core.now }
     ensures since { (start : P) → P.since start txn.entry.port.now → P.since start txn.exit.1.1.0.now }
 {
     let why = txn.why();
     match work {
         Ok(flow) => match flow {
+            Flow::Done => Tried::Step(txn.commit()),
             Flow::More { opcode, units } => {
                 let start = txn.commit_part();
                 Tried::Part(Open {
@@ -232,13 +220,12 @@ fn conclude<P: Port>(txn: Txn<P>, work: Result<Flow, CutShort>) -> Tried
                     units,
                 })
             }
-            _ => match ending_of(flow) {
-                None => Tried::Step(txn.commit()),
-                Some(ending) => {
-                    txn.unwind();
-                    Tried::Ended(ending)
-                }
-            },
+            Flow::Ended(ending) => {
+                txn.unwind();
+                Tried::Ended(ending)
+            }
+            // What follows an instruction makes something else of these.
+            Flow::Clocked | Flow::Trap(_) => unreachable!(),
         },
         Err(CutShort) => {
             txn.unwind();
@@ -257,6 +244,7 @@ pub(crate) fn try_step<P: Port>(core: &mut Core, term: &mut Term, port: &mut P) 
     ensures unsent { term.new.out ≡ None }
     ensures input { term.new.input ≡ term.old.input }
     ensures clock { core.old.clock ≤ 999 → KeepsTime core.new.clock result }
+    ensures closed { NothingOpen core.old.psl → KeepsClosed core.new.psl result }
     ensures since { (start : P) → P.since start port.old → P.since start port.new }
 {
     let mut txn = Txn::begin(core, term, port);
@@ -278,6 +266,7 @@ fn try_delivery<P: Port>(
     ensures unsent { term.new.out ≡ None }
     ensures input { term.new.input ≡ term.old.input }
     ensures clock { core.old.clock ≤ 999 → KeepsTime core.new.clock result }
+    ensures closed { NothingOpen core.old.psl → KeepsClosed core.new.psl result }
     ensures since { (start : P) → P.since start port.old → P.since start port.new }
 {
     let mut txn = Txn::begin(core, term, port);
@@ -292,6 +281,7 @@ fn try_later<P: Port>(core: &mut Core, term: &mut Term, port: &mut P, opcode: u8
     ensures unsent { term.new.out ≡ None }
     ensures input { term.new.input ≡ term.old.input }
     ensures clock { core.old.clock ≤ 999 → KeepsTime core.new.clock result }
+    ensures closed { (sent : Option ℕ) → result ≡ Tried.Step sent → NothingOpen core.new.psl }
     ensures since { (start : P) → P.since start port.old → P.since start port.new }
 {
     let mut txn = Txn::begin(core, term, port);
@@ -309,6 +299,7 @@ pub(crate) fn settle<P: Port>(core: &mut Core, term: &mut Term, port: &mut P, tr
     ensures unsent { term.new.out ≡ None }
     ensures input { term.new.input ≡ term.old.input }
     ensures clock { KeepsTime core.old.clock tried → KeepsTime core.new.clock result }
+    ensures closed { KeepsClosed core.old.psl tried → KeepsClosed core.new.psl result }
     ensures since { (start : P) → P.since start port.old → P.since start port.new }
 {
     match tried {
@@ -331,6 +322,7 @@ fn deliver_from<P: Port>(
     ensures unsent { term.new.out ≡ None }
     ensures input { term.new.input ≡ term.old.input }
     ensures clock { core.old.clock ≤ 999 → start.clock ≤ 999 → KeepsTime core.new.clock result }
+    ensures closed { NothingOpen start.psl → KeepsClosedLater core.new.psl result }
     ensures since { (start : P) → P.since start port.old → P.since start port.new }
 {
     let before = *core;
@@ -360,6 +352,7 @@ fn settle_later<P: Port>(
     ensures unsent { term.new.out ≡ None }
     ensures input { term.new.input ≡ term.old.input }
     ensures clock { KeepsTime core.old.clock tried → start.clock ≤ 999 → KeepsTime core.new.clock result }
+    ensures closed { NothingOpen start.psl → ((sent : Option ℕ) → tried ≡ Tried.Step sent → NothingOpen core.old.psl) → KeepsClosedLater core.new.psl result }
     ensures since { (start : P) → P.since start port.old → P.since start port.new }
 {
     match tried {
@@ -385,6 +378,7 @@ pub(crate) fn try_once<P: Port>(
     ensures unsent { term.new.out ≡ None }
     ensures input { term.new.input ≡ term.old.input }
     ensures clock { core.old.clock ≤ 999 → (start_by latch core.old).clock ≤ 999 → KeepsTime core.new.clock result }
+    ensures closed { NothingOpen (start_by latch core.old).psl → NothingOpen (start_by (open_after latch result) core.new).psl }
     ensures since { (start : P) → P.since start port.old → P.since start port.new }
 {
     match latch {
@@ -421,6 +415,7 @@ pub(crate) fn try_steps<P: Port>(
     ensures unsent { term.new.out ≡ None }
     ensures input { term.new.input ≡ term.old.input }
     ensures clock { core.old.clock ≤ 999 → KeepsTime core.new.clock result.last }
+    ensures closed { NothingOpen core.old.psl → KeepsClosed core.new.psl result.last }
     ensures since { (start : P) → P.since start port.old → P.since start port.new }
 {
     let mut txn = Txn::begin(core, term, port);

@@ -1,5 +1,5 @@
 //! The processor.
-ghost use Rattle.std.specs.Prelude.{◌≡◌, ◌⊎◌, ◌+◌, ◌<◌, ◌≤◌, ℕ, List, None, IsSome};
+ghost use Rattle.std.specs.Prelude.{◌≡◌, ◌⊎◌, ◌+◌, ◌<◌, ◌≤◌, ℕ, List, None, Some, IsSome};
 ghost use Rattle.vax_space.specs.declared.Area.{Area};
 ghost use Rattle.vax_flat.specs.Port.{StandsFor};
 ghost use Rattle.vax_cpu.specs.Attempt.{answer_of, open_after};
@@ -52,7 +52,7 @@ pub struct Cpu {
 #[inline]
 fn answer_of(tried: Tried) -> Attempt
     requires { IsFinal tried }
-    ensures { result ≡ answer_of tried }
+    ensures { answer_of tried ≡ Some result }
 {
     match tried {
         Tried::Step(sent) => Attempt::Step(sent),
@@ -95,7 +95,7 @@ fn open_after(latch: Option<Open>, tried: Tried) -> Option<Open>
 }
 
 impl Cpu {
-    ghost use Rattle.vax_cpu.specs.Attempt.{flat_of, Attempted, IsAsBefore, IsAt, IsOpenAfter, KeepsTime, StopsInside};
+    ghost use Rattle.vax_cpu.specs.Attempt.{flat_of, Attempted, IsAsBefore, IsAt, IsOpenAfter, KeepsTime, StartsClosed, StopsInside};
     ghost use Rattle.vax_flat.specs.Step.{run};
     ghost use Rattle.vax_cpu.specs.Batch.{AreAttempts, IsOneAttempt, Raises};
 
@@ -104,7 +104,7 @@ impl Cpu {
     ///
     /// It answers the first page, in the order in which the attempt touches memory, that isn't resident, and then everything is as before; else
     /// it makes the step of the flat machine, or a part of it. Pages to which it wrote are marked, also where it was undone. The interval
-    /// clock counts to 999.
+    /// clock counts to 999. First part done is clear where no instruction is open.
     pub fn attempt<P: Port>(&mut self, port: &mut P) -> Attempt
         requires unsent { self.old.term.out ≡ None }
         ensures attempted { (place : Place) → IsAt self.old place → StandsFor (P.view port.old) (machine_at place).memory → Attempted (P.view port.old) place result self.new (P.view port.new) }
@@ -114,6 +114,7 @@ impl Cpu {
         ensures unsent { self.new.term.out ≡ None }
         ensures input { self.new.term.input ≡ self.old.term.input }
         ensures clock { KeepsTime self.old → KeepsTime self.new }
+        ensures closed { StartsClosed self.old → StartsClosed self.new }
         ensures since { (start : P) → P.since start port.old → P.since start port.new }
     {
         let tried = try_once(&mut self.core, &mut self.term, port, self.latch);
@@ -138,6 +139,7 @@ impl Cpu {
         ensures unsent { self.new.term.out ≡ None }
         ensures input { self.new.term.input ≡ self.old.term.input }
         ensures clock { KeepsTime self.old → KeepsTime self.new }
+        ensures closed { StartsClosed self.old → StartsClosed self.new }
         ensures since { (start : P) → P.since start port.old → P.since start port.new }
     {
         if self.latch.is_some() {

@@ -4,6 +4,7 @@ ghost use Rattle.vax_flat.specs.Instruction.{acted_part, acted_part_if, first_pa
 ghost use Rattle.vax_flat.specs.OverPort.{Follows};
 ghost use Rattle.vax_undo.specs.Rooms.{room_of_beginning, room_of_instruction};
 ghost use Rattle.vax_undo.specs.Transaction.{present, room, told, IsSame, KeepsUnlessDone};
+ghost use Rattle.vax_cpu.specs.Tried.{ClosesIfDone};
 
 use vax_flat::{Ending, Exception};
 use vax_isa::{Action, action};
@@ -65,6 +66,7 @@ pub(crate) fn resume<P: Port>(txn: &mut Txn<P>, opcode: u8) -> Result<Flow, CutS
     ensures exact { Follows (resumed opcode (present P.view txn.old).state) (present P.view txn.old) (told txn.new result) (present P.view txn.new) }
     ensures keeps { KeepsUnlessDone P.view P.since room_of_beginning result txn.old txn.new }
     ensures same { IsSame P.since txn.old txn.new }
+    ensures closed { ClosesIfDone result txn.new.core.now.psl }
 {
     let _ = opcode;
     Ok(Flow::Ended(Ending::Unbuilt))

@@ -15,6 +15,7 @@ use vax_word::{Codes, Psl, Size};
 
 /// Sets the condition codes.
 #[inline(always)]
+#[tactic(auto, using(vax_undo::proofs::FirstPart::codes_closed))]
 pub fn set_codes<P: Port>(txn: &mut Txn<P>, codes: Codes)
     requires { 1 ≤ room txn.old }
     ensures exact { present P.view txn.new ≡ with_state (present P.view txn.old) (with_conditions (present P.view txn.old).state codes) }

@@ -27,17 +27,18 @@ module _ {P : Type 0} (view : P → View) (along : P → P → Type 0) where
     undone = second.undone ∙ first.undone;
     ready = λ h. second.ready (first.ready h);
     room = omega (arith, first.room, second.room);
+    closed = omega (arith, first.closed, second.closed);
     same = same_through a b c first.same second.same;
   }
 
   pub left_then : (n m : ℕ) (a b c : Transaction P) → IsLeft along n a b → Kept m b c → IsLeft along (n + m) a c
-  left_then n m a b c first second = record { room = omega (arith, first.room, second.room); same = same_through a b c first.same second.same }
+  left_then n m a b c first second = record { room = omega (arith, first.room, second.room); closed = omega (arith, first.closed, second.closed); same = same_through a b c first.same second.same }
 
   left_of : (n : ℕ) (a b : Transaction P) → Kept n a b → IsLeft along n a b
-  left_of n a b keeps = record { room = keeps.room; same = keeps.same }
+  left_of n a b keeps = record { room = keeps.room; closed = keeps.closed; same = keeps.same }
 
   left_through : (n m : ℕ) (a b c : Transaction P) → Kept n a b → IsLeft along m b c → IsLeft along (n + m) a c
-  left_through n m a b c first second = record { room = omega (arith, first.room, second.room); same = same_through a b c first.same second.same }
+  left_through n m a b c first second = record { room = omega (arith, first.room, second.room); closed = omega (arith, first.closed, second.closed); same = same_through a b c first.same second.same }
 
   open_of : (n : ℕ) (a b : Transaction P) → Kept n a b → IsLeftOpen view along n a b
   open_of n a b keeps = record { state = ap (λ (p : Present). p.state) keeps.undone; ready = keeps.ready; room = keeps.room; same = keeps.same }

@@ -1,3 +1,4 @@
+pub mod FirstPart
 pub mod Undo
 pub mod Left
 pub mod Open

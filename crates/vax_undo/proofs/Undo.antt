@@ -4,6 +4,7 @@ use Rattle.std.proofs.lemmas.Bool.{cases_Bool}
 use Rattle.std.proofs.lemmas.List.{set-get_or, set-set}
 use Rattle.std.proofs.Math.Path.{fun_ext}
 use Rattle.std.specs.Prelude.{slice_index, slice_set, IfOk, ◌||◌, vec_len}
+use Rattle.vax_undo.specs.FirstPart.{first_part_done}
 use Rattle.vax_space.specs.declared.Access.TheVariants.{Read, Write}
 use Rattle.vax_space.specs.declared.Area.{Area}
 use Rattle.vax_space.specs.declared.Violation.{Violation}
@@ -86,28 +87,29 @@ put_back-bare kept.Bytes e p = refl
 
 -- one more entry, which undoes what was done but for the marks
 pub logged_marked : {P : Type 0} (view : P → View) (along : P → P → Type 0) (old new : Transaction P) (e : Entry) →
-    new.log.items ≡ old.log.items ++ e ∷ [] → new.origin ≡ old.origin → IsSame along old new → undo e (bare (present view new)) ≡ bare (present view old) →
+    new.log.items ≡ old.log.items ++ e ∷ [] → new.origin ≡ old.origin → new.core.now.psl ≡ old.core.now.psl → IsSame along old new → undo e (bare (present view new)) ≡ bare (present view old) →
     (view new.port.now).areas ≡ (view old.port.now).areas → (view new.port.now).resident ≡ (view old.port.now).resident →
     ((page : ℕ) → (view old.port.now).marked page ≡ true → (view new.port.now).marked page ≡ true) →
     Allows (vec_len old.term.now.input) (view old.port.now).areas (view old.port.now).resident (view new.port.now).marked e.kept e → Keeps view along 1 old new
-logged_marked view along old new e items origin same back areas resident more one = record {
+logged_marked view along old new e items origin psl same back areas resident more one = record {
   undone = ap (λ o. restart o (undo_all new.log.items (bare (present view new)))) origin
       ∙ ap (restart old.origin) (ap (λ log. undo_all log (bare (present view new))) items ∙ (undo_all-append old.log.items e (bare (present view new)) ∙ ap (undo_all old.log.items) back));
   ready = λ ready. rw (items, same.input, areas, resident)
       (allows_one_more (vec_len old.term.now.input) (view old.port.now).areas (view old.port.now).resident (view new.port.now).marked old.log.items e
       (all_marked (vec_len old.term.now.input) (view old.port.now).areas (view old.port.now).resident (view old.port.now).marked (view new.port.now).marked more old.log.items ready) one);
   room = rw items (simp length-append (omega arith));
+  closed = let same : first_part_done new.core.now.psl ≡ first_part_done old.core.now.psl = ap first_part_done psl in omega (arith, same);
   same = same;
 }
 
 -- one more entry, which undoes what was done
 pub logged : {P : Type 0} (view : P → View) (along : P → P → Type 0) (old new : Transaction P) (e : Entry) →
-    new.log.items ≡ old.log.items ++ e ∷ [] → new.origin ≡ old.origin → IsSame along old new → undo e (present view new) ≡ present view old →
+    new.log.items ≡ old.log.items ++ e ∷ [] → new.origin ≡ old.origin → new.core.now.psl ≡ old.core.now.psl → IsSame along old new → undo e (present view new) ≡ present view old →
     (view new.port.now).areas ≡ (view old.port.now).areas → (view new.port.now).resident ≡ (view old.port.now).resident →
     Allows (vec_len old.term.now.input) (view old.port.now).areas (view old.port.now).resident (view old.port.now).marked e.kept e → Keeps view along 1 old new
-logged view along old new e items origin same back areas resident one =
+logged view along old new e items origin psl same back areas resident one =
     let marks : (view new.port.now).marked ≡ (view old.port.now).marked = sym (put_back-marked e.kept e (present view new)) ∙ ap (λ (p : Present). p.view.marked) back in
-    logged_marked view along old new e items origin same (sym (put_back-bare e.kept e (present view new)) ∙ ap bare back) areas resident
+    logged_marked view along old new e items origin psl same (sym (put_back-bare e.kept e (present view new)) ∙ ap bare back) areas resident
     (λ page h. ap (λ (m : ℕ → Bool). m page) marks ∙ h)
     (subst (λ (m : ℕ → Bool). Allows (vec_len old.term.now.input) (view old.port.now).areas (view old.port.now).resident m e.kept e) (sym marks) one)
 

@@ -1,4 +1,5 @@
 pub mod Answers
+pub mod FirstPart
 pub mod Transaction
 pub mod Blocks
 pub mod Plain

@@ -1,6 +1,7 @@
 -- What a transaction means, and how its log is undone.
 use Rattle.std.specs.Prelude.{◌≡◌, ℕ, ◌+◌, ◌-◌, ◌^◌, ◌<◌, ◌≤◌, Bool, true, nat_lt, if◌then◌else◌, Option, Some, None, Result, Ok, Err, List, [], ◌∷◌, length, slice_set, vec_len}
 use Rattle.vax_word.specs.declared.Core.{Core}
+use Rattle.vax_undo.specs.FirstPart.{first_part_done}
 use Rattle.vax_space.specs.declared.Access.TheVariants.{Write}
 use Rattle.vax_space.specs.declared.Area.{Area}
 use Rattle.vax_space.specs.Reference.{violation}
@@ -144,16 +145,19 @@ module _ {P : Type 0} where
     pub clock : old.core.now.clock ≤ 999 → new.core.now.clock ≤ 999
     pub since : (start : P) → along start old.port.now → along start new.port.now
 
-  -- A call leaves the transaction so that undoing its log gives what it gave before, and used at most so many entries.
+  -- A call leaves the transaction so that undoing its log gives what it gave before, and used at most so many entries. It leaves no instruction
+  -- open.
   pub record Keeps (view : P → View) (along : P → P → Type 0) (count : ℕ) (old new : Transaction P) : Type 0 where
     pub undone : restart new.origin (undo_all new.log.items (bare (present view new))) ≡ restart old.origin (undo_all old.log.items (bare (present view old)))
     pub ready : IsReady view old → IsReady view new
     pub room : room old ≤ room new + count
+    pub closed : first_part_done new.core.now.psl ≤ first_part_done old.core.now.psl
     pub same : IsSame along old new
 
-  -- A call used at most so many entries; its log need not undo what it did.
+  -- A call used at most so many entries; its log need not undo what it did. It leaves no instruction open.
   pub record IsLeft (along : P → P → Type 0) (count : ℕ) (old new : Transaction P) : Type 0 where
     pub room : room old ≤ room new + count
+    pub closed : first_part_done new.core.now.psl ≤ first_part_done old.core.now.psl
     pub same : IsSame along old new
 
   -- A call used at most so many entries; its log still tells registers and console as they were, and need not undo the bytes.

@@ -128,6 +128,7 @@ fn absent_pages(rt: HostRuntime) -> Result<(), Fail> {
 }
 
 #[test]
+#[tactic(auto, unfolding(crate::specs::FirstPart::first_part_done))]
 fn changes_are_kept(rt: HostRuntime) -> Result<(), Fail> {
     let mut core = core();
     let mut term = Term::new(b"hi".to_vec(rt.alloc())?);
@@ -172,7 +173,7 @@ fn a_part_is_kept(rt: HostRuntime) -> Result<(), Fail> {
     txn.set_reg(3, 70);
     txn.set_reg(3, 71);
     txn.set_reg(15, 72);
-    txn.set_psl(Psl(8));
+    txn.leave_open(Psl(0x0800_0008));
     txn.set_stack(4, 73);
     txn.set_sisr(74);
     txn.set_iccs(75);
@@ -181,7 +182,7 @@ fn a_part_is_kept(rt: HostRuntime) -> Result<(), Fail> {
     assert_eq!(rt; txn.commit_part(), start);
     assert_eq!(rt;
         (core.regs[3], core.regs[15], core.psl, core.stacks[4]),
-        (71, 72, Psl(8), 73)
+        (71, 72, Psl(0x0800_0008), 73)
     );
     assert_eq!(rt; memory.read(0x402, 2, USER), Ok(0x0605));
     Ok(())
@@ -202,6 +203,7 @@ fn input_is_taken(rt: HostRuntime) -> Result<(), Fail> {
 }
 
 #[test]
+#[tactic(auto, unfolding(crate::specs::FirstPart::first_part_done))]
 fn changes_are_undone(rt: HostRuntime) -> Result<(), Fail> {
     let mut core = core();
     let mut term = Term::new(b"hi".to_vec(rt.alloc())?);

@@ -147,10 +147,11 @@ fn restore(entry: Entry, core: &mut Core)
 
 impl<'a, P: Port> Txn<'a, P> {
     ghost use Rattle.vax_space.specs.Reference.{violation};
+    ghost use Rattle.vax_undo.specs.FirstPart.{first_part_done};
     ghost use Rattle.vax_flat.specs.State.{register, with_register, with_psl, with_stack, with_requests, with_timer, with_clock, with_taken, with_sent};
     ghost use Rattle.vax_flat.specs.Memory.{bytes_from};
     ghost use Rattle.vax_flat.specs.Port.{loaded, stored, stored_run, stop, unmarked};
-    ghost use Rattle.vax_undo.specs.Transaction.{bare, state_of, present, undone, room, IsLeftOpen, IsReady, IsSame, Keeps, with_state, with_view, next_byte, after_take};
+    ghost use Rattle.vax_undo.specs.Transaction.{bare, state_of, present, undone, room, IsLeft, IsLeftOpen, IsReady, IsSame, Keeps, with_state, with_view, next_byte, after_take};
 
     /// Begins a transaction, at which nothing is sent to the console yet.
     #[inline]
@@ -230,11 +231,24 @@ impl<'a, P: Port> Txn<'a, P> {
         self.core.psl
     }
 
+    /// Sets the processor status longword, in which first part done is set only where it was: this opens no instruction.
     #[inline(always)]
     pub fn set_psl(&mut self, v: Psl)
-        requires { 1 ≤ room self.old }
+        requires closed { first_part_done v ≤ first_part_done self.old.core.now.psl }
+        requires room { 1 ≤ room self.old }
         ensures present { present P.view self.new ≡ with_state (present P.view self.old) (with_psl (present P.view self.old).state v) }
         ensures keeps { Keeps P.view P.since 1 self.old self.new }
+    {
+        self.core.psl = v;
+    }
+
+    /// Sets the processor status longword behind a part of an instruction, which may leave that instruction open (first part done). The log
+    /// still tells the registers at the start.
+    #[inline]
+    pub fn leave_open(&mut self, v: Psl)
+        requires { 1 ≤ room self.old }
+        ensures present { present P.view self.new ≡ with_state (present P.view self.old) (with_psl (present P.view self.old).state v) }
+        ensures left { IsLeftOpen P.view P.since 1 self.old self.new }
     {
         self.core.psl = v;
     }
@@ -446,8 +460,8 @@ impl<'a, P: Port> Txn<'a, P> {
         ensures present { present P.view self.new ≡ with_view (present P.view self.old) (stored_run (present P.view self.old).view addr from.now mode) }
         ensures keeps { OnErr result (Keeps P.view P.since 0 self.old self.new) }
         ensures left { IsLeftOpen P.view P.since 0 self.old self.new }
+        ensures completed { IsLeft P.since 0 self.old self.new }
         ensures room { room self.new ≡ room self.old }
-        ensures same { IsSame P.since self.old self.new }
     {
         self.port.write_run(addr, from, mode)
     }
@@ -461,6 +475,7 @@ impl<'a, P: Port> Txn<'a, P> {
         ensures undone { undone P.view self.new ≡ bare (present P.view self.new) }
         ensures room { room self.new ≡ 96 }
         ensures ready { IsReady P.view self.new }
+        ensures closed { first_part_done self.new.core.now.psl ≤ first_part_done self.old.core.now.psl }
         ensures same { IsSame P.since self.old self.new }
     {
         forget(&mut self.log);

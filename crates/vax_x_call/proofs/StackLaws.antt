@@ -119,6 +119,7 @@ keeps_more view along a b count x y z few k l = record {
   undone = l.undone ∙ k.undone;
   ready = λ r. l.ready (k.ready r);
   room = (let r = k.room in let q = l.room in omega arith);
+  closed = (let r = k.closed in let q = l.closed in omega arith);
   same = record {
     core = l.same.core ∙ k.same.core;
     term = l.same.term ∙ k.same.term;
@@ -134,5 +135,6 @@ keeps_all view along count x = record {
   undone = refl;
   ready = λ r. r;
   room = omega arith;
+  closed = omega arith;
   same = record { core = refl; term = refl; port = refl; input = refl; clock = λ h. h; since = λ start h. h };
 }

@@ -66,7 +66,7 @@ fn entry_status(mask: u32, psl: Psl) -> Psl
 
 /// Lets control go on at a procedure, behind its entry mask.
 #[inline]
-#[tactic(auto, unfolding(vax_flat::specs::Call::at_procedure))]
+#[tactic(auto, using(crate::proofs::Closed::entry_closed), unfolding(vax_flat::specs::Call::at_procedure))]
 fn go_to<P: Port>(txn: &mut Txn<P>, procedure: u32, mask: u32, arguments: u32, bottom: u32)
     requires { 5 ≤ room txn.old }
     ensures exact { present P.view txn.new ≡ with_state (present P.view txn.old) (call.at_procedure procedure mask arguments bottom (present P.view txn.old).state) }
@@ -178,7 +178,7 @@ fn behind_arguments<P: Port>(txn: &mut Txn<P>, on_stack: bool, top: u32) -> Resu
 }
 
 /// Pops a frame whose longword was read, and the arguments behind it.
-#[tactic(auto, unfolding(vax_flat::specs::Call::unwound))]
+#[tactic(auto, using(crate::proofs::Closed::return_closed), unfolding(vax_flat::specs::Call::unwound))]
 fn unwind<P: Port>(txn: &mut Txn<P>, word: u32) -> Result<Flow, CutShort>
     requires { 17 ≤ room txn.old }
     ensures exact { Follows (call.unwound word (present P.view txn.old).state) (present P.view txn.old) (told txn.new result) (present P.view txn.new) }

@@ -1,5 +1,6 @@
 //! The delivery of exceptions, changes of mode and interrupts (VAX Architecture Reference Manual, exceptions and interrupts).
 ghost use Rattle.std.specs.Prelude.{◌≡◌, ◌<◌, ◌≤◌};
+ghost use Rattle.vax_undo.specs.FirstPart.{NothingOpen};
 ghost use Rattle.vax_flat.specs.Operand.{extended};
 ghost use Rattle.vax_flat.specs.Delivery.{change_by, change_mode, change_vector, changed, changed_to, delivery, dispatched, entered, interrupt, interrupt_vector, interrupted, pushed_outside, served, vector_of, vectored};
 ghost use Rattle.vax_flat.specs.OverPort.{Follows, Performs};
@@ -45,7 +46,8 @@ fn enter<P: Port>(
     interrupt: bool,
     psl: Psl,
 ) -> Result<Delivery, CutShort>
-    requires { 13 ≤ room txn.old }
+    requires closed { NothingOpen psl }
+    requires room { 13 ≤ room txn.old }
     ensures exact { Follows (entered (listed parameters) vector interrupt psl (present P.view txn.old).state) (present P.view txn.old) (told txn.new result) (present P.view txn.new) }
     ensures keeps { Keeps P.view P.since 13 txn.old txn.new }
 {

@@ -58,7 +58,7 @@ fn set_pointer<P: Port>(txn: &mut Txn<P>, n: u8, value: u32)
 
 /// Sets the interrupt priority level.
 #[inline]
-#[tactic(auto, unfolding(vax_word::specs::Status::ipl_of))]
+#[tactic(auto, using(crate::proofs::Closed::level_closed), unfolding(vax_word::specs::Status::ipl_of))]
 fn set_priority<P: Port>(txn: &mut Txn<P>, level: u32)
     requires level { level < 32 }
     requires room { 1 ≤ room txn.old }

@@ -124,7 +124,7 @@ fn move_status<P: Port>(txn: &mut Txn<P>) -> Result<Flow, CutShort>
 }
 
 #[inline]
-#[tactic(auto, using(vax_flat::proofs::Leaves::over_port_raises), unfolding(vax_flat::specs::System::status_set))]
+#[tactic(auto, using(vax_flat::proofs::Leaves::over_port_raises, vax_undo::proofs::FirstPart::set_closed), unfolding(vax_flat::specs::System::status_set))]
 fn set_bits<P: Port>(txn: &mut Txn<P>, mask: u32) -> Result<Flow, CutShort>
     requires { 1 ≤ room txn.old }
     ensures exact { Follows (system.status_set mask (present P.view txn.old).state) (present P.view txn.old) (told txn.new result) (present P.view txn.new) }
@@ -150,7 +150,7 @@ fn set_status<P: Port>(txn: &mut Txn<P>) -> Result<Flow, CutShort>
 }
 
 #[inline]
-#[tactic(auto, using(vax_flat::proofs::Leaves::over_port_raises), unfolding(vax_flat::specs::System::status_cleared))]
+#[tactic(auto, using(vax_flat::proofs::Leaves::over_port_raises, vax_undo::proofs::FirstPart::cleared_closed), unfolding(vax_flat::specs::System::status_cleared))]
 fn clear_bits<P: Port>(txn: &mut Txn<P>, mask: u32) -> Result<Flow, CutShort>
     requires { 1 ≤ room txn.old }
     ensures exact { Follows (system.status_cleared mask (present P.view txn.old).state) (present P.view txn.old) (told txn.new result) (present P.view txn.new) }

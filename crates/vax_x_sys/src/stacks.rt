@@ -1,5 +1,6 @@
 //! The stacks of the access modes and of interrupts, and the status that goes with them.
 ghost use Rattle.std.specs.Prelude.{◌≡◌, ◌<◌, ◌≤◌};
+ghost use Rattle.vax_undo.specs.FirstPart.{NothingOpen};
 ghost use Rattle.vax_flat.specs.Delivery.{at_handler, on_interrupt_stack, stack_in_use, status, switched};
 ghost use Rattle.vax_undo.specs.Transaction.{present, room, Keeps, with_state};
 
@@ -50,11 +51,13 @@ pub(crate) fn switch<P: Port>(txn: &mut Txn<P>, from: u8, to: u8)
 
 /// The status with these access modes, priority and stack, and all else 0.
 #[inline]
+#[tactic(auto, using(crate::proofs::Closed::below_first_part))]
 pub(crate) fn status(current: u8, previous: u8, level: u8, interrupt: bool) -> Psl
     requires current { current < 4 }
     requires previous { previous < 4 }
     requires level { level < 32 }
-    ensures { result ≡ status current previous level interrupt }
+    ensures exact { result ≡ status current previous level interrupt }
+    ensures closed { NothingOpen result }
 {
     let stack = interrupt as u32 * 0x400_0000;
     let modes = current as u32 * 0x100_0000 + previous as u32 * 0x40_0000;
@@ -64,7 +67,8 @@ pub(crate) fn status(current: u8, previous: u8, level: u8, interrupt: bool) -> P
 /// Lets control go on at an address, with another status.
 #[inline]
 pub(crate) fn go_on<P: Port>(txn: &mut Txn<P>, handler: u32, psl: Psl)
-    requires { 2 ≤ room txn.old }
+    requires closed { NothingOpen psl }
+    requires room { 2 ≤ room txn.old }
     ensures exact { present P.view txn.new ≡ with_state (present P.view txn.old) (at_handler handler psl (present P.view txn.old).state) }
     ensures keeps { Keeps P.view P.since 2 txn.old txn.new }
 {

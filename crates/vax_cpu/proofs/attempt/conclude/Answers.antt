@@ -4,8 +4,7 @@ use Rattle.vax_flat.specs.OverPort.{Follows}
 use Rattle.vax_flat.specs.State.{State}
 use Rattle.vax_undo.specs.Transaction.{present, told, undone}
 use Rattle.vax_cpu.specs.Tried.{LeadsBack}
-use Rattle.vax_cpu.proofs.Attempts.{done_from, kept, finished, parted, undone_as, ended_back}
-use Rattle.vax_cpu.proofs.Settled.{whole_unless}
+use Rattle.vax_cpu.proofs.Attempts.{kept, finished, parted, undone_as}
 use Rattle.vax_cpu.proofs.attempt.conclude.Goals as goal
 
 pub returns-in-More-clause-tried : goal.returns-in-More-clause-tried
@@ -16,20 +15,17 @@ returns-in-More-clause-tried g c = λ old tree follows back.
     (subst (λ w. Follows (tree old.state) old (told c.args.txn w) mid) is follows) (search rules) (search rules)
     (c.commit_part-start.ensures.start ∙ ap (λ (s : State). s.core) (subst (λ w. LeadsBack g.P.Port.view old w c.args.txn) is back))
 
-pub returns-in-None-clause-tried : goal.returns-in-None-clause-tried
-returns-in-None-clause-tried g c = λ old tree follows back.
+pub returns-in-Done-clause-tried : goal.returns-in-Done-clause-tried
+returns-in-Done-clause-tried g c = λ old tree follows back.
     let mid = present g.P.Port.view c.args.txn in
-    kept tree old mid (record { state = _; view = _ }) c.in-Ok.flow c.commit.result
-    (subst (λ w. Follows (tree old.state) old (told c.args.txn w) mid) c.in-Ok.is follows)
-    (done_from c.in-Ok.flow (search rules)) (search rules) (search rules) c.commit.ensures.sent
+    let is = c.in-Ok.is ∙ ap (λ (x : Flow). Ok x) c.in-Done.is in
+    kept tree old mid (record { state = _; view = _ }) c.commit.result (subst (λ w. Follows (tree old.state) old (told c.args.txn w) mid) is follows)
+    (search rules) (search rules) c.commit.ensures.sent
 
-pub returns-in-Some-clause-tried : goal.returns-in-Some-clause-tried
-returns-in-Some-clause-tried g c = λ old tree follows back.
+pub returns-in-Ended-clause-tried : goal.returns-in-Ended-clause-tried
+returns-in-Ended-clause-tried g c = λ old tree follows back.
     let mid = present g.P.Port.view c.args.txn in
-    let whole = whole_unless c.in-Ok.flow c.in_default.not-More in
-    finished tree old mid (record { state = _; view = _ }) c.in-Ok.flow c.in-Some.ending
-    (subst (λ w. Follows (tree old.state) old (told c.args.txn w) mid) c.in-Ok.is follows)
-    (search rules) c.unwind.ensures.marks
-    (undone_as old (undone g.P.Port.view c.args.txn) _ _ c.unwind.ensures.state c.unwind.ensures.view
-    (ended_back g.P.Port.view old c.in-Ok.flow c.in-Some.ending c.args.txn whole (search rules) (subst (λ w. LeadsBack g.P.Port.view old w c.args.txn) c.in-Ok.is back)))
-    whole
+    let is = c.in-Ok.is ∙ ap (λ (x : Flow). Ok x) c.in-Ended.is in
+    finished tree old mid (record { state = _; view = _ }) c.in-Ended.ending (subst (λ w. Follows (tree old.state) old (told c.args.txn w) mid) is follows)
+    c.unwind.ensures.marks
+    (undone_as old (undone g.P.Port.view c.args.txn) _ _ c.unwind.ensures.state c.unwind.ensures.view (subst (λ w. LeadsBack g.P.Port.view old w c.args.txn) is back))

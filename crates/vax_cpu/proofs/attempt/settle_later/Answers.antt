@@ -3,6 +3,7 @@ use Rattle.vax_flat.specs.OverPort.{Present}
 use Rattle.vax_undo.specs.Transaction.{state_of}
 use Rattle.vax_cpu.specs.declared.attempt.Tried.{Tried}
 use Rattle.vax_cpu.specs.Tried.{IsTried}
+use Rattle.vax_cpu.proofs.Attempts.{step_closed_later}
 use Rattle.vax_cpu.proofs.Settled.{later_delivered, later_ended, later_made}
 use Rattle.vax_cpu.proofs.Steps.{final_of}
 use Rattle.vax_cpu.proofs.attempt.settle_later.Goals as goal
@@ -20,3 +21,6 @@ returns-in-Ended-clause-made g c = λ tree old is.
 
 pub returns-in_default-clause-made : goal.returns-in_default-clause-made
 returns-in_default-clause-made g c = λ tree old is. later_made tree old _ c.args.start c.args.tried (final_of c.args.tried c.in_default.not-Event) c.in_default.not-Ended is
+
+pub returns-in_default-clause-closed : goal.returns-in_default-clause-closed
+returns-in_default-clause-closed g c = λ start closed. step_closed_later c.args.core.now.psl c.args.tried closed c.in_default.not-Ended

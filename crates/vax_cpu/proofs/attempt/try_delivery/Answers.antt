@@ -1,9 +1,10 @@
 use Rattle.std.proofs.Common.{◌≤◌, ◌∙◌, ap, subst, sym, rules}
 use Rattle.vax_flat.specs.OverPort.{Present, Follows}
 use Rattle.vax_flat.specs.Step.{delivered, whole_delivery}
+use Rattle.vax_undo.specs.FirstPart.{NothingOpen}
 use Rattle.vax_undo.specs.Rooms.{room_of_end}
 use Rattle.vax_undo.specs.Transaction.{bare, present, state_of, told}
-use Rattle.vax_cpu.proofs.Attempts.{clock_at, clock_unless, leads_back, quiet_final, tried_at}
+use Rattle.vax_cpu.proofs.Attempts.{clock_at, clock_unless, closed_at, closed_unless, closes_through, leads_back, quiet_final, tried_at}
 use Rattle.vax_cpu.proofs.attempt.try_delivery.Goals as goal
 
 pub returns-clause-tried : goal.returns-clause-tried
@@ -28,3 +29,10 @@ returns-clause-clock g c = λ within.
     clock_at _ c.conclude.new.txn.0.clock c.conclude.result (search rules) (c.conclude.ensures.clock
     (clock_unless g.P.Port.view g.P.Port.since room_of_end c.work_delivery-done.result c.begin-txn.result c.work_delivery-done.new.txn c.work_delivery-done.ensures.keeps (subst (λ (p : Present). p.state.core.clock ≤ 999) (sym begun) within))
     (c.work_delivery-done.ensures.same.clock (subst (λ (p : Present). p.state.core.clock ≤ 999) (sym c.begin-txn.ensures.present) within)))
+
+pub returns-clause-closed : goal.returns-clause-closed
+returns-clause-closed g c = λ closed.
+    let begun = c.begin-txn.ensures.undone ∙ ap bare c.begin-txn.ensures.present in
+    closed_at _ c.conclude.new.txn.0.psl c.conclude.result (search rules) (c.conclude.ensures.closed
+    (closed_unless g.P.Port.view g.P.Port.since room_of_end c.work_delivery-done.result c.begin-txn.result c.work_delivery-done.new.txn c.work_delivery-done.ensures.keeps (subst (λ (p : Present). NothingOpen p.state.core.psl) (sym begun) closed))
+    (closes_through g.P.Port.view g.P.Port.since room_of_end c.work_delivery-done.result c.begin-txn.result c.work_delivery-done.new.txn c.work_delivery-done.ensures.keeps (subst (λ (p : Present). NothingOpen p.state.core.psl) (sym c.begin-txn.ensures.present) closed)))

@@ -1,9 +1,13 @@
 use Rattle.std.proofs.Common.{◌≤◌, ◌∙◌, ap, subst, sym, rules}
+use Rattle.vax_word.specs.declared.Core.{Core}
+use Rattle.vax_cpu.specs.declared.attempt.Tried.TheVariants as tried
+use Rattle.vax_cpu.specs.Tried.{ClosesIfDone}
+use Rattle.vax_undo.specs.FirstPart.{NothingOpen}
 use Rattle.vax_flat.specs.OverPort.{Present, Follows}
 use Rattle.vax_flat.specs.Parts.{later, later_step}
 use Rattle.vax_undo.specs.Rooms.{room_of_step}
 use Rattle.vax_undo.specs.Transaction.{bare, present, state_of, told}
-use Rattle.vax_cpu.proofs.Attempts.{clock_at, clock_unless, leads_back, tried_at}
+use Rattle.vax_cpu.proofs.Attempts.{clock_at, clock_unless, closed_at, leads_back, tried_at}
 use Rattle.vax_cpu.proofs.attempt.try_later.Goals as goal
 
 pub returns-clause-tried : goal.returns-clause-tried
@@ -20,3 +24,10 @@ returns-clause-clock g c = λ within.
     clock_at _ c.conclude.new.txn.0.clock c.conclude.result (search rules) (c.conclude.ensures.clock
     (clock_unless g.P.Port.view g.P.Port.since room_of_step c.work_later-done.result c.begin-txn.result c.work_later-done.new.txn c.work_later-done.ensures.keeps (subst (λ (p : Present). p.state.core.clock ≤ 999) (sym begun) within))
     (c.work_later-done.ensures.same.clock (subst (λ (p : Present). p.state.core.clock ≤ 999) (sym c.begin-txn.ensures.present) within)))
+
+pub returns-clause-closed : goal.returns-clause-closed
+returns-clause-closed g c = λ sent is.
+    let kept = c.conclude.ensures.kept sent is in
+    let done = c.conclude.ensures.completed sent is in
+    closed_at _ c.conclude.new.txn.0.psl (tried.Step sent) (search rules)
+    (subst (λ (x : Core). NothingOpen x.psl) (sym kept) (subst (λ w. ClosesIfDone w c.work_later-done.new.txn.core.now.psl) done c.work_later-done.ensures.closed))

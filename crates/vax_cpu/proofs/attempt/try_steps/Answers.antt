@@ -2,9 +2,11 @@ use Rattle.std.proofs.Common.{◌≤◌, ◌∙◌, Ok, ap, subst, sym, arith, r
 use Rattle.vax_flat.specs.declared.Flow.TheVariants as flow
 use Rattle.vax_flat.specs.OverPort.{Present, Follows}
 use Rattle.vax_flat.specs.Parts.{part, part_step}
+use Rattle.vax_undo.specs.FirstPart.{NothingOpen}
 use Rattle.vax_undo.specs.Rooms.{room_of_step}
 use Rattle.vax_undo.specs.Transaction.{present, told}
-use Rattle.vax_cpu.proofs.Attempts.{clock_at, clock_unless, done_of, renewed_step, sent_step, ran_more, tried_at, leads_back}
+use Rattle.vax_cpu.specs.Tried.{ClosesIfDone}
+use Rattle.vax_cpu.proofs.Attempts.{clock_at, clock_unless, closed_at, closed_unless, closes_through, still_closed, done_of, renewed_step, sent_step, ran_more, tried_at, leads_back}
 use Rattle.vax_cpu.proofs.attempt.try_steps.Goals as goal
 
 pub loop-steps-preserved : goal.loop-steps-preserved
@@ -30,6 +32,9 @@ loop-steps-preserved g c =
       unsent = ap (λ (p : Present). p.state.sent) c.renew.ensures.present;
       input = c.renew.ensures.same.input ∙ same.input ∙ inv.input;
       clock = λ h. c.renew.ensures.same.clock (same.clock (inv.clock h));
+      closed = λ h. still_closed c.work-done.new.txn.core.now.psl c.renew.new.self.core.now.psl c.renew.ensures.closed
+          (subst (λ w. ClosesIfDone w c.work-done.new.txn.core.now.psl) done
+          (closes_through view g.P.Port.since room_of_step c.work-done.result c.loop-steps.txn c.work-done.new.txn c.work-done.ensures.keeps (inv.closed h)));
       since = λ start h. c.renew.ensures.same.since start (same.since start (inv.since start h));
     }
 
@@ -79,3 +84,24 @@ returns-then-not-is_done-clause-clock g c = λ within.
     clock_at _ c.conclude-last.new.txn.0.clock c.conclude-last.result (search rules) (c.conclude-last.ensures.clock
     (clock_unless g.P.Port.view g.P.Port.since room_of_step c.work-done.result c.loop-steps.txn c.work-done.new.txn c.work-done.ensures.keeps (subst (λ (p : Present). p.state.core.clock ≤ 999) (sym c.loop-steps.invariant.undone) now))
     (c.work-done.ensures.same.clock now))
+
+pub returns-clause-closed : goal.returns-clause-closed
+returns-clause-closed g c = λ closed.
+    let now = c.loop-steps.invariant.closed closed in
+    closed_at _ c.conclude-last-2.new.txn.0.psl c.conclude-last-2.result (search rules) (c.conclude-last-2.ensures.closed
+    (closed_unless g.P.Port.view g.P.Port.since room_of_step c.work_once-done.result c.loop-steps.txn c.work_once-done.new.txn c.work_once-done.ensures.keeps (subst (λ (p : Present). NothingOpen p.state.core.psl) (sym c.loop-steps.invariant.undone) now))
+    (closes_through g.P.Port.view g.P.Port.since room_of_step c.work_once-done.result c.loop-steps.txn c.work_once-done.new.txn c.work_once-done.ensures.keeps now))
+
+pub returns-then-not-is_done-clause-closed : goal.returns-then-not-is_done-clause-closed
+returns-then-not-is_done-clause-closed g c = λ closed.
+    let now = c.loop-steps.invariant.closed closed in
+    closed_at _ c.conclude-last.new.txn.0.psl c.conclude-last.result (search rules) (c.conclude-last.ensures.closed
+    (closed_unless g.P.Port.view g.P.Port.since room_of_step c.work-done.result c.loop-steps.txn c.work-done.new.txn c.work-done.ensures.keeps (subst (λ (p : Present). NothingOpen p.state.core.psl) (sym c.loop-steps.invariant.undone) now))
+    (closes_through g.P.Port.view g.P.Port.since room_of_step c.work-done.result c.loop-steps.txn c.work-done.new.txn c.work-done.ensures.keeps now))
+
+pub returns-in-Some-clause-closed : goal.returns-in-Some-clause-closed
+returns-in-Some-clause-closed g c = λ closed.
+    let done = done_of c.work-done.result (search rules) in
+    let mid = closes_through g.P.Port.view g.P.Port.since room_of_step c.work-done.result c.loop-steps.txn c.work-done.new.txn c.work-done.ensures.keeps (c.loop-steps.invariant.closed closed) in
+    let ended = still_closed c.work-done.new.txn.core.now.psl c.renew.new.self.core.now.psl c.renew.ensures.closed (subst (λ w. ClosesIfDone w c.work-done.new.txn.core.now.psl) done mid) in
+    search (rules, ended)

@@ -1,4 +1,5 @@
 use Rattle.std.proofs.Common.{◌≡◌, ◌-◌, ◌<◌, ◌≤◌, None}
+use Rattle.vax_undo.specs.FirstPart.{NothingOpen}
 use Rattle.vax_undo.specs.Transaction.{bare, present, undone, room, state_of, IsReady}
 use Rattle.vax_cpu.specs.Batch.{Ran}
 use Rattle.vax_cpu.proofs.attempt.try_steps.Given as goal
@@ -17,6 +18,7 @@ invariant-loop-steps g l = record {
   unsent : l.txn.term.now.out ≡ None;
   input : l.txn.term.now.input ≡ l.fn.term.input;
   clock : l.fn.core.clock ≤ 999 → l.txn.core.now.clock ≤ 999;
+  closed : NothingOpen l.fn.core.psl → NothingOpen l.txn.core.now.psl;
   since : (start : _) → g.P.Port.since start l.fn.port → g.P.Port.since start l.txn.port.now;
 }
 

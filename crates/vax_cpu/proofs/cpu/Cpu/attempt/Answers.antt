@@ -1,4 +1,5 @@
-use Rattle.std.proofs.Common.{sym, ap, subst, ◌∙◌}
+use Rattle.std.specs.Prelude.{IfSome}
+use Rattle.std.proofs.Common.{Option, Some, sym, ap, subst, ◌∙◌}
 use Rattle.vax_flat.specs.OverPort.{Present}
 use Rattle.vax_undo.specs.Transaction.{state_of}
 use Rattle.vax_cpu.specs.declared.cpu.Attempt.{Attempt}
@@ -16,7 +17,7 @@ returns-clause-attempted g c = λ place at st.
     let after = g.P.Port.view c.try_once-tried.new.port in
     let cpu : Cpu = record { core = c.try_once-tried.new.core; term = c.try_once-tried.new.term; latch = c.open_after-self.result } in
     let new : Present = record { state = state_of c.try_once-tried.new.core c.try_once-tried.new.term; view = after } in
-    subst (λ (a : Attempt). Attempted view place a cpu after) (sym c.answer_of.ensures)
+    subst (λ (o : Option Attempt). IfSome o (λ a. Attempted view place a cpu after)) c.answer_of.ensures
     (attempted view place st (running_there old view place at) cpu after (input_there old view place at ∙ ap (λ v. v.items) (sym c.try_once-tried.ensures.input)) c.try_once-tried.result
     (made_there old view place at c.try_once-tried.result new c.requires.unsent c.try_once-tried.ensures.made)
     (c.open_after-self.ensures ∙ ap (λ latch. open_after latch c.try_once-tried.result) at.open_one))
@@ -27,17 +28,17 @@ returns-clause-before g c =
     let view = g.P.Port.view c.args.port.now in
     let after = g.P.Port.view c.try_once-tried.new.port in
     let cpu : Cpu = record { core = c.try_once-tried.new.core; term = c.try_once-tried.new.term; latch = c.open_after-self.result } in
-    subst (λ (a : Attempt). IsAsBefore a old view cpu after) (sym c.answer_of.ensures)
+    subst (λ (o : Option Attempt). IfSome o (λ a. IsAsBefore a old view cpu after)) c.answer_of.ensures
     (as_before old cpu view after (ap (λ v. v.items) c.try_once-tried.ensures.input) c.try_once-tried.result
     (unmoved (start_by old.latch old.core) _ _ (tree_of old.latch) c.try_once-tried.result c.try_once-tried.ensures.made))
 
 pub returns-clause-absent : goal.returns-clause-absent
 returns-clause-absent g c =
     let old = c.args.self.now in
-    subst (λ (a : Attempt). StopsInside a (g.P.Port.view c.args.port.now)) (sym c.answer_of.ensures)
+    subst (λ (o : Option Attempt). IfSome o (λ a. StopsInside a (g.P.Port.view c.args.port.now))) c.answer_of.ensures
     (inside (tree_of old.latch) (start_by old.latch old.core) c.try_once-tried.result _ _ c.try_once-tried.ensures.made)
 
 pub returns-clause-latch : goal.returns-clause-latch
 returns-clause-latch g c =
-    subst (λ (a : Attempt). IsOpenAfter a c.args.self.now.latch c.open_after-self.result) (sym c.answer_of.ensures)
+    subst (λ (o : Option Attempt). IfSome o (λ a. IsOpenAfter a c.args.self.now.latch c.open_after-self.result)) c.answer_of.ensures
     (opens c.args.self.now.latch c.open_after-self.result c.try_once-tried.result c.open_after-self.ensures)

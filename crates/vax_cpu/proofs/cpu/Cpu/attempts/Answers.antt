@@ -1,4 +1,5 @@
-use Rattle.std.proofs.Common.{sym, ap, subst, ◌∙◌, refl}
+use Rattle.std.specs.Prelude.{IfSome}
+use Rattle.std.proofs.Common.{Option, Some, sym, ap, subst, ◌∙◌, refl}
 use Rattle.vax_flat.specs.OverPort.{Present}
 use Rattle.vax_flat.specs.Parts.{part_step}
 use Rattle.vax_undo.specs.Transaction.{state_of}
@@ -17,7 +18,7 @@ returns-clause-steps g c = λ closed memory output st.
     let after = g.P.Port.view c.settle-last.new.port in
     let ran = c.try_steps-several.ensures.ran in
     let r = reaches view m c.try_steps-several.result.steps _ ran.0 (at_start c.args.self.now.core c.args.self.now.term view m refl c.requires.unsent refl refl refl st) refl ran.1 in
-    subst (λ (a : Attempt). AreAttempts view m c.try_steps-several.result.steps a cpu after) (sym c.answer_of.ensures)
+    subst (λ (o : Option Attempt). IfSome o (λ a. AreAttempts view m c.try_steps-several.result.steps a cpu after)) c.answer_of.ensures
     (are_attempts view m c.try_steps-several.result.steps ran.0 r cpu after (ap (λ v. v.items) (sym c.try_steps-several.ensures.input ∙ sym c.settle-last.ensures.input)) c.settle-last.result
     (c.settle-last.ensures.made part_step ran.0 ran.2) c.open_after-self.ensures)
 
@@ -25,7 +26,7 @@ pub returns-clause-absent : goal.returns-clause-absent
 returns-clause-absent g c =
     let new : Present = record { state = state_of c.settle-last.new.core c.settle-last.new.term; view = g.P.Port.view c.settle-last.new.port } in
     let ran = c.try_steps-several.ensures.ran in
-    subst (λ (a : Attempt). StopsInside a (g.P.Port.view c.args.port.now)) (sym c.answer_of.ensures)
+    subst (λ (o : Option Attempt). IfSome o (λ a. StopsInside a (g.P.Port.view c.args.port.now))) c.answer_of.ensures
     (inside_batch c.try_steps-several.result.steps ran.0.state.core _ ran.0 new c.settle-last.result ran.1 (c.settle-last.ensures.made part_step ran.0 ran.2))
 
 pub returns-clause-all : goal.returns-clause-all
@@ -34,4 +35,4 @@ returns-clause-all g c = λ closed memory output st is.
     let m = flat_of c.args.self.now memory output in
     let ran = c.try_steps-several.ensures.ran in
     let r = reaches view m c.try_steps-several.result.steps _ ran.0 (at_start c.args.self.now.core c.args.self.now.term view m refl c.requires.unsent refl refl refl st) refl ran.1 in
-    goes_on view m c.try_steps-several.result.steps ran.0 r c.args.most c.try_steps-several.result.last c.settle-last.result _ c.settle-last.ensures.kept c.try_steps-several.ensures.all ran.2 (sym c.answer_of.ensures ∙ is)
+    goes_on view m c.try_steps-several.result.steps ran.0 r c.args.most c.try_steps-several.result.last c.settle-last.result _ c.settle-last.ensures.kept c.try_steps-several.ensures.all ran.2 (c.answer_of.ensures ∙ ap (λ (x : Attempt). Some x) is)

@@ -6,5 +6,5 @@ use Rattle.vax_undo.proofs.txn.Txn.set_clock.Goals as goal
 pub returns-clause-keeps : goal.returns-clause-keeps
 returns-clause-keeps g c =
     logged g.P.Port.view g.P.Port.since c.args.self.now _ (record { old = c.args.self.now.core.now.clock; addr = 0; number = 0; mode = 0; kept = kept.Clock; spare = 0 })
-    (rw c.of.ensures at c.push.ensures.items) refl (record { core = refl; term = refl; port = refl; input = refl; clock = λ h. c.requires.of_clock; since = λ start h. h })
+    (rw c.of.ensures at c.push.ensures.items) refl refl (record { core = refl; term = refl; port = refl; input = refl; clock = λ h. c.requires.of_clock; since = λ start h. h })
     (refl) refl refl (search rules)

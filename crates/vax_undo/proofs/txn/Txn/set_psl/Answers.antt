@@ -7,5 +7,6 @@ returns-clause-keeps g c = record {
   undone = undone_alike c.args.self.now.origin c.args.self.now.log.items _ _ refl;
   ready = λ ready. ready;
   room = omega arith;
+  closed = c.requires.closed;
   same = record { core = refl; term = refl; port = refl; input = refl; clock = λ h. h; since = λ start h. h };
 }

@@ -7,7 +7,7 @@ use Rattle.vax_undo.proofs.txn.Txn.set_reg.Goals as goal
 pub returns-clause-keeps : goal.returns-clause-keeps
 returns-clause-keeps g c =
     logged g.P.Port.view g.P.Port.since c.args.self.now _ (record { old = c.register_of-old.result; addr = 0; number = c.args.n; mode = 0; kept = kept.Register; spare = 0 })
-    (rw c.of.ensures at c.push.ensures.items) refl (record { core = refl; term = refl; port = refl; input = refl; clock = λ h. h; since = λ start h. h })
+    (rw c.of.ensures at c.push.ensures.items) refl refl (record { core = refl; term = refl; port = refl; input = refl; clock = λ h. h; since = λ start h. h })
     (rw (c.register_of-old.ensures, set_back) refl) refl refl (c.requires.of_core, omega arith)
 
 pub returns-then-n-eq15-clause-keeps : goal.returns-then-n-eq15-clause-keeps
@@ -15,5 +15,6 @@ returns-then-n-eq15-clause-keeps g c = record {
   undone = undone_alike c.args.self.now.origin c.args.self.now.log.items _ _ (pc_set c.args.self.now.origin (bare (present g.P.Port.view c.args.self.now)) c.args.v);
   ready = λ ready. ready;
   room = omega arith;
+  closed = omega arith;
   same = record { core = refl; term = refl; port = refl; input = refl; clock = λ h. h; since = λ start h. h };
 }

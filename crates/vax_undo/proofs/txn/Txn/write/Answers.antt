@@ -29,7 +29,7 @@ returns-in-Ok-write-clause-keeps g c =
     c.in-Ok-write.ensures.stored ∙ (rw c.in-Ok.ensures.same (full_store view c.args.addr c.args.n c.args.value c.args.mode free)) in
     let parts = is_free view c.args.addr c.args.n c.args.mode free in
     logged_marked g.P.Port.view g.P.Port.since c.args.self.now _ (record { old = c.in-Ok.old; addr = c.args.addr; number = c.args.n; mode = c.args.mode; kept = kept.Bytes; spare = 0 })
-    c.push.ensures.items refl
+    c.push.ensures.items refl refl
     (record { core = refl; term = refl; port = refl; input = refl; clock = λ h. h; since = λ start h. c.in-Ok-write.ensures.since start (c.in-Ok.ensures.since start h) })
     (ap (with_view (bare (present g.P.Port.view c.args.self.now)))
     (ap (λ v. with_number_back (unmarked v) c.args.addr c.args.n c.in-Ok.old) now ∙ bytes_back view c.args.addr c.args.n c.args.value c.in-Ok.old c.args.mode c.in-Ok.ensures.bytes c.in-Ok.ensures.answer))
