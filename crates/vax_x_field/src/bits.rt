@@ -1,7 +1,7 @@
 //! Bits of numbers, by masks and shifts.
-ghost use Rattle.std.specs.Prelude.{◌≡◌, ◌+◌, ◌-◌, ◌*◌, ◌^◌, ◌<◌, ◌≤◌, [], ◌∷◌};
+ghost use Rattle.std.specs.Prelude.{◌≡◌, ◌+◌, ◌-◌, ◌*◌, ◌^◌, ◌<◌, ◌≤◌, [], ◌∷◌, true, false};
 ghost use Rattle.vax_word.specs.Arithmetic.{answer};
-ghost use Rattle.vax_flat.specs.Field.{bits_of, number_of, part, with_part, widened, before_first};
+ghost use Rattle.vax_flat.specs.Field.{bits_of, number_of, part, with_part, highest, widened, before_first};
 
 use vax_flat::Holder;
 use vax_word::{Codes, Size, is_negative};
@@ -17,7 +17,6 @@ fn ones(count: u8) -> u64
 
 /// The bits of a field, from all those of what holds it.
 #[inline(always)]
-#[tactic(auto, using(crate::proofs::BitLaws::length_of))]
 pub(crate) fn part(holder: Holder, held: u64, size: u8) -> u64
     requires within { holder.first + size ≤ 8 * holder.width }
     requires first { holder.first < 32 }
@@ -31,7 +30,6 @@ pub(crate) fn part(holder: Holder, held: u64, size: u8) -> u64
 
 /// All the bits of what holds a field, with the lowest of another number in the field's place.
 #[inline(always)]
-#[tactic(auto, using(crate::proofs::BitLaws::length_of))]
 pub(crate) fn with_part(holder: Holder, held: u64, size: u8, new: u64) -> u64
     requires within { holder.first + size ≤ 8 * holder.width }
     requires first { holder.first < 32 }
@@ -46,7 +44,6 @@ pub(crate) fn with_part(holder: Holder, held: u64, size: u8, new: u64) -> u64
 
 /// The same where the field is one bit.
 #[inline(always)]
-#[tactic(auto, using(crate::proofs::BitLaws::length_of))]
 pub(crate) fn with_bit(holder: Holder, held: u64, new: bool) -> u64
     requires within { holder.first + 1 ≤ 8 * holder.width }
     requires first { holder.first < 32 }
@@ -57,33 +54,55 @@ pub(crate) fn with_bit(holder: Holder, held: u64, new: bool) -> u64
     with_part(holder, held, 1, u64::from(new))
 }
 
+/// Whether the highest bit of a field is 1. An empty field has none.
+#[inline(always)]
+fn is_negative_field(size: u8, field: u64) -> bool
+    requires short { size ≤ 32 }
+    requires fits { field < 2 ^ size }
+    ensures { result ≡ highest (bits_of size field) }
+{
+    size > 0 && field >> (size - 1) == 1
+}
+
 /// A field as a longword, with its sign or with zeros in front.
 #[inline(always)]
-#[tactic(auto, using(crate::proofs::BitLaws::length_of))]
 pub(crate) fn widen(signed: bool, size: u8, field: u64) -> u64
     requires short { size ≤ 32 }
     requires fits { field < 2 ^ size }
     ensures exact { result ≡ widened signed (bits_of size field) }
     ensures fits { result < 2 ^ 32 }
 {
-    if signed && size > 0 && field >> (size - 1) == 1 {
+    let negative = is_negative_field(size, field);
+    if signed && negative {
         field + ((1 << 32) - (1 << size))
     } else {
         field
     }
 }
 
+/// How many bits of a field come before the first 1, all of them where none is.
+#[inline(always)]
+fn before_one(size: u8, field: u64) -> u32
+    requires short { size ≤ 32 }
+    requires fits { field < 2 ^ size }
+    ensures { result ≡ before_first true (bits_of size field) }
+{
+    (field + (1 << size)).trailing_zeros()
+}
+
 /// How many bits of a field come before the first that is so, all of them where none is.
 #[inline(always)]
-#[tactic(auto, using(crate::proofs::BitLaws::length_of))]
 pub(crate) fn before_first(set: bool, size: u8, field: u64) -> u32
     requires short { size ≤ 32 }
     requires fits { field < 2 ^ size }
     ensures exact { result ≡ before_first set (bits_of size field) }
     ensures within { result ≤ size }
 {
-    let looked_for = if set { field } else { ones(size) - field };
-    (looked_for + (1 << size)).trailing_zeros()
+    if set {
+        before_one(size, field)
+    } else {
+        before_one(size, ones(size) - field)
+    }
 }
 
 /// A longword as a result, with the codes that are read from it and the carry as it was.
@@ -91,7 +110,8 @@ pub(crate) fn before_first(set: bool, size: u8, field: u64) -> u32
 #[tactic(auto, unfolding(vax_word::specs::Arithmetic::answer))]
 pub(crate) fn answer_of(value: u64, carry: bool) -> (u64, Codes)
     requires { value < 256 ^ 4 }
-    ensures { result ≡ answer Size.L value false carry }
+    ensures exact { result ≡ answer Size.L value false carry }
+    ensures fits { result.0 < 256 ^ 4 }
 {
     let n = is_negative(Size::L, value);
     (value, Codes { n, z: value == 0, v: false, c: carry })

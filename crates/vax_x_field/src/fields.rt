@@ -47,7 +47,6 @@ pub(crate) fn is_reserved(position: u32, size: u8, base: Operand) -> bool
 
 /// The bytes from an address to the one in which a signed position is, rounded down.
 #[inline(always)]
-#[tactic(auto, using(crate::proofs::BitLaws::length_of))]
 fn bytes_before(position: u32) -> u32
     ensures { result ≡ bytes_before position }
 {
