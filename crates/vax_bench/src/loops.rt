@@ -17,6 +17,9 @@ const MEMORY: [u8; 16] = [
 /// `A: BSBB B`, `SOBGTR R0,A`, `B: RSB`
 const CALLS: [u8; 6] = [0x10, 0x03, 0xF5, 0x50, 0xFB, 0x05];
 
+/// `A: EXTZV #4,#12,R1,R2`, `SOBGTR R0,A`
+const FIELDS: [u8; 8] = [0xEF, 0x04, 0x0C, 0x51, 0x52, 0xF5, 0x50, 0xF8];
+
 /// `A: MOVL R1,(R7)`, `ADDL2 #512,R7`, `CMPL R7,R8`, `BLSS A`, `MOVL R9,R7`, `BRB A`: a write to each page from R9 to R8 in turn
 const PAGES: [u8; 20] = [
     0xD0, 0x51, 0x67, 0xC0, 0x8F, 0x00, 0x02, 0x00, 0x00, 0x57, 0xD1, 0x57, 0x58, 0x19, 0xF1, 0xD0,
@@ -32,6 +35,7 @@ pub(crate) fn code_of(name: &str) -> Option<&'static [u8]>
         "registers" => Some(&REGISTERS),
         "memory" => Some(&MEMORY),
         "calls" => Some(&CALLS),
+        "fields" => Some(&FIELDS),
         "pages" => Some(&PAGES),
         _ => None,
     }

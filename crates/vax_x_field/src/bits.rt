@@ -114,5 +114,13 @@ pub(crate) fn answer_of(value: u64, carry: bool) -> (u64, Codes)
     ensures fits { result.0 < 256 ^ 4 }
 {
     let n = is_negative(Size::L, value);
-    (value, Codes { n, z: value == 0, v: false, c: carry })
+    (
+        value,
+        Codes {
+            n,
+            z: value == 0,
+            v: false,
+            c: carry,
+        },
+    )
 }

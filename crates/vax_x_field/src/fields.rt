@@ -38,8 +38,8 @@ pub(crate) fn is_reserved(position: u32, size: u8, base: Operand) -> bool
 {
     size > 32
         || match base {
-            Operand::FieldRegister(n) =>
-                size != 0 && (position > 31 || n == 14 && position + u32::from(size) > 32),
+            Operand::FieldRegister(n) => size != 0
+                && (position > 31 || n == 14 && position + u32::from(size) > 32),
             Operand::Memory(_) | Operand::Value(_) | Operand::Register(_) | Operand::Target(_) =>
                 false,
         }
@@ -92,11 +92,17 @@ pub(crate) fn holder_of(position: u32, size: u8, base: Operand) -> Holder
     match base {
         Operand::FieldRegister(n) => Holder {
             place: Operand::Register(n),
-            width: if position + u32::from(size) <= 32 { 4 } else { 8 },
+            width: if position + u32::from(size) <= 32 {
+                4
+            } else {
+                8
+            },
             first: position as u8,
         },
         Operand::Memory(addr) => bytes_at(addr, position, size),
-        Operand::Value(_) | Operand::Register(_) | Operand::Target(_) => bytes_at(0, position, size),
+        Operand::Value(_) | Operand::Register(_) | Operand::Target(_) => bytes_at(
+            0, position, size,
+        ),
     }
 }
 

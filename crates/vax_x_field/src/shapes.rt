@@ -54,7 +54,10 @@ fn compare<P: Port>(txn: &mut Txn<P>, signed: bool) -> Result<Flow, CutShort>
     let base = next_base(txn)?;
     let source = next_value(txn, Size::L)?;
     let bits = field_bits(txn, position, size, base)?;
-    set_codes(txn, vax_word::compare(Size::L, widen(signed, size, bits), source));
+    set_codes(
+        txn,
+        vax_word::compare(Size::L, widen(signed, size, bits), source),
+    );
     Ok(Flow::Done)
 }
 
@@ -187,11 +190,7 @@ fn branch_on<P: Port>(
 
 /// BBS, BBC, BBSS, BBCS, BBSC, BBCC, BBSSI, BBCCI.
 #[tactic(auto, unfolding(vax_flat::specs::Field::branch))]
-fn branch<P: Port>(
-    txn: &mut Txn<P>,
-    set: bool,
-    becomes: Option<bool>,
-) -> Result<Flow, CutShort>
+fn branch<P: Port>(txn: &mut Txn<P>, set: bool, becomes: Option<bool>) -> Result<Flow, CutShort>
     requires { 15 ≤ room txn.old }
     ensures exact { Follows (field.branch set becomes (present P.view txn.old).state) (present P.view txn.old) (told txn.new result) (present P.view txn.new) }
     ensures keeps { Keeps P.view P.since 15 txn.old txn.new }
