@@ -1,4 +1,4 @@
-//! Runs with exceptions, changes of stack, interrupts and the console. The expected values are worked by hand from the manual's rules.
+//! Runs with exceptions, changes of stack, interrupts and the console, with fields, queues and calls. The expected values are worked by hand from the manual's rules.
 use super::*;
 use std::alloc::Global;
 use std::test::Fail;
@@ -23,7 +23,7 @@ struct Row {
     at: u32,
 }
 
-static ROWS: [Row; 5] = [
+static ROWS: [Row; 8] = [
     // DIVL3 #0,#7,R1; NOP; and a handler of arithmetic traps, HALT
     Row {
         vector: (0x34 / 4, 0x8000_0208),
@@ -82,6 +82,50 @@ static ROWS: [Row; 5] = [
         bytes: &[0x0A, 2, 0, 0x80, 4, 0, 0, 0],
         at: 0x8010_1FF8,
     },
+    // EXTZV #-1,#2,@#F,R1; EXTZV #32,#0,R2,R3; EXTZV #32,#1,R2,R3, which is refused; .BYTE ^X80; F: .BYTE 1
+    Row {
+        vector: (0, 2),
+        code: &[
+            0xEF, 0x8F, 0xFF, 0xFF, 0xFF, 0xFF, 2, 0x9F, 0x18, 2, 0, 0x80, 0x51, 0xEF, 32, 0, 0x52,
+            0x53, 0xEF, 32, 1, 0x52, 0x53, 0x80, 1,
+        ],
+        steps: 2,
+        ending: Ending::Vector(0x18),
+        registers: [3, 0x8010_2000, 0x8000_0212, 0x1F_0004],
+        taken: 0,
+        bytes: &[0x80, 1],
+        at: 0x8000_0217,
+    },
+    // INSQUE @#E,@#H; REMQUE @#E,R1; HALT; H: .LONG H,H; E: two longwords
+    Row {
+        vector: (0, 2),
+        code: &[
+            0x0E, 0x9F, 0x1C, 2, 0, 0x80, 0x9F, 0x14, 2, 0, 0x80, 0x0F, 0x9F, 0x1C, 2, 0, 0x80,
+            0x51, 0x00, 0, 0x14, 2, 0, 0x80, 0x14, 2, 0, 0x80,
+        ],
+        steps: 2,
+        ending: Ending::Halt,
+        registers: [0x8000_021C, 0x8010_2000, 0x8000_0212, 0x1F_0004],
+        taken: 0,
+        bytes: &[
+            0x14, 2, 0, 0x80, 0x14, 2, 0, 0x80, 0x14, 2, 0, 0x80, 0x14, 2, 0, 0x80,
+        ],
+        at: 0x8000_0214,
+    },
+    // MOVL #^X80101E0B,SP; CALLS #0,@#SUB; HALT; .ENTRY SUB,^M<R2,R3,R4,R5,R6,R7,R8,R9,R10,R11>; MOVL FP,R1; RET
+    Row {
+        vector: (0, 2),
+        code: &[
+            0xD0, 0x8F, 0x0B, 0x1E, 0x10, 0x80, 0x5E, 0xFB, 0, 0x9F, 0x0F, 2, 0, 0x80, 0x00, 0xFC,
+            0x0F, 0xD0, 0x5D, 0x51, 0x04,
+        ],
+        steps: 4,
+        ending: Ending::Halt,
+        registers: [0x8010_1DC8, 0x8010_1E0B, 0x8000_020E, 0x1F_0000],
+        taken: 0,
+        bytes: &[0, 0, 0, 0, 0, 0, 0xFC, 0xEF],
+        at: 0x8010_1DC8,
+    },
 ];
 
 fn area(alloc: Global, first: u32, pages: u32, prot: u8, bytes: &[u8]) -> Result<Area, Fail> {
@@ -105,7 +149,7 @@ fn memory(alloc: Global, row: &Row) -> Result<Plain, Fail> {
     areas.push(area(alloc, 0x3F_FFFF, 1, 4, &[])?)?;
     areas.push(area(alloc, 0x40_0000, 1, 2, &vectors)?)?;
     areas.push(area(alloc, 0x40_0001, 1, 14, row.code)?)?;
-    areas.push(area(alloc, 0x40_080F, 1, 2, &[])?)?;
+    areas.push(area(alloc, 0x40_080E, 2, 2, &[])?)?;
     Ok(Plain::new(alloc, Space::new(alloc, areas)?)?)
 }
 

@@ -26,7 +26,8 @@ fn act<P: Port>(txn: &mut Txn<P>, action: Action) -> Result<Flow, CutShort>
         Action::System(instruction) => vax_x_sys::run(txn, instruction),
         Action::Call(instruction) => vax_x_call::run(txn, instruction),
         Action::Queue(instruction) => vax_x_queue::run(txn, instruction),
-        Action::Field(_) | Action::Text(_) => Ok(Flow::Ended(Ending::Unbuilt)),
+        Action::Field(instruction) => vax_x_field::run(txn, instruction),
+        Action::Text(_) => Ok(Flow::Ended(Ending::Unbuilt)),
     }
 }
 

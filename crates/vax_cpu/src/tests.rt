@@ -175,8 +175,8 @@ fn a_batch_up_to_a_halt(rt: HostRuntime) -> Result<(), Fail> {
 #[test]
 fn an_instruction_that_is_not_built(rt: HostRuntime) -> Result<(), Fail> {
     let alloc = rt.alloc();
-    // EXTV
-    let mut port = memory(alloc, &[0xEE])?;
+    // MOVC3
+    let mut port = memory(alloc, &[0x28])?;
     let core = registers(0, 0);
     assert_eq!(rt;
         attempt(alloc, &mut port, core),

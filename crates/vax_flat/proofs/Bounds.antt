@@ -1,6 +1,6 @@
 -- What each instruction and each delivery adds to what is touched. An instruction has at most 11 ranges for its operands and 2 for its work; a
 -- delivery has its vector, and a window at the stack.
-use Rattle.std.proofs.Common.{ℕ, suc, ◌+◌, ◌*◌, ◌/◌, ◌%◌, ◌^◌, ◌≤◌, Bool, true, false, not, ◌||◌, ◌&&◌, Option, Some, None, List, [], ◌∷◌, length, refl, sym, subst, inl, arith}
+use Rattle.std.proofs.Common.{◌≡◌, ℕ, suc, ◌+◌, ◌*◌, ◌/◌, ◌%◌, ◌^◌, ◌≤◌, Bool, true, false, not, ◌||◌, ◌&&◌, Option, Some, None, List, [], ◌∷◌, length, refl, sym, subst, inl, arith}
 use Rattle.std.specs.Prelude.{◌==◌, nat_lt, nat_le, min, if◌then◌else◌}
 use Rattle.vax_word.specs.declared.Codes.{Codes}
 use Rattle.vax_word.specs.declared.Psl.{Psl}
@@ -8,6 +8,7 @@ use Rattle.vax_word.specs.declared.Size.{Size}
 use Rattle.vax_word.specs.declared.Size.TheVariants as size
 use Rattle.vax_word.specs.Arithmetic.{bytes_of, is_less}
 use Rattle.vax_word.specs.Status.{field, is_one, ipl_of}
+use Rattle.std.proofs.lemmas.Bool.Decides.{nat_tests}
 use Rattle.std.proofs.lemmas.List.{length-map, length-reverse}
 use Rattle.vax_isa.specs.declared.OperandKind.{OperandKind}
 use Rattle.vax_isa.specs.declared.actions.AccessMode.{AccessMode}
@@ -17,13 +18,15 @@ use Rattle.vax_isa.specs.declared.actions.Integer.{Integer}
 use Rattle.vax_isa.specs.declared.actions.Integer.TheVariants as integer
 use Rattle.vax_isa.specs.declared.actions.Control.{Control}
 use Rattle.vax_isa.specs.declared.actions.Control.TheVariants as control
+use Rattle.vax_isa.specs.declared.actions.Field.{Field}
+use Rattle.vax_isa.specs.declared.actions.Field.TheVariants as field_action
 use Rattle.vax_isa.specs.declared.actions.System.{System}
 use Rattle.vax_isa.specs.declared.actions.System.TheVariants as system
 use Rattle.vax_isa.specs.declared.actions.Queue.{Queue}
 use Rattle.vax_isa.specs.declared.actions.Queue.TheVariants as queue
 use Rattle.vax_isa.specs.declared.actions.Call.{Call}
 use Rattle.vax_isa.specs.declared.actions.Call.TheVariants as call
-use Rattle.vax_isa.specs.Actions.{mode_number, size_of, of_integer, of_control, of_system, of_queue, of_call}
+use Rattle.vax_isa.specs.Actions.{mode_number, size_of, of_integer, of_control, of_field, of_system, of_queue, of_call}
 use Rattle.vax_isa.specs.Rows.{action_of}
 use Rattle.vax_flat.specs.declared.Delivery.{Delivery}
 use Rattle.vax_flat.specs.declared.Delivery.TheVariants.{Entered, Ended}
@@ -31,6 +34,7 @@ use Rattle.vax_flat.specs.declared.Exception.{Exception}
 use Rattle.vax_flat.specs.declared.Exception.TheVariants as exception
 use Rattle.vax_flat.specs.declared.Ending.TheVariants as ending
 use Rattle.vax_flat.specs.declared.Flow.{Flow}
+use Rattle.vax_flat.specs.declared.Holder.{Holder}
 use Rattle.vax_flat.specs.declared.Flow.TheVariants as flow
 use Rattle.vax_flat.specs.declared.Trap.TheVariants as trap
 use Rattle.vax_flat.specs.declared.Operand.{Operand}
@@ -38,9 +42,10 @@ use Rattle.vax_flat.specs.declared.Operand.TheVariants as operand
 use Rattle.vax_flat.specs.State.{State, register, mode, priority, overflow_enabled, next_input}
 use Rattle.vax_flat.specs.Accesses.{Accesses, Raises, Leaf}
 use Rattle.vax_flat.specs.Operand.{extended, write_in, asked}
-use Rattle.vax_flat.specs.Rows.{stored, flow_of, settled, answered, pushed}
+use Rattle.vax_flat.specs.Rows.{value_at, stored, flow_of, settled, answered, pushed}
 use Rattle.vax_flat.specs.Integer.{subscript_flow, pushed_result, performed as integer_performed}
 use Rattle.vax_flat.specs.Control.{called, return_subroutine, looped, chosen, performed as control_performed}
+use Rattle.vax_flat.specs.Field.{holder, is_reserved_field, held, put, field_bits, extracted, compared_field, found, inserted as inserted_field, becoming, branched_on, performed as field_performed}
 use Rattle.vax_flat.specs.Delivery.{on_interrupt_stack, takes_interrupt_stack, status, at_handler, served, interrupt_vector, change_vector, vectored, pushed_in, pushed_if, pushed_all, entered, dispatched, vector_of, parameters, delivery, interrupted, interrupt, changed, pushed_outside, changed_to, change_by, change_mode}
 use Rattle.vax_flat.specs.System.{flow_of_delivery, return_from, is_refused, pointer, input_byte, input_after, input_ready, return_exception, probed, set_processor, get_processor, status_set, status_cleared, unless_privileged, is_for_kernel, performed as system_performed}
 use Rattle.vax_flat.specs.Queue.{inserted, removed, is_odd, aligned_sum, performed as queue_performed}
@@ -49,7 +54,7 @@ use Rattle.vax_flat.specs.Instruction.{acted, acted_if, instruction}
 use Rattle.vax_flat.specs.Evaluation.{next_operands}
 use Rattle.vax_flat.specs.Step.{level, begun, finished, handed_over, whole, delivered}
 use Rattle.vax_flat.specs.Bound.{IsClosed, IsWhole}
-use Rattle.vax_flat.proofs.Listed.{place, value, of_integers, of_controls, of_systems, of_queues, of_calls, integer_takes, control_takes, system_takes, queue_takes, call_takes}
+use Rattle.vax_flat.proofs.Listed.{place, value, of_integers, of_controls, of_fields, of_systems, of_queues, of_calls, integer_takes, control_takes, field_takes, system_takes, queue_takes, call_takes}
 use Rattle.vax_flat.proofs.Windows.{IsPcNear, near_here, IsStackNear, stack_here, stack_below, stack_pushed, read_adds, write_adds, read_in_adds, fetched_adds, at_most, either}
 use Rattle.vax_flat.proofs.Frames.{IsTopNear, top_here, top_fewer, top_aligned, below_within, below_near, room_here, room_behind, few_named, few_framed, read_within, one_adds, pushes_add, pops_add}
 use Rattle.vax_flat.proofs.OperandBounds.{costs, AreWide, operands_add}
@@ -109,6 +114,29 @@ system_modest system.FromRegister = record { wide = ((size_wide size.L).0, (size
 system_modest system.MoveStatus = record { wide = ((size_wide size.L).0, (size_wide size.L).1, tt); few = omega arith; short = omega arith }
 system_modest system.SetStatus = record { wide = ((size_wide size.W).0, (size_wide size.W).1, tt); few = omega arith; short = omega arith }
 system_modest system.ClearStatus = record { wide = ((size_wide size.W).0, (size_wide size.W).1, tt); few = omega arith; short = omega arith }
+
+field_modest : (i : Field) → AreModest (of_field i)
+field_modest (field_action.Extract signed) = record { wide = ((size_wide size.L).0, (size_wide size.L).1, ((size_wide size.B).0, (size_wide size.B).1, ((size_wide size.B).0, (size_wide size.B).1, ((size_wide size.L).0, (size_wide size.L).1, tt)))); few = omega arith; short = omega arith }
+field_modest (field_action.Compare signed) = record { wide = ((size_wide size.L).0, (size_wide size.L).1, ((size_wide size.B).0, (size_wide size.B).1, ((size_wide size.B).0, (size_wide size.B).1, ((size_wide size.L).0, (size_wide size.L).1, tt)))); few = omega arith; short = omega arith }
+field_modest field_action.Insert = record { wide = ((size_wide size.L).0, (size_wide size.L).1, ((size_wide size.L).0, (size_wide size.L).1, ((size_wide size.B).0, (size_wide size.B).1, ((size_wide size.B).0, (size_wide size.B).1, tt)))); few = omega arith; short = omega arith }
+field_modest (field_action.FindFirst set) = record { wide = ((size_wide size.L).0, (size_wide size.L).1, ((size_wide size.B).0, (size_wide size.B).1, ((size_wide size.B).0, (size_wide size.B).1, ((size_wide size.L).0, (size_wide size.L).1, tt)))); few = omega arith; short = omega arith }
+field_modest (field_action.Branch set becomes) = record { wide = ((size_wide size.L).0, (size_wide size.L).1, ((size_wide size.B).0, (size_wide size.B).1, ((size_wide size.B).0, (size_wide size.B).1, tt))); few = omega arith; short = omega arith }
+
+few_bytes : (position size : ℕ) → nat_lt 32 size ≡ false → (position % 8 + size + 7) / 8 ≤ 8
+few_bytes position size short = let few : size ≤ 32 = grind (arith, nat_tests) in omega arith
+
+-- a field lies in at most 5 bytes, or in registers
+few_held : (position size : ℕ) (base : Operand) → is_reserved_field position size base ≡ false → (holder position size base).width ≤ 8
+unfolding is_reserved_field holder
+few_held position size (operand.Value x) fine = few_bytes position size fine
+few_held position size (operand.Register n) fine = few_bytes position size fine
+few_held position size (operand.Memory addr) fine = few_bytes position size fine
+few_held position size (operand.FieldRegister n) fine = by (nat_le (position + size) 32)
+  where
+    by : (one : Bool) → (if one then 4 else 8) ≤ 8
+    by true = omega arith
+    by false = omega arith
+few_held position size (operand.Target addr) fine = few_bytes position size fine
 
 queue_wide : (i : Queue) → AreWide (of_queue i)
 queue_wide queue.Insert = ((size_wide size.B).0, (size_wide size.B).1, ((size_wide size.B).0, (size_wide size.B).1, tt))
@@ -383,6 +411,46 @@ module _ (Q : List ℕ → ℕ → Accesses Leaf → Type 0) (c : IsClosed Q) wh
     system_adds system.SetStatus xs s = either Q c ws _ (not (value 0 xs / 2 ^ 8 == 0) || is_one (value 0 xs) 4) _ _ (λ yes. c.raises _ _ _) (λ allowed. none_more _ (q flow.Done _ tt))
     system_adds system.ClearStatus xs s = either Q c ws _ (not (value 0 xs / 2 ^ 8 == 0)) _ _ (λ yes. c.raises _ _ _) (λ allowed. none_more _ (q flow.Done _ tt))
 
+    value_adds : (width : ℕ) → width ≤ 8 → (o : Operand) (s : State) (m : ℕ) (then_next : ℕ → State → Accesses Leaf) → ((x : ℕ) → Q ws m (then_next x s)) → Q ws (suc m) (value_at width o s then_next)
+    unfolding value_at
+    value_adds width few (operand.Value x) s m then_next r = c.fewer ws m _ (r _)
+    value_adds width few (operand.Register k) s m then_next r = c.fewer ws m _ (r _)
+    value_adds width few (operand.Memory addr) s m then_next r = read_adds Q c ws m addr width s _ (omega arith) r
+    value_adds width few (operand.FieldRegister k) s m then_next r = c.fewer ws m _ (r _)
+    value_adds width few (operand.Target addr) s m then_next r = c.fewer ws m _ (r _)
+
+    bits_add : (position size : ℕ) (base : Operand) (s : State) (m : ℕ) (then_next : List Bool → State → Accesses Leaf) → ((bits : List Bool) → Q ws m (then_next bits s)) → Q ws (suc m) (field_bits position size base s then_next)
+    unfolding field_bits held
+    bits_add position size base s m then_next r =
+        either Q c ws _ (is_reserved_field position size base) _ _ (λ refused. c.raises _ _ _) (λ fine.
+        either Q c ws _ (size == 0) _ _ (λ none. c.fewer ws m _ (r [])) (λ some.
+        value_adds _ (few_held position size base fine) _ s m _ (λ x. r _)))
+
+    put_adds : (h : Holder) → h.width ≤ 8 → (new bits : List Bool) (s : State) (m : ℕ) (then_next : State → Accesses Leaf) → ((t : State) → Q ws m (then_next t)) → Q ws (suc m) (put h new bits s then_next)
+    unfolding put
+    put_adds h few new bits s m then_next r = stored_adds h.width _ few h.place s m then_next r
+
+    becoming_adds : (becomes : Option Bool) (h : Holder) → h.width ≤ 8 → (bits : List Bool) (s : State) (then_next : State → Accesses Leaf) → ((t : State) → Q ws n (then_next t)) → Q ws (suc n) (becoming becomes h bits s then_next)
+    unfolding becoming
+    becoming_adds None h few bits s then_next r = c.fewer ws n _ (r s)
+    becoming_adds (Some bit) h few bits s then_next r = put_adds h few _ bits s n then_next r
+
+    -- a field is read, and it or a result is written
+    field_adds : (i : Field) (xs : List (Operand × ℕ)) (s : State) → Q ws (suc (suc n)) (of_fields i xs s next)
+    unfolding of_fields extracted compared_field found inserted_field branched_on held
+    field_adds (field_action.Extract signed) xs s = bits_add _ _ _ s (suc n) _ (λ bits. answered_adds 4 (omega arith) _ _ _ s)
+    field_adds (field_action.Compare signed) xs s = c.fewer ws (suc n) _ (bits_add _ _ _ s n _ (λ bits. q flow.Done _ tt))
+    field_adds field_action.Insert xs s =
+        either Q c ws _ (is_reserved_field (value 1 xs) (value 2 xs) (place 3 xs)) _ _ (λ refused. c.raises _ _ _) (λ fine.
+        let few = few_held (value 1 xs) (value 2 xs) (place 3 xs) fine in
+        either Q c ws _ (value 2 xs == 0) _ _ (λ none. c.fewer ws (suc n) _ (c.fewer ws n _ (q flow.Done s tt))) (λ some.
+        value_adds _ few _ s (suc n) _ (λ x. put_adds (holder (value 1 xs) (value 2 xs) (place 3 xs)) few _ _ s n _ (λ t. q flow.Done t tt))))
+    field_adds (field_action.FindFirst set) xs s = bits_add _ _ _ s (suc n) _ (λ bits. answered_adds 4 (omega arith) _ _ _ s)
+    field_adds (field_action.Branch set becomes) xs s =
+        either Q c ws _ (is_reserved_field (value 0 xs) 1 (place 1 xs)) _ _ (λ refused. c.raises _ _ _) (λ fine.
+        let few = few_held (value 0 xs) 1 (place 1 xs) fine in
+        value_adds _ few _ s (suc n) _ (λ x. becoming_adds becomes (holder (value 0 xs) 1 (place 1 xs)) few _ s _ (λ t. q flow.Done _ tt)))
+
     -- the link from an entry is read and four longwords are written; or two links are read and three longwords are written
     queue_adds : (i : Queue) (xs : List (Operand × ℕ)) (s : State) → Q ws (suc (suc (suc (suc (suc n))))) (of_queues i xs s next)
     unfolding of_queues inserted removed aligned_sum
@@ -463,6 +531,10 @@ module _ (Q : List ℕ → ℕ → Accesses Leaf → Type 0) (c : IsClosed Q) wh
     control_acts i s count here p =
         subst (λ tree. Q (w ∷ ws) (n + 13) tree) (sym (control_takes i s next)) (listed_adds (of_control i) (control_modest i) s count here p _ (λ xs t. control_adds (w ∷ ws) n next q i xs t))
 
+    field_acts : (i : Field) (s : State) (count : ℕ) → count ≤ 1 → IsPcNear s w count → Q (w ∷ ws) (n + 13) (field_performed i s next)
+    field_acts i s count here p =
+        subst (λ tree. Q (w ∷ ws) (n + 13) tree) (sym (field_takes i s next)) (listed_adds (of_field i) (field_modest i) s count here p _ (λ xs t. field_adds (w ∷ ws) n next q i xs t))
+
     allowed_adds : (privileged : Bool) (s : State) (m : ℕ) (tree : Accesses Leaf) → Q (w ∷ ws) m tree → Q (w ∷ ws) m (unless_privileged privileged s tree)
     allowed_adds false s m tree r = r
     allowed_adds true s m tree r = either Q c _ m (mode s == 0) tree _ (λ kernel. r) (λ other. c.raises _ _ _)
@@ -487,7 +559,7 @@ module _ (Q : List ℕ → ℕ → Accesses Leaf → Type 0) (c : IsClosed Q) wh
     unfolding acted
     acted_adds (action.Integer i) s count here p = integer_acts i s count here p
     acted_adds (action.Control i) s count here p = control_acts i s count here p
-    acted_adds (action.Field i) s count here p = unbuilt_acts s
+    acted_adds (action.Field i) s count here p = field_acts i s count here p
     acted_adds (action.Call i) s count here p = call_acts i s count here p
     acted_adds (action.Queue i) s count here p = queue_acts i s count here p
     acted_adds (action.System i) s count here p = system_acts i s count here p

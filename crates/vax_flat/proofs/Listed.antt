@@ -12,13 +12,15 @@ use Rattle.vax_isa.specs.declared.actions.Integer.{Integer}
 use Rattle.vax_isa.specs.declared.actions.Integer.TheVariants as integer
 use Rattle.vax_isa.specs.declared.actions.Control.{Control}
 use Rattle.vax_isa.specs.declared.actions.Control.TheVariants as control
+use Rattle.vax_isa.specs.declared.actions.Field.{Field}
+use Rattle.vax_isa.specs.declared.actions.Field.TheVariants as field
 use Rattle.vax_isa.specs.declared.actions.System.{System}
 use Rattle.vax_isa.specs.declared.actions.System.TheVariants as system
 use Rattle.vax_isa.specs.declared.actions.Queue.{Queue}
 use Rattle.vax_isa.specs.declared.actions.Queue.TheVariants as queue
 use Rattle.vax_isa.specs.declared.actions.Call.{Call}
 use Rattle.vax_isa.specs.declared.actions.Call.TheVariants as call
-use Rattle.vax_isa.specs.Actions.{size_of, of_integer, of_control, of_system, of_queue, of_call, operands_of}
+use Rattle.vax_isa.specs.Actions.{size_of, of_integer, of_control, of_field, of_system, of_queue, of_call, operands_of}
 use Rattle.vax_isa.specs.Instructions.{Instruction}
 use Rattle.vax_isa.specs.Rows.{action_of}
 use Rattle.vax_flat.specs.declared.Operand.{Operand}
@@ -33,6 +35,7 @@ use Rattle.vax_flat.specs.Accesses.{Accesses, Raises, Leaf}
 use Rattle.vax_flat.specs.Rows.{read_value, modify_value, write_place, address_value, branch_target, address_in, stored, settled, answered, carry_of}
 use Rattle.vax_flat.specs.Integer.{of_one, of_two, is_by_zero, rotated, unary, two, three, by_one, clear, test, compare, bit_test, shift, rotate, move_address, pushed_result, push_address, push, extended_multiply, extended_divide, subscript_flow, index_of, index, performed as integer_performed}
 use Rattle.vax_flat.specs.Control.{holds, compares, jumped, jumped_if, branch, called, branch_subroutine, jump, jump_subroutine, return_subroutine, low_bit, looped, add_one, subtract_one, within, add_compare, chosen, case_of, performed as control_performed}
+use Rattle.vax_flat.specs.Field.{base_place, extracted, extract, compared_field, compare as compare_field, found, find_first, inserted as inserted_field, insert as insert_field, branched_on, branch as branch_on_bit, performed as field_performed}
 use Rattle.vax_flat.specs.Delivery.{change_mode}
 use Rattle.vax_flat.specs.System.{halt, is_for_kernel, flow_of_delivery, return_exception, change_of_mode, probed, probe, with_moved, set_processor, to_register, get_processor, from_register, move_status, status_set, status_cleared, set_status, clear_status, unless_privileged, performed as system_performed}
 use Rattle.vax_flat.specs.Queue.{inserted, insert, removed, remove, aligned_sum, add_aligned, performed as queue_performed}
@@ -197,11 +200,27 @@ call_takes call.Return s next = refl
 call_takes call.PushRegisters s next = refl
 call_takes call.PopRegisters s next = refl
 
+-- what a field instruction does behind its last operand
+unfoldable pub of_fields : Field → Rest
+of_fields (field.Extract signed) xs s next = extracted signed (value 0 xs) (value 1 xs) (place 2 xs) (place 3 xs) s next
+of_fields (field.Compare signed) xs s next = compared_field signed (value 0 xs) (value 1 xs) (place 2 xs) (value 3 xs) s next
+of_fields field.Insert xs s next = inserted_field (value 0 xs) (value 1 xs) (value 2 xs) (place 3 xs) s next
+of_fields (field.FindFirst set) xs s next = found set (value 0 xs) (value 1 xs) (place 2 xs) (place 3 xs) s next
+of_fields (field.Branch set becomes) xs s next = branched_on set becomes (value 0 xs) (place 1 xs) (target 2 xs) s next
+
+pub field_takes : (i : Field) (s : State) (next : Flow → State → Accesses Leaf) → field_performed i s next ≡ next_operands (of_field i) s (λ xs s. of_fields i xs s next)
+unfolding field_performed extract compare_field insert_field find_first branch_on_bit base_place read_value write_place branch_target next_operands taken of_fields
+field_takes (field.Extract signed) s next = refl
+field_takes (field.Compare signed) s next = refl
+field_takes field.Insert s next = refl
+field_takes (field.FindFirst set) s next = refl
+field_takes (field.Branch set becomes) s next = refl
+
 pub action_takes : (a : Action) → is_built a ≡ true → Takes (is_privileged a) (operands_of a) (acted a)
 unfolding acted
 action_takes (action.Integer i) built = record { rest = of_integers i; takes = λ s next. integer_takes i s next }
 action_takes (action.Control c) built = record { rest = of_controls c; takes = λ s next. control_takes c s next }
-action_takes (action.Field f) built = absurd (cc)
+action_takes (action.Field f) built = record { rest = of_fields f; takes = λ s next. field_takes f s next }
 action_takes (action.Call c) built = record { rest = of_calls c; takes = λ s next. call_takes c s next }
 action_takes (action.Queue q) built = record { rest = of_queues q; takes = λ s next. queue_takes q s next }
 action_takes (action.System i) built = record { rest = of_systems i; takes = λ s next. system_takes i s next }

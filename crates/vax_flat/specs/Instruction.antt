@@ -12,6 +12,7 @@ use Rattle.vax_flat.specs.Accesses.{Accesses, Raises, Leaf}
 use Rattle.vax_flat.specs.Operand.{fetched}
 use Rattle.vax_flat.specs.Integer.{performed as integer}
 use Rattle.vax_flat.specs.Control.{performed as control}
+use Rattle.vax_flat.specs.Field.{performed as field}
 use Rattle.vax_flat.specs.Call.{performed as call}
 use Rattle.vax_flat.specs.Queue.{performed as queue}
 use Rattle.vax_flat.specs.System.{is_for_kernel, performed as system}
@@ -23,7 +24,7 @@ unbuilt s next = next (flow.Ended ending.Unbuilt) s
 unfoldable pub acted : Action → State → (Flow → State → Accesses Leaf) → Accesses Leaf
 acted (action.Integer i) s next = integer i s next
 acted (action.Control c) s next = control c s next
-acted (action.Field f) s next = unbuilt s next
+acted (action.Field f) s next = field f s next
 acted (action.Call c) s next = call c s next
 acted (action.Queue q) s next = queue q s next
 acted (action.System i) s next = system i s next
@@ -33,7 +34,7 @@ acted (action.Text t) s next = unbuilt s next
 unfoldable pub acted_part : Action → State → (Flow → State → Accesses Leaf) → Accesses Leaf
 acted_part (action.Integer i) s next = integer i s next
 acted_part (action.Control c) s next = control c s next
-acted_part (action.Field f) s next = unbuilt s next
+acted_part (action.Field f) s next = field f s next
 acted_part (action.Call c) s next = call c s next
 acted_part (action.Queue q) s next = queue q s next
 acted_part (action.System i) s next = system i s next
@@ -47,7 +48,7 @@ resumed opcode s next = unbuilt s next
 abbrev pub is_built : Action → Bool
 is_built (action.Integer i) = true
 is_built (action.Control c) = true
-is_built (action.Field f) = false
+is_built (action.Field f) = true
 is_built (action.Call c) = true
 is_built (action.Queue q) = true
 is_built (action.System i) = true

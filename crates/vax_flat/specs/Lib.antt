@@ -13,6 +13,7 @@ pub mod Integer
 pub mod Control
 pub mod System
 pub mod Queue
+pub mod Field
 pub mod Call
 pub mod Returned
 pub mod Instruction

@@ -2,7 +2,7 @@
 //!
 //! `specs/` has them in this order: `State` (what an instruction may change beside memory), `Accesses` (an instruction as a tree of its
 //! accesses to memory), `Memory` (areas with their bytes), `Outcome` (what a tree does to that memory), `Operand` and `Rows` (operands,
-//! values and results), `Integer`, `Control` and `Instruction` (the instructions as such trees), `Grammar` and `Evaluation` (what bytes are
+//! values and results), `Integer`, `Control`, `Field` and `Instruction` (the instructions as such trees), `Grammar` and `Evaluation` (what bytes are
 //! as operands, and what those come to), `Step` (a whole step and a whole run), and `Parts` (a step that is made in parts).
 #![tactic(auto)]
 
@@ -116,6 +116,17 @@ pub enum Operand {
     FieldRegister(u8),
     /// Where a branch goes.
     Target(u32),
+}
+
+/// What holds a field of bits (VAX Architecture Reference Manual, variable-length bit field data type).
+#[derive(Clone, Copy, Debug, PartialEq, Eq)]
+pub struct Holder {
+    /// The bytes of memory in which the field lies, or the register, or that and the next.
+    pub place: Operand,
+    /// How many bytes: 1 to 5 in memory, 4 or 8 in registers.
+    pub width: u8,
+    /// Which of its bits is the field's first.
+    pub first: u8,
 }
 
 /// How an instruction went.

@@ -25,6 +25,10 @@ room_of_integer = 27
 abbrev pub room_of_queue : ℕ
 room_of_queue = 15
 
+-- a field instruction: four operands, and the result with its codes
+abbrev pub room_of_field : ℕ
+room_of_field = 19
+
 -- a procedure call, its return, or registers pushed and popped: at most all registers but one, the stack pointer, and what was on the stack
 abbrev pub room_of_call : ℕ
 room_of_call = 31
