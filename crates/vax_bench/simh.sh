@@ -6,7 +6,8 @@ case $1 in
   registers) code="D0 51 52 C0 01 51 D1 51 53 19 F5"; start=80000200 ;;
   memory)    code="D0 67 52 C0 01 67 D1 67 A7 04 19 F4"; start=80000200 ;;
   calls)     code="10 03 F5 50 FB 05"; start=80000200 ;;
-  *) echo "loops: count registers memory calls" >&2; exit 1 ;;
+  fields)    code="EF 04 0C 51 52 F5 50 F8"; start=80000200 ;;
+  *) echo "loops: count registers memory calls fields" >&2; exit 1 ;;
 esac
 script=$(mktemp)
 trap 'rm -f "$script"' EXIT
