@@ -1,0 +1,10 @@
+pub mod Lists
+pub mod Attempts
+pub mod Services
+pub mod Batches
+pub mod Touching
+pub mod Tracking
+pub mod Evicting
+pub mod Serving
+pub mod Running
+pub mod Following
