@@ -6,5 +6,6 @@ pub mod Touching
 pub mod Tracking
 pub mod Evicting
 pub mod Serving
+pub mod Halting
 pub mod Running
 pub mod Following

@@ -20,6 +20,7 @@ use Rattle.vax_pager.proofs.Listing.{in_push}
 use Rattle.vax_sched.specs.Due.{due}
 use Rattle.vax_sched.specs.declared.rule.Rule.{Rule}
 use Rattle.vax_sched.specs.declared.rule.Target.{Target}
+use Rattle.vax_machine.proofs.Halting.{lost_at, paged_more}
 use Rattle.vax_machine.proofs.Touching.{missed}
 use Rattle.vax_machine.proofs.Tracking.{OnlyEvicted, evicted_none, many_evicted, pins_evicted}
 use Rattle.vax_machine.specs.Machine.{Means, residence}
@@ -255,13 +256,6 @@ on_ok (Err e) p = tt
 
 -- the loop
 
-paged_more : (areas : List Area) (asks : ℕ → List Target) (a n : ℕ) (b : Paged) → paged areas asks a (paged areas asks n b) ≡ paged areas asks (a + n) b
-unfolding paged
-paged_more areas asks zero n b = let e : 0 + n ≡ n = omega arith in rw e refl
-paged_more areas asks (suc a) n b =
-    let e : suc a + n ≡ suc (a + n) = omega arith in
-    rw e (ap (next_turn areas asks) (paged_more areas asks a n b))
-
 pub at_start : (limits : Limits) (areas : List Area) (rules : List Rule) (m : Engine) (file : Option BlockFile) (place : Place) (old : Option Channels) (held : List ℕ) → held ≡ [] → Means m file place → Reached limits areas rules (begun m place) m file old old held
 unfolding paged
 at_start limits areas rules m file place old held none h = record {
@@ -340,18 +334,14 @@ module _ (limits : Limits) (areas : List Area) (rules : List Rule) (b : Paged) (
         sends = all_sent (paged areas (due rules) (h.count + r.made) b) next (ap (λ (z : Paged). (machine_at z.place).output) (sym e) ∙ h.silent) p;
       }
 
-  lost : (next : Option Channels) → GrewByPrefix now next (only Out held) → IsLost areas rules b old next
-  lost next g = record { count = r.made; more = r.sends.sent ++ held; sends = r.sends.is; wrote = out_last old now next r.sends.sent held r.sends.wrote g }
+  lost : (next : Option Channels) → GrewByPrefix now next (only Out held) → IsLost limits areas rules b old next
+  lost next g = lost_at limits areas rules b r.made (r.sends.sent ++ held) old next r.goes r.sends.is (out_last old now next r.sends.sent held r.sends.wrote g)
 
-  pub lost_byte : (new : Engine) (after : Option BlockFile) (byte : ℕ) (next : Option Channels) → AreMade limits areas rules (paged areas (due rules) r.made b) (Some byte) new after → GrewByPrefix now next (only Out (held ++ byte ∷ [])) → IsLost areas rules b old next
-  lost_byte new after byte next h g = record {
-    count = suc (h.count + r.made);
-    more = r.sends.sent ++ (held ++ byte ∷ []);
-    sends =
-        ap (λ (z : Paged). (machine_at z.place).output) (sym (later h.count))
-        ∙ (h.sends ∙ (ap (λ xs. xs ++ byte ∷ []) r.sends.is ∙ (append_assoc (machine_at b.place).output (r.sends.sent ++ held) (byte ∷ []) ∙ ap (λ xs. (machine_at b.place).output ++ xs) (append_assoc r.sends.sent held (byte ∷ [])))));
-    wrote = out_last old now next r.sends.sent (held ++ byte ∷ []) r.sends.wrote g;
-  }
+  pub lost_byte : (new : Engine) (after : Option BlockFile) (byte : ℕ) (next : Option Channels) → AreMade limits areas rules (paged areas (due rules) r.made b) (Some byte) new after → GrewByPrefix now next (only Out (held ++ byte ∷ [])) → IsLost limits areas rules b old next
+  lost_byte new after byte next h g = lost_at limits areas rules b (suc (h.count + r.made)) (r.sends.sent ++ (held ++ byte ∷ [])) old next (goes_far h.count h.going)
+      (ap (λ (z : Paged). (machine_at z.place).output) (sym (later h.count))
+      ∙ (h.sends ∙ (ap (λ xs. xs ++ byte ∷ []) r.sends.is ∙ (append_assoc (machine_at b.place).output (r.sends.sent ++ held) (byte ∷ []) ∙ ap (λ xs. (machine_at b.place).output ++ xs) (append_assoc r.sends.sent held (byte ∷ []))))))
+      (out_last old now next r.sends.sent (held ++ byte ∷ []) r.sends.wrote g)
 
   ends_whole : (end : RunEnd) (next : Option Channels) → IsStop end → IsWhole limits areas rules b end m file old next → Ends limits areas rules b end m file old next
   ends_whole (run_end.Ended e) next s h = h
@@ -386,3 +376,7 @@ stop_unlike run_end.Steps s = (λ x. cc, λ x. cc)
 stop_unlike run_end.Turns s = (λ x. cc, λ x. cc)
 stop_unlike run_end.PageFault s = absurd s
 stop_unlike run_end.WriteFault s = absurd s
+
+pub one_of_both : (end result : RunEnd) (held : List ℕ) (old new : Option Channels) (rose : Type 0) → Finishes end result held old new rose → (result ≡ end → ⊥) → (result ≡ run_end.WriteFault → ⊥) → ⊥
+one_of_both end result held old new rose (inl h) a b = a h.0
+one_of_both end result held old new rose (inr h) a b = b h.0

@@ -69,9 +69,12 @@ pub record IsCut (limits : Limits) (areas : List Area) (rules : List Rule) (b : 
   pub made : (m.turns ≡ (paged areas (due rules) count b).turns) ⊎ ((m.turns ≡ (paged areas (due rules) count b).turns + 1) × (rest ≡ []))
   pub sends : Sends b (paged areas (due rules) count b) old new []
 
--- a write failed: a prefix of what some later turn has sent was written
-pub record IsLost (areas : List Area) (rules : List Rule) (b : Paged) (old new : Option Channels) : Type 0 where
+-- a write failed: a prefix of what the whole run sends was written
+pub record IsLost (limits : Limits) (areas : List Area) (rules : List Rule) (b : Paged) (old new : Option Channels) : Type 0 where
   pub count : ℕ
+  pub goes : Runs limits areas rules b count
+  pub why : Why
+  pub stopped : stops limits.steps limits.turns (paged areas (due rules) count b) ≡ Some why
   pub more : List ℕ
   pub sends : (machine_at (paged areas (due rules) count b).place).output ≡ (machine_at b.place).output ++ more
   pub wrote : GrewByPrefix old new (only Out more)
@@ -81,4 +84,4 @@ Ends limits areas rules b (Ended e) m file old new = IsWhole limits areas rules 
 Ends limits areas rules b Steps m file old new = IsWhole limits areas rules b Steps m file old new
 Ends limits areas rules b Turns m file old new = IsWhole limits areas rules b Turns m file old new
 Ends limits areas rules b PageFault m file old new = IsCut limits areas rules b m file old new
-Ends limits areas rules b WriteFault m file old new = IsLost areas rules b old new
+Ends limits areas rules b WriteFault m file old new = IsLost limits areas rules b old new

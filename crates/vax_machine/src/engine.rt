@@ -1,5 +1,5 @@
 //! A processor over a pager, with what a run counts.
-ghost use Rattle.std.specs.Prelude.{◌≡◌, ◌+◌, ◌<◌, ◌≤◌, ◌^◌, Option, None};
+ghost use Rattle.std.specs.Prelude.{◌≡◌, ◌≢◌, ◌+◌, ◌<◌, ◌≤◌, ◌^◌, Option, None};
 ghost use Rattle.vax_outside.specs.Blocks.{BlockFile};
 ghost use Rattle.vax_outside.specs.Faults.{Rose, raised};
 ghost use Rattle.vax_pager.specs.Meaning.{pages};
@@ -133,6 +133,7 @@ impl Engine {
         ensures applies { Applies event.Serve self.old (F.contents file.old) result self.new (F.contents file.new) }
         ensures later { F.faults file.old ≤ F.faults file.new }
         ensures cause { result ≡ Applied.Failed → Rose (F.faults file.old) (F.faults file.new) }
+        ensures quiet { result ≢ Applied.Failed → F.faults file.new ≡ F.faults file.old }
     {
         match self.wanted {
             None => Applied::Nothing,
@@ -156,6 +157,7 @@ impl Engine {
         ensures applies { Applies (event.Evict page) self.old (F.contents file.old) result self.new (F.contents file.new) }
         ensures later { F.faults file.old ≤ F.faults file.new }
         ensures cause { result ≡ Applied.Failed → Rose (F.faults file.old) (F.faults file.new) }
+        ensures quiet { result ≢ Applied.Failed → F.faults file.new ≡ F.faults file.old }
     {
         self.pager.facts();
         if !self.pager.has(page) {
@@ -180,6 +182,7 @@ impl Engine {
         ensures applies { Applies (event.Flush page) self.old (F.contents file.old) result self.new (F.contents file.new) }
         ensures later { F.faults file.old ≤ F.faults file.new }
         ensures cause { result ≡ Applied.Failed → Rose (F.faults file.old) (F.faults file.new) }
+        ensures quiet { result ≢ Applied.Failed → F.faults file.new ≡ F.faults file.old }
     {
         self.pager.facts();
         if !self.pager.has(page) {
@@ -204,6 +207,7 @@ impl Engine {
         ensures applies { Applies event self.old (F.contents file.old) result self.new (F.contents file.new) }
         ensures later { F.faults file.old ≤ F.faults file.new }
         ensures cause { result ≡ Applied.Failed → Rose (F.faults file.old) (F.faults file.new) }
+        ensures quiet { result ≢ Applied.Failed → F.faults file.new ≡ F.faults file.old }
     {
         match event {
             Event::Attempt => self.attempt(),

@@ -31,6 +31,7 @@ impl Held {
         ensures err { OnErr result (GrewByPrefix (K.contents sink.old) (K.contents sink.new) (only Out (self.old.bytes.items ++ byte ∷ []))) }
         ensures later { K.faults sink.old ≤ K.faults sink.new }
         ensures cause { OnErr result (Rose (K.faults sink.old) (K.faults sink.new)) }
+        ensures quiet { OnOk result (K.faults sink.new ≡ K.faults sink.old) }
     {
         if self.bytes.is_full() {
             self.flush(sink)?;
@@ -46,6 +47,7 @@ impl Held {
         ensures err { OnErr result (GrewByPrefix (K.contents sink.old) (K.contents sink.new) (only Out self.old.bytes.items)) }
         ensures later { K.faults sink.old ≤ K.faults sink.new }
         ensures cause { OnErr result (Rose (K.faults sink.old) (K.faults sink.new)) }
+        ensures quiet { OnOk result (K.faults sink.new ≡ K.faults sink.old) }
     {
         put_all(sink, Chan::Out, &self.bytes)?;
         self.bytes.clear();

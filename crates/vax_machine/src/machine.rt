@@ -1,5 +1,5 @@
 //! The machine as callers have it.
-ghost use Rattle.std.specs.Prelude.{◌≡◌, ◌-◌, ◌≤◌, ◌<◌, ◌^◌, ◌⊎◌, Option, Some, None, IfOk, IfSome, OnErr, OnOk, is_some, true, false, length};
+ghost use Rattle.std.specs.Prelude.{◌≡◌, ◌≢◌, ◌-◌, ◌≤◌, ◌<◌, ◌^◌, ◌⊎◌, Option, Some, None, IfOk, IfSome, OnErr, OnOk, is_some, true, false, length};
 ghost use Rattle.vax_outside.specs.Blocks.{BlockFile};
 ghost use Rattle.vax_outside.specs.Faults.{Rose};
 ghost use Rattle.vax_machine.specs.Machine.{IsSound};
@@ -79,6 +79,7 @@ impl Machine {
         ensures applies { Applies event (engine self.old) (F.contents file.old) result (engine self.new) (F.contents file.new) }
         ensures later { F.faults file.old ≤ F.faults file.new }
         ensures cause { result ≡ Applied.Failed → Rose (F.faults file.old) (F.faults file.new) }
+        ensures quiet { result ≢ Applied.Failed → F.faults file.new ≡ F.faults file.old }
     {
         self.engine.apply(event, file)
     }
@@ -101,6 +102,8 @@ impl Machine {
         ensures sunk { K.faults sink.old ≤ K.faults sink.new }
         ensures fault { result ≡ RunEnd.PageFault → Rose (F.faults file.old) (F.faults file.new) }
         ensures cause { result ≡ RunEnd.WriteFault → Rose (K.faults sink.old) (K.faults sink.new) }
+        ensures unfailed { result ≢ RunEnd.PageFault → result ≢ RunEnd.WriteFault → F.faults file.new ≡ F.faults file.old }
+        ensures written { result ≢ RunEnd.WriteFault → K.faults sink.new ≡ K.faults sink.old }
     {
         self.engine.run(limits, schedule, file, sink)
     }

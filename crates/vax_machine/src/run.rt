@@ -1,5 +1,5 @@
 //! Runs of a machine.
-ghost use Rattle.std.specs.Prelude.{◌≡◌, ℕ, ◌+◌, ◌-◌, ◌<◌, ◌≤◌, ◌^◌, None, Some, [], length, slice_get, OnOk, OnErr, Option, IfSome};
+ghost use Rattle.std.specs.Prelude.{◌≡◌, ◌≢◌, ℕ, ◌+◌, ◌-◌, ◌<◌, ◌≤◌, ◌^◌, None, Some, [], length, slice_get, OnOk, OnErr, Option, IfSome};
 ghost use Rattle.vax_space.specs.declared.Area.{Area};
 ghost use Rattle.vax_outside.specs.Blocks.{BlockFile};
 ghost use Rattle.vax_outside.specs.Faults.{Rose};
@@ -18,6 +18,7 @@ use vax_space::Area;
 fn finish<K: Sink>(held: Held, end: RunEnd, sink: &mut K) -> RunEnd
     ensures done { Finishes end result held.bytes.items (K.contents sink.old) (K.contents sink.new) (Rose (K.faults sink.old) (K.faults sink.new)) }
     ensures later { K.faults sink.old ≤ K.faults sink.new }
+    ensures quiet { result ≢ RunEnd.WriteFault → K.faults sink.new ≡ K.faults sink.old }
 {
     let mut held = held;
     match held.flush(sink) {
@@ -48,6 +49,7 @@ impl Engine {
         ensures still { Still self.old self.new }
         ensures later { F.faults file.old ≤ F.faults file.new }
         ensures cause { OnErr result (Rose (F.faults file.old) (F.faults file.new)) }
+        ensures quiet { OnOk result (F.faults file.new ≡ F.faults file.old) }
     {
         match self.evict(page, file) {
             Applied::Failed => Err(PageFault),
@@ -69,6 +71,7 @@ impl Engine {
         ensures still { Still self.old self.new }
         ensures later { F.faults file.old ≤ F.faults file.new }
         ensures cause { OnErr result (Rose (F.faults file.old) (F.faults file.new)) }
+        ensures quiet { OnOk result (F.faults file.new ≡ F.faults file.old) }
     {
         for place in 0..count {
             self.evict_one(first + place, file)?;
@@ -111,6 +114,7 @@ impl Engine {
         ensures still { Still self.old self.new }
         ensures later { F.faults file.old ≤ F.faults file.new }
         ensures cause { OnErr result (Rose (F.faults file.old) (F.faults file.new)) }
+        ensures quiet { OnOk result (F.faults file.new ≡ F.faults file.old) }
     {
         let area = self.area(place);
         let first = area.first;
@@ -126,6 +130,7 @@ impl Engine {
         ensures still { Still self.old self.new }
         ensures later { F.faults file.old ≤ F.faults file.new }
         ensures cause { OnErr result (Rose (F.faults file.old) (F.faults file.new)) }
+        ensures quiet { OnOk result (F.faults file.new ≡ F.faults file.old) }
     {
         let count = self.area_count();
         for place in 0..count {
@@ -142,6 +147,7 @@ impl Engine {
         ensures still { Still self.old self.new }
         ensures later { F.faults file.old ≤ F.faults file.new }
         ensures cause { OnErr result (Rose (F.faults file.old) (F.faults file.new)) }
+        ensures quiet { OnOk result (F.faults file.new ≡ F.faults file.old) }
     {
         match target {
             Target::Page(page) => self.evict_one(page, file),
@@ -158,6 +164,7 @@ impl Engine {
         ensures still { Still self.old self.new }
         ensures later { F.faults file.old ≤ F.faults file.new }
         ensures cause { OnErr result (Rose (F.faults file.old) (F.faults file.new)) }
+        ensures quiet { OnOk result (F.faults file.new ≡ F.faults file.old) }
     {
         let turn = self.turns + 1;
         let mut place = 0;
@@ -185,6 +192,7 @@ impl Engine {
         ensures gone { HasGone most self.old self.new }
         ensures later { F.faults file.old ≤ F.faults file.new }
         ensures cause { OnErr result (Rose (F.faults file.old) (F.faults file.new)) }
+        ensures quiet { OnOk result (F.faults file.new ≡ F.faults file.old) }
     {
         self.facts();
         match self.attempts(most) {
@@ -234,6 +242,7 @@ impl Engine {
         ensures areas { OnOk result ((pages self.new.pager).areas ≡ (pages self.old.pager).areas) }
         ensures later { F.faults file.old ≤ F.faults file.new }
         ensures cause { OnErr result (Rose (F.faults file.old) (F.faults file.new)) }
+        ensures quiet { OnOk result (F.faults file.new ≡ F.faults file.old) }
     {
         self.evict_due(schedule, file)?;
         let most = self.most_attempts(limits, schedule);
@@ -260,7 +269,7 @@ impl Engine {
 
     /// Runs up to an ending or a limit. The bytes that the program sends to its console go to Out in order.
     ///
-    /// After a page fault the machine stands where the turns before it left it; after a write fault, a prefix of what some turns have sent was
+    /// After a page fault the machine stands where the turns before it left it; after a write fault, a prefix of what the whole run sends was
     /// written.
     pub(crate) fn run<F: PageFile, K: Sink>(
         &mut self,
@@ -280,6 +289,8 @@ impl Engine {
         ensures sunk { K.faults sink.old ≤ K.faults sink.new }
         ensures fault { result ≡ RunEnd.PageFault → Rose (F.faults file.old) (F.faults file.new) }
         ensures cause { result ≡ RunEnd.WriteFault → Rose (K.faults sink.old) (K.faults sink.new) }
+        ensures unfailed { result ≢ RunEnd.PageFault → result ≢ RunEnd.WriteFault → F.faults file.new ≡ F.faults file.old }
+        ensures written { result ≢ RunEnd.WriteFault → K.faults sink.new ≡ K.faults sink.old }
     {
         let mut held = Held::new();
         loop {

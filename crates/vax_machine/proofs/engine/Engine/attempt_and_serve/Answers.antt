@@ -1,4 +1,4 @@
-use Rattle.std.proofs.Common.{◌≡◌, ◌≤◌, arith}
+use Rattle.std.proofs.Common.{◌≡◌, ◌≤◌, arith, refl}
 use Rattle.vax_machine.specs.declared.event.Applied.TheVariants.{Absent}
 use Rattle.vax_machine.proofs.Serving.{gone_served, gone_several, quiet, serve_done, serve_failed, stepped}
 use Rattle.vax_machine.proofs.engine.Engine.attempt_and_serve.Goals as goal
@@ -32,6 +32,7 @@ returns-in_default-serve g c = record {
       (gone_several c.args.self.now c.attempts.new.self c.args.most c.attempts.result c.requires.steps c.requires.turns c.attempts.ensures.tried) c.serve.ensures.applies.0;
   later = c.serve.ensures.later;
   cause = tt;
+  quiet = c.serve.ensures.quiet c.in_default-serve.not-Failed;
 }
 
 pub returns-in_default : goal.returns-in_default
@@ -42,4 +43,5 @@ returns-in_default g c = record {
   gone = gone_several c.args.self.now c.attempts.new.self c.args.most c.attempts.result c.requires.steps c.requires.turns c.attempts.ensures.tried;
   later = omega arith;
   cause = tt;
+  quiet = refl;
 }

@@ -40,3 +40,12 @@ returns-in-Err-clause-applies g c =
       evicts_as _ _ true _ _ _ yes (inl (refl, rw c.in-Err.ensures.err refl)),
       keeps_place c.args.self.now _ _ _ _ c.in-Err.ensures.keeps,
     )
+
+pub returns-then-resident-clause-quiet : goal.returns-then-resident-clause-quiet
+returns-then-resident-clause-quiet g c = λ other. c.in-Ok.ensures.quiet
+
+pub returns-else-resident-clause-quiet : goal.returns-else-resident-clause-quiet
+returns-else-resident-clause-quiet g c = λ other. c.in-Ok.ensures.quiet
+
+pub returns-in-Err-clause-quiet : goal.returns-in-Err-clause-quiet
+returns-in-Err-clause-quiet g c = λ other. absurd (other refl)

@@ -19,7 +19,7 @@ loop-place-init g c = record {
   sound = c.requires.sound;
   still = still_itself c.args.self.now;
   at = λ p t. none_yet _ _ p t;
-  later = omega arith;
+  quiet = refl;
 }
 
 pub evict_area-requires-clause-sound : goal.evict_area-requires-clause-sound
@@ -45,10 +45,10 @@ pub returns-in_err-evict_area-clause-still : goal.returns-in_err-evict_area-clau
 returns-in_err-evict_area-clause-still g c = then_still _ _ _ c.loop-place.invariant.still c.evict_area.ensures.still
 
 pub returns-in_err-evict_area-clause-later : goal.returns-in_err-evict_area-clause-later
-returns-in_err-evict_area-clause-later g c = omega (arith, c.loop-place.invariant.later, c.evict_area.ensures.later)
+returns-in_err-evict_area-clause-later g c = let q = c.loop-place.invariant.quiet in omega (arith, q, c.evict_area.ensures.later)
 
 pub returns-in_err-evict_area-clause-cause : goal.returns-in_err-evict_area-clause-cause
-returns-in_err-evict_area-clause-cause g c = on_err c.from_residual.result (omega (arith, c.loop-place.invariant.later, c.in_err-evict_area.ensures.cause))
+returns-in_err-evict_area-clause-cause g c = on_err c.from_residual.result (let q = c.loop-place.invariant.quiet in let r = c.in_err-evict_area.ensures.cause in omega (arith, q, r))
 
 pub loop-place-preserved : goal.loop-place-preserved
 loop-place-preserved g c =
@@ -62,7 +62,7 @@ loop-place-preserved g c =
       at = λ p t.
           next_list pages_of (pages c.args.self.now.pager).areas c.loop-place.place (get_or (pages c.args.self.now.pager).areas c.loop-place.place no_area) there _ _ p
           (c.in_ok-evict_area.ensures.done _ _ now (c.loop-place.invariant.at p t));
-      later = omega (arith, c.loop-place.invariant.later, c.evict_area.ensures.later);
+      quiet = c.in_ok-evict_area.ensures.quiet ∙ c.loop-place.invariant.quiet;
     }
 
 pub returns-clause-sound : goal.returns-clause-sound
@@ -78,4 +78,7 @@ pub returns-clause-still : goal.returns-clause-still
 returns-clause-still g c = c.loop-place.invariant.still
 
 pub returns-clause-later : goal.returns-clause-later
-returns-clause-later g c = c.loop-place.invariant.later
+returns-clause-later g c = let q = c.loop-place.invariant.quiet in omega (arith, q)
+
+pub returns-clause-quiet : goal.returns-clause-quiet
+returns-clause-quiet g c = c.loop-place.invariant.quiet

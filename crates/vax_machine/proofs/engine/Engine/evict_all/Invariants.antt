@@ -1,4 +1,4 @@
-use Rattle.std.proofs.Common.{◌≡◌, ℕ, ◌≤◌, take}
+use Rattle.std.proofs.Common.{◌≡◌, ℕ, take}
 use Rattle.std.specs.List.{flat_map}
 use Rattle.vax_space.specs.Areas.{pages_of}
 use Rattle.vax_pager.specs.Meaning.{pages}
@@ -13,5 +13,5 @@ invariant-loop-place g l = record {
   sound : IsSound l.self;
   still : Still l.fn.self l.self;
   at : (p : Paged) → Tracks l.fn.self (g.F.PageFile.contents l.fn.file) p → Tracks l.self (g.F.PageFile.contents l.file) (all_evicted (flat_map pages_of (take l.place (pages l.fn.self.pager).areas)) p);
-  later : g.F.PageFile.faults l.fn.file ≤ g.F.PageFile.faults l.file;
+  quiet : g.F.PageFile.faults l.file ≡ g.F.PageFile.faults l.fn.file;
 }

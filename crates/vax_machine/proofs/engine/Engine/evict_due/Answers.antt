@@ -18,7 +18,7 @@ loop-target-init g c = record {
   turn = refl;
   within = omega arith;
   at = λ p t. none_yet _ _ p t;
-  later = omega arith;
+  quiet = refl;
 }
 
 pub evict_target-requires : goal.evict_target-requires
@@ -35,10 +35,10 @@ pub returns-in_err-evict_target-clause-still : goal.returns-in_err-evict_target-
 returns-in_err-evict_target-clause-still g c = then_still _ _ _ c.loop-target.invariant.still c.evict_target.ensures.still
 
 pub returns-in_err-evict_target-clause-later : goal.returns-in_err-evict_target-clause-later
-returns-in_err-evict_target-clause-later g c = omega (arith, c.loop-target.invariant.later, c.evict_target.ensures.later)
+returns-in_err-evict_target-clause-later g c = let q = c.loop-target.invariant.quiet in omega (arith, q, c.evict_target.ensures.later)
 
 pub returns-in_err-evict_target-clause-cause : goal.returns-in_err-evict_target-clause-cause
-returns-in_err-evict_target-clause-cause g c = on_err c.from_residual.result (omega (arith, c.loop-target.invariant.later, c.in_err-evict_target.ensures.cause))
+returns-in_err-evict_target-clause-cause g c = on_err c.from_residual.result (let q = c.loop-target.invariant.quiet in let r = c.in_err-evict_target.ensures.cause in omega (arith, q, r))
 
 pub overflow_add-place : goal.overflow_add-place
 overflow_add-place g c =
@@ -63,7 +63,7 @@ loop-target-preserved g c = record {
       let b = c.in_ok-evict_target.ensures.done _ (c.loop-target.invariant.at p t) in
       next_list (named (pages c.args.self.now.pager).areas) (due c.args.schedule.now (c.args.self.now.turns + 1)) c.loop-target.place c.in-Some.target (sym c.due.ensures.target ∙ c.in-Some.is) _ _ p
       (subst (λ (z : List Area). Tracks c.evict_target.new.self (g.F.PageFile.contents c.evict_target.new.file) (all_evicted (named z c.in-Some.target) (all_evicted (all_named (pages c.args.self.now.pager).areas (take c.loop-target.place (due c.args.schedule.now (c.args.self.now.turns + 1)))) p))) c.loop-target.invariant.still.areas b);
-  later = omega (arith, c.loop-target.invariant.later, c.evict_target.ensures.later);
+  quiet = c.in_ok-evict_target.ensures.quiet ∙ c.loop-target.invariant.quiet;
 }
 
 pub returns-clause-sound : goal.returns-clause-sound
@@ -77,4 +77,7 @@ pub returns-clause-still : goal.returns-clause-still
 returns-clause-still g c = c.loop-target.invariant.still
 
 pub returns-clause-later : goal.returns-clause-later
-returns-clause-later g c = c.loop-target.invariant.later
+returns-clause-later g c = let q = c.loop-target.invariant.quiet in omega (arith, q)
+
+pub returns-clause-quiet : goal.returns-clause-quiet
+returns-clause-quiet g c = c.loop-target.invariant.quiet

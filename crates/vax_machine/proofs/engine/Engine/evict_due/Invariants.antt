@@ -14,7 +14,7 @@ invariant-loop-target g l = record {
   turn : l.turn ≡ l.fn.self.turns + 1;
   within : l.place ≤ length (due l.schedule l.turn);
   at : (p : Paged) → Tracks l.fn.self (g.F.PageFile.contents l.fn.file) p → Tracks l.self (g.F.PageFile.contents l.file) (all_evicted (all_named (pages l.fn.self.pager).areas (take l.place (due l.schedule l.turn))) p);
-  later : g.F.PageFile.faults l.fn.file ≤ g.F.PageFile.faults l.file;
+  quiet : g.F.PageFile.faults l.file ≡ g.F.PageFile.faults l.fn.file;
 }
 
 abbrev pub decreases-loop-target : goal.decreases-loop-target

@@ -16,4 +16,5 @@ returns-in_default g c = record {
   still = still_evict c.args.self.now c.evict.new.self _ _ _ c.evict.ensures.applies.0;
   later = c.evict.ensures.later;
   cause = tt;
+  quiet = c.evict.ensures.quiet c.in_default.not-Failed;
 }

@@ -12,7 +12,7 @@ loop-place-init g c = record {
   sound = c.requires.sound;
   still = still_itself c.args.self.now;
   at = λ p t. none_yet _ _ p t;
-  later = omega arith;
+  quiet = refl;
 }
 
 pub evict_one-requires : goal.evict_one-requires
@@ -27,17 +27,17 @@ pub returns-in_err-evict_one-clause-still : goal.returns-in_err-evict_one-clause
 returns-in_err-evict_one-clause-still g c = then_still _ _ _ c.loop-place.invariant.still c.evict_one.ensures.still
 
 pub returns-in_err-evict_one-clause-later : goal.returns-in_err-evict_one-clause-later
-returns-in_err-evict_one-clause-later g c = omega (arith, c.loop-place.invariant.later, c.evict_one.ensures.later)
+returns-in_err-evict_one-clause-later g c = let q = c.loop-place.invariant.quiet in omega (arith, q, c.evict_one.ensures.later)
 
 pub returns-in_err-evict_one-clause-cause : goal.returns-in_err-evict_one-clause-cause
-returns-in_err-evict_one-clause-cause g c = on_err c.from_residual.result (omega (arith, c.loop-place.invariant.later, c.in_err-evict_one.ensures.cause))
+returns-in_err-evict_one-clause-cause g c = on_err c.from_residual.result (let q = c.loop-place.invariant.quiet in let r = c.in_err-evict_one.ensures.cause in omega (arith, q, r))
 
 pub loop-place-preserved : goal.loop-place-preserved
 loop-place-preserved g c = record {
   sound = c.evict_one.ensures.sound;
   still = then_still _ _ _ c.loop-place.invariant.still c.evict_one.ensures.still;
   at = λ p t. next_page _ _ p c.args.first c.loop-place.place (c.in_ok-evict_one.ensures.ok _ (c.loop-place.invariant.at p t));
-  later = omega (arith, c.loop-place.invariant.later, c.evict_one.ensures.later);
+  quiet = c.in_ok-evict_one.ensures.quiet ∙ c.loop-place.invariant.quiet;
 }
 
 pub returns-clause-sound : goal.returns-clause-sound
@@ -52,4 +52,7 @@ pub returns-clause-still : goal.returns-clause-still
 returns-clause-still g c = c.loop-place.invariant.still
 
 pub returns-clause-later : goal.returns-clause-later
-returns-clause-later g c = c.loop-place.invariant.later
+returns-clause-later g c = let q = c.loop-place.invariant.quiet in omega (arith, q)
+
+pub returns-clause-quiet : goal.returns-clause-quiet
+returns-clause-quiet g c = c.loop-place.invariant.quiet

@@ -1,4 +1,4 @@
-use Rattle.std.proofs.Common.{◌≡◌, ℕ, ◌≤◌}
+use Rattle.std.proofs.Common.{◌≡◌, ℕ}
 use Rattle.std.specs.List.{range_with_len}
 use Rattle.vax_machine.specs.Machine.{IsSound}
 use Rattle.vax_machine.specs.Paged.{Paged, all_evicted}
@@ -11,5 +11,5 @@ invariant-loop-place g l = record {
   sound : IsSound l.self;
   still : Still l.fn.self l.self;
   at : (p : Paged) → Tracks l.fn.self (g.F.PageFile.contents l.fn.file) p → Tracks l.self (g.F.PageFile.contents l.file) (all_evicted (range_with_len l.first l.place) p);
-  later : g.F.PageFile.faults l.fn.file ≤ g.F.PageFile.faults l.file;
+  quiet : g.F.PageFile.faults l.file ≡ g.F.PageFile.faults l.fn.file;
 }

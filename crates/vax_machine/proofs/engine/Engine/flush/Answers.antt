@@ -43,3 +43,12 @@ returns-in-Err-clause-applies g c = (
   flushes_as _ true _ _ _ c.in-Err.ensures.needed (inl refl, rw c.in-Err.ensures.err refl),
   keeps_place c.args.self.now _ _ _ _ c.in-Err.ensures.keeps,
 )
+
+pub returns-then-written-clause-quiet : goal.returns-then-written-clause-quiet
+returns-then-written-clause-quiet g c = λ other. c.in-Ok.ensures.quiet
+
+pub returns-else-written-clause-quiet : goal.returns-else-written-clause-quiet
+returns-else-written-clause-quiet g c = λ other. c.in-Ok.ensures.quiet
+
+pub returns-in-Err-clause-quiet : goal.returns-in-Err-clause-quiet
+returns-in-Err-clause-quiet g c = λ other. absurd (other refl)

@@ -7,7 +7,7 @@ use Rattle.vax_machine.specs.Paged.{Paged, paged}
 use Rattle.vax_machine.specs.Run.{begun}
 use Rattle.vax_machine.specs.Turn.{AreCut, TurnsMade}
 use Rattle.vax_machine.specs.declared.event.RunEnd.TheVariants as run_end
-use Rattle.vax_machine.proofs.Running.{at_start, finishes_cut, finishes_whole, goes_quiet, goes_sent, lost_byte, page_cause, pins_paged, stop_unlike, write_cause}
+use Rattle.vax_machine.proofs.Running.{at_start, finishes_cut, finishes_whole, goes_quiet, goes_sent, lost_byte, one_of_both, page_cause, pins_paged, stop_unlike, write_cause}
 use Rattle.vax_machine.proofs.engine.Engine.run.Goals as goal
 
 pub loop-end-init : goal.loop-end-init
@@ -17,8 +17,8 @@ loop-end-init g c = record {
   turns = c.requires.turns;
   areas = refl;
   at = λ place m pins. at_start c.args.limits.now _ c.args.schedule.now c.args.self.now _ place _ _ c.new-held.ensures m;
-  later = omega arith;
-  sunk = omega arith;
+  quiet = refl;
+  written = refl;
 }
 
 pub returns-in-Some-clause-sound : goal.returns-in-Some-clause-sound
@@ -29,10 +29,10 @@ returns-in-Some-clause-ends g c = λ place m pins.
     finishes_whole c.args.limits.now _ c.args.schedule.now (begun c.args.self.now place) c.loop-end.self _ _ _ _ (c.loop-end.invariant.at place m pins) c.in-Some.end c.finish.result _ _ c.in-Some.ensures.whole (λ p t. c.in-Some.ensures.stops _ p t) c.finish.ensures.done
 
 pub returns-in-Some-clause-later : goal.returns-in-Some-clause-later
-returns-in-Some-clause-later g c = c.loop-end.invariant.later
+returns-in-Some-clause-later g c = let q = c.loop-end.invariant.quiet in omega (arith, q)
 
 pub returns-in-Some-clause-sunk : goal.returns-in-Some-clause-sunk
-returns-in-Some-clause-sunk g c = omega (arith, c.loop-end.invariant.sunk, c.finish.ensures.later)
+returns-in-Some-clause-sunk g c = let w = c.loop-end.invariant.written in omega (arith, w, c.finish.ensures.later)
 
 pub returns-in-Some-clause-fault : goal.returns-in-Some-clause-fault
 returns-in-Some-clause-fault g c = λ is. absurd ((stop_unlike _ c.in-Some.ensures.whole).1 (page_cause _ _ _ _ _ _ c.finish.ensures.done is))
@@ -40,7 +40,14 @@ returns-in-Some-clause-fault g c = λ is. absurd ((stop_unlike _ c.in-Some.ensur
 pub returns-in-Some-clause-cause : goal.returns-in-Some-clause-cause
 returns-in-Some-clause-cause g c = λ is.
     let r = write_cause _ _ _ _ _ _ c.finish.ensures.done (stop_unlike _ c.in-Some.ensures.whole).0 is in
-    omega (arith, c.loop-end.invariant.sunk, r)
+    let w = c.loop-end.invariant.written in
+    omega (arith, w, r)
+
+pub returns-in-Some-clause-unfailed : goal.returns-in-Some-clause-unfailed
+returns-in-Some-clause-unfailed g c = λ a b. c.loop-end.invariant.quiet
+
+pub returns-in-Some-clause-written : goal.returns-in-Some-clause-written
+returns-in-Some-clause-written g c = λ a. c.finish.ensures.quiet a ∙ c.loop-end.invariant.written
 
 pub several_turns-requires-clause-sound : goal.several_turns-requires-clause-sound
 several_turns-requires-clause-sound g c = c.loop-end.invariant.sound
@@ -63,18 +70,25 @@ returns-in-Err-clause-ends g c = λ place m pins.
     c.finish-in-Err.ensures.done
 
 pub returns-in-Err-clause-later : goal.returns-in-Err-clause-later
-returns-in-Err-clause-later g c = omega (arith, c.loop-end.invariant.later, c.several_turns.ensures.later)
+returns-in-Err-clause-later g c = let q = c.loop-end.invariant.quiet in omega (arith, q, c.several_turns.ensures.later)
 
 pub returns-in-Err-clause-sunk : goal.returns-in-Err-clause-sunk
-returns-in-Err-clause-sunk g c = omega (arith, c.loop-end.invariant.sunk, c.finish-in-Err.ensures.later)
+returns-in-Err-clause-sunk g c = let w = c.loop-end.invariant.written in omega (arith, w, c.finish-in-Err.ensures.later)
 
 pub returns-in-Err-clause-fault : goal.returns-in-Err-clause-fault
-returns-in-Err-clause-fault g c = λ is. omega (arith, c.loop-end.invariant.later, c.in-Err.ensures.cause)
+returns-in-Err-clause-fault g c = λ is. let q = c.loop-end.invariant.quiet in let r = c.in-Err.ensures.cause in omega (arith, q, r)
 
 pub returns-in-Err-clause-cause : goal.returns-in-Err-clause-cause
 returns-in-Err-clause-cause g c = λ is.
     let r = write_cause _ _ _ _ _ _ c.finish-in-Err.ensures.done (λ x. cc) is in
-    omega (arith, c.loop-end.invariant.sunk, r)
+    let w = c.loop-end.invariant.written in
+    omega (arith, w, r)
+
+pub returns-in-Err-clause-unfailed : goal.returns-in-Err-clause-unfailed
+returns-in-Err-clause-unfailed g c = λ a b. absurd (one_of_both _ _ _ _ _ _ c.finish-in-Err.ensures.done a b)
+
+pub returns-in-Err-clause-written : goal.returns-in-Err-clause-written
+returns-in-Err-clause-written g c = λ a. c.finish-in-Err.ensures.quiet a ∙ c.loop-end.invariant.written
 
 pub loop-end-smaller-in-Ok-None : goal.loop-end-smaller-in-Ok-None
 loop-end-smaller-in-Ok-None g c =
@@ -96,8 +110,8 @@ loop-end-preserved-in-Ok-None g c = record {
       let made = subst (λ (z : List Area). TurnsMade c.several_turns.result c.args.limits.now z c.args.schedule.now p c.several_turns.new.self (g.F.PageFile.contents c.several_turns.new.file)) c.loop-end.invariant.areas (c.several_turns.ensures.done p r.tracks here) in
       goes_quiet c.args.limits.now _ c.args.schedule.now (begun c.args.self.now place) c.loop-end.self _ _ _ _ r c.several_turns.new.self _
       (subst (λ (z : Result (Option ℕ) PageFault). TurnsMade z c.args.limits.now (pages c.args.self.now.pager).areas c.args.schedule.now p c.several_turns.new.self (g.F.PageFile.contents c.several_turns.new.file)) e made);
-  later = omega (arith, c.loop-end.invariant.later, c.several_turns.ensures.later);
-  sunk = c.loop-end.invariant.sunk;
+  quiet = c.in-Ok-None.ensures.quiet ∙ c.loop-end.invariant.quiet;
+  written = c.loop-end.invariant.written;
 }
 
 pub loop-end-smaller : goal.loop-end-smaller
@@ -121,8 +135,8 @@ loop-end-preserved g c = record {
       goes_sent c.args.limits.now _ c.args.schedule.now (begun c.args.self.now place) c.loop-end.self _ _ _ _ r c.several_turns.new.self _ c.in-Ok-Some.byte _ _
       (subst (λ (z : Result (Option ℕ) PageFault). TurnsMade z c.args.limits.now (pages c.args.self.now.pager).areas c.args.schedule.now p c.several_turns.new.self (g.F.PageFile.contents c.several_turns.new.file)) e made)
       c.in-Ok.ensures.ok;
-  later = omega (arith, c.loop-end.invariant.later, c.several_turns.ensures.later);
-  sunk = omega (arith, c.loop-end.invariant.sunk, c.push.ensures.later);
+  quiet = c.in-Ok-Some.ensures.quiet ∙ c.loop-end.invariant.quiet;
+  written = c.in-Ok.ensures.quiet ∙ c.loop-end.invariant.written;
 }
 
 pub returns-in-Err-push-clause-ends : goal.returns-in-Err-push-clause-ends
@@ -137,10 +151,16 @@ returns-in-Err-push-clause-ends g c = λ place m pins.
     c.in-Err-push.ensures.err
 
 pub returns-in-Err-push-clause-later : goal.returns-in-Err-push-clause-later
-returns-in-Err-push-clause-later g c = omega (arith, c.loop-end.invariant.later, c.several_turns.ensures.later)
+returns-in-Err-push-clause-later g c = let q = c.loop-end.invariant.quiet in omega (arith, q, c.several_turns.ensures.later)
 
 pub returns-in-Err-push-clause-sunk : goal.returns-in-Err-push-clause-sunk
-returns-in-Err-push-clause-sunk g c = omega (arith, c.loop-end.invariant.sunk, c.push.ensures.later)
+returns-in-Err-push-clause-sunk g c = let w = c.loop-end.invariant.written in omega (arith, w, c.push.ensures.later)
 
 pub returns-in-Err-push-clause-cause : goal.returns-in-Err-push-clause-cause
-returns-in-Err-push-clause-cause g c = λ is. omega (arith, c.loop-end.invariant.sunk, c.in-Err-push.ensures.cause)
+returns-in-Err-push-clause-cause g c = λ is. let w = c.loop-end.invariant.written in let r = c.in-Err-push.ensures.cause in omega (arith, w, r)
+
+pub returns-in-Err-push-clause-unfailed : goal.returns-in-Err-push-clause-unfailed
+returns-in-Err-push-clause-unfailed g c = λ a b. absurd (b refl)
+
+pub returns-in-Err-push-clause-written : goal.returns-in-Err-push-clause-written
+returns-in-Err-push-clause-written g c = λ a. absurd (a refl)

@@ -14,8 +14,8 @@ invariant-loop-end g l = record {
   turns : l.self.turns ≤ l.limits.turns;
   areas : (pages l.self.pager).areas ≡ (pages l.fn.self.pager).areas;
   at : (place : Place) → Means l.fn.self (g.F.PageFile.contents l.fn.file) place → PinsTouched (residence l.fn.self) place → Reached l.limits (pages l.fn.self.pager).areas l.schedule (begun l.fn.self place) l.self (g.F.PageFile.contents l.file) (g.K.Sink.contents l.fn.sink) (g.K.Sink.contents l.sink) l.held.bytes.items;
-  later : g.F.PageFile.faults l.fn.file ≤ g.F.PageFile.faults l.file;
-  sunk : g.K.Sink.faults l.fn.sink ≤ g.K.Sink.faults l.sink;
+  quiet : g.F.PageFile.faults l.file ≡ g.F.PageFile.faults l.fn.file;
+  written : g.K.Sink.faults l.sink ≡ g.K.Sink.faults l.fn.sink;
 }
 
 abbrev pub decreases-loop-end : goal.decreases-loop-end
