@@ -77,21 +77,29 @@ module _ (s t : Paging) (cpu : Cpu) (mid new : Engine) (result : Applied) (w : O
 
   batch_goes : (last : Attempt) (a : AreAttempts (view_of s) m count last mid.cpu (view_of t)) → Concludes last mid result new → IsOpenAfter last cpu.latch mid.cpu.latch → Goes result (λ page. is_listed page s.order) new file (At a.here)
   batch_goes (attempt.Step sent) a c latch =
-      subst (λ (z : Applied). Goes z (λ page. is_listed page s.order) new file (At a.here)) (sym c.answer)
-      (a.attempted.0, stepped_as _ _ (At a.here) mid.cpu new file c.cpu sent a.attempted.1 (c.ended ∙ going) latch
-      (after_settled (attempt.Step sent) a a.attempted.1.memory c.pages a.attempted.1.leaves.stands a.attempted.1.leaves.absent))
+      subst (λ (z : Applied). Goes z (λ page. is_listed page s.order) new file (At a.here)) (sym c.answer) (
+        a.attempted.0,
+        stepped_as _ _ (At a.here) mid.cpu new file c.cpu sent a.attempted.1 (c.ended ∙ going) latch
+            (after_settled (attempt.Step sent) a a.attempted.1.memory c.pages a.attempted.1.leaves.stands a.attempted.1.leaves.absent),
+      )
   batch_goes attempt.Part a c latch =
-      subst (λ (z : Applied). Goes z (λ page. is_listed page s.order) new file (At a.here)) (sym c.answer)
-      (a.attempted.0, parted_as _ _ (At a.here) mid.cpu new file c.cpu a.attempted.1 (c.ended ∙ going)
-      (after_settled attempt.Part a a.attempted.1.next.now.memory c.pages a.attempted.1.leaves.stands a.attempted.1.leaves.absent))
+      subst (λ (z : Applied). Goes z (λ page. is_listed page s.order) new file (At a.here)) (sym c.answer) (
+        a.attempted.0,
+        parted_as _ _ (At a.here) mid.cpu new file c.cpu a.attempted.1 (c.ended ∙ going)
+            (after_settled attempt.Part a a.attempted.1.next.now.memory c.pages a.attempted.1.leaves.stands a.attempted.1.leaves.absent),
+      )
   batch_goes (attempt.Absent page) a c latch =
-      subst (λ (z : Applied). Goes z (λ page. is_listed page s.order) new file (At a.here)) (sym c.answer)
-      (a.attempted.0, means_by new mid.cpu None file (At a.here) c.cpu (c.ended ∙ going) (record { open_one = latch ∙ closed; machine = a.stays.0 })
-      (after_eased (attempt.Absent page) a a.here.memory c.pages a.stays.1 (λ addr away. refl)))
+      subst (λ (z : Applied). Goes z (λ page. is_listed page s.order) new file (At a.here)) (sym c.answer) (
+        a.attempted.0,
+        means_by new mid.cpu None file (At a.here) c.cpu (c.ended ∙ going) (record { open_one = latch ∙ closed; machine = a.stays.0 })
+            (after_eased (attempt.Absent page) a a.here.memory c.pages a.stays.1 (λ addr away. refl)),
+      )
   batch_goes (attempt.Ended x) a c latch =
-      subst (λ (z : Applied). Goes z (λ page. is_listed page s.order) new file (At a.here)) (sym c.answer)
-      (a.attempted.0, ended_as _ _ (At a.here) mid.cpu new file c.cpu x a.attempted.1 c.ended (record { open_one = latch; machine = ap (λ (z : Flat). ended z x) a.stays.0 })
-      (after_settled (attempt.Ended x) a a.here.memory c.pages a.stays.1 (λ addr away. refl)))
+      subst (λ (z : Applied). Goes z (λ page. is_listed page s.order) new file (At a.here)) (sym c.answer) (
+        a.attempted.0,
+        ended_as _ _ (At a.here) mid.cpu new file c.cpu x a.attempted.1 c.ended (record { open_one = latch; machine = ap (λ (z : Flat). ended z x) a.stays.0 })
+            (after_settled (attempt.Ended x) a a.here.memory c.pages a.stays.1 (λ addr away. refl)),
+      )
 
 -- what is kept
 
@@ -108,9 +116,9 @@ several_is zero k a b =
 several_is (suc count) k a b =
     let e = several_is count k (omega (arith, a)) (omega (arith, b)) in
     ap (tried (Stepped None)) e ∙ (
-      let s : raised (k.steps + suc count) ≡ k.steps + suc (suc count) = omega (arith, a) in
-      let t : raised (k.turns + suc count) ≡ k.turns + suc (suc count) = omega (arith, b) in
-      rw (s, t) refl)
+    let s : raised (k.steps + suc count) ≡ k.steps + suc (suc count) = omega (arith, a) in
+    let t : raised (k.turns + suc count) ≡ k.turns + suc (suc count) = omega (arith, b) in
+    rw (s, t) refl)
 
 tried_any : (last : Attempt) (k : Keeping) (want : Option ℕ) → tried (applied_of last) (record k { wanted = want }) ≡ tried (applied_of last) k
 tried_any (attempt.Step sent) k want = refl

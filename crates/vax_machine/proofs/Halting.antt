@@ -156,9 +156,9 @@ module _ (limits : Limits) (areas : List Area) (rules : List Rule) where
   halts : (left : ℕ) (p : Paged) → limits.turns ≤ p.turns + left → Halts limits areas rules p
   halts zero p few = halts_or p (stops limits.steps limits.turns p) refl (λ none. let g = (going_on limits p none).1 in absurd (omega (arith, g, few)))
   halts (suc left) p few = halts_or p (stops limits.steps limits.turns p) refl (λ none.
-    let g = going_on limits p none in
-    let t = turn_counted areas (due rules) p g.0 in
-    halts_later p none (halts left (next_turn areas (due rules) p) (omega (arith, t, few))))
+      let g = going_on limits p none in
+      let t = turn_counted areas (due rules) p g.0 in
+      halts_later p none (halts left (next_turn areas (due rules) p) (omega (arith, t, few))))
 
   -- a prefix of what some turns sent is one of what the whole run sends
   pub lost_at : (b : Paged) (n : ℕ) (sent : List ℕ) (old new : Option Channels) → Runs limits areas rules b n → (machine_at (paged areas (due rules) n b).place).output ≡ (machine_at b.place).output ++ sent → GrewByPrefix old new (only Out sent) → IsLost limits areas rules b old new

@@ -6,9 +6,9 @@ use Rattle.std.proofs.lemmas.Bool.Decides.{nat_tests}
 use Rattle.std.proofs.lemmas.Bool.{cases_eq, cases_lt, eq-eqb, ne_eqb}
 use Rattle.vax_space.specs.declared.Area.{Area}
 use Rattle.vax_outside.specs.Blocks.{BlockFile}
-use Rattle.vax_outside.specs.Channels.{Channels, Grew, GrewByPrefix, only}
+use Rattle.vax_outside.specs.Channels.{Channels, Grew, GrewByPrefix, nothing, only}
 use Rattle.vax_outside.specs.declared.traits.Chan.TheVariants.{Out}
-use Rattle.vax_outside.proofs.Growth.{grew_nothing, out_grew, out_last}
+use Rattle.vax_outside.proofs.Growth.{append-nothing, grew_nothing, out_grew, out_last}
 use Rattle.vax_flat.specs.declared.Ending.{Ending}
 use Rattle.vax_flat.specs.Outcome.{first_missing}
 use Rattle.vax_flat.specs.Parts.{Place, machine_at, touches_at}
@@ -380,3 +380,12 @@ stop_unlike run_end.WriteFault s = absurd s
 pub one_of_both : (end result : RunEnd) (held : List ℕ) (old new : Option Channels) (rose : Type 0) → Finishes end result held old new rose → (result ≡ end → ⊥) → (result ≡ run_end.WriteFault → ⊥) → ⊥
 one_of_both end result held old new rose (inl h) a b = a h.0
 one_of_both end result held old new rose (inr h) a b = b h.0
+
+-- nothing but Out grows
+
+whole_prefix : (old new : Option Channels) (sent : List ℕ) → Grew old new (only Out sent) → GrewByPrefix old new (only Out sent)
+whole_prefix old new sent g = record { prefix = only Out sent; rest = nothing; splits = append-nothing (only Out sent); grew = g }
+
+pub out_finished : (end result : RunEnd) (held : List ℕ) (old now new : Option Channels) (sent : List ℕ) (rose : Type 0) → Grew old now (only Out sent) → Finishes end result held now new rose → (all : List ℕ) × GrewByPrefix old new (only Out all)
+out_finished end result held old now new sent rose g (inl h) = (sent ++ h.1.sent, whole_prefix old new (sent ++ h.1.sent) (out_grew old now new sent h.1.sent g h.1.wrote))
+out_finished end result held old now new sent rose g (inr h) = (sent ++ held, out_last old now new sent held g h.1)

@@ -1,7 +1,9 @@
 //! The machine as callers have it.
-ghost use Rattle.std.specs.Prelude.{◌≡◌, ◌≢◌, ◌-◌, ◌≤◌, ◌<◌, ◌^◌, ◌⊎◌, Option, Some, None, IfOk, IfSome, OnErr, OnOk, is_some, true, false, length};
+ghost use Rattle.std.specs.Prelude.{◌≡◌, ◌≢◌, ◌-◌, ◌≤◌, ◌<◌, ◌^◌, ◌⊎◌, ℕ, List, Option, Some, None, IfOk, IfSome, OnErr, OnOk, is_some, true, false, length};
 ghost use Rattle.vax_outside.specs.Blocks.{BlockFile};
+ghost use Rattle.vax_outside.specs.Channels.{GrewByPrefix, only};
 ghost use Rattle.vax_outside.specs.Faults.{Rose};
+ghost use Rattle.vax_outside.specs.declared.traits.Chan.TheVariants.{Out};
 ghost use Rattle.vax_machine.specs.Machine.{IsSound};
 
 use crate::engine::Engine;
@@ -104,6 +106,7 @@ impl Machine {
         ensures cause { result ≡ RunEnd.WriteFault → Rose (K.faults sink.old) (K.faults sink.new) }
         ensures unfailed { result ≢ RunEnd.PageFault → result ≢ RunEnd.WriteFault → F.faults file.new ≡ F.faults file.old }
         ensures written { result ≢ RunEnd.WriteFault → K.faults sink.new ≡ K.faults sink.old }
+        ensures out { (sent : List ℕ) × GrewByPrefix (K.contents sink.old) (K.contents sink.new) (only Out sent) }
     {
         self.engine.run(limits, schedule, file, sink)
     }

@@ -1,8 +1,10 @@
 //! Runs of a machine.
-ghost use Rattle.std.specs.Prelude.{◌≡◌, ◌≢◌, ℕ, ◌+◌, ◌-◌, ◌<◌, ◌≤◌, ◌^◌, None, Some, [], length, slice_get, OnOk, OnErr, Option, IfSome};
+ghost use Rattle.std.specs.Prelude.{◌≡◌, ◌≢◌, ℕ, ◌+◌, ◌-◌, ◌<◌, ◌≤◌, ◌^◌, None, Some, [], List, length, slice_get, OnOk, OnErr, Option, IfSome};
 ghost use Rattle.vax_space.specs.declared.Area.{Area};
 ghost use Rattle.vax_outside.specs.Blocks.{BlockFile};
+ghost use Rattle.vax_outside.specs.Channels.{GrewByPrefix, only};
 ghost use Rattle.vax_outside.specs.Faults.{Rose};
+ghost use Rattle.vax_outside.specs.declared.traits.Chan.TheVariants.{Out};
 ghost use Rattle.vax_flat.specs.Parts.{Place};
 ghost use Rattle.vax_machine.specs.Turn.{Finishes};
 
@@ -291,6 +293,7 @@ impl Engine {
         ensures cause { result ≡ RunEnd.WriteFault → Rose (K.faults sink.old) (K.faults sink.new) }
         ensures unfailed { result ≢ RunEnd.PageFault → result ≢ RunEnd.WriteFault → F.faults file.new ≡ F.faults file.old }
         ensures written { result ≢ RunEnd.WriteFault → K.faults sink.new ≡ K.faults sink.old }
+        ensures out { (sent : List ℕ) × GrewByPrefix (K.contents sink.old) (K.contents sink.new) (only Out sent) }
     {
         let mut held = Held::new();
         loop {

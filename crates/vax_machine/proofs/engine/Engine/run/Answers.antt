@@ -1,5 +1,6 @@
-use Rattle.std.proofs.Common.{◌≡◌, ◌≤◌, ◌<◌, ◌+◌, ◌-◌, ◌^◌, refl, ap, arith, subst, sym, ◌∙◌, ℕ, List, Option, Some, None, Result, Ok, Err}
+use Rattle.std.proofs.Common.{◌≡◌, ◌≤◌, ◌<◌, ◌+◌, ◌-◌, ◌^◌, refl, ap, arith, subst, sym, ◌∙◌, ℕ, List, [], ◌∷◌, ◌++◌, Option, Some, None, Result, Ok, Err}
 use Rattle.vax_space.specs.declared.Area.{Area}
+use Rattle.vax_outside.proofs.Growth.{grew_nothing, out_grew, out_last}
 use Rattle.vax_pager.specs.Meaning.{pages}
 use Rattle.vax_pager.specs.declared.calls.PageFault.{PageFault}
 use Rattle.vax_sched.specs.Due.{due}
@@ -7,7 +8,7 @@ use Rattle.vax_machine.specs.Paged.{Paged, paged}
 use Rattle.vax_machine.specs.Run.{begun}
 use Rattle.vax_machine.specs.Turn.{AreCut, TurnsMade}
 use Rattle.vax_machine.specs.declared.event.RunEnd.TheVariants as run_end
-use Rattle.vax_machine.proofs.Running.{at_start, finishes_cut, finishes_whole, goes_quiet, goes_sent, lost_byte, one_of_both, page_cause, pins_paged, stop_unlike, write_cause}
+use Rattle.vax_machine.proofs.Running.{at_start, finishes_cut, finishes_whole, goes_quiet, goes_sent, lost_byte, one_of_both, out_finished, page_cause, pins_paged, stop_unlike, write_cause}
 use Rattle.vax_machine.proofs.engine.Engine.run.Goals as goal
 
 pub loop-end-init : goal.loop-end-init
@@ -19,6 +20,7 @@ loop-end-init g c = record {
   at = λ place m pins. at_start c.args.limits.now _ c.args.schedule.now c.args.self.now _ place _ _ c.new-held.ensures m;
   quiet = refl;
   written = refl;
+  out = ([], grew_nothing _);
 }
 
 pub returns-in-Some-clause-sound : goal.returns-in-Some-clause-sound
@@ -48,6 +50,9 @@ returns-in-Some-clause-unfailed g c = λ a b. c.loop-end.invariant.quiet
 
 pub returns-in-Some-clause-written : goal.returns-in-Some-clause-written
 returns-in-Some-clause-written g c = λ a. c.finish.ensures.quiet a ∙ c.loop-end.invariant.written
+
+pub returns-in-Some-clause-out : goal.returns-in-Some-clause-out
+returns-in-Some-clause-out g c = out_finished _ _ _ _ _ _ c.loop-end.invariant.out.0 _ c.loop-end.invariant.out.1 c.finish.ensures.done
 
 pub several_turns-requires-clause-sound : goal.several_turns-requires-clause-sound
 several_turns-requires-clause-sound g c = c.loop-end.invariant.sound
@@ -90,6 +95,9 @@ returns-in-Err-clause-unfailed g c = λ a b. absurd (one_of_both _ _ _ _ _ _ c.f
 pub returns-in-Err-clause-written : goal.returns-in-Err-clause-written
 returns-in-Err-clause-written g c = λ a. c.finish-in-Err.ensures.quiet a ∙ c.loop-end.invariant.written
 
+pub returns-in-Err-clause-out : goal.returns-in-Err-clause-out
+returns-in-Err-clause-out g c = out_finished _ _ _ _ _ _ c.loop-end.invariant.out.0 _ c.loop-end.invariant.out.1 c.finish-in-Err.ensures.done
+
 pub loop-end-smaller-in-Ok-None : goal.loop-end-smaller-in-Ok-None
 loop-end-smaller-in-Ok-None g c =
     let n = (c.stopped.ensures.none c.in_default.is).2 in
@@ -112,6 +120,7 @@ loop-end-preserved-in-Ok-None g c = record {
       (subst (λ (z : Result (Option ℕ) PageFault). TurnsMade z c.args.limits.now (pages c.args.self.now.pager).areas c.args.schedule.now p c.several_turns.new.self (g.F.PageFile.contents c.several_turns.new.file)) e made);
   quiet = c.in-Ok-None.ensures.quiet ∙ c.loop-end.invariant.quiet;
   written = c.loop-end.invariant.written;
+  out = c.loop-end.invariant.out;
 }
 
 pub loop-end-smaller : goal.loop-end-smaller
@@ -137,6 +146,7 @@ loop-end-preserved g c = record {
       c.in-Ok.ensures.ok;
   quiet = c.in-Ok-Some.ensures.quiet ∙ c.loop-end.invariant.quiet;
   written = c.in-Ok.ensures.quiet ∙ c.loop-end.invariant.written;
+  out = (c.loop-end.invariant.out.0 ++ c.in-Ok.ensures.ok.sent, out_grew _ _ _ c.loop-end.invariant.out.0 c.in-Ok.ensures.ok.sent c.loop-end.invariant.out.1 c.in-Ok.ensures.ok.wrote);
 }
 
 pub returns-in-Err-push-clause-ends : goal.returns-in-Err-push-clause-ends
@@ -164,3 +174,6 @@ returns-in-Err-push-clause-unfailed g c = λ a b. absurd (b refl)
 
 pub returns-in-Err-push-clause-written : goal.returns-in-Err-push-clause-written
 returns-in-Err-push-clause-written g c = λ a. absurd (a refl)
+
+pub returns-in-Err-push-clause-out : goal.returns-in-Err-push-clause-out
+returns-in-Err-push-clause-out g c = (c.loop-end.invariant.out.0 ++ (c.loop-end.held.bytes.items ++ c.in-Ok-Some.byte ∷ []), out_last _ _ _ c.loop-end.invariant.out.0 _ c.loop-end.invariant.out.1 c.in-Err-push.ensures.err)

@@ -1,4 +1,6 @@
-use Rattle.std.proofs.Common.{◌≡◌, ℕ, ◌-◌, ◌≤◌}
+use Rattle.std.proofs.Common.{◌≡◌, ℕ, ◌-◌, ◌≤◌, List}
+use Rattle.vax_outside.specs.Channels.{Grew, only}
+use Rattle.vax_outside.specs.declared.traits.Chan.TheVariants.{Out}
 use Rattle.vax_flat.specs.Parts.{Place}
 use Rattle.vax_pager.specs.Meaning.{pages}
 use Rattle.vax_machine.specs.Machine.{IsSound, Means, residence}
@@ -16,6 +18,7 @@ invariant-loop-end g l = record {
   at : (place : Place) → Means l.fn.self (g.F.PageFile.contents l.fn.file) place → PinsTouched (residence l.fn.self) place → Reached l.limits (pages l.fn.self.pager).areas l.schedule (begun l.fn.self place) l.self (g.F.PageFile.contents l.file) (g.K.Sink.contents l.fn.sink) (g.K.Sink.contents l.sink) l.held.bytes.items;
   quiet : g.F.PageFile.faults l.file ≡ g.F.PageFile.faults l.fn.file;
   written : g.K.Sink.faults l.sink ≡ g.K.Sink.faults l.fn.sink;
+  out : (sent : List ℕ) × Grew (g.K.Sink.contents l.fn.sink) (g.K.Sink.contents l.sink) (only Out sent);
 }
 
 abbrev pub decreases-loop-end : goal.decreases-loop-end
