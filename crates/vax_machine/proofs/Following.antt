@@ -1,18 +1,22 @@
 -- A machine follows the run of the flat machine, whatever happens to it.
 use Rattle.std.proofs.Common.{ℕ, zero, suc, ◌≡◌, ◌+◌, ◌-◌, ◌^◌, ◌<◌, ◌≤◌, Bool, true, false, List, [], ◌∷◌, length, refl, ap, sym, ◌∙◌, subst, arith, inl, inr, Option, Some, None}
+use Rattle.vax_space.specs.declared.Area.{Area}
 use Rattle.vax_outside.specs.Blocks.{BlockFile}
 use Rattle.vax_outside.specs.Faults.{raised}
 use Rattle.vax_flat.specs.declared.Ending.{Ending}
 use Rattle.vax_flat.specs.declared.Flow.TheVariants as flow
 use Rattle.vax_flat.specs.Accesses.{Leaf, Went, Found}
-use Rattle.vax_flat.specs.Outcome.{Outcome, Ends, Raised}
-use Rattle.vax_flat.specs.Parts.{Partway, Place, At, Within, Turn, Completes, Leaves, GoesBy, after_part, gone_back, left_by, machine_at, outcome_at, partway, turn, turn_from, units_after, units_done}
+use Rattle.vax_flat.specs.Outcome.{Outcome, Ends, Raised, first_missing}
+use Rattle.vax_flat.specs.Parts.{Partway, Place, At, Within, Turn, Completes, Leaves, GoesBy, after_part, gone_back, left_by, machine_at, outcome_at, partway, touches_at, turn, turn_from, units_after, units_done}
 use Rattle.vax_flat.specs.Step.{Flat, ended, run, step}
 use Rattle.vax_flat.proofs.Parts.{turns_agree}
 use Rattle.vax_pager.specs.Listing.{is_listed}
 use Rattle.vax_pager.specs.Meaning.{pages}
+use Rattle.vax_sched.specs.declared.rule.Target.{Target}
+use Rattle.vax_machine.proofs.Tracking.{many_evicted}
 use Rattle.vax_machine.specs.Events.{FollowsRun, Happen}
 use Rattle.vax_machine.specs.Machine.{Applies, Evicts, Flushes, Goes, Keeping, KeepsPlace, Means, Serves, Tries, keeping, residence, tried}
+use Rattle.vax_machine.specs.Paged.{Paged, all_evicted, all_named, attempted, attempted_by, fresh, paged, place_after, steps_after, unless_ended}
 use Rattle.vax_machine.specs.Residence.{is_resident}
 use Rattle.vax_machine.specs.declared.engine.Engine.{Engine}
 use Rattle.vax_machine.specs.declared.event.Applied.{Applied}
@@ -163,3 +167,38 @@ events_follow [] old new before after start low h f =
 events_follow (e ∷ events) old new before after start low h f =
     let steps = event_steps e old h.0 before h.1 h.2 h.3 in
     events_follow events h.0 new h.1 after start (omega (arith, low, steps)) h.4 (event_follows e old h.0 before h.1 h.2 start (omega (arith, low)) h.3 f)
+
+-- and so does the paged run
+
+paged_turn : (t : Turn) (p : Paged) (start : Flat) → (machine_at p.place).ending ≡ None → GoesBy (run p.steps start) p.place → turn p.place ≡ t → GoesBy (run (steps_after t p.steps) start) (place_after t)
+paged_turn (Completes next) p start going g is =
+    let alive : (run p.steps start).ending ≡ None = sym (goes_ending (run p.steps start) p.place g) ∙ going in
+    one_further p.steps (p.steps + 1) start next refl (turns_agree (run p.steps start) p.place next alive g is)
+paged_turn (Leaves q) p start going g is = goes_further (run p.steps start) p.place q g is
+
+paged_by : (m : Option ℕ) (p : Paged) (start : Flat) → (machine_at p.place).ending ≡ None → GoesBy (run p.steps start) p.place → GoesBy (run (attempted_by m p).steps start) (attempted_by m p).place
+paged_by (Some page) p start going g = g
+paged_by None p start going g = paged_turn (turn p.place) p start going g refl
+
+paged_unless : (how : Option Ending) (p : Paged) (start : Flat) → (machine_at p.place).ending ≡ how → GoesBy (run p.steps start) p.place → GoesBy (run (unless_ended how p (attempted_by (first_missing (is_resident p.residence) (touches_at p.place)) p)).steps start) (unless_ended how p (attempted_by (first_missing (is_resident p.residence) (touches_at p.place)) p)).place
+paged_unless (Some e) p start is g = g
+paged_unless None p start is g = paged_by (first_missing (is_resident p.residence) (touches_at p.place)) p start is g
+
+paged_attempted : (p : Paged) (start : Flat) → GoesBy (run p.steps start) p.place → GoesBy (run (attempted p).steps start) (attempted p).place
+unfolding attempted
+paged_attempted p start g = paged_unless (machine_at p.place).ending p start refl g
+
+paged_follows : (areas : List Area) (asks : ℕ → List Target) (count : ℕ) (b : Paged) (start : Flat) → GoesBy (run b.steps start) b.place → GoesBy (run (paged areas asks count b).steps start) (paged areas asks count b).place
+unfolding paged
+paged_follows areas asks zero b start g = g
+paged_follows areas asks (suc count) b start g =
+    let q = paged areas asks count b in
+    let all = all_named areas (asks (q.turns + 1)) in
+    let o = many_evicted all q in
+    paged_attempted (all_evicted all q) start
+    (subst (λ (z : Place). GoesBy (run (all_evicted all q).steps start) z) (sym o.place)
+    (subst (λ (n : ℕ). GoesBy (run n start) q.place) (sym o.steps) (paged_follows areas asks count b start g)))
+
+pub turns_follow : (areas : List Area) (asks : ℕ → List Target) (count frames : ℕ) (start : Flat) → GoesBy (run (paged areas asks count (fresh frames start)).steps start) (paged areas asks count (fresh frames start)).place
+unfolding run
+turns_follow areas asks count frames start = paged_follows areas asks count (fresh frames start) start refl
