@@ -1,5 +1,5 @@
 -- Several pages are made absent.
-use Rattle.std.proofs.Common.{ℕ, zero, suc, ◌≡◌, ◌+◌, ◌-◌, ◌<◌, ◌≤◌, List, [], ◌∷◌, ◌++◌, length, length-append, append_assoc, take, drop, get_or, refl, ap, sym, ◌∙◌, subst, arith, Option, Some, None, Result, Ok, Err}
+use Rattle.std.proofs.Common.{ℕ, zero, suc, ◌≡◌, ◌+◌, ◌-◌, ◌^◌, ◌<◌, ◌≤◌, List, [], ◌∷◌, ◌++◌, length, length-append, append_assoc, take, drop, get_or, refl, ap, sym, ◌∙◌, subst, arith, Option, Some, None, Result, Ok, Err}
 use Rattle.std.specs.List.{flat_map, range_with_len, slice_get}
 use Rattle.std.proofs.lemmas.List.{take_all}
 use Rattle.std.proofs.lemmas.Option.{get_or_from_slice_get, slice_get_within}
@@ -83,3 +83,10 @@ all_lists f xs i m file p past t = subst (λ zs. Tracks m file (all_evicted (fla
 
 pub past_all : {X : Type 0} (f : X → List ℕ) (xs : List X) (i : ℕ) (m : Engine) (file : Option BlockFile) (p : Paged) → slice_get xs i ≡ None → Tracks m file (all_evicted (flat_map f (take i xs)) p) → Tracks m file (all_evicted (flat_map f xs) p)
 past_all f xs i m file p none t = all_lists f xs i m file p (none_past xs i none) t
+
+-- an area's end is a page number
+pub area_fits : (all areas here : List Area) (i : ℕ) (area : Area) → all ≡ areas → areas ≡ here → IsSpace areas → i < length here → area ≡ get_or all i area → area.first + area.pages < 2 ^ 32
+area_fits all areas here i area a b space low there =
+    let within : i < length areas = subst (λ (z : List Area). i < length z) (sym b) low in
+    let e : end_of area ≤ 0x401000 = area_end areas i area space within (there ∙ ap (λ (z : List Area). get_or z i area) a) in
+    omega (arith, e)

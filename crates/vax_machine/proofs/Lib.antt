@@ -6,6 +6,7 @@ pub mod Touching
 pub mod Tracking
 pub mod Evicting
 pub mod Serving
+pub mod Beginning
 pub mod Halting
 pub mod Running
 pub mod Following

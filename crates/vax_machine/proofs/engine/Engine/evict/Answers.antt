@@ -1,7 +1,8 @@
-use Rattle.std.proofs.Common.{refl, sym, ◌∙◌, inl, inr, true, false}
+use Rattle.std.proofs.Common.{ap, refl, sym, ◌∙◌, inl, inr, true, false}
 use Rattle.vax_pager.specs.Meaning.{pages}
+use Rattle.vax_pager.specs.Paging.{Paging}
 use Rattle.vax_machine.specs.Residence.{residence_of}
-use Rattle.vax_machine.proofs.Services.{areas_evicted, evicts_as, keeps_place, not_there, outside_absent, residence_evicted, sound_evicted}
+use Rattle.vax_machine.proofs.Services.{areas_evicted, evicts_as, keeping_same, keeps_place, not_there, outside_absent, residence_evicted, sound_evicted}
 use Rattle.vax_machine.proofs.engine.Engine.evict.Goals as goal
 
 pub returns-then-not-has-clause-applies : goal.returns-then-not-has-clause-applies
@@ -37,7 +38,7 @@ returns-in-Err-clause-sound g c = record { pages = rw c.in-Err.ensures.err c.req
 pub returns-in-Err-clause-applies : goal.returns-in-Err-clause-applies
 returns-in-Err-clause-applies g c =
     let yes = c.facts.ensures.dirty c.args.page c.in-Err.ensures.needed in (
-      evicts_as _ _ true _ _ _ yes (inl (refl, rw c.in-Err.ensures.err refl)),
+      evicts_as _ _ true _ _ _ yes (inl (refl, keeping_same c.args.self.now c.evict.new.self (ap (λ (z : Paging). residence_of z) c.in-Err.ensures.err, ap (λ (z : Paging). z.areas) c.in-Err.ensures.err))),
       keeps_place c.args.self.now _ _ _ _ c.in-Err.ensures.keeps,
     )
 

@@ -1,5 +1,7 @@
-use Rattle.std.proofs.Common.{refl, sym, ◌∙◌, inl, inr, true, false}
+use Rattle.std.proofs.Common.{ap, refl, sym, ◌∙◌, inl, inr, true, false}
 use Rattle.vax_pager.specs.Meaning.{pages}
+use Rattle.vax_pager.specs.Paging.{Paging}
+use Rattle.vax_machine.specs.Residence.{residence_of}
 use Rattle.vax_machine.proofs.Services.{flushes_as, keeping_same, keeps_place, outside_clean, residence_flushed, sound_same}
 use Rattle.vax_machine.proofs.engine.Engine.flush.Goals as goal
 
@@ -40,7 +42,7 @@ returns-in-Err-clause-sound g c = record { pages = rw c.in-Err.ensures.err c.req
 
 pub returns-in-Err-clause-applies : goal.returns-in-Err-clause-applies
 returns-in-Err-clause-applies g c = (
-  flushes_as _ true _ _ _ c.in-Err.ensures.needed (inl refl, rw c.in-Err.ensures.err refl),
+  flushes_as _ true _ _ _ c.in-Err.ensures.needed (inl refl, keeping_same c.args.self.now c.flush.new.self (ap (λ (z : Paging). residence_of z) c.in-Err.ensures.err, ap (λ (z : Paging). z.areas) c.in-Err.ensures.err)),
   keeps_place c.args.self.now _ _ _ _ c.in-Err.ensures.keeps,
 )
 
