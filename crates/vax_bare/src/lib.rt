@@ -5,4 +5,4 @@ mod runs;
 mod start;
 
 pub use crate::runs::{Stopped, run};
-pub use crate::start::{core_at, memory_of};
+pub use crate::start::{core_at, memory_of, space_of};

@@ -44,18 +44,27 @@ fn areas_of(alloc: Global, bytes: &[u8]) -> Result<Vec<Area>, AllocError>
     Ok(Vec::from_array(alloc, all)?)
 }
 
-/// The memory of a program, with every page resident: its bytes from 80000200 on, its stacks, and a system control block whose vectors
-/// end the run. The program has to end below the kernel stack.
+/// The space of a program: its bytes from 80000200 on, its stacks, and a system control block whose vectors end the run. The program has to
+/// end below the kernel stack.
+pub fn space_of(alloc: Global, bytes: &[u8]) -> Result<Space, NoMemory>
+    requires { length bytes.now ≤ 1048064 }
+    ensures { IfOk result (λ space. space ≡ areas bytes.now) }
+{
+    let areas = areas_of(alloc, bytes)?;
+    match Space::new(alloc, areas) {
+        Ok(space) => Ok(space),
+        Err(_) => Err(NoMemory),
+    }
+}
+
+/// The memory of a program, with every page resident.
 pub fn memory_of(alloc: Global, bytes: &[u8]) -> Result<Plain, NoMemory>
     requires { length bytes.now ≤ 1048064 }
     ensures stands { IfOk result (λ p. StandsFor (view_of p) (memory bytes.now)) }
     ensures resident { IfOk result (λ p. AllResident (view_of p).resident (view_of p).areas) }
 {
-    let areas = areas_of(alloc, bytes)?;
-    match Space::new(alloc, areas) {
-        Ok(space) => Plain::new(alloc, space),
-        Err(_) => Err(NoMemory),
-    }
+    let space = space_of(alloc, bytes)?;
+    Plain::new(alloc, space)
 }
 
 /// The registers of a program that begins at an address.

@@ -249,3 +249,21 @@ gap_of now rs fixed fs repeated ps turn a b g kept n f p x y m =
     let R : List Rule → Type 0 = λ l. IsGap (due l) turn g in
     let S : ℕ → Type 0 = λ k. IsGap (due rs) turn k in
     subst R (sym n) (subst S (sym m) (gap_both rs fixed repeated turn a b kept (subst P f x) (subst Q p y)))
+
+-- the list of a turn has no more targets than twice the lines
+
+picked_next : {X Y : Type 0} (h : X → Option Y) (x : X) (xs : List X) (o : Option Y) → h x ≡ o → length (filter_map h xs) ≤ length xs → length (filter_map h (x ∷ xs)) ≤ length (x ∷ xs)
+picked_next h x xs (Some y) e few = rw e (omega (arith, few))
+picked_next h x xs None e few = rw e (omega (arith, few))
+
+pub picked : {X Y : Type 0} (h : X → Option Y) (xs : List X) → length (filter_map h xs) ≤ length xs
+picked h [] = omega arith
+picked h (x ∷ xs) = picked_next h x xs (h x) refl (picked h xs)
+
+pub due_few : (now rs : List Rule) (fixed : List Fixed) (repeated : List Repeated) (turn : ℕ) → IsKept rs fixed repeated → now ≡ rs → length (due now turn) < 2 ^ 32
+unfolding due
+due_few now rs fixed repeated turn kept n =
+    let a = picked (fixed_target turn) rs in
+    let b = picked (repeated_target turn) rs in
+    let most = kept.few in
+    rw (n, length-append (filter_map (fixed_target turn) rs) (filter_map (repeated_target turn) rs)) (omega (arith, a, b, most))

@@ -1,5 +1,5 @@
 -- What a schedule keeps after one more line.
-use Rattle.std.proofs.Common.{◌≡◌, ◌<◌, ◌≤◌, ℕ, ◌+◌, ◌-◌, true, false, not, Bool, ◌||◌, ◌&&◌, List, [], ◌∷◌, ◌++◌, Option, Some, None, length, get_or, zero, suc, refl, sym, ap, ◌∙◌, arith, nat_lt, nat_le, ◌^◌, subst}
+use Rattle.std.proofs.Common.{◌≡◌, ◌<◌, ◌≤◌, ℕ, ◌+◌, ◌-◌, true, false, not, Bool, ◌||◌, ◌&&◌, List, [], ◌∷◌, ◌++◌, Option, Some, None, length, length-append, get_or, zero, suc, refl, sym, ap, ◌∙◌, arith, nat_lt, nat_le, ◌^◌, subst}
 use Rattle.std.specs.Prelude.{slice_get}
 use Rattle.std.specs.List.{filter_map, list_all, list_any}
 use Rattle.std.specs.List.Sorted.{IsNonDecreasingBy}
@@ -22,7 +22,7 @@ some : {A : Type 0} (x : A) (xs : List A) → length (x ∷ xs) ≡ suc (length 
 some x xs = grind arith
 
 pub kept_nothing : IsKept [] [] []
-kept_nothing = record { fixed_are = refl; repeated_are = refl; proper = refl; ordered = IsNonDecreasingBy-short (λ r. r.turn) [] (omega arith) }
+kept_nothing = record { fixed_are = refl; repeated_are = refl; proper = refl; ordered = IsNonDecreasingBy-short (λ r. r.turn) [] (omega arith); few = omega arith }
 
 -- an `at` line with a greater turn than this
 abbrev pub is_above : ℕ → Fixed → Bool
@@ -43,22 +43,27 @@ not_above t fixed i d false e l none = grind (arith, nat_tests)
 appended : (rs : List Rule) (rule : Rule) → is_proper rule ≡ true → list_all is_proper rs ≡ true → list_all is_proper (rs ++ rule ∷ []) ≡ true
 appended rs rule p all = rw (list_all-append is_proper rs (rule ∷ []), all, p) refl
 
-pub kept_at : (rs : List Rule) (fixed : List Fixed) (repeated : List Repeated) (r : Fixed) → IsKept rs fixed repeated → is_proper (At r) ≡ true → is_late rs (At r) ≡ false → IsKept (rs ++ At r ∷ []) (fixed ++ r ∷ []) repeated
-kept_at rs fixed repeated r kept p late =
+one_more : (rs : List Rule) (rule : Rule) → length rs + 1 < 2 ^ 31 → length (rs ++ rule ∷ []) < 2 ^ 31
+one_more rs rule few = omega (arith, length-append rs (rule ∷ []), few)
+
+pub kept_at : (rs : List Rule) (fixed : List Fixed) (repeated : List Repeated) (r : Fixed) → IsKept rs fixed repeated → is_proper (At r) ≡ true → is_late rs (At r) ≡ false → length rs + 1 < 2 ^ 31 → IsKept (rs ++ At r ∷ []) (fixed ++ r ∷ []) repeated
+kept_at rs fixed repeated r kept p late few =
     let none : list_any (is_above r.turn) fixed ≡ false = ap (list_any (is_above r.turn)) kept.fixed_are ∙ sym (after_fixed r.turn rs) ∙ late in
     record {
       fixed_are = ap (λ xs. xs ++ r ∷ []) kept.fixed_are ∙ sym (filter_map-append fixed_in rs (At r ∷ []));
       repeated_are = kept.repeated_are ∙ sym (filter_map-append repeated_in rs (At r ∷ []) ∙ append-nil (filter_map repeated_in rs));
       proper = appended rs (At r) p kept.proper;
       ordered = IsNonDecreasingBy-push (λ x. x.turn) fixed r kept.ordered (λ d l. not_above r.turn fixed (length fixed - 1) d (nat_lt r.turn (get_or fixed (length fixed - 1) d).turn) refl (omega arith) none);
+      few = one_more rs (At r) few;
     }
 
-pub kept_each : (rs : List Rule) (fixed : List Fixed) (repeated : List Repeated) (r : Repeated) → IsKept rs fixed repeated → is_proper (Each r) ≡ true → IsKept (rs ++ Each r ∷ []) fixed (repeated ++ r ∷ [])
-kept_each rs fixed repeated r kept p = record {
+pub kept_each : (rs : List Rule) (fixed : List Fixed) (repeated : List Repeated) (r : Repeated) → IsKept rs fixed repeated → is_proper (Each r) ≡ true → length rs + 1 < 2 ^ 31 → IsKept (rs ++ Each r ∷ []) fixed (repeated ++ r ∷ [])
+kept_each rs fixed repeated r kept p few = record {
   fixed_are = kept.fixed_are ∙ sym (filter_map-append fixed_in rs (Each r ∷ []) ∙ append-nil (filter_map fixed_in rs));
   repeated_are = ap (λ xs. xs ++ r ∷ []) kept.repeated_are ∙ sym (filter_map-append repeated_in rs (Each r ∷ []));
   proper = appended rs (Each r) p kept.proper;
   ordered = kept.ordered;
+  few = one_more rs (Each r) few;
 }
 
 got : {A : Type 0} (xs : List A) (i : ℕ) (x d : A) → slice_get xs i ≡ Some x → (get_or xs i d ≡ x) × (i < length xs)
@@ -124,21 +129,21 @@ divisors-kept rs fixed repeated kept = ap (list_all is_divisor) kept.repeated_ar
 pub ruleset late_laws = (late-last, late-none)
 
 -- an `at` line was taken in
-pub with_at : (self rs : List Rule) (fixed : List Fixed) (repeated : List Repeated) (line : Line) (x : Rule) (r : Fixed) (rs' : List Rule) (fixed' : List Fixed) (repeated' : List Repeated) → IsKept rs fixed repeated → self ≡ rs → line ≡ Says x → x ≡ At r → is_proper_reading (reading line) ≡ true → is_late_reading self (reading line) ≡ false → rs' ≡ rs ++ x ∷ [] → fixed' ≡ fixed ++ r ∷ [] → repeated' ≡ repeated → IsKept rs' fixed' repeated'
-with_at self rs fixed repeated line x r rs' fixed' repeated' kept s l e p late a b c =
+pub with_at : (self rs : List Rule) (fixed : List Fixed) (repeated : List Repeated) (line : Line) (x : Rule) (r : Fixed) (rs' : List Rule) (fixed' : List Fixed) (repeated' : List Repeated) → IsKept rs fixed repeated → self ≡ rs → line ≡ Says x → x ≡ At r → is_proper_reading (reading line) ≡ true → is_late_reading self (reading line) ≡ false → length self + 1 < 2 ^ 31 → rs' ≡ rs ++ x ∷ [] → fixed' ≡ fixed ++ r ∷ [] → repeated' ≡ repeated → IsKept rs' fixed' repeated'
+with_at self rs fixed repeated line x r rs' fixed' repeated' kept s l e p late few a b c =
     let is : line ≡ Says (At r) = l ∙ ap Says e in
     let proper : is_proper (At r) ≡ true = sym (ap (λ y. is_proper_reading (reading y)) is) ∙ p in
     let in_order : is_late rs (At r) ≡ false = sym (ap (λ y. is_late_reading self (reading y)) is ∙ ap (λ y. is_late y (At r)) s) ∙ late in
     let rules_are : rs' ≡ rs ++ At r ∷ [] = a ∙ ap (λ y. rs ++ y ∷ []) e in
-    rw (rules_are, b, c) (kept_at rs fixed repeated r kept proper in_order)
+    rw (rules_are, b, c) (kept_at rs fixed repeated r kept proper in_order (subst (λ y. length y + 1 < 2 ^ 31) s few))
 
 -- an `each` line was taken in
-pub with_each : (rs : List Rule) (fixed : List Fixed) (repeated : List Repeated) (line : Line) (x : Rule) (r : Repeated) (rs' : List Rule) (fixed' : List Fixed) (repeated' : List Repeated) → IsKept rs fixed repeated → line ≡ Says x → x ≡ Each r → is_proper_reading (reading line) ≡ true → rs' ≡ rs ++ x ∷ [] → fixed' ≡ fixed → repeated' ≡ repeated ++ r ∷ [] → IsKept rs' fixed' repeated'
-with_each rs fixed repeated line x r rs' fixed' repeated' kept l e p a b c =
+pub with_each : (rs : List Rule) (fixed : List Fixed) (repeated : List Repeated) (line : Line) (x : Rule) (r : Repeated) (rs' : List Rule) (fixed' : List Fixed) (repeated' : List Repeated) → IsKept rs fixed repeated → line ≡ Says x → x ≡ Each r → is_proper_reading (reading line) ≡ true → length rs + 1 < 2 ^ 31 → rs' ≡ rs ++ x ∷ [] → fixed' ≡ fixed → repeated' ≡ repeated ++ r ∷ [] → IsKept rs' fixed' repeated'
+with_each rs fixed repeated line x r rs' fixed' repeated' kept l e p few a b c =
     let is : line ≡ Says (Each r) = l ∙ ap Says e in
     let proper : is_proper (Each r) ≡ true = sym (ap (λ y. is_proper_reading (reading y)) is) ∙ p in
     let rules_are : rs' ≡ rs ++ Each r ∷ [] = a ∙ ap (λ y. rs ++ y ∷ []) e in
-    rw (rules_are, b, c) (kept_each rs fixed repeated r kept proper)
+    rw (rules_are, b, c) (kept_each rs fixed repeated r kept proper few)
 
 -- without an `at` line nothing is late
 pub late_of_none : (now rs : List Rule) (fixed fs : List Fixed) (repeated : List Repeated) (rule : Rule) (r : Fixed) → IsKept rs fixed repeated → now ≡ rs → fs ≡ fixed → rule ≡ At r → None ≡ slice_get fs (length fs - 1) → false ≡ is_late now rule

@@ -10,6 +10,7 @@ use Rattle.vax_sched.specs.Rules.{Reading, silent, says, malformed, line_of, rea
 use Rattle.vax_sched.specs.Kept.{is_late_reading}
 use Rattle.vax_sched.specs.Faults.{fault_of, fault_at, is_placed, is_late, rule_fault, PassesTo, IsRead, IsFirst, ArePlaced}
 use Rattle.vax_sched.specs.declared.rule.Rule.{Rule}
+use Rattle.vax_sched.proofs.DueLaws.{picked}
 
 -- line k is this, and those stand behind it
 pub record IsNext (read : List Reading) (k : ℕ) (x : Reading) (behind : List Reading) : Type 0 where
@@ -83,3 +84,9 @@ all_read areas text rest k said e l passed kept =
       sound = λ j h. passed j (omega arith);
       rules_are = kept ∙ ap rules (take_all k (readings text) short);
     }
+
+-- one line more is at most one rule more
+pub one_longer : (said more : List Rule) (x : Reading) → more ≡ said ++ filter_map rule_in (x ∷ []) → length more ≤ length said + 1
+one_longer said more x e =
+    let a = picked rule_in (x ∷ []) in
+    rw (e, length-append said (filter_map rule_in (x ∷ []))) (omega (arith, a))

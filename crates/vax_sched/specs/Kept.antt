@@ -1,5 +1,5 @@
 -- What a schedule keeps: its rules, and those of each kind by themselves.
-use Rattle.std.specs.Prelude.{◌≡◌, ℕ, ◌^◌, Bool, true, false, ◌&&◌, nat_lt, nat_le, List, Option, None, Some}
+use Rattle.std.specs.Prelude.{◌≡◌, ◌<◌, ℕ, ◌^◌, Bool, true, false, ◌&&◌, nat_lt, nat_le, List, length, Option, None, Some}
 use Rattle.std.specs.List.{filter_map, list_all}
 use Rattle.std.specs.List.Sorted.{IsNonDecreasingBy}
 use Rattle.vax_sched.specs.Rules.{Reading, silent, says, malformed}
@@ -41,6 +41,7 @@ pub record IsKept (rules : List Rule) (fixed : List Fixed) (repeated : List Repe
   pub repeated_are : repeated ≡ filter_map repeated_in rules
   pub proper : list_all is_proper rules ≡ true
   pub ordered : Ascends fixed
+  pub few : length rules < 2 ^ 31
 
 -- a turn can be divided by its number
 abbrev pub is_divisor : Repeated → Bool

@@ -1,5 +1,5 @@
 //! A schedule: what it keeps of its lines, and what it asks of a turn.
-ghost use Rattle.std.specs.Prelude.{◌≡◌, ◌<◌, ◌+◌, ◌^◌, List, [], ◌∷◌, ◌++◌, true, false, IfOk, slice_get};
+ghost use Rattle.std.specs.Prelude.{◌≡◌, ◌<◌, ◌+◌, ◌^◌, List, [], ◌∷◌, ◌++◌, true, false, IfOk, length, slice_get};
 ghost use Rattle.std.specs.List.{filter_map};
 ghost use Rattle.vax_space.specs.declared.Area.{Area};
 ghost use Rattle.vax_sched.specs.Due.{IsGap, due};
@@ -62,9 +62,10 @@ impl Schedule {
     /// The target at this place, from 0, of the list of those that are due at a turn: first the `at` lines for the turn, then
     /// the `each` lines whose number divides it, both in the file's order. `None` past the list's end.
     ///
-    /// It takes time in the `each` lines, and in the logarithm of the number of `at` lines.
+    /// The list has fewer than 2^32 targets. It takes time in the `each` lines, and in the logarithm of the number of `at` lines.
     pub fn due(&self, turn: u64, place: u32) -> Option<Target>
-        ensures { result ≡ slice_get (due self.now turn) place }
+        ensures target { result ≡ slice_get (due self.now turn) place }
+        ensures few { length (due self.now turn) < 2 ^ 32 }
     {
         let fixed = fixed_now(&self.fixed, turn);
         let place = place as usize;
@@ -121,6 +122,7 @@ impl Schedule {
     pub(crate) fn with(self, line: Line) -> Result<Schedule, AllocError>
         requires proper { is_proper_reading (reading line) ≡ true }
         requires ordered { is_late_reading self (reading line) ≡ false }
+        requires few { length self + 1 < 2 ^ 31 }
         ensures { IfOk result (λ s. s ≡ self ++ filter_map rule_in (reading line ∷ [])) }
     {
         let Line::Rule(rule) = line else {

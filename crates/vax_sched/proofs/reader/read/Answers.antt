@@ -2,7 +2,7 @@ use Rattle.std.proofs.Common.{◌≡◌, ◌∙◌, sym, None, arith}
 use Rattle.vax_sched.specs.Faults.{fault_of}
 use Rattle.vax_sched.specs.Rules.{readings}
 use Rattle.vax_sched.specs.Views.{reading}
-use Rattle.vax_sched.proofs.ReadLaws.{next_reading, passes_more, keeps_more, placed_more, all_read}
+use Rattle.vax_sched.proofs.ReadLaws.{next_reading, one_longer, passes_more, keeps_more, placed_more, all_read}
 use Rattle.vax_sched.proofs.reader.read.Goals as goal
 
 pub loop-line-preserved : goal.loop-line-preserved
@@ -20,6 +20,7 @@ loop-line-preserved c =
       kept = keeps_more read k x (readings c.in-Some.behind.now) said more next c.loop-line.invariant.kept c.in_ok-schedule.ensures;
       placed = placed_more c.args.space.now said more x c.loop-line.invariant.placed f c.in_ok-schedule.ensures;
       few = omega (arith, c.in-Some.ensures.shorter, c.loop-line.invariant.few);
+      short = let n = one_longer said more x c.in_ok-schedule.ensures in omega (arith, n, c.loop-line.invariant.short);
     }
 
 pub returns-clause-means : goal.returns-clause-means

@@ -11,6 +11,7 @@ invariant-loop-line l = record {
   kept : l.schedule ≡ rules (take l.number (readings l.bytes));
   placed : ArePlaced l.space l.schedule;
   few : l.number + length l.rest ≤ length l.bytes;
+  short : length l.schedule ≤ l.number;
 }
 
 abbrev pub decreases-loop-line : goal.decreases-loop-line

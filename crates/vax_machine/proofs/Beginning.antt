@@ -1,0 +1,35 @@
+-- A new machine.
+use Rattle.std.proofs.Common.{ℕ, ◌≡◌, ◌<◌, ◌≤◌, List, [], length, refl, ap, sym, arith, Option, Some, None}
+use Rattle.vax_word.specs.declared.Core.{Core}
+use Rattle.vax_space.specs.declared.Area.{Area}
+use Rattle.vax_outside.specs.Blocks.{BlockFile}
+use Rattle.vax_flat.specs.Parts.{At}
+use Rattle.vax_flat.specs.Step.{Flat}
+use Rattle.vax_cpu.specs.Attempt.{flat_of}
+use Rattle.vax_cpu.specs.declared.cpu.Cpu.{Cpu}
+use Rattle.vax_pager.specs.Calls as pager
+use Rattle.vax_pager.specs.Paging.{Paging}
+use Rattle.vax_undo.specs.declared.term.Term.{Term}
+use Rattle.vax_machine.specs.Machine.{AreSound}
+use Rattle.vax_machine.specs.Meaning.{starts_at}
+use Rattle.vax_machine.specs.Paged.{Paged, fresh}
+use Rattle.vax_machine.specs.Residence.{Residence, residence_of}
+
+module _ (s : Paging) (areas : List Area) (frames : ℕ) (is : s ≡ pager.fresh areas frames) where
+  pub fresh_sound : 64 ≤ frames → AreSound s.areas (residence_of s) None
+  unfolding pager.fresh
+  fresh_sound some = rw is (record { pins = omega arith; frames = some; wanted = λ page e. cc })
+
+  fresh_residence : residence_of s ≡ record { frames = frames; order = []; pinned = []; spoiled = 0 }
+  unfolding pager.fresh
+  fresh_residence = ap residence_of is
+
+  pub fresh_areas : s.areas ≡ areas
+  unfolding pager.fresh
+  fresh_areas = ap (λ (z : Paging). z.areas) is
+
+  pub fresh_begun : (start : Flat) → record { place = At start; steps = 0; parts = 0; turns = 0; residence = residence_of s; evictions = [] } ≡ fresh frames start
+  fresh_begun start = ap (λ (r : Residence). record { place = At start; steps = 0; parts = 0; turns = 0; residence = r; evictions = [] }) fresh_residence
+
+pub started : (core : Core) (memory : List Area) (term : Term) (input : List ℕ) → term.input.items ≡ input → term.place ≡ 0 → record (flat_of (record { core = core; term = term; latch = None }) memory []) { ending = None } ≡ starts_at core memory input
+started core memory term input a b i = record { core = core; memory = memory; input = a i; taken = b i; output = []; ending = None }

@@ -1,0 +1,204 @@
+-- A machine follows the run of the flat machine, whatever happens to it.
+use Rattle.std.proofs.Common.{ℕ, zero, suc, ◌≡◌, ◌+◌, ◌-◌, ◌^◌, ◌<◌, ◌≤◌, Bool, true, false, List, [], ◌∷◌, length, refl, ap, sym, ◌∙◌, subst, arith, inl, inr, Option, Some, None}
+use Rattle.vax_space.specs.declared.Area.{Area}
+use Rattle.vax_outside.specs.Blocks.{BlockFile}
+use Rattle.vax_outside.specs.Faults.{raised}
+use Rattle.vax_flat.specs.declared.Ending.{Ending}
+use Rattle.vax_flat.specs.declared.Flow.TheVariants as flow
+use Rattle.vax_flat.specs.Accesses.{Leaf, Went, Found}
+use Rattle.vax_flat.specs.Outcome.{Outcome, Ends, Raised, first_missing}
+use Rattle.vax_flat.specs.Parts.{Partway, Place, At, Within, Turn, Completes, Leaves, GoesBy, after_part, gone_back, left_by, machine_at, outcome_at, partway, touches_at, turn, turn_from, units_after, units_done}
+use Rattle.vax_flat.specs.Step.{Flat, ended, run, step}
+use Rattle.vax_flat.proofs.Parts.{turns_agree}
+use Rattle.vax_pager.specs.Listing.{is_listed}
+use Rattle.vax_pager.specs.Meaning.{pages}
+use Rattle.vax_sched.specs.declared.rule.Target.{Target}
+use Rattle.vax_machine.proofs.Tracking.{many_evicted}
+use Rattle.vax_machine.specs.Events.{FollowsRun, Happen}
+use Rattle.vax_machine.specs.Machine.{Applies, Evicts, Flushes, Goes, Keeping, KeepsPlace, Means, Serves, Tries, keeping, residence, tried}
+use Rattle.vax_machine.specs.Paged.{Paged, all_evicted, all_named, attempted, attempted_by, fresh, paged, place_after, steps_after, unless_ended}
+use Rattle.vax_machine.specs.Residence.{is_resident}
+use Rattle.vax_machine.specs.declared.engine.Engine.{Engine}
+use Rattle.vax_machine.specs.declared.event.Applied.{Applied}
+use Rattle.vax_machine.specs.declared.event.Applied.TheVariants.{Absent, Ended, Evicted, Failed, Flushed, Nothing, Parted, Served, Stepped}
+use Rattle.vax_machine.specs.declared.event.Event.{Event}
+use Rattle.vax_machine.specs.declared.event.Event.TheVariants as event
+
+-- a part leaves the machine as much going as it was
+
+leaves_ending : (m : Flat) (units : ℕ) (o : Outcome Leaf) (q : Partway) → turn_from m units o ≡ Leaves q → q.now.ending ≡ m.ending
+leaves_ending m units (Ends (Went flow.Done s) memory) q e = cc
+leaves_ending m units (Ends (Went flow.Clocked s) memory) q e = cc
+leaves_ending m units (Ends (Went (flow.Trap kind) s) memory) q e = cc
+leaves_ending m units (Ends (Went (flow.More opcode more) s) memory) q e = let k : record { opcode = opcode; start = m.core; units = units_after units more; now = record m { core = s.core; memory = memory; taken = s.taken } } ≡ q = cc in ap (λ (z : Partway). z.now.ending) (sym k)
+leaves_ending m units (Ends (Went (flow.Ended x) s) memory) q e = cc
+leaves_ending m units (Ends (Found operand s) memory) q e = cc
+leaves_ending m units (Raised x) q e = cc
+
+left_is : (t : Turn) (q : Partway) → left_by t ≡ Some q → t ≡ Leaves q
+left_is (Completes m) q e = cc
+left_is (Leaves p) q e = let k : p ≡ q = cc in ap (λ (z : Partway). Leaves z) k
+
+part_ending : (place : Place) (q : Partway) → left_by (turn place) ≡ Some q → q.now.ending ≡ (machine_at place).ending
+part_ending place q e = leaves_ending (gone_back place) (units_done place) (outcome_at place) q (left_is (turn place) q e)
+
+after_ending : (o : Option Partway) (q : Partway) (how : Option Ending) → ((p : Partway) → o ≡ Some p → p.now.ending ≡ how) → after_part o ≡ Some q → q.now.ending ≡ how
+after_ending None q how before e = cc
+after_ending (Some p) q how before e = part_ending (Within p) q e ∙ before p refl
+
+partway_ending : (count : ℕ) (m : Flat) (q : Partway) → partway count m ≡ Some q → q.now.ending ≡ m.ending
+unfolding partway
+partway_ending zero m q e = part_ending (At m) q e
+partway_ending (suc count) m q e = after_ending (partway count m) q m.ending (λ p is. partway_ending count m p is) e
+
+goes_ending : (m : Flat) (place : Place) → GoesBy m place → (machine_at place).ending ≡ m.ending
+goes_ending m (At n) e = ap (λ (z : Flat). z.ending) e
+goes_ending m (Within q) (count, e) = partway_ending count m q e
+
+-- the parts of a step
+
+goes_further : (m : Flat) (place : Place) (q : Partway) → GoesBy m place → turn place ≡ Leaves q → GoesBy m (Within q)
+unfolding partway
+goes_further m (At n) q e t = (0, ap (λ (z : Flat). left_by (turn (At z))) (sym e) ∙ ap left_by t)
+goes_further m (Within p) q (count, e) t = (suc count, ap after_part e ∙ ap left_by t)
+
+-- where the machine is
+
+running : (m : Engine) (file : Option BlockFile) (place : Place) → m.ended ≡ None → Means m file place → (machine_at place).ending ≡ None
+running m file place going means = sym (ap (λ (z : Flat). z.ending) means.processor.machine) ∙ going
+
+one_further : (steps n : ℕ) (start next : Flat) → n ≡ steps + 1 → step (run steps start) ≡ next → next ≡ run n start
+unfolding run
+one_further steps n start next e is = let k : n ≡ suc steps = omega (arith, e) in sym is ∙ ap (λ (z : ℕ). run z start) (sym k)
+
+completes : (old new : Engine) (file : Option BlockFile) (start next : Flat) (f : FollowsRun old file start) → old.ended ≡ None → new.steps ≡ old.steps + 1 → turn f.place ≡ Completes next → Means new file (At next) → FollowsRun new file start
+completes old new file start next f going steps t means =
+    let alive : (run old.steps start).ending ≡ None = sym (goes_ending (run old.steps start) f.place f.goes) ∙ running old file f.place going f.means in
+    record { place = At next; means = means; goes = one_further old.steps new.steps start next steps (turns_agree (run old.steps start) f.place next alive f.goes t) }
+
+same_place : (old new : Engine) (before after : Option BlockFile) (start : Flat) → new.steps ≡ old.steps → KeepsPlace old before new after → FollowsRun old before start → FollowsRun new after start
+same_place old new before after start steps keeps f = record { place = f.place; means = keeps f.place f.means; goes = subst (λ (n : ℕ). GoesBy (run n start) f.place) (sym steps) f.goes }
+
+exact : (n : ℕ) → n < 2 ^ 64 - 1 → raised n ≡ n + 1
+exact n h = omega (arith, h)
+
+attempt_follows : (result : Applied) (old new : Engine) (file : Option BlockFile) (start : Flat) (f : FollowsRun old file start) → old.ended ≡ None → old.steps < 2 ^ 64 - 1 → keeping new ≡ tried result (keeping old) → Goes result (is_resident (residence old)) new file f.place → FollowsRun new file start
+attempt_follows (Stepped sent) old new file start f going low k g =
+    completes old new file start g.1.next f going (ap (λ (z : Keeping). z.steps) k ∙ exact old.steps low) g.1.turn g.1.means
+attempt_follows Parted old new file start f going low k g = record {
+  place = Within g.1.next;
+  means = g.1.means;
+  goes = subst (λ (n : ℕ). GoesBy (run n start) (Within g.1.next)) (sym (ap (λ (z : Keeping). z.steps) k)) (goes_further (run old.steps start) f.place g.1.next f.goes g.1.turn);
+}
+attempt_follows (Absent page) old new file start f going low k g = record {
+  place = f.place;
+  means = g.1;
+  goes = subst (λ (n : ℕ). GoesBy (run n start) f.place) (sym (ap (λ (z : Keeping). z.steps) k)) f.goes;
+}
+attempt_follows (Ended x) old new file start f going low k g =
+    completes old new file start (ended (gone_back f.place) x) f going (ap (λ (z : Keeping). z.steps) k ∙ exact old.steps low) g.1.turn g.1.means
+attempt_follows (Served page) old new file start f going low k g = absurd g
+attempt_follows Evicted old new file start f going low k g = absurd g
+attempt_follows Flushed old new file start f going low k g = absurd g
+attempt_follows Nothing old new file start f going low k g = absurd g
+attempt_follows Failed old new file start f going low k g = absurd g
+
+tries_follow : (how : Option Ending) (result : Applied) (old new : Engine) (file : Option BlockFile) (start : Flat) → old.ended ≡ how → FollowsRun old file start → old.steps < 2 ^ 64 - 1 → Tries how old result new → FollowsRun new file start
+tries_follow (Some e) result old new file start is f low t = subst (λ (z : Engine). FollowsRun z file start) (sym t.1) f
+tries_follow None result old new file start is f low t = attempt_follows result old new file start f is low t.keeps (t.goes file f.place f.means)
+
+serve_steps : (want : Option ℕ) (old : Keeping) (result : Applied) (new : Keeping) → Serves want old result new → new.steps ≡ old.steps
+serve_steps None old result new x = ap (λ (z : Keeping). z.steps) x.1
+serve_steps (Some page) old result new (inl x) = ap (λ (z : Keeping). z.steps) x.1
+serve_steps (Some page) old result new (inr x) = ap (λ (z : Keeping). z.steps) x.1
+
+evict_steps : (page : ℕ) (b : Bool) (old : Keeping) (result : Applied) (new : Keeping) → Evicts page b old result new → new.steps ≡ old.steps
+evict_steps page false old result new x = ap (λ (z : Keeping). z.steps) x.1
+evict_steps page true old result new (inl x) = ap (λ (z : Keeping). z.steps) x.1
+evict_steps page true old result new (inr x) = ap (λ (z : Keeping). z.steps) x.1
+
+flush_steps : (b : Bool) (old : Keeping) (result : Applied) (new : Keeping) → Flushes b old result new → new.steps ≡ old.steps
+flush_steps false old result new x = ap (λ (z : Keeping). z.steps) x.1
+flush_steps true old result new x = ap (λ (z : Keeping). z.steps) x.1
+
+pub event_follows : (e : Event) (old new : Engine) (before after : Option BlockFile) (result : Applied) (start : Flat) → old.steps < 2 ^ 64 - 1 → Applies e old before result new after → FollowsRun old before start → FollowsRun new after start
+event_follows event.Attempt old new before after result start low h f =
+    subst (λ (z : Option BlockFile). FollowsRun new z start) (sym h.1) (tries_follow old.ended result old new before start refl f low h.0)
+event_follows event.Serve old new before after result start low h f = same_place old new before after start (serve_steps old.wanted (keeping old) result (keeping new) h.0) h.1 f
+event_follows (event.Evict page) old new before after result start low h f =
+    same_place old new before after start (evict_steps page (is_listed page (pages old.pager).order) (keeping old) result (keeping new) h.0) h.1 f
+event_follows (event.Flush page) old new before after result start low h f =
+    same_place old new before after start (flush_steps (is_listed page (pages old.pager).modified) (keeping old) result (keeping new) h.0) h.1 f
+
+-- an event completes at most one step
+
+tried_steps : (result : Applied) (k : Keeping) → (tried result k).steps ≤ k.steps + 1
+tried_steps (Stepped sent) k = omega arith
+tried_steps Parted k = omega arith
+tried_steps (Absent page) k = omega arith
+tried_steps (Ended x) k = omega arith
+tried_steps (Served page) k = omega arith
+tried_steps Evicted k = omega arith
+tried_steps Flushed k = omega arith
+tried_steps Nothing k = omega arith
+tried_steps Failed k = omega arith
+
+tries_steps : (how : Option Ending) (result : Applied) (old new : Engine) → Tries how old result new → new.steps ≤ old.steps + 1
+tries_steps (Some e) result old new t = let k : new.steps ≡ old.steps = ap (λ (z : Engine). z.steps) t.1 in omega (arith, k)
+tries_steps None result old new t =
+    let k : new.steps ≡ (tried result (keeping old)).steps = ap (λ (z : Keeping). z.steps) t.keeps in
+    let most = tried_steps result (keeping old) in
+    omega (arith, k, most)
+
+event_steps : (e : Event) (old new : Engine) (before after : Option BlockFile) (result : Applied) → Applies e old before result new after → new.steps ≤ old.steps + 1
+event_steps event.Attempt old new before after result h = tries_steps old.ended result old new h.0
+event_steps event.Serve old new before after result h = let k = serve_steps old.wanted (keeping old) result (keeping new) h.0 in omega (arith, k)
+event_steps (event.Evict page) old new before after result h =
+    let k = evict_steps page (is_listed page (pages old.pager).order) (keeping old) result (keeping new) h.0 in
+    omega (arith, k)
+event_steps (event.Flush page) old new before after result h =
+    let k = flush_steps (is_listed page (pages old.pager).modified) (keeping old) result (keeping new) h.0 in
+    omega (arith, k)
+
+pub events_follow : (events : List Event) (old new : Engine) (before after : Option BlockFile) (start : Flat) → old.steps + length events < 2 ^ 64 → Happen events old before new after → FollowsRun old before start → FollowsRun new after start
+unfolding Happen
+events_follow [] old new before after start low h f =
+    subst (λ (z : Engine). FollowsRun z after start) (sym h.0) (subst (λ (z : Option BlockFile). FollowsRun old z start) (sym h.1) f)
+events_follow (e ∷ events) old new before after start low h f =
+    let steps = event_steps e old h.0 before h.1 h.2 h.3 in
+    events_follow events h.0 new h.1 after start (omega (arith, low, steps)) h.4 (event_follows e old h.0 before h.1 h.2 start (omega (arith, low)) h.3 f)
+
+-- and so does the paged run
+
+paged_turn : (t : Turn) (p : Paged) (start : Flat) → (machine_at p.place).ending ≡ None → GoesBy (run p.steps start) p.place → turn p.place ≡ t → GoesBy (run (steps_after t p.steps) start) (place_after t)
+paged_turn (Completes next) p start going g is =
+    let alive : (run p.steps start).ending ≡ None = sym (goes_ending (run p.steps start) p.place g) ∙ going in
+    one_further p.steps (p.steps + 1) start next refl (turns_agree (run p.steps start) p.place next alive g is)
+paged_turn (Leaves q) p start going g is = goes_further (run p.steps start) p.place q g is
+
+paged_by : (m : Option ℕ) (p : Paged) (start : Flat) → (machine_at p.place).ending ≡ None → GoesBy (run p.steps start) p.place → GoesBy (run (attempted_by m p).steps start) (attempted_by m p).place
+paged_by (Some page) p start going g = g
+paged_by None p start going g = paged_turn (turn p.place) p start going g refl
+
+paged_unless : (how : Option Ending) (p : Paged) (start : Flat) → (machine_at p.place).ending ≡ how → GoesBy (run p.steps start) p.place → GoesBy (run (unless_ended how p (attempted_by (first_missing (is_resident p.residence) (touches_at p.place)) p)).steps start) (unless_ended how p (attempted_by (first_missing (is_resident p.residence) (touches_at p.place)) p)).place
+paged_unless (Some e) p start is g = g
+paged_unless None p start is g = paged_by (first_missing (is_resident p.residence) (touches_at p.place)) p start is g
+
+paged_attempted : (p : Paged) (start : Flat) → GoesBy (run p.steps start) p.place → GoesBy (run (attempted p).steps start) (attempted p).place
+unfolding attempted
+paged_attempted p start g = paged_unless (machine_at p.place).ending p start refl g
+
+paged_follows : (areas : List Area) (asks : ℕ → List Target) (count : ℕ) (b : Paged) (start : Flat) → GoesBy (run b.steps start) b.place → GoesBy (run (paged areas asks count b).steps start) (paged areas asks count b).place
+unfolding paged
+paged_follows areas asks zero b start g = g
+paged_follows areas asks (suc count) b start g =
+    let q = paged areas asks count b in
+    let all = all_named areas (asks (q.turns + 1)) in
+    let o = many_evicted all q in
+    paged_attempted (all_evicted all q) start
+    (subst (λ (z : Place). GoesBy (run (all_evicted all q).steps start) z) (sym o.place)
+    (subst (λ (n : ℕ). GoesBy (run n start) q.place) (sym o.steps) (paged_follows areas asks count b start g)))
+
+pub turns_follow : (areas : List Area) (asks : ℕ → List Target) (count frames : ℕ) (start : Flat) → GoesBy (run (paged areas asks count (fresh frames start)).steps start) (paged areas asks count (fresh frames start)).place
+unfolding run
+turns_follow areas asks count frames start = paged_follows areas asks count (fresh frames start) start refl

@@ -1,0 +1,12 @@
+pub mod Lists
+pub mod Attempts
+pub mod Services
+pub mod Batches
+pub mod Touching
+pub mod Tracking
+pub mod Evicting
+pub mod Serving
+pub mod Beginning
+pub mod Halting
+pub mod Running
+pub mod Following

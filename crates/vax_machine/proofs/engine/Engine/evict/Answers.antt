@@ -1,0 +1,52 @@
+use Rattle.std.proofs.Common.{ap, refl, sym, ◌∙◌, inl, inr, true, false}
+use Rattle.vax_pager.specs.Meaning.{pages}
+use Rattle.vax_pager.specs.Paging.{Paging}
+use Rattle.vax_machine.specs.Residence.{residence_of}
+use Rattle.vax_machine.proofs.Services.{areas_evicted, evicts_as, keeping_same, keeps_place, not_there, outside_absent, residence_evicted, sound_evicted}
+use Rattle.vax_machine.proofs.engine.Engine.evict.Goals as goal
+
+pub returns-then-not-has-clause-applies : goal.returns-then-not-has-clause-applies
+returns-then-not-has-clause-applies g c = (
+  evicts_as _ _ false _ _ _ (outside_absent c.args.page (pages c.args.self.now.pager) c.facts.ensures (sym c.if-not-has.ensures)) (refl, refl),
+  λ place m. m,
+)
+
+pub returns-then-resident-clause-sound : goal.returns-then-resident-clause-sound
+returns-then-resident-clause-sound g c = record { pages = sound_evicted _ _ _ _ c.in-Ok.ensures.ok c.requires.sound.pages; unsent = c.requires.sound.unsent }
+
+pub returns-then-resident-clause-applies : goal.returns-then-resident-clause-applies
+returns-then-resident-clause-applies g c = (
+  evicts_as _ _ true _ _ _ (sym c.in-Ok.ensures.answer ∙ c.if-resident.true)
+      (inr (refl, rw (areas_evicted (pages c.args.self.now.pager) (pages c.evict.new.self) _ c.in-Ok.ensures.ok, residence_evicted _ _ _ c.in-Ok.ensures.ok) refl)),
+  keeps_place c.args.self.now _ _ _ _ c.in-Ok.ensures.keeps,
+)
+
+pub returns-else-resident-clause-sound : goal.returns-else-resident-clause-sound
+returns-else-resident-clause-sound g c = record { pages = sound_evicted _ _ _ _ c.in-Ok.ensures.ok c.requires.sound.pages; unsent = c.requires.sound.unsent }
+
+pub returns-else-resident-clause-applies : goal.returns-else-resident-clause-applies
+returns-else-resident-clause-applies g c =
+    let no = sym c.in-Ok.ensures.answer ∙ c.if-resident.false in (
+      evicts_as _ _ false _ _ _ no
+          (refl, rw (areas_evicted (pages c.args.self.now.pager) (pages c.evict.new.self) _ c.in-Ok.ensures.ok, residence_evicted _ _ _ c.in-Ok.ensures.ok ∙ not_there _ (residence_of (pages c.args.self.now.pager)) no) refl),
+      keeps_place c.args.self.now _ _ _ _ c.in-Ok.ensures.keeps,
+    )
+
+pub returns-in-Err-clause-sound : goal.returns-in-Err-clause-sound
+returns-in-Err-clause-sound g c = record { pages = rw c.in-Err.ensures.err c.requires.sound.pages; unsent = c.requires.sound.unsent }
+
+pub returns-in-Err-clause-applies : goal.returns-in-Err-clause-applies
+returns-in-Err-clause-applies g c =
+    let yes = c.facts.ensures.dirty c.args.page c.in-Err.ensures.needed in (
+      evicts_as _ _ true _ _ _ yes (inl (refl, keeping_same c.args.self.now c.evict.new.self (ap (λ (z : Paging). residence_of z) c.in-Err.ensures.err, ap (λ (z : Paging). z.areas) c.in-Err.ensures.err))),
+      keeps_place c.args.self.now _ _ _ _ c.in-Err.ensures.keeps,
+    )
+
+pub returns-then-resident-clause-quiet : goal.returns-then-resident-clause-quiet
+returns-then-resident-clause-quiet g c = λ other. c.in-Ok.ensures.quiet
+
+pub returns-else-resident-clause-quiet : goal.returns-else-resident-clause-quiet
+returns-else-resident-clause-quiet g c = λ other. c.in-Ok.ensures.quiet
+
+pub returns-in-Err-clause-quiet : goal.returns-in-Err-clause-quiet
+returns-in-Err-clause-quiet g c = λ other. absurd (other refl)

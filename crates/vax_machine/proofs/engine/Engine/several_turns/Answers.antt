@@ -1,0 +1,62 @@
+use Rattle.std.proofs.Common.{◌≡◌, ◌≤◌, ◌<◌, ◌+◌, ◌∙◌, ◌^◌, ◌-◌, ℕ, List, sym, subst, ap, arith, Result, Ok, Err}
+use Rattle.vax_outside.proofs.Growth.{on_err}
+use Rattle.vax_space.specs.declared.Area.{Area}
+use Rattle.vax_pager.specs.Meaning.{pages}
+use Rattle.vax_sched.specs.Due.{due}
+use Rattle.vax_machine.specs.Turn.{AttemptsDone}
+use Rattle.vax_machine.proofs.Running.{by_none, cut_evictions, err_turns, on_ok, turns_made}
+use Rattle.vax_machine.proofs.Tracking.{pins_evicted}
+use Rattle.vax_machine.proofs.engine.Engine.several_turns.Goals as goal
+
+pub most_attempts-most-requires-clause-steps : goal.most_attempts-most-requires-clause-steps
+most_attempts-most-requires-clause-steps g c = let e = c.in_ok-evict_due.ensures.still.steps in let r = c.requires.steps in omega (arith, e, r)
+
+pub most_attempts-most-requires-clause-turns : goal.most_attempts-most-requires-clause-turns
+most_attempts-most-requires-clause-turns g c = let e = c.in_ok-evict_due.ensures.still.turns in let r = c.requires.turns in omega (arith, e, r)
+
+pub returns-in_err-evict_due-clause-done : goal.returns-in_err-evict_due-clause-done
+returns-in_err-evict_due-clause-done g c = λ p t pins.
+    err_turns c.from_residual.result c.args.limits.now _ c.args.schedule.now p _ _ c.from_residual.ensures.0
+    (cut_evictions c.args.limits.now _ c.args.schedule.now c.args.self.now _ _ _ p t
+    (by_none c.args.limits.now c.args.self.now _ p c.requires.going c.requires.steps c.requires.turns t) (c.in_err-evict_due.ensures.done p t))
+
+pub attempt_and_serve-requires-clause-going : goal.attempt_and_serve-requires-clause-going
+attempt_and_serve-requires-clause-going g c = c.in_ok-evict_due.ensures.still.ended ∙ c.requires.going
+
+pub attempt_and_serve-requires-clause-steps : goal.attempt_and_serve-requires-clause-steps
+attempt_and_serve-requires-clause-steps g c = let a = c.most_attempts-most.ensures.steps in let b = c.requires.few_steps in omega (arith, a, b)
+
+pub attempt_and_serve-requires-clause-turns : goal.attempt_and_serve-requires-clause-turns
+attempt_and_serve-requires-clause-turns g c = let a = c.most_attempts-most.ensures.turns in let b = c.requires.few_turns in omega (arith, a, b)
+
+pub returns-clause-done : goal.returns-clause-done
+returns-clause-done g c = λ p t pins.
+    let still = c.in_ok-evict_due.ensures.still in
+    turns_made c.args.limits.now (pages c.args.self.now.pager).areas c.args.schedule.now c.args.self.now c.attempt_and_serve.new.self _ _ p t c.most_attempts-most.result
+    (let a = c.most_attempts-most.ensures.steps in let b = still.steps in omega (arith, a, b))
+    (let a = c.most_attempts-most.ensures.turns in let b = still.turns in omega (arith, a, b))
+    (by_none c.args.limits.now c.args.self.now _ p c.requires.going c.requires.steps c.requires.turns t)
+    (λ k low. ap (λ (n : ℕ). due c.args.schedule.now (n + 2 + k)) (sym still.turns) ∙ c.most_attempts-most.ensures.quiet k low)
+    c.attempt_and_serve.result
+    (c.attempt_and_serve.ensures.done _ (c.in_ok-evict_due.ensures.done p t) (pins_evicted _ p pins))
+
+pub returns-clause-steps : goal.returns-clause-steps
+returns-clause-steps g c =
+    let a = c.most_attempts-most.ensures.steps in
+    let b = c.attempt_and_serve.ensures.gone.steps in
+    on_ok c.attempt_and_serve.result (omega (arith, a, b))
+
+pub returns-clause-turns : goal.returns-clause-turns
+returns-clause-turns g c =
+    let a = c.most_attempts-most.ensures.turns in
+    let b = c.attempt_and_serve.ensures.gone.turns in
+    on_ok c.attempt_and_serve.result (omega (arith, a, b))
+
+pub returns-clause-some : goal.returns-clause-some
+returns-clause-some g c =
+    let a = c.in_ok-evict_due.ensures.still.turns in
+    let b = c.attempt_and_serve.ensures.gone.some in
+    on_ok c.attempt_and_serve.result (omega (arith, a, b))
+
+pub returns-clause-areas : goal.returns-clause-areas
+returns-clause-areas g c = on_ok c.attempt_and_serve.result (c.attempt_and_serve.ensures.gone.areas ∙ c.in_ok-evict_due.ensures.still.areas)

@@ -1,0 +1,15 @@
+use Rattle.std.proofs.Common.{◌≡◌, ◌<◌, ◌≤◌, arith}
+use Rattle.vax_machine.proofs.Running.{by_ending, by_none, by_steps, by_turns}
+use Rattle.vax_machine.proofs.engine.Engine.stopped.Goals as goal
+
+pub returns-in-Some-clause-stops : goal.returns-in-Some-clause-stops
+returns-in-Some-clause-stops c = λ file p t. by_ending c.args.limits.now c.args.self.now file p _ c.in-Some.is t
+
+pub returns-then-self-limits-clause-stops : goal.returns-then-self-limits-clause-stops
+returns-then-self-limits-clause-stops c = λ file p t. by_steps c.args.limits.now c.args.self.now file p c.in_default.is (omega arith) t
+
+pub returns-then-self-limits-2-clause-stops : goal.returns-then-self-limits-2-clause-stops
+returns-then-self-limits-2-clause-stops c = λ file p t. by_turns c.args.limits.now c.args.self.now file p c.in_default.is (omega arith) (omega arith) t
+
+pub returns-clause-stops : goal.returns-clause-stops
+returns-clause-stops c = λ file p t. by_none c.args.limits.now c.args.self.now file p c.in_default.is (omega arith) (omega arith) t

@@ -1,0 +1,28 @@
+use Rattle.std.proofs.Common.{ap, refl}
+use Rattle.std.specs.Global.{Vec}
+use Rattle.vax_flat.specs.Start.{start_memory}
+use Rattle.vax_pager.specs.Meaning.{pages}
+use Rattle.vax_machine.specs.Meaning.{starts_at}
+use Rattle.vax_machine.proofs.Beginning.{fresh_areas, fresh_begun, fresh_sound, started}
+use Rattle.vax_machine.proofs.machine.Machine.new.Goals as goal
+
+pub invariant_of-result : goal.invariant_of-result
+invariant_of-result c = record {
+  sound = record { pages = fresh_sound (pages c.in_ok-pager.pager) c.args.space c.args.frames c.in_ok-pager.ensures.pages c.requires.some; unsent = c.new-2.ensures.out };
+}
+
+pub returns-clause-start : goal.returns-clause-start
+returns-clause-start c = λ file. record {
+  processor = record {
+    open_one = refl;
+    machine = started c.args.core (start_memory c.args.space) c.new-2.result c.args.input.items (ap (λ v. v.items) c.new-2.ensures.input) c.new-2.ensures.place;
+  };
+  memory = c.in_ok-pager.ensures.stands file;
+}
+
+pub returns-clause-begun : goal.returns-clause-begun
+returns-clause-begun c =
+    fresh_begun (pages c.in_ok-pager.pager) c.args.space c.args.frames c.in_ok-pager.ensures.pages (starts_at c.args.core (start_memory c.args.space) c.args.input.items)
+
+pub returns-clause-kept : goal.returns-clause-kept
+returns-clause-kept c = fresh_areas (pages c.in_ok-pager.pager) c.args.space c.args.frames c.in_ok-pager.ensures.pages

@@ -1,0 +1,10 @@
+pub mod Residence
+pub mod Machine
+pub mod Conclusion
+pub mod Batch
+pub mod Events
+pub mod Touched
+pub mod Paged
+pub mod Run
+pub mod Turn
+pub mod Meaning

@@ -1,0 +1,24 @@
+-- What a machine means.
+use Rattle.std.specs.Prelude.{ℕ, Option, Some, None, List, []}
+use Rattle.vax_word.specs.declared.Core.{Core}
+use Rattle.vax_space.specs.declared.Area.{Area}
+use Rattle.vax_flat.specs.Step.{Flat}
+use Rattle.vax_cpu.specs.declared.cpu.Open.{Open}
+use Rattle.vax_pager.specs.Meaning.{pages}
+use Rattle.vax_pager.specs.Paging.{Paging}
+use Rattle.vax_machine.specs.declared.engine.Engine.{Engine}
+use Rattle.vax_machine.specs.declared.machine.Machine.{Machine}
+
+abbrev pub engine : Machine → Engine
+engine m = m.engine
+
+abbrev pub memory_of : Machine → Paging
+memory_of m = pages m.engine.pager
+
+abbrev pub units_of : Option Open → ℕ
+units_of None = 0
+units_of (Some latched) = latched.units
+
+-- the flat machine at the start
+abbrev pub starts_at : Core → List Area → List ℕ → Flat
+starts_at core memory input = record { core = core; memory = memory; input = input; taken = 0; output = []; ending = None }

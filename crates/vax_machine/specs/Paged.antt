@@ -1,0 +1,119 @@
+-- The run of the flat machine in turns, where pages are absent at first and are served when they are missed.
+use Rattle.std.specs.Prelude.{ℕ, zero, suc, ◌≡◌, ◌+◌, ◌<◌, Bool, true, false, nat_le, if◌then◌else◌, Option, Some, None, List, [], ◌∷◌, ◌++◌}
+use Rattle.std.specs.List.{flat_map}
+use Rattle.vax_space.specs.declared.Area.{Area}
+use Rattle.vax_space.specs.Areas.{pages_of}
+use Rattle.vax_flat.specs.declared.Ending.{Ending}
+use Rattle.vax_flat.specs.Outcome.{first_missing}
+use Rattle.vax_flat.specs.Parts.{Place, At, Within, Turn, Completes, Leaves, machine_at, touches_at, turn}
+use Rattle.vax_flat.specs.Step.{Flat}
+use Rattle.vax_pager.specs.Listing.{is_listed}
+use Rattle.vax_sched.specs.declared.rule.Target.{Target}
+use Rattle.vax_sched.specs.declared.rule.Target.TheVariants.{Page, All}
+use Rattle.vax_machine.specs.Residence.{Residence, is_resident, unpinned, taken_out, victim, served}
+
+-- a page that was made absent, with the number of the attempt before which it was
+pub record Eviction : Type 0 where
+  pub turn : ℕ
+  pub page : ℕ
+
+-- where the flat machine is, the steps and the parts that were completed, the attempts that were made, which pages are resident, and the evictions
+pub record Paged : Type 0 where
+  pub place : Place
+  pub steps : ℕ
+  pub parts : ℕ
+  pub turns : ℕ
+  pub residence : Residence
+  pub evictions : List Eviction
+
+-- the pages that a target names: one, or all that an area has, in ascending order
+abbrev pub named : List Area → Target → List ℕ
+named areas (Page page) = page ∷ []
+named areas All = flat_map pages_of areas
+
+-- the pages of several targets, in order
+abbrev pub all_named : List Area → List Target → List ℕ
+all_named areas targets = flat_map (named areas) targets
+
+-- a page is made absent, if it is resident
+unfoldable pub evicted : ℕ → Paged → Paged
+evicted page p =
+    if is_listed page p.residence.order
+    then record p { residence = taken_out page p.residence; evictions = p.evictions ++ record { turn = p.turns + 1; page = page } ∷ [] }
+    else p
+
+unfoldable pub all_evicted : List ℕ → Paged → Paged
+all_evicted [] p = p
+all_evicted (page ∷ pages) p = all_evicted pages (evicted page p)
+
+abbrev pub eviction_of : ℕ → Option ℕ → List Eviction
+eviction_of turn None = []
+eviction_of turn (Some page) = record { turn = turn; page = page } ∷ []
+
+abbrev pub place_after : Turn → Place
+place_after (Completes m) = At m
+place_after (Leaves p) = Within p
+
+abbrev pub steps_after : Turn → ℕ → ℕ
+steps_after (Completes m) steps = steps + 1
+steps_after (Leaves p) steps = steps
+
+-- an attempt: a part is completed and all pins are dropped, or the first page that is missed is served
+abbrev pub attempted_by : Option ℕ → Paged → Paged
+attempted_by None p = record {
+  place = place_after (turn p.place);
+  steps = steps_after (turn p.place) p.steps;
+  parts = p.parts + 1;
+  turns = p.turns + 1;
+  residence = unpinned p.residence;
+  evictions = p.evictions;
+}
+attempted_by (Some page) p = record p {
+  turns = p.turns + 1;
+  residence = served page p.residence;
+  evictions = p.evictions ++ eviction_of (p.turns + 2) (victim p.residence);
+}
+
+-- a machine that ended makes no attempt
+abbrev pub unless_ended : Option Ending → Paged → Paged → Paged
+unless_ended (Some e) p next = p
+unless_ended None p next = next
+
+unfoldable pub attempted : Paged → Paged
+attempted p = unless_ended (machine_at p.place).ending p (attempted_by (first_missing (is_resident p.residence) (touches_at p.place)) p)
+
+-- one turn: what is due is made absent, and an attempt is made
+abbrev pub next_turn : List Area → (ℕ → List Target) → Paged → Paged
+next_turn areas due p = attempted (all_evicted (all_named areas (due (p.turns + 1))) p)
+
+-- so many turns
+unfoldable pub paged : List Area → (ℕ → List Target) → ℕ → Paged → Paged
+paged areas due zero p = p
+paged areas due (suc count) p = next_turn areas due (paged areas due count p)
+
+-- why a run stops before a turn
+pub data Why : Type 0 where
+  ByEnding : Ending → Why
+  BySteps : Why
+  ByTurns : Why
+
+abbrev pub stop_by : Option Ending → Bool → Bool → Option Why
+stop_by (Some e) steps turns = Some (ByEnding e)
+stop_by None true turns = Some BySteps
+stop_by None false true = Some ByTurns
+stop_by None false false = None
+
+-- it does where the run has ended, else at the limit of steps, else at that of turns
+unfoldable pub stops : ℕ → ℕ → Paged → Option Why
+stops steps turns p = stop_by (machine_at p.place).ending (nat_le steps p.steps) (nat_le turns p.turns)
+
+-- at the start nothing is resident
+abbrev pub fresh : ℕ → Flat → Paged
+fresh frames m = record {
+  place = At m;
+  steps = 0;
+  parts = 0;
+  turns = 0;
+  residence = record { frames = frames; order = []; pinned = []; spoiled = 0 };
+  evictions = [];
+}

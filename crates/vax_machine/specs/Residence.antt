@@ -1,0 +1,50 @@
+-- Which pages are resident and pinned, in order of service, and what events make of it.
+use Rattle.std.specs.Prelude.{ℕ, ◌==◌, Bool, if◌then◌else◌, nat_lt, Option, Some, None, List, [], ◌∷◌, ◌++◌, length}
+use Rattle.vax_outside.specs.Faults.{raised}
+use Rattle.vax_pager.specs.Listing.{is_listed, leave_out, first_outside}
+use Rattle.vax_pager.specs.Paging.{Paging}
+
+pub record Residence : Type 0 where
+  pub frames : ℕ  -- so many pages may be resident
+  pub order : List ℕ  -- the resident pages in order of service
+  pub pinned : List ℕ
+  pub spoiled : ℕ  -- so many pinned pages were evicted
+
+abbrev pub residence_of : Paging → Residence
+residence_of s = record { frames = s.frames; order = s.order; pinned = s.pinned; spoiled = s.numbers.spoiled }
+
+abbrev pub is_resident : Residence → ℕ → Bool
+is_resident r page = is_listed page r.order
+
+-- all pins are dropped
+abbrev pub unpinned : Residence → Residence
+unpinned r = record r { pinned = [] }
+
+-- the most pages that may be pinned
+abbrev pub most_pins : ℕ
+most_pins = 40
+
+-- all pins are dropped where as many pages are pinned as may be
+unfoldable pub eased : Residence → Residence
+eased r = if length r.pinned == most_pins then unpinned r else r
+
+-- an eviction
+unfoldable pub taken_out : ℕ → Residence → Residence
+taken_out page r =
+    if is_listed page r.order
+    then record r { order = leave_out page r.order; pinned = leave_out page r.pinned; spoiled = if is_listed page r.pinned then raised r.spoiled else r.spoiled }
+    else r
+
+-- the page that makes room: where as many are resident as may be, the first of them that isn't pinned
+unfoldable pub victim : Residence → Option ℕ
+victim r = if nat_lt (length r.order) r.frames then None else first_outside r.pinned r.order
+
+abbrev pub without_victim : Option ℕ → Residence → Residence
+without_victim None r = r
+without_victim (Some page) r = record r { order = leave_out page r.order }
+
+-- a service
+unfoldable pub served : ℕ → Residence → Residence
+served page r =
+    let room = without_victim (victim r) r in
+    record room { order = room.order ++ page ∷ []; pinned = room.pinned ++ page ∷ [] }

@@ -1,0 +1,15 @@
+//! A machine: a processor over a pager, with a page file. Its events are attempts, services, evictions and flushes, in whatever order.
+#![tactic(auto)]
+
+mod engine;
+mod event;
+mod held;
+mod laws;
+mod machine;
+mod run;
+#[cfg(test)]
+mod tests;
+
+pub use crate::event::{Applied, Event, Limits, RunEnd};
+pub use crate::laws::{events_follow_the_run, turns_follow_the_run};
+pub use crate::machine::Machine;
