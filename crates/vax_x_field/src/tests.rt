@@ -176,11 +176,11 @@ fn fields_are_compared(rt: HostRuntime) -> Result<(), Fail> {
             let instruction = Field::Compare { signed: is_signed };
             let mut core = registers([position, size, 0x89AB_CDEF, 0x0123_4567, source], 0xEF);
             let flow = went(rt.alloc(), &mut in_registers, &mut core, instruction);
-            assert_eq!(rt; (flow, core.psl), (Ok(Flow::Done), Psl(0x1F_00E0 + codes)));
+            assert_eq!(rt; (flow, core.psl), (Ok(Flow::Done), Psl(0x1F_00E0 | codes)));
             for (base, first) in BASES {
                 let mut core = registers([first.wrapping_add(position), size, base, 0, source], 0);
                 let flow = went(rt.alloc(), &mut in_memory, &mut core, instruction);
-                assert_eq!(rt; (flow, core.psl), (Ok(Flow::Done), Psl(0x1F_0000 + codes)));
+                assert_eq!(rt; (flow, core.psl), (Ok(Flow::Done), Psl(0x1F_0000 | codes)));
             }
         }
     }
