@@ -6,7 +6,6 @@ use Rattle.vax_space.specs.declared.Area.{Area}
 use Rattle.vax_flat.specs.declared.Exception.{Exception}
 use Rattle.vax_flat.specs.declared.Exception.TheVariants.{Arithmetic}
 use Rattle.vax_flat.specs.declared.Ending.{Ending}
-use Rattle.vax_flat.specs.declared.Ending.TheVariants.{Unbuilt}
 use Rattle.vax_flat.specs.declared.Delivery.{Delivery}
 use Rattle.vax_flat.specs.declared.Delivery.TheVariants.{Entered, Ended}
 use Rattle.vax_flat.specs.declared.Flow.{Flow}
@@ -92,19 +91,21 @@ with_byte_sent output (Some byte) = output ++ byte ∷ []
 abbrev pub ended : Flat → Ending → Flat
 ended m e = record m { ending = Some e }
 
--- A step went so. One that ends the run leaves the machine as it was at its start.
+-- A step went so. One that ends the run leaves the machine as it was at its start. What something follows is the end of no step, so there the machine
+-- stays.
 abbrev pub concluded : Flat → Leaf → List Area → Flat
 concluded m (Went flow.Done s) memory =
     record m { core = s.core; memory = memory; taken = s.taken; output = with_byte_sent m.output s.sent }
-concluded m (Went flow.Clocked s) memory = ended m Unbuilt
-concluded m (Went (flow.Trap kind) s) memory = ended m Unbuilt
-concluded m (Went (flow.More opcode units) s) memory = ended m Unbuilt
+concluded m (Went flow.Clocked s) memory = m
+concluded m (Went (flow.Trap kind) s) memory = m
+concluded m (Went (flow.More opcode units) s) memory = m
 concluded m (Went (flow.Ended e) s) memory = ended m e
-concluded m (Found operand s) memory = ended m Unbuilt
+concluded m (Found operand s) memory = m
 
+-- a delivery raises nothing, so there the machine stays
 abbrev pub after_delivery : Flat → Outcome Leaf → Flat
 after_delivery m (Ends leaf memory) = concluded m leaf memory
-after_delivery m (Raised e) = ended m Unbuilt
+after_delivery m (Raised e) = m
 
 abbrev pub after_instruction : Flat → Outcome Leaf → Flat
 after_instruction m (Ends leaf memory) = concluded m leaf memory

@@ -1,5 +1,5 @@
 -- The statuses of a procedure that is entered and of its caller leave no instruction open.
-use Rattle.std.proofs.Common.{◌≡◌, ℕ, ◌+◌, ◌*◌, ◌/◌, ◌%◌, ◌^◌, ◌≤◌, arith}
+use Rattle.std.proofs.Common.{ℕ, ◌+◌, ◌*◌, ◌/◌, ◌%◌, ◌^◌, ◌≤◌, arith}
 use Rattle.vax_word.specs.declared.Psl.{Psl}
 use Rattle.vax_flat.specs.Call.{entry_status, return_status}
 use Rattle.vax_undo.specs.FirstPart.{first_part_done}

@@ -1,5 +1,5 @@
 use Rattle.std.specs.Prelude.{IfSome}
-use Rattle.std.proofs.Common.{Option, Some, sym, ap, subst, ◌∙◌}
+use Rattle.std.proofs.Common.{Option, sym, ap, subst, ◌∙◌}
 use Rattle.vax_flat.specs.OverPort.{Present}
 use Rattle.vax_undo.specs.Transaction.{state_of}
 use Rattle.vax_cpu.specs.declared.cpu.Attempt.{Attempt}
