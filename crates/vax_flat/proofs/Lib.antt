@@ -23,3 +23,6 @@ pub mod Returned
 pub mod Pushed
 pub mod Worked
 pub mod Fronts
+pub mod StringState
+pub mod StringSearch
+pub mod StringScan

@@ -15,10 +15,14 @@ pub mod System
 pub mod Queue
 pub mod Call
 pub mod Returned
+pub mod String
+pub mod StringSearch
+pub mod StringCompare
 pub mod Instruction
 pub mod Grammar
 pub mod Evaluation
 pub mod Step
 pub mod Parts
 pub mod Bound
+pub mod StringAgree
 pub mod Start

@@ -7,12 +7,14 @@
 #![tactic(auto)]
 
 mod laws;
+mod string_laws;
 
 pub use crate::laws::{
     arrival_agrees, deliveries_raise_nothing, frames_are_returned, grammar_agrees, grammar_reads,
     joined_ranges, operands_are_listed, parts_agree, results_agree, steps_are_bounded,
     stops_for_missing_pages,
 };
+pub use crate::string_laws::searches_agree;
 use vax_space::Violation;
 
 /// What interrupts an instruction (VAX Architecture Reference Manual, exceptions and interrupts).
