@@ -26,3 +26,4 @@ pub mod Fronts
 pub mod StringState
 pub mod StringSearch
 pub mod StringScan
+pub mod StringCompare

@@ -130,19 +130,20 @@ rest_of_whole rest (Ends (Found operand s) memory) h = refl
 rest_of_whole rest (Raised e) h = refl
 
 -- the end of a part
-module _ (finish : Finishes) (test : ℕ → Bool) (p : Progress) (s : State) (next : Flow → State → Accesses Leaf) (memory : List Area) (rest : State → Accesses Leaf) where
-  ends : (o : Option ℕ) (f : ℕ → Accesses Leaf) (t : Accesses Leaf) (whole : Outcome Leaf) → ((i : ℕ) → LeavesNoPart (outcome_of (f i) memory)) → whole ≡ and_rest rest (outcome_of t memory) → if_found o (λ i. outcome_of (f i) memory) whole ≡ and_rest rest (outcome_of (if_found o f t) memory)
+module _ (s : State) (next : Flow → State → Accesses Leaf) (memory : List Area) (rest : State → Accesses Leaf) where
+  pub ends : (o : Option ℕ) (f : ℕ → Accesses Leaf) (t : Accesses Leaf) (whole : Outcome Leaf) → ((i : ℕ) → LeavesNoPart (outcome_of (f i) memory)) → whole ≡ and_rest rest (outcome_of t memory) → if_found o (λ i. outcome_of (f i) memory) whole ≡ and_rest rest (outcome_of (if_found o f t) memory)
   ends (Some i) f t whole done e = sym (rest_of_whole rest (outcome_of (f i) memory) (done i))
   ends None f t whole done e = e
 
-  last : (b : Bool) (x y : Accesses Leaf) (whole : Outcome Leaf) → (b ≡ true → whole ≡ and_rest rest (outcome_of x memory)) → (b ≡ false → whole ≡ and_rest rest (outcome_of y memory)) → whole ≡ and_rest rest (outcome_of (if b then x else y) memory)
+  pub last : (b : Bool) (x y : Accesses Leaf) (whole : Outcome Leaf) → (b ≡ true → whole ≡ and_rest rest (outcome_of x memory)) → (b ≡ false → whole ≡ and_rest rest (outcome_of y memory)) → whole ≡ and_rest rest (outcome_of (if b then x else y) memory)
   last true x y whole e f = e refl
   last false x y whole e f = f refl
 
-  left_so : IsBehind next → (q : Progress) (units : ℕ) → and_rest rest (outcome_of (leaves q units s next) memory) ≡ outcome_of (rest (suspended q s)) memory
+  pub left_so : IsBehind next → (q : Progress) (units : ℕ) → and_rest rest (outcome_of (leaves q units s next) memory) ≡ outcome_of (rest (suspended q s)) memory
   unfolding leaves outcome_of
   left_so behind q units = rw (behind.more q.op units (suspended q s)) refl
 
+module _ (finish : Finishes) (test : ℕ → Bool) (p : Progress) (s : State) (next : Flow → State → Accesses Leaf) (memory : List Area) (rest : State → Accesses Leaf) where
   pub ended : (examine : Examines) (bytes : List ℕ) → IsBehind next → length bytes ≤ p.len1 →
       ((left addr : ℕ) → LeavesNoPart (outcome_of (finish left addr s next) memory)) →
       (length bytes < p.len1 → outcome_of (rest (suspended (searched p (length bytes)) s)) memory ≡ outcome_of (sought examine finish (p.len1 - length bytes) (plus p.addr1 (length bytes)) s next) memory) →
@@ -150,12 +151,12 @@ module _ (finish : Finishes) (test : ℕ → Bool) (p : Progress) (s : State) (n
       ≡ and_rest rest (outcome_of (search_end finish test p bytes s next) memory)
   unfolding search_end
   ended examine bytes behind few done goes =
-      ends (position test bytes) (λ i. finish (p.len1 - i) (plus p.addr1 i) s next) _ _ (λ i. done (p.len1 - i) (plus p.addr1 i))
-      (last (length bytes == p.len1) _ _ _
+      ends s next memory rest (position test bytes) (λ i. finish (p.len1 - i) (plus p.addr1 i) s next) _ _ (λ i. done (p.len1 - i) (plus p.addr1 i))
+      (last s next memory rest (length bytes == p.len1) _ _ _
       (λ is. let e : length bytes ≡ p.len1 = eqb-true _ _ is in
           ap (λ n. outcome_of (sought examine finish n (plus p.addr1 (length bytes)) s next) memory) (let z : p.len1 - length bytes ≡ 0 = omega arith in z)
           ∙ (nothing_sought examine finish s next memory (plus p.addr1 (length bytes)) ∙ sym (rest_of_whole rest _ (done 0 (plus p.addr1 (length bytes))))))
-      (λ isn't. sym (goes (let n : (length bytes ≡ p.len1 → ⊥) = λ e. (let y : (length bytes == p.len1) ≡ true = eq-eqb _ _ e in cc) in less n few) ) ∙ sym (left_so behind (searched p (length bytes)) (length bytes))))
+      (λ isn't. sym (goes (let n : (length bytes ≡ p.len1 → ⊥) = λ e. (let y : (length bytes == p.len1) ≡ true = eq-eqb _ _ e in cc) in less n few) ) ∙ sym (left_so s next memory rest behind (searched p (length bytes)) (length bytes))))
     where
       less : (length bytes ≡ p.len1 → ⊥) → length bytes ≤ p.len1 → length bytes < p.len1
       less n l = omega arith

@@ -16,6 +16,7 @@ pub mod Queue
 pub mod Call
 pub mod Returned
 pub mod String
+pub mod StringOperands
 pub mod StringSearch
 pub mod StringCompare
 pub mod Instruction

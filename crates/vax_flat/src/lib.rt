@@ -14,7 +14,7 @@ pub use crate::laws::{
     joined_ranges, operands_are_listed, parts_agree, results_agree, steps_are_bounded,
     stops_for_missing_pages,
 };
-pub use crate::string_laws::searches_agree;
+pub use crate::string_laws::{comparisons_agree, searches_agree};
 use vax_space::Violation;
 
 /// What interrupts an instruction (VAX Architecture Reference Manual, exceptions and interrupts).
