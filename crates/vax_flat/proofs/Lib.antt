@@ -27,3 +27,5 @@ pub mod StringState
 pub mod StringSearch
 pub mod StringScan
 pub mod StringCompare
+pub mod StringMemory
+pub mod StringMove

@@ -28,7 +28,8 @@ use Rattle.vax_flat.specs.Operand.{plus, read_at, check_at}
 use Rattle.vax_flat.specs.Bound.{LeavesNoPart}
 use Rattle.vax_flat.specs.String.{low_registers, with_low, suspended, continued, completed, leaves, read_run_at, read_span, to_page_end, room_up, from_registers, IsReady}
 use Rattle.vax_flat.specs.StringSearch.{if_found}
-use Rattle.vax_flat.specs.StringCompare.{Rest, behind, compared_in, differs, equals, byte_or, compare, first_of, second_of, pairs_of, whole_compare, first_page, string_room, compare_room, filled_run, first_read, first_checked, compare_run, compare_part}
+use Rattle.vax_flat.specs.declared.Rest.{Rest}
+use Rattle.vax_flat.specs.StringCompare.{behind, compared_in, differs, equals, byte_or, compare, first_of, second_of, pairs_of, whole_compare, first_page, string_room, compare_room, filled_run, first_read, first_checked, compare_end, compare_run, compare_part}
 use Rattle.vax_flat.specs.StringAgree.{and_rest, IsBehind}
 use Rattle.vax_flat.proofs.StringState.{six, low_set, mode_low, conditions_low, continued_suspended, unpacked_suspended}
 use Rattle.vax_flat.proofs.StringSearch.{first_barred, number_one, allowed_one, rest_of_whole, ends, last, left_so}
@@ -370,7 +371,7 @@ module _ (p : Progress) (s : State) (memory : List Area) (next : Flow → State 
   tail = if_found (first_difference xs ys) (λ i. differs (behind i a) (behind i b) (slice_index xs i) (slice_index ys i) s next) (if count == total then equals (behind count a) (behind count b) s next else leaves (record p { done = p.done + count }) count s next)
 
   part_open : (0 < a.len → readable a.addr ≡ true) → (0 < b.len → readable b.addr ≡ true) → outcome_of (compare_run p count s next) memory ≡ outcome_of tail memory
-  unfolding compare_run
+  unfolding compare_run compare_end
   part_open opens1 opens2 =
       first_is p.byte memory s a _ opens1
       ∙ (check_is p.byte memory s b _ opens2

@@ -19,6 +19,9 @@ pub mod String
 pub mod StringOperands
 pub mod StringSearch
 pub mod StringCompare
+pub mod StringMove
+pub mod StringEscape
+pub mod StringMatch
 pub mod Instruction
 pub mod Grammar
 pub mod Evaluation

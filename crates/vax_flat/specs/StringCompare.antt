@@ -8,17 +8,13 @@ use Rattle.vax_space.specs.declared.Access.TheVariants.{Read}
 use Rattle.vax_strpart.specs.declared.packing.Progress.{Progress}
 use Rattle.vax_strpart.specs.Kernels.{first_difference}
 use Rattle.vax_flat.specs.declared.Flow.{Flow}
+use Rattle.vax_flat.specs.declared.Rest.{Rest}
 use Rattle.vax_flat.specs.Memory.{after}
 use Rattle.vax_flat.specs.State.{State}
 use Rattle.vax_flat.specs.Accesses.{Accesses, Leaf}
 use Rattle.vax_flat.specs.Operand.{plus, read_at, check_at}
 use Rattle.vax_flat.specs.String.{low_registers, leaves, completed, read_span, room_up}
 use Rattle.vax_flat.specs.StringSearch.{if_found}
-
--- what is left of a string, and where
-pub record Rest : Type 0 where
-  pub len : ℕ
-  pub addr : ℕ
 
 -- the rest behind so many bytes; that of a string that is exhausted is empty, past its end
 abbrev pub behind : ℕ → Rest → Rest
@@ -90,6 +86,14 @@ first_read r s next = if r.len == 0 then next s else read_at r.addr 1 s (λ x s.
 unfoldable pub first_checked : Rest → State → (State → Accesses Leaf) → Accesses Leaf
 first_checked r s next = if r.len == 0 then next s else check_at r.addr 1 Read s next
 
+-- the end of a part that has so many pairs of the strings
+unfoldable pub compare_end : Progress → ℕ → Rest → Rest → List ℕ → List ℕ → State → (Flow → State → Accesses Leaf) → Accesses Leaf
+compare_end p count a b xs ys s next =
+    if_found (first_difference xs ys)
+    (λ i. differs (behind i a) (behind i b) (slice_index xs i) (slice_index ys i) s next)
+    (if count == pairs_of p - p.done then equals (behind count a) (behind count b) s next
+    else leaves (record p { done = p.done + count }) count s next)
+
 -- A part of so many pairs. Its first pair goes before the runs, of which one may go on in the other's page, so that a violation of the second
 -- string is met behind the first byte of the first.
 unfoldable pub compare_run : Progress → ℕ → State → (Flow → State → Accesses Leaf) → Accesses Leaf
@@ -100,10 +104,7 @@ compare_run p count s next =
     first_checked b s (λ s.
     filled_run p.byte count a s (λ xs s.
     filled_run p.byte count b s (λ ys s.
-    if_found (first_difference xs ys)
-    (λ i. differs (behind i a) (behind i b) (slice_index xs i) (slice_index ys i) s next)
-    (if count == pairs_of p - p.done then equals (behind count a) (behind count b) s next
-    else leaves (record p { done = p.done + count }) count s next)))))
+    compare_end p count a b xs ys s next))))
 
 unfoldable pub compare_part : Progress → State → (Flow → State → Accesses Leaf) → Accesses Leaf
 compare_part p s next =

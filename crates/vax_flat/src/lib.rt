@@ -14,7 +14,7 @@ pub use crate::laws::{
     joined_ranges, operands_are_listed, parts_agree, results_agree, steps_are_bounded,
     stops_for_missing_pages,
 };
-pub use crate::string_laws::{comparisons_agree, searches_agree};
+pub use crate::string_laws::{comparisons_agree, moves_agree, searches_agree};
 use vax_space::Violation;
 
 /// What interrupts an instruction (VAX Architecture Reference Manual, exceptions and interrupts).
@@ -118,6 +118,13 @@ pub enum Operand {
     FieldRegister(u8),
     /// Where a branch goes.
     Target(u32),
+}
+
+/// What is left of a string, and its address.
+#[derive(Clone, Copy, Debug, PartialEq, Eq)]
+pub struct Rest {
+    pub len: u16,
+    pub addr: u32,
 }
 
 /// How an instruction went.

@@ -4,6 +4,7 @@
 //! and the opcode alone.
 #![tactic(auto)]
 
+mod compare;
 mod registers;
 mod run;
 mod search;

@@ -135,18 +135,18 @@ fn scan_at<P: Port>(txn: &mut Txn<P>, table: u32, left: u32, addr: u32) -> Resul
     complete(txn, &[left, addr, 0, table, old[4], old[5]], found_codes(left))
 }
 
-/// Reads a piece of a table that lies within one page, where it may be read; else it stays zero. Answers whether it was read.
+/// Reads a piece of a table that lies within one page, where it may be read; else it is zero. Answers whether it was read.
 #[tactic(auto, unfolding(vax_flat::specs::StringSearch::piece_read))]
 fn read_piece<P: Port>(txn: &mut Txn<P>, addr: u32, into: &mut [u8]) -> Result<bool, CutShort>
     requires some { 1 ≤ length into.old }
     requires one_page { addr % 512 + length into.old ≤ 512 }
-    requires zero { into.old ≡ replicate (length into.old) 0 }
     ensures exact { (next : Bool → List ℕ → State → Accesses Leaf) → over_port (search.piece_read addr (length into.old) (present P.view txn.old).state next) (present P.view txn.old).view ≡ goes_on (told txn.new result) (present P.view txn.new).view.marked (λ allowed. over_port (next allowed into.new (present P.view txn.new).state) (present P.view txn.new).view) }
     ensures same { present P.view txn.new ≡ present P.view txn.old }
     ensures keeps { Keeps P.view P.since 0 txn.old txn.new }
 {
     let mode = txn.psl().mode();
     if !is_allowed(txn, addr, into.len() as u32, mode, Access::Read) {
+        into.fill(0);
         return Ok(false);
     }
     read_run(txn, addr, into)?;
@@ -157,7 +157,6 @@ fn read_piece<P: Port>(txn: &mut Txn<P>, addr: u32, into: &mut [u8]) -> Result<b
 #[tactic(auto, unfolding(vax_flat::specs::StringSearch::table_read))]
 fn read_table<P: Port>(txn: &mut Txn<P>, table: u32, into: &mut [u8]) -> Result<(u16, u16), CutShort>
     requires whole { length into.old ≡ 256 }
-    requires zero { into.old ≡ replicate 256 0 }
     ensures exact { (next : ℕ → ℕ → List ℕ → State → Accesses Leaf) → over_port (search.table_read table (present P.view txn.old).state next) (present P.view txn.old).view ≡ goes_on (told txn.new result) (present P.view txn.new).view.marked (λ known. over_port (next known.0 known.1 into.new (present P.view txn.new).state) (present P.view txn.new).view) }
     ensures same { present P.view txn.new ≡ present P.view txn.old }
     ensures keeps { Keeps P.view P.since 0 txn.old txn.new }
@@ -176,15 +175,23 @@ fn read_table<P: Port>(txn: &mut Txn<P>, table: u32, into: &mut [u8]) -> Result<
     ))
 }
 
-/// How many bytes go before the first whose entry wasn't read.
-fn known_len(bytes: &[u8], from: u16, to: u16) -> usize
-    ensures exact { result ≡ position_or_len (search.is_unknown from to) bytes.now }
-    ensures within { result ≤ length bytes.now }
+/// The first byte whose entry wasn't read.
+fn first_unknown(bytes: &[u8], from: u16, to: u16) -> Option<usize>
+    ensures exact { result ≡ position (search.is_unknown from to) bytes.now }
+    ensures within { IfSome result (λ i. i < length bytes.now) }
 {
     bytes
         .iter()
         .position(|x| !(from <= u16::from(*x) && u16::from(*x) < to))
-        .unwrap_or(bytes.len())
+}
+
+/// How many bytes go before the first whose entry wasn't read.
+#[tactic(auto, using(vax_strpart::proofs::MarkLaws::end_of))]
+fn known_len(bytes: &[u8], from: u16, to: u16) -> usize
+    ensures exact { result ≡ position_or_len (search.is_unknown from to) bytes.now }
+    ensures within { result ≤ length bytes.now }
+{
+    first_unknown(bytes, from, to).unwrap_or(bytes.len())
 }
 
 /// The first byte whose entry has a bit of the mask, or has none.
