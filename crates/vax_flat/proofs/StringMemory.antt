@@ -208,17 +208,17 @@ drop_all (suc n) [] h = refl
 drop_all zero (x ∷ xs) h = absurd (omega arith)
 drop_all (suc n) (x ∷ xs) h = drop_all n xs (omega arith)
 
-take_all : (n : ℕ) (xs : List ℕ) → length xs ≤ n → take n xs ≡ xs
+pub take_all : (n : ℕ) (xs : List ℕ) → length xs ≤ n → take n xs ≡ xs
 take_all zero [] h = refl
 take_all (suc n) [] h = refl
 take_all zero (x ∷ xs) h = absurd (omega arith)
 take_all (suc n) (x ∷ xs) h = ap (λ l. x ∷ l) (take_all n xs (omega arith))
 
-nothing_written : (m : List Area) (a : ℕ) → written_run m a [] ≡ m
+pub nothing_written : (m : List Area) (a : ℕ) → written_run m a [] ≡ m
 unfolding written_run
 nothing_written m a = refl
 
-nothing_barred : (areas : List Area) (addr mode : ℕ) → violation areas addr 0 mode Write ≡ None
+pub nothing_barred : (areas : List Area) (addr mode : ℕ) → violation areas addr 0 mode Write ≡ None
 unfolding violation
 nothing_barred areas addr mode = refl
 

@@ -90,7 +90,7 @@ fn be_equal<P: Port>(txn: &mut Txn<P>, a: Rest, b: Rest) -> Result<Flow, CutShor
 
 /// How many bytes from an address lie in its page, or in another that is beside it; at most 512 count.
 #[tactic(auto, unfolding(vax_flat::specs::String::room_up))]
-fn room_up(addr: u32, page: u32) -> u16
+pub(crate) fn room_up(addr: u32, page: u32) -> u16
     ensures exact { result ≡ text.room_up addr page }
     ensures some { 1 ≤ result }
     ensures few { result ≤ 512 }

@@ -5,6 +5,7 @@
 #![tactic(auto)]
 
 mod compare;
+mod moves;
 mod registers;
 mod run;
 mod search;

@@ -99,6 +99,16 @@ pub(crate) fn leave_rest<P: Port>(txn: &mut Txn<P>, rest: &Progress, units: u32)
     })
 }
 
+/// Sets R0 to R5 and the codes of an instruction that is completed.
+pub(crate) fn set_completed<P: Port>(txn: &mut Txn<P>, values: &[u32; 6], codes: Codes)
+    requires { 7 ≤ room txn.old }
+    ensures exact { present P.view txn.new ≡ with_state (present P.view txn.old) (with_low values.now (with_conditions (present P.view txn.old).state codes)) }
+    ensures keeps { Keeps P.view P.since 7 txn.old txn.new }
+{
+    set_codes(txn, codes);
+    set_low(txn, values);
+}
+
 /// Completes an instruction, with R0 to R5 and the codes.
 #[tactic(auto, unfolding(vax_flat::specs::String::completed))]
 pub(crate) fn complete<P: Port>(txn: &mut Txn<P>, values: &[u32; 6], codes: Codes) -> Result<Flow, CutShort>
@@ -106,8 +116,7 @@ pub(crate) fn complete<P: Port>(txn: &mut Txn<P>, values: &[u32; 6], codes: Code
     ensures exact { Follows (completed values.now codes (present P.view txn.old).state) (present P.view txn.old) (told txn.new result) (present P.view txn.new) }
     ensures keeps { Keeps P.view P.since 7 txn.old txn.new }
 {
-    set_codes(txn, codes);
-    set_low(txn, values);
+    set_completed(txn, values, codes);
     Ok(Flow::Done)
 }
 
