@@ -23,3 +23,9 @@ pub mod Returned
 pub mod Pushed
 pub mod Worked
 pub mod Fronts
+pub mod StringState
+pub mod StringSearch
+pub mod StringScan
+pub mod StringCompare
+pub mod StringMemory
+pub mod StringMove

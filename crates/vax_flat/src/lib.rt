@@ -7,12 +7,14 @@
 #![tactic(auto)]
 
 mod laws;
+mod string_laws;
 
 pub use crate::laws::{
     arrival_agrees, deliveries_raise_nothing, frames_are_returned, grammar_agrees, grammar_reads,
     joined_ranges, operands_are_listed, parts_agree, results_agree, steps_are_bounded,
     stops_for_missing_pages,
 };
+pub use crate::string_laws::{comparisons_agree, moves_agree, searches_agree};
 use vax_space::Violation;
 
 /// What interrupts an instruction (VAX Architecture Reference Manual, exceptions and interrupts).
@@ -127,6 +129,13 @@ pub struct Holder {
     pub width: u8,
     /// Which of its bits is the field's first.
     pub first: u8,
+}
+
+/// What is left of a string, and its address.
+#[derive(Clone, Copy, Debug, PartialEq, Eq)]
+pub struct Rest {
+    pub len: u16,
+    pub addr: u32,
 }
 
 /// How an instruction went.

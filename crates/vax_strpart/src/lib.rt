@@ -12,4 +12,4 @@ mod packing;
 mod tests;
 
 pub use kernels::{compare, locate, scan, skip, span, translate, translate_until};
-pub use packing::{Progress, pack, unpack};
+pub use packing::{Layout, Progress, pack, unpack};

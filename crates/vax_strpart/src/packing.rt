@@ -27,11 +27,16 @@ pub struct Progress {
 
 /// Which registers hold what.
 #[derive(Clone, Copy, PartialEq, Eq, Debug)]
-enum Layout {
+pub enum Layout {
+    /// MOVC3 and MOVC5.
     Moves,
+    /// CMPC3, CMPC5 and MATCHC.
     Compares,
+    /// LOCC and SKPC.
     Searches,
+    /// SCANC and SPANC.
     Scans,
+    /// MOVTC and MOVTUC.
     Translates,
 }
 
