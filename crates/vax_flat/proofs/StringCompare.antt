@@ -1,7 +1,7 @@
 -- A comparison in parts is the comparison.
-use Rattle.std.proofs.Common.{ℕ, zero, suc, ◌≡◌, ◌+◌, ◌-◌, ◌*◌, ◌/◌, ◌%◌, ◌^◌, ◌<◌, ◌≤◌, ◌⊎◌, min, max, Bool, true, false, cond, not, ◌==◌, nat_lt, if◌then◌else◌, Option, Some, None, List, [], ◌∷◌, ◌++◌, length, replicate, slice_index, refl, sym, ap, ◌∙◌, inl, inr, arith}
+use Rattle.std.proofs.Common.{ℕ, zero, suc, ◌≡◌, ◌+◌, ◌-◌, ◌/◌, ◌%◌, ◌^◌, ◌<◌, ◌≤◌, ◌⊎◌, min, Bool, true, false, cond, not, ◌==◌, if◌then◌else◌, Option, Some, None, List, [], ◌∷◌, ◌++◌, length, replicate, slice_index, refl, sym, ap, ◌∙◌, inl, inr, arith}
 use Rattle.std.specs.Prelude.{nat_le}
-use Rattle.std.specs.List.{position, position_from, zip}
+use Rattle.std.specs.List.{position_from, zip}
 use Rattle.std.proofs.lemmas.Bool.{cases_Bool, cases_lt, eqb-true, eq-eqb, ne_eqb, cases_eq}
 use Rattle.std.proofs.lemmas.Bool.Decides.{nat_tests}
 use Rattle.std.proofs.lemmas.List.Quantifiers.{position-Some}
@@ -14,7 +14,7 @@ use Rattle.vax_space.specs.Reference.{page_of, may_access, violation, violation_
 use Rattle.vax_strpart.specs.declared.packing.Progress.{Progress}
 use Rattle.vax_strpart.specs.declared.packing.Layout.{Layout}
 use Rattle.vax_strpart.specs.declared.packing.Layout.TheVariants.{Moves, Compares, Searches, Scans, Translates}
-use Rattle.vax_strpart.specs.Packing.{layout_of, packed, unpacked, IsProper, AreUnusedZero}
+use Rattle.vax_strpart.specs.Packing.{layout_of, packed, IsProper, AreUnusedZero}
 use Rattle.vax_strpart.specs.Kernels.{first_difference}
 use Rattle.vax_word.specs.declared.Codes.{Codes}
 use Rattle.vax_flat.specs.declared.Flow.{Flow}

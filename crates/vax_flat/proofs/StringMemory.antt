@@ -1,7 +1,7 @@
 -- Runs that are written one after another.
-use Rattle.std.proofs.Common.{ℕ, zero, suc, ◌≡◌, ◌≢◌, ◌+◌, ◌-◌, ◌*◌, ◌/◌, ◌%◌, ◌^◌, ◌<◌, ◌≤◌, ◌⊎◌, min, Bool, true, false, cond, Option, Some, None, List, [], ◌∷◌, ◌++◌, length, take, drop, slice_index, slice_set, refl, sym, ap, ◌∙◌, inl, inr, arith, length-take, length-drop, leb, ltb}
-use Rattle.std.specs.Prelude.{nat_le, if◌then◌else◌}
-use Rattle.std.proofs.lemmas.Bool.{cases_Bool, cases_lt, cases_eq, and_parts, leb-true}
+use Rattle.std.proofs.Common.{ℕ, zero, suc, ◌≡◌, ◌≢◌, ◌+◌, ◌-◌, ◌*◌, ◌/◌, ◌%◌, ◌^◌, ◌<◌, ◌≤◌, ◌⊎◌, min, true, false, None, List, [], ◌∷◌, ◌++◌, length, take, drop, slice_set, refl, sym, ap, ◌∙◌, inl, inr, arith, length-take, length-drop, leb, ltb}
+use Rattle.std.specs.Prelude.{nat_le}
+use Rattle.std.proofs.lemmas.Bool.{cases_Bool, cases_lt, and_parts, leb-true}
 use Rattle.std.proofs.lemmas.Bool.Decides.{nat_tests}
 use Rattle.std.proofs.lemmas.List.{get_or-set_other, take-append-drop}
 use Rattle.vax_space.specs.declared.Access.{Access}
@@ -12,12 +12,12 @@ use Rattle.vax_space.specs.Reference.{page_of, may_access, violation}
 use Rattle.vax_flat.specs.Memory.{after, byte_at, bytes_from, with_byte, written, written_run}
 use Rattle.vax_flat.specs.State.{State, mode}
 use Rattle.vax_flat.specs.Accesses.{Accesses, Leaf}
-use Rattle.vax_flat.specs.Outcome.{Outcome, outcome_of}
+use Rattle.vax_flat.specs.Outcome.{outcome_of}
 use Rattle.vax_flat.specs.Operand.{plus, write_at}
 use Rattle.vax_flat.specs.String.{write_run_at, to_page_end}
 use Rattle.vax_flat.specs.StringMove.{number_in, write_pieces, pieces_of, write_span}
 use Rattle.vax_flat.proofs.Alike.{violation-alike}
-use Rattle.vax_flat.proofs.Memory.{allowed_first, layout-written, layout-written_run}
+use Rattle.vax_flat.proofs.Memory.{allowed_first, layout-written_run}
 use Rattle.vax_flat.proofs.StringSearch.{Each, none, more, each_head, each_tail}
 
 has_page-bytes : (area : Area) (bytes : List ℕ) (page : ℕ) → has_page (record area { bytes = bytes }) page ≡ has_page area page

@@ -1,35 +1,32 @@
 -- A move in parts is the move.
-use Rattle.std.proofs.Common.{ℕ, zero, suc, ◌≡◌, ◌≢◌, ◌+◌, ◌-◌, ◌*◌, ◌/◌, ◌%◌, ◌^◌, ◌<◌, ◌≤◌, ◌⊎◌, min, max, Bool, true, false, cond, not, ◌&&◌, ◌||◌, ◌==◌, nat_lt, if◌then◌else◌, Option, Some, None, List, [], ◌∷◌, ◌++◌, length, replicate, slice_index, map, refl, sym, ap, ◌∙◌, inl, inr, arith}
-use Rattle.std.specs.Prelude.{nat_le}
+use Rattle.std.proofs.Common.{ℕ, zero, suc, ◌≡◌, ◌+◌, ◌-◌, ◌/◌, ◌%◌, ◌^◌, ◌<◌, ◌≤◌, ◌⊎◌, min, max, Bool, true, false, not, ◌&&◌, ◌==◌, nat_lt, if◌then◌else◌, None, List, [], ◌∷◌, ◌++◌, length, replicate, slice_index, refl, sym, ap, ◌∙◌, inl, inr, arith}
 use Rattle.std.proofs.lemmas.Bool.{cases_Bool, cases_lt, eqb-true, eq-eqb, ne_eqb, cases_eq}
 use Rattle.std.proofs.lemmas.Bool.Decides.{nat_tests}
 use Rattle.std.proofs.lemmas.List.{length-replicate, length-map, map-append, replicate-append-replicate}
-use Rattle.vax_space.specs.declared.Access.{Access}
 use Rattle.vax_space.specs.declared.Access.TheVariants.{Read, Write}
 use Rattle.vax_space.specs.declared.Area.{Area}
 use Rattle.vax_space.specs.Reference.{page_of, may_access, violation}
 use Rattle.vax_strpart.specs.declared.packing.Progress.{Progress}
 use Rattle.vax_strpart.specs.declared.packing.Layout.{Layout}
 use Rattle.vax_strpart.specs.declared.packing.Layout.TheVariants.{Moves, Compares, Searches, Scans, Translates}
-use Rattle.vax_strpart.specs.Packing.{layout_of, packed, unpacked, IsProper, AreUnusedZero}
+use Rattle.vax_strpart.specs.Packing.{layout_of, packed, IsProper, AreUnusedZero}
 use Rattle.vax_strpart.specs.Kernels.{translated}
 use Rattle.vax_flat.specs.declared.Flow.{Flow}
 use Rattle.vax_flat.specs.declared.Flow.TheVariants as flow
 use Rattle.vax_flat.specs.Memory.{after, byte_at, bytes_from, written_run}
 use Rattle.vax_flat.specs.Port.{AreBytes}
-use Rattle.vax_flat.specs.State.{State, mode, with_conditions}
+use Rattle.vax_flat.specs.State.{State, mode}
 use Rattle.vax_flat.specs.Accesses.{Accesses, Leaf}
 use Rattle.vax_flat.specs.Outcome.{Outcome, outcome_of}
 use Rattle.vax_flat.specs.Operand.{plus}
 use Rattle.vax_flat.specs.Bound.{LeavesNoPart}
-use Rattle.vax_flat.specs.String.{low_registers, with_low, suspended, continued, completed, leaves, read_run_at, write_run_at, read_span, to_page_end, room_up, room_down, from_registers, IsReady}
-use Rattle.vax_flat.specs.StringMove.{distance, overlaps, moved_count, is_backward, by_table, is_reserved, moved_bytes, moved_low, moved, move_rest, write_span, lowest, run_room, move_room, move_end, table_applied, move_run, fill_room, fill_run, move_part, IsMove, IsChecked}
+use Rattle.vax_flat.specs.String.{low_registers, with_low, suspended, continued, completed, leaves, read_run_at, room_up, room_down, from_registers, IsReady}
+use Rattle.vax_flat.specs.StringMove.{distance, overlaps, moved_count, is_backward, moved_bytes, moved_low, moved, move_rest, write_span, lowest, run_room, move_room, move_end, table_applied, move_run, fill_room, fill_run, move_part, IsMove, IsChecked}
 use Rattle.vax_flat.specs.StringAgree.{and_rest, IsBehind}
-use Rattle.vax_flat.proofs.StringState.{low_twice, mode_low, conditions_low, continued_suspended, unpacked_suspended}
-use Rattle.vax_flat.proofs.StringSearch.{Each, none, more, length_run, rest_of_whole, last, left_so}
-use Rattle.vax_flat.proofs.StringScan.{byte_in_run}
+use Rattle.vax_flat.proofs.StringState.{mode_low, conditions_low, continued_suspended, unpacked_suspended}
+use Rattle.vax_flat.proofs.StringSearch.{none, more, length_run, rest_of_whole, last, left_so}
 use Rattle.vax_flat.proofs.StringCompare.{run_append, run_is, span_is}
-use Rattle.vax_flat.proofs.StringMemory.{Apart, runs_commute, run-append, bytes_outside, still_allowed, allowed_part, allowed_at, nothing_barred, nothing_written, Bytes, run_written, span_written}
+use Rattle.vax_flat.proofs.StringMemory.{Apart, runs_commute, run-append, bytes_outside, still_allowed, allowed_part, allowed_at, nothing_written, Bytes, run_written, span_written}
 
 pub each_run : (byte : ℕ → ℕ) (addr len : ℕ) → AreBytes byte → Bytes (bytes_from byte addr len)
 unfolding bytes_from

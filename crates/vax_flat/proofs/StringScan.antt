@@ -1,10 +1,9 @@
 -- A search by a table in parts is the search.
-use Rattle.std.proofs.Common.{ℕ, zero, suc, ◌≡◌, ◌+◌, ◌-◌, ◌*◌, ◌/◌, ◌%◌, ◌^◌, ◌<◌, ◌≤◌, min, Bool, true, false, cond, not, ◌&&◌, ◌==◌, nat_lt, if◌then◌else◌, Option, Some, None, List, [], ◌∷◌, ◌++◌, length, take, replicate, slice_index, refl, sym, ap, ◌∙◌, inl, inr, arith}
-use Rattle.std.specs.Prelude.{nat_le}
+use Rattle.std.proofs.Common.{ℕ, zero, suc, ◌≡◌, ◌+◌, ◌-◌, ◌%◌, ◌^◌, ◌<◌, ◌≤◌, Bool, true, false, not, if◌then◌else◌, Option, None, List, ◌∷◌, ◌++◌, length, take, replicate, slice_index, refl, sym, ap, ◌∙◌, inl, inr, arith}
 use Rattle.std.specs.List.{position, position_or_len}
-use Rattle.std.proofs.lemmas.Bool.{cases_Bool, cases_lt, eqb-true, eq-eqb, ne_eqb, cases_eq}
+use Rattle.std.proofs.lemmas.Bool.{cases_Bool, cases_lt, eq-eqb, ne_eqb, cases_eq}
 use Rattle.std.proofs.lemmas.Bool.Decides.{nat_tests}
-use Rattle.std.proofs.lemmas.List.{length-take-le, length-replicate, get_or_append_left, get_or-append_right}
+use Rattle.std.proofs.lemmas.List.{length-replicate, get_or_append_left, get_or-append_right}
 use Rattle.std.proofs.lemmas.List.Sums.{prefix_len_passes, prefix_len_stops, prefix_len-le-length}
 use Rattle.std.proofs.lemmas.Iterator.Adapters.{position_from-zero}
 use Rattle.vax_space.specs.declared.Access.TheVariants.{Read}
@@ -13,7 +12,7 @@ use Rattle.vax_space.specs.declared.Violation.{Violation}
 use Rattle.vax_space.specs.Reference.{page_of, may_access, violation, violation_at}
 use Rattle.vax_strpart.specs.declared.packing.Progress.{Progress}
 use Rattle.vax_strpart.specs.declared.packing.Layout.TheVariants.{Scans}
-use Rattle.vax_strpart.specs.Packing.{layout_of, packed, unpacked, IsProper}
+use Rattle.vax_strpart.specs.Packing.{layout_of, packed, IsProper}
 use Rattle.vax_flat.specs.declared.Flow.{Flow}
 use Rattle.vax_flat.specs.declared.Flow.TheVariants as flow
 use Rattle.vax_flat.specs.declared.Exception.TheVariants as exception
@@ -21,10 +20,10 @@ use Rattle.vax_flat.specs.Memory.{after, byte_at, number, bytes_from}
 use Rattle.vax_flat.specs.Port.{AreBytes}
 use Rattle.vax_flat.specs.State.{State, mode, with_conditions}
 use Rattle.vax_flat.specs.Accesses.{Accesses, Leaf}
-use Rattle.vax_flat.specs.Outcome.{Outcome, Ends, Raised, outcome_of, unless_violated, is_allowed}
+use Rattle.vax_flat.specs.Outcome.{Outcome, Raised, outcome_of, unless_violated, is_allowed}
 use Rattle.vax_flat.specs.Operand.{plus, read_at, check_at, asked}
 use Rattle.vax_flat.specs.Bound.{LeavesNoPart}
-use Rattle.vax_flat.specs.String.{low_registers, with_low, suspended, continued, completed, read_run_at, to_page_end, from_registers, IsReady}
+use Rattle.vax_flat.specs.String.{low_registers, with_low, suspended, continued, completed, read_run_at, from_registers, IsReady}
 use Rattle.vax_flat.specs.StringSearch.{scanned, by_entry, is_masked, sought, whole_scan, searched, search_room, if_found, search_end, scan_run, scan_part, piece_read, table_read, table_split, known_from, known_to, is_unknown, is_masked_entry, found_by, found_codes}
 use Rattle.vax_flat.specs.StringAgree.{and_rest, IsBehind}
 use Rattle.vax_flat.proofs.StringState.{six, low_set, mode_low, conditions_low, continued_suspended, unpacked_suspended}

@@ -1,23 +1,22 @@
 -- A search in parts is the search.
-use Rattle.std.proofs.Common.{ℕ, zero, suc, ◌≡◌, ◌+◌, ◌-◌, ◌*◌, ◌/◌, ◌%◌, ◌^◌, ◌<◌, ◌≤◌, min, Bool, true, false, cond, not, ◌==◌, nat_lt, if◌then◌else◌, Option, Some, None, List, [], ◌∷◌, length, slice_index, refl, sym, ap, ◌∙◌, inl, inr, arith}
-use Rattle.std.specs.List.{position, position_from, position_or_len}
-use Rattle.std.proofs.lemmas.Bool.{cases_Bool, cases_lt, eqb-true, eq-eqb, ne_eqb, cases_eq}
+use Rattle.std.proofs.Common.{ℕ, zero, suc, ◌≡◌, ◌+◌, ◌-◌, ◌%◌, ◌^◌, ◌<◌, ◌≤◌, Bool, true, false, cond, not, ◌==◌, if◌then◌else◌, Option, Some, None, List, [], ◌∷◌, length, refl, sym, ap, ◌∙◌, inl, inr, arith}
+use Rattle.std.specs.List.{position, position_from}
+use Rattle.std.proofs.lemmas.Bool.{cases_Bool, eqb-true, eq-eqb, ne_eqb, cases_eq}
 use Rattle.std.proofs.lemmas.Iterator.Adapters.{position_from-zero}
 use Rattle.vax_space.specs.declared.Access.{Access}
 use Rattle.vax_space.specs.declared.Access.TheVariants.{Read}
 use Rattle.vax_space.specs.declared.Area.{Area}
-use Rattle.vax_space.specs.declared.Violation.{Violation}
 use Rattle.vax_space.specs.Reference.{page_of, may_access, violation, violation_at}
 use Rattle.vax_strpart.specs.declared.packing.Progress.{Progress}
 use Rattle.vax_strpart.specs.declared.packing.Layout.{Layout}
 use Rattle.vax_strpart.specs.declared.packing.Layout.TheVariants.{Moves, Compares, Searches, Scans, Translates}
-use Rattle.vax_strpart.specs.Packing.{layout_of, packed, packed_as, unpacked, IsProper, AreUnusedZero}
+use Rattle.vax_strpart.specs.Packing.{layout_of, packed, IsProper, AreUnusedZero}
 use Rattle.vax_flat.specs.declared.Flow.{Flow}
 use Rattle.vax_flat.specs.declared.Flow.TheVariants as flow
 use Rattle.vax_flat.specs.declared.Exception.TheVariants as exception
 use Rattle.vax_flat.specs.Memory.{after, byte_at, number, bytes_from}
 use Rattle.vax_flat.specs.State.{State, mode, with_conditions}
-use Rattle.vax_flat.specs.Accesses.{Accesses, Done, Leaf, Went, Found}
+use Rattle.vax_flat.specs.Accesses.{Accesses, Leaf, Went, Found}
 use Rattle.vax_flat.specs.Outcome.{Outcome, Ends, Raised, outcome_of, unless_violated}
 use Rattle.vax_flat.specs.Operand.{plus, read_at}
 use Rattle.vax_flat.specs.Bound.{LeavesNoPart}
@@ -25,7 +24,7 @@ use Rattle.vax_flat.specs.String.{low_registers, with_low, suspended, continued,
 use Rattle.vax_flat.specs.StringSearch.{Examines, Finishes, located, by_byte, is_sought, sought, whole_search, searched, search_room, if_found, search_end, search_run, search_part, found_in, found_codes}
 use Rattle.vax_flat.specs.StringAgree.{and_rest, IsBehind}
 use Rattle.vax_flat.proofs.Memory.{allowed_first}
-use Rattle.vax_flat.proofs.StringState.{six, low_twice, low_set, mode_low, conditions_low, continued_suspended, unpacked_suspended}
+use Rattle.vax_flat.proofs.StringState.{six, low_set, mode_low, conditions_low, continued_suspended, unpacked_suspended}
 
 -- a range within one page
 pub page_allowed : (areas : List Area) (addr len mode : ℕ) (access : Access) → addr < 2 ^ 32 → addr % 512 + len ≤ 512 → may_access areas (page_of addr) mode access ≡ true → violation areas addr len mode access ≡ None

@@ -7,9 +7,8 @@ use Rattle.vax_strpart.specs.declared.packing.Layout.{Layout}
 use Rattle.vax_strpart.specs.declared.packing.Layout.TheVariants.{Moves, Compares, Searches, Scans, Translates}
 use Rattle.vax_strpart.specs.Packing.{layout_of, packed, packed_as, unpacked, unpacked_as, IsProper}
 use Rattle.vax_strpart.proofs.PackingLaws.{unpacked-packed}
-use Rattle.vax_flat.specs.State.{State, register, with_conditions, mode}
-use Rattle.vax_flat.specs.Operand.{plus}
-use Rattle.vax_flat.specs.String.{low_registers, with_low, left, continued, suspended, part_done, no_part_done, IsReady}
+use Rattle.vax_flat.specs.State.{State, with_conditions, mode}
+use Rattle.vax_flat.specs.String.{low_registers, with_low, left, continued, suspended, IsReady}
 
 -- a list of sixteen
 pub data Sixteen : List ℕ → Type 0 where

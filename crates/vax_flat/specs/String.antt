@@ -1,6 +1,6 @@
 -- What string instructions share (VAX Architecture Reference Manual, character string instructions). Lengths and addresses of the strings, with
 -- how much is done of an instruction that was left between two of its units, are its progress; between two parts it stands in R0 to R5.
-use Rattle.std.specs.Prelude.{ℕ, ◌≡◌, ◌<◌, suc, zero, ◌+◌, ◌-◌, ◌*◌, ◌/◌, ◌%◌, ◌^◌, Bool, true, false, ◌==◌, nat_le, nat_lt, min, if◌then◌else◌, List, [], ◌∷◌, ◌++◌, length, take, drop, slice_index}
+use Rattle.std.specs.Prelude.{ℕ, ◌≡◌, ◌<◌, ◌+◌, ◌-◌, ◌*◌, ◌/◌, ◌%◌, ◌^◌, ◌==◌, nat_le, if◌then◌else◌, List, [], ◌∷◌, ◌++◌, length, slice_index}
 use Rattle.vax_word.specs.declared.Psl.{Psl}
 use Rattle.vax_word.specs.declared.Codes.{Codes}
 use Rattle.vax_strpart.specs.declared.packing.Progress.{Progress}
@@ -9,7 +9,7 @@ use Rattle.vax_flat.specs.declared.Flow.{Flow}
 use Rattle.vax_flat.specs.declared.Flow.TheVariants.{Done, More}
 use Rattle.vax_flat.specs.State.{State, register, with_register, with_psl, with_conditions, mode}
 use Rattle.vax_flat.specs.Accesses.{Accesses, ReadsRun, WritesRun, Leaf}
-use Rattle.vax_flat.specs.Operand.{plus, read_at, write_at}
+use Rattle.vax_flat.specs.Operand.{plus}
 
 -- R0 to R5
 unfoldable pub low_registers : State → List ℕ

@@ -1,7 +1,6 @@
 -- CMPC3 and CMPC5: two strings compared, the shorter filled
 -- (VAX MACRO and Instruction Set Reference Manual, character string instructions).
-use Rattle.std.specs.Prelude.{ℕ, suc, zero, ◌+◌, ◌-◌, ◌/◌, ◌%◌, ◌^◌, Bool, true, false, ◌==◌, nat_le, min, max, if◌then◌else◌, Option, Some, None, List, [], ◌∷◌, ◌++◌, length, slice_index, replicate}
-use Rattle.vax_word.specs.declared.Codes.{Codes}
+use Rattle.std.specs.Prelude.{ℕ, suc, zero, ◌+◌, ◌-◌, ◌/◌, ◌^◌, true, false, ◌==◌, nat_le, min, max, if◌then◌else◌, List, [], ◌∷◌, ◌++◌, slice_index, replicate}
 use Rattle.vax_word.specs.declared.Size.TheVariants.{B}
 use Rattle.vax_word.specs.Arithmetic.{compared}
 use Rattle.vax_space.specs.declared.Access.TheVariants.{Read}
@@ -9,7 +8,6 @@ use Rattle.vax_strpart.specs.declared.packing.Progress.{Progress}
 use Rattle.vax_strpart.specs.Kernels.{first_difference}
 use Rattle.vax_flat.specs.declared.Flow.{Flow}
 use Rattle.vax_flat.specs.declared.Rest.{Rest}
-use Rattle.vax_flat.specs.Memory.{after}
 use Rattle.vax_flat.specs.State.{State}
 use Rattle.vax_flat.specs.Accesses.{Accesses, Leaf}
 use Rattle.vax_flat.specs.Operand.{plus, read_at, check_at}

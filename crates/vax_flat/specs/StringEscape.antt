@@ -1,8 +1,7 @@
 -- MOVTUC: a string is moved by a table up to a byte that escapes
 -- (VAX MACRO and Instruction Set Reference Manual, character string instructions).
-use Rattle.std.specs.Prelude.{ℕ, ◌+◌, ◌-◌, ◌/◌, ◌%◌, Bool, true, false, not, ◌==◌, ◌&&◌, ◌||◌, nat_le, nat_lt, min, if◌then◌else◌, List, [], ◌∷◌, length, take}
+use Rattle.std.specs.Prelude.{ℕ, ◌+◌, ◌-◌, ◌/◌, Bool, true, false, not, ◌==◌, ◌&&◌, ◌||◌, nat_le, nat_lt, min, if◌then◌else◌, List, [], ◌∷◌, length, take}
 use Rattle.std.specs.List.{position_or_len}
-use Rattle.vax_word.specs.declared.Codes.{Codes}
 use Rattle.vax_word.specs.declared.Size.TheVariants.{W}
 use Rattle.vax_word.specs.Arithmetic.{compared}
 use Rattle.vax_strpart.specs.declared.packing.Progress.{Progress}

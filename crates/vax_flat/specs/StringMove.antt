@@ -1,7 +1,6 @@
 -- MOVC3, MOVC5, MOVTC and MOVTUC: a string is moved, as it is or by a table
 -- (VAX MACRO and Instruction Set Reference Manual, character string instructions).
-use Rattle.std.specs.Prelude.{◌≡◌, ℕ, ◌<◌, suc, zero, ◌+◌, ◌-◌, ◌*◌, ◌/◌, ◌%◌, ◌^◌, Bool, true, false, not, ◌==◌, ◌&&◌, ◌||◌, nat_le, nat_lt, min, max, if◌then◌else◌, Option, Some, None, List, [], ◌∷◌, ◌++◌, length, take, drop, replicate}
-use Rattle.vax_word.specs.declared.Codes.{Codes}
+use Rattle.std.specs.Prelude.{◌≡◌, ℕ, ◌<◌, suc, zero, ◌+◌, ◌-◌, ◌*◌, ◌/◌, ◌^◌, Bool, true, false, not, ◌==◌, ◌&&◌, ◌||◌, nat_le, nat_lt, min, max, if◌then◌else◌, None, List, [], ◌∷◌, length, take, drop, replicate}
 use Rattle.vax_word.specs.declared.Size.TheVariants.{W}
 use Rattle.vax_word.specs.Arithmetic.{compared}
 use Rattle.vax_space.specs.declared.Access.TheVariants.{Read, Write}

@@ -1,6 +1,6 @@
 -- LOCC, SKPC, SCANC and SPANC: the first byte of a string that is, or isn't, of a kind
 -- (VAX MACRO and Instruction Set Reference Manual, character string instructions).
-use Rattle.std.specs.Prelude.{ℕ, suc, zero, ◌+◌, ◌-◌, ◌%◌, Bool, true, false, not, ◌==◌, ◌&&◌, nat_le, nat_lt, min, if◌then◌else◌, Option, Some, None, List, [], ◌∷◌, ◌++◌, length, take, slice_index, bit_and, replicate}
+use Rattle.std.specs.Prelude.{ℕ, suc, zero, ◌-◌, Bool, true, false, not, ◌==◌, ◌&&◌, nat_le, nat_lt, min, if◌then◌else◌, Option, Some, None, List, [], ◌∷◌, ◌++◌, length, take, slice_index, bit_and, replicate}
 use Rattle.std.specs.List.{position, position_or_len}
 use Rattle.vax_word.specs.declared.Codes.{Codes}
 use Rattle.vax_space.specs.declared.Access.TheVariants.{Read}
