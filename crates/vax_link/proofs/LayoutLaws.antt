@@ -1,15 +1,18 @@
 -- Sections that grow piece by piece.
 use Rattle.std.proofs.Common.{◌≡◌, ℕ, zero, suc, ◌+◌, ◌*◌, ◌/◌, ◌%◌, ◌<◌, ◌≤◌, Bool, true, false, cond, List, [], ◌∷◌, ◌++◌, length, take, drop, get_or, map, refl, sym, ap, ◌∙◌, append_assoc, arith}
-use Rattle.std.specs.Prelude.{not, ◌&&◌, ◌==◌}
-use Rattle.std.specs.List.{fold}
+use Rattle.std.specs.Prelude.{not, ◌&&◌, ◌||◌, ◌==◌}
+use Rattle.std.specs.Borrow.{Bor}
+use Rattle.std.specs.Str.{bytes_eq}
+use Rattle.std.specs.List.{fold, list_any, position_or_len}
 use Rattle.std.specs.Int.{div_ceil}
-use Rattle.std.proofs.lemmas.List.{append-nil, length_push}
+use Rattle.std.proofs.lemmas.List.{append-nil, length_push, drop_more, drop_all}
+use Rattle.std.proofs.lemmas.Slice.Eq.{bytes_eq-Decides}
 use Rattle.std.proofs.lemmas.List.Sums.{fold-append}
 use Rattle.std.proofs.lemmas.Grind.{div_ceil_times}
 use Rattle.vax_module.specs.declared.Section.{Section}
 use Rattle.vax_link.specs.Names.{Name}
 use Rattle.vax_image.specs.declared.Base.{Base}
-use Rattle.vax_link.specs.Layout.{is_named, is_listed, with_name, names_of, aligned, behind_piece, end_behind, pages_of, is_control_block, page_behind, pages_from, end_page_from, first_page_of, offset_behind, addresses_from}
+use Rattle.vax_link.specs.Layout.{is_named, is_listed, with_name, names_of, aligned, behind_piece, end_behind, pages_of, is_control_block, page_behind, pages_from, end_page_from, first_page_of, names_in, offset_behind, addresses_from}
 
 -- the next multiple isn't below
 pub aligned_above : (align place : ℕ) → 0 < align → place ≤ aligned align place
@@ -106,3 +109,86 @@ addresses_more region pieces before [] piece = ap (λ (b : List Section). addres
 addresses_more region pieces before (first ∷ rest) piece =
     ap (λ (places : List ℕ). address_at region pieces before first ∷ places) (addresses_more region pieces (before ++ first ∷ []) rest piece)
     ∙ ap (λ (b : List Section). address_at region pieces before first ∷ (addresses_from region pieces (before ++ first ∷ []) rest ++ address_at region pieces b piece ∷ [])) (append_assoc before (first ∷ []) rest)
+
+pub addresses_long : (region : Base) (pieces before rest : List Section) → length (addresses_from region pieces before rest) ≡ length rest
+unfolding addresses_from
+addresses_long region pieces before [] = refl
+addresses_long region pieces before (piece ∷ rest) = ap suc (addresses_long region pieces (before ++ piece ∷ []) rest)
+
+-- ---- where a name stands
+
+passed : (p : Name → Bool) (x : Name) (xs : List Name) → p x ≡ false → position_or_len p (x ∷ xs) ≡ 1 + position_or_len p xs
+passed p x xs no = rw no refl
+
+met : (p : Name → Bool) (x : Name) (xs : List Name) → p x ≡ true → position_or_len p (x ∷ xs) ≡ 0
+met p x xs yes = rw yes refl
+
+names_behind : (names : List (Bor (List ℕ))) (i : ℕ) (x : Bor (List ℕ)) → i < length names → x ≡ get_or names i x → names_in (drop i names) ≡ x.now ∷ names_in (drop (i + 1) names)
+names_behind names i x lt is = ap names_in (drop_more names i x lt ∙ ap (λ (y : Bor (List ℕ)). y ∷ drop (i + 1) names) (sym is))
+
+pub place_on : (names : List (Bor (List ℕ))) (i : ℕ) (x : Bor (List ℕ)) (p : Name → Bool) (place : ℕ) → i < length names → x ≡ get_or names i x → p x.now ≡ false → place ≡ i + position_or_len p (names_in (drop i names))
+    → place ≡ (i + 1) + position_or_len p (names_in (drop (i + 1) names))
+place_on names i x p place lt is no so_far =
+    let here = ap (position_or_len p) (names_behind names i x lt is) ∙ passed p x.now (names_in (drop (i + 1) names)) no in
+    omega arith
+
+pub place_here : (names : List (Bor (List ℕ))) (i : ℕ) (x : Bor (List ℕ)) (p : Name → Bool) (place : ℕ) → i < length names → x ≡ get_or names i x → p x.now ≡ true → place ≡ i + position_or_len p (names_in (drop i names)) → i ≡ place
+place_here names i x p place lt is yes so_far =
+    let here = ap (position_or_len p) (names_behind names i x lt is) ∙ met p x.now (names_in (drop (i + 1) names)) yes in
+    omega arith
+
+pub place_past : (names : List (Bor (List ℕ))) (i : ℕ) (p : Name → Bool) (place : ℕ) → length names ≤ i → i ≤ length names → place ≡ i + position_or_len p (names_in (drop i names)) → length names ≡ place
+place_past names i p place past within so_far =
+    let none = ap (λ (ns : List (Bor (List ℕ))). position_or_len p (names_in ns)) (drop_all i names past) in
+    omega arith
+
+-- ---- each piece's name is among the names
+
+same_name : (name : Name) → bytes_eq name name ≡ true
+same_name name = (bytes_eq-Decides name name).1 refl
+
+either : (a b : Bool) → b ≡ true → (a || b) ≡ true
+either true b h = refl
+either false b h = h
+
+listed_behind : (names : List Name) (name : Name) → is_listed (names ++ name ∷ []) name ≡ true
+listed_behind [] name = ap (λ b. b || false) (same_name name)
+listed_behind (x ∷ names) name = either (bytes_eq x name) (is_listed (names ++ name ∷ []) name) (listed_behind names name)
+
+front_step : (a b c : Bool) → (a || b) ≡ true → (b ≡ true → c ≡ true) → (a || c) ≡ true
+front_step true b c h next = refl
+front_step false b c h next = next h
+
+listed_front : (names more : List Name) (name : Name) → is_listed names name ≡ true → is_listed (names ++ more) name ≡ true
+listed_front [] more name h = absurd cc
+listed_front (x ∷ names) more name h = front_step (bytes_eq x name) (is_listed names name) (is_listed (names ++ more) name) h (listed_front names more name)
+
+listed_with : (b : Bool) (names : List Name) (name other : Name) → is_listed names name ≡ true → is_listed (cond b names (names ++ other ∷ [])) name ≡ true
+listed_with true names name other h = h
+listed_with false names name other h = listed_front names (other ∷ []) name h
+
+listed_kept : (names : List Name) (pieces : List Section) (name : Name) → is_listed names name ≡ true → is_listed (fold with_name names pieces) name ≡ true
+listed_kept names [] name h = h
+listed_kept names (piece ∷ pieces) name h = listed_kept (with_name names piece) pieces name (listed_with (is_listed names piece.name) names name piece.name h)
+
+listed_new : (b : Bool) (names : List Name) (name : Name) → is_listed names name ≡ b → is_listed (cond b names (names ++ name ∷ [])) name ≡ true
+listed_new true names name is = is
+listed_new false names name is = listed_behind names name
+
+pub listed_piece : (front back : List Section) (piece : Section) → is_listed (names_of (front ++ (piece ∷ back))) piece.name ≡ true
+listed_piece front back piece =
+    let whole : names_of (front ++ (piece ∷ back)) ≡ fold with_name (with_name (names_of front) piece) back = fold-append with_name [] front (piece ∷ back) in
+    ap (λ (ns : List Name). is_listed ns piece.name) whole
+    ∙ listed_kept (with_name (names_of front) piece) back piece.name (listed_new (is_listed (names_of front) piece.name) (names_of front) piece.name refl)
+
+pub listed_at : (names : List Name) (i : ℕ) (d : Name) → i < length names → is_listed names (get_or names i d) ≡ true
+listed_at [] i d lt = absurd (omega arith)
+listed_at (x ∷ names) zero d lt = ap (λ b. b || is_listed names x) (same_name x)
+listed_at (x ∷ names) (suc i) d lt = either (bytes_eq x (get_or names i d)) (is_listed names (get_or names i d)) (listed_at names i d (omega arith))
+
+-- a section doesn't end behind its first pieces later than behind all
+pub prefix_ends : (name : Name) (align : ℕ) (front back : List Section) → 0 < align → end_behind name align 0 front ≤ end_behind name align 0 (front ++ back)
+prefix_ends name align front back some =
+    let whole : end_behind name align 0 (front ++ back) ≡ end_behind name align (end_behind name align 0 front) back = fold-append (behind_piece name align) 0 front back in
+    let grows = end_grows name align (end_behind name align 0 front) back some in
+    omega arith

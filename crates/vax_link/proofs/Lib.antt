@@ -1,2 +1,6 @@
 pub mod NameLaws
 pub mod LayoutLaws
+pub mod ImageLaws
+pub mod FillLaws
+pub mod FieldLaws
+pub mod LinkLaws

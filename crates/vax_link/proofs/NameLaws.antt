@@ -1,6 +1,6 @@
 -- Names that are defined one after the other, and where they lead.
-use Rattle.std.proofs.Common.{◌≡◌, ℕ, zero, suc, ◌+◌, ◌-◌, ◌<◌, ◌≤◌, Bool, true, false, cond, List, [], ◌∷◌, ◌++◌, length, take, drop, get_or, map, Option, Some, None, refl, sym, ap, subst, ◌∙◌, append_assoc, add-zero, arith}
-use Rattle.std.specs.Prelude.{ℤ, is_some, option_map, slice_get}
+use Rattle.std.proofs.Common.{◌≡◌, ℕ, zero, suc, ◌+◌, ◌-◌, ◌<◌, ◌≤◌, Bool, true, false, cond, List, [], ◌∷◌, ◌++◌, length, take, drop, get_or, map, Option, Some, None, refl, sym, ap, subst, ◌∙◌, append_assoc, add-zero, arith, ◌⊎◌, inl, inr}
+use Rattle.std.specs.Prelude.{ℤ, ◌||◌, is_some, option_map, slice_get}
 use Rattle.std.specs.Option.{option_or}
 use Rattle.std.specs.List.{find, flat_map, filter_map}
 use Rattle.std.specs.Map.{lookup}
@@ -19,7 +19,7 @@ use Rattle.vax_link.specs.declared.names.Definition.{Definition}
 use Rattle.vax_link.specs.declared.names.Names.{Names}
 use Rattle.vax_link.specs.declared.names.Chased.{Chased}
 use Rattle.vax_link.specs.declared.names.Chased.TheVariants.{Ends, Unknown, Circles}
-use Rattle.vax_link.specs.Names.{Name, Entries, definition_of, is_defined, repeated, or_else, entries_of, entries_from, transfers, second_transfer, duplicate, led, chased, external_name, low_longword, plus}
+use Rattle.vax_link.specs.Names.{Name, Entries, definition_of, is_defined, repeated, or_else, entries_of, entries_from, transfers, second_transfer, duplicate, led, leads, is_met, chased, chase, external_name, low_longword, plus}
 use Rattle.vax_link.specs.Tables.{IsTable, Adds}
 
 same_bool : (x y : Bool) → (x ≡ true → y ≡ true) → (y ≡ true → x ≡ true) → x ≡ y
@@ -162,36 +162,128 @@ entries_more modules i m h is =
 
 -- ---- where names lead
 
-pub chased_unknown : (modules : List Module) (entries : Entries) (left : ℕ) (name : Name) (offset : ℕ) → definition_of name entries ≡ None → chased modules entries (suc left) name offset ≡ Unknown
-unfolding chased
-chased_unknown modules entries left name offset none = rw none refl
+-- as many steps, whatever names they meet
+unfoldable pub stepped : List Module → Entries → ℕ → Name → ℕ → Chased
+stepped modules entries zero name offset = Circles
+stepped modules entries (suc left) name offset =
+    leads (definition_of name entries) offset (λ owner index more. stepped modules entries left (external_name modules owner index) (plus offset more))
 
-chased_next : (modules : List Module) (entries : Entries) (left : ℕ) (name : Name) (offset : ℕ) (d : Definition) (index : ℕ) (more : ℤ) → definition_of name entries ≡ Some d → d.value ≡ External index more
-    → chased modules entries (suc left) name offset ≡ chased modules entries left (external_name modules d.owner index) (plus offset (low_longword more))
-unfolding chased
-chased_next modules entries left name offset d index more found value = rw (found, value) refl
+pub stepped_unknown : (modules : List Module) (entries : Entries) (left : ℕ) (name : Name) (offset : ℕ) → definition_of name entries ≡ None → stepped modules entries (suc left) name offset ≡ Unknown
+unfolding stepped
+stepped_unknown modules entries left name offset none = rw none refl
 
-pub chased_on : (modules : List Module) (entries : Entries) (left : ℕ) (name : Name) (offset : ℕ) (d : Definition) (index : ℕ) (more : ℤ) (next : Name) (low : ℕ) → definition_of name entries ≡ Some d → d.value ≡ External index more
-    → next ≡ external_name modules d.owner index → low ≡ low_longword more → chased modules entries (suc left) name offset ≡ chased modules entries left next (plus offset low)
-chased_on modules entries left name offset d index more next low found value same lower =
-    chased_next modules entries left name offset d index more found value
-    ∙ ap (λ n. chased modules entries left n (plus offset (low_longword more))) (sym same)
-    ∙ ap (λ k. chased modules entries left next (plus offset k)) (sym lower)
+stepped_next : (modules : List Module) (entries : Entries) (left : ℕ) (name : Name) (offset : ℕ) (d : Definition) (index : ℕ) (more : ℤ) → definition_of name entries ≡ Some d → d.value ≡ External index more
+    → stepped modules entries (suc left) name offset ≡ stepped modules entries left (external_name modules d.owner index) (plus offset (low_longword more))
+unfolding stepped
+stepped_next modules entries left name offset d index more found value = rw (found, value) refl
+
+pub stepped_on : (modules : List Module) (entries : Entries) (left : ℕ) (name : Name) (offset : ℕ) (d : Definition) (index : ℕ) (more : ℤ) (next : Name) (low : ℕ) → definition_of name entries ≡ Some d → d.value ≡ External index more
+    → next ≡ external_name modules d.owner index → low ≡ low_longword more → stepped modules entries (suc left) name offset ≡ stepped modules entries left next (plus offset low)
+stepped_on modules entries left name offset d index more next low found value same lower =
+    stepped_next modules entries left name offset d index more found value
+    ∙ ap (λ n. stepped modules entries left n (plus offset (low_longword more))) (sym same)
+    ∙ ap (λ k. stepped modules entries left next (plus offset k)) (sym lower)
 
 led_elsewhere : (value : Value) (owner offset : ℕ) (next : ℕ → ℕ → ℕ → Chased) → ((index : ℕ) (more : ℤ) → value ≡ External index more → ⊥) → led owner value offset next ≡ Ends owner value offset
 led_elsewhere (Absolute n) owner offset next other = refl
 led_elsewhere (InSection section place) owner offset next other = refl
 led_elsewhere (External index more) owner offset next other = absurd (other index more refl)
 
-pub chased_end : (modules : List Module) (entries : Entries) (left : ℕ) (name : Name) (offset : ℕ) (d : Definition) → definition_of name entries ≡ Some d → ((index : ℕ) (more : ℤ) → d.value ≡ External index more → ⊥)
-    → chased modules entries (suc left) name offset ≡ Ends d.owner d.value offset
-unfolding chased
-chased_end modules entries left name offset d found other =
-    rw found (led_elsewhere d.value d.owner offset (λ owner index more. chased modules entries left (external_name modules owner index) (plus offset more)) other)
+pub stepped_end : (modules : List Module) (entries : Entries) (left : ℕ) (name : Name) (offset : ℕ) (d : Definition) → definition_of name entries ≡ Some d → ((index : ℕ) (more : ℤ) → d.value ≡ External index more → ⊥)
+    → stepped modules entries (suc left) name offset ≡ Ends d.owner d.value offset
+unfolding stepped
+stepped_end modules entries left name offset d found other =
+    rw found (led_elsewhere d.value d.owner offset (λ owner index more. stepped modules entries left (external_name modules owner index) (plus offset more)) other)
 
-pub chased_back : (modules : List Module) (entries : Entries) (name : Name) (offset : ℕ) → chased modules entries 0 name offset ≡ Circles
-unfolding chased
-chased_back modules entries name offset = refl
+pub stepped_back : (modules : List Module) (entries : Entries) (name : Name) (offset : ℕ) → stepped modules entries 0 name offset ≡ Circles
+unfolding stepped
+stepped_back modules entries name offset = refl
+
+-- the name stands for a place beside an external name: one that has been met, or the present one
+record LeadsOn (modules : List Module) (entries : Entries) (met : List Name) (name x : Name) : Type 0 where
+  definition : Definition
+  index : ℕ
+  more : ℤ
+  defined : definition_of x entries ≡ Some definition
+  value : definition.value ≡ External index more
+  next : (is_met (external_name modules definition.owner index) met ≡ true) ⊎ (external_name modules definition.owner index ≡ name)
+
+-- each name that has been met leads on
+abbrev AreMet : List Module → Entries → List Name → Name → Type 0
+AreMet modules entries met name = (x : Name) → is_met x met ≡ true → LeadsOn modules entries met name x
+
+goes_round : (modules : List Module) (entries : Entries) (met : List Name) (name : Name) → AreMet modules entries met name → is_met name met ≡ true
+    → (left : ℕ) (x : Name) (offset : ℕ) → is_met x met ≡ true → stepped modules entries left x offset ≡ Circles
+goes_round modules entries met name all back zero x offset there = stepped_back modules entries x offset
+goes_round modules entries met name all back (suc left) x offset there =
+    let on = all x there in
+    let next = external_name modules on.definition.owner on.index in
+    let met_too : is_met next met ≡ true = elim on.next [
+      | inl m ↦ m
+      | inr e ↦ ap (λ (n : Name). is_met n met) e ∙ back
+    ] in
+    stepped_next modules entries left x offset on.definition on.index on.more on.defined on.value ∙ goes_round modules entries met name all back left next (plus offset (low_longword on.more)) met_too
+
+either : (a b : Bool) → b ≡ true → (a || b) ≡ true
+either true b h = refl
+either false b h = h
+
+met_more : (b : Bool) (modules : List Module) (entries : Entries) (met : List Name) (name x : Name) (d : Definition) (index : ℕ) (more : ℤ) → AreMet modules entries met name → definition_of name entries ≡ Some d → d.value ≡ External index more
+    → bytes_eq x name ≡ b → (b || is_met x met) ≡ true → LeadsOn modules entries (name ∷ met) (external_name modules d.owner index) x
+met_more true modules entries met name x d index more all found value same there =
+    record {
+      definition = d;
+      index = index;
+      more = more;
+      defined = ap (λ (n : Name). definition_of n entries) ((bytes_eq-Decides x name).0 same) ∙ found;
+      value = value;
+      next = inr refl;
+    }
+met_more false modules entries met name x d index more all found value same there =
+    let on = all x there in
+    let next = external_name modules on.definition.owner on.index in
+    record {
+      definition = on.definition;
+      index = on.index;
+      more = on.more;
+      defined = on.defined;
+      value = on.value;
+      next = elim on.next [
+        | inl m ↦ inl (either (bytes_eq next name) (is_met next met) m)
+        | inr e ↦ inl (ap (λ b. b || is_met next met) ((bytes_eq-Decides next name).1 e))
+      ];
+    }
+
+same_led : (value : Value) (owner offset : ℕ) (f g : ℕ → ℕ → ℕ → Chased) → ((index : ℕ) (more : ℤ) → value ≡ External index more → f owner index (low_longword more) ≡ g owner index (low_longword more))
+    → led owner value offset f ≡ led owner value offset g
+same_led (Absolute n) owner offset f g same = refl
+same_led (InSection section place) owner offset f g same = refl
+same_led (External index more) owner offset f g same = same index more refl
+
+same_leads : (found : Option Definition) (offset : ℕ) (f g : ℕ → ℕ → ℕ → Chased)
+    → ((d : Definition) → found ≡ Some d → (index : ℕ) (more : ℤ) → d.value ≡ External index more → f d.owner index (low_longword more) ≡ g d.owner index (low_longword more)) → leads found offset f ≡ leads found offset g
+same_leads None offset f g same = refl
+same_leads (Some d) offset f g same = same_led d.value d.owner offset f g (same d refl)
+
+chased_at : (b : Bool) (modules : List Module) (entries : Entries) (left : ℕ) (met : List Name) (name : Name) (offset : ℕ) → is_met name met ≡ b → AreMet modules entries met name
+    → ((more : List Name) (next : Name) (place : ℕ) → AreMet modules entries more next → chased modules entries left more next place ≡ stepped modules entries left next place)
+    → cond b Circles (leads (definition_of name entries) offset (λ owner index more. chased modules entries left (name ∷ met) (external_name modules owner index) (plus offset more))) ≡ stepped modules entries (suc left) name offset
+unfolding stepped
+chased_at true modules entries left met name offset is all next = sym (goes_round modules entries met name all is (suc left) name offset is)
+chased_at false modules entries left met name offset is all next =
+    same_leads (definition_of name entries) offset (λ owner index more. chased modules entries left (name ∷ met) (external_name modules owner index) (plus offset more))
+    (λ owner index more. stepped modules entries left (external_name modules owner index) (plus offset more))
+    (λ d found index more value. next (name ∷ met) (external_name modules d.owner index) (plus offset (low_longword more)) (λ x there. met_more (bytes_eq x name) modules entries met name x d index more all found value refl there))
+
+chased_is : (modules : List Module) (entries : Entries) (left : ℕ) (met : List Name) (name : Name) (offset : ℕ) → AreMet modules entries met name → chased modules entries left met name offset ≡ stepped modules entries left name offset
+unfolding chased stepped
+chased_is modules entries zero met name offset all = refl
+chased_is modules entries (suc left) met name offset all =
+    chased_at (is_met name met) modules entries left met name offset refl all (λ more next place each. chased_is modules entries left more next place each)
+
+-- as many steps as there are definitions, and one more, lead where a name leads
+pub chase_is : (modules : List Module) (entries : Entries) (name : Name) → chase modules entries name ≡ stepped modules entries (suc (length entries)) name 0
+chase_is modules entries name = chased_is modules entries (suc (length entries)) [] name 0 (λ x there. absurd cc)
 
 -- ---- the first at fault among lists that stand one after the other
 

@@ -1,7 +1,7 @@
 -- Where sections lie. Sections of one name are one section, in the order in which the names first appear.
 use Rattle.std.specs.Prelude.{◌≡◌, ℕ, zero, suc, ◌+◌, ◌*◌, ◌<◌, Bool, true, false, not, ◌&&◌, ◌||◌, ◌==◌, nat_lt, if◌then◌else◌, List, [], ◌∷◌, ◌++◌, length, max, codes, slice_index, take, map}
 use Rattle.std.specs.Borrow.{Bor}
-use Rattle.std.specs.List.{flat_map, fold, list_any, position_or_len}
+use Rattle.std.specs.List.{flat_map, fold, list_any, position_or_len, zip}
 use Rattle.std.specs.Int.{div_ceil}
 use Rattle.std.specs.Str.{bytes_eq}
 use Rattle.vax_module.specs.declared.Section.{Section}
@@ -94,6 +94,10 @@ end_page_from region pieces page names = fold (page_behind region pieces) page n
 
 abbrev pub pages_of_names : Base → List Section → List ℕ
 pages_of_names region pieces = pages_from region pieces (origin region) (names_of pieces)
+
+-- the names of sections, each with the page at which it begins
+abbrev pub placed_names : Base → List Section → List (Name × ℕ)
+placed_names region pieces = zip (names_of pieces) (pages_of_names region pieces)
 
 -- the page at which a section begins
 abbrev pub first_page_of : Base → List Section → Name → ℕ

@@ -13,7 +13,7 @@ use Rattle.vax_image.specs.Image.{is_in}
 use Rattle.vax_link.specs.declared.LinkError.{LinkError}
 use Rattle.vax_link.specs.declared.LinkError.TheVariants.{Duplicate, Undefined, Pages, NoTransfer, Reach, NoMemory}
 use Rattle.vax_link.specs.Names.{Name, duplicate, undefined}
-use Rattle.vax_link.specs.Layout.{pieces_of, names_of, is_named, align_of, is_writable, aligned, is_control_block, first_page_of, pages_of, is_too_large}
+use Rattle.vax_link.specs.Layout.{pieces_of, is_named, align_of, is_writable, aligned, is_control_block, pages_of, placed_names, is_too_large}
 use Rattle.vax_link.specs.Values.{value_of, filled_from, unreached_from}
 
 -- a section's bytes with those of one more piece: gaps hold 0
@@ -32,24 +32,30 @@ protection region false false = 15
 protection Bare false true = 14
 protection User false true = 4
 
-abbrev pub area_of : Base → List Section → List (List ℕ) → Name → Area
-area_of region pieces filled name = record {
-  first = first_page_of region pieces name;
+-- the area of a section that begins at a page
+abbrev pub area_of : Base → List Section → List (List ℕ) → Name × ℕ → Area
+area_of region pieces filled (name, first) = record {
+  first = first;
   pages = pages_of pieces name;
   prot = protection region (is_control_block region name) (is_writable name pieces);
   bytes = bytes_of pieces filled name;
 }
 
--- the sections with bytes
-abbrev pub area_unless_empty : Base → List Section → List (List ℕ) → Name → Option Area
-area_unless_empty region pieces filled name = if pages_of pieces name == 0 then None else Some (area_of region pieces filled name)
+-- none for a section without bytes
+abbrev pub area_unless_empty : Base → List Section → List (List ℕ) → Name × ℕ → Option Area
+area_unless_empty region pieces filled (name, first) = if pages_of pieces name == 0 then None else Some (area_of region pieces filled (name, first))
+
+-- the control block, or another section
+abbrev pub is_chosen : Base → Bool → Name × ℕ → Bool
+is_chosen region true (name, first) = is_control_block region name
+is_chosen region false (name, first) = not (is_control_block region name)
 
 -- in ascending order: the control block first, then the others as they appear
-abbrev pub ordered : Base → List Name → List Name
-ordered region names = filter (is_control_block region) names ++ filter (λ name. not (is_control_block region name)) names
+abbrev pub ordered : Base → List (Name × ℕ) → List (Name × ℕ)
+ordered region names = filter (is_chosen region true) names ++ filter (is_chosen region false) names
 
 abbrev pub areas_of : Base → List Section → List (List ℕ) → List Area
-areas_of region pieces filled = filter_map (area_unless_empty region pieces filled) (ordered region (names_of pieces))
+areas_of region pieces filled = filter_map (area_unless_empty region pieces filled) (ordered region (placed_names region pieces))
 
 -- the address of the first transfer name
 unfoldable pub transfer_from : Base → List Module → ℕ → List Module → Option ℕ

@@ -1,6 +1,6 @@
 -- The names that modules share: which is defined twice, which isn't defined, and what a name leads to.
 use Rattle.std.specs.Prelude.{ℕ, zero, suc, ◌+◌, ◌%◌, ◌^◌, ℤ, Bool, true, false, not, ◌||◌, List, [], ◌∷◌, ◌++◌, length, map, slice_get, slice_index_or, Option, Some, None, option_map, is_some, if◌then◌else◌}
-use Rattle.std.specs.List.{filter_map, flat_map, find}
+use Rattle.std.specs.List.{filter_map, flat_map, find, list_any}
 use Rattle.std.specs.Map.{lookup}
 use Rattle.std.specs.Int.{w64, cast_unsigned}
 use Rattle.std.specs.Str.{bytes_eq}
@@ -82,15 +82,20 @@ abbrev pub leads : Option Definition → ℕ → (ℕ → ℕ → ℕ → Chased
 leads None offset next = Unknown
 leads (Some definition) offset next = led definition.owner definition.value offset next
 
--- Where a value leads: a name that stands for a place beside another external name leads on to that. Behind more
--- definitions than there are it has come back to a name that it has already met.
-unfoldable pub chased : List Module → Entries → ℕ → Name → ℕ → Chased
-chased modules entries zero name offset = Circles
-chased modules entries (suc left) name offset =
-    leads (definition_of name entries) offset (λ owner index more. chased modules entries left (external_name modules owner index) (plus offset more))
+abbrev pub is_met : Name → List Name → Bool
+is_met name met = list_any (bytes_eq name) met
+
+-- Where a name leads, when others have been met on the way to it: one that stands for a place beside an external name leads
+-- on to that, and one that has been met leads in a circle. Each step meets another name that is defined, so there are no
+-- more steps than definitions.
+unfoldable pub chased : List Module → Entries → ℕ → List Name → Name → ℕ → Chased
+chased modules entries zero met name offset = Circles
+chased modules entries (suc left) met name offset =
+    if is_met name met then Circles
+    else leads (definition_of name entries) offset (λ owner index more. chased modules entries left (name ∷ met) (external_name modules owner index) (plus offset more))
 
 abbrev pub chase : List Module → Entries → Name → Chased
-chase modules entries name = chased modules entries (suc (length entries)) name 0
+chase modules entries name = chased modules entries (suc (length entries)) [] name 0
 
 abbrev pub comes_back : Chased → Bool
 comes_back (Ends owner value offset) = false

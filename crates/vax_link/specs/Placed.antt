@@ -1,16 +1,13 @@
 -- What the code keeps of where sections lie, and of what names and fields are there.
 use Rattle.std.specs.Prelude.{◌≡◌, ℕ, ◌<◌, List, length, map, slice_index}
 use Rattle.std.specs.Global.{Vec}
-use Rattle.vax_lex.specs.declared.value.Value.{Value}
 use Rattle.vax_module.specs.declared.Section.{Section}
 use Rattle.vax_module.specs.declared.Module.{Module}
-use Rattle.vax_module.specs.Formed.{IsKnown}
 use Rattle.vax_image.specs.declared.Base.{Base}
 use Rattle.vax_link.specs.declared.placed.Layout.{Layout}
 use Rattle.vax_link.specs.declared.fields.Values.{Values}
-use Rattle.vax_link.specs.Names.{module_at}
 use Rattle.vax_link.specs.Layout.{pieces_of, first_piece, sections_in}
-use Rattle.vax_link.specs.Values.{external_value}
+use Rattle.vax_link.specs.Values.{name_value}
 
 -- the bytes of pieces
 abbrev pub bytes_in : List (Vec ℕ) → List (List ℕ)
@@ -29,17 +26,12 @@ pub record IsLayout (layout : Layout) (region : Base) (modules : List Module) : 
 
 -- the values of each module's external names
 abbrev pub external_values : Base → List Module → List (List ℕ)
-external_values region modules = map (λ m. map (external_value region modules) m.externals) modules
+external_values region modules = map (λ m. map (name_value region modules) m.externals) modules
 
 -- what the names of these modules stand for, where they lie
 pub record IsValues (values : Values) (region : Base) (modules : List Module) : Type 0 where
   pub layout : IsLayout values.layout region modules
   pub externals : bytes_in values.externals.items ≡ external_values region modules
-
--- a value of a module, whose section and external name are there
-pub record IsValueOf (modules : List Module) (owner : ℕ) (value : Value) : Type 0 where
-  pub there : owner < length modules
-  pub known : IsKnown (length (module_at modules owner).sections) (length (module_at modules owner).externals) value
 
 -- these are the bytes of the pieces, as many of each as it has
 abbrev pub IsFilling : List Section → List (List ℕ) → Type 0

@@ -1,5 +1,5 @@
 -- What values, and the fields that hold them, are where the modules lie.
-use Rattle.std.specs.Prelude.{ℕ, zero, suc, ◌+◌, ◌-◌, ◌*◌, ◌%◌, ◌^◌, Bool, true, false, not, ◌&&◌, ◌||◌, nat_lt, nat_le, if◌then◌else◌, List, [], ◌∷◌, ◌++◌, length, take, drop, map, Option, Some, None, slice_index, slice_index_or, slice_set}
+use Rattle.std.specs.Prelude.{ℕ, zero, suc, ◌+◌, ◌-◌, ◌*◌, ◌%◌, ◌^◌, ◌≡◌, ◌≤◌, Bool, true, false, ◌||◌, ◌==◌, nat_lt, nat_le, if◌then◌else◌, List, [], ◌∷◌, ◌++◌, length, take, drop, map, Option, Some, None, slice_index}
 use Rattle.std.specs.List.{fold}
 use Rattle.byteorder.specs.Endian.{little_bytes}
 use Rattle.vax_lex.specs.declared.value.Value.{Value}
@@ -12,7 +12,7 @@ use Rattle.vax_module.specs.Formed.{width_of}
 use Rattle.vax_image.specs.declared.Base.{Base}
 use Rattle.vax_link.specs.declared.names.Chased.{Chased}
 use Rattle.vax_link.specs.declared.names.Chased.TheVariants.{Ends, Unknown, Circles}
-use Rattle.vax_link.specs.Names.{Name, Entries, entries_from, external_name, low_longword, plus, chase}
+use Rattle.vax_link.specs.Names.{Name, entries_from, module_at, low_longword, plus, chase}
 use Rattle.vax_link.specs.Layout.{pieces_of, first_piece, addresses}
 
 abbrev pub section_address : Base → List Module → ℕ → ℕ → ℕ
@@ -29,14 +29,18 @@ chased_value region modules (Ends owner value offset) = plus (known_value region
 chased_value region modules Unknown = 0
 chased_value region modules Circles = 0
 
-unfoldable pub external_value : Base → List Module → Name → ℕ
-external_value region modules name = chased_value region modules (chase modules (entries_from 0 modules) name)
+unfoldable pub name_value : Base → List Module → Name → ℕ
+name_value region modules name = chased_value region modules (chase modules (entries_from 0 modules) name)
+
+-- the value of an external name of a module
+abbrev pub value_of_external : Base → List Module → ℕ → ℕ → ℕ
+value_of_external region modules owner index = slice_index (map (name_value region modules) (module_at modules owner).externals) index
 
 -- the low 32 bits of what a value of a module stands for
 unfoldable pub value_of : Base → List Module → ℕ → Value → ℕ
 value_of region modules owner (Absolute n) = low_longword n
 value_of region modules owner (InSection section place) = plus (section_address region modules owner section) (low_longword place)
-value_of region modules owner (External index place) = plus (external_value region modules (external_name modules owner index)) (low_longword place)
+value_of region modules owner (External index place) = plus (value_of_external region modules owner index) (low_longword place)
 
 -- ---- fields
 
@@ -75,18 +79,26 @@ field_address region modules owner r = plus (section_address region modules owne
 abbrev pub field_content : Base → List Module → ℕ → Reloc → ℕ
 field_content region modules owner r = content r.kind (field_address region modules owner r) (value_of region modules owner r.target)
 
--- a module's sections with one more relocated field filled in
-abbrev pub with_reloc : Base → List Module → ℕ → List (List ℕ) → Reloc → List (List ℕ)
-with_reloc region modules owner sections r =
-    slice_set sections r.section (with_field (slice_index_or sections r.section []) r.offset (width_of r.kind) (field_content region modules owner r))
+-- the field lies within the bytes of the section with this number, if it is in that
+abbrev pub IsWithin : ℕ → List ℕ → Reloc → Type 0
+IsWithin number bytes r = r.section ≡ number → r.offset + width_of r.kind ≤ length bytes
 
-abbrev pub filled_module : Base → List Module → ℕ → Module → List (List ℕ)
-filled_module region modules owner m = fold (with_reloc region modules owner) (map (λ s. s.bytes) m.sections) m.relocs
+-- the bytes of a module's section with one more relocated field filled in, if the section has it
+abbrev pub with_reloc : Base → List Module → ℕ → ℕ → List ℕ → Reloc → List ℕ
+with_reloc region modules owner number bytes r =
+    if r.section == number then with_field bytes r.offset (width_of r.kind) (field_content region modules owner r) else bytes
+
+-- the bytes of a module's sections, from one number on
+unfoldable pub filled_sections_from : Base → List Module → ℕ → List Reloc → ℕ → List (List ℕ) → List (List ℕ)
+filled_sections_from region modules owner relocs number [] = []
+filled_sections_from region modules owner relocs number (bytes ∷ rest) =
+    fold (with_reloc region modules owner number) bytes relocs ∷ filled_sections_from region modules owner relocs (suc number) rest
 
 -- the bytes of all pieces
 unfoldable pub filled_from : Base → List Module → ℕ → List Module → List (List ℕ)
 filled_from region modules owner [] = []
-filled_from region modules owner (m ∷ rest) = filled_module region modules owner m ++ filled_from region modules (suc owner) rest
+filled_from region modules owner (m ∷ rest) =
+    filled_sections_from region modules owner m.relocs 0 (map (λ s. s.bytes) m.sections) ++ filled_from region modules (suc owner) rest
 
 -- the lower of two addresses, if there are
 abbrev pub lower : Option ℕ → ℕ → Option ℕ

@@ -1,7 +1,8 @@
 //! The areas of an image.
-ghost use Rattle.std.specs.Prelude.{◌≡◌, ◌++◌, [], ◌∷◌, IfOk, OnOk};
-ghost use Rattle.std.specs.List.{filter_map};
-ghost use Rattle.vax_link.specs.Layout.{first_page_of, sections_in};
+ghost use Rattle.std.specs.Prelude.{◌≡◌, ◌≤◌, ◌++◌, IfOk, OnOk};
+ghost use Rattle.std.specs.List.{filter, filter_map};
+ghost use Rattle.vax_link.specs.Layout as lay;
+ghost use Rattle.vax_link.specs.Layout.{sections_in};
 ghost use Rattle.vax_link.specs.Placed.{bytes_in, IsFilling};
 ghost use Rattle.vax_link.specs.Linked as spec;
 
@@ -9,6 +10,7 @@ use crate::layout::{align_of, is_control_block};
 use crate::placed::Layout;
 use std::alloc::{AllocError, Global};
 use vax_image::Base;
+use vax_module::Section;
 use vax_space::Area;
 
 /// A section's protection code: UW or URKW where it may be written, UR where it may not, and KW for the system control
@@ -47,34 +49,63 @@ fn bytes_of(
     Ok(joined)
 }
 
-/// Appends a section's area, if it has bytes.
-fn push_area(
+/// Whether some piece of a section may be written.
+fn is_writable(pieces: &[&Section], name: &[u8]) -> bool
+    ensures { result ≡ lay.is_writable name.now (sections_in pieces.now) }
+{
+    for piece in pieces {
+        if piece.name.as_slice() == name && piece.write {
+            return true;
+        }
+    }
+    false
+}
+
+/// A section's area, if it has bytes.
+fn area_of(
     alloc: Global,
-    areas: &mut Vec<Area>,
     layout: &Layout,
     filled: &[Vec<u8>],
     name: &[u8],
     first: u32,
-) -> Result<(), AllocError>
+) -> Result<Option<Area>, AllocError>
     requires filling { IsFilling (sections_in layout.now.pieces.items) (bytes_in filled.now) }
-    requires first { first ≡ first_page_of layout.now.base (sections_in layout.now.pieces.items) name.now }
-    ensures { OnOk result (areas.new.items ≡ areas.old.items ++ filter_map (spec.area_unless_empty layout.now.base (sections_in layout.now.pieces.items) (bytes_in filled.now)) (name.now ∷ [])) }
+    requires small { lay.pages_of (sections_in layout.now.pieces.items) name.now ≤ 0x400800 }
+    ensures { IfOk result (λ area. area ≡ spec.area_unless_empty layout.now.base (sections_in layout.now.pieces.items) (bytes_in filled.now) (name.now, first)) }
 {
     let bytes = bytes_of(alloc, layout, filled, name)?;
     if bytes.is_empty() {
-        return Ok(());
+        return Ok(None);
     }
     let control = is_control_block(layout.base, name);
-    let write = layout
-        .pieces
-        .iter()
-        .any(|piece| piece.name.as_slice() == name && piece.write);
-    areas.push(Area {
+    let write = is_writable(&layout.pieces, name);
+    Ok(Some(Area {
         first,
         pages: bytes.len().div_ceil(512) as u32,
         prot: protection(layout.base, control, write),
         bytes: bytes.into(),
-    })?;
+    }))
+}
+
+/// Appends the area of the control block, or those of the other sections as they appear.
+fn push_areas(
+    alloc: Global,
+    areas: &mut Vec<Area>,
+    layout: &Layout,
+    filled: &[Vec<u8>],
+    control: bool,
+) -> Result<(), AllocError>
+    requires { IsFilling (sections_in layout.now.pieces.items) (bytes_in filled.now) }
+    ensures { let pieces = sections_in layout.now.pieces.items in OnOk result (areas.new.items ≡ areas.old.items ++ filter_map (spec.area_unless_empty layout.now.base pieces (bytes_in filled.now)) (filter (spec.is_chosen layout.now.base control) (lay.placed_names layout.now.base pieces))) }
+{
+    for (number, name) in layout.names.iter().enumerate() {
+        if is_control_block(layout.base, name) == control {
+            let first = layout.pages.get(number).copied().unwrap_or(0);
+            if let Some(area) = area_of(alloc, layout, filled, name, first)? {
+                areas.push(area)?;
+            }
+        }
+    }
     Ok(())
 }
 
@@ -88,15 +119,7 @@ pub(crate) fn areas_of(
     ensures { IfOk result (λ areas. areas.items ≡ spec.areas_of layout.now.base (sections_in layout.now.pieces.items) (bytes_in filled.now)) }
 {
     let mut areas = Vec::new(alloc);
-    for (name, first) in layout.names.iter().zip(&layout.pages) {
-        if is_control_block(layout.base, name) {
-            push_area(alloc, &mut areas, layout, filled, name, *first)?;
-        }
-    }
-    for (name, first) in layout.names.iter().zip(&layout.pages) {
-        if !is_control_block(layout.base, name) {
-            push_area(alloc, &mut areas, layout, filled, name, *first)?;
-        }
-    }
+    push_areas(alloc, &mut areas, layout, filled, true)?;
+    push_areas(alloc, &mut areas, layout, filled, false)?;
     Ok(areas)
 }

@@ -1,18 +1,19 @@
 //! The fields that the linker fills in.
-ghost use Rattle.std.specs.Prelude.{◌≡◌, ◌≤◌, ◌<◌, ◌+◌, ◌++◌, length, List, All, IfOk, OnOk, None};
+ghost use Rattle.std.specs.Prelude.{◌≡◌, ◌≤◌, ◌+◌, ◌++◌, length, map, List, All, IfOk, OnOk, None, Some, slice_get};
+ghost use Rattle.std.specs.List.{fold};
 ghost use Rattle.vax_image.specs.declared.Base.{Base};
 ghost use Rattle.vax_module.specs.declared.Module.{Module};
-ghost use Rattle.vax_module.specs.Formed.{Formed, width_of};
-ghost use Rattle.vax_link.specs.Names.{entries_from, module_at};
+ghost use Rattle.vax_module.specs.Formed.{Formed, IsFieldOf, width_of};
+ghost use Rattle.vax_link.specs.Names.{entries_from};
 ghost use Rattle.vax_link.specs.Tables.{IsTable};
-ghost use Rattle.vax_link.specs.Placed.{bytes_in, IsLayout, IsValues, IsValueOf};
+ghost use Rattle.vax_link.specs.Placed.{bytes_in, IsLayout, IsValues};
 ghost use Rattle.vax_link.specs.Values as spec;
 
 use crate::names::{Chased, Names, low_longword};
 use crate::placed::Layout;
 use byteorder::{ByteOrder, LittleEndian};
 use std::alloc::{AllocError, Global};
-use vax_module::{Module, Reloc, RelocKind, Value};
+use vax_module::{Bytes, Module, Reloc, RelocKind, Section, Value};
 
 /// The values of names and fields, where the modules lie.
 #[derive(Drop)]
@@ -76,85 +77,80 @@ impl<'a> Values<'a> {
         layout: Layout<'a>,
         names: &Names<'a>,
     ) -> Result<Values<'a>, AllocError>
-        ensures { let modules = names.now.modules.now in (region : Base) → IsLayout layout.entry region modules → IsTable names.now (entries_from 0 modules) → All Formed modules → IfOk result (λ values. IsValues values region modules) }
+        ensures { let modules = names.now.modules.now in (region : Base) → IsLayout layout.entry region modules → IsTable names.now (entries_from 0 modules) → IfOk result (λ values. IsValues values region modules) }
     {
         let mut externals = Vec::new(alloc);
         for module in names.modules {
-            let mut values = Vec::new(alloc);
-            for name in module.externals.as_slice() {
-                values.push(external_value(&layout, names, name.as_slice()))?;
-            }
-            externals.push(values)?;
+            externals.push(values_of_names(
+                alloc,
+                &layout,
+                names,
+                module.externals.as_slice(),
+            )?)?;
         }
         Ok(Values { layout, externals })
     }
 
     /// The low 32 bits of what a value of a module stands for.
     pub(crate) fn value_of(&self, owner: u32, value: Value) -> u32
-        ensures { (region : Base) (modules : List Module) → IsValues self.now region modules → IsValueOf modules owner value → result ≡ spec.value_of region modules owner value }
+        ensures { (region : Base) (modules : List Module) → IsValues self.now region modules → result ≡ spec.value_of region modules owner value }
     {
         match value {
-            Value::External { index, offset } => {
-                let external = match self.externals.get(owner as usize) {
-                    None => 0,
-                    Some(values) => values.get(index as usize).copied().unwrap_or(0),
-                };
-                external.wrapping_add(low_longword(offset))
+            Value::Absolute(n) => low_longword(n),
+            Value::Section { section, offset } => {
+                section_address(&self.layout, owner, section).wrapping_add(low_longword(offset))
             }
-            _ => known_value(&self.layout, owner, value),
+            Value::External { index, offset } => self
+                .external_value(owner, index)
+                .wrapping_add(low_longword(offset)),
+        }
+    }
+
+    /// The value of an external name of a module.
+    fn external_value(&self, owner: u32, index: u32) -> u32
+        ensures { (region : Base) (modules : List Module) → IsValues self.now region modules → result ≡ spec.value_of_external region modules owner index }
+    {
+        match self.externals.get(owner as usize) {
+            None => 0,
+            Some(values) => match values.get(index as usize) {
+                None => 0,
+                Some(value) => *value,
+            },
         }
     }
 
     /// The address of a field of a module.
-    fn field_address(&self, owner: u32, reloc: &Reloc) -> u32
-        ensures { (region : Base) (modules : List Module) → IsValues self.now region modules → owner < length modules → reloc.now.section < length (module_at modules owner).sections → result ≡ spec.field_address region modules owner reloc.now }
+    fn field_address(&self, owner: u32, reloc: Reloc) -> u32
+        ensures { (region : Base) (modules : List Module) → IsValues self.now region modules → result ≡ spec.field_address region modules owner reloc }
     {
         section_address(&self.layout, owner, reloc.section).wrapping_add(reloc.offset)
     }
 
     /// The lowest address of a field out of reach.
     pub(crate) fn unreached(&self, modules: &[Module]) -> Option<u32>
-        requires few { length modules.now ≤ 8 }
-        requires formed { All Formed modules.now }
+        requires { length modules.now ≤ 8 }
         ensures { (region : Base) → IsValues self.now region modules.now → result ≡ spec.unreached_from region modules.now 0 None modules.now }
     {
         let mut found = None;
         for (owner, module) in modules.iter().enumerate() {
-            for reloc in module.relocs.as_slice() {
-                let address = self.field_address(owner as u32, reloc);
-                let value = self.value_of(owner as u32, reloc.target);
-                if !is_in_reach(reloc.kind, address, value) {
-                    found = lower(found, address);
-                }
-            }
+            found = self.unreached_of(owner as u32, module.relocs.as_slice(), found);
         }
         found
     }
 
-    /// A module's sections with the relocated fields filled in.
-    fn filled_module(
-        &self,
-        alloc: Global,
-        owner: u32,
-        module: &Module,
-        filled: &mut Vec<Vec<u8>>,
-    ) -> Result<(), AllocError>
-        requires { Formed «module».now }
-        ensures { (region : Base) (modules : List Module) → IsValues self.now region modules → owner < length modules → module_at modules owner ≡ «module».now → OnOk result (bytes_in filled.new.items ≡ bytes_in filled.old.items ++ spec.filled_module region modules owner «module».now) }
+    /// The lowest of an address, if there is one, and of those of a module's fields out of reach.
+    fn unreached_of(&self, owner: u32, relocs: &[Reloc], found: Option<u32>) -> Option<u32>
+        ensures { (region : Base) (modules : List Module) → IsValues self.now region modules → result ≡ fold (spec.with_reach region modules owner) found relocs.now }
     {
-        let first = filled.len();
-        for section in module.sections.as_slice() {
-            filled.push(Vec::from_slice(alloc, section.bytes.as_slice())?)?;
-        }
-        for reloc in module.relocs.as_slice() {
-            let address = self.field_address(owner, reloc);
+        let mut lowest = found;
+        for reloc in relocs {
+            let address = self.field_address(owner, *reloc);
             let value = self.value_of(owner, reloc.target);
-            let n = content(reloc.kind, address, value);
-            if let Some(bytes) = filled.get_mut(first + reloc.section as usize) {
-                put_field(bytes, reloc.offset, reloc.kind, n);
+            if !is_in_reach(reloc.kind, address, value) {
+                lowest = lower(lowest, address);
             }
         }
-        Ok(())
+        lowest
     }
 
     /// The bytes of all sections, module by module, with the relocated fields filled in.
@@ -169,9 +165,59 @@ impl<'a> Values<'a> {
     {
         let mut filled = Vec::new(alloc);
         for (owner, module) in modules.iter().enumerate() {
-            self.filled_module(alloc, owner as u32, module, &mut filled)?;
+            let relocs = module.relocs.as_slice();
+            self.push_filled(
+                alloc,
+                owner as u32,
+                relocs,
+                module.sections.as_slice(),
+                &mut filled,
+            )?;
         }
         Ok(filled)
+    }
+
+    /// Appends the bytes of a module's sections, with its relocated fields filled in.
+    fn push_filled(
+        &self,
+        alloc: Global,
+        owner: u32,
+        relocs: &[Reloc],
+        sections: &[Section],
+        filled: &mut Vec<Vec<u8>>,
+    ) -> Result<(), AllocError>
+        requires { All (IsFieldOf sections.now) relocs.now }
+        ensures { (region : Base) (modules : List Module) → IsValues self.now region modules → OnOk result (bytes_in filled.new.items ≡ bytes_in filled.old.items ++ spec.filled_sections_from region modules owner relocs.now 0 (map (λ s. s.bytes) sections.now)) }
+    {
+        for (number, section) in sections.iter().enumerate() {
+            let bytes = section.bytes.as_slice();
+            filled.push(self.filled_section(alloc, owner, relocs, number, bytes)?)?;
+        }
+        Ok(())
+    }
+
+    /// A section's bytes with the relocated fields filled in that it has.
+    fn filled_section(
+        &self,
+        alloc: Global,
+        owner: u32,
+        relocs: &[Reloc],
+        number: usize,
+        section: &[u8],
+    ) -> Result<Vec<u8>, AllocError>
+        requires { All (spec.IsWithin number section.now) relocs.now }
+        ensures { (region : Base) (modules : List Module) → IsValues self.now region modules → IfOk result (λ bytes. bytes.items ≡ fold (spec.with_reloc region modules owner number) section.now relocs.now) }
+    {
+        let mut bytes = Vec::from_slice(alloc, section)?;
+        for reloc in relocs {
+            if reloc.section as usize == number {
+                let address = self.field_address(owner, *reloc);
+                let value = self.value_of(owner, reloc.target);
+                let n = content(reloc.kind, address, value);
+                put_field(&mut bytes, reloc.offset, reloc.kind, n);
+            }
+        }
+        Ok(bytes)
     }
 
     /// Where the modules lie.
@@ -188,26 +234,35 @@ fn lower(found: Option<u32>, address: u32) -> Option<u32>
 {
     match found {
         None => Some(address),
-        Some(least) => Some(least.min(address)),
+        Some(least) => {
+            if address < least {
+                Some(address)
+            } else {
+                Some(least)
+            }
+        }
     }
 }
 
 /// Where a section of a module lies.
 fn section_address(layout: &Layout, owner: u32, section: u32) -> u32
-    ensures { (region : Base) (modules : List Module) → IsLayout layout.now region modules → owner < length modules → section < length (module_at modules owner).sections → result ≡ spec.section_address region modules owner section }
+    ensures { (region : Base) (modules : List Module) → IsLayout layout.now region modules → result ≡ spec.section_address region modules owner section }
 {
     match layout.firsts.get(owner as usize) {
         None => 0,
-        Some(first) => match layout.addresses.get(first.wrapping_add(section as usize)) {
+        Some(first) => match layout.addresses.get(*first..) {
             None => 0,
-            Some(address) => *address,
+            Some(addresses) => match addresses.get(section as usize) {
+                None => 0,
+                Some(address) => *address,
+            },
         },
     }
 }
 
 /// The value of a number, or of a place in a section.
 fn known_value(layout: &Layout, owner: u32, value: Value) -> u32
-    ensures { (region : Base) (modules : List Module) → IsLayout layout.now region modules → IsValueOf modules owner value → result ≡ spec.known_value region modules owner value }
+    ensures { (region : Base) (modules : List Module) → IsLayout layout.now region modules → result ≡ spec.known_value region modules owner value }
 {
     match value {
         Value::Absolute(n) => low_longword(n),
@@ -221,9 +276,9 @@ fn known_value(layout: &Layout, owner: u32, value: Value) -> u32
     }
 }
 
-/// The value of an external name.
-fn external_value<'a>(layout: &Layout<'a>, names: &Names<'a>, name: &'a [u8]) -> u32
-    ensures { let modules = names.now.modules.now in (region : Base) → IsLayout layout.now region modules → IsTable names.now (entries_from 0 modules) → All Formed modules → result ≡ spec.external_value region modules name.entry.now }
+/// The value of a name.
+fn name_value<'a>(layout: &Layout<'a>, names: &Names<'a>, name: &'a [u8]) -> u32
+    ensures { let modules = names.now.modules.now in (region : Base) → IsLayout layout.now region modules → IsTable names.now (entries_from 0 modules) → result ≡ spec.name_value region modules name.entry.now }
 {
     match names.chase(name) {
         Chased::Ends(owner, value, offset) => {
@@ -232,4 +287,20 @@ fn external_value<'a>(layout: &Layout<'a>, names: &Names<'a>, name: &'a [u8]) ->
         Chased::Unknown => 0,
         Chased::Circles => 0,
     }
+}
+
+/// The values of external names.
+fn values_of_names<'a>(
+    alloc: Global,
+    layout: &Layout<'a>,
+    names: &Names<'a>,
+    externals: &'a [Bytes],
+) -> Result<Vec<u32>, AllocError>
+    ensures { let modules = names.now.modules.now in (region : Base) → IsLayout layout.now region modules → IsTable names.now (entries_from 0 modules) → IfOk result (λ values. values.items ≡ map (spec.name_value region modules) externals.entry.now) }
+{
+    let mut values = Vec::new(alloc);
+    for name in externals {
+        values.push(name_value(layout, names, name.as_slice()))?;
+    }
+    Ok(values)
 }

@@ -1,5 +1,7 @@
 //! Where sections lie.
-ghost use Rattle.std.specs.Prelude.{◌≡◌, ◌≢◌, ◌<◌, ◌≤◌, ◌+◌, ◌*◌, true, false, IfOk, IfSome, IfNone, MatchOption, length, All};
+ghost use Rattle.std.specs.Prelude.{◌≡◌, ◌≢◌, ◌<◌, ◌≤◌, ◌+◌, ◌*◌, true, false, IfOk, IfSome, IfNone, MatchOption, length, All, slice_index};
+ghost use Rattle.std.specs.List.{position_or_len};
+ghost use Rattle.std.specs.Str.{bytes_eq};
 ghost use Rattle.vax_link.specs.Layout as spec;
 ghost use Rattle.vax_image.specs.declared.Base.{Base};
 ghost use Rattle.vax_link.specs.Layout.{sections_in, names_in};
@@ -78,17 +80,18 @@ pub(crate) fn align_of(pieces: &[&Section], name: &[u8]) -> u16
 }
 
 /// The next multiple of an alignment.
-pub(crate) fn aligned(align: u16, place: u32) -> u32
+fn aligned(align: u16, place: u32) -> u32
     requires some { 1 ≤ align }
     requires small { place ≤ 0x1000000 }
-    ensures { result ≡ spec.aligned align place }
+    ensures next { result ≡ spec.aligned align place }
+    ensures small { result ≤ 0x1010000 }
 {
     let align = u32::from(align);
     place.div_ceil(align) * align
 }
 
 /// Where a section ends behind these pieces; none where that is past the most bytes of a section.
-pub(crate) fn end_of(pieces: &[&Section], name: &[u8], align: u16) -> Option<u32>
+fn end_of(pieces: &[&Section], name: &[u8], align: u16) -> Option<u32>
     requires { 1 ≤ align }
     ensures none { IfNone result (0x1000000 < spec.end_behind name.now align 0 (sections_in pieces.now)) }
     ensures some { IfSome result (λ end. end ≡ spec.end_behind name.now align 0 (sections_in pieces.now)) }
@@ -144,33 +147,60 @@ fn first_pages<'a>(
     Ok(Some(pages))
 }
 
-/// Where each piece lies, where the sections have room.
+/// The place of a section's name among the names, or how many there are.
+fn place_of(names: &[&[u8]], name: &[u8]) -> usize
+    ensures { result ≡ position_or_len (λ n. bytes_eq n name.now) (names_in names.now) }
+{
+    for (place, other) in names.iter().enumerate() {
+        if *other == name {
+            return place;
+        }
+    }
+    names.len()
+}
+
+/// The page at which a section begins.
+fn page_of(names: &[&[u8]], pages: &[u32], name: &[u8]) -> u32
+    requires { All (λ page. page ≤ 0x400800) pages.now }
+    ensures page { result ≡ slice_index pages.now (position_or_len (λ n. bytes_eq n name.now) (names_in names.now)) }
+    ensures low { result ≤ 0x400800 }
+{
+    match pages.get(place_of(names, name)) {
+        None => 0,
+        Some(page) => *page,
+    }
+}
+
+/// Where a piece begins that stands behind these in its section, if the section isn't too long.
+fn offset_behind(pieces: &[&Section], before: &[&Section], name: &[u8]) -> u32
+    ensures offset { let align = spec.align_of name.now (sections_in pieces.now) in spec.end_behind name.now align 0 (sections_in before.now) ≤ 0x1000000 → result ≡ spec.offset_behind (sections_in pieces.now) (sections_in before.now) name.now }
+    ensures small { result ≤ 0x1010000 }
+{
+    let align = align_of(pieces, name);
+    match end_of(before, name, align) {
+        None => 0,
+        Some(end) => aligned(align, end),
+    }
+}
+
+/// Where each piece lies.
 fn addresses_of(
     alloc: Global,
     pieces: &[&Section],
     names: &[&[u8]],
     pages: &[u32],
-) -> Result<Option<Vec<u32>>, AllocError>
+) -> Result<Vec<u32>, AllocError>
     requires { All (λ page. page ≤ 0x400800) pages.now }
-    ensures { (region : Base) → names_in names.now ≡ spec.names_of (sections_in pieces.now) → pages.now ≡ spec.pages_of_names region (sections_in pieces.now) → spec.has_no_room region (sections_in pieces.now) (names_in names.now) ≡ false
-        → IfOk result (λ found. MatchOption found ⊥ (λ addresses. addresses.items ≡ spec.addresses region (sections_in pieces.now))) }
+    ensures { (region : Base) → names_in names.now ≡ spec.names_of (sections_in pieces.now) → pages.now ≡ spec.pages_of_names region (sections_in pieces.now) → spec.is_too_large region (sections_in pieces.now) ≡ false
+        → IfOk result (λ addresses. addresses.items ≡ spec.addresses region (sections_in pieces.now)) }
 {
     let mut addresses = Vec::new(alloc);
     for (place, piece) in pieces.iter().enumerate() {
         let name = piece.name.as_slice();
-        let align = align_of(pieces, name);
-        let Some(end) = end_of(&pieces[..place], name, align) else {
-            return Ok(None);
-        };
-        let Some(number) = names.iter().position(|n| *n == name) else {
-            return Ok(None);
-        };
-        let Some(page) = pages.get(number) else {
-            return Ok(None);
-        };
-        addresses.push((*page * 512).wrapping_add(aligned(align, end)))?;
+        let offset = offset_behind(pieces, &pieces[..place], name);
+        addresses.push(page_of(names, pages, name) * 512 + offset)?;
     }
-    Ok(Some(addresses))
+    Ok(addresses)
 }
 
 /// Where the sections of modules lie; none where they have no room.
@@ -188,9 +218,7 @@ pub(crate) fn lay_out<'a>(
     let Some(pages) = first_pages(alloc, base, &pieces, &names)? else {
         return Ok(None);
     };
-    let Some(addresses) = addresses_of(alloc, &pieces, &names, &pages)? else {
-        return Ok(None);
-    };
+    let addresses = addresses_of(alloc, &pieces, &names, &pages)?;
     Ok(Some(Layout {
         base,
         pieces,

@@ -1,6 +1,11 @@
+// Modules made by hand, joined.
+ghost use Rattle.std.specs.Prelude.{◌≡◌, true, length, All, IfSome, IfOk};
+ghost use Rattle.vax_module.specs.Formed.{Formed, IsAlignment, IsKnown, IsFieldOf};
+ghost use Rattle.vax_image.specs.Image.{IsImage};
+
 use super::*;
 use std::test::Fail;
-use vax_image::{Base, Image};
+use vax_image::{Base, Image, read, start, write};
 use vax_module::{Module, Reloc, RelocKind, Section, Symbol, Value};
 
 /// The start of a section.
@@ -110,6 +115,110 @@ fn owner_of(rt: &HostRuntime, name: &[u8]) -> Result<Module, Fail> {
     })
 }
 
+/// Whether a number is a power of two from 1 to 512.
+fn is_alignment(align: u16) -> bool
+    ensures { result ≡ true → IsAlignment align }
+{
+    matches!(align, 1 | 2 | 4 | 8 | 16 | 32 | 64 | 128 | 256 | 512)
+}
+
+/// Whether a value's section is one of so many, and so is its external.
+fn is_known(value: Value, sections: usize, externals: usize) -> bool
+    ensures { result ≡ true → IsKnown sections externals value }
+{
+    match value {
+        Value::Absolute(_) => true,
+        Value::Section { section, offset: _ } => (section as usize) < sections,
+        Value::External { index, offset: _ } => (index as usize) < externals,
+    }
+}
+
+/// Whether all sections are aligned.
+fn are_aligned(sections: &[Section]) -> bool
+    ensures { result ≡ true → All (λ s. IsAlignment s.align) sections.now }
+{
+    for section in sections {
+        if !is_alignment(section.align) {
+            return false;
+        }
+    }
+    true
+}
+
+/// Whether all names stand for known values.
+fn are_known(globals: &[Symbol], sections: usize, externals: usize) -> bool
+    ensures { result ≡ true → All (λ g. IsKnown sections externals g.value) globals.now }
+{
+    for global in globals {
+        if !is_known(global.value, sections, externals) {
+            return false;
+        }
+    }
+    true
+}
+
+/// Whether a field lies within the bytes of a section.
+fn is_within(sections: &[Section], field: Reloc) -> bool
+    ensures { result ≡ true → IsFieldOf sections.now field }
+{
+    match sections.get(field.section as usize) {
+        None => false,
+        Some(section) => {
+            field.offset as usize + usize::from(field.kind.width())
+                <= section.bytes.as_slice().len()
+        }
+    }
+}
+
+/// Whether a module with one field at most is well formed.
+fn is_formed(module: &Module) -> bool
+    ensures { result ≡ true → Formed «module».now }
+{
+    let sections = module.sections.as_slice();
+    let externals = module.externals.as_slice().len();
+    let begins = match &module.transfer {
+        None => true,
+        Some(symbol) => is_known(symbol.value, sections.len(), externals),
+    };
+    let fields = match module.relocs.as_slice() {
+        [] => true,
+        [field] => {
+            is_within(sections, *field) && is_known(field.target, sections.len(), externals)
+        }
+        _ => false,
+    };
+    begins
+        && fields
+        && are_aligned(sections)
+        && are_known(module.globals.as_slice(), sections.len(), externals)
+}
+
+/// Whether all modules are well formed.
+fn are_formed(modules: &[Module]) -> bool
+    ensures { result ≡ true → All Formed modules.now }
+{
+    for module in modules {
+        if !is_formed(module) {
+            return false;
+        }
+    }
+    true
+}
+
+/// Joins modules that are well formed.
+fn joined(
+    rt: &HostRuntime,
+    modules: &[Module],
+    base: Base,
+) -> Result<Result<Image, LinkError>, Fail>
+    ensures { IfOk result (λ linked. IfOk linked IsImage) }
+{
+    if modules.is_empty() || modules.len() > 8 || !are_formed(modules) {
+        return Err("the modules aren't well formed".into());
+    }
+    Ok(link(rt.alloc(), modules, base))
+}
+
 /// Whether an image's areas have these first pages, protections and bytes, and a page each.
 fn has_areas(image: &Image, areas: &[(u32, u8, &[u8])]) -> bool {
     let found = image.areas.as_slice();
@@ -140,7 +249,7 @@ fn joins_two_modules(rt: HostRuntime) -> Result<(), Fail> {
     let mut modules = Vec::new(rt.alloc());
     modules.push(user_of_x(&rt)?)?;
     modules.push(owner_of(&rt, b"X")?)?;
-    let image = link(rt.alloc(), &modules, Base::User)?;
+    let image = joined(&rt, &modules, Base::User)??;
     assert_eq!(rt; image.transfer, 0x200);
     // The displacement is 401 - 206, and the byte of the second module begins at a longword.
     let code = [0xD0, 0xEF, 0xFB, 1, 0, 0, 0x51, 0, 1];
@@ -150,7 +259,7 @@ fn joins_two_modules(rt: HostRuntime) -> Result<(), Fail> {
             &[(1, 15, code.as_slice()), (2, 4, [7, 8].as_slice())]
         )
     );
-    let image = link(rt.alloc(), &modules, Base::Bare)?;
+    let image = joined(&rt, &modules, Base::Bare)??;
     assert_eq!(rt; image.transfer, 0x8000_0200);
     assert!(rt;
         has_areas(
@@ -172,7 +281,7 @@ fn places_the_control_block_first(rt: HostRuntime) -> Result<(), Fail> {
     let block = [2, 0, 0, 0];
     let vectors = section(&rt, b"$SCB", 1, true, &block)?;
     modules.push(module(&rt, vectors, None, None, None, None)?)?;
-    let image = link(rt.alloc(), &modules, Base::Bare)?;
+    let image = joined(&rt, &modules, Base::Bare)??;
     assert!(rt;
         has_areas(
             &image,
@@ -182,7 +291,7 @@ fn places_the_control_block_first(rt: HostRuntime) -> Result<(), Fail> {
             ]
         )
     );
-    let image = link(rt.alloc(), &modules, Base::User)?;
+    let image = joined(&rt, &modules, Base::User)??;
     assert!(rt; has_areas(&image, &[(1, 4, [0].as_slice()), (2, 4, block.as_slice())]));
     Ok(())
 }
@@ -191,17 +300,17 @@ fn places_the_control_block_first(rt: HostRuntime) -> Result<(), Fail> {
 fn refuses_in_order(rt: HostRuntime) -> Result<(), Fail> {
     let mut modules = Vec::new(rt.alloc());
     modules.push(owner_of(&rt, b"Y")?)?;
-    assert!(rt; is_refused(&link(rt.alloc(), &modules, Base::Bare), 4, b""));
+    assert!(rt; is_refused(&joined(&rt, &modules, Base::Bare)?, 4, b""));
     let block = section(&rt, b"$SCB", 1, true, &[0; 513])?;
     modules.push(module(&rt, block, None, None, None, None)?)?;
-    assert!(rt; is_refused(&link(rt.alloc(), &modules, Base::User), 4, b""));
-    assert!(rt; is_refused(&link(rt.alloc(), &modules, Base::Bare), 3, b""));
+    assert!(rt; is_refused(&joined(&rt, &modules, Base::User)?, 4, b""));
+    assert!(rt; is_refused(&joined(&rt, &modules, Base::Bare)?, 3, b""));
     modules.push(user_of_x(&rt)?)?;
-    assert!(rt; is_refused(&link(rt.alloc(), &modules, Base::Bare), 1, b"X"));
+    assert!(rt; is_refused(&joined(&rt, &modules, Base::Bare)?, 1, b"X"));
     modules.push(user_of_x(&rt)?)?;
-    assert!(rt; is_refused(&link(rt.alloc(), &modules, Base::Bare), 2, b"BEGIN"));
+    assert!(rt; is_refused(&joined(&rt, &modules, Base::Bare)?, 2, b"BEGIN"));
     modules.push(owner_of(&rt, b"Y")?)?;
-    assert!(rt; is_refused(&link(rt.alloc(), &modules, Base::Bare), 2, b"Y"));
+    assert!(rt; is_refused(&joined(&rt, &modules, Base::Bare)?, 2, b"Y"));
     Ok(())
 }
 
@@ -211,12 +320,12 @@ fn refuses_names_that_lead_in_a_circle(rt: HostRuntime) -> Result<(), Fail> {
     let code = section(&rt, b"CODE", 1, true, &[0])?;
     let x = Some((b"X".as_slice(), OTHER));
     modules.push(module(&rt, code, Some(HERE), x, Some(b"Y"), None)?)?;
-    assert!(rt; is_refused(&link(rt.alloc(), &modules, Base::User), 1, b"Y"));
+    assert!(rt; is_refused(&joined(&rt, &modules, Base::User)?, 1, b"Y"));
     // Y stands for X, which stands for Y.
     let data = section(&rt, b"DATA", 1, true, &[0])?;
     let y = Some((b"Y".as_slice(), OTHER));
     modules.push(module(&rt, data, None, y, Some(b"X"), None)?)?;
-    assert!(rt; is_refused(&link(rt.alloc(), &modules, Base::User), 1, b"Y"));
+    assert!(rt; is_refused(&joined(&rt, &modules, Base::User)?, 1, b"Y"));
     Ok(())
 }
 
@@ -227,7 +336,7 @@ fn refuses_a_beginning_outside(rt: HostRuntime) -> Result<(), Fail> {
         let code = section(&rt, b"CODE", 1, true, &[0])?;
         let begin = Value::Section { section: 1, offset };
         modules.push(module(&rt, code, Some(begin), None, None, None)?)?;
-        assert!(rt; is_refused(&link(rt.alloc(), &modules, Base::User), cause, b""));
+        assert!(rt; is_refused(&joined(&rt, &modules, Base::User)?, cause, b""));
     }
     Ok(())
 }
@@ -256,7 +365,7 @@ fn tells_the_lowest_field_out_of_reach(rt: HostRuntime) -> Result<(), Fail> {
             target: Value::Absolute(target),
         };
         modules.push(module(&rt, code, Some(HERE), None, None, Some(field))?)?;
-        match link(rt.alloc(), &modules, Base::User) {
+        match joined(&rt, &modules, Base::User)? {
             Ok(_) => assert!(rt; reaches),
             Err(LinkError::Reach(address)) => assert!(rt; !reaches && address == 0x201),
             Err(_) => assert!(rt; false, "there is no other refusal"),
@@ -288,7 +397,28 @@ fn has_room_for_64_sections(rt: HostRuntime) -> Result<(), Fail> {
             relocs: Vec::new(rt.alloc()).into(),
             transfer: Some(begin),
         })?;
-        assert!(rt; is_refused(&link(rt.alloc(), &modules, Base::User), cause, b""));
+        assert!(rt; is_refused(&joined(&rt, &modules, Base::User)?, cause, b""));
     }
+    Ok(())
+}
+
+#[test]
+fn starts_what_it_joined(rt: HostRuntime) -> Result<(), Fail> {
+    let mut modules = Vec::new(rt.alloc());
+    modules.push(user_of_x(&rt)?)?;
+    modules.push(owner_of(&rt, b"X")?)?;
+    let image = joined(&rt, &modules, Base::Bare)??;
+    let file = write(rt.alloc(), &image)?;
+    // A header of 16 bytes, and for each area 16 and its bytes.
+    assert_eq!(rt; file.len(), 16 + (16 + 9) + (16 + 2));
+    let again = read(rt.alloc(), &file)?;
+    match again.base {
+        Base::User => return Err("the base is bare".into()),
+        Base::Bare => {}
+    }
+    let (space, core) = start(rt.alloc(), &again, None)?;
+    assert_eq!(rt; core.regs[15], 0x8000_0200);
+    assert_eq!(rt; space.initial(0x40_0001, 8), Some(1));
+    assert_eq!(rt; space.initial(0x40_0002, 1), Some(8));
     Ok(())
 }

@@ -1,0 +1,19 @@
+use Rattle.std.proofs.Common.{rules, ◌≡◌, ◌≤◌, ◌++◌, IfOk, OnOk, ℕ, ◌+◌, ◌-◌, ◌*◌, ◌<◌, length, ◌/◌, ◌%◌, Bool, true, false, nat_eq, nat_lt, List, [], ◌∷◌, slice_index_or, slice_set, bit_and, bit_or, Fits, w8, w32, w64, Bor, MutBor}
+use Rattle.std.specs.List.{filter, filter_map}
+use Rattle.vax_link.specs.Layout as lay
+use Rattle.vax_link.specs.Linked as spec
+use Rattle.vax_link.specs.Layout.{sections_in}
+use Rattle.vax_link.specs.Placed.{bytes_in, IsFilling}
+use Rattle.vax_link.proofs.areas.area_of.Goals as goal
+
+-- src/areas.rt:78:9
+pub returns-then-is_empty : goal.returns-then-is_empty
+returns-then-is_empty c = ?
+
+-- src/areas.rt:84:16
+pub overflow_cast-result : goal.overflow_cast-result
+overflow_cast-result c = ?
+
+-- src/areas.rt:65:1
+pub returns : goal.returns
+returns c = ?
