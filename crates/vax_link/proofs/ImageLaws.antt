@@ -20,7 +20,7 @@ use Rattle.vax_image.specs.declared.Base.TheVariants.{Bare, User}
 use Rattle.vax_image.specs.declared.Image.{Image}
 use Rattle.vax_image.specs.Image.{first_page, end_page, IsAreaFrom, AscendFrom, IsImage, is_in}
 use Rattle.vax_link.specs.Names.{Name}
-use Rattle.vax_link.specs.Layout.{align_of, aligned, aligned_for, behind_piece, end_behind, end_page_from, has_no_room, is_control_block, is_listed, is_named, is_too_large, is_writable, limit, names_of, origin, page_behind, pages_from, pages_of, placed_names, size_of, with_name}
+use Rattle.vax_link.specs.Layout.{align_of, aligned, aligned_for, behind_piece, end_behind, end_page_from, has_no_room, is_control_block, is_listed, is_named, is_too_large, is_writable, names_of, origin, page_behind, pages_from, pages_of, placed_names, size_of, with_name}
 use Rattle.vax_link.specs.Placed.{IsFilling}
 use Rattle.vax_link.specs.Linked.{area_of, area_unless_empty, areas_of, bytes_of, is_chosen, ordered, protection, with_piece}
 use Rattle.vax_link.proofs.LayoutLaws.{aligned_above, page_grows}
@@ -296,10 +296,6 @@ controls_ascend region pieces filled page (name ∷ names) others long few short
 
 -- ---- so they are an image's
 
-limit_end : (region : Base) → limit region ≡ end_page region
-limit_end Bare = refl
-limit_end User = refl
-
 pub record HasRoom (region : Base) (pieces : List Section) : Type 0 where
   pub few : length (names_of pieces) ≤ 64
   pub short : list_any (is_long region pieces) (names_of pieces) ≡ false
@@ -311,10 +307,9 @@ room_of region pieces room =
     let names = names_of pieces in
     let more = nat_lt 64 (length names) in
     let long = list_any (is_long region pieces) names in
-    let past = nat_lt (limit region) (end_page_from region pieces (origin region) names) in
+    let past = nat_lt (end_page region) (end_page_from region pieces (origin region) names) in
     let rest : (long || past) ≡ false = right_false more (long || past) room in
-    let last = ltb-false (limit region) (end_page_from region pieces (origin region) names) (right_false long past rest) in
-    let same = limit_end region in
+    let last = ltb-false (end_page region) (end_page_from region pieces (origin region) names) (right_false long past rest) in
     record { few = ltb-false 64 (length names) (left_false more (long || past) room); short = left_false long past rest; fits = omega arith }
 
 last_page : (region : Base) → (end_page region ≡ origin region + 0x7FFF) ⊎ (end_page region ≡ origin region + 0x7FF)

@@ -1,18 +1,17 @@
 -- Sections that grow piece by piece.
 use Rattle.std.proofs.Common.{◌≡◌, ℕ, zero, suc, ◌+◌, ◌*◌, ◌/◌, ◌%◌, ◌<◌, ◌≤◌, Bool, true, false, cond, List, [], ◌∷◌, ◌++◌, length, take, drop, get_or, map, refl, sym, ap, ◌∙◌, append_assoc, arith}
 use Rattle.std.specs.Prelude.{not, ◌&&◌, ◌||◌, ◌==◌}
-use Rattle.std.specs.Borrow.{Bor}
 use Rattle.std.specs.Str.{bytes_eq}
-use Rattle.std.specs.List.{fold, list_any, position_or_len}
+use Rattle.std.specs.List.{fold, list_any}
 use Rattle.std.specs.Int.{div_ceil}
-use Rattle.std.proofs.lemmas.List.{append-nil, length_push, drop_more, drop_all}
+use Rattle.std.proofs.lemmas.List.{append-nil, length_push}
 use Rattle.std.proofs.lemmas.Slice.Eq.{bytes_eq-Decides}
 use Rattle.std.proofs.lemmas.List.Sums.{fold-append}
 use Rattle.std.proofs.lemmas.Grind.{div_ceil_times}
 use Rattle.vax_module.specs.declared.Section.{Section}
 use Rattle.vax_link.specs.Names.{Name}
 use Rattle.vax_image.specs.declared.Base.{Base}
-use Rattle.vax_link.specs.Layout.{is_named, is_listed, with_name, names_of, aligned, behind_piece, end_behind, pages_of, is_control_block, page_behind, pages_from, end_page_from, first_page_of, names_in, offset_behind, addresses_from}
+use Rattle.vax_link.specs.Layout.{is_named, is_listed, with_name, names_of, aligned, behind_piece, end_behind, pages_of, is_control_block, page_behind, pages_from, end_page_from, first_page_of, offset_behind, addresses_from}
 
 -- the next multiple isn't below
 pub aligned_above : (align place : ℕ) → 0 < align → place ≤ aligned align place
@@ -114,33 +113,6 @@ pub addresses_long : (region : Base) (pieces before rest : List Section) → len
 unfolding addresses_from
 addresses_long region pieces before [] = refl
 addresses_long region pieces before (piece ∷ rest) = ap suc (addresses_long region pieces (before ++ piece ∷ []) rest)
-
--- ---- where a name stands
-
-passed : (p : Name → Bool) (x : Name) (xs : List Name) → p x ≡ false → position_or_len p (x ∷ xs) ≡ 1 + position_or_len p xs
-passed p x xs no = rw no refl
-
-met : (p : Name → Bool) (x : Name) (xs : List Name) → p x ≡ true → position_or_len p (x ∷ xs) ≡ 0
-met p x xs yes = rw yes refl
-
-names_behind : (names : List (Bor (List ℕ))) (i : ℕ) (x : Bor (List ℕ)) → i < length names → x ≡ get_or names i x → names_in (drop i names) ≡ x.now ∷ names_in (drop (i + 1) names)
-names_behind names i x lt is = ap names_in (drop_more names i x lt ∙ ap (λ (y : Bor (List ℕ)). y ∷ drop (i + 1) names) (sym is))
-
-pub place_on : (names : List (Bor (List ℕ))) (i : ℕ) (x : Bor (List ℕ)) (p : Name → Bool) (place : ℕ) → i < length names → x ≡ get_or names i x → p x.now ≡ false → place ≡ i + position_or_len p (names_in (drop i names))
-    → place ≡ (i + 1) + position_or_len p (names_in (drop (i + 1) names))
-place_on names i x p place lt is no so_far =
-    let here = ap (position_or_len p) (names_behind names i x lt is) ∙ passed p x.now (names_in (drop (i + 1) names)) no in
-    omega arith
-
-pub place_here : (names : List (Bor (List ℕ))) (i : ℕ) (x : Bor (List ℕ)) (p : Name → Bool) (place : ℕ) → i < length names → x ≡ get_or names i x → p x.now ≡ true → place ≡ i + position_or_len p (names_in (drop i names)) → i ≡ place
-place_here names i x p place lt is yes so_far =
-    let here = ap (position_or_len p) (names_behind names i x lt is) ∙ met p x.now (names_in (drop (i + 1) names)) yes in
-    omega arith
-
-pub place_past : (names : List (Bor (List ℕ))) (i : ℕ) (p : Name → Bool) (place : ℕ) → length names ≤ i → i ≤ length names → place ≡ i + position_or_len p (names_in (drop i names)) → length names ≡ place
-place_past names i p place past within so_far =
-    let none = ap (λ (ns : List (Bor (List ℕ))). position_or_len p (names_in ns)) (drop_all i names past) in
-    omega arith
 
 -- ---- each piece's name is among the names
 

@@ -8,6 +8,7 @@ use Rattle.vax_module.specs.declared.Section.{Section}
 use Rattle.vax_module.specs.declared.Module.{Module}
 use Rattle.vax_image.specs.declared.Base.{Base}
 use Rattle.vax_image.specs.declared.Base.TheVariants.{Bare, User}
+use Rattle.vax_image.specs.Image.{end_page}
 use Rattle.vax_link.specs.Names.{Name}
 
 -- the sections of modules, one after the other: what each module gives to a section of its name
@@ -73,11 +74,6 @@ abbrev pub origin : Base → ℕ
 origin Bare = 0x400001
 origin User = 1
 
--- the page behind the last that a section may have
-abbrev pub limit : Base → ℕ
-limit Bare = 0x400800
-limit User = 0x8000
-
 -- the page behind a section that begins at a page: each section with bytes begins on a page of its own
 abbrev pub page_behind : Base → List Section → ℕ → Name → ℕ
 page_behind region pieces page name = if is_control_block region name then page else page + pages_of pieces name
@@ -121,7 +117,7 @@ addresses region pieces = addresses_from region pieces [] pieces
 unfoldable pub has_no_room : Base → List Section → List Name → Bool
 has_no_room region pieces names =
     list_any (λ name. is_control_block region name && nat_lt 512 (size_of pieces name)) names
-    || nat_lt (limit region) (end_page_from region pieces (origin region) names)
+    || nat_lt (end_page region) (end_page_from region pieces (origin region) names)
 
 -- more than 64 sections, or no room for them
 unfoldable pub is_too_large : Base → List Section → Bool

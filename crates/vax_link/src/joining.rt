@@ -4,7 +4,7 @@ ghost use Rattle.vax_module.specs.Formed.{Formed};
 ghost use Rattle.vax_image.specs.declared.Base.{Base};
 ghost use Rattle.vax_image.specs.Image.{IsImage, is_in};
 ghost use Rattle.vax_link.specs.Placed.{IsValues};
-ghost use Rattle.vax_link.specs.Linked.{linked, transfer_from, Gives};
+ghost use Rattle.vax_link.specs.Linked.{linked, placed, transfer_from, Gives};
 
 use crate::LinkError;
 use crate::areas::areas_of;
@@ -45,6 +45,37 @@ fn is_in(areas: &[Area], address: u32) -> bool
     areas.iter().any(|area| area.has_page(page))
 }
 
+/// The image of modules whose names lead to these values, or why they have none.
+fn image_of(
+    alloc: Global,
+    base: Base,
+    modules: &[Module],
+    values: &Values,
+) -> Result<Image, LinkError>
+    requires few { length modules.now ≤ 8 }
+    requires formed { All Formed modules.now }
+    requires values { IsValues values.now base modules.now }
+    ensures placed { Gives result (placed base modules.now) }
+    ensures image { IfOk result IsImage }
+{
+    let filled = values.filled(alloc, modules)?;
+    let areas = areas_of(alloc, values.layout(), &filled)?;
+    let Some(transfer) = transfer_of(values, modules) else {
+        return Err(LinkError::NoTransfer);
+    };
+    if !is_in(&areas, transfer) {
+        return Err(LinkError::NoTransfer);
+    }
+    if let Some(address) = values.unreached(modules) {
+        return Err(LinkError::Reach(address));
+    }
+    Ok(Image {
+        base,
+        transfer,
+        areas: areas.into(),
+    })
+}
+
 /// Joins 1 to 8 modules to an image for a base, or tells why they have none.
 pub fn link(alloc: Global, modules: &[Module], base: Base) -> Result<Image, LinkError>
     requires some { 1 ≤ length modules.now }
@@ -64,20 +95,5 @@ pub fn link(alloc: Global, modules: &[Module], base: Base) -> Result<Image, Link
         return Err(LinkError::Pages);
     };
     let values = Values::new(alloc, layout, &names)?;
-    let filled = values.filled(alloc, modules)?;
-    let areas = areas_of(alloc, values.layout(), &filled)?;
-    let Some(transfer) = transfer_of(&values, modules) else {
-        return Err(LinkError::NoTransfer);
-    };
-    if !is_in(&areas, transfer) {
-        return Err(LinkError::NoTransfer);
-    }
-    if let Some(address) = values.unreached(modules) {
-        return Err(LinkError::Reach(address));
-    }
-    Ok(Image {
-        base,
-        transfer,
-        areas: areas.into(),
-    })
+    image_of(alloc, base, modules, &values)
 }

@@ -47,6 +47,18 @@ fn pieces_of<'a>(
     Ok((pieces, firsts))
 }
 
+/// Whether a section's name is among the names.
+fn is_listed(names: &[&[u8]], name: &[u8]) -> bool
+    ensures { result ≡ spec.is_listed (names_in names.now) name.now }
+{
+    for other in names {
+        if *other == name {
+            return true;
+        }
+    }
+    false
+}
+
 /// The names of pieces, each where it first appears; none where there are more than 64.
 fn names_of<'a>(alloc: Global, pieces: &[&'a Section]) -> Result<Option<Vec<&'a [u8]>>, AllocError>
     ensures named { IfOk result (λ found. MatchOption found (64 < length (spec.names_of (sections_in pieces.now))) (λ names. names_in names.items ≡ spec.names_of (sections_in pieces.now))) }
@@ -55,7 +67,7 @@ fn names_of<'a>(alloc: Global, pieces: &[&'a Section]) -> Result<Option<Vec<&'a 
     let mut names = Vec::new(alloc);
     for piece in pieces {
         let name = piece.name.as_slice();
-        if !names.iter().any(|n: &&[u8]| *n == name) {
+        if !is_listed(&names, name) {
             if names.len() == MOST_SECTIONS {
                 return Ok(None);
             }
@@ -111,6 +123,26 @@ fn end_of(pieces: &[&Section], name: &[u8], align: u16) -> Option<u32>
     Some(end)
 }
 
+/// How many bytes a section has; none where they are more than the most of a section.
+#[tactic(auto, unfolding(crate::specs::Layout::size_of))]
+fn size_of(pieces: &[&Section], name: &[u8]) -> Option<u32>
+    ensures none { IfNone result (0x1000000 < spec.size_of (sections_in pieces.now) name.now) }
+    ensures some { IfSome result (λ size. size ≡ spec.size_of (sections_in pieces.now) name.now) }
+    ensures few { IfSome result (λ size. size ≤ 0x1000000) }
+{
+    end_of(pieces, name, align_of(pieces, name))
+}
+
+/// The first page of the first section.
+fn origin(base: Base) -> u32
+    ensures { result ≡ spec.origin base }
+{
+    match base {
+        Base::Bare => 0x40_0001,
+        Base::User => 1,
+    }
+}
+
 /// The page at which each section begins; none where one passes the last page.
 fn first_pages<'a>(
     alloc: Global,
@@ -122,13 +154,11 @@ fn first_pages<'a>(
     ensures pages { IfOk result (λ found. IfSome found (λ pages. pages.items ≡ spec.pages_from base (sections_in pieces.now) (spec.origin base) (names_in names.now))) }
     ensures low { IfOk result (λ found. IfSome found (λ pages. All (λ page. page ≤ 0x400800) pages.items)) }
 {
-    let (mut page, limit) = match base {
-        Base::Bare => (0x40_0001, 0x40_0800),
-        Base::User => (1, 0x8000),
-    };
+    let end = base.end_page();
+    let mut page = origin(base);
     let mut pages = Vec::new(alloc);
     for name in names {
-        let Some(size) = end_of(pieces, name, align_of(pieces, name)) else {
+        let Some(size) = size_of(pieces, name) else {
             return Ok(None);
         };
         if is_control_block(base, name) {
@@ -139,7 +169,7 @@ fn first_pages<'a>(
         } else {
             pages.push(page)?;
             page += size.div_ceil(512);
-            if page > limit {
+            if page > end {
                 return Ok(None);
             }
         }

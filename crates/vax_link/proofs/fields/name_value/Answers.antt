@@ -1,4 +1,4 @@
-use Rattle.std.proofs.Common.{◌≡◌, sym, ap, ◌∙◌}
+use Rattle.std.proofs.Common.{◌≡◌, refl, sym, ap, ◌∙◌}
 use Rattle.vax_link.specs.Names.{chase, entries_from}
 use Rattle.vax_link.specs.Values.{chased_value, known_value, name_value}
 use Rattle.vax_link.proofs.FieldLaws.{sum_is}
@@ -8,7 +8,7 @@ pub returns-in-Ends : goal.returns-in-Ends
 unfolding name_value
 returns-in-Ends c = λ region layout table.
     let modules = c.args.names.now.modules.now in
-    sum_is c.known_value.result c.in-Ends.field-2 (known_value region modules c.in-Ends.field-0 c.in-Ends.field-1) c.in-Ends.field-2 (c.known_value.ensures region modules layout) refl
+    sum_is c.known_value.result c.in-Ends.offset (known_value region modules c.in-Ends.owner c.in-Ends.value) c.in-Ends.offset (c.known_value.ensures region modules layout) refl
     ∙ ap (chased_value region modules) (sym c.in-Ends.is ∙ c.chase.ensures (entries_from 0 modules) table)
 
 pub returns-in-Unknown : goal.returns-in-Unknown

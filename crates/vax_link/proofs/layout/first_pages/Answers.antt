@@ -1,26 +1,56 @@
-use Rattle.std.proofs.Common.{rules, ◌≡◌, ◌≢◌, ◌<◌, ◌≤◌, ◌+◌, ◌*◌, true, false, IfOk, IfSome, IfNone, MatchOption, length, All, ℕ, ◌-◌, ◌/◌, ◌%◌, Bool, nat_eq, nat_lt, List, [], ◌∷◌, ◌++◌, slice_index_or, slice_set, bit_and, bit_or, Fits, w8, w32, w64, Bor, MutBor}
-use Rattle.vax_link.specs.Layout as spec
-use Rattle.vax_image.specs.declared.Base.{Base}
-use Rattle.vax_link.specs.Layout.{sections_in, names_in}
-use Rattle.vax_link.specs.Placed.{AreFirsts, IsLayout}
+use Rattle.std.proofs.Common.{◌≡◌, ◌+◌, ℕ, true, List, take, drop, sym, ap, subst, ◌∙◌, arith}
+use Rattle.std.specs.Int.{div_ceil}
+use Rattle.vax_link.specs.Names.{Name}
+use Rattle.vax_link.specs.Layout.{end_page_from, has_no_room, is_control_block, names_in, origin, pages_of, sections_in}
+use Rattle.vax_link.proofs.RoomLaws.{IsLaid, far_behind, laid_control, laid_first, laid_other, name_at, parted_at, too_far, too_long, too_many_bytes}
 use Rattle.vax_link.proofs.layout.first_pages.Goals as goal
+use Rattle.vax_link.proofs.layout.first_pages.Goals.{then-is_control_block+else-size-gt512+in_ok-push, else-is_control_block+in_ok-push-2+else-page-end}
 
--- src/layout.rt:127:5
 pub loop-name-init : goal.loop-name-init
-loop-name-init c = ?
+loop-name-init c =
+    let pieces = sections_in c.args.pieces.now in
+    let P : ℕ → Type 0 = λ page. IsLaid c.args.base pieces c.args.names.now 0 page c.new-pages.result.items in
+    let Q : List ℕ → Type 0 = λ pages. IsLaid c.args.base pieces c.args.names.now 0 (origin c.args.base) pages in
+    subst P (sym c.origin-page.ensures) (subst Q (sym c.new-pages.ensures.items) (laid_first c.args.base pieces c.args.names.now))
 
--- src/layout.rt:129:13
 pub returns-in_default-clause-room : goal.returns-in_default-clause-room
-returns-in_default-clause-room c = ?
+returns-in_default-clause-room c =
+    let pieces = sections_in c.args.pieces.now in
+    let names = c.args.names.now in
+    let i = c.loop-name.name-index in
+    let P : List Name → Type 0 = λ ns. has_no_room c.args.base pieces ns ≡ true in
+    subst P (sym (parted_at names i c.loop-name-test.true)) (too_many_bytes c.args.base pieces (names_in (take i names)) (names_in (drop (i + 1) names)) (name_at names i).now c.in_default.ensures.none)
 
--- src/layout.rt:133:17
 pub returns-then-size-gt512-clause-room : goal.returns-then-size-gt512-clause-room
-returns-then-size-gt512-clause-room c = ?
+returns-then-size-gt512-clause-room c =
+    let pieces = sections_in c.args.pieces.now in
+    let names = c.args.names.now in
+    let i = c.loop-name.name-index in
+    let size = c.in-Some.ensures.some in
+    let P : List Name → Type 0 = λ ns. has_no_room c.args.base pieces ns ≡ true in
+    subst P (sym (parted_at names i c.loop-name-test.true)) (too_long c.args.base pieces (names_in (take i names)) (names_in (drop (i + 1) names)) (name_at names i).now (sym c.if-is_control_block.ensures) (omega (arith, size)))
 
--- src/layout.rt:140:17
-pub returns-then-page-limit-clause-room : goal.returns-then-page-limit-clause-room
-returns-then-page-limit-clause-room c = ?
+pub returns-then-page-end-clause-room : goal.returns-then-page-end-clause-room
+returns-then-page-end-clause-room c =
+    let region = c.args.base in
+    let pieces = sections_in c.args.pieces.now in
+    let names = c.args.names.now in
+    let i = c.loop-name.name-index in
+    let x = (name_at names i).now in
+    let front = names_in (take i names) in
+    let more : c.div_ceil-page.result ≡ pages_of pieces x = c.div_ceil-page.ensures ∙ ap (λ (n : ℕ). div_ceil n 512) c.in-Some.ensures.some in
+    let page = c.loop-name.invariant.page in
+    let last = c.end_page-end.ensures.page in
+    let P : List Name → Type 0 = λ ns. has_no_room region pieces ns ≡ true in
+    subst P (sym (parted_at names i c.loop-name-test.true))
+    (too_far region pieces front (names_in (drop (i + 1) names)) x
+    (far_behind (is_control_block region x) (end_page_from region pieces (origin region) front) (pages_of pieces x) _ (sym c.if-is_control_block.ensures) (omega (arith, c.if-page-end.true, page, last, more))))
 
--- src/layout.rt:127:5
 pub loop-name-preserved : goal.loop-name-preserved
-loop-name-preserved c = ?
+loop-name-preserved c =
+    let region = c.args.base in
+    let pieces = sections_in c.args.pieces.now in
+    let names = c.args.names.now in
+    let i = c.loop-name.name-index in
+    let x = (name_at names i).now in
+    ?

@@ -1,15 +1,12 @@
-use Rattle.std.proofs.Common.{rules, ◌≡◌, ◌≢◌, ◌<◌, ◌≤◌, ◌+◌, ◌*◌, true, false, IfOk, IfSome, IfNone, MatchOption, length, All, ℕ, ◌-◌, ◌/◌, ◌%◌, Bool, nat_eq, nat_lt, List, [], ◌∷◌, ◌++◌, slice_index_or, slice_set, bit_and, bit_or, Fits, w8, w32, w64, Bor, MutBor}
-use Rattle.vax_link.specs.Layout as spec
-use Rattle.vax_image.specs.declared.Base.{Base}
-use Rattle.vax_link.specs.Layout.{sections_in, names_in}
-use Rattle.vax_link.specs.Placed.{AreFirsts, IsLayout}
+use Rattle.std.proofs.Common.{◌≡◌, ◌+◌, ◌≤◌, ◌++◌, ◌∷◌, [], ℕ, false, List, length, take, sym, ap, ◌∙◌, arith}
+use Rattle.std.proofs.lemmas.List.{length-map, map_push}
+use Rattle.vax_link.specs.Names.{Name}
+use Rattle.vax_link.specs.Layout.{is_listed, names_in, names_of, sections_in}
+use Rattle.vax_link.proofs.RoomLaws.{name_known, name_new, names_too_many}
 use Rattle.vax_link.proofs.layout.names_of.Goals as goal
 
--- src/layout.rt:58:17
-pub returns-then-len-eq-MOST_SECTIONS-clause-named :
-    goal.returns-then-len-eq-MOST_SECTIONS-clause-named
+pub returns-then-len-eq-MOST_SECTIONS-clause-named : goal.returns-then-len-eq-MOST_SECTIONS-clause-named
 returns-then-len-eq-MOST_SECTIONS-clause-named c = ?
 
--- src/layout.rt:54:5
 pub loop-piece-preserved : goal.loop-piece-preserved
 loop-piece-preserved c = ?

@@ -1,18 +1,23 @@
-use Rattle.std.proofs.Common.{rules, ◌≡◌, ◌≤◌, ◌+◌, ◌++◌, length, map, List, All, IfOk, OnOk, None, Some, slice_get, ℕ, ◌-◌, ◌*◌, ◌<◌, ◌/◌, ◌%◌, Bool, true, false, nat_eq, nat_lt, [], ◌∷◌, slice_index_or, slice_set, bit_and, bit_or, Fits, w8, w32, w64, Bor, MutBor}
-use Rattle.std.specs.List.{fold}
-use Rattle.vax_image.specs.declared.Base.{Base}
-use Rattle.vax_module.specs.declared.Module.{Module}
-use Rattle.vax_module.specs.Formed.{Formed, IsFieldOf, width_of}
-use Rattle.vax_link.specs.Names.{entries_from}
-use Rattle.vax_link.specs.Tables.{IsTable}
-use Rattle.vax_link.specs.Placed.{bytes_in, IsLayout, IsValues}
-use Rattle.vax_link.specs.Values as spec
+use Rattle.std.proofs.Common.{◌≡◌, ◌++◌, ℕ, List, map, ap, ◌∙◌}
+use Rattle.vax_module.specs.declared.Reloc.{Reloc}
+use Rattle.vax_module.specs.declared.Section.{Section}
+use Rattle.vax_link.specs.Placed.{bytes_in}
+use Rattle.vax_link.specs.Values.{filled_from, filled_sections_from}
+use Rattle.vax_link.proofs.FieldLaws.{filled_more, filled_past}
 use Rattle.vax_link.proofs.fields.Values.filled.Goals as goal
 
--- src/fields.rt:167:9
 pub loop-owner-preserved : goal.loop-owner-preserved
-loop-owner-preserved c = ?
+loop-owner-preserved c = λ region values.
+    let modules = c.args.modules.now in
+    let owner = c.loop-owner.owner in
+    let old = bytes_in c.loop-owner.filled.items in
+    filled_more region modules owner c.index-modules-owner.result old (bytes_in c.push_filled.new.filled.items) (filled_from region modules 0 modules) c.loop-owner-test.true c.index-modules-owner.is
+    (c.in_ok-push_filled.ensures region modules values
+    ∙ ap (λ (relocs : List Reloc). old ++ filled_sections_from region modules owner relocs 0 (map (λ s. s.bytes) c.as_slice.result.now)) c.as_slice-relocs.ensures
+    ∙ ap (λ (sections : List Section). old ++ filled_sections_from region modules owner c.index-modules-owner.result.relocs 0 (map (λ s. s.bytes) sections)) c.as_slice.ensures)
+    (c.loop-owner.invariant region values)
 
--- src/fields.rt:157:5
 pub returns : goal.returns
-returns c = ?
+returns c = λ region values.
+    let modules = c.args.modules.now in
+    filled_past region modules c.loop-owner.owner (bytes_in c.loop-owner.filled.items) (filled_from region modules 0 modules) c.loop-owner-test.false (c.loop-owner.invariant region values)
