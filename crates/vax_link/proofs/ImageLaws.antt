@@ -54,7 +54,7 @@ some_align : (b : Bool) (align more : ℕ) → 1 ≤ align → 1 ≤ cond b (max
 some_align true align more some = omega arith
 some_align false align more some = some
 
-aligns : (name : Name) (align : ℕ) (pieces : List Section) → 1 ≤ align → 1 ≤ fold (aligned_for name) align pieces
+pub aligns : (name : Name) (align : ℕ) (pieces : List Section) → 1 ≤ align → 1 ≤ fold (aligned_for name) align pieces
 aligns name align [] some = some
 aligns name align (piece ∷ pieces) some = aligns name (aligned_for name align piece) pieces (some_align (is_named name piece) align piece.align some)
 

@@ -5,3 +5,4 @@ pub mod RoomLaws
 pub mod FillLaws
 pub mod FieldLaws
 pub mod LinkLaws
+pub mod AreaLaws

@@ -5,7 +5,7 @@ use Rattle.std.specs.Str.{bytes_eq}
 use Rattle.std.specs.Borrow.{Bor}
 use Rattle.std.specs.List.{list_any}
 use Rattle.std.proofs.lemmas.Bool.{lt-ltb, ltb-false, le-ltb}
-use Rattle.std.proofs.lemmas.List.{take_more, take-append-drop, map-append, map_push}
+use Rattle.std.proofs.lemmas.List.{take_more, take-append-drop, length-map, length_push, map-append, map_push}
 use Rattle.std.proofs.lemmas.List.Folds.{list_any-append}
 use Rattle.std.proofs.lemmas.List.Sums.{fold-append}
 use Rattle.std.proofs.lemmas.Grind.{elements}
@@ -14,9 +14,9 @@ use Rattle.vax_image.specs.declared.Base.{Base}
 use Rattle.vax_image.specs.declared.Base.TheVariants.{Bare, User}
 use Rattle.vax_image.specs.Image.{end_page}
 use Rattle.vax_link.specs.Names.{Name}
-use Rattle.vax_link.specs.Layout.{align_of, aligned, end_behind, is_listed, is_named, is_writable, with_name, end_page_from, has_no_room, is_control_block, is_too_large, names_in, names_of, origin, page_behind, pages_from, pages_of, sections_in, size_of}
-use Rattle.vax_link.proofs.LayoutLaws.{end_past, page_grows, page_more, page_past, pages_more, too_many}
-use Rattle.vax_link.proofs.ImageLaws.{is_long, size_fits}
+use Rattle.vax_link.specs.Layout.{IsPlaced, addresses, addresses_from, first_page_of, offset_behind, pages_of_names, align_of, aligned, end_behind, is_listed, is_named, is_writable, with_name, end_page_from, has_no_room, is_control_block, is_too_large, names_in, names_of, origin, page_behind, pages_from, pages_of, sections_in, size_of}
+use Rattle.vax_link.proofs.LayoutLaws.{address_at, addresses_more, listed_piece, prefix_ends, end_past, page_grows, page_more, page_past, pages_more, too_many}
+use Rattle.vax_link.proofs.ImageLaws.{aligns, few_bytes, is_long, size_fits}
 
 -- ---- what a loop over borrowed sections and names has passed
 
@@ -70,7 +70,7 @@ limit_near : (region : Base) → end_page region ≤ origin region + 0x7FFF
 limit_near Bare = omega arith
 limit_near User = omega arith
 
-far_behind : (c : Bool) (page more last : ℕ) → c ≡ false → last < page + more → last < cond c page (page + more)
+pub far_behind : (c : Bool) (page more last : ℕ) → c ≡ false → last < page + more → last < cond c page (page + more)
 far_behind true page more last is far = absurd cc
 far_behind false page more last is far = far
 
@@ -223,12 +223,12 @@ abbrev pub name_at : List (Bor (List ℕ)) → ℕ → Bor (List ℕ)
 name_at names i = get_or names i (record { ref_ptr = (0, 0); now = [] })
 
 -- the sections with the first i of the names begin at these pages, and the next one at this
-pub record IsLaid (region : Base) (pieces : List Section) (names : List (Bor (List ℕ))) (i next : ℕ) (pages : List ℕ) : Type 0 where
+pub record IsLaid (region : Base) (pieces : List Section) (names : List (Bor (List ℕ))) (i next : ℕ) (begun : List ℕ) : Type 0 where
   pub page : next ≡ end_page_from region pieces (origin region) (names_in (take i names))
-  pub pages : pages ≡ pages_from region pieces (origin region) (names_in (take i names))
+  pub pages : begun ≡ pages_from region pieces (origin region) (names_in (take i names))
   pub room : has_no_room region pieces (names_in (take i names)) ≡ false
   pub low : next ≤ end_page region
-  pub each : All (λ page. page ≤ 0x400800) pages
+  pub each : All (λ page. page ≤ 0x400800) begun
 
 first_low : (region : Base) → origin region ≤ end_page region
 first_low Bare = omega arith
@@ -292,3 +292,85 @@ laid_other region pieces names i next more pages laid lt plain is fits =
 
 pub parted_at : (names : List (Bor (List ℕ))) (i : ℕ) → i < length names → names_in names ≡ names_in (take i names) ++ ((name_at names i).now ∷ names_in (drop (i + 1) names))
 parted_at names i lt = names_parted names i (name_at names i) lt (own_item names i (record { ref_ptr = (0, 0); now = [] }) lt)
+
+-- ---- names that are listed
+
+pub listed_here : (names : List (Bor (List ℕ))) (i : ℕ) (name : Name) → i < length names → bytes_eq (name_at names i).now name ≡ true → true ≡ is_listed (names_in names) name
+listed_here names i name lt same =
+    let test : Name → Bool = λ n. bytes_eq n name in
+    let front = names_in (take i names) in
+    let back = names_in (drop (i + 1) names) in
+    sym (ap (list_any test) (parted_at names i lt) ∙ list_any-append test front ((name_at names i).now ∷ back)
+    ∙ or_true (list_any test front) (test (name_at names i).now || list_any test back) (true_or (test (name_at names i).now) (list_any test back) same))
+
+pub not_listed_more : (names : List (Bor (List ℕ))) (i : ℕ) (name : Name) → i < length names → bytes_eq (name_at names i).now name ≡ false → is_listed (names_in (take i names)) name ≡ false → is_listed (names_in (take (i + 1) names)) name ≡ false
+not_listed_more names i name lt other so_far =
+    let test : Name → Bool = λ n. bytes_eq n name in
+    let front = names_in (take i names) in
+    ap (list_any test) (names_pushed names i (name_at names i) lt (own_item names i (record { ref_ptr = (0, 0); now = [] }) lt)) ∙ list_any-append test front ((name_at names i).now ∷ [])
+    ∙ false_or (list_any test front) (test (name_at names i).now || false) so_far (false_or (test (name_at names i).now) false other refl)
+
+pub few_push : {X : Type 0} (xs ys : List X) (x : X) → ys ≡ xs ++ x ∷ [] → length xs ≤ 64 → (length xs ≡ 64 → ⊥) → length ys ≤ 64
+few_push xs ys x same few less =
+    let long = ap length same ∙ length_push xs x in
+    omega arith
+
+-- ---- addresses
+
+pub no_addresses : (region : Base) (pieces : List Section) → [] ≡ addresses_from region pieces [] []
+unfolding addresses_from
+no_addresses region pieces = refl
+
+pub prefix_small : (region : Base) (pieces : List (Bor Section)) (i : ℕ) (x : Bor Section) → i < length pieces → x ≡ get_or pieces i x → is_too_large region (sections_in pieces) ≡ false
+    → end_behind x.now.name (align_of x.now.name (sections_in pieces)) 0 (sections_in (take i pieces)) ≤ 0x1000000
+unfolding size_of
+prefix_small region pieces i x lt is room =
+    let name = x.now.name in
+    let all = sections_in pieces in
+    let front = sections_in (take i pieces) in
+    let back = sections_in (drop (i + 1) pieces) in
+    let parts = sections_parted pieces i x lt is in
+    let some = aligns name 1 all (omega arith) in
+    let listed : is_listed (names_of all) name ≡ true = ap (λ (ss : List Section). is_listed (names_of ss) name) parts ∙ listed_piece front back x.now in
+    let whole : end_behind name (align_of name all) 0 all ≤ 0x1000000 = few_bytes region all name room listed in
+    let P : List Section → Type 0 = λ ss. end_behind name (align_of name all) 0 ss ≤ 0x1000000 in
+    let parted : end_behind name (align_of name all) 0 (front ++ (x.now ∷ back)) ≤ 0x1000000 = subst P parts whole in
+    let prefix = prefix_ends name (align_of name all) front (x.now ∷ back) some in
+    omega arith
+
+pub address_more : (region : Base) (pieces : List (Bor Section)) (i : ℕ) (x : Bor Section) (out next : List ℕ) (page offset : ℕ) → i < length pieces → x ≡ get_or pieces i x
+    → out ≡ addresses_from region (sections_in pieces) [] (sections_in (take i pieces)) → next ≡ out ++ (page * 512 + offset) ∷ [] → page ≡ first_page_of region (sections_in pieces) x.now.name
+    → offset ≡ offset_behind (sections_in pieces) (sections_in (take i pieces)) x.now.name → next ≡ addresses_from region (sections_in pieces) [] (sections_in (take (i + 1) pieces))
+address_more region pieces i x out next page offset lt is so_far more page_is offset_is =
+    let all = sections_in pieces in
+    let front = sections_in (take i pieces) in
+    let here : page * 512 + offset ≡ address_at region all front x.now = omega arith in
+    more ∙ ap (λ (ps : List ℕ). ps ++ (page * 512 + offset) ∷ []) so_far ∙ ap (λ (n : ℕ). addresses_from region all [] front ++ n ∷ []) here
+    ∙ sym (addresses_more region all [] front x.now) ∙ ap (addresses_from region all []) (sym (sections_pushed pieces i x lt is))
+
+-- ---- what a layout keeps
+
+pub placed_here : (region : Base) (pieces d d2 d4 : List (Bor Section)) (names d3 d5 : List (Bor (List ℕ))) (pages d6 places : List ℕ) → d ≡ pieces → d2 ≡ pieces → d4 ≡ pieces → d3 ≡ names → d5 ≡ names → d6 ≡ pages
+    → names_in names ≡ names_of (sections_in d) → length names ≤ 64 → has_no_room region (sections_in d2) (names_in d3) ≡ false → pages ≡ pages_from region (sections_in d2) (origin region) (names_in d3)
+    → ((r : Base) → names_in d5 ≡ names_of (sections_in d4) → d6 ≡ pages_of_names r (sections_in d4) → is_too_large r (sections_in d4) ≡ false → places ≡ addresses r (sections_in d4))
+    → IsPlaced region (sections_in pieces) (names_in names) pages places
+placed_here region pieces d d2 d4 names d3 d5 pages d6 places e e2 e4 e3 e5 e6 named few room begun lying =
+    let all = sections_in pieces in
+    let name : Bor (List ℕ) → List ℕ = λ n. n.now in
+    let named_all : names_in names ≡ names_of all = named ∙ ap (λ (p : List (Bor Section)). names_of (sections_in p)) e in
+    let room_all : has_no_room region all (names_in names) ≡ false =
+    ap (λ (ns : List (Bor (List ℕ))). has_no_room region all (names_in ns)) (sym e3) ∙ ap (λ (p : List (Bor Section)). has_no_room region (sections_in p) (names_in d3)) (sym e2) ∙ room in
+    let long = length-map names name in
+    let large : is_too_large region all ≡ false = has_all_room region all (names_in names) named_all (omega arith) room_all in
+    let begun_all : pages ≡ pages_of_names region all =
+    begun ∙ ap (λ (p : List (Bor Section)). pages_from region (sections_in p) (origin region) (names_in d3)) e2
+    ∙ ap (λ (ns : List (Bor (List ℕ))). pages_from region all (origin region) (names_in ns)) e3 ∙ ap (pages_from region all (origin region)) named_all in
+    record {
+      room = large;
+      named = named_all;
+      begun = begun_all;
+      lying =
+          lying region (ap names_in e5 ∙ named_all ∙ ap (λ (p : List (Bor Section)). names_of (sections_in p)) (sym e4))
+          (e6 ∙ begun_all ∙ ap (λ (p : List (Bor Section)). pages_of_names region (sections_in p)) (sym e4)) (ap (λ (p : List (Bor Section)). is_too_large region (sections_in p)) e4 ∙ large)
+          ∙ ap (λ (p : List (Bor Section)). addresses region (sections_in p)) e4;
+    }

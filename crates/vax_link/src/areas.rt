@@ -1,5 +1,5 @@
 //! The areas of an image.
-ghost use Rattle.std.specs.Prelude.{◌≡◌, ◌≤◌, ◌++◌, IfOk, OnOk};
+ghost use Rattle.std.specs.Prelude.{◌≡◌, ◌≤◌, ◌++◌, IfOk, OnOk, slice_index};
 ghost use Rattle.std.specs.List.{filter, filter_map};
 ghost use Rattle.vax_link.specs.Layout as lay;
 ghost use Rattle.vax_link.specs.Layout.{sections_in};
@@ -87,6 +87,16 @@ fn area_of(
     }))
 }
 
+/// The page at which a section begins, by its place among the names.
+fn first_page(layout: &Layout, number: usize) -> u32
+    ensures { result ≡ slice_index layout.now.pages.items number }
+{
+    match layout.pages.get(number) {
+        None => 0,
+        Some(page) => *page,
+    }
+}
+
 /// Appends the area of the control block, or those of the other sections as they appear.
 fn push_areas(
     alloc: Global,
@@ -100,7 +110,7 @@ fn push_areas(
 {
     for (number, name) in layout.names.iter().enumerate() {
         if is_control_block(layout.base, name) == control {
-            let first = layout.pages.get(number).copied().unwrap_or(0);
+            let first = first_page(layout, number);
             if let Some(area) = area_of(alloc, layout, filled, name, first)? {
                 areas.push(area)?;
             }

@@ -1,5 +1,6 @@
 use Rattle.std.proofs.Common.{◌≡◌, ◌+◌, ℕ, true, List, take, drop, sym, ap, subst, ◌∙◌, arith}
 use Rattle.std.specs.Int.{div_ceil}
+use Rattle.std.specs.Global.{Vec}
 use Rattle.vax_link.specs.Names.{Name}
 use Rattle.vax_link.specs.Layout.{end_page_from, has_no_room, is_control_block, names_in, origin, pages_of, sections_in}
 use Rattle.vax_link.proofs.RoomLaws.{IsLaid, far_behind, laid_control, laid_first, laid_other, name_at, parted_at, too_far, too_long, too_many_bytes}
@@ -53,4 +54,18 @@ loop-name-preserved c =
     let names = c.args.names.now in
     let i = c.loop-name.name-index in
     let x = (name_at names i).now in
-    ?
+    let old = c.loop-name.pages.items in
+    let items : Vec ℕ → List ℕ = λ v. v.items in
+    let P : ℕ → Type 0 = λ page. IsLaid region pieces names (i + 1) page c.if-is_control_block.pages.items in
+    elim c.if-is_control_block.branch [
+      | then-is_control_block+else-size-gt512+in_ok-push w ↦
+          let laid = laid_control region pieces names i c.loop-name.page c.in-Some.size old c.loop-name.invariant c.loop-name-test.true (sym w.if-is_control_block.ensures) c.in-Some.ensures.some w.if-size-gt512.false in
+          let Q : List ℕ → Type 0 = λ pages. IsLaid region pieces names (i + 1) c.loop-name.page pages in
+          subst P (sym w.page-is) (subst Q (sym (ap items w.pages-is ∙ w.in_ok-push.ensures.items)) laid)
+      | else-is_control_block+in_ok-push-2+else-page-end w ↦
+          let more : w.div_ceil-page.result ≡ pages_of pieces x = w.div_ceil-page.ensures ∙ ap (λ (n : ℕ). div_ceil n 512) c.in-Some.ensures.some in
+          let last = c.end_page-end.ensures.page in
+          let laid = laid_other region pieces names i c.loop-name.page w.div_ceil-page.result old c.loop-name.invariant c.loop-name-test.true (sym w.if-is_control_block.ensures) more (omega (arith, w.if-page-end.false, last)) in
+          let Q : List ℕ → Type 0 = λ pages. IsLaid region pieces names (i + 1) (c.loop-name.page + w.div_ceil-page.result) pages in
+          subst P (sym w.page-is) (subst Q (sym (ap items w.pages-is ∙ w.in_ok-push-2.ensures.items)) laid)
+    ]
