@@ -1,5 +1,6 @@
 -- The areas that the code makes of sections.
 use Rattle.std.proofs.Common.{◌≡◌, ℕ, zero, suc, ◌+◌, ◌-◌, ◌<◌, ◌≤◌, Bool, true, false, cond, List, [], ◌∷◌, ◌++◌, length, take, get_or, map, min, Option, Some, None, refl, sym, ap, subst, ◌∙◌, append_assoc, arith}
+use Rattle.std.specs.Bool.{beq}
 use Rattle.std.specs.Prelude.{All, not, ◌&&◌, ◌==◌, replicate, slice_index}
 use Rattle.std.specs.Borrow.{Bor}
 use Rattle.std.specs.Global.{Vec}
@@ -95,16 +96,17 @@ placed_all region pieces names i same past =
     let long_zip = length-zip (names_of pieces) (pages_of_names region pieces) in
     take_all i (placed_names region pieces) (omega arith)
 
-pub chosen : (control : Bool) (region : Base) (name : Name) (first : ℕ) (is : Bool) → is ≡ is_control_block region name → is ≡ control → is_chosen region control (name, first) ≡ true
-chosen true region name first is same here = sym same ∙ here
-chosen false region name first is same here = ap not (sym same ∙ here)
+pub chosen : (control : Bool) (region : Base) (name : Name) (first : ℕ) (is : Bool) → is ≡ is_control_block region name → beq is control ≡ true → is_chosen region control (name, first) ≡ true
+chosen true region name first true same here = sym same
+chosen true region name first false same here = absurd cc
+chosen false region name first true same here = absurd cc
+chosen false region name first false same here = ap not (sym same)
 
-pub passed_over : (control : Bool) (region : Base) (name : Name) (first : ℕ) (is : Bool) → is ≡ is_control_block region name → (is ≡ control → ⊥) → is_chosen region control (name, first) ≡ false
-passed_over true region name first true same other = absurd (other refl)
+pub passed_over : (control : Bool) (region : Base) (name : Name) (first : ℕ) (is : Bool) → is ≡ is_control_block region name → beq is control ≡ false → is_chosen region control (name, first) ≡ false
+passed_over true region name first true same other = absurd cc
 passed_over true region name first false same other = sym same
 passed_over false region name first true same other = ap not (sym same)
-passed_over false region name first false same other = absurd (other refl)
-
+passed_over false region name first false same other = absurd cc
 
 pub areas_more : (h : Name × ℕ → Option Area) (test : Name × ℕ → Bool) (old out next : List Area) (front : List (Name × ℕ)) (p : Name × ℕ) (area : Area) → test p ≡ true → Some area ≡ h p → out ≡ old ++ filter_map h (filter test front) → next ≡ out ++ area ∷ []
     → next ≡ old ++ filter_map h (filter test (front ++ p ∷ []))

@@ -1,4 +1,4 @@
-use Rattle.std.proofs.Common.{◌≡◌, ◌×◌, ℕ, List, Some, None, true, false, sym, ap, subst, ◌∙◌}
+use Rattle.std.proofs.Common.{◌≡◌, ℕ, List, Some, None, true, false, sym, ap, subst, ◌∙◌}
 use Rattle.std.specs.Prelude.{Option, Result, MatchOption, Err, Ok}
 use Rattle.std.specs.Borrow.{Bor}
 use Rattle.std.specs.List.{find}
