@@ -1,0 +1,6 @@
+pub mod Names
+pub mod Tables
+pub mod Layout
+pub mod Values
+pub mod Linked
+pub mod Placed
