@@ -18,9 +18,9 @@ pub struct Placed {
 #[derive(Debug, Drop)]
 pub struct PageList {
     /// The frame after each, in a circle through the limit, which stands for the end.
-    next: Vec<u32>,
+    next: Vec<u16>,
     /// The frame before each.
-    before: Vec<u32>,
+    before: Vec<u16>,
     /// The page in each frame of the list.
     pages: Vec<u32>,
     limit: u32,
@@ -45,8 +45,8 @@ impl PageList {
         ensures { IfOk result (λ list. list ≡ record { items = []; limit = limit }) }
     {
         let count = limit as usize;
-        let next = vec![in alloc; limit; count + 1]?;
-        let before = vec![in alloc; limit; count + 1]?;
+        let next = vec![in alloc; limit as u16; count + 1]?;
+        let before = vec![in alloc; limit as u16; count + 1]?;
         let pages = vec![in alloc; 0u32; count]?;
         Ok(PageList {
             next,
@@ -77,7 +77,7 @@ impl PageList {
         let frame = self.next[self.limit as usize];
         Some(Placed {
             page: self.pages[frame as usize],
-            frame,
+            frame: u32::from(frame),
         })
     }
 
@@ -91,10 +91,10 @@ impl PageList {
     {
         let end = self.limit as usize;
         let last = self.before[end];
-        self.next[last as usize] = frame;
-        self.next[frame as usize] = self.limit;
+        self.next[last as usize] = frame as u16;
+        self.next[frame as usize] = self.limit as u16;
         self.before[frame as usize] = last;
-        self.before[end] = frame;
+        self.before[end] = frame as u16;
         self.pages[frame as usize] = page;
         self.count += 1;
     }
