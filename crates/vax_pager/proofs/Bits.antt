@@ -5,7 +5,7 @@ use Rattle.std.proofs.Math.Path.{fun_ext}
 use Rattle.std.proofs.lemmas.Bool.{cases_eq, eq-eqb, ne_eqb}
 use Rattle.std.proofs.lemmas.Nat.Bits.{bit_at_set_other, bit_at_set_same, bit_at-zero, shr_and_one}
 use Rattle.std.proofs.lemmas.List.{length-replicate}
-use Rattle.vax_pager.specs.Marks.{MarkSet, has_mark, marks_in, no_marks, with_mark}
+use Rattle.vax_pager.specs.Marks.{has_mark, no_mark}
 use Rattle.vax_pager.specs.Steps.{at}
 use Rattle.vax_pager.proofs.Moves.{at_other, at_same}
 
@@ -14,11 +14,10 @@ no_word zero k = refl
 no_word (suc n) zero = refl
 no_word (suc n) (suc k) = no_word n k
 
-pub no_marks_in : (n : ℕ) (words : List ℕ) → words ≡ replicate n 0 → marks_in words ≡ no_marks
-no_marks_in n words e =
-    let none : has_mark words ≡ (λ number. false) = fun_ext (λ number. unfold has_mark in
-        ap (λ (w : ℕ). w / 2 ^ (number % 64) % 2 == 1) (ap (λ (z : List ℕ). slice_index z (number / 64)) e ∙ no_word n (number / 64)) ∙ ap (λ (b : ℕ). b == 1) (bit_at-zero (number % 64))) in
-    ap (λ (f : ℕ → Bool). record { has = f }) none
+pub no_marks_in : (n : ℕ) (words : List ℕ) → words ≡ replicate n 0 → has_mark words ≡ no_mark
+unfolding has_mark
+no_marks_in n words e = fun_ext (λ number.
+    ap (λ (w : ℕ). w / 2 ^ (number % 64) % 2 == 1) (ap (λ (z : List ℕ). slice_index z (number / 64)) e ∙ no_word n (number / 64)) ∙ ap (λ (b : ℕ). b == 1) (bit_at-zero (number % 64)))
 
 mark_at : (words : List ℕ) (n : ℕ) → (slice_index words (n / 64) / 2 ^ (n % 64) % 2 == 1) ≡ has_mark words n
 unfolding has_mark
@@ -51,17 +50,14 @@ read (y ∷ ys) (suc i) x low e = read ys i x (omega arith) e
 pub no_marks_length : (words : List ℕ) → words ≡ replicate 1088 0 → length words ≡ 1088
 no_marks_length words e = ap (length {A = ℕ}) e ∙ length-replicate {A = ℕ} 1088 0
 
-pub has_is : (words : List ℕ) (n w : ℕ) (m : MarkSet) → marks_in words ≡ m → w ≡ slice_index_or words (n / 64) w → n / 64 < length words → (bit_and (w / 2 ^ (n % 64)) 1 == 1) ≡ m.has n
-has_is words n w m is was low =
-    ap (λ (b : ℕ). b == 1) (shr_and_one w (n % 64) ∙ ap (λ (x : ℕ). x / 2 ^ (n % 64) % 2) (read words (n / 64) w low was))
-    ∙ mark_at words n ∙ ap (λ (z : MarkSet). z.has n) is
+pub has_is : (words : List ℕ) (n w : ℕ) → w ≡ slice_index_or words (n / 64) w → n / 64 < length words → (bit_and (w / 2 ^ (n % 64)) 1 == 1) ≡ has_mark words n
+has_is words n w was low =
+    ap (λ (b : ℕ). b == 1) (shr_and_one w (n % 64) ∙ ap (λ (x : ℕ). x / 2 ^ (n % 64) % 2) (read words (n / 64) w low was)) ∙ mark_at words n
 
-pub marks_set : (words : List ℕ) (n w : ℕ) (m : MarkSet) → marks_in words ≡ m → w ≡ slice_index_or words (n / 64) w → n / 64 < length words → marks_in (slice_set words (n / 64) (bit_or w (1 * 2 ^ (n % 64) % 2 ^ 64))) ≡ with_mark n m
-marks_set words n w m is was low =
-    let f : has_mark (slice_set words (n / 64) (bit_or (slice_index words (n / 64)) (1 * 2 ^ (n % 64) % 2 ^ 64))) ≡ at n true (has_mark words) = fun_ext (λ q. elim (cases_eq q n) [
+pub marks_set : (words : List ℕ) (n w : ℕ) → w ≡ slice_index_or words (n / 64) w → n / 64 < length words → has_mark (slice_set words (n / 64) (bit_or w (1 * 2 ^ (n % 64) % 2 ^ 64))) ≡ at n true (has_mark words)
+marks_set words n w was low =
+    ap (λ (x : ℕ). has_mark (slice_set words (n / 64) (bit_or x (1 * 2 ^ (n % 64) % 2 ^ 64)))) (read words (n / 64) w low was)
+    ∙ fun_ext (λ q. elim (cases_eq q n) [
       | inl e ↦ rw (e, at_same n true (has_mark words)) (mark_same words n low)
       | inr o ↦ rw (at_other n q true (has_mark words) o) (mark_other words n q low o)
-    ]) in
-    let at_word : marks_in (slice_set words (n / 64) (bit_or w (1 * 2 ^ (n % 64) % 2 ^ 64))) ≡ marks_in (slice_set words (n / 64) (bit_or (slice_index words (n / 64)) (1 * 2 ^ (n % 64) % 2 ^ 64))) =
-    ap (λ (x : ℕ). marks_in (slice_set words (n / 64) (bit_or x (1 * 2 ^ (n % 64) % 2 ^ 64)))) (read words (n / 64) w low was) in
-    at_word ∙ ap (λ (g : ℕ → Bool). record { has = g }) f ∙ ap (with_mark n) is
+    ])

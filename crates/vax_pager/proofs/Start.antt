@@ -20,7 +20,7 @@ use Rattle.vax_flat.specs.Start.{start_memory}
 use Rattle.vax_undo.proofs.PlainMemory.{layout_start}
 use Rattle.vax_outside.specs.Blocks.{BlockFile}
 use Rattle.vax_pager.specs.declared.store.Store.{Store}
-use Rattle.vax_pager.specs.Marks.{MarkSet, no_marks}
+use Rattle.vax_pager.specs.Marks.{has_mark, no_mark}
 use Rattle.vax_pager.specs.Listing.{is_listed}
 use Rattle.vax_pager.specs.Paging.{Backs, bytes_in, content, home, is_clean, start_in, start_of}
 use Rattle.vax_pager.specs.Calls.{fresh}
@@ -60,7 +60,7 @@ pub record IsNew (s : Store) (count : ℕ) : Type 0 where
   pub lists : s.lists ≡ record { order = []; kept = []; modified = []; limit = count }
   pub pinned : s.pinned ≡ 0
   pub frames : s.frames.items ≡ replicate count (replicate 512 0)
-  pub blocked : s.blocked ≡ no_marks
+  pub blocked : has_mark s.blocked ≡ no_mark
   pub used : s.used ≡ 0
 
 zero_small : (n k : ℕ) → slice_index (replicate {A = ℕ} n 0) k < 256
@@ -115,7 +115,7 @@ paging_new s frames n e0 e1 e2 e3 =
     let modified : pages_of s.lists.modified ≡ [] = rw n.lists refl in
     let keeps : pages_of s.lists.kept ≡ [] = rw n.lists refl in
     let pins : last_of s.pinned (pages_of s.lists.order) ≡ [] = rw (n.pinned, n.lists) refl in
-    let blocks : ◌≡◌ {A = ℕ → Bool} (λ q. flag_of s.blocked.has (block_of s.space q)) (λ q. false) = fun_ext (λ q. ap (λ (z : MarkSet). flag_of z.has (block_of s.space q)) n.blocked ∙ no_flag (block_of s.space q)) in
+    let blocks : ◌≡◌ {A = ℕ → Bool} (λ q. flag_of (has_mark s.blocked) (block_of s.space q)) (λ q. false) = fun_ext (λ q. ap (λ (z : ℕ → Bool). flag_of z (block_of s.space q)) n.blocked ∙ no_flag (block_of s.space q)) in
     let bytes : ◌≡◌ {A = ℕ → List ℕ} (λ q. bytes_at s.frames.items (held s q)) (λ q. []) = fun_ext (λ q. ap (bytes_at s.frames.items) (held_new s frames q n)) in
     cc
 

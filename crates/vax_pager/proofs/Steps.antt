@@ -20,7 +20,7 @@ use Rattle.vax_lists.specs.declared.lists.Placed.{Placed}
 use Rattle.vax_lists.specs.Lines.{PageLists, frame_in, without, pages_of, placed, with_kept, with_modified, with_order, appended}
 use Rattle.vax_lists.proofs.Pages.{in_appended, in_without}
 use Rattle.vax_pager.specs.declared.store.Store.{Store}
-use Rattle.vax_pager.specs.Marks.{MarkSet, with_mark}
+use Rattle.vax_pager.specs.Marks.{has_mark}
 use Rattle.vax_pager.specs.Listing.{is_listed, leave_out}
 use Rattle.vax_pager.specs.Steps.{at, flushed, released, taken_back, brought, forgotten, removed, settled}
 use Rattle.vax_pager.specs.Frames.{held_by, dirty_frame}
@@ -302,7 +302,7 @@ flags_set marks areas p n b = fun_ext (λ q. elim (cases_eq q p) [
 
 -- a modified page was written to its block
 
-pub sound_flushed : (s : Store) (p f w : ℕ) (tables : Tables) (buffer : Buffer) (lists : PageLists) (blocked : MarkSet) → Changes s tables p (set_in (walked s.tables p) f) None → buffered buffer ≡ dropped (buffered s.buffer) p → lists ≡ with_modified s.lists (without p s.lists.modified) → frame_in s.lists.modified p ≡ Some f → IsSound 0 s → IsSound 0 (record s { tables = tables; buffer = buffer; lists = lists; blocked = blocked; written = w })
+pub sound_flushed : (s : Store) (p f w : ℕ) (tables : Tables) (buffer : Buffer) (lists : PageLists) (blocked : List ℕ) → Changes s tables p (set_in (walked s.tables p) f) None → buffered buffer ≡ dropped (buffered s.buffer) p → lists ≡ with_modified s.lists (without p s.lists.modified) → frame_in s.lists.modified p ≡ Some f → IsSound 0 s → IsSound 0 (record s { tables = tables; buffer = buffer; lists = lists; blocked = blocked; written = w })
 sound_flushed s p f w tables buffer lists blocked c b el there h =
     sound_moved 0 0 s (record s { tables = tables; buffer = buffer; lists = lists; blocked = blocked; written = w }) p (set_in (walked s.tables p) f) None h (record {
       changes = c;
@@ -320,7 +320,7 @@ sound_flushed s p f w tables buffer lists blocked c b el there h =
       pins = rw el h.pins;
     })
 
-pub paging_flushed : (s : Store) (p f n w : ℕ) (tables : Tables) (buffer : Buffer) (lists : PageLists) (blocked : MarkSet) → Changes s tables p (set_in (walked s.tables p) f) None → lists ≡ with_modified s.lists (without p s.lists.modified) → blocked ≡ with_mark n s.blocked → frame_in s.lists.modified p ≡ Some f → block_of s.space p ≡ Some n → w ≡ raised s.written → IsSound 0 s → paging (record s { tables = tables; buffer = buffer; lists = lists; blocked = blocked; written = w }) ≡ flushed p (paging s)
+pub paging_flushed : (s : Store) (p f n w : ℕ) (tables : Tables) (buffer : Buffer) (lists : PageLists) (blocked : List ℕ) → Changes s tables p (set_in (walked s.tables p) f) None → lists ≡ with_modified s.lists (without p s.lists.modified) → has_mark blocked ≡ at n true (has_mark s.blocked) → frame_in s.lists.modified p ≡ Some f → block_of s.space p ≡ Some n → w ≡ raised s.written → IsSound 0 s → paging (record s { tables = tables; buffer = buffer; lists = lists; blocked = blocked; written = w }) ≡ flushed p (paging s)
 unfolding paging flushed has_block
 paging_flushed s p f n w tables buffer lists blocked c el eb there block ew h =
     let t : Store = record s { tables = tables; buffer = buffer; lists = lists; blocked = blocked; written = w } in
@@ -330,8 +330,8 @@ paging_flushed s p f n w tables buffer lists blocked c el eb there block ew h =
     let lo : pages_of lists.order ≡ pages_of s.lists.order = ap (λ (l : PageLists). pages_of l.order) el in
     let lm : pages_of lists.modified ≡ leave_out p (pages_of s.lists.modified) = ap (λ (l : PageLists). pages_of l.modified) el ∙ pages_without p s.lists.modified in
     let lk : pages_of lists.kept ≡ pages_of s.lists.kept = ap (λ (l : PageLists). pages_of l.kept) el in
-    let flags : (λ q. flag_of blocked.has (block_of s.space q)) ≡ at p true (λ q. flag_of s.blocked.has (block_of s.space q)) =
-    ap (λ (z : MarkSet). λ q. flag_of z.has (block_of s.space q)) eb ∙ flags_set s.blocked.has s.space p n block in
+    let flags : (λ q. flag_of (has_mark blocked) (block_of s.space q)) ≡ at p true (λ q. flag_of (has_mark s.blocked) (block_of s.space q)) =
+    ap (λ (z : ℕ → Bool). λ q. flag_of z (block_of s.space q)) eb ∙ flags_set (has_mark s.blocked) s.space p n block in
     cc
 
 -- a resident page is absent, and its frame is kept

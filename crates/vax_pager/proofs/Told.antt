@@ -13,6 +13,7 @@ use Rattle.vax_lists.specs.declared.lists.Placed.{Placed}
 use Rattle.vax_lists.specs.Lines.{EachOnce, frame_in, pages_of}
 use Rattle.vax_pager.specs.declared.store.Store.{Store}
 use Rattle.vax_pager.specs.Listing.{AreOnce, is_listed, first, first_outside, page_in}
+use Rattle.vax_pager.specs.Marks.{has_mark}
 use Rattle.vax_pager.specs.Calls.{IsPaging}
 use Rattle.vax_pager.specs.Frames.{dirty_frame}
 use Rattle.vax_pager.specs.Store.{held, flag_of, has_block, last_of, paging, IsSound, IsFree}
@@ -243,9 +244,9 @@ pub block_is : (s : Store) (p n : ℕ) → block_of s.space p ≡ Some n → blo
 unfolding paging
 block_is s p n e = e
 
-pub written_is : (s : Store) (p : ℕ) (o : Option ℕ) → o ≡ block_of s.space p → flag_of s.blocked.has o ≡ (paging s).blocked p
+pub written_is : (s : Store) (p : ℕ) (o : Option ℕ) → o ≡ block_of s.space p → flag_of (has_mark s.blocked) o ≡ (paging s).blocked p
 unfolding paging has_block
-written_is s p o e = ap (flag_of s.blocked.has) e
+written_is s p o e = ap (flag_of (has_mark s.blocked)) e
 
 listed_before : (p : ℕ) (front end : List ℕ) → is_listed p end ≡ true → is_listed p (front ++ end) ≡ true
 unfolding is_listed

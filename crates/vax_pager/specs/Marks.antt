@@ -1,19 +1,9 @@
 -- Marks of numbers.
-use Rattle.std.specs.Prelude.{ℕ, ◌/◌, ◌%◌, ◌^◌, ◌==◌, Bool, true, false, List, slice_index}
-use Rattle.vax_pager.specs.Steps.{at}
+use Rattle.std.specs.Prelude.{ℕ, ◌/◌, ◌%◌, ◌^◌, ◌==◌, Bool, false, List, slice_index}
 
-pub record MarkSet : Type 0 where
-  pub has : ℕ → Bool
-
-abbrev pub no_marks : MarkSet
-no_marks = record { has = λ number. false }
-
-abbrev pub with_mark : ℕ → MarkSet → MarkSet
-with_mark number marks = record { has = at number true marks.has }
-
--- 64 marks in a word
+-- a number is marked, with 64 marks in a word
 unfoldable pub has_mark : List ℕ → ℕ → Bool
 has_mark words number = slice_index words (number / 64) / 2 ^ (number % 64) % 2 == 1
 
-abbrev pub marks_in : List ℕ → MarkSet
-marks_in words = record { has = has_mark words }
+abbrev pub no_mark : ℕ → Bool
+no_mark number = false

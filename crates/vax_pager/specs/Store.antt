@@ -8,6 +8,7 @@ use Rattle.vax_tb.specs.Buffer.{Agrees}
 use Rattle.vax_tb.specs.Meaning.{buffered}
 use Rattle.vax_lists.specs.Lines.{frame_in, pages_of}
 use Rattle.vax_pager.specs.declared.store.Store.{Store}
+use Rattle.vax_pager.specs.Marks.{has_mark}
 use Rattle.vax_pager.specs.Paging.{Paging}
 use Rattle.vax_pager.specs.Frames.{held_by, dirty_frame}
 
@@ -25,7 +26,7 @@ flag_of marks None = false
 flag_of marks (Some block) = marks block
 
 unfoldable pub has_block : Store → ℕ → Bool
-has_block s page = flag_of s.blocked.has (block_of s.space page)
+has_block s page = flag_of (has_mark s.blocked) (block_of s.space page)
 
 -- the last so many
 abbrev pub last_of : ℕ → List ℕ → List ℕ

@@ -1,6 +1,7 @@
 //! Marks of numbers.
-ghost use Rattle.std.specs.Prelude.{◌≡◌, ◌<◌, IfOk};
-ghost use Rattle.vax_pager.specs.Marks.{no_marks, with_mark};
+ghost use Rattle.std.specs.Prelude.{◌≡◌, ◌<◌, true, IfOk};
+ghost use Rattle.vax_pager.specs.Marks.{has_mark, no_mark};
+ghost use Rattle.vax_pager.specs.Steps.{at};
 
 use std::alloc::Global;
 use std::marker::Model;
@@ -13,12 +14,11 @@ pub(crate) struct Marks {
 }
 
 impl Model for Marks {
-    ghost use Rattle.std.specs.Prelude.{◌≡◌, length};
-    ghost use Rattle.vax_pager.specs.Marks.{MarkSet, marks_in};
+    ghost use Rattle.std.specs.Prelude.{◌≡◌, ℕ, List, length};
 
-    ghost Value = { MarkSet };
+    ghost Value = { List ℕ };
 
-    ghost view = { λ m. marks_in m.words.items };
+    ghost view = { λ m. m.words.items };
 
     ghost invariant = { λ m. length m.words.items ≡ 1088 };
 }
@@ -26,7 +26,7 @@ impl Model for Marks {
 impl Marks {
     /// No number is marked.
     pub(crate) fn new(alloc: Global) -> Result<Marks, NoMemory>
-        ensures { IfOk result (λ marks. marks ≡ no_marks) }
+        ensures { IfOk result (λ marks. has_mark marks ≡ no_mark) }
     {
         let words = vec![in alloc; 0u64; PAGES as usize / 64]?;
         Ok(Marks { words })
@@ -35,7 +35,7 @@ impl Marks {
     /// Whether a number is marked.
     pub(crate) fn has(&self, number: u32) -> bool
         requires few { number < 69632 }
-        ensures { result ≡ self.now.has number }
+        ensures { result ≡ has_mark self.now number }
     {
         self.words[number as usize / 64] >> (number % 64) & 1 == 1
     }
@@ -43,7 +43,7 @@ impl Marks {
     /// Marks a number.
     pub(crate) fn set(&mut self, number: u32)
         requires few { number < 69632 }
-        ensures { self.new ≡ with_mark number self.old }
+        ensures { has_mark self.new ≡ at number true (has_mark self.old) }
     {
         self.words[number as usize / 64] |= 1 << (number % 64);
     }

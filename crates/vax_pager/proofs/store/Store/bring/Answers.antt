@@ -29,7 +29,7 @@ pub serve-requires-clause-unmodified : goal.serve-requires-clause-unmodified
 serve-requires-clause-unmodified c = free_modified 1 _ _ c.requires.sound c.requires.free
 
 pub overflow_add-self : goal.overflow_add-self
-overflow_add-self c = more_pinned 1 _ c.requires.sound
+overflow_add-self c = omega (arith, more_pinned 1 _ c.requires.sound)
 
 pub returns-clause-sound : goal.returns-clause-sound
 returns-clause-sound c =

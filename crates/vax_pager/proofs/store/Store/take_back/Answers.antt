@@ -17,7 +17,7 @@ pub take_back-requires-clause-new : goal.take_back-requires-clause-new
 take_back-requires-clause-new c = kept_away 0 _ _ _ c.requires.sound c.requires.there
 
 pub overflow_add-self : goal.overflow_add-self
-overflow_add-self c = more_pinned 0 _ c.requires.sound
+overflow_add-self c = omega (arith, more_pinned 0 _ c.requires.sound)
 
 pub returns-clause-sound : goal.returns-clause-sound
 returns-clause-sound c =
