@@ -1,7 +1,7 @@
 -- Two lists of frames.
 use Rattle.std.proofs.Common.{ℕ, zero, suc, ◌≡◌, ◌≢◌, ◌+◌, ◌-◌, ◌<◌, ◌≤◌, true, false, None, Some, List, [], ◌∷◌, ◌++◌, drop, length, length-append, slice_index, slice_index_or, slice_set, length-set, get_or-set_same, get_or-set_other, refl, ap, sym, ◌∙◌, subst, arith, replicate}
 use Rattle.std.proofs.lemmas.List.{length-replicate}
-use Rattle.std.specs.Prelude.{IfSome, slice_get}
+use Rattle.std.specs.Prelude.{slice_get}
 use Rattle.vax_lists.specs.Links.{AllBelow, AreCircles, AreLinked, Apart, Away, Chain, FrameLists, Once, before_appended, before_removed, is_in, lists_of, next_appended, next_removed, nodes_of, omit, walk, with_first, with_second}
 use Rattle.vax_lists.proofs.Links.{apart_push, apart_remove, apart_swap, below_at, below_push, below_remove, end_away, few_nodes, omit_parts, once_push, once_remove, other_pushed, other_removed, parts_of, pushed, removed, seen_here, seen_next, seen_none, walk-length, walk_chain, walked_last, within_set}
 

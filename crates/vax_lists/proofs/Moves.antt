@@ -1,5 +1,5 @@
 -- What calls make of the three lists.
-use Rattle.std.proofs.Common.{ℕ, ◌≡◌, ◌≢◌, ◌+◌, ◌-◌, ◌<◌, ◌≤◌, true, Some, None, List, [], ◌∷◌, ◌++◌, drop, length, slice_index, slice_index_or, slice_set, length-set, get_or-set_same, refl, ap, sym, ◌∙◌, subst, arith, replicate}
+use Rattle.std.proofs.Common.{ℕ, ◌≡◌, ◌≢◌, ◌+◌, ◌-◌, ◌<◌, true, Some, None, List, [], ◌∷◌, ◌++◌, drop, length, slice_index, slice_index_or, slice_set, length-set, refl, ap, sym, ◌∙◌, subst, arith, replicate}
 use Rattle.std.proofs.lemmas.List.{length-replicate}
 use Rattle.std.specs.Prelude.{is_some, slice_get}
 use Rattle.std.specs.Option.{option_map}

@@ -1,4 +1,4 @@
-use Rattle.std.proofs.Common.{arith, ◌∙◌}
+use Rattle.std.proofs.Common.{◌∙◌}
 use Rattle.vax_lists.proofs.Moves.{is_last, order-length}
 use Rattle.vax_lists.proofs.lists.Lists.is_among_last.Goals as goal
 
