@@ -1,2 +1,4 @@
 pub mod Links
-pub mod Lines
+mod Frames
+pub mod Pages
+mod Moves

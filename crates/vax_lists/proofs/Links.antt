@@ -1,9 +1,10 @@
--- Links of a list, and what a node more or less makes of them.
-use Rattle.std.proofs.Common.{ℕ, zero, suc, ◌≡◌, ◌≢◌, ◌<◌, ◌≤◌, List, [], ◌∷◌, ◌++◌, length, slice_index, slice_set, length-set, get_or-set_same, get_or-set_other, refl, ap, sym, ◌∙◌, subst, arith, inl, inr, replicate}
+-- Links of lists, and what a node more or less makes of them.
+use Rattle.std.proofs.Common.{ℕ, zero, suc, ◌≡◌, ◌≢◌, ◌-◌, ◌<◌, ◌≤◌, Bool, true, false, take, drop, take-append-drop, List, [], ◌∷◌, ◌++◌, length, slice_index, slice_set, length-set, get_or-set_same, get_or-set_other, refl, ap, sym, ◌∙◌, subst, arith, inl, inr, replicate}
 use Rattle.std.proofs.Math.Path.{fun_ext}
-use Rattle.std.proofs.lemmas.Bool.{cases_eq, eq-eqb, ne_eqb}
+use Rattle.std.proofs.lemmas.Bool.{cases_eq, eq-eqb, ne_eqb, false≢true}
+use Rattle.std.proofs.lemmas.List.{length-drop}
 use Rattle.std.specs.Prelude.{◌==◌, if◌then◌else◌}
-use Rattle.vax_lists.specs.Links.{Chain, Away, Once, AllBelow, walk}
+use Rattle.vax_lists.specs.Links.{Chain, Away, Once, Apart, AllBelow, is_in, omit, walk, next_appended, before_appended, next_removed, before_removed}
 
 -- a function with another value at one place
 unfoldable upd : (ℕ → ℕ) → ℕ → ℕ → ℕ → ℕ
@@ -86,6 +87,83 @@ chain_remove N P a b x (y ∷ ys) back d e s c =
       chain_remove N P y b x ys back s.0 e.1 s.1 c.2,
     )
 
+-- one node more or less
+pub away_push : (i x : ℕ) (xs : List ℕ) → i ≢ x → Away i xs → Away i (xs ++ x ∷ [])
+unfolding Away
+away_push i x [] o w = (o, tt)
+away_push i x (y ∷ ys) o w = (w.0, away_push i x ys o w.1)
+
+away_remove : (i x : ℕ) (front back : List ℕ) → Away i (front ++ x ∷ back) → Away i (front ++ back)
+unfolding Away
+away_remove i x [] back w = w.1
+away_remove i x (y ∷ ys) back w = (w.0, away_remove i x ys back w.1)
+
+-- another list
+
+apart_nil : (ys : List ℕ) → Apart ys []
+unfolding Apart Away
+apart_nil [] = tt
+apart_nil (y ∷ ys) = (tt, apart_nil ys)
+
+apart_cons : (x : ℕ) (ys xs : List ℕ) → Away x ys → Apart ys xs → Apart ys (x ∷ xs)
+unfolding Apart Away
+apart_cons x [] xs w d = tt
+apart_cons x (y ∷ ys) xs w d = (((λ e. w.0 (sym e)), d.0), apart_cons x ys xs w.1 d.1)
+
+pub apart_swap : (xs ys : List ℕ) → Apart xs ys → Apart ys xs
+unfolding Apart
+apart_swap [] ys d = apart_nil ys
+apart_swap (x ∷ xs) ys d = apart_cons x ys xs d.0 (apart_swap xs ys d.1)
+
+pub apart_push : (x : ℕ) (ys xs : List ℕ) → Away x ys → Apart ys xs → Apart ys (xs ++ x ∷ [])
+unfolding Apart Away
+apart_push x [] xs w d = tt
+apart_push x (y ∷ ys) xs w d = (away_push y x xs (λ e. w.0 (sym e)) d.0, apart_push x ys xs w.1 d.1)
+
+pub apart_remove : (x : ℕ) (ys front back : List ℕ) → Apart ys (front ++ x ∷ back) → Apart ys (front ++ back)
+unfolding Apart
+apart_remove x [] front back d = tt
+apart_remove x (y ∷ ys) front back d = (away_remove y x front back d.0, apart_remove x ys front back d.1)
+
+last_apart : (N P : ℕ → ℕ) (a c : ℕ) (ys xs : List ℕ) → Away c ys → Apart ys xs → Chain N P c xs a → Away (P a) ys
+unfolding Apart Away
+last_apart N P a c [] xs w d k = tt
+last_apart N P a c (y ∷ ys) xs w d k =
+    ((λ e. last_away N P y c a xs (λ z. w.0 (sym z)) d.0 k (sym e)), last_apart N P a c ys xs w.1 d.1 k)
+
+prior_apart : (N P : ℕ → ℕ) (a x : ℕ) (ys front back : List ℕ) → Away a ys → Apart ys (front ++ x ∷ back) → Chain N P a (front ++ x ∷ back) a → Away (P x) ys
+unfolding Apart Away
+prior_apart N P a x [] front back w d k = tt
+prior_apart N P a x (y ∷ ys) front back w d k =
+    let f = away_parts y x front back d.0 in
+    ((λ e. before_away N P y a a x front back (λ z. w.0 (sym z)) f.0 k (sym e)), prior_apart N P a x ys front back w.1 d.1 k)
+
+next_apart : (N P : ℕ → ℕ) (a x : ℕ) (ys front back : List ℕ) → Away a ys → Apart ys (front ++ x ∷ back) → Chain N P a (front ++ x ∷ back) a → Away (N x) ys
+unfolding Apart Away
+next_apart N P a x [] front back w d k = tt
+next_apart N P a x (y ∷ ys) front back w d k =
+    let f = away_parts y x front back d.0 in
+    ((λ e. after_away N P y a a x front back (λ z. w.0 (sym z)) f.1 k (sym e)), next_apart N P a x ys front back w.1 d.1 k)
+
+other_push : (N P : ℕ → ℕ) (x a b : ℕ) (xs ys : List ℕ) → x ≢ b → a ≢ b → Away x ys → Away a ys → Away b xs → Apart ys xs → Chain N P a xs a → Chain N P b ys b →
+    Chain (upd (upd N (P a) x) x a) (upd (upd P x (P a)) a x) b ys b
+other_push N P x a b xs ys o ends w e f d k c =
+    let last = last_apart N P a a ys xs e d k in
+    let far : P a ≢ b = λ z. last_away N P b a a xs (λ y. ends (sym y)) f k (sym z) in
+    let c1 = chain_next N P (P a) x b b ys far last c in
+    let c2 = chain_next (upd N (P a) x) P x a b b ys o w c1 in
+    let c3 = chain_prev (upd (upd N (P a) x) x a) P x (P a) b b ys o w c2 in
+    chain_prev (upd (upd N (P a) x) x a) (upd P x (P a)) a x b b ys ends e c3
+
+other_remove : (N P : ℕ → ℕ) (x a b : ℕ) (ys front back : List ℕ) → a ≢ b → Away a ys → Away b (front ++ x ∷ back) → Apart ys (front ++ x ∷ back) → Chain N P a (front ++ x ∷ back) a → Chain N P b ys b →
+    Chain (upd N (P x) (N x)) (upd P (N x) (P x)) b ys b
+other_remove N P x a b ys front back ends e f d k c =
+    let g = away_parts b x front back f in
+    let prior : P x ≢ b = λ z. before_away N P b a a x front back (λ y. ends (sym y)) g.0 k (sym z) in
+    let after : N x ≢ b = λ z. after_away N P b a a x front back (λ y. ends (sym y)) g.1 k (sym z) in
+    chain_prev (upd N (P x) (N x)) P (N x) (P x) b b ys after (next_apart N P a x ys front back e d k)
+    (chain_next N P (P x) (N x) b b ys prior (prior_apart N P a x ys front back e d k) c)
+
 -- links in arrays
 set_upd : (xs : List ℕ) (p v : ℕ) → p < length xs → ◌≡◌ {A = ℕ → ℕ} (slice_index (slice_set xs p v)) (upd (slice_index xs) p v)
 unfolding upd
@@ -110,22 +188,24 @@ removed next before x limit front back l1 l2 d s c =
     rw (set_upd next (slice_index before x) (slice_index next x) l1, set_upd before (slice_index next x) (slice_index before x) l2)
     (chain_remove (slice_index next) (slice_index before) limit limit x front back d d s c)
 
--- neighbours are nodes, or the end
-pub last_within : (N P : ℕ → ℕ) (limit a b : ℕ) (xs : List ℕ) → a ≤ limit → AllBelow limit xs → Chain N P a xs b → P b ≤ limit
-unfolding Chain AllBelow
-last_within N P limit a b [] low w c = rw c.1 low
-last_within N P limit a b (x ∷ xs) low w c = last_within N P limit x b xs (omega (arith, w.0)) w.1 c.2
+pub other_pushed : (next before : List ℕ) (x a b : ℕ) (xs ys : List ℕ) → slice_index before a < length next → x < length next → x < length before → a < length before → x ≢ b → a ≢ b → Away x ys → Away a ys → Away b xs → Apart ys xs → Chain (slice_index next) (slice_index before) a xs a → Chain (slice_index next) (slice_index before) b ys b →
+    Chain (slice_index (next_appended next (slice_index before a) a x)) (slice_index (before_appended before (slice_index before a) a x)) b ys b
+other_pushed next before x a b xs ys l1 l2 l3 l4 o ends w e f d k c =
+    rw (sets_upd next (slice_index before a) x x a l1 l2, sets_upd before x (slice_index before a) a x l3 l4)
+    (other_push (slice_index next) (slice_index before) x a b xs ys o ends w e f d k c)
 
-pub before_within : (N P : ℕ → ℕ) (limit a b x : ℕ) (front back : List ℕ) → a ≤ limit → AllBelow limit (front ++ x ∷ back) → Chain N P a (front ++ x ∷ back) b → P x ≤ limit
-unfolding Chain AllBelow
-before_within N P limit a b x [] back low w c = rw c.1 low
-before_within N P limit a b x (y ∷ ys) back low w c = before_within N P limit y b x ys back (omega (arith, w.0)) w.1 c.2
+pub other_removed : (next before : List ℕ) (x a b : ℕ) (ys front back : List ℕ) → slice_index before x < length next → slice_index next x < length before → a ≢ b → Away a ys → Away b (front ++ x ∷ back) → Apart ys (front ++ x ∷ back) → Chain (slice_index next) (slice_index before) a (front ++ x ∷ back) a → Chain (slice_index next) (slice_index before) b ys b →
+    Chain (slice_index (next_removed next (slice_index next x) (slice_index before x))) (slice_index (before_removed before (slice_index next x) (slice_index before x))) b ys b
+other_removed next before x a b ys front back l1 l2 ends e f d k c =
+    rw (set_upd next (slice_index before x) (slice_index next x) l1, set_upd before (slice_index next x) (slice_index before x) l2)
+    (other_remove (slice_index next) (slice_index before) x a b ys front back ends e f d k c)
 
-pub after_within : (N P : ℕ → ℕ) (limit a b x : ℕ) (front back : List ℕ) → b ≤ limit → AllBelow limit (front ++ x ∷ back) → Chain N P a (front ++ x ∷ back) b → N x ≤ limit
-unfolding Chain AllBelow
-after_within N P limit a b x [] [] low w c = rw c.2.0 low
-after_within N P limit a b x [] (z ∷ zs) low w c = rw c.2.0 (omega (arith, w.1.0))
-after_within N P limit a b x (y ∷ ys) back low w c = after_within N P limit y b x ys back low w.1 c.2
+-- links stay within the array
+pub within_set : (n : ℕ) (xs : List ℕ) (p v : ℕ) → p < length xs → v < n → ((i : ℕ) → slice_index xs i < n) → (i : ℕ) → slice_index (slice_set xs p v) i < n
+within_set n xs p v low few w i = elim (cases_eq i p) [
+  | inl e ↦ rw (e, get_or-set_same {A = ℕ} xs p v 0 low) few
+  | inr o ↦ rw (get_or-set_other {A = ℕ} xs p i v 0 o) (w i)
+]
 
 -- a walk goes over the nodes
 pub walk_chain : (N P : ℕ → ℕ) (a b : ℕ) (xs : List ℕ) → Chain N P a xs b → walk N (length xs) (N a) ≡ xs
@@ -138,16 +218,11 @@ unfolding walk
 walk-length N zero x = refl
 walk-length N (suc n) x = ap suc (walk-length N n (N x))
 
--- the end is no node
-pub limit_away : (limit : ℕ) (xs : List ℕ) → AllBelow limit xs → Away limit xs
+-- an end is no node
+pub end_away : (limit end : ℕ) (xs : List ℕ) → limit ≤ end → AllBelow limit xs → Away end xs
 unfolding AllBelow Away
-limit_away limit [] w = tt
-limit_away limit (x ∷ xs) w = ((λ e. let below = w.0 in absurd (omega arith)), limit_away limit xs w.1)
-
-pub away_push : (i x : ℕ) (xs : List ℕ) → i ≢ x → Away i xs → Away i (xs ++ x ∷ [])
-unfolding Away
-away_push i x [] o w = (o, tt)
-away_push i x (y ∷ ys) o w = (w.0, away_push i x ys o w.1)
+end_away limit end [] low w = tt
+end_away limit end (x ∷ xs) low w = ((λ e. let below = w.0 in absurd (omega arith)), end_away limit end xs low w.1)
 
 pub once_push : (x : ℕ) (xs : List ℕ) → Away x xs → Once xs → Once (xs ++ x ∷ [])
 unfolding Once Away
@@ -169,11 +244,6 @@ unfolding AllBelow
 below_at limit x [] back w = w.0
 below_at limit x (y ∷ ys) back w = below_at limit x ys back w.1
 
-away_remove : (i x : ℕ) (front back : List ℕ) → Away i (front ++ x ∷ back) → Away i (front ++ back)
-unfolding Away
-away_remove i x [] back w = w.1
-away_remove i x (y ∷ ys) back w = (w.0, away_remove i x ys back w.1)
-
 pub once_remove : (x : ℕ) (front back : List ℕ) → Once (front ++ x ∷ back) → Once (front ++ back)
 unfolding Once
 once_remove x [] back s = s.1
@@ -188,51 +258,47 @@ pub empty_chain : (limit n : ℕ) → limit < n → Chain (slice_index (replicat
 unfolding Chain
 empty_chain limit n low = let e = same_at limit limit n low in (e, e)
 
--- so many nodes, each once, are at most as many as their limit
-unfoldable but : ℕ → List ℕ → List ℕ
-but p [] = []
-but p (x ∷ xs) = if x == p then but p xs else x ∷ but p xs
+-- the list without a frame
+omit_none : (p : ℕ) (xs : List ℕ) → Away p xs → omit p xs ≡ xs
+unfolding omit Away
+omit_none p [] w = refl
+omit_none p (x ∷ xs) w = rw (ne_eqb x p (λ e. w.0 (sym e))) (ap (λ (ys : List ℕ). x ∷ ys) (omit_none p xs w.1))
 
-but_none : (p : ℕ) (xs : List ℕ) → Away p xs → but p xs ≡ xs
-unfolding but Away
-but_none p [] w = refl
-but_none p (x ∷ xs) w = rw (ne_eqb x p (λ e. w.0 (sym e))) (ap (λ (ys : List ℕ). x ∷ ys) (but_none p xs w.1))
-
-but-length : (p : ℕ) (xs : List ℕ) → Once xs → length xs ≤ suc (length (but p xs))
-unfolding but Once
-but-length p [] s = omega arith
-but-length p (x ∷ xs) s = elim (cases_eq x p) [
+omit-length : (p : ℕ) (xs : List ℕ) → Once xs → length xs ≤ suc (length (omit p xs))
+unfolding omit Once
+omit-length p [] s = omega arith
+omit-length p (x ∷ xs) s = elim (cases_eq x p) [
   | inl e ↦
-      let same : but p xs ≡ xs = but_none p xs (subst (λ (z : ℕ). Away z xs) e s.0) in
+      let same : omit p xs ≡ xs = omit_none p xs (subst (λ (z : ℕ). Away z xs) e s.0) in
       rw (eq-eqb x p e, same) (omega arith)
-  | inr o ↦ rw (ne_eqb x p o) (omega (arith, but-length p xs s.1))
+  | inr o ↦ rw (ne_eqb x p o) (omega (arith, omit-length p xs s.1))
 ]
 
-away_but : (i p : ℕ) (xs : List ℕ) → Away i xs → Away i (but p xs)
-unfolding but Away
-away_but i p [] w = tt
-away_but i p (x ∷ xs) w = elim (cases_eq x p) [
-  | inl e ↦ rw (eq-eqb x p e) (away_but i p xs w.1)
-  | inr o ↦ rw (ne_eqb x p o) (w.0, away_but i p xs w.1)
+away_omit : (i p : ℕ) (xs : List ℕ) → Away i xs → Away i (omit p xs)
+unfolding omit Away
+away_omit i p [] w = tt
+away_omit i p (x ∷ xs) w = elim (cases_eq x p) [
+  | inl e ↦ rw (eq-eqb x p e) (away_omit i p xs w.1)
+  | inr o ↦ rw (ne_eqb x p o) (w.0, away_omit i p xs w.1)
 ]
 
-once_but : (p : ℕ) (xs : List ℕ) → Once xs → Once (but p xs)
-unfolding but Once
-once_but p [] s = tt
-once_but p (x ∷ xs) s = elim (cases_eq x p) [
-  | inl e ↦ rw (eq-eqb x p e) (once_but p xs s.1)
-  | inr o ↦ rw (ne_eqb x p o) (away_but x p xs s.0, once_but p xs s.1)
+once_omit : (p : ℕ) (xs : List ℕ) → Once xs → Once (omit p xs)
+unfolding omit Once
+once_omit p [] s = tt
+once_omit p (x ∷ xs) s = elim (cases_eq x p) [
+  | inl e ↦ rw (eq-eqb x p e) (once_omit p xs s.1)
+  | inr o ↦ rw (ne_eqb x p o) (away_omit x p xs s.0, once_omit p xs s.1)
 ]
 
-less_but : (x n : ℕ) → x < suc n → x ≢ n → x < n
-less_but x n low o = omega (arith, o)
+less_omit : (x n : ℕ) → x < suc n → x ≢ n → x < n
+less_omit x n low o = omega (arith, o)
 
-below_but : (n : ℕ) (xs : List ℕ) → AllBelow (suc n) xs → AllBelow n (but n xs)
-unfolding but AllBelow
-below_but n [] w = tt
-below_but n (x ∷ xs) w = elim (cases_eq x n) [
-  | inl e ↦ rw (eq-eqb x n e) (below_but n xs w.1)
-  | inr o ↦ rw (ne_eqb x n o) (less_but x n w.0 o, below_but n xs w.1)
+below_omit : (n : ℕ) (xs : List ℕ) → AllBelow (suc n) xs → AllBelow n (omit n xs)
+unfolding omit AllBelow
+below_omit n [] w = tt
+below_omit n (x ∷ xs) w = elim (cases_eq x n) [
+  | inl e ↦ rw (eq-eqb x n e) (below_omit n xs w.1)
+  | inr o ↦ rw (ne_eqb x n o) (less_omit x n w.0 o, below_omit n xs w.1)
 ]
 
 none_below : (xs : List ℕ) → AllBelow 0 xs → length xs ≤ 0
@@ -242,4 +308,117 @@ none_below (x ∷ xs) w = let low = w.0 in absurd (omega arith)
 
 pub few_nodes : (n : ℕ) (xs : List ℕ) → Once xs → AllBelow n xs → length xs ≤ n
 few_nodes zero xs s w = none_below xs w
-few_nodes (suc n) xs s w = omega (arith, but-length n xs s, few_nodes n (but n xs) (once_but n xs s) (below_but n xs w))
+few_nodes (suc n) xs s w = omega (arith, omit-length n xs s, few_nodes n (omit n xs) (once_omit n xs s) (below_omit n xs w))
+
+-- where a frame stands
+pub record Parts (x : ℕ) (xs : List ℕ) : Type 0 where
+  pub front : List ℕ
+  pub back : List ℕ
+  pub parts : xs ≡ front ++ x ∷ back
+
+pub parts_of : (x : ℕ) (xs : List ℕ) → is_in x xs ≡ true → Parts x xs
+unfolding is_in
+parts_of x [] h = absurd (false≢true h)
+parts_of x (y ∷ ys) h = elim (cases_eq y x) [
+  | inl e ↦ record { front = []; back = ys; parts = ap (λ (z : ℕ). z ∷ ys) e }
+  | inr o ↦
+      let p = parts_of x ys (rw (ne_eqb y x o) at h) in
+      record { front = y ∷ p.front; back = p.back; parts = ap (λ (zs : List ℕ). y ∷ zs) p.parts }
+]
+
+away_at : (i x : ℕ) (front back : List ℕ) → Away i (front ++ x ∷ back) → i ≢ x
+unfolding Away
+away_at i x [] back w = w.0
+away_at i x (y ∷ ys) back w = away_at i x ys back w.1
+
+pub omit_parts : (x : ℕ) (front back : List ℕ) → Once (front ++ x ∷ back) → omit x (front ++ x ∷ back) ≡ front ++ back
+unfolding omit Once
+omit_parts x [] back s = rw (eq-eqb x x refl) (omit_none x back s.0)
+omit_parts x (y ∷ front) back s =
+    let far : Away y (front ++ x ∷ back) = s.0 in
+    let apart : y ≢ x = away_at y x front back far in
+    rw (ne_eqb y x apart) (ap (λ (zs : List ℕ). y ∷ zs) (omit_parts x front back s.1))
+
+pub omit_away : (x : ℕ) (xs : List ℕ) → Away x (omit x xs)
+unfolding omit Away
+omit_away x [] = tt
+omit_away x (y ∷ ys) = elim (cases_eq y x) [
+  | inl e ↦ rw (eq-eqb y x e) (omit_away x ys)
+  | inr o ↦ rw (ne_eqb y x o) ((λ e. o (sym e)), omit_away x ys)
+]
+
+-- so many steps
+unfoldable steps : (ℕ → ℕ) → ℕ → ℕ → ℕ
+steps f zero x = x
+steps f (suc n) x = steps f n (f x)
+
+steps_next : (f : ℕ → ℕ) (n x : ℕ) → steps f n (f x) ≡ f (steps f n x)
+unfolding steps
+steps_next f zero x = refl
+steps_next f (suc n) x = steps_next f n (f x)
+
+walk_last : (f : ℕ → ℕ) (n x : ℕ) → walk f (suc n) x ≡ walk f n x ++ steps f n x ∷ []
+unfolding walk steps
+walk_last f zero x = refl
+walk_last f (suc n) x = ap (λ (zs : List ℕ). x ∷ zs) (walk_last f n (f x))
+
+if_true : (b : Bool) → true ≡ (if b then true else true)
+if_true true = refl
+if_true false = refl
+
+-- a walk back goes over the nodes too
+back_to : (N P : ℕ → ℕ) (a b : ℕ) (xs : List ℕ) → Chain N P a xs b → steps P (length xs) (P b) ≡ a
+unfolding Chain steps
+back_to N P a b [] c = c.1
+back_to N P a b (x ∷ xs) c = steps_next P (length xs) (P b) ∙ ap P (back_to N P x b xs c.2) ∙ c.1
+
+is_in_push : (i x : ℕ) (xs : List ℕ) → is_in i (xs ++ x ∷ []) ≡ (if i == x then true else is_in i xs)
+unfolding is_in
+is_in_push i x [] = elim (cases_eq i x) [
+  | inl e ↦ rw (eq-eqb i x e, eq-eqb x i (sym e)) refl
+  | inr o ↦ rw (ne_eqb i x o, ne_eqb x i (λ e. o (sym e))) refl
+]
+is_in_push i x (y ∷ ys) = elim (cases_eq y i) [
+  | inl e ↦ rw (eq-eqb y i e) (if_true (i == x))
+  | inr o ↦ rw (ne_eqb y i o) (is_in_push i x ys)
+]
+
+is_in_first : (i x : ℕ) (xs : List ℕ) (b : Bool) → b ≡ is_in i xs → (if i == x then true else b) ≡ is_in i (x ∷ xs)
+unfolding is_in
+is_in_first i x xs b e = elim (cases_eq i x) [
+  | inl k ↦ rw (eq-eqb i x k, eq-eqb x i (sym k)) refl
+  | inr o ↦ rw (ne_eqb i x o, ne_eqb x i (λ k. o (sym k))) e
+]
+
+walked_back : (N P : ℕ → ℕ) (i a b : ℕ) (xs : List ℕ) → Chain N P a xs b → is_in i (walk P (length xs) (P b)) ≡ is_in i xs
+unfolding Chain
+walked_back N P i a b [] c = unfold walk is_in in refl
+walked_back N P i a b (x ∷ xs) c =
+    ap (is_in i) (walk_last P (length xs) (P b) ∙ ap (λ (z : ℕ). walk P (length xs) (P b) ++ z ∷ []) (back_to N P x b xs c.2))
+    ∙ is_in_push i x (walk P (length xs) (P b))
+    ∙ is_in_first i x xs (is_in i (walk P (length xs) (P b))) (walked_back N P i x b xs c.2)
+
+chain_end : (N P : ℕ → ℕ) (a b : ℕ) (front back : List ℕ) → Chain N P a (front ++ back) b → (c : ℕ) × Chain N P c back b
+unfolding Chain
+chain_end N P a b [] back c = (a, c)
+chain_end N P a b (x ∷ front) back c = chain_end N P x b front back c.2
+
+pub walked_last : (N P : ℕ → ℕ) (i a b n : ℕ) (xs : List ℕ) → n ≤ length xs → Chain N P a xs b → is_in i (walk P n (P b)) ≡ is_in i (drop (length xs - n) xs)
+walked_last N P i a b n xs low c =
+    let k : ℕ = length xs - n in
+    let e : Chain N P a (take k xs ++ drop k xs) b = subst (λ (z : List ℕ). Chain N P a z b) (sym (take-append-drop k xs)) c in
+    let d = chain_end N P a b (take k xs) (drop k xs) e in
+    let size : n ≡ length (drop k xs) = omega (arith, length-drop k xs) in
+    ap (λ (m : ℕ). is_in i (walk P m (P b))) size ∙ walked_back N P i d.0 b (drop k xs) d.1
+
+pub seen_next : (P : ℕ → ℕ) (i n m at : ℕ) → m ≡ suc n → (P at ≡ i → ⊥) → is_in i (walk P m (P at)) ≡ is_in i (walk P n (P (P at)))
+unfolding walk is_in
+seen_next P i n m at e o = rw (e, ne_eqb (P at) i o) refl
+
+pub seen_here : (P : ℕ → ℕ) (i n m at : ℕ) → m ≡ suc n → P at ≡ i → is_in i (walk P m (P at)) ≡ true
+unfolding walk is_in
+seen_here P i n m at e o = rw (e, eq-eqb (P at) i o) refl
+
+pub seen_none : (P : ℕ → ℕ) (i m at : ℕ) → m ≡ 0 → is_in i (walk P m (P at)) ≡ false
+unfolding walk is_in
+seen_none P i m at e = rw e refl

@@ -1,10 +1,9 @@
 //! The pages that a pager keeps in frames and those that are modified, each in the order in which they came.
 #![tactic(auto)]
 
-mod line;
+mod circles;
 mod lists;
 #[cfg(test)]
 mod tests;
 
-pub use crate::line::{PageList, Placed};
-pub use crate::lists::Lists;
+pub use crate::lists::{Lists, Placed};

@@ -1,104 +1,145 @@
-//! The kept and the modified pages of a pager.
-ghost use Rattle.std.specs.Prelude.{◌≡◌, ◌≢◌, ◌≤◌, ◌<◌, ◌+◌, ℕ, None, Some, [], IfOk, OnOk, OnErr, slice_get, length, option_map};
+//! The resident, the kept and the modified pages of a pager.
+ghost use Rattle.std.specs.Prelude.{◌≡◌, ◌≢◌, ◌≤◌, ◌<◌, ◌+◌, ◌-◌, ℕ, None, Some, [], IfOk, OnOk, OnErr, drop, is_some, slice_get, length, option_map};
 ghost use Rattle.vax_outside.specs.Blocks.{PutsBlock};
 ghost use Rattle.vax_outside.specs.Faults.{Rose};
-ghost use Rattle.vax_lists.specs.Lines.{appended, frame_in, with_items, without};
+ghost use Rattle.vax_lists.specs.Lines.{EachOnce, appended, frame_in, with_kept, with_modified, with_order, without};
 
-use crate::line::{PageList, Placed};
+use crate::circles::Circles;
 use std::alloc::Global;
+use std::marker::Model;
 use vax_outside::{Failed, PageFile};
 use vax_space::NoMemory;
 
-/// The pages whose frames are kept after they were evicted, in the order of eviction, and the pages that are modified,
-/// in the order of their first write. Each call names a page with its frame, so that nothing is searched.
+/// A page, and the frame that it is in.
+#[derive(Clone, Copy, PartialEq, Eq, Debug)]
+pub struct Placed {
+    pub page: u32,
+    pub frame: u32,
+}
+
+/// The resident pages in order of service, the pages whose frames are kept after they were evicted in order of eviction,
+/// and the pages that are modified in order of their first write. A page has one frame in all of them. Each call names a
+/// page with its frame, so that nothing is searched. Only `new` takes memory, 12 bytes a frame.
 #[derive(Debug, Drop)]
 pub struct Lists {
-    pub(crate) kept: PageList,
-    pub(crate) modified: PageList,
+    /// The frames of the resident pages, and those of the kept pages.
+    held: Circles,
+    /// The frames of the modified pages in the first list, and no frame in the second.
+    modified: Circles,
+    /// The page in each frame.
+    pages: Vec<u32>,
+}
+
+impl Model for Lists {
+    ghost use Rattle.vax_lists.specs.Lines.{ArePages, PageLists, page_lists};
+
+    ghost Value = { PageLists };
+
+    ghost view = { λ l. page_lists l.held l.modified l.pages.items };
+
+    ghost invariant = { λ l. ArePages l.held l.modified l.pages.items };
 }
 
 impl Lists {
     /// No page, and room for the frames below `frames`, at most 32,768.
     pub fn new(alloc: Global, frames: u32) -> Result<Lists, NoMemory>
         requires few { frames ≤ 32768 }
-        ensures kept { IfOk result (λ lists. lists.kept ≡ record { items = []; limit = frames }) }
-        ensures modified { IfOk result (λ lists. lists.modified ≡ record { items = []; limit = frames }) }
+        ensures { IfOk result (λ lists. lists ≡ record { order = []; kept = []; modified = []; limit = frames }) }
     {
-        let kept = PageList::new(alloc, frames)?;
-        let modified = PageList::new(alloc, frames)?;
-        Ok(Lists { kept, modified })
+        let held = Circles::new(alloc, frames)?;
+        let modified = Circles::new(alloc, frames)?;
+        let pages = vec![in alloc; 0u32; frames as usize]?;
+        Ok(Lists {
+            held,
+            modified,
+            pages,
+        })
     }
 
-    /// How many pages are kept.
+    /// A page comes into a frame that no list has.
     #[inline]
-    pub fn kept(&self) -> u32
-        ensures { result ≡ length self.now.kept.items }
+    pub fn serve(&mut self, page: u32, frame: u32)
+        requires below { frame < self.old.limit }
+        requires new { frame_in self.old.order page ≡ None }
+        requires unserved { (other : ℕ) → frame_in self.old.order other ≢ Some frame }
+        requires unkept { (other : ℕ) → frame_in self.old.kept other ≢ Some frame }
+        requires unmodified { (other : ℕ) → frame_in self.old.modified other ≢ Some frame }
+        ensures { self.new ≡ with_order self.old (appended self.old.order page frame) }
     {
-        self.kept.len()
+        self.pages[frame as usize] = page;
+        self.held.push_first(frame);
     }
 
-    /// Keeps an evicted page in its frame.
+    /// A resident page gives up its frame.
+    #[inline]
+    pub fn give_up(&mut self, page: u32, frame: u32)
+        requires there { frame_in self.old.order page ≡ Some frame }
+        ensures order { self.new ≡ with_order self.old (without page self.old.order) }
+        ensures fewer { length self.new.order + 1 ≡ length self.old.order }
+    {
+        let _ = page;
+        self.held.remove_first(frame);
+    }
+
+    /// A resident page is kept in its frame.
     #[inline]
     pub fn keep(&mut self, page: u32, frame: u32)
-        requires below { frame < self.old.kept.limit }
-        requires new { frame_in self.old.kept.items page ≡ None }
-        requires free { (other : ℕ) → frame_in self.old.kept.items other ≢ Some frame }
-        ensures kept { self.new.kept ≡ appended self.old.kept page frame }
-        ensures modified { self.new.modified ≡ self.old.modified }
+        requires below { frame < self.old.limit }
+        requires there { frame_in self.old.order page ≡ Some frame }
+        requires new { frame_in self.old.kept page ≡ None }
+        ensures moved { self.new ≡ with_kept (with_order self.old (without page self.old.order)) (appended self.old.kept page frame) }
+        ensures fewer { length self.new.order + 1 ≡ length self.old.order }
     {
-        self.kept.push(page, frame);
+        let _ = page;
+        self.held.remove_first(frame);
+        self.held.push_second(frame);
     }
 
-    /// Keeps a page no more.
+    /// A kept page is resident again.
     #[inline]
-    pub fn take(&mut self, page: u32, frame: u32)
-        requires there { frame_in self.old.kept.items page ≡ Some frame }
-        ensures kept { self.new.kept ≡ with_items self.old.kept (without page self.old.kept.items) }
-        ensures modified { self.new.modified ≡ self.old.modified }
-        ensures fewer { length self.new.kept.items + 1 ≡ length self.old.kept.items }
+    pub fn take_back(&mut self, page: u32, frame: u32)
+        requires below { frame < self.old.limit }
+        requires there { frame_in self.old.kept page ≡ Some frame }
+        requires new { frame_in self.old.order page ≡ None }
+        ensures moved { self.new ≡ with_order (with_kept self.old (without page self.old.kept)) (appended self.old.order page frame) }
+        ensures fewer { length self.new.kept + 1 ≡ length self.old.kept }
     {
-        self.kept.remove(page, frame);
+        let _ = page;
+        self.held.remove_second(frame);
+        self.held.push_first(frame);
     }
 
-    /// The page that was kept first, none where none is kept.
+    /// A kept page gives up its frame.
     #[inline]
-    pub fn oldest(&self) -> Option<Placed>
-        ensures { result ≡ slice_get self.now.kept.items 0 }
+    pub fn forget(&mut self, page: u32, frame: u32)
+        requires there { frame_in self.old.kept page ≡ Some frame }
+        ensures kept { self.new ≡ with_kept self.old (without page self.old.kept) }
+        ensures fewer { length self.new.kept + 1 ≡ length self.old.kept }
     {
-        self.kept.first()
+        let _ = page;
+        self.held.remove_second(frame);
     }
 
-    /// Marks a page that wasn't modified.
+    /// A resident page that wasn't modified is modified.
     #[inline]
     pub fn touch(&mut self, page: u32, frame: u32)
-        requires below { frame < self.old.modified.limit }
-        requires new { frame_in self.old.modified.items page ≡ None }
-        requires free { (other : ℕ) → frame_in self.old.modified.items other ≢ Some frame }
-        ensures modified { self.new.modified ≡ appended self.old.modified page frame }
-        ensures kept { self.new.kept ≡ self.old.kept }
+        requires below { frame < self.old.limit }
+        requires there { frame_in self.old.order page ≡ Some frame }
+        requires new { frame_in self.old.modified page ≡ None }
+        ensures { self.new ≡ with_modified self.old (appended self.old.modified page frame) }
     {
-        self.modified.push(page, frame);
+        let _ = page;
+        self.modified.push_first(frame);
     }
 
     /// A modified page is modified no more.
     #[inline]
     pub fn clean(&mut self, page: u32, frame: u32)
-        requires there { frame_in self.old.modified.items page ≡ Some frame }
-        ensures modified { self.new.modified ≡ with_items self.old.modified (without page self.old.modified.items) }
-        ensures kept { self.new.kept ≡ self.old.kept }
+        requires there { frame_in self.old.modified page ≡ Some frame }
+        ensures { self.new ≡ with_modified self.old (without page self.old.modified) }
     {
-        self.modified.remove(page, frame);
-    }
-
-    /// The page that has been modified longest, none where none is modified.
-    #[inline]
-    pub fn next_modified(&self) -> Option<u32>
-        ensures { result ≡ option_map (λ placed. placed.page) (slice_get self.now.modified.items 0) }
-    {
-        match self.modified.first() {
-            Some(placed) => Some(placed.page),
-            None => None,
-        }
+        let _ = page;
+        self.modified.remove_first(frame);
     }
 
     /// Writes a modified page to its block, and cleans it. After a failure the lists are as before.
@@ -110,22 +151,73 @@ impl Lists {
         bytes: &[u8; 512],
         file: &mut F,
     ) -> Result<(), Failed>
-        requires there { frame_in self.old.modified.items page ≡ Some frame }
+        requires there { frame_in self.old.modified page ≡ Some frame }
         ensures wrote { OnOk result (PutsBlock block bytes.now (F.contents file.old) (F.contents file.new)) }
-        ensures modified { OnOk result (self.new.modified ≡ with_items self.old.modified (without page self.old.modified.items)) }
-        ensures err { OnErr result (self.new.modified ≡ self.old.modified) }
+        ensures modified { OnOk result (self.new ≡ with_modified self.old (without page self.old.modified)) }
+        ensures err { OnErr result (self.new ≡ self.old) }
         ensures unwritten { OnErr result (F.contents file.new ≡ F.contents file.old) }
-        ensures kept { self.new.kept ≡ self.old.kept }
         ensures later { F.faults file.old ≤ F.faults file.new }
         ensures cause { OnErr result (Rose (F.faults file.old) (F.faults file.new)) }
         ensures quiet { OnOk result (F.faults file.new ≡ F.faults file.old) }
     {
         match file.write_block(block, bytes) {
             Ok(()) => {
-                self.modified.remove(page, frame);
+                self.clean(page, frame);
                 Ok(())
             }
             Err(failed) => Err(failed),
         }
+    }
+
+    /// How many pages are kept.
+    #[inline]
+    pub fn kept(&self) -> u32
+        ensures { result ≡ length self.now.kept }
+    {
+        self.held.second_len()
+    }
+
+    /// The resident page that was served first, none where none is resident.
+    #[inline]
+    pub fn first(&self) -> Option<Placed>
+        ensures first { result ≡ slice_get self.now.order 0 }
+        ensures once { EachOnce self.now.order }
+    {
+        let frame = self.held.first()?;
+        Some(Placed {
+            page: self.pages[frame as usize],
+            frame,
+        })
+    }
+
+    /// The page that was kept first, none where none is kept.
+    #[inline]
+    pub fn oldest(&self) -> Option<Placed>
+        ensures { result ≡ slice_get self.now.kept 0 }
+    {
+        let frame = self.held.second()?;
+        Some(Placed {
+            page: self.pages[frame as usize],
+            frame,
+        })
+    }
+
+    /// The page that has been modified longest, none where none is modified.
+    #[inline]
+    pub fn next_modified(&self) -> Option<u32>
+        ensures { result ≡ option_map (λ placed. placed.page) (slice_get self.now.modified 0) }
+    {
+        let frame = self.modified.first()?;
+        Some(self.pages[frame as usize])
+    }
+
+    /// Whether a resident page is among so many that were served last; looks at so many pages.
+    pub fn is_among_last(&self, page: u32, frame: u32, count: u32) -> bool
+        requires there { frame_in self.now.order page ≡ Some frame }
+        requires few { count ≤ length self.now.order }
+        ensures { result ≡ is_some (frame_in (drop (length self.now.order - count) self.now.order) page) }
+    {
+        let _ = page;
+        self.held.is_among_last(frame, count)
     }
 }

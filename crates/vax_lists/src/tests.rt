@@ -1,5 +1,5 @@
 //! One test of each call.
-use crate::{Lists, PageList};
+use crate::Lists;
 use std::alloc::AllocError;
 use std::test::Fail;
 use vax_outside::{Failed, MemPages};
@@ -9,14 +9,19 @@ use vax_space::NoMemory;
 #[test]
 #[tactic(auto, unfolding(crate::specs::Lines::frame_in, crate::specs::Lines::without))]
 fn order(rt: HostRuntime) -> Result<(), Fail> {
-    let mut list = PageList::new(rt.alloc(), 64)?;
-    assert_eq!(rt; list.first(), None);
-    list.push(7, 0);
-    list.push(5, 63);
-    list.push(9, 1);
-    list.remove(7, 0);
-    assert_eq!(rt; list.len(), 2);
-    assert_eq!(rt; list.first().map(|placed| placed.page), Some(5));
+    let mut lists = Lists::new(rt.alloc(), 64)?;
+    assert_eq!(rt; lists.first(), None);
+    lists.serve(7, 0);
+    lists.serve(5, 63);
+    lists.serve(9, 1);
+    lists.give_up(7, 0);
+    assert_eq!(rt; lists.first().map(|placed| placed.page), Some(5));
+    lists.keep(5, 63);
+    assert_eq!(rt; lists.first().map(|placed| placed.page), Some(9));
+    assert_eq!(rt; lists.oldest().map(|placed| placed.page), Some(5));
+    lists.take_back(5, 63);
+    assert!(rt; lists.is_among_last(5, 63, 1));
+    assert!(rt; !lists.is_among_last(9, 1, 1));
     Ok(())
 }
 
@@ -25,7 +30,9 @@ fn order(rt: HostRuntime) -> Result<(), Fail> {
 fn kept_and_modified(rt: HostRuntime) -> Result<(), Fail> {
     let mut lists = Lists::new(rt.alloc(), 64)?;
     let mut file = MemPages::new(rt.alloc(), 4, 4, Vec::new(rt.alloc()))?;
+    lists.serve(8, 3);
     lists.keep(8, 3);
+    lists.serve(4, 2);
     lists.touch(4, 2);
     assert_eq!(rt; lists.kept(), 1);
     assert_eq!(rt; lists.oldest().map(|placed| placed.frame), Some(3));
@@ -35,7 +42,7 @@ fn kept_and_modified(rt: HostRuntime) -> Result<(), Fail> {
     assert_eq!(rt; file.writes().len(), 1);
     lists.touch(4, 2);
     lists.clean(4, 2);
-    lists.take(8, 3);
+    lists.forget(8, 3);
     assert_eq!(rt; lists.kept(), 0);
     Ok(())
 }

@@ -1,4 +1,6 @@
 pub mod Listing
+pub mod Last
+pub mod Bits
 pub mod Standing
 pub mod Moves
 pub mod Steps

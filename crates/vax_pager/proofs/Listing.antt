@@ -1,9 +1,8 @@
 -- Lists of pages, and lists of pages in frames.
-use Rattle.std.proofs.Common.{ℕ, suc, ◌≡◌, ◌≢◌, Bool, true, false, not, ◌==◌, List, [], ◌∷◌, ◌++◌, length, if◌then◌else◌, refl, ap, sym, ◌∙◌, inl, inr, Option, Some, None}
-use Rattle.std.specs.Prelude.{◌||◌, is_some, slice_get}
-use Rattle.std.specs.List.{filter, list_any}
+use Rattle.std.proofs.Common.{ℕ, zero, suc, ◌≡◌, ◌≢◌, Bool, true, false, ◌==◌, List, [], ◌∷◌, ◌++◌, drop, length, if◌then◌else◌, refl, ap, sym, ◌∙◌, inl, inr, Option, Some, None}
+use Rattle.std.specs.Prelude.{is_some, slice_get}
 use Rattle.std.proofs.lemmas.Bool.{cases_eq, eq-eqb, ne_eqb}
-use Rattle.vax_lists.specs.declared.line.Placed.{Placed}
+use Rattle.vax_lists.specs.declared.lists.Placed.{Placed}
 use Rattle.vax_lists.specs.Lines.{frame_in, without, pages_of, placed}
 use Rattle.vax_pager.specs.Listing.{is_listed, leave_out, first, page_in}
 
@@ -67,6 +66,12 @@ unfolding pages_of
 pages-length [] = refl
 pages-length (x ∷ xs) = ap suc (pages-length xs)
 
+pub pages_drop : (n : ℕ) (xs : List Placed) → pages_of (drop n xs) ≡ drop n (pages_of xs)
+unfolding pages_of
+pages_drop zero xs = refl
+pages_drop (suc n) [] = refl
+pages_drop (suc n) (x ∷ xs) = pages_drop n xs
+
 pub first_page : (xs : List Placed) (o : Option Placed) → o ≡ slice_get xs 0 → first (pages_of xs) ≡ page_in o
 unfolding pages_of
 first_page [] None e = refl
@@ -96,17 +101,3 @@ out-append p (x ∷ xs) ys = elim (cases_eq x p) [
   | inl e ↦ rw (eq-eqb x p e) (out-append p xs ys)
   | inr o ↦ rw (ne_eqb x p o) (ap (λ (zs : List ℕ). x ∷ zs) (out-append p xs ys))
 ]
-
-filter_step : (p y : ℕ) (ys zs : List ℕ) (b : Bool) → y == p ≡ b → zs ≡ leave_out p ys → (if not b then y ∷ zs else zs) ≡ (if b then leave_out p ys else y ∷ leave_out p ys)
-filter_step p y ys zs true e h = h
-filter_step p y ys zs false e h = ap (λ (ws : List ℕ). y ∷ ws) h
-
-pub out_filter : (p : ℕ) (xs : List ℕ) → filter (λ x. not (x == p)) xs ≡ leave_out p xs
-unfolding leave_out
-out_filter p [] = refl
-out_filter p (y ∷ ys) = filter_step p y ys _ (y == p) refl (out_filter p ys)
-
-pub any_listed : (p : ℕ) (xs : List ℕ) → list_any (λ y. y == p) xs ≡ is_listed p xs
-unfolding is_listed
-any_listed p [] = refl
-any_listed p (x ∷ xs) = ap (λ (b : Bool). (x == p) || b) (any_listed p xs)

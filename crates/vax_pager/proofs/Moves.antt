@@ -1,5 +1,5 @@
 -- What a step of one page leaves of the parts of a pager.
-use Rattle.std.proofs.Common.{ℕ, ◌≡◌, ◌≢◌, ◌+◌, ◌<◌, true, false, List, [], ◌∷◌, ◌++◌, ◌-◌, length, length-append, take, drop, take-append-drop, refl, ap, sym, ◌∙◌, arith, inl, inr, Option, Some, None, slice_index, slice_index_or, slice_set, get_or-set_same, get_or-set_other}
+use Rattle.std.proofs.Common.{ℕ, ◌≡◌, ◌≢◌, ◌+◌, ◌<◌, ◌≤◌, true, false, List, [], ◌∷◌, ◌++◌, length, refl, ap, sym, ◌∙◌, arith, inl, inr, Option, Some, None, slice_index, slice_index_or, slice_set, get_or-set_same, get_or-set_other}
 use Rattle.std.specs.Prelude.{is_some}
 use Rattle.std.proofs.Math.Path.{fun_ext}
 use Rattle.std.proofs.lemmas.Bool.{cases_eq, eq-eqb, ne_eqb, false≢true}
@@ -17,7 +17,7 @@ use Rattle.vax_pager.specs.declared.store.Store.{Store}
 use Rattle.vax_pager.specs.Listing.{is_listed}
 use Rattle.vax_pager.specs.Steps.{at}
 use Rattle.vax_pager.specs.Frames.{held_by, dirty_frame}
-use Rattle.vax_pager.specs.Store.{held, bytes_at, paging, Fits, IsEnd, IsSound, IsFree}
+use Rattle.vax_pager.specs.Store.{held, bytes_at, paging, Fits, IsSound, IsFree}
 use Rattle.vax_pager.proofs.Listing.{listed_is}
 
 pub at_same : {A : Type 0} (p : ℕ) (x : A) (f : ℕ → A) → at p x f p ≡ x
@@ -77,24 +77,20 @@ frames_set frames h f p bytes low here other = fun_ext (λ q. elim (cases_eq q p
 
 -- a step of one page
 
-pub record Moved (m : ℕ) (s t : Store) (p : ℕ) (w : Walk) (k : Option ℕ) (front : List ℕ) : Type 0 where
+pub record Moved (m : ℕ) (s t : Store) (p : ℕ) (w : Walk) (k : Option ℕ) : Type 0 where
   pub changes : Changes s t.tables p w k
   pub buffer : buffered t.buffer ≡ dropped (buffered s.buffer) p
   pub space : t.space ≡ s.space
-  pub here : Fits w k (frame_in t.order.items p) (frame_in t.lists.kept.items p) (frame_in t.lists.modified.items p) (is_listed p t.pins.items) (prot_of s.space p) (block_of s.space p) t.used
-  pub other : (q : ℕ) → q ≢ p → Fits (walked s.tables q) (kept s.tables q) (frame_in t.order.items q) (frame_in t.lists.kept.items q) (frame_in t.lists.modified.items q) (is_listed q t.pins.items) (prot_of s.space q) (block_of s.space q) t.used
+  pub here : Fits w k (frame_in t.lists.order p) (frame_in t.lists.kept p) (frame_in t.lists.modified p) (prot_of s.space p) (block_of s.space p) t.used
+  pub other : (q : ℕ) → q ≢ p → Fits (walked s.tables q) (kept s.tables q) (frame_in t.lists.order q) (frame_in t.lists.kept q) (frame_in t.lists.modified q) (prot_of s.space q) (block_of s.space q) t.used
   pub fresh : (frame : ℕ) → held_by w k ≡ Some frame → (q : ℕ) → q ≢ p → held s q ≢ Some frame
-  pub lengths : length t.order.items + length t.lists.kept.items + m ≡ t.used
+  pub lengths : length t.lists.order + length t.lists.kept + m ≡ t.used
   pub used : t.used ≡ s.used
   pub frames : length t.frames.items ≡ length s.frames.items
   pub whole : (frame : ℕ) → frame < length t.frames.items → length (slice_index_or t.frames.items frame []) ≡ 512
   pub small : (frame i : ℕ) → slice_index (slice_index_or t.frames.items frame []) i < 256
-  pub order_limit : t.order.limit ≡ s.order.limit
-  pub kept_limit : t.lists.kept.limit ≡ s.lists.kept.limit
-  pub modified_limit : t.lists.modified.limit ≡ s.lists.modified.limit
-  pub pins_last : pages_of t.order.items ≡ front ++ t.pins.items
-  pub pins_room : t.pins.room ≡ s.pins.room
-  pub flags : length t.blocked.items ≡ length s.blocked.items
+  pub limit : t.lists.limit ≡ s.lists.limit
+  pub pins : t.pinned ≤ length t.lists.order
 
 agrees_changed : (b : ℕ → Option Walk) (f : ℕ → Walk) (p : ℕ) (w : Walk) → Agrees b f → Agrees (dropped b p) (changed f p w)
 unfolding dropped
@@ -122,21 +118,8 @@ one_at h p x one fresh a b f ea eb = elim (cases_eq a p) [
   ]
 ]
 
--- a list that ends with another
-pub end_parts : (end xs : List ℕ) → IsEnd end xs → xs ≡ take (length xs - length end) xs ++ end
-end_parts end xs e = sym (take-append-drop (length xs - length end) xs) ∙ ap (λ (z : List ℕ). take (length xs - length end) xs ++ z) e
-
-drop-front : (front end : List ℕ) → drop (length front) (front ++ end) ≡ end
-drop-front [] end = refl
-drop-front (x ∷ front) end = drop-front front end
-
-pub end_of_parts : (front end xs : List ℕ) → xs ≡ front ++ end → IsEnd end xs
-end_of_parts front end xs e =
-    let size : length xs - length end ≡ length front = omega (arith, ap (length {A = ℕ}) e, length-append front end) in
-    ap (λ (n : ℕ). drop n xs) size ∙ ap (drop (length front)) e ∙ drop-front front end
-
-pub sound_moved : (n m : ℕ) (s t : Store) (p : ℕ) (w : Walk) (k : Option ℕ) (front : List ℕ) → IsSound n s → Moved m s t p w k front → IsSound m t
-sound_moved n m s t p w k front h v = record {
+pub sound_moved : (n m : ℕ) (s t : Store) (p : ℕ) (w : Walk) (k : Option ℕ) → IsSound n s → Moved m s t p w k → IsSound m t
+sound_moved n m s t p w k h v = record {
   fine = λ q. rw (v.changes.walk, v.changes.left, v.space) (elim (cases_eq q p) [
     | inl e ↦ rw (e, changed_here (walked s.tables) p w p refl, changed_here (kept s.tables) p k p refl) v.here
     | inr o ↦ rw (changed_other (walked s.tables) p w q o, changed_other (kept s.tables) p k q o) (v.other q o)
@@ -148,12 +131,8 @@ sound_moved n m s t p w k front h v = record {
   few = rw v.frames h.few;
   whole = v.whole;
   small = v.small;
-  order_limit = v.order_limit ∙ h.order_limit ∙ sym v.frames;
-  kept_limit = v.kept_limit ∙ h.kept_limit ∙ sym v.frames;
-  modified_limit = v.modified_limit ∙ h.modified_limit ∙ sym v.frames;
-  pins_last = end_of_parts front t.pins.items (pages_of t.order.items) v.pins_last;
-  pins_room = v.pins_room ∙ h.pins_room ∙ sym v.frames;
-  flags = v.flags ∙ h.flags;
+  limit = v.limit ∙ h.limit ∙ sym v.frames;
+  pins = v.pins;
 }
 
 -- what the lists and the tables say of a page
@@ -165,15 +144,15 @@ some_frame (Outside past) = refl
 
 pub resident_is : (n : ℕ) (s : Store) (p : ℕ) → IsSound n s → is_listed p (paging s).order ≡ is_resident (walked s.tables p)
 unfolding paging
-resident_is n s p h = listed_is p s.order.items ∙ ap is_some (h.fine p).order ∙ some_frame (walked s.tables p)
+resident_is n s p h = listed_is p s.lists.order ∙ ap is_some (h.fine p).order ∙ some_frame (walked s.tables p)
 
 pub modified_is : (n : ℕ) (s : Store) (p : ℕ) → IsSound n s → is_listed p (paging s).modified ≡ is_some (dirty_frame (walked s.tables p))
 unfolding paging
-modified_is n s p h = listed_is p s.lists.modified.items ∙ ap is_some (h.fine p).modified
+modified_is n s p h = listed_is p s.lists.modified ∙ ap is_some (h.fine p).modified
 
 pub kept_is : (n : ℕ) (s : Store) (p : ℕ) → IsSound n s → is_listed p (paging s).kept ≡ is_some (kept s.tables p)
 unfolding paging
-kept_is n s p h = listed_is p s.lists.kept.items ∙ ap is_some (h.fine p).kept
+kept_is n s p h = listed_is p s.lists.kept ∙ ap is_some (h.fine p).kept
 
 pub frame_held : (walk : Walk) (left : Option ℕ) (f : ℕ) → frame_of walk ≡ Some f → held_by walk left ≡ Some f
 frame_held (Resident g prot m) left f e = e
@@ -191,15 +170,15 @@ dirty_held (Resident g prot false) left f e = cc
 dirty_held (Absent prot) left f e = cc
 dirty_held (Outside past) left f e = cc
 
-pub order_held : (n : ℕ) (s : Store) (p f : ℕ) → IsSound n s → frame_in s.order.items p ≡ Some f → held s p ≡ Some f
+pub order_held : (n : ℕ) (s : Store) (p f : ℕ) → IsSound n s → frame_in s.lists.order p ≡ Some f → held s p ≡ Some f
 unfolding held
 order_held n s p f h e = frame_held (walked s.tables p) (kept s.tables p) f (sym (h.fine p).order ∙ e)
 
-pub kept_held : (n : ℕ) (s : Store) (p f : ℕ) → IsSound n s → frame_in s.lists.kept.items p ≡ Some f → held s p ≡ Some f
+pub kept_held : (n : ℕ) (s : Store) (p f : ℕ) → IsSound n s → frame_in s.lists.kept p ≡ Some f → held s p ≡ Some f
 unfolding held
 kept_held n s p f h e = left_held (walked s.tables p) (kept s.tables p) f (h.fine p).apart (sym (h.fine p).kept ∙ e)
 
-pub modified_held : (n : ℕ) (s : Store) (p f : ℕ) → IsSound n s → frame_in s.lists.modified.items p ≡ Some f → held s p ≡ Some f
+pub modified_held : (n : ℕ) (s : Store) (p f : ℕ) → IsSound n s → frame_in s.lists.modified p ≡ Some f → held s p ≡ Some f
 unfolding held
 modified_held n s p f h e = dirty_held (walked s.tables p) (kept s.tables p) f (sym (h.fine p).modified ∙ e)
 
@@ -217,23 +196,7 @@ same_page n s p q f h a b = h.one p q f a b
 pub one_held : (n : ℕ) (s : Store) (p f : ℕ) → IsSound n s → held s p ≡ Some f → (q : ℕ) → q ≢ p → held s q ≢ Some f
 one_held n s p f h a q o b = o (same_page n s p q f h a b)
 
--- a frame may come into a list where its page isn't
-pub order_free : (n : ℕ) (s : Store) (p f : ℕ) → IsSound n s → held s p ≡ Some f → frame_in s.order.items p ≡ None → (q : ℕ) → frame_in s.order.items q ≢ Some f
-order_free n s p f h a none q e =
-    let same = same_page n s p q f h a (order_held n s q f h e) in
-    let bad : Some f ≡ None = sym e ∙ ap (frame_in s.order.items) same ∙ none in cc
-
-pub kept_free : (n : ℕ) (s : Store) (p f : ℕ) → IsSound n s → held s p ≡ Some f → frame_in s.lists.kept.items p ≡ None → (q : ℕ) → frame_in s.lists.kept.items q ≢ Some f
-kept_free n s p f h a none q e =
-    let same = same_page n s p q f h a (kept_held n s q f h e) in
-    let bad : Some f ≡ None = sym e ∙ ap (frame_in s.lists.kept.items) same ∙ none in cc
-
-pub modified_free : (n : ℕ) (s : Store) (p f : ℕ) → IsSound n s → held s p ≡ Some f → frame_in s.lists.modified.items p ≡ None → (q : ℕ) → frame_in s.lists.modified.items q ≢ Some f
-modified_free n s p f h a none q e =
-    let same = same_page n s p q f h a (modified_held n s q f h e) in
-    let bad : Some f ≡ None = sym e ∙ ap (frame_in s.lists.modified.items) same ∙ none in cc
-
-pub free_order : (n : ℕ) (s : Store) (f : ℕ) → IsSound n s → IsFree f s → (q : ℕ) → frame_in s.order.items q ≢ Some f
+pub free_order : (n : ℕ) (s : Store) (f : ℕ) → IsSound n s → IsFree f s → (q : ℕ) → frame_in s.lists.order q ≢ Some f
 free_order n s f h free q e = free.other q (order_held n s q f h e)
 
 -- the frame of a resident page
@@ -242,7 +205,7 @@ frame_some (Resident f prot m) h = (f, refl)
 frame_some (Absent prot) h = absurd (false≢true h)
 frame_some (Outside past) h = absurd (false≢true h)
 
-pub resident_there : (n : ℕ) (s : Store) (p : ℕ) → IsSound n s → is_listed p (paging s).order ≡ true → (f : ℕ) × (frame_in s.order.items p ≡ Some f)
+pub resident_there : (n : ℕ) (s : Store) (p : ℕ) → IsSound n s → is_listed p (paging s).order ≡ true → (f : ℕ) × (frame_in s.lists.order p ≡ Some f)
 resident_there n s p h r =
     let k = frame_some (walked s.tables p) (sym (resident_is n s p h) ∙ r) in
     (k.0, (h.fine p).order ∙ k.1)
@@ -251,3 +214,10 @@ resident_there n s p h r =
 pub frame_means : (s : Store) (p f : ℕ) → held s p ≡ Some f → slice_index_or s.frames.items f [] ≡ (paging s).frame p
 unfolding paging
 frame_means s p f e = ap (bytes_at s.frames.items) (sym e)
+
+-- no page has a frame that is free
+pub free_kept : (n : ℕ) (s : Store) (f : ℕ) → IsSound n s → IsFree f s → (q : ℕ) → frame_in s.lists.kept q ≢ Some f
+free_kept n s f h free q e = free.other q (kept_held n s q f h e)
+
+pub free_modified : (n : ℕ) (s : Store) (f : ℕ) → IsSound n s → IsFree f s → (q : ℕ) → frame_in s.lists.modified q ≢ Some f
+free_modified n s f h free q e = free.other q (modified_held n s q f h e)

@@ -14,25 +14,24 @@ use Rattle.vax_table.specs.Mapping.{all_absent, inside, mapped, none_kept}
 use Rattle.vax_table.specs.Tables.{walked, kept}
 use Rattle.vax_tb.specs.Buffer.{empty}
 use Rattle.vax_tb.specs.Meaning.{buffered}
-use Rattle.vax_lists.specs.Lines.{Line, frame_in, pages_of}
+use Rattle.vax_lists.specs.Lines.{PageLists, frame_in, pages_of}
 use Rattle.vax_flat.specs.Memory.{byte_at, IsWhole}
 use Rattle.vax_flat.specs.Start.{start_memory}
 use Rattle.vax_undo.proofs.PlainMemory.{layout_start}
 use Rattle.vax_outside.specs.Blocks.{BlockFile}
 use Rattle.vax_pager.specs.declared.store.Store.{Store}
-use Rattle.vax_pager.specs.Pins.{PinList}
+use Rattle.vax_pager.specs.Marks.{has_mark, no_mark}
 use Rattle.vax_pager.specs.Listing.{is_listed}
 use Rattle.vax_pager.specs.Paging.{Backs, bytes_in, content, home, is_clean, start_in, start_of}
 use Rattle.vax_pager.specs.Calls.{fresh}
 use Rattle.vax_pager.specs.Frames.{held_by}
-use Rattle.vax_pager.specs.Store.{bytes_at, flag_of, has_block, held, paging, Fits, IsSound}
+use Rattle.vax_pager.specs.Store.{bytes_at, flag_of, has_block, held, last_of, paging, Fits, IsSound}
 
-fits_fresh : (prot block : Option ℕ) (past : Bool) → Fits (inside prot past None) None None None None false prot block 0
+fits_fresh : (prot block : Option ℕ) (past : Bool) → Fits (inside prot past None) None None None None prot block 0
 fits_fresh None block past = record {
   order = refl;
   kept = refl;
   modified = refl;
-  pins = λ x. absurd (false≢true x);
   apart = λ x. refl;
   inside = λ x. absurd (false≢true x);
   writable = λ x. absurd (false≢true x);
@@ -43,7 +42,6 @@ fits_fresh (Some prot) block past = record {
   order = refl;
   kept = refl;
   modified = refl;
-  pins = λ x. absurd (false≢true x);
   apart = λ x. refl;
   inside = λ x. absurd (false≢true x);
   writable = λ x. absurd (false≢true x);
@@ -59,12 +57,10 @@ pub record IsNew (s : Store) (count : ℕ) : Type 0 where
   pub tables : walked s.tables ≡ mapped s.space all_absent
   pub kept : kept s.tables ≡ none_kept
   pub buffer : buffered s.buffer ≡ empty
-  pub order : s.order ≡ record { items = []; limit = count }
-  pub kept_list : s.lists.kept ≡ record { items = []; limit = count }
-  pub modified_list : s.lists.modified ≡ record { items = []; limit = count }
-  pub pins : s.pins ≡ record { items = []; room = count }
+  pub lists : s.lists ≡ record { order = []; kept = []; modified = []; limit = count }
+  pub pinned : s.pinned ≡ 0
   pub frames : s.frames.items ≡ replicate count (replicate 512 0)
-  pub flags : s.blocked.items ≡ replicate 69632 false
+  pub blocked : has_mark s.blocked ≡ no_mark
   pub used : s.used ≡ 0
 
 zero_small : (n k : ℕ) → slice_index (replicate {A = ℕ} n 0) k < 256
@@ -95,40 +91,31 @@ held_new s frames q n = rw (n.tables, n.kept) (none_held (prot_of s.space q) (is
 pub sound_new : (s : Store) (frames : ℕ) → frames ≤ 32768 → IsNew s frames → IsSound 0 s
 unfolding mapped frame_in is_listed pages_of
 sound_new s frames few n = record {
-  fine = λ q. rw (n.tables, n.kept, n.order, n.kept_list, n.modified_list, n.pins, n.used) (fits_fresh (prot_of s.space q) (block_of s.space q) (is_past_region s.space q));
+  fine = λ q. rw (n.tables, n.kept, n.lists, n.used) (fits_fresh (prot_of s.space q) (block_of s.space q) (is_past_region s.space q));
   one = λ p q f a b. let none = held_new s frames p n in let bad : None ≡ Some f = sym none ∙ a in absurd (no_some f bad);
   agrees = rw n.buffer (record { holds = λ page walk e. cc });
-  lengths = rw (n.order, n.kept_list, n.used) refl;
+  lengths = rw (n.lists, n.used) refl;
   used = omega (arith, n.used);
   few = omega (arith, few, so_many s frames n);
   whole = λ f low. rw n.frames (zeros_whole frames f (omega (arith, low, so_many s frames n)));
   small = λ f k. rw n.frames (zeros_small frames f k);
-  order_limit = ap (λ (l : Line). l.limit) n.order ∙ sym (so_many s frames n);
-  kept_limit = ap (λ (l : Line). l.limit) n.kept_list ∙ sym (so_many s frames n);
-  modified_limit = ap (λ (l : Line). l.limit) n.modified_list ∙ sym (so_many s frames n);
-  pins_last = rw (n.order, n.pins) refl;
-  pins_room = ap (λ (l : PinList). l.room) n.pins ∙ sym (so_many s frames n);
-  flags = ap (length {A = Bool}) n.flags ∙ length-replicate {A = Bool} 69632 false;
+  limit = ap (λ (l : PageLists). l.limit) n.lists ∙ sym (so_many s frames n);
+  pins = omega (arith, n.pinned);
 }
 
-none_at : (n block : ℕ) → slice_index_or (replicate n false) block false ≡ false
-none_at zero block = refl
-none_at (suc n) zero = refl
-none_at (suc n) (suc block) = none_at n block
-
-no_flag : (n : ℕ) (o : Option ℕ) → flag_of (replicate n false) o ≡ false
-no_flag n None = refl
-no_flag n (Some block) = none_at n block
+no_flag : (o : Option ℕ) → flag_of (λ block. false) o ≡ false
+no_flag None = refl
+no_flag (Some block) = refl
 
 pub paging_new : (s : Store) (frames : ℕ) → IsNew s frames → s.served ≡ 0 → s.evicted ≡ 0 → s.written ≡ 0 → s.spoiled ≡ 0 → paging s ≡ fresh s.space frames
 unfolding paging fresh has_block pages_of
 paging_new s frames n e0 e1 e2 e3 =
     let size = so_many s frames n in
-    let order : pages_of s.order.items ≡ [] = rw n.order refl in
-    let modified : pages_of s.lists.modified.items ≡ [] = rw n.modified_list refl in
-    let keeps : pages_of s.lists.kept.items ≡ [] = rw n.kept_list refl in
-    let pins : s.pins.items ≡ [] = ap (λ (l : PinList). l.items) n.pins in
-    let blocks : ◌≡◌ {A = ℕ → Bool} (λ q. flag_of s.blocked.items (block_of s.space q)) (λ q. false) = fun_ext (λ q. ap (λ (z : List Bool). flag_of z (block_of s.space q)) n.flags ∙ no_flag 69632 (block_of s.space q)) in
+    let order : pages_of s.lists.order ≡ [] = rw n.lists refl in
+    let modified : pages_of s.lists.modified ≡ [] = rw n.lists refl in
+    let keeps : pages_of s.lists.kept ≡ [] = rw n.lists refl in
+    let pins : last_of s.pinned (pages_of s.lists.order) ≡ [] = rw (n.pinned, n.lists) refl in
+    let blocks : ◌≡◌ {A = ℕ → Bool} (λ q. flag_of (has_mark s.blocked) (block_of s.space q)) (λ q. false) = fun_ext (λ q. ap (λ (z : ℕ → Bool). flag_of z (block_of s.space q)) n.blocked ∙ no_flag (block_of s.space q)) in
     let bytes : ◌≡◌ {A = ℕ → List ℕ} (λ q. bytes_at s.frames.items (held s q)) (λ q. []) = fun_ext (λ q. ap (bytes_at s.frames.items) (held_new s frames q n)) in
     cc
 

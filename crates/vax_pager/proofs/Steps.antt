@@ -1,8 +1,9 @@
 -- Each step of the parts keeps them sound, and is a step of what they mean.
-use Rattle.std.proofs.Common.{ℕ, ◌≡◌, ◌≢◌, ◌+◌, ◌<◌, Bool, true, false, List, [], ◌∷◌, ◌++◌, ◌-◌, take, length, length-append, append_assoc, append-nil, if◌then◌else◌, refl, ap, sym, ◌∙◌, subst, arith, inl, inr, Option, Some, None, slice_index, slice_index_or, slice_set, get_or-set_same, get_or-set_other, length-set, Vec, Global}
+use Rattle.std.proofs.Common.{ℕ, ◌≡◌, ◌≢◌, ◌+◌, ◌<◌, ◌≤◌, Bool, true, false, List, [], ◌∷◌, ◌++◌, ◌-◌, take, drop, take-append-drop, length, length-append, if◌then◌else◌, refl, ap, sym, ◌∙◌, subst, arith, inl, inr, Option, Some, None, slice_index, slice_index_or, slice_set, get_or-set_same, get_or-set_other, length-set, Vec, Global}
+use Rattle.std.proofs.lemmas.List.{length-drop}
 use Rattle.std.specs.Prelude.{is_some}
 use Rattle.std.proofs.Math.Path.{fun_ext}
-use Rattle.std.proofs.lemmas.Bool.{cases_eq, eq-eqb, ne_eqb, false≢true}
+use Rattle.std.proofs.lemmas.Bool.{cases_Bool, cases_eq, eq-eqb, ne_eqb, false≢true}
 use Rattle.vax_space.specs.declared.Area.{Area}
 use Rattle.vax_space.specs.Areas.{block_of, prot_of}
 use Rattle.vax_space.proofs.Blocks.{block_page}
@@ -15,19 +16,18 @@ use Rattle.vax_table.specs.Tables.{walked, kept}
 use Rattle.vax_tb.specs.declared.buffer.Buffer.{Buffer}
 use Rattle.vax_tb.specs.Buffer.{dropped}
 use Rattle.vax_tb.specs.Meaning.{buffered}
-use Rattle.vax_lists.specs.declared.line.Placed.{Placed}
-use Rattle.vax_lists.specs.declared.lists.Lists.{Lists}
-use Rattle.vax_lists.specs.Lines.{Line, frame_in, without, pages_of, placed, with_items, appended}
-use Rattle.vax_lists.proofs.Lines.{in_appended, in_without}
+use Rattle.vax_lists.specs.declared.lists.Placed.{Placed}
+use Rattle.vax_lists.specs.Lines.{PageLists, frame_in, without, pages_of, placed, with_kept, with_modified, with_order, appended}
+use Rattle.vax_lists.proofs.Pages.{in_appended, in_without}
 use Rattle.vax_pager.specs.declared.store.Store.{Store}
-use Rattle.vax_pager.specs.Pins.{PinList}
+use Rattle.vax_pager.specs.Marks.{has_mark}
 use Rattle.vax_pager.specs.Listing.{is_listed, leave_out}
 use Rattle.vax_pager.specs.Steps.{at, flushed, released, taken_back, brought, forgotten, removed, settled}
 use Rattle.vax_pager.specs.Frames.{held_by, dirty_frame}
-use Rattle.vax_pager.specs.Store.{held, flag_of, has_block, paging, Fits, IsSound, IsFree}
-use Rattle.vax_pager.proofs.Listing.{in_push, pages_push, pages_without, out_none, out-append, listed_is}
-use Rattle.vax_pager.proofs.Listing.{in_without as out_listed}
-use Rattle.vax_pager.proofs.Moves.{at_same, at_other, Changes, sound_moved, held_changes, frames_of, frames_same, frames_gone, frames_set, held_low, order_held, kept_held, modified_held, resident_is, modified_is, kept_is, one_held, end_parts, end_of_parts}
+use Rattle.vax_pager.specs.Store.{held, flag_of, has_block, last_of, lowered_if, paging, Fits, IsSound, IsFree}
+use Rattle.vax_pager.proofs.Listing.{pages_push, pages_without, pages-length, out_none, out-append, listed_is}
+use Rattle.vax_pager.proofs.Last.{drop_push, last_none, last_parts, last-length, one_less}
+use Rattle.vax_pager.proofs.Moves.{at_same, at_other, Changes, sound_moved, held_changes, frames_of, frames_same, frames_gone, frames_set, held_low, order_held, kept_held, modified_held, resident_is, modified_is, kept_is, one_held}
 
 -- lists at the page of a step, and at another
 gone_here : (p : ℕ) (xs : List Placed) → frame_in (without p xs) p ≡ None
@@ -42,127 +42,108 @@ came_here p f xs new = in_appended xs p p f new ∙ rw (eq-eqb p p refl) refl
 pub came_other : (p q f : ℕ) (xs : List Placed) → frame_in xs p ≡ None → q ≢ p → frame_in (xs ++ placed p f ∷ []) q ≡ frame_in xs q
 came_other p q f xs new o = in_appended xs p q f new ∙ rw (ne_eqb q p o) refl
 
-pin_here : (p : ℕ) (xs : List ℕ) → is_listed p (xs ++ p ∷ []) ≡ true
-pin_here p xs = in_push p p xs ∙ rw (eq-eqb p p refl) refl
-
-pin_other : (p q : ℕ) (xs : List ℕ) → q ≢ p → is_listed q (xs ++ p ∷ []) ≡ is_listed q xs
-pin_other p q xs o = in_push q p xs ∙ rw (ne_eqb q p o) refl
-
-unpin_here : (p : ℕ) (xs : List ℕ) → is_listed p (leave_out p xs) ≡ false
-unpin_here p xs = out_listed p p xs ∙ rw (eq-eqb p p refl) refl
-
-unpin_other : (p q : ℕ) (xs : List ℕ) → q ≢ p → is_listed q (leave_out p xs) ≡ is_listed q xs
-unpin_other p q xs o = out_listed q p xs ∙ rw (ne_eqb q p o) refl
-
 -- what is so of the page of a step
 
-fits_flushed : (walk : Walk) (left o k m : Option ℕ) (n : Bool) (prot block : Option ℕ) (f : ℕ) (u : ℕ) → Fits walk left o k m n prot block u → dirty_frame walk ≡ Some f → Fits (set_in walk f) None o k None n prot block u
-fits_flushed (Resident g pr true) left o k m n prot block f u h e = record {
+fits_flushed : (walk : Walk) (left o k m : Option ℕ) (prot block : Option ℕ) (f : ℕ) (u : ℕ) → Fits walk left o k m prot block u → dirty_frame walk ≡ Some f → Fits (set_in walk f) None o k None prot block u
+fits_flushed (Resident g pr true) left o k m prot block f u h e = record {
   order = h.order ∙ e;
   kept = h.kept ∙ h.apart refl;
   modified = refl;
-  pins = λ x. refl;
   apart = λ x. refl;
   inside = λ x. refl;
   writable = λ x. absurd (false≢true x);
   area = h.area;
   holds = λ frame x. h.holds frame (e ∙ x);
 }
-fits_flushed (Resident g pr false) left o k m n prot block f u h e = cc
-fits_flushed (Absent pr) left o k m n prot block f u h e = cc
-fits_flushed (Outside past) left o k m n prot block f u h e = cc
+fits_flushed (Resident g pr false) left o k m prot block f u h e = cc
+fits_flushed (Absent pr) left o k m prot block f u h e = cc
+fits_flushed (Outside past) left o k m prot block f u h e = cc
 
-fits_released : (walk : Walk) (left o k m : Option ℕ) (n : Bool) (prot block : Option ℕ) (u : ℕ) → Fits walk left o k m n prot block u → is_resident walk ≡ true → dirty_frame walk ≡ None → Fits (cleared walk) (frame_of walk) None (frame_of walk) m false prot block u
-fits_released (Resident f pr true) left o k m n prot block u h r c = cc
-fits_released (Resident f pr false) left o k m n prot block u h r c = record {
+fits_released : (walk : Walk) (left o k m : Option ℕ) (prot block : Option ℕ) (u : ℕ) → Fits walk left o k m prot block u → is_resident walk ≡ true → dirty_frame walk ≡ None → Fits (cleared walk) (frame_of walk) None (frame_of walk) m prot block u
+fits_released (Resident f pr true) left o k m prot block u h r c = cc
+fits_released (Resident f pr false) left o k m prot block u h r c = record {
   order = refl;
   kept = refl;
   modified = h.modified;
-  pins = λ x. absurd (false≢true x);
   apart = λ x. absurd (false≢true x);
   inside = λ x. refl;
   writable = λ x. absurd (false≢true x);
   area = h.area;
   holds = h.holds;
 }
-fits_released (Absent pr) left o k m n prot block u h r c = absurd (false≢true r)
-fits_released (Outside past) left o k m n prot block u h r c = absurd (false≢true r)
+fits_released (Absent pr) left o k m prot block u h r c = absurd (false≢true r)
+fits_released (Outside past) left o k m prot block u h r c = absurd (false≢true r)
 
-fits_taken : (walk : Walk) (left o k m : Option ℕ) (n : Bool) (prot block : Option ℕ) (f : ℕ) (u : ℕ) → Fits walk left o k m n prot block u → left ≡ Some f → Fits (set_in walk f) None (Some f) None m true prot block u
-fits_taken (Resident g pr md) left o k m n prot block f u h e = let none = h.apart refl in cc
-fits_taken (Absent pr) left o k m n prot block f u h e = record {
+fits_taken : (walk : Walk) (left o k m : Option ℕ) (prot block : Option ℕ) (f : ℕ) (u : ℕ) → Fits walk left o k m prot block u → left ≡ Some f → Fits (set_in walk f) None (Some f) None m prot block u
+fits_taken (Resident g pr md) left o k m prot block f u h e = let none = h.apart refl in cc
+fits_taken (Absent pr) left o k m prot block f u h e = record {
   order = refl;
   kept = refl;
   modified = h.modified;
-  pins = λ x. refl;
   apart = λ x. refl;
   inside = λ x. refl;
   writable = λ x. absurd (false≢true x);
   area = h.area;
   holds = λ frame x. h.holds frame (e ∙ x);
 }
-fits_taken (Outside past) left o k m n prot block f u h e = let bad : false ≡ true = h.inside (rw e refl) in absurd (false≢true bad)
+fits_taken (Outside past) left o k m prot block f u h e = let bad : false ≡ true = h.inside (rw e refl) in absurd (false≢true bad)
 
-fits_forgotten : (walk : Walk) (left o k m : Option ℕ) (n : Bool) (prot block : Option ℕ) (f : ℕ) (u : ℕ) → Fits walk left o k m n prot block u → left ≡ Some f → Fits (cleared walk) None o None m n prot block u
-fits_forgotten (Resident g pr md) left o k m n prot block f u h e = let none = h.apart refl in cc
-fits_forgotten (Absent pr) left o k m n prot block f u h e = record {
+fits_forgotten : (walk : Walk) (left o k m : Option ℕ) (prot block : Option ℕ) (f : ℕ) (u : ℕ) → Fits walk left o k m prot block u → left ≡ Some f → Fits (cleared walk) None o None m prot block u
+fits_forgotten (Resident g pr md) left o k m prot block f u h e = let none = h.apart refl in cc
+fits_forgotten (Absent pr) left o k m prot block f u h e = record {
   order = h.order;
   kept = refl;
   modified = h.modified;
-  pins = h.pins;
   apart = λ x. refl;
   inside = λ x. refl;
   writable = h.writable;
   area = h.area;
   holds = λ frame x. cc;
 }
-fits_forgotten (Outside past) left o k m n prot block f u h e = let bad : false ≡ true = h.inside (rw e refl) in absurd (false≢true bad)
+fits_forgotten (Outside past) left o k m prot block f u h e = let bad : false ≡ true = h.inside (rw e refl) in absurd (false≢true bad)
 
-fits_given : (walk : Walk) (left o k m : Option ℕ) (n : Bool) (prot block : Option ℕ) (u : ℕ) → Fits walk left o k m n prot block u → is_resident walk ≡ true → dirty_frame walk ≡ None → n ≡ false → Fits (cleared walk) None None k m n prot block u
-fits_given (Resident f pr true) left o k m n prot block u h r c d = cc
-fits_given (Resident f pr false) left o k m n prot block u h r c d = record {
+fits_given : (walk : Walk) (left o k m : Option ℕ) (prot block : Option ℕ) (u : ℕ) → Fits walk left o k m prot block u → is_resident walk ≡ true → dirty_frame walk ≡ None → Fits (cleared walk) None None k m prot block u
+fits_given (Resident f pr true) left o k m prot block u h r c = cc
+fits_given (Resident f pr false) left o k m prot block u h r c = record {
   order = refl;
   kept = h.kept ∙ h.apart refl;
   modified = h.modified;
-  pins = λ x. absurd (false≢true (sym d ∙ x));
   apart = λ x. refl;
   inside = λ x. refl;
   writable = λ x. absurd (false≢true x);
   area = h.area;
   holds = λ frame x. cc;
 }
-fits_given (Absent pr) left o k m n prot block u h r c d = absurd (false≢true r)
-fits_given (Outside past) left o k m n prot block u h r c d = absurd (false≢true r)
+fits_given (Absent pr) left o k m prot block u h r c = absurd (false≢true r)
+fits_given (Outside past) left o k m prot block u h r c = absurd (false≢true r)
 
-fits_brought : (walk : Walk) (left o k m : Option ℕ) (n : Bool) (prot block : Option ℕ) (f : ℕ) (u : ℕ) → Fits walk left o k m n prot block u → is_some prot ≡ true → is_resident walk ≡ false → left ≡ None → f < u → Fits (set_in walk f) None (Some f) k m true prot block u
-fits_brought (Resident g pr md) left o k m n prot block f u h w r e low = absurd (false≢true (sym r))
-fits_brought (Absent pr) left o k m n prot block f u h w r e low = record {
+fits_brought : (walk : Walk) (left o k m : Option ℕ) (prot block : Option ℕ) (f : ℕ) (u : ℕ) → Fits walk left o k m prot block u → is_some prot ≡ true → is_resident walk ≡ false → left ≡ None → f < u → Fits (set_in walk f) None (Some f) k m prot block u
+fits_brought (Resident g pr md) left o k m prot block f u h w r e low = absurd (false≢true (sym r))
+fits_brought (Absent pr) left o k m prot block f u h w r e low = record {
   order = refl;
   kept = h.kept ∙ e;
   modified = h.modified;
-  pins = λ x. refl;
   apart = λ x. refl;
   inside = λ x. refl;
   writable = λ x. absurd (false≢true x);
   area = h.area;
   holds = λ frame x. let same : f ≡ frame = cc in subst (λ (z : ℕ). z < u) same low;
 }
-fits_brought (Outside past) left o k m n prot block f u h w r e low = let bad : false ≡ true = ap is_some h.area ∙ w in absurd (false≢true bad)
+fits_brought (Outside past) left o k m prot block f u h w r e low = let bad : false ≡ true = ap is_some h.area ∙ w in absurd (false≢true bad)
 
-pub fits_marked : (walk : Walk) (left o k m : Option ℕ) (n : Bool) (prot block : Option ℕ) (f : ℕ) (u : ℕ) → Fits walk left o k m n prot block u → frame_of walk ≡ Some f → is_some block ≡ true → Fits (marked walk) None o k (Some f) n prot block u
-fits_marked (Resident g pr md) left o k m n prot block f u h e w = record {
+pub fits_marked : (walk : Walk) (left o k m : Option ℕ) (prot block : Option ℕ) (f : ℕ) (u : ℕ) → Fits walk left o k m prot block u → frame_of walk ≡ Some f → is_some block ≡ true → Fits (marked walk) None o k (Some f) prot block u
+fits_marked (Resident g pr md) left o k m prot block f u h e w = record {
   order = h.order;
   kept = h.kept ∙ h.apart refl;
   modified = sym e;
-  pins = λ x. refl;
   apart = λ x. refl;
   inside = λ x. refl;
   writable = λ x. w;
   area = h.area;
   holds = h.holds;
 }
-fits_marked (Absent pr) left o k m n prot block f u h e w = cc
-fits_marked (Outside past) left o k m n prot block f u h e w = cc
+fits_marked (Absent pr) left o k m prot block f u h e w = cc
+fits_marked (Outside past) left o k m prot block f u h e w = cc
 
 -- frames that a step of marks leaves
 set_held : (walk : Walk) (left : Option ℕ) (f : ℕ) → is_inside walk ≡ true → held_by (set_in walk f) None ≡ Some f
@@ -214,33 +195,16 @@ area_inside (Resident g pr md) prot e h = refl
 area_inside (Absent pr) prot e h = refl
 area_inside (Outside past) prot e h = absurd (false≢true (ap is_some e ∙ h))
 
-pushed_last : (p : ℕ) (order front pins : List ℕ) → order ≡ front ++ pins → order ++ p ∷ [] ≡ front ++ (pins ++ p ∷ [])
-pushed_last p order front pins e = ap (λ (z : List ℕ). z ++ p ∷ []) e ∙ append_assoc front pins (p ∷ [])
-
-fits_more : (walk : Walk) (left o k m : Option ℕ) (n : Bool) (prot block : Option ℕ) (u : ℕ) → Fits walk left o k m n prot block u → Fits walk left o k m n prot block (u + 1)
-fits_more walk left o k m n prot block u h = record {
+fits_more : (walk : Walk) (left o k m : Option ℕ) (prot block : Option ℕ) (u : ℕ) → Fits walk left o k m prot block u → Fits walk left o k m prot block (u + 1)
+fits_more walk left o k m prot block u h = record {
   order = h.order;
   kept = h.kept;
   modified = h.modified;
-  pins = h.pins;
   apart = h.apart;
   inside = h.inside;
   writable = h.writable;
   area = h.area;
   holds = λ frame x. omega (arith, h.holds frame x);
-}
-
-fits_unpinned : (walk : Walk) (left o k m : Option ℕ) (n : Bool) (prot block : Option ℕ) (u : ℕ) → Fits walk left o k m n prot block u → Fits walk left o k m false prot block u
-fits_unpinned walk left o k m n prot block u h = record {
-  order = h.order;
-  kept = h.kept;
-  modified = h.modified;
-  pins = λ x. absurd (false≢true x);
-  apart = h.apart;
-  inside = h.inside;
-  writable = h.writable;
-  area = h.area;
-  holds = h.holds;
 }
 
 at_again : (p : ℕ) (bytes : List ℕ) (x : Option ℕ) (frames : List (List ℕ)) (h : ℕ → Option ℕ) → at p bytes (frames_of frames (at p x h)) ≡ at p bytes (frames_of frames h)
@@ -264,13 +228,60 @@ no_none g e = cc
 came_free : (s : Store) (p f g : ℕ) → ◌≡◌ {A = Option ℕ} (Some f) (Some g) → IsFree f s → (q : ℕ) → held s q ≢ Some g
 came_free s p f g e free q h = free.other q (h ∙ sym e)
 
+-- the pinned pages are the last so many
+
 abbrev pub front_of : Store → List ℕ
-front_of s = take (length (pages_of s.order.items) - length s.pins.items) (pages_of s.order.items)
+front_of s = take (length (pages_of s.lists.order) - s.pinned) (pages_of s.lists.order)
 
-pub parts : {n : ℕ} {s : Store} → IsSound n s → pages_of s.order.items ≡ front_of s ++ s.pins.items
-parts {n} {s} h = end_parts s.pins.items (pages_of s.order.items) h.pins_last
+pub parts : (s : Store) → pages_of s.lists.order ≡ front_of s ++ last_of s.pinned (pages_of s.lists.order)
+parts s = sym (take-append-drop (length (pages_of s.lists.order) - s.pinned) (pages_of s.lists.order))
 
--- the flags of blocks
+last_push : (n p : ℕ) (xs : List ℕ) → n ≤ length xs → last_of (n + 1) (xs ++ p ∷ []) ≡ last_of n xs ++ p ∷ []
+last_push n p xs few =
+    let k : length (xs ++ p ∷ []) - (n + 1) ≡ length xs - n = omega (arith, length-append xs (p ∷ [])) in
+    ap (λ (i : ℕ). drop i (xs ++ p ∷ [])) k ∙ drop_push (length xs - n) p xs (omega arith)
+
+pub last_pages : (s : Store) (p f : ℕ) → s.pinned ≤ length s.lists.order → last_of (s.pinned + 1) (pages_of (appended s.lists.order p f)) ≡ last_of s.pinned (pages_of s.lists.order) ++ p ∷ []
+last_pages s p f few =
+    ap (last_of (s.pinned + 1)) (pages_push s.lists.order p f) ∙ last_push s.pinned p (pages_of s.lists.order) (omega (arith, few, pages-length s.lists.order))
+
+-- a page that isn't pinned goes
+last_same : (s : Store) (p : ℕ) → s.pinned ≤ length s.lists.order → is_listed p (last_of s.pinned (pages_of s.lists.order)) ≡ false → last_of s.pinned (pages_of (without p s.lists.order)) ≡ last_of s.pinned (pages_of s.lists.order)
+last_same s p few out =
+    let xs = pages_of s.lists.order in
+    let end = last_of s.pinned xs in
+    let e : pages_of (without p s.lists.order) ≡ leave_out p (front_of s) ++ end =
+    pages_without p s.lists.order ∙ ap (leave_out p) (parts s) ∙ out-append p (front_of s) end ∙ ap (λ (z : List ℕ). leave_out p (front_of s) ++ z) (out_none p end out) in
+    ap (last_of s.pinned) e ∙ last_parts s.pinned (leave_out p (front_of s)) end (last-length s.pinned xs (omega (arith, few, pages-length s.lists.order)))
+
+few_out : (s : Store) (p : ℕ) → s.pinned ≤ length s.lists.order → is_listed p (last_of s.pinned (pages_of s.lists.order)) ≡ false → s.pinned ≤ length (without p s.lists.order)
+few_out s p few out =
+    let end = last_of s.pinned (pages_of (without p s.lists.order)) in
+    omega (arith, ap (length {A = ℕ}) (last_same s p few out), last-length s.pinned (pages_of s.lists.order) (omega (arith, few, pages-length s.lists.order)), length-drop (length (pages_of (without p s.lists.order)) - s.pinned) (pages_of (without p s.lists.order)), pages-length (without p s.lists.order))
+
+-- any page goes: it is one pinned page less where it was pinned
+pub last_without : (s : Store) (p : ℕ) → s.pinned ≤ length s.lists.order → length (without p s.lists.order) + 1 ≡ length s.lists.order →
+    last_of (lowered_if (is_listed p (last_of s.pinned (pages_of s.lists.order))) s.pinned) (pages_of (without p s.lists.order)) ≡ leave_out p (last_of s.pinned (pages_of s.lists.order))
+last_without s p few fewer =
+    let xs = pages_of s.lists.order in
+    let end = last_of s.pinned xs in
+    let e : pages_of (without p s.lists.order) ≡ leave_out p (front_of s) ++ leave_out p end =
+    pages_without p s.lists.order ∙ ap (leave_out p) (parts s) ∙ out-append p (front_of s) end in
+    let size : length end ≡ s.pinned = last-length s.pinned xs (omega (arith, few, pages-length s.lists.order)) in
+    let total : length (leave_out p (front_of s)) + length (leave_out p end) + 1 ≡ length (front_of s) + length end =
+    omega (arith, ap (length {A = ℕ}) e, ap (length {A = ℕ}) (parts s), length-append (leave_out p (front_of s)) (leave_out p end), length-append (front_of s) end, pages-length s.lists.order, pages-length (without p s.lists.order), fewer) in
+    let count : length (leave_out p end) ≡ lowered_if (is_listed p end) s.pinned = ap (λ (z : ℕ). length (leave_out p end)) size ∙ one_less p (front_of s) end total ∙ ap (lowered_if (is_listed p end)) size in
+    ap (last_of (lowered_if (is_listed p end) s.pinned)) e ∙ last_parts (lowered_if (is_listed p end) s.pinned) (leave_out p (front_of s)) (leave_out p end) count
+
+pub lowered_few : (s : Store) (p : ℕ) → s.pinned ≤ length s.lists.order → length (without p s.lists.order) + 1 ≡ length s.lists.order → lowered_if (is_listed p (last_of s.pinned (pages_of s.lists.order))) s.pinned ≤ length (without p s.lists.order)
+lowered_few s p few fewer =
+    let xs = pages_of s.lists.order in
+    elim (cases_Bool (is_listed p (last_of s.pinned xs))) [
+      | inl t ↦ rw t (omega (arith, few, fewer))
+      | inr f ↦ rw f (few_out s p few f)
+    ]
+
+-- the marks of blocks
 
 one_page : (areas : List Area) (p q n : ℕ) → block_of areas p ≡ Some n → block_of areas q ≡ Some n → q ≡ p
 one_page areas p q n b d =
@@ -279,178 +290,164 @@ one_page areas p q n b d =
     let k : Some q ≡ Some p = sym j ∙ i in
     cc
 
-flag_other : (flags : List Bool) (n : ℕ) (o : Option ℕ) → o ≢ Some n → flag_of (slice_set flags n true) o ≡ flag_of flags o
-flag_other flags n None h = refl
-flag_other flags n (Some m) h = get_or-set_other flags n m true false (λ e. h (ap (λ (z : ℕ). Some z) e))
+flag_other : (marks : ℕ → Bool) (n : ℕ) (o : Option ℕ) → o ≢ Some n → flag_of (at n true marks) o ≡ flag_of marks o
+flag_other marks n None h = refl
+flag_other marks n (Some m) h = at_other n m true marks (λ e. h (ap (λ (z : ℕ). Some z) e))
 
-flags_set : (flags : List Bool) (areas : List Area) (p n : ℕ) → n < length flags → block_of areas p ≡ Some n → ◌≡◌ {A = ℕ → Bool} (λ q. flag_of (slice_set flags n true) (block_of areas q)) (at p true (λ q. flag_of flags (block_of areas q)))
-flags_set flags areas p n low b = fun_ext (λ q. elim (cases_eq q p) [
-  | inl e ↦ rw (e, at_same p true (λ r. flag_of flags (block_of areas r)), b) (get_or-set_same flags n true false low)
-  | inr o ↦ rw (at_other p q true (λ r. flag_of flags (block_of areas r)) o) (flag_other flags n (block_of areas q) (λ d. o (one_page areas p q n b d)))
+flags_set : (marks : ℕ → Bool) (areas : List Area) (p n : ℕ) → block_of areas p ≡ Some n → ◌≡◌ {A = ℕ → Bool} (λ q. flag_of (at n true marks) (block_of areas q)) (at p true (λ q. flag_of marks (block_of areas q)))
+flags_set marks areas p n b = fun_ext (λ q. elim (cases_eq q p) [
+  | inl e ↦ rw (e, at_same p true (λ r. flag_of marks (block_of areas r)), b) (at_same n true marks)
+  | inr o ↦ rw (at_other p q true (λ r. flag_of marks (block_of areas r)) o) (flag_other marks n (block_of areas q) (λ d. o (one_page areas p q n b d)))
 ])
-
--- what the steps that change no frame leave of the rest
-same_flags : (a b : List Bool) (n : ℕ) → b ≡ slice_set a n true → length b ≡ length a
-same_flags a b n e = ap (length {A = Bool}) e ∙ length-set a n true
 
 -- a modified page was written to its block
 
-pub sound_flushed : (s : Store) (p f n w : ℕ) (tables : Tables) (buffer : Buffer) (lists : Lists) (blocked : Vec Bool Global) → Changes s tables p (set_in (walked s.tables p) f) None → buffered buffer ≡ dropped (buffered s.buffer) p → lists.modified ≡ with_items s.lists.modified (without p s.lists.modified.items) → lists.kept ≡ s.lists.kept → blocked.items ≡ slice_set s.blocked.items n true → frame_in s.lists.modified.items p ≡ Some f → IsSound 0 s → IsSound 0 (record s { tables = tables; buffer = buffer; lists = lists; blocked = blocked; written = w })
-sound_flushed s p f n w tables buffer lists blocked c b em ek eb there h =
-    sound_moved 0 0 s (record s { tables = tables; buffer = buffer; lists = lists; blocked = blocked; written = w }) p (set_in (walked s.tables p) f) None (front_of s) h (record {
+pub sound_flushed : (s : Store) (p f w : ℕ) (tables : Tables) (buffer : Buffer) (lists : PageLists) (blocked : List ℕ) → Changes s tables p (set_in (walked s.tables p) f) None → buffered buffer ≡ dropped (buffered s.buffer) p → lists ≡ with_modified s.lists (without p s.lists.modified) → frame_in s.lists.modified p ≡ Some f → IsSound 0 s → IsSound 0 (record s { tables = tables; buffer = buffer; lists = lists; blocked = blocked; written = w })
+sound_flushed s p f w tables buffer lists blocked c b el there h =
+    sound_moved 0 0 s (record s { tables = tables; buffer = buffer; lists = lists; blocked = blocked; written = w }) p (set_in (walked s.tables p) f) None h (record {
       changes = c;
       buffer = b;
       space = refl;
-      here = rw (em, ek, gone_here p s.lists.modified.items) (fits_flushed (walked s.tables p) _ _ _ _ _ _ _ f _ (h.fine p) (sym (h.fine p).modified ∙ there));
-      other = λ q o. rw (em, ek, gone_other p q s.lists.modified.items o) (h.fine q);
+      here = rw (el, gone_here p s.lists.modified) (fits_flushed (walked s.tables p) _ _ _ _ _ _ f _ (h.fine p) (sym (h.fine p).modified ∙ there));
+      other = λ q o. rw (el, gone_other p q s.lists.modified o) (h.fine q);
       fresh = λ g e q o. one_held 0 s p g h (modified_held 0 s p f h there ∙ sym (set_held (walked s.tables p) None f (dirty_inside (walked s.tables p) f (sym (h.fine p).modified ∙ there))) ∙ e) q o;
-      lengths = rw ek h.lengths;
+      lengths = rw el h.lengths;
       used = refl;
       frames = refl;
       whole = h.whole;
       small = h.small;
-      order_limit = refl;
-      kept_limit = ap (λ (l : Line). l.limit) ek;
-      modified_limit = ap (λ (l : Line). l.limit) em;
-      pins_last = parts h;
-      pins_room = refl;
-      flags = same_flags s.blocked.items blocked.items n eb;
+      limit = rw el refl;
+      pins = rw el h.pins;
     })
 
-pub paging_flushed : (s : Store) (p f n w : ℕ) (tables : Tables) (buffer : Buffer) (lists : Lists) (blocked : Vec Bool Global) → Changes s tables p (set_in (walked s.tables p) f) None → lists.modified ≡ with_items s.lists.modified (without p s.lists.modified.items) → lists.kept ≡ s.lists.kept → blocked.items ≡ slice_set s.blocked.items n true → frame_in s.lists.modified.items p ≡ Some f → block_of s.space p ≡ Some n → n < 69632 → w ≡ raised s.written → IsSound 0 s → paging (record s { tables = tables; buffer = buffer; lists = lists; blocked = blocked; written = w }) ≡ flushed p (paging s)
+pub paging_flushed : (s : Store) (p f n w : ℕ) (tables : Tables) (buffer : Buffer) (lists : PageLists) (blocked : List ℕ) → Changes s tables p (set_in (walked s.tables p) f) None → lists ≡ with_modified s.lists (without p s.lists.modified) → has_mark blocked ≡ at n true (has_mark s.blocked) → frame_in s.lists.modified p ≡ Some f → block_of s.space p ≡ Some n → w ≡ raised s.written → IsSound 0 s → paging (record s { tables = tables; buffer = buffer; lists = lists; blocked = blocked; written = w }) ≡ flushed p (paging s)
 unfolding paging flushed has_block
-paging_flushed s p f n w tables buffer lists blocked c em ek eb there block low ew h =
+paging_flushed s p f n w tables buffer lists blocked c el eb there block ew h =
     let t : Store = record s { tables = tables; buffer = buffer; lists = lists; blocked = blocked; written = w } in
     let dirty : dirty_frame (walked s.tables p) ≡ Some f = sym (h.fine p).modified ∙ there in
     let same : held_by (set_in (walked s.tables p) f) None ≡ held s p = set_held (walked s.tables p) None f (dirty_inside (walked s.tables p) f dirty) ∙ sym (modified_held 0 s p f h there) in
     let frame : frames_of s.frames.items (held t) ≡ frames_of s.frames.items (held s) = frames_same s.frames.items s t p _ None c same in
-    let modified : pages_of lists.modified.items ≡ leave_out p (pages_of s.lists.modified.items) = ap (λ (l : Line). pages_of l.items) em ∙ pages_without p s.lists.modified.items in
-    let keeps : pages_of lists.kept.items ≡ pages_of s.lists.kept.items = ap (λ (l : Line). pages_of l.items) ek in
-    let flags : (λ q. flag_of blocked.items (block_of s.space q)) ≡ at p true (λ q. flag_of s.blocked.items (block_of s.space q)) =
-    ap (λ (z : List Bool). λ q. flag_of z (block_of s.space q)) eb ∙ flags_set s.blocked.items s.space p n (omega (arith, h.flags)) block in
+    let lo : pages_of lists.order ≡ pages_of s.lists.order = ap (λ (l : PageLists). pages_of l.order) el in
+    let lm : pages_of lists.modified ≡ leave_out p (pages_of s.lists.modified) = ap (λ (l : PageLists). pages_of l.modified) el ∙ pages_without p s.lists.modified in
+    let lk : pages_of lists.kept ≡ pages_of s.lists.kept = ap (λ (l : PageLists). pages_of l.kept) el in
+    let flags : (λ q. flag_of (has_mark blocked) (block_of s.space q)) ≡ at p true (λ q. flag_of (has_mark s.blocked) (block_of s.space q)) =
+    ap (λ (z : ℕ → Bool). λ q. flag_of z (block_of s.space q)) eb ∙ flags_set (has_mark s.blocked) s.space p n block in
     cc
 
 -- a resident page is absent, and its frame is kept
 
-out_front : (p : ℕ) (order front pins : List ℕ) → order ≡ front ++ pins → leave_out p order ≡ leave_out p front ++ leave_out p pins
-out_front p order front pins e = ap (leave_out p) e ∙ out-append p front pins
-
-pub sound_released : (s : Store) (p f ev sp : ℕ) (tables : Tables) (buffer : Buffer) (o : Line) (n : PinList) (lists : Lists) → Changes s tables p (cleared (walked s.tables p)) (frame_of (walked s.tables p)) → buffered buffer ≡ dropped (buffered s.buffer) p → o ≡ with_items s.order (without p s.order.items) → length o.items + 1 ≡ length s.order.items → n ≡ record { items = leave_out p s.pins.items; room = s.pins.room } → lists.kept ≡ appended s.lists.kept p f → lists.modified ≡ s.lists.modified → frame_in s.order.items p ≡ Some f → is_listed p (paging s).modified ≡ false → IsSound 0 s → IsSound 0 (record s { tables = tables; buffer = buffer; order = o; pins = n; lists = lists; evicted = ev; spoiled = sp })
-sound_released s p f ev sp tables buffer o n lists c b eo fewer en ek em there clean h =
+pub sound_released : (s : Store) (p f ev sp pn : ℕ) (tables : Tables) (buffer : Buffer) (lists : PageLists) → Changes s tables p (cleared (walked s.tables p)) (frame_of (walked s.tables p)) → buffered buffer ≡ dropped (buffered s.buffer) p → lists ≡ with_kept (with_order s.lists (without p s.lists.order)) (appended s.lists.kept p f) → length lists.order + 1 ≡ length s.lists.order → pn ≡ lowered_if (is_listed p (paging s).pinned) s.pinned → frame_in s.lists.order p ≡ Some f → is_listed p (paging s).modified ≡ false → IsSound 0 s → IsSound 0 (record s { tables = tables; buffer = buffer; lists = lists; pinned = pn; evicted = ev; spoiled = sp })
+unfolding paging
+sound_released s p f ev sp pn tables buffer lists c b el fewer en there clean h =
     let fine = h.fine p in
     let here : frame_of (walked s.tables p) ≡ Some f = sym fine.order ∙ there in
     let r = is_there (walked s.tables p) f here in
-    let d : dirty_frame (walked s.tables p) ≡ None = no_some _ (sym (modified_is 0 s p h) ∙ clean) in
-    let new : frame_in s.lists.kept.items p ≡ None = fine.kept ∙ fine.apart r in
-    let base = fits_released (walked s.tables p) _ _ _ _ _ _ _ _ fine r d in
-    sound_moved 0 0 s (record s { tables = tables; buffer = buffer; order = o; pins = n; lists = lists; evicted = ev; spoiled = sp }) p (cleared (walked s.tables p)) (frame_of (walked s.tables p)) (leave_out p (front_of s)) h (record {
+    let d : dirty_frame (walked s.tables p) ≡ None = no_some _ (sym (listed_is p s.lists.modified ∙ ap is_some fine.modified) ∙ clean) in
+    let new : frame_in s.lists.kept p ≡ None = fine.kept ∙ fine.apart r in
+    let base = fits_released (walked s.tables p) _ _ _ _ _ _ _ fine r d in
+    let less : length (without p s.lists.order) + 1 ≡ length s.lists.order = rw el at fewer in
+    sound_moved 0 0 s (record s { tables = tables; buffer = buffer; lists = lists; pinned = pn; evicted = ev; spoiled = sp }) p (cleared (walked s.tables p)) (frame_of (walked s.tables p)) h (record {
       changes = c;
       buffer = b;
       space = refl;
-      here = rw (eo, en, ek, em, gone_here p s.order.items, unpin_here p s.pins.items, came_here p f s.lists.kept.items new, ← here) base;
-      other = λ q d. rw (eo, en, ek, em, gone_other p q s.order.items d, unpin_other p q s.pins.items d, came_other p q f s.lists.kept.items new d) (h.fine q);
+      here = rw (el, gone_here p s.lists.order, came_here p f s.lists.kept new, ← here) base;
+      other = λ q d. rw (el, gone_other p q s.lists.order d, came_other p q f s.lists.kept new d) (h.fine q);
       fresh = λ g e q o. one_held 0 s p g h (kept_same s p r ∙ e) q o;
-      lengths = rw ek (omega (arith, h.lengths, fewer, length-append s.lists.kept.items (placed p f ∷ [])));
+      lengths = rw el (omega (arith, h.lengths, less, length-append s.lists.kept (placed p f ∷ [])));
       used = refl;
       frames = refl;
       whole = h.whole;
       small = h.small;
-      order_limit = ap (λ (l : Line). l.limit) eo;
-      kept_limit = ap (λ (l : Line). l.limit) ek;
-      modified_limit = ap (λ (l : Line). l.limit) em;
-      pins_last = rw (eo, en, pages_without p s.order.items) (out_front p (pages_of s.order.items) (front_of s) s.pins.items (parts h));
-      pins_room = ap (λ (l : PinList). l.room) en;
-      flags = refl;
+      limit = rw el refl;
+      pins = rw (el, en) (lowered_few s p h.pins less);
     })
 
-pub paging_released : (s : Store) (p f ev sp : ℕ) (tables : Tables) (buffer : Buffer) (o : Line) (n : PinList) (lists : Lists) → Changes s tables p (cleared (walked s.tables p)) (frame_of (walked s.tables p)) → o ≡ with_items s.order (without p s.order.items) → n ≡ record { items = leave_out p s.pins.items; room = s.pins.room } → lists.kept ≡ appended s.lists.kept p f → lists.modified ≡ s.lists.modified → frame_in s.order.items p ≡ Some f → ev ≡ raised s.evicted → sp ≡ (if is_listed p s.pins.items then raised s.spoiled else s.spoiled) → IsSound 0 s → paging (record s { tables = tables; buffer = buffer; order = o; pins = n; lists = lists; evicted = ev; spoiled = sp }) ≡ released p (paging s)
+pub paging_released : (s : Store) (p f ev sp pn : ℕ) (tables : Tables) (buffer : Buffer) (lists : PageLists) → Changes s tables p (cleared (walked s.tables p)) (frame_of (walked s.tables p)) → lists ≡ with_kept (with_order s.lists (without p s.lists.order)) (appended s.lists.kept p f) → length lists.order + 1 ≡ length s.lists.order → pn ≡ lowered_if (is_listed p (paging s).pinned) s.pinned → frame_in s.lists.order p ≡ Some f → ev ≡ raised s.evicted → sp ≡ (if is_listed p (paging s).pinned then raised s.spoiled else s.spoiled) → IsSound 0 s → paging (record s { tables = tables; buffer = buffer; lists = lists; pinned = pn; evicted = ev; spoiled = sp }) ≡ released p (paging s)
 unfolding paging released has_block
-paging_released s p f ev sp tables buffer o n lists c eo en ek em there ee es h =
-    let t : Store = record s { tables = tables; buffer = buffer; order = o; pins = n; lists = lists; evicted = ev; spoiled = sp } in
+paging_released s p f ev sp pn tables buffer lists c el fewer en there ee es h =
+    let t : Store = record s { tables = tables; buffer = buffer; lists = lists; pinned = pn; evicted = ev; spoiled = sp } in
+    let less : length (without p s.lists.order) + 1 ≡ length s.lists.order = rw el at fewer in
     let r = is_there (walked s.tables p) f (sym (h.fine p).order ∙ there) in
     let same : held_by (cleared (walked s.tables p)) (frame_of (walked s.tables p)) ≡ held s p = sym (kept_same s p r) in
     let frame : frames_of s.frames.items (held t) ≡ frames_of s.frames.items (held s) = frames_same s.frames.items s t p _ _ c same in
-    let lo : pages_of o.items ≡ leave_out p (pages_of s.order.items) = ap (λ (l : Line). pages_of l.items) eo ∙ pages_without p s.order.items in
-    let ln : n.items ≡ leave_out p s.pins.items = ap (λ (l : PinList). l.items) en in
-    let lk : pages_of lists.kept.items ≡ pages_of s.lists.kept.items ++ p ∷ [] = ap (λ (l : Line). pages_of l.items) ek ∙ pages_push s.lists.kept.items p f in
-    let lm : pages_of lists.modified.items ≡ pages_of s.lists.modified.items = ap (λ (l : Line). pages_of l.items) em in
+    let lo : pages_of lists.order ≡ leave_out p (pages_of s.lists.order) = ap (λ (l : PageLists). pages_of l.order) el ∙ pages_without p s.lists.order in
+    let ln : last_of pn (pages_of lists.order) ≡ leave_out p (last_of s.pinned (pages_of s.lists.order)) =
+    ap (λ (l : PageLists). last_of pn (pages_of l.order)) el ∙ ap (λ (k : ℕ). last_of k (pages_of (without p s.lists.order))) en ∙ last_without s p h.pins less in
+    let lk : pages_of lists.kept ≡ pages_of s.lists.kept ++ p ∷ [] = ap (λ (l : PageLists). pages_of l.kept) el ∙ pages_push s.lists.kept p f in
+    let lm : pages_of lists.modified ≡ pages_of s.lists.modified = ap (λ (l : PageLists). pages_of l.modified) el in
     cc
 
 -- a kept page is resident again
 
-pub sound_taken : (s : Store) (p f se : ℕ) (tables : Tables) (buffer : Buffer) (o : Line) (n : PinList) (lists : Lists) → Changes s tables p (set_in (walked s.tables p) f) None → buffered buffer ≡ dropped (buffered s.buffer) p → o ≡ appended s.order p f → n ≡ record { items = s.pins.items ++ p ∷ []; room = s.pins.room } → lists.kept ≡ with_items s.lists.kept (without p s.lists.kept.items) → length lists.kept.items + 1 ≡ length s.lists.kept.items → lists.modified ≡ s.lists.modified → frame_in s.lists.kept.items p ≡ Some f → IsSound 0 s → IsSound 0 (record s { tables = tables; buffer = buffer; order = o; pins = n; lists = lists; served = se })
-sound_taken s p f se tables buffer o n lists c b eo en ek fewer em there h =
+pub sound_taken : (s : Store) (p f se pn : ℕ) (tables : Tables) (buffer : Buffer) (lists : PageLists) → Changes s tables p (set_in (walked s.tables p) f) None → buffered buffer ≡ dropped (buffered s.buffer) p → lists ≡ with_order (with_kept s.lists (without p s.lists.kept)) (appended s.lists.order p f) → length lists.kept + 1 ≡ length s.lists.kept → pn ≡ s.pinned + 1 → frame_in s.lists.kept p ≡ Some f → IsSound 0 s → IsSound 0 (record s { tables = tables; buffer = buffer; lists = lists; pinned = pn; served = se })
+sound_taken s p f se pn tables buffer lists c b el fewer en there h =
     let fine = h.fine p in
     let left : kept s.tables p ≡ Some f = sym fine.kept ∙ there in
-    let new : frame_in s.order.items p ≡ None = fine.order ∙ kept_absent (walked s.tables p) (kept s.tables p) f fine.apart left in
-    let base = fits_taken (walked s.tables p) _ _ _ _ _ _ _ f _ fine left in
-    sound_moved 0 0 s (record s { tables = tables; buffer = buffer; order = o; pins = n; lists = lists; served = se }) p (set_in (walked s.tables p) f) None (front_of s) h (record {
+    let new : frame_in s.lists.order p ≡ None = fine.order ∙ kept_absent (walked s.tables p) (kept s.tables p) f fine.apart left in
+    let base = fits_taken (walked s.tables p) _ _ _ _ _ _ f _ fine left in
+    let less : length (without p s.lists.kept) + 1 ≡ length s.lists.kept = rw el at fewer in
+    sound_moved 0 0 s (record s { tables = tables; buffer = buffer; lists = lists; pinned = pn; served = se }) p (set_in (walked s.tables p) f) None h (record {
       changes = c;
       buffer = b;
       space = refl;
-      here = rw (eo, en, ek, em, came_here p f s.order.items new, pin_here p s.pins.items, gone_here p s.lists.kept.items) base;
-      other = λ q d. rw (eo, en, ek, em, came_other p q f s.order.items new d, pin_other p q s.pins.items d, gone_other p q s.lists.kept.items d) (h.fine q);
+      here = rw (el, came_here p f s.lists.order new, gone_here p s.lists.kept) base;
+      other = λ q d. rw (el, came_other p q f s.lists.order new d, gone_other p q s.lists.kept d) (h.fine q);
       fresh = λ g e q o. one_held 0 s p g h (kept_held 0 s p f h there ∙ sym (set_held (walked s.tables p) None f (fine.inside (rw left refl))) ∙ e) q o;
-      lengths = rw eo (omega (arith, h.lengths, fewer, length-append s.order.items (placed p f ∷ [])));
+      lengths = rw el (omega (arith, h.lengths, less, length-append s.lists.order (placed p f ∷ [])));
       used = refl;
       frames = refl;
       whole = h.whole;
       small = h.small;
-      order_limit = ap (λ (l : Line). l.limit) eo;
-      kept_limit = ap (λ (l : Line). l.limit) ek;
-      modified_limit = ap (λ (l : Line). l.limit) em;
-      pins_last = rw (eo, en, pages_push s.order.items p f) (pushed_last p (pages_of s.order.items) (front_of s) s.pins.items (parts h));
-      pins_room = ap (λ (l : PinList). l.room) en;
-      flags = refl;
+      limit = rw el refl;
+      pins = rw (el, en) (omega (arith, h.pins, length-append s.lists.order (placed p f ∷ [])));
     })
 
-pub paging_taken : (s : Store) (p f se : ℕ) (tables : Tables) (buffer : Buffer) (o : Line) (n : PinList) (lists : Lists) → Changes s tables p (set_in (walked s.tables p) f) None → o ≡ appended s.order p f → n ≡ record { items = s.pins.items ++ p ∷ []; room = s.pins.room } → lists.kept ≡ with_items s.lists.kept (without p s.lists.kept.items) → lists.modified ≡ s.lists.modified → frame_in s.lists.kept.items p ≡ Some f → se ≡ raised s.served → IsSound 0 s → paging (record s { tables = tables; buffer = buffer; order = o; pins = n; lists = lists; served = se }) ≡ taken_back p (paging s)
+pub paging_taken : (s : Store) (p f se pn : ℕ) (tables : Tables) (buffer : Buffer) (lists : PageLists) → Changes s tables p (set_in (walked s.tables p) f) None → lists ≡ with_order (with_kept s.lists (without p s.lists.kept)) (appended s.lists.order p f) → pn ≡ s.pinned + 1 → frame_in s.lists.kept p ≡ Some f → se ≡ raised s.served → IsSound 0 s → paging (record s { tables = tables; buffer = buffer; lists = lists; pinned = pn; served = se }) ≡ taken_back p (paging s)
 unfolding paging taken_back has_block
-paging_taken s p f se tables buffer o n lists c eo en ek em there es h =
-    let t : Store = record s { tables = tables; buffer = buffer; order = o; pins = n; lists = lists; served = se } in
+paging_taken s p f se pn tables buffer lists c el en there es h =
+    let t : Store = record s { tables = tables; buffer = buffer; lists = lists; pinned = pn; served = se } in
     let left : kept s.tables p ≡ Some f = sym (h.fine p).kept ∙ there in
     let same : held_by (set_in (walked s.tables p) f) None ≡ held s p = set_held (walked s.tables p) None f ((h.fine p).inside (rw left refl)) ∙ sym (kept_held 0 s p f h there) in
     let frame : frames_of s.frames.items (held t) ≡ frames_of s.frames.items (held s) = frames_same s.frames.items s t p _ None c same in
-    let lo : pages_of o.items ≡ pages_of s.order.items ++ p ∷ [] = ap (λ (l : Line). pages_of l.items) eo ∙ pages_push s.order.items p f in
-    let ln : n.items ≡ s.pins.items ++ p ∷ [] = ap (λ (l : PinList). l.items) en in
-    let lk : pages_of lists.kept.items ≡ leave_out p (pages_of s.lists.kept.items) = ap (λ (l : Line). pages_of l.items) ek ∙ pages_without p s.lists.kept.items in
-    let lm : pages_of lists.modified.items ≡ pages_of s.lists.modified.items = ap (λ (l : Line). pages_of l.items) em in
+    let lo : pages_of lists.order ≡ pages_of s.lists.order ++ p ∷ [] = ap (λ (l : PageLists). pages_of l.order) el ∙ pages_push s.lists.order p f in
+    let ln : last_of pn (pages_of lists.order) ≡ last_of s.pinned (pages_of s.lists.order) ++ p ∷ [] =
+    ap (λ (l : PageLists). last_of pn (pages_of l.order)) el ∙ ap (λ (k : ℕ). last_of k (pages_of (appended s.lists.order p f))) en ∙ last_pages s p f h.pins in
+    let lk : pages_of lists.kept ≡ leave_out p (pages_of s.lists.kept) = ap (λ (l : PageLists). pages_of l.kept) el ∙ pages_without p s.lists.kept in
+    let lm : pages_of lists.modified ≡ pages_of s.lists.modified = ap (λ (l : PageLists). pages_of l.modified) el in
     cc
 
 -- a kept page gives up its frame
 
-pub sound_forgotten : (s : Store) (p f : ℕ) (tables : Tables) (buffer : Buffer) (lists : Lists) → Changes s tables p (cleared (walked s.tables p)) None → buffered buffer ≡ dropped (buffered s.buffer) p → lists.kept ≡ with_items s.lists.kept (without p s.lists.kept.items) → length lists.kept.items + 1 ≡ length s.lists.kept.items → lists.modified ≡ s.lists.modified → frame_in s.lists.kept.items p ≡ Some f → IsSound 0 s → IsSound 1 (record s { tables = tables; buffer = buffer; lists = lists })
-sound_forgotten s p f tables buffer lists c b ek fewer em there h =
+pub sound_forgotten : (s : Store) (p f : ℕ) (tables : Tables) (buffer : Buffer) (lists : PageLists) → Changes s tables p (cleared (walked s.tables p)) None → buffered buffer ≡ dropped (buffered s.buffer) p → lists ≡ with_kept s.lists (without p s.lists.kept) → length lists.kept + 1 ≡ length s.lists.kept → frame_in s.lists.kept p ≡ Some f → IsSound 0 s → IsSound 1 (record s { tables = tables; buffer = buffer; lists = lists })
+sound_forgotten s p f tables buffer lists c b el fewer there h =
     let fine = h.fine p in
     let left : kept s.tables p ≡ Some f = sym fine.kept ∙ there in
-    let base = fits_forgotten (walked s.tables p) _ _ _ _ _ _ _ f _ fine left in
-    sound_moved 0 1 s (record s { tables = tables; buffer = buffer; lists = lists }) p (cleared (walked s.tables p)) None (front_of s) h (record {
+    let base = fits_forgotten (walked s.tables p) _ _ _ _ _ _ f _ fine left in
+    let less : length (without p s.lists.kept) + 1 ≡ length s.lists.kept = rw el at fewer in
+    sound_moved 0 1 s (record s { tables = tables; buffer = buffer; lists = lists }) p (cleared (walked s.tables p)) None h (record {
       changes = c;
       buffer = b;
       space = refl;
-      here = rw (ek, em, gone_here p s.lists.kept.items) base;
-      other = λ q d. rw (ek, em, gone_other p q s.lists.kept.items d) (h.fine q);
+      here = rw (el, gone_here p s.lists.kept) base;
+      other = λ q d. rw (el, gone_other p q s.lists.kept d) (h.fine q);
       fresh = λ g e q o. absurd (no_none g (sym (cleared_held (walked s.tables p)) ∙ e));
-      lengths = omega (arith, h.lengths, fewer);
+      lengths = rw el (omega (arith, h.lengths, less));
       used = refl;
       frames = refl;
       whole = h.whole;
       small = h.small;
-      order_limit = refl;
-      kept_limit = ap (λ (l : Line). l.limit) ek;
-      modified_limit = ap (λ (l : Line). l.limit) em;
-      pins_last = parts h;
-      pins_room = refl;
-      flags = refl;
+      limit = rw el refl;
+      pins = rw el h.pins;
     })
 
-pub paging_forgotten : (s : Store) (p : ℕ) (tables : Tables) (buffer : Buffer) (lists : Lists) → Changes s tables p (cleared (walked s.tables p)) None → lists.kept ≡ with_items s.lists.kept (without p s.lists.kept.items) → lists.modified ≡ s.lists.modified → paging (record s { tables = tables; buffer = buffer; lists = lists }) ≡ forgotten p (paging s)
+pub paging_forgotten : (s : Store) (p : ℕ) (tables : Tables) (buffer : Buffer) (lists : PageLists) → Changes s tables p (cleared (walked s.tables p)) None → lists ≡ with_kept s.lists (without p s.lists.kept) → paging (record s { tables = tables; buffer = buffer; lists = lists }) ≡ forgotten p (paging s)
 unfolding paging forgotten has_block
-paging_forgotten s p tables buffer lists c ek em =
+paging_forgotten s p tables buffer lists c el =
     let t : Store = record s { tables = tables; buffer = buffer; lists = lists } in
     let frame : frames_of s.frames.items (held t) ≡ at p [] (frames_of s.frames.items (held s)) = frames_gone s.frames.items s t p _ None c (cleared_held (walked s.tables p)) in
-    let lk : pages_of lists.kept.items ≡ leave_out p (pages_of s.lists.kept.items) = ap (λ (l : Line). pages_of l.items) ek ∙ pages_without p s.lists.kept.items in
-    let lm : pages_of lists.modified.items ≡ pages_of s.lists.modified.items = ap (λ (l : Line). pages_of l.items) em in
+    let lo : pages_of lists.order ≡ pages_of s.lists.order = ap (λ (l : PageLists). pages_of l.order) el in
+    let lk : pages_of lists.kept ≡ leave_out p (pages_of s.lists.kept) = ap (λ (l : PageLists). pages_of l.kept) el ∙ pages_without p s.lists.kept in
+    let lm : pages_of lists.modified ≡ pages_of s.lists.modified = ap (λ (l : PageLists). pages_of l.modified) el in
     cc
 
 gone_free : (s t : Store) (p f : ℕ) (w : Walk) → Changes s t.tables p w None → held_by w None ≡ None → held s p ≡ Some f → IsSound 0 s → (q : ℕ) → held t q ≢ Some f
@@ -463,52 +460,52 @@ gone_free s t p f w c none there h q e =
       | inr o ↦ one_held 0 s p f h there q o (sym (at_other p q (held_by w None) (held s) o) ∙ sym is ∙ e)
     ]
 
-pub free_forgotten : (s : Store) (p f : ℕ) (tables : Tables) (buffer : Buffer) (lists : Lists) → Changes s tables p (cleared (walked s.tables p)) None → frame_in s.lists.kept.items p ≡ Some f → IsSound 0 s → IsFree f (record s { tables = tables; buffer = buffer; lists = lists })
+pub free_forgotten : (s : Store) (p f : ℕ) (tables : Tables) (buffer : Buffer) (lists : PageLists) → Changes s tables p (cleared (walked s.tables p)) None → frame_in s.lists.kept p ≡ Some f → IsSound 0 s → IsFree f (record s { tables = tables; buffer = buffer; lists = lists })
 free_forgotten s p f tables buffer lists c there h =
     let there' = kept_held 0 s p f h there in
     record { below = held_low 0 s p f h there'; other = gone_free s (record s { tables = tables; buffer = buffer; lists = lists }) p f _ c (cleared_held (walked s.tables p)) there' h }
 
 -- a resident page gives up its frame
 
-pub sound_given : (s : Store) (p f ev : ℕ) (tables : Tables) (buffer : Buffer) (o : Line) → Changes s tables p (cleared (walked s.tables p)) None → buffered buffer ≡ dropped (buffered s.buffer) p → o ≡ with_items s.order (without p s.order.items) → length o.items + 1 ≡ length s.order.items → frame_in s.order.items p ≡ Some f → is_listed p (paging s).modified ≡ false → is_listed p (paging s).pinned ≡ false → IsSound 0 s → IsSound 1 (record s { tables = tables; buffer = buffer; order = o; evicted = ev })
+pub sound_given : (s : Store) (p f ev : ℕ) (tables : Tables) (buffer : Buffer) (lists : PageLists) → Changes s tables p (cleared (walked s.tables p)) None → buffered buffer ≡ dropped (buffered s.buffer) p → lists ≡ with_order s.lists (without p s.lists.order) → length lists.order + 1 ≡ length s.lists.order → frame_in s.lists.order p ≡ Some f → is_listed p (paging s).modified ≡ false → is_listed p (paging s).pinned ≡ false → IsSound 0 s → IsSound 1 (record s { tables = tables; buffer = buffer; lists = lists; evicted = ev })
 unfolding paging
-sound_given s p f ev tables buffer o c b eo fewer there clean unpinned h =
+sound_given s p f ev tables buffer lists c b el fewer there clean unpinned h =
     let fine = h.fine p in
     let r = is_there (walked s.tables p) f (sym fine.order ∙ there) in
-    let d : dirty_frame (walked s.tables p) ≡ None = no_some _ (sym (listed_is p s.lists.modified.items ∙ ap is_some fine.modified) ∙ clean) in
-    let base = fits_given (walked s.tables p) _ _ _ _ _ _ _ _ fine r d unpinned in
-    sound_moved 0 1 s (record s { tables = tables; buffer = buffer; order = o; evicted = ev }) p (cleared (walked s.tables p)) None (leave_out p (front_of s)) h (record {
+    let d : dirty_frame (walked s.tables p) ≡ None = no_some _ (sym (listed_is p s.lists.modified ∙ ap is_some fine.modified) ∙ clean) in
+    let base = fits_given (walked s.tables p) _ _ _ _ _ _ _ fine r d in
+    let less : length (without p s.lists.order) + 1 ≡ length s.lists.order = rw el at fewer in
+    sound_moved 0 1 s (record s { tables = tables; buffer = buffer; lists = lists; evicted = ev }) p (cleared (walked s.tables p)) None h (record {
       changes = c;
       buffer = b;
       space = refl;
-      here = rw (eo, gone_here p s.order.items) base;
-      other = λ q d. rw (eo, gone_other p q s.order.items d) (h.fine q);
+      here = rw (el, gone_here p s.lists.order) base;
+      other = λ q d. rw (el, gone_other p q s.lists.order d) (h.fine q);
       fresh = λ g e q o. absurd (no_none g (sym (cleared_held (walked s.tables p)) ∙ e));
-      lengths = omega (arith, h.lengths, fewer);
+      lengths = rw el (omega (arith, h.lengths, less));
       used = refl;
       frames = refl;
       whole = h.whole;
       small = h.small;
-      order_limit = ap (λ (l : Line). l.limit) eo;
-      kept_limit = refl;
-      modified_limit = refl;
-      pins_last = rw (eo, pages_without p s.order.items) (out_front p (pages_of s.order.items) (front_of s) s.pins.items (parts h) ∙ ap (λ (z : List ℕ). leave_out p (front_of s) ++ z) (out_none p s.pins.items unpinned));
-      pins_room = refl;
-      flags = refl;
+      limit = rw el refl;
+      pins = rw el (few_out s p h.pins unpinned);
     })
 
-pub paging_given : (s : Store) (p ev : ℕ) (tables : Tables) (buffer : Buffer) (o : Line) → Changes s tables p (cleared (walked s.tables p)) None → o ≡ with_items s.order (without p s.order.items) → ev ≡ raised s.evicted → paging (record s { tables = tables; buffer = buffer; order = o; evicted = ev }) ≡ removed p (paging s)
+pub paging_given : (s : Store) (p ev : ℕ) (tables : Tables) (buffer : Buffer) (lists : PageLists) → Changes s tables p (cleared (walked s.tables p)) None → lists ≡ with_order s.lists (without p s.lists.order) → is_listed p (paging s).pinned ≡ false → ev ≡ raised s.evicted → IsSound 0 s → paging (record s { tables = tables; buffer = buffer; lists = lists; evicted = ev }) ≡ removed p (paging s)
 unfolding paging removed has_block
-paging_given s p ev tables buffer o c eo ee =
-    let t : Store = record s { tables = tables; buffer = buffer; order = o; evicted = ev } in
+paging_given s p ev tables buffer lists c el unpinned ee h =
+    let t : Store = record s { tables = tables; buffer = buffer; lists = lists; evicted = ev } in
     let frame : frames_of s.frames.items (held t) ≡ at p [] (frames_of s.frames.items (held s)) = frames_gone s.frames.items s t p _ None c (cleared_held (walked s.tables p)) in
-    let lo : pages_of o.items ≡ leave_out p (pages_of s.order.items) = ap (λ (l : Line). pages_of l.items) eo ∙ pages_without p s.order.items in
+    let lo : pages_of lists.order ≡ leave_out p (pages_of s.lists.order) = ap (λ (l : PageLists). pages_of l.order) el ∙ pages_without p s.lists.order in
+    let ln : last_of s.pinned (pages_of lists.order) ≡ last_of s.pinned (pages_of s.lists.order) = ap (λ (l : PageLists). last_of s.pinned (pages_of l.order)) el ∙ last_same s p h.pins unpinned in
+    let lk : pages_of lists.kept ≡ pages_of s.lists.kept = ap (λ (l : PageLists). pages_of l.kept) el in
+    let lm : pages_of lists.modified ≡ pages_of s.lists.modified = ap (λ (l : PageLists). pages_of l.modified) el in
     cc
 
-pub free_given : (s : Store) (p f ev : ℕ) (tables : Tables) (buffer : Buffer) (o : Line) → Changes s tables p (cleared (walked s.tables p)) None → frame_in s.order.items p ≡ Some f → IsSound 0 s → IsFree f (record s { tables = tables; buffer = buffer; order = o; evicted = ev })
-free_given s p f ev tables buffer o c there h =
+pub free_given : (s : Store) (p f ev : ℕ) (tables : Tables) (buffer : Buffer) (lists : PageLists) → Changes s tables p (cleared (walked s.tables p)) None → frame_in s.lists.order p ≡ Some f → IsSound 0 s → IsFree f (record s { tables = tables; buffer = buffer; lists = lists; evicted = ev })
+free_given s p f ev tables buffer lists c there h =
     let there' = order_held 0 s p f h there in
-    record { below = held_low 0 s p f h there'; other = gone_free s (record s { tables = tables; buffer = buffer; order = o; evicted = ev }) p f _ c (cleared_held (walked s.tables p)) there' h }
+    record { below = held_low 0 s p f h there'; other = gone_free s (record s { tables = tables; buffer = buffer; lists = lists; evicted = ev }) p f _ c (cleared_held (walked s.tables p)) there' h }
 
 -- a frame that no page has had
 
@@ -516,19 +513,15 @@ pub sound_grown : (s : Store) → IsSound 0 s → s.used < length s.frames.items
 unfolding held
 sound_grown s h room = record {
   one = h.one;
-  fine = λ q. fits_more (walked s.tables q) (kept s.tables q) _ _ _ _ _ _ s.used (h.fine q);
+  fine = λ q. fits_more (walked s.tables q) (kept s.tables q) _ _ _ _ _ s.used (h.fine q);
   agrees = h.agrees;
   lengths = omega (arith, h.lengths);
   used = omega arith;
   few = h.few;
   whole = h.whole;
   small = h.small;
-  order_limit = h.order_limit;
-  kept_limit = h.kept_limit;
-  modified_limit = h.modified_limit;
-  pins_last = h.pins_last;
-  pins_room = h.pins_room;
-  flags = h.flags;
+  limit = h.limit;
+  pins = h.pins;
 }
 
 grown_held : (s : Store) (q f : ℕ) → held (record s { used = s.used + 1 }) q ≡ Some f → held s q ≡ Some f
@@ -562,39 +555,35 @@ small_set frames g bytes low b w f k =
       | inr o ↦ rw (get_or-set_other frames g f bytes [] o) (w f k)
     ]
 
-pub sound_brought : (s : Store) (p f se : ℕ) (bytes : List ℕ) (tables : Tables) (buffer : Buffer) (frames : Vec (List ℕ) Global) (o : Line) (n : PinList) → Changes s tables p (set_in (walked s.tables p) f) None → buffered buffer ≡ dropped (buffered s.buffer) p → frames.items ≡ slice_set s.frames.items f bytes → o ≡ appended s.order p f → n ≡ record { items = s.pins.items ++ p ∷ []; room = s.pins.room } → is_some (prot_of s.space p) ≡ true → is_listed p (paging s).order ≡ false → is_listed p (paging s).kept ≡ false → IsFree f s → length bytes ≡ 512 → ((k : ℕ) → slice_index bytes k < 256) → IsSound 1 s → IsSound 0 (record s { tables = tables; buffer = buffer; frames = frames; order = o; pins = n; served = se })
-sound_brought s p f se bytes tables buffer frames o n c b ef eo en within absent unkept free size few h =
+pub sound_brought : (s : Store) (p f se pn : ℕ) (bytes : List ℕ) (tables : Tables) (buffer : Buffer) (frames : Vec (List ℕ) Global) (lists : PageLists) → Changes s tables p (set_in (walked s.tables p) f) None → buffered buffer ≡ dropped (buffered s.buffer) p → frames.items ≡ slice_set s.frames.items f bytes → lists ≡ with_order s.lists (appended s.lists.order p f) → pn ≡ s.pinned + 1 → is_some (prot_of s.space p) ≡ true → is_listed p (paging s).order ≡ false → is_listed p (paging s).kept ≡ false → IsFree f s → length bytes ≡ 512 → ((k : ℕ) → slice_index bytes k < 256) → IsSound 1 s → IsSound 0 (record s { tables = tables; buffer = buffer; frames = frames; lists = lists; pinned = pn; served = se })
+sound_brought s p f se pn bytes tables buffer frames lists c b ef el en within absent unkept free size few h =
     let fine = h.fine p in
     let r : is_resident (walked s.tables p) ≡ false = sym (resident_is 1 s p h) ∙ absent in
     let left : kept s.tables p ≡ None = no_some _ (sym (kept_is 1 s p h) ∙ unkept) in
-    let new : frame_in s.order.items p ≡ None = fine.order ∙ none_frame (walked s.tables p) r in
+    let new : frame_in s.lists.order p ≡ None = fine.order ∙ none_frame (walked s.tables p) r in
     let low : f < length s.frames.items = omega (arith, free.below, h.used) in
     let lens : length frames.items ≡ length s.frames.items = ap length ef ∙ length-set s.frames.items f bytes in
-    let base = fits_brought (walked s.tables p) _ _ _ _ _ _ _ f _ fine within r left free.below in
-    sound_moved 1 0 s (record s { tables = tables; buffer = buffer; frames = frames; order = o; pins = n; served = se }) p (set_in (walked s.tables p) f) None (front_of s) h (record {
+    let base = fits_brought (walked s.tables p) _ _ _ _ _ _ f _ fine within r left free.below in
+    sound_moved 1 0 s (record s { tables = tables; buffer = buffer; frames = frames; lists = lists; pinned = pn; served = se }) p (set_in (walked s.tables p) f) None h (record {
       changes = c;
       buffer = b;
       space = refl;
-      here = rw (eo, en, came_here p f s.order.items new, pin_here p s.pins.items) base;
-      other = λ q d. rw (eo, en, came_other p q f s.order.items new d, pin_other p q s.pins.items d) (h.fine q);
+      here = rw (el, came_here p f s.lists.order new) base;
+      other = λ q d. rw (el, came_other p q f s.lists.order new d) (h.fine q);
       fresh = λ g e q o. came_free s p f g (sym (set_held (walked s.tables p) None f (area_inside (walked s.tables p) _ fine.area within)) ∙ e) free q;
-      lengths = rw eo (omega (arith, h.lengths, length-append s.order.items (placed p f ∷ [])));
+      lengths = rw el (omega (arith, h.lengths, length-append s.lists.order (placed p f ∷ [])));
       used = refl;
       frames = lens;
       whole = rw ef (whole_set s.frames.items f bytes size h.whole);
       small = rw ef (small_set s.frames.items f bytes low few h.small);
-      order_limit = ap (λ (l : Line). l.limit) eo;
-      kept_limit = refl;
-      modified_limit = refl;
-      pins_last = rw (eo, en, pages_push s.order.items p f) (pushed_last p (pages_of s.order.items) (front_of s) s.pins.items (parts h));
-      pins_room = ap (λ (l : PinList). l.room) en;
-      flags = refl;
+      limit = rw el refl;
+      pins = rw (el, en) (omega (arith, h.pins, length-append s.lists.order (placed p f ∷ [])));
     })
 
-pub paging_brought : (s : Store) (p f se : ℕ) (bytes : List ℕ) (tables : Tables) (buffer : Buffer) (frames : Vec (List ℕ) Global) (o : Line) (n : PinList) → Changes s tables p (set_in (walked s.tables p) f) None → frames.items ≡ slice_set s.frames.items f bytes → o ≡ appended s.order p f → n ≡ record { items = s.pins.items ++ p ∷ []; room = s.pins.room } → is_some (prot_of s.space p) ≡ true → IsFree f s → se ≡ raised s.served → IsSound 1 s → paging (record s { tables = tables; buffer = buffer; frames = frames; order = o; pins = n; served = se }) ≡ brought p bytes (paging s)
+pub paging_brought : (s : Store) (p f se pn : ℕ) (bytes : List ℕ) (tables : Tables) (buffer : Buffer) (frames : Vec (List ℕ) Global) (lists : PageLists) → Changes s tables p (set_in (walked s.tables p) f) None → frames.items ≡ slice_set s.frames.items f bytes → lists ≡ with_order s.lists (appended s.lists.order p f) → pn ≡ s.pinned + 1 → is_some (prot_of s.space p) ≡ true → IsFree f s → se ≡ raised s.served → IsSound 1 s → paging (record s { tables = tables; buffer = buffer; frames = frames; lists = lists; pinned = pn; served = se }) ≡ brought p bytes (paging s)
 unfolding paging brought has_block
-paging_brought s p f se bytes tables buffer frames o n c ef eo en within free es h =
-    let t : Store = record s { tables = tables; buffer = buffer; frames = frames; order = o; pins = n; served = se } in
+paging_brought s p f se pn bytes tables buffer frames lists c ef el en within free es h =
+    let t : Store = record s { tables = tables; buffer = buffer; frames = frames; lists = lists; pinned = pn; served = se } in
     let low : f < length s.frames.items = omega (arith, free.below, h.used) in
     let lens : length frames.items ≡ length s.frames.items = ap length ef ∙ length-set s.frames.items f bytes in
     let inside : is_inside (walked s.tables p) ≡ true = area_inside (walked s.tables p) _ (h.fine p).area within in
@@ -602,31 +591,30 @@ paging_brought s p f se bytes tables buffer frames o n c ef eo en within free es
     let moved : held t ≡ at p (Some f) (held s) = held_changes s t p _ None c ∙ ap (λ (z : Option ℕ). at p z (held s)) set in
     let frame : frames_of frames.items (held t) ≡ at p bytes (frames_of s.frames.items (held s)) =
     ap (λ (z : List (List ℕ)). frames_of z (held t)) ef ∙ ap (frames_of (slice_set s.frames.items f bytes)) moved ∙ frames_came s.frames.items (held s) f p bytes low free.other in
-    let lo : pages_of o.items ≡ pages_of s.order.items ++ p ∷ [] = ap (λ (l : Line). pages_of l.items) eo ∙ pages_push s.order.items p f in
-    let ln : n.items ≡ s.pins.items ++ p ∷ [] = ap (λ (l : PinList). l.items) en in
+    let lo : pages_of lists.order ≡ pages_of s.lists.order ++ p ∷ [] = ap (λ (l : PageLists). pages_of l.order) el ∙ pages_push s.lists.order p f in
+    let ln : last_of pn (pages_of lists.order) ≡ last_of s.pinned (pages_of s.lists.order) ++ p ∷ [] =
+    ap (λ (l : PageLists). last_of pn (pages_of l.order)) el ∙ ap (λ (k : ℕ). last_of k (pages_of (appended s.lists.order p f))) en ∙ last_pages s p f h.pins in
+    let lk : pages_of lists.kept ≡ pages_of s.lists.kept = ap (λ (l : PageLists). pages_of l.kept) el in
+    let lm : pages_of lists.modified ≡ pages_of s.lists.modified = ap (λ (l : PageLists). pages_of l.modified) el in
     cc
 
 -- no page is pinned
 
-pub sound_settled : (s : Store) (n : PinList) → n ≡ record { items = []; room = s.pins.room } → IsSound 0 s → IsSound 0 (record s { pins = n })
-unfolding is_listed held
-sound_settled s n e h = record {
+pub sound_settled : (s : Store) → IsSound 0 s → IsSound 0 (record s { pinned = 0 })
+unfolding held
+sound_settled s h = record {
   one = h.one;
-  fine = λ q. rw e (fits_unpinned (walked s.tables q) (kept s.tables q) _ _ _ _ _ _ s.used (h.fine q));
+  fine = h.fine;
   agrees = h.agrees;
   lengths = h.lengths;
   used = h.used;
   few = h.few;
   whole = h.whole;
   small = h.small;
-  order_limit = h.order_limit;
-  kept_limit = h.kept_limit;
-  modified_limit = h.modified_limit;
-  pins_last = rw e (end_of_parts (pages_of s.order.items) [] (pages_of s.order.items) (sym (append-nil (pages_of s.order.items))));
-  pins_room = ap (λ (l : PinList). l.room) e ∙ h.pins_room;
-  flags = h.flags;
+  limit = h.limit;
+  pins = omega arith;
 }
 
-pub paging_settled : (s : Store) (n : PinList) → n ≡ record { items = []; room = s.pins.room } → paging (record s { pins = n }) ≡ settled (paging s)
+pub paging_settled : (s : Store) → paging (record s { pinned = 0 }) ≡ settled (paging s)
 unfolding paging settled has_block held
-paging_settled s n e = let ln : n.items ≡ [] = ap (λ (l : PinList). l.items) e in cc
+paging_settled s = let none = last_none (pages_of s.lists.order) in cc

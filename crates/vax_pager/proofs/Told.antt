@@ -1,5 +1,5 @@
 -- What the parts of a pager say of a page, and what the steps require of them.
-use Rattle.std.proofs.Common.{ℕ, zero, suc, ◌≡◌, ◌+◌, ◌<◌, ◌≤◌, ◌^◌, Bool, true, false, List, [], ◌∷◌, ◌++◌, ◌-◌, take, length, length-append, refl, ap, sym, ◌∙◌, subst, arith, inl, inr, Option, Some, None, slice_index_or}
+use Rattle.std.proofs.Common.{ℕ, zero, suc, ◌≡◌, ◌+◌, ◌<◌, ◌≤◌, ◌^◌, Bool, true, false, List, [], ◌∷◌, ◌++◌, ◌-◌, drop, length, refl, ap, sym, ◌∙◌, subst, arith, inl, inr, Option, Some, None, slice_index_or}
 use Rattle.std.specs.Prelude.{is_some, nat_lt, slice_get, IfSome}
 use Rattle.std.specs.Option.{option_map}
 use Rattle.std.proofs.lemmas.Bool.{cases_eq, eq-eqb, ne_eqb, false≢true}
@@ -9,15 +9,17 @@ use Rattle.vax_table.specs.declared.Walk.{Walk}
 use Rattle.vax_table.specs.declared.Walk.TheVariants.{Resident, Absent, Outside}
 use Rattle.vax_table.specs.Mapping.{frame_of, is_inside, is_resident, prot_said}
 use Rattle.vax_table.specs.Tables.{walked, kept}
-use Rattle.vax_lists.specs.declared.line.Placed.{Placed}
+use Rattle.vax_lists.specs.declared.lists.Placed.{Placed}
 use Rattle.vax_lists.specs.Lines.{EachOnce, frame_in, pages_of}
 use Rattle.vax_pager.specs.declared.store.Store.{Store}
 use Rattle.vax_pager.specs.Listing.{AreOnce, is_listed, first, first_outside, page_in}
+use Rattle.vax_pager.specs.Marks.{has_mark}
 use Rattle.vax_pager.specs.Calls.{IsPaging}
 use Rattle.vax_pager.specs.Frames.{dirty_frame}
-use Rattle.vax_pager.specs.Store.{held, flag_of, has_block, paging, IsEnd, IsSound, IsFree}
-use Rattle.vax_pager.proofs.Listing.{pages-length, listed_is, first_page, first_frame}
-use Rattle.vax_pager.proofs.Moves.{held_room, kept_held, modified_held, resident_is, frame_means, modified_is, kept_is, end_parts}
+use Rattle.vax_pager.specs.Store.{held, flag_of, has_block, last_of, paging, IsSound, IsFree}
+use Rattle.vax_pager.proofs.Listing.{pages-length, pages_drop, listed_is, first_page, first_frame}
+use Rattle.vax_pager.proofs.Last.{last-length}
+use Rattle.vax_pager.proofs.Moves.{held_room, kept_held, modified_held, resident_is, frame_means, modified_is, kept_is}
 use Rattle.vax_pager.proofs.Steps.{dirty_inside, none_frame, kept_absent, area_inside, front_of, parts}
 
 -- what the steps require of their parts
@@ -42,31 +44,31 @@ resident_in (Outside past) r = absurd (false≢true r)
 pub resident_inside : (n : ℕ) (s : Store) (p : ℕ) → IsSound n s → is_listed p (paging s).order ≡ true → is_inside (walked s.tables p) ≡ true
 resident_inside n s p h r = resident_in (walked s.tables p) (sym (resident_is n s p h) ∙ r)
 
-pub modified_inside : (n : ℕ) (s : Store) (p f : ℕ) → IsSound n s → frame_in s.lists.modified.items p ≡ Some f → is_inside (walked s.tables p) ≡ true
+pub modified_inside : (n : ℕ) (s : Store) (p f : ℕ) → IsSound n s → frame_in s.lists.modified p ≡ Some f → is_inside (walked s.tables p) ≡ true
 modified_inside n s p f h e = dirty_inside (walked s.tables p) f (sym (h.fine p).modified ∙ e)
 
-pub kept_inside : (n : ℕ) (s : Store) (p f : ℕ) → IsSound n s → frame_in s.lists.kept.items p ≡ Some f → is_inside (walked s.tables p) ≡ true
+pub kept_inside : (n : ℕ) (s : Store) (p f : ℕ) → IsSound n s → frame_in s.lists.kept p ≡ Some f → is_inside (walked s.tables p) ≡ true
 kept_inside n s p f h e = (h.fine p).inside (rw (sym (h.fine p).kept ∙ e) refl)
 
 pub area_inside_of : (n : ℕ) (s : Store) (p : ℕ) → IsSound n s → is_some (prot_of s.space p) ≡ true → is_inside (walked s.tables p) ≡ true
 area_inside_of n s p h e = area_inside (walked s.tables p) _ (h.fine p).area e
 
-pub kept_away : (n : ℕ) (s : Store) (p f : ℕ) → IsSound n s → frame_in s.lists.kept.items p ≡ Some f → frame_in s.order.items p ≡ None
+pub kept_away : (n : ℕ) (s : Store) (p f : ℕ) → IsSound n s → frame_in s.lists.kept p ≡ Some f → frame_in s.lists.order p ≡ None
 kept_away n s p f h e = (h.fine p).order ∙ kept_absent (walked s.tables p) (kept s.tables p) f (h.fine p).apart (sym (h.fine p).kept ∙ e)
 
-pub unkept : (n : ℕ) (s : Store) (p : ℕ) → IsSound n s → is_listed p (paging s).order ≡ true → frame_in s.lists.kept.items p ≡ None
+pub unkept : (n : ℕ) (s : Store) (p : ℕ) → IsSound n s → is_listed p (paging s).order ≡ true → frame_in s.lists.kept p ≡ None
 unkept n s p h r = (h.fine p).kept ∙ (h.fine p).apart (sym (resident_is n s p h) ∙ r)
 
-pub absent_order : (n : ℕ) (s : Store) (p : ℕ) → IsSound n s → is_listed p (paging s).order ≡ false → frame_in s.order.items p ≡ None
+pub absent_order : (n : ℕ) (s : Store) (p : ℕ) → IsSound n s → is_listed p (paging s).order ≡ false → frame_in s.lists.order p ≡ None
 absent_order n s p h r = (h.fine p).order ∙ none_frame (walked s.tables p) (sym (resident_is n s p h) ∙ r)
 
-order-length : (s : Store) → length (paging s).order ≡ length s.order.items
+order-length : (s : Store) → length (paging s).order ≡ length s.lists.order
 unfolding paging
-order-length s = pages-length s.order.items
+order-length s = pages-length s.lists.order
 
-kept-length : (s : Store) → length (paging s).kept ≡ length s.lists.kept.items
+kept-length : (s : Store) → length (paging s).kept ≡ length s.lists.kept
 unfolding paging
-kept-length s = pages-length s.lists.kept.items
+kept-length s = pages-length s.lists.kept
 
 frames_are : (s : Store) → (paging s).frames ≡ length s.frames.items
 unfolding paging
@@ -75,38 +77,34 @@ frames_are s = refl
 pub room_is : (s : Store) → IsSound 0 s → length (paging s).order + length (paging s).kept < (paging s).frames → s.used < length s.frames.items
 room_is s h room = omega (arith, room, order-length s, kept-length s, frames_are s, h.lengths)
 
-pub pins_fit : (n : ℕ) (s : Store) → IsSound n s → length (paging s).pinned < (paging s).frames → length s.pins.items < s.pins.room
-unfolding paging
-pins_fit n s h room = rw h.pins_room room
-
 pub empty_is : (s : Store) (n : ℕ) → n ≡ length s.frames.items → IsSound 0 s → nat_lt s.used n ≡ nat_lt (length (paging s).order + length (paging s).kept) (paging s).frames
 empty_is s n e h =
     let used : s.used ≡ length (paging s).order + length (paging s).kept = omega (arith, order-length s, kept-length s, h.lengths) in
     ap (λ (k : ℕ). nat_lt k n) used ∙ ap (nat_lt (length (paging s).order + length (paging s).kept)) (e ∙ sym (frames_are s))
 
-pub oldest_page : (s : Store) (o : Option Placed) → o ≡ slice_get s.lists.kept.items 0 → page_in o ≡ first (paging s).kept
+pub oldest_page : (s : Store) (o : Option Placed) → o ≡ slice_get s.lists.kept 0 → page_in o ≡ first (paging s).kept
 unfolding paging
-oldest_page s o e = sym (first_page s.lists.kept.items o e)
+oldest_page s o e = sym (first_page s.lists.kept o e)
 
-pub oldest_there : (s : Store) (o : Option Placed) → o ≡ slice_get s.lists.kept.items 0 → IfSome o (λ placed. frame_in s.lists.kept.items placed.page ≡ Some placed.frame)
+pub oldest_there : (s : Store) (o : Option Placed) → o ≡ slice_get s.lists.kept 0 → IfSome o (λ placed. frame_in s.lists.kept placed.page ≡ Some placed.frame)
 oldest_there s None e = tt
-oldest_there s (Some x) e = first_frame s.lists.kept.items x e
+oldest_there s (Some x) e = first_frame s.lists.kept x e
 
 -- what the tables say of a page
 
 pub told_resident : (s : Store) (p : ℕ) (w : Walk) → w ≡ walked s.tables p → IsSound 0 s → is_resident w ≡ is_listed p (paging s).order
 told_resident s p w e h = ap is_resident e ∙ sym (resident_is 0 s p h)
 
-pub told_order : (s : Store) (p f pr : ℕ) (md : Bool) → Resident f pr md ≡ walked s.tables p → IsSound 0 s → frame_in s.order.items p ≡ Some f
+pub told_order : (s : Store) (p f pr : ℕ) (md : Bool) → Resident f pr md ≡ walked s.tables p → IsSound 0 s → frame_in s.lists.order p ≡ Some f
 told_order s p f pr md e h = (h.fine p).order ∙ ap frame_of (sym e)
 
 pub modified_told : (s : Store) (p : ℕ) (o : Option ℕ) → o ≡ dirty_frame (walked s.tables p) → IsSound 0 s → is_some o ≡ is_listed p (paging s).modified
 modified_told s p o e h = ap is_some e ∙ sym (modified_is 0 s p h)
 
-modified_list : (s : Store) (p f : ℕ) → Some f ≡ dirty_frame (walked s.tables p) → IsSound 0 s → frame_in s.lists.modified.items p ≡ Some f
+modified_list : (s : Store) (p f : ℕ) → Some f ≡ dirty_frame (walked s.tables p) → IsSound 0 s → frame_in s.lists.modified p ≡ Some f
 modified_list s p f e h = (h.fine p).modified ∙ sym e
 
-pub modified_frame_there : (s : Store) (p : ℕ) (o : Option ℕ) → o ≡ dirty_frame (walked s.tables p) → IsSound 0 s → IfSome o (λ f. frame_in s.lists.modified.items p ≡ Some f)
+pub modified_frame_there : (s : Store) (p : ℕ) (o : Option ℕ) → o ≡ dirty_frame (walked s.tables p) → IsSound 0 s → IfSome o (λ f. frame_in s.lists.modified p ≡ Some f)
 modified_frame_there s p None e h = tt
 modified_frame_there s p (Some f) e h = modified_list s p f e h
 
@@ -136,7 +134,7 @@ modified_frame_writable s p o e h d = (h.fine p).writable (sym (ap is_some e) �
 pub kept_told : (s : Store) (p : ℕ) (o : Option ℕ) → o ≡ kept s.tables p → IsSound 0 s → is_some o ≡ is_listed p (paging s).kept
 kept_told s p o e h = ap is_some e ∙ sym (kept_is 0 s p h)
 
-kept_list : (s : Store) (p f : ℕ) → Some f ≡ kept s.tables p → IsSound 0 s → frame_in s.lists.kept.items p ≡ Some f
+kept_list : (s : Store) (p f : ℕ) → Some f ≡ kept s.tables p → IsSound 0 s → frame_in s.lists.kept p ≡ Some f
 kept_list s p f e h = (h.fine p).kept ∙ sym e
 
 pub kept_frame_held : (s : Store) (p : ℕ) (o : Option ℕ) → o ≡ kept s.tables p → IsSound 0 s → IfSome o (λ f. held s p ≡ Some f)
@@ -182,18 +180,18 @@ victim_items (y ∷ ys) x front pins e once parts low =
     let out : is_listed y.page (pages_of ys) ≡ false = listed_is y.page ys ∙ ap is_some once.0 in
     rw same (victim_of_parts y.page (pages_of ys) front pins out parts low)
 
-pub victim_is : (s : Store) (x : Placed) → Some x ≡ slice_get s.order.items 0 → EachOnce s.order.items → IsSound 0 s → length (paging s).pinned < length (paging s).order → IsVictim x.page (paging s).pinned (paging s).order
+pub victim_is : (s : Store) (x : Placed) → Some x ≡ slice_get s.lists.order 0 → EachOnce s.lists.order → IsSound 0 s → length (paging s).pinned < length (paging s).order → IsVictim x.page (paging s).pinned (paging s).order
 unfolding paging
-victim_is s x e once h low = victim_items s.order.items x (front_of s) s.pins.items e once (parts h) low
+victim_is s x e once h low = victim_items s.lists.order x (front_of s) (last_of s.pinned (pages_of s.lists.order)) e once (parts s) low
 
 no_first : (xs : List Placed) → None ≡ slice_get xs 0 → length (pages_of xs) ≡ 0
 unfolding pages_of
 no_first [] e = refl
 no_first (x ∷ xs) e = cc
 
-pub some_first : (s : Store) → None ≡ slice_get s.order.items 0 → length (paging s).pinned < length (paging s).order → ⊥
+pub some_first : (s : Store) → None ≡ slice_get s.lists.order 0 → length (paging s).pinned < length (paging s).order → ⊥
 unfolding paging
-some_first s e low = let none = no_first s.order.items e in absurd (omega arith)
+some_first s e low = let none = no_first s.lists.order e in absurd (omega arith)
 
 areas_are : (s : Store) → (paging s).areas ≡ s.space
 unfolding paging
@@ -218,7 +216,7 @@ absent_clean s p h a = modified_is 0 s p h ∙ not_dirty (walked s.tables p) (sy
 
 pub writable_is : (s : Store) (p : ℕ) → IsSound 0 s → is_listed p (paging s).modified ≡ true → is_some (block_of (paging s).areas p) ≡ true
 unfolding paging
-writable_is s p h m = (h.fine p).writable (sym (listed_is p s.lists.modified.items ∙ ap is_some (h.fine p).modified) ∙ m)
+writable_is s p h m = (h.fine p).writable (sym (listed_is p s.lists.modified ∙ ap is_some (h.fine p).modified) ∙ m)
 
 area_some : (areas : List Area) (p : ℕ) → is_some (prot_of areas p) ≡ is_some (area_of areas p)
 unfolding prot_of
@@ -236,7 +234,7 @@ resident_within s p h r =
 pub within_prot : (s : Store) (p : ℕ) → is_some (area_of (paging s).areas p) ≡ true → is_some (prot_of s.space p) ≡ true
 within_prot s p w = area_some s.space p ∙ ap (λ (z : List Area). is_some (area_of z p)) (sym (areas_are s)) ∙ w
 
-pub kept_gone : (s : Store) (p f : ℕ) → IsSound 0 s → frame_in s.lists.kept.items p ≡ Some f → is_listed p (paging s).order ≡ false
+pub kept_gone : (s : Store) (p f : ℕ) → IsSound 0 s → frame_in s.lists.kept p ≡ Some f → is_listed p (paging s).order ≡ false
 kept_gone s p f h e = resident_is 0 s p h ∙ sym (some_frame_of (walked s.tables p)) ∙ ap is_some (kept_absent (walked s.tables p) (kept s.tables p) f (h.fine p).apart (sym (h.fine p).kept ∙ e))
 
 pub resident_unkept : (s : Store) (p : ℕ) → IsSound 0 s → is_listed p (paging s).order ≡ true → is_listed p (paging s).kept ≡ false
@@ -246,21 +244,21 @@ pub block_is : (s : Store) (p n : ℕ) → block_of s.space p ≡ Some n → blo
 unfolding paging
 block_is s p n e = e
 
-pub written_is : (s : Store) (p : ℕ) (o : Option ℕ) → o ≡ block_of s.space p → flag_of s.blocked.items o ≡ (paging s).blocked p
+pub written_is : (s : Store) (p : ℕ) (o : Option ℕ) → o ≡ block_of s.space p → flag_of (has_mark s.blocked) o ≡ (paging s).blocked p
 unfolding paging has_block
-written_is s p o e = ap (flag_of s.blocked.items) e
+written_is s p o e = ap (flag_of (has_mark s.blocked)) e
 
-flag_same : (flags : List Bool) (i : ℕ) (b : Bool) → i < length flags → b ≡ slice_index_or flags i b → b ≡ slice_index_or flags i false
-flag_same [] i b low e = absurd (omega arith)
-flag_same (x ∷ flags) zero b low e = e
-flag_same (x ∷ flags) (suc i) b low e = flag_same flags i b (omega arith) e
-
-pub flag_there : (s : Store) (p block : ℕ) (b : Bool) → b ≡ slice_index_or s.blocked.items block b → block < 69632 → Some block ≡ block_of s.space p → IsSound 0 s → b ≡ (paging s).blocked p
-flag_there s p block b e few is h = flag_same s.blocked.items block b (omega (arith, h.flags)) e ∙ written_is s p (Some block) is
+listed_before : (p : ℕ) (front end : List ℕ) → is_listed p end ≡ true → is_listed p (front ++ end) ≡ true
+unfolding is_listed
+listed_before p [] end h = h
+listed_before p (x ∷ front) end h = elim (cases_eq x p) [
+  | inl e ↦ rw (eq-eqb x p e) refl
+  | inr o ↦ rw (ne_eqb x p o) (listed_before p front end h)
+]
 
 pinned_resident : (s : Store) (p : ℕ) → IsSound 0 s → is_listed p (paging s).pinned ≡ true → is_listed p (paging s).order ≡ true
 unfolding paging
-pinned_resident s p h n = listed_is p s.order.items ∙ ap is_some (h.fine p).order ∙ some_frame_of (walked s.tables p) ∙ (h.fine p).pins n
+pinned_resident s p h n = ap (is_listed p) (parts s) ∙ listed_before p (front_of s) (last_of s.pinned (pages_of s.lists.order)) n
 
 dirty_there : (s : Store) (p : ℕ) → IsSound 0 s → is_listed p (paging s).modified ≡ true → is_listed p (paging s).order ≡ true
 dirty_there s p h m = resident_is 0 s p h ∙ dirty_resident (walked s.tables p) (sym (modified_is 0 s p h) ∙ m)
@@ -270,20 +268,20 @@ unfolding EachOnce AreOnce pages_of
 once_pages [] once = tt
 once_pages (x ∷ xs) once = (listed_is x.page xs ∙ ap is_some once.0, once_pages xs once.1)
 
-order_once : (s : Store) → EachOnce s.order.items → AreOnce (paging s).order
+order_once : (s : Store) → EachOnce s.lists.order → AreOnce (paging s).order
 unfolding paging
-order_once s once = once_pages s.order.items once
+order_once s once = once_pages s.lists.order once
 
 once_end : (front end : List ℕ) → AreOnce (front ++ end) → AreOnce end
 unfolding AreOnce
 once_end [] end h = h
 once_end (x ∷ front) end h = once_end front end h.1
 
-pinned_once : (s : Store) → EachOnce s.order.items → IsSound 0 s → AreOnce (paging s).pinned
+pinned_once : (s : Store) → EachOnce s.lists.order → IsSound 0 s → AreOnce (paging s).pinned
 unfolding paging
-pinned_once s once h = once_end (front_of s) s.pins.items (subst AreOnce (parts h) (once_pages s.order.items once))
+pinned_once s once h = once_end (front_of s) (last_of s.pinned (pages_of s.lists.order)) (subst AreOnce (parts s) (once_pages s.lists.order once))
 
-pub is_paging : (s : Store) → EachOnce s.order.items → IsSound 0 s → IsPaging (paging s)
+pub is_paging : (s : Store) → EachOnce s.lists.order → IsSound 0 s → IsPaging (paging s)
 is_paging s once h = record {
   once = order_once s once;
   pinned_once = pinned_once s once h;
@@ -295,20 +293,32 @@ is_paging s once h = record {
   held = omega (arith, order-length s, kept-length s, frames_are s, h.lengths, h.used);
 }
 
-end-length : (end xs : List ℕ) → IsEnd end xs → length end ≤ length xs
-end-length end xs e = omega (arith, ap (length {A = ℕ}) (end_parts end xs e), length-append (take (length xs - length end) xs) end)
-
-pub pins_few : (s : Store) → IsSound 0 s → length s.pins.items < 2 ^ 32
-pins_few s h = omega (arith, end-length s.pins.items (pages_of s.order.items) h.pins_last, pages-length s.order.items, h.lengths, h.used, h.few)
-
 pub frames_few : (s : Store) → IsSound 0 s → length s.frames.items < 2 ^ 32
 frames_few s h = omega (arith, h.few)
 
-pub pinned_are : (s : Store) → length s.pins.items ≡ length (paging s).pinned
+pub pinned_are : (s : Store) → IsSound 0 s → s.pinned ≡ length (paging s).pinned
 unfolding paging
-pinned_are s = refl
+pinned_are s h = sym (last-length s.pinned (pages_of s.lists.order) (omega (arith, h.pins, pages-length s.lists.order)))
 
-pub kept_are : (s : Store) → length s.lists.kept.items ≡ length (paging s).kept
+pub was_pinned : (s : Store) (p : ℕ) (b : Bool) → b ≡ is_some (frame_in (drop (length s.lists.order - s.pinned) s.lists.order) p) → b ≡ is_listed p (paging s).pinned
+unfolding paging
+was_pinned s p b e =
+    e ∙ sym (listed_is p (drop (length s.lists.order - s.pinned) s.lists.order))
+    ∙ ap (is_listed p) (pages_drop (length s.lists.order - s.pinned) s.lists.order ∙ ap (λ (n : ℕ). drop (n - s.pinned) (pages_of s.lists.order)) (sym (pages-length s.lists.order)))
+
+-- a pinned page is one of those that are counted
+none_last : (p : ℕ) (xs : List ℕ) → is_listed p xs ≡ true → 1 ≤ length xs
+unfolding is_listed
+none_last p [] h = absurd (false≢true h)
+none_last p (x ∷ xs) h = omega arith
+
+pub some_pinned : (s : Store) (p : ℕ) → IsSound 0 s → is_listed p (paging s).pinned ≡ true → 1 ≤ s.pinned
+some_pinned s p h listed = omega (arith, pinned_are s h, none_last p (paging s).pinned listed)
+
+pub more_pinned : (n : ℕ) (s : Store) → IsSound n s → s.pinned + 1 < 2 ^ 32
+more_pinned n s h = omega (arith, h.pins, h.lengths, h.used, h.few)
+
+pub kept_are : (s : Store) → length s.lists.kept ≡ length (paging s).kept
 kept_are s = sym (kept-length s)
 
 next_in : (xs : List Placed) → option_map (λ placed. placed.page) (slice_get xs 0) ≡ first (pages_of xs)
@@ -316,6 +326,6 @@ unfolding pages_of
 next_in [] = refl
 next_in (x ∷ xs) = refl
 
-pub next_is : (s : Store) → option_map (λ placed. placed.page) (slice_get s.lists.modified.items 0) ≡ first (paging s).modified
+pub next_is : (s : Store) → option_map (λ placed. placed.page) (slice_get s.lists.modified 0) ≡ first (paging s).modified
 unfolding paging
-next_is s = next_in s.lists.modified.items
+next_is s = next_in s.lists.modified

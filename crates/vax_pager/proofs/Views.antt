@@ -255,12 +255,8 @@ sound_buffer s b a h = record {
   few = h.few;
   whole = h.whole;
   small = h.small;
-  order_limit = h.order_limit;
-  kept_limit = h.kept_limit;
-  modified_limit = h.modified_limit;
-  pins_last = h.pins_last;
-  pins_room = h.pins_room;
-  flags = h.flags;
+  limit = h.limit;
+  pins = h.pins;
 }
 
 pub agrees_same : (s : Store) (b : Buffer) → buffered b ≡ buffered s.buffer → IsSound 0 s → Agrees (buffered b) (walked s.tables)

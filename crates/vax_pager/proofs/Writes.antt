@@ -18,8 +18,7 @@ use Rattle.vax_table.specs.Tables.{walked, kept}
 use Rattle.vax_tb.specs.declared.buffer.Buffer.{Buffer}
 use Rattle.vax_tb.specs.Buffer.{dropped}
 use Rattle.vax_tb.specs.Meaning.{buffered}
-use Rattle.vax_lists.specs.declared.lists.Lists.{Lists}
-use Rattle.vax_lists.specs.Lines.{Line, appended, frame_in, pages_of}
+use Rattle.vax_lists.specs.Lines.{PageLists, appended, frame_in, pages_of, with_modified}
 use Rattle.vax_pager.specs.declared.store.Store.{Store}
 use Rattle.vax_pager.specs.Listing.{is_listed}
 use Rattle.vax_pager.specs.Paging.{Paging, view_of}
@@ -28,7 +27,7 @@ use Rattle.vax_pager.specs.Frames.{held_by}
 use Rattle.vax_pager.specs.Store.{IsSound, has_block, held, overwritten, paging}
 use Rattle.vax_pager.proofs.Listing.{in_push, pages_push}
 use Rattle.vax_pager.proofs.Moves.{Changes, at_itself, frames_of, frames_set, frame_means, held_changes, held_room, modified_is, one_held, resident_is, sound_moved}
-use Rattle.vax_pager.proofs.Steps.{came_here, came_other, fits_marked, front_of, marked_held, no_some, parts, small_set, whole_set}
+use Rattle.vax_pager.proofs.Steps.{came_here, came_other, fits_marked, marked_held, no_some, small_set, whole_set}
 use Rattle.vax_pager.proofs.Views.{get_same, only_filled, only_then, only_touched, over_inside, over_outside, run_touched, view_filled}
 
 held_frame : (walk : Walk) (left : Option ℕ) (f : ℕ) → held_by walk left ≡ Some f → is_resident walk ≡ true → frame_of walk ≡ Some f
@@ -47,37 +46,36 @@ frame_here s p f e r = held_frame (walked s.tables p) (kept s.tables p) f e r
 pub marked_resident : (s : Store) (p : ℕ) → IsSound 0 s → is_listed p (paging s).order ≡ true → is_resident (walked s.tables p) ≡ true
 marked_resident s p h r = sym (resident_is 0 s p h) ∙ r
 
-pub unmarked : (s : Store) (p : ℕ) → IsSound 0 s → is_listed p (paging s).modified ≡ false → frame_in s.lists.modified.items p ≡ None
+pub unmarked : (s : Store) (p : ℕ) → IsSound 0 s → is_listed p (paging s).modified ≡ false → frame_in s.lists.modified p ≡ None
 unmarked s p h m = (h.fine p).modified ∙ no_some _ (sym (modified_is 0 s p h) ∙ m)
+
+pub order_there : (s : Store) (p f : ℕ) → held s p ≡ Some f → is_listed p (paging s).order ≡ true → IsSound 0 s → frame_in s.lists.order p ≡ Some f
+order_there s p f there r h = (h.fine p).order ∙ frame_here s p f there (marked_resident s p h r)
 
 -- a resident page is marked
 
-pub sound_touched : (s : Store) (p f : ℕ) (tables : Tables) (buffer : Buffer) (lists : Lists) → Changes s tables p (marked (walked s.tables p)) None → buffered buffer ≡ dropped (buffered s.buffer) p → lists.modified ≡ appended s.lists.modified p f → lists.kept ≡ s.lists.kept → held s p ≡ Some f → is_listed p (paging s).order ≡ true → is_listed p (paging s).modified ≡ false → is_some (block_of s.space p) ≡ true → IsSound 0 s → IsSound 0 (record s { tables = tables; buffer = buffer; lists = lists })
-sound_touched s p f tables buffer lists c b em ek there resident clean writable h =
+pub sound_touched : (s : Store) (p f : ℕ) (tables : Tables) (buffer : Buffer) (lists : PageLists) → Changes s tables p (marked (walked s.tables p)) None → buffered buffer ≡ dropped (buffered s.buffer) p → lists ≡ with_modified s.lists (appended s.lists.modified p f) → held s p ≡ Some f → is_listed p (paging s).order ≡ true → is_listed p (paging s).modified ≡ false → is_some (block_of s.space p) ≡ true → IsSound 0 s → IsSound 0 (record s { tables = tables; buffer = buffer; lists = lists })
+sound_touched s p f tables buffer lists c b el there resident clean writable h =
     let r = marked_resident s p h resident in
     let new = unmarked s p h clean in
-    let base = fits_marked (walked s.tables p) _ _ _ _ _ _ _ f _ (h.fine p) (frame_here s p f there r) writable in
-    sound_moved 0 0 s (record s { tables = tables; buffer = buffer; lists = lists }) p (marked (walked s.tables p)) None (front_of s) h (record {
+    let base = fits_marked (walked s.tables p) _ _ _ _ _ _ f _ (h.fine p) (frame_here s p f there r) writable in
+    sound_moved 0 0 s (record s { tables = tables; buffer = buffer; lists = lists }) p (marked (walked s.tables p)) None h (record {
       changes = c;
       buffer = b;
       space = refl;
-      here = rw (em, ek, came_here p f s.lists.modified.items new) base;
-      other = λ q o. rw (em, ek, came_other p q f s.lists.modified.items new o) (h.fine q);
+      here = rw (el, came_here p f s.lists.modified new) base;
+      other = λ q o. rw (el, came_other p q f s.lists.modified new o) (h.fine q);
       fresh = λ g e q o. one_held 0 s p g h (sym (marked_same s p r) ∙ e) q o;
-      lengths = rw ek h.lengths;
+      lengths = rw el h.lengths;
       used = refl;
       frames = refl;
       whole = h.whole;
       small = h.small;
-      order_limit = refl;
-      kept_limit = ap (λ (l : Line). l.limit) ek;
-      modified_limit = ap (λ (l : Line). l.limit) em;
-      pins_last = parts h;
-      pins_room = refl;
-      flags = refl;
+      limit = rw el refl;
+      pins = rw el h.pins;
     })
 
-pub held_touched : (s : Store) (p : ℕ) (tables : Tables) (buffer : Buffer) (lists : Lists) → Changes s tables p (marked (walked s.tables p)) None → is_listed p (paging s).order ≡ true → IsSound 0 s → held (record s { tables = tables; buffer = buffer; lists = lists }) ≡ held s
+pub held_touched : (s : Store) (p : ℕ) (tables : Tables) (buffer : Buffer) (lists : PageLists) → Changes s tables p (marked (walked s.tables p)) None → is_listed p (paging s).order ≡ true → IsSound 0 s → held (record s { tables = tables; buffer = buffer; lists = lists }) ≡ held s
 held_touched s p tables buffer lists c resident h =
     let same = marked_same s p (marked_resident s p h resident) in
     held_changes s (record s { tables = tables; buffer = buffer; lists = lists }) p _ None c ∙ at_itself p _ (held s) same
@@ -85,14 +83,15 @@ held_touched s p tables buffer lists c resident h =
 touched_new : (modified : List ℕ) (p : ℕ) → is_listed p modified ≡ false → touched_by modified p ≡ modified ++ p ∷ []
 touched_new modified p h = rw h refl
 
-pub paging_touched : (s : Store) (p f : ℕ) (tables : Tables) (buffer : Buffer) (lists : Lists) → Changes s tables p (marked (walked s.tables p)) None → lists.modified ≡ appended s.lists.modified p f → lists.kept ≡ s.lists.kept → is_listed p (paging s).order ≡ true → is_listed p (paging s).modified ≡ false → IsSound 0 s → paging (record s { tables = tables; buffer = buffer; lists = lists }) ≡ touched_page p (paging s)
+pub paging_touched : (s : Store) (p f : ℕ) (tables : Tables) (buffer : Buffer) (lists : PageLists) → Changes s tables p (marked (walked s.tables p)) None → lists ≡ with_modified s.lists (appended s.lists.modified p f) → is_listed p (paging s).order ≡ true → is_listed p (paging s).modified ≡ false → IsSound 0 s → paging (record s { tables = tables; buffer = buffer; lists = lists }) ≡ touched_page p (paging s)
 unfolding paging touched_page has_block
-paging_touched s p f tables buffer lists c em ek resident clean h =
+paging_touched s p f tables buffer lists c el resident clean h =
     let t : Store = record s { tables = tables; buffer = buffer; lists = lists } in
     let frame : frames_of s.frames.items (held t) ≡ frames_of s.frames.items (held s) = ap (frames_of s.frames.items) (held_touched s p tables buffer lists c resident h) in
-    let lm : pages_of lists.modified.items ≡ touched_by (pages_of s.lists.modified.items) p =
-    ap (λ (l : Line). pages_of l.items) em ∙ pages_push s.lists.modified.items p f ∙ sym (touched_new (pages_of s.lists.modified.items) p clean) in
-    let lk : pages_of lists.kept.items ≡ pages_of s.lists.kept.items = ap (λ (l : Line). pages_of l.items) ek in
+    let lo : pages_of lists.order ≡ pages_of s.lists.order = ap (λ (l : PageLists). pages_of l.order) el in
+    let lm : pages_of lists.modified ≡ touched_by (pages_of s.lists.modified) p =
+    ap (λ (l : PageLists). pages_of l.modified) el ∙ pages_push s.lists.modified p f ∙ sym (touched_new (pages_of s.lists.modified) p clean) in
+    let lk : pages_of lists.kept ≡ pages_of s.lists.kept = ap (λ (l : PageLists). pages_of l.kept) el in
     cc
 
 touched_again : (modified : List ℕ) (p : ℕ) → is_listed p modified ≡ true → touched_by modified p ≡ modified
@@ -126,12 +125,8 @@ sound_filled s f bytes frames ef low size few h =
       few = rw lens h.few;
       whole = rw ef (whole_set s.frames.items f bytes size h.whole);
       small = rw ef (small_set s.frames.items f bytes low few h.small);
-      order_limit = h.order_limit ∙ sym lens;
-      kept_limit = h.kept_limit ∙ sym lens;
-      modified_limit = h.modified_limit ∙ sym lens;
-      pins_last = h.pins_last;
-      pins_room = h.pins_room ∙ sym lens;
-      flags = h.flags;
+      limit = h.limit ∙ sym lens;
+      pins = h.pins;
     }
 
 pub held_filled : (s : Store) (frames : Vec (List ℕ) Global) → held (record s { frames = frames }) ≡ held s

@@ -1,6 +1,6 @@
 -- Lists of pages.
 use Rattle.std.specs.Prelude.{ℕ, ◌≡◌, ◌==◌, ◌||◌, Bool, false, if◌then◌else◌, Option, Some, None, List, [], ◌∷◌}
-use Rattle.vax_lists.specs.declared.line.Placed.{Placed}
+use Rattle.vax_lists.specs.declared.lists.Placed.{Placed}
 
 -- the page stands in the list
 unfoldable pub is_listed : ℕ → List ℕ → Bool

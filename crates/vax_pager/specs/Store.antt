@@ -1,5 +1,5 @@
 -- The parts of a pager, and what they mean.
-use Rattle.std.specs.Prelude.{ℕ, ◌≡◌, ◌≢◌, ◌+◌, ◌<◌, ◌≤◌, Bool, true, false, Option, Some, None, is_some, List, [], ◌++◌, take, drop, ◌-◌, slice_index, slice_index_or, length}
+use Rattle.std.specs.Prelude.{ℕ, ◌≡◌, ◌≢◌, ◌+◌, ◌<◌, ◌≤◌, Bool, true, false, if◌then◌else◌, Option, Some, None, is_some, List, [], ◌++◌, take, drop, ◌-◌, slice_index, slice_index_or, length}
 use Rattle.vax_space.specs.Areas.{block_of, prot_of}
 use Rattle.vax_table.specs.declared.Walk.{Walk}
 use Rattle.vax_table.specs.Mapping.{frame_of, is_inside, is_resident, prot_said}
@@ -8,7 +8,7 @@ use Rattle.vax_tb.specs.Buffer.{Agrees}
 use Rattle.vax_tb.specs.Meaning.{buffered}
 use Rattle.vax_lists.specs.Lines.{frame_in, pages_of}
 use Rattle.vax_pager.specs.declared.store.Store.{Store}
-use Rattle.vax_pager.specs.Listing.{is_listed}
+use Rattle.vax_pager.specs.Marks.{has_mark}
 use Rattle.vax_pager.specs.Paging.{Paging}
 use Rattle.vax_pager.specs.Frames.{held_by, dirty_frame}
 
@@ -21,32 +21,39 @@ bytes_at frames None = []
 bytes_at frames (Some frame) = slice_index_or frames frame []
 
 -- a block was written in this run
-abbrev pub flag_of : List Bool → Option ℕ → Bool
-flag_of flags None = false
-flag_of flags (Some block) = slice_index_or flags block false
+abbrev pub flag_of : (ℕ → Bool) → Option ℕ → Bool
+flag_of marks None = false
+flag_of marks (Some block) = marks block
 
 unfoldable pub has_block : Store → ℕ → Bool
-has_block s page = flag_of s.blocked.items (block_of s.space page)
+has_block s page = flag_of (has_mark s.blocked) (block_of s.space page)
+
+-- the last so many
+abbrev pub last_of : ℕ → List ℕ → List ℕ
+last_of count xs = drop (length xs - count) xs
+
+-- one less where it is so
+abbrev pub lowered_if : Bool → ℕ → ℕ
+lowered_if test count = if test then count - 1 else count
 
 unfoldable pub paging : Store → Paging
 paging s = record {
   areas = s.space;
   frames = length s.frames.items;
-  order = pages_of s.order.items;
-  pinned = s.pins.items;
-  modified = pages_of s.lists.modified.items;
-  kept = pages_of s.lists.kept.items;
+  order = pages_of s.lists.order;
+  pinned = last_of s.pinned (pages_of s.lists.order);
+  modified = pages_of s.lists.modified;
+  kept = pages_of s.lists.kept;
   blocked = has_block s;
   frame = λ page. bytes_at s.frames.items (held s page);
   numbers = record { served = s.served; evicted = s.evicted; written = s.written; spoiled = s.spoiled };
 }
 
--- what is so of a page of which the tables say this, the lists have these frames, and which is pinned or not
-pub record Fits (walk : Walk) (left o k m : Option ℕ) (pinned : Bool) (prot block : Option ℕ) (used : ℕ) : Type 0 where
+-- what is so of a page of which the tables say this, and the lists have these frames
+pub record Fits (walk : Walk) (left o k m : Option ℕ) (prot block : Option ℕ) (used : ℕ) : Type 0 where
   pub order : o ≡ frame_of walk
   pub kept : k ≡ left
   pub modified : m ≡ dirty_frame walk
-  pub pins : pinned ≡ true → is_resident walk ≡ true
   pub apart : is_resident walk ≡ true → left ≡ None
   pub inside : is_some left ≡ true → is_inside walk ≡ true
   pub writable : is_some (dirty_frame walk) ≡ true → is_some block ≡ true
@@ -55,33 +62,25 @@ pub record Fits (walk : Walk) (left o k m : Option ℕ) (pinned : Bool) (prot bl
 
 abbrev pub IsFine : Store → ℕ → Type 0
 IsFine s page =
-    Fits (walked s.tables page) (kept s.tables page) (frame_in s.order.items page) (frame_in s.lists.kept.items page) (frame_in s.lists.modified.items page)
-    (is_listed page s.pins.items) (prot_of s.space page) (block_of s.space page) s.used
+    Fits (walked s.tables page) (kept s.tables page) (frame_in s.lists.order page) (frame_in s.lists.kept page) (frame_in s.lists.modified page)
+    (prot_of s.space page) (block_of s.space page) s.used
 
 -- the bytes of a list of which a part was overwritten
 abbrev pub overwritten : ℕ → List ℕ → List ℕ → List ℕ
 overwritten place xs old = take place old ++ (xs ++ drop (length xs) (drop place old))
-
--- a list ends with another
-abbrev pub IsEnd : List ℕ → List ℕ → Type 0
-IsEnd end xs = drop (length xs - length end) xs ≡ end
 
 -- all of it, with so many frames that no page has
 pub record IsSound (spare : ℕ) (s : Store) : Type 0 where
   pub fine : (page : ℕ) → IsFine s page
   pub one : (page other frame : ℕ) → held s page ≡ Some frame → held s other ≡ Some frame → other ≡ page
   pub agrees : Agrees (buffered s.buffer) (walked s.tables)
-  pub lengths : length s.order.items + length s.lists.kept.items + spare ≡ s.used
+  pub lengths : length s.lists.order + length s.lists.kept + spare ≡ s.used
   pub used : s.used ≤ length s.frames.items
   pub few : length s.frames.items ≤ 32768
   pub whole : (frame : ℕ) → frame < length s.frames.items → length (slice_index_or s.frames.items frame []) ≡ 512
   pub small : (frame k : ℕ) → slice_index (slice_index_or s.frames.items frame []) k < 256
-  pub order_limit : s.order.limit ≡ length s.frames.items
-  pub kept_limit : s.lists.kept.limit ≡ length s.frames.items
-  pub modified_limit : s.lists.modified.limit ≡ length s.frames.items
-  pub pins_last : IsEnd s.pins.items (pages_of s.order.items)
-  pub pins_room : s.pins.room ≡ length s.frames.items
-  pub flags : length s.blocked.items ≡ 69632
+  pub limit : s.lists.limit ≡ length s.frames.items
+  pub pins : s.pinned ≤ length s.lists.order
 
 -- no page has this frame
 pub record IsFree (frame : ℕ) (s : Store) : Type 0 where

@@ -15,7 +15,7 @@ impl Store {
         requires sound { IsSound 0 self.now }
         ensures { IsPaging (paging self.now) }
     {
-        let _ = self.order.first();
+        let _ = self.lists.first();
     }
 
     #[tactic(auto, unfolding(crate::specs::Store::paging))]
@@ -33,12 +33,12 @@ impl Store {
         self.frames.len() as u32
     }
 
-    #[tactic(auto, using(crate::proofs::Told::pins_few, crate::proofs::Told::pinned_are))]
+    #[tactic(auto, using(crate::proofs::Told::pinned_are))]
     pub(crate) fn pins(&self) -> u32
         requires sound { IsSound 0 self.now }
         ensures { result ≡ length (paging self.now).pinned }
     {
-        self.pins.len() as u32
+        self.pinned
     }
 
     #[tactic(auto, using(crate::proofs::Told::kept_are))]

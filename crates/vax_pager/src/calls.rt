@@ -99,7 +99,7 @@ impl Store {
         match self.space.block_of(page) {
             None => None,
             Some(block) => {
-                if self.blocked[block as usize] {
+                if self.blocked.has(block) {
                     Some(block)
                 } else {
                     None
@@ -138,7 +138,6 @@ impl Store {
         requires sound { IsSound 0 self.old }
         requires within { is_some (area_of (paging self.old).areas page) ≡ true }
         requires absent { is_listed page (paging self.old).order ≡ false }
-        requires pins { length (paging self.old).pinned < (paging self.old).frames }
         requires unkept { is_listed page (paging self.old).kept ≡ false }
         requires room { length (paging self.old).order + length (paging self.old).kept < (paging self.old).frames }
         ensures sound { IsSound 0 self.new }
@@ -169,9 +168,8 @@ impl Store {
         requires sound { IsSound 0 self.old }
         requires within { is_some (area_of (paging self.old).areas page) ≡ true }
         requires absent { is_listed page (paging self.old).order ≡ false }
-        requires pins { length (paging self.old).pinned < (paging self.old).frames }
         requires unkept { is_listed page (paging self.old).kept ≡ false }
-        requires kept { frame_in self.old.lists.kept.items old.page ≡ Some old.frame }
+        requires kept { frame_in self.old.lists.kept old.page ≡ Some old.frame }
         ensures sound { IsSound 0 self.new }
         ensures ok { OnOk result (paging self.new ≡ brought page ((paging self.new).frame page) (forgotten old.page (paging self.old))) }
         ensures bytes { OnOk result (ComesFrom (paging self.old) (F.contents file.old) page ((paging self.new).frame page)) }
@@ -200,7 +198,6 @@ impl Store {
         requires sound { IsSound 0 self.old }
         requires within { is_some (area_of (paging self.old).areas page) ≡ true }
         requires absent { is_listed page (paging self.old).order ≡ false }
-        requires pins { length (paging self.old).pinned < (paging self.old).frames }
         requires unkept { is_listed page (paging self.old).kept ≡ false }
         requires resident { is_listed victim (paging self.old).order ≡ true }
         requires unpinned { is_listed victim (paging self.old).pinned ≡ false }

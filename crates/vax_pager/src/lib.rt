@@ -5,8 +5,8 @@ mod access;
 mod answers;
 mod calls;
 mod counts;
+mod marks;
 mod pager;
-mod pins;
 mod port;
 mod store;
 #[cfg(test)]

@@ -3,10 +3,10 @@ ghost use Rattle.vax_pager.specs.Paging.{bytes_in};
 ghost use Rattle.vax_pager.specs.Frames.{dirty_frame};
 ghost use Rattle.std.specs.Prelude.{◌≡◌, ◌<◌, ◌≤◌, ◌+◌, ℕ, true, false, length, IfOk, IfSome, OnOk, Some, None, [], is_some, nat_lt, replicate, slice_get, slice_index, slice_index_or};
 
-use crate::counts::{raised, raised_if};
-use crate::pins::Pins;
+use crate::counts::{lowered_if, raised, raised_if};
+use crate::marks::Marks;
 use std::alloc::Global;
-use vax_lists::{Lists, PageList, Placed};
+use vax_lists::{Lists, Placed};
 use vax_space::{Area, NoMemory, PAGES, Space};
 use vax_table::{Tables, Walk};
 use vax_tb::Buffer;
@@ -49,12 +49,11 @@ pub(crate) struct Store {
     pub(crate) frames: Vec<[u8; 512]>,
     /// So many of the frames were used, the first ones.
     pub(crate) used: u32,
-    /// The resident pages, in order of service. The pinned ones stand last.
-    pub(crate) order: PageList,
     pub(crate) lists: Lists,
-    pub(crate) pins: Pins,
-    /// Whether a block was written in this run, by its number.
-    pub(crate) blocked: Vec<bool>,
+    /// So many pages are pinned, the last in the order of service.
+    pub(crate) pinned: u32,
+    /// The blocks that were written in this run, by their numbers.
+    pub(crate) blocked: Marks,
     pub(crate) served: u64,
     pub(crate) evicted: u64,
     pub(crate) written: u64,
@@ -80,10 +79,8 @@ impl Store {
     {
         let tables = Tables::new(alloc, &space)?;
         let bytes = zeros(alloc, frames)?;
-        let order = PageList::new(alloc, frames)?;
         let lists = Lists::new(alloc, frames)?;
-        let pins = Pins::new(alloc, frames)?;
-        let blocked = vec![in alloc; false; PAGES]?;
+        let blocked = Marks::new(alloc)?;
         let _ = space.areas();
         Ok(Store {
             space,
@@ -91,9 +88,8 @@ impl Store {
             buffer: Buffer::new(),
             frames: bytes,
             used: 0,
-            order,
             lists,
-            pins,
+            pinned: 0,
             blocked,
             served: 0,
             evicted: 0,
@@ -106,7 +102,7 @@ impl Store {
     pub(crate) fn resident_frame(&self, page: u32) -> u32
         requires sound { IsSound 0 self.now }
         requires resident { is_listed page (paging self.now).order ≡ true }
-        ensures order { frame_in self.now.order.items page ≡ Some result }
+        ensures order { frame_in self.now.lists.order page ≡ Some result }
         ensures held { held self.now page ≡ Some result }
         ensures room { result < length self.now.frames.items }
         ensures bytes { slice_index_or self.now.frames.items result [] ≡ (paging self.now).frame page }
@@ -126,7 +122,7 @@ impl Store {
     pub(crate) fn modified_frame(&self, page: u32) -> Option<u32>
         requires sound { IsSound 0 self.now }
         ensures none { is_some result ≡ is_listed page (paging self.now).modified }
-        ensures there { IfSome result (λ frame. frame_in self.now.lists.modified.items page ≡ Some frame) }
+        ensures there { IfSome result (λ frame. frame_in self.now.lists.modified page ≡ Some frame) }
         ensures held { IfSome result (λ frame. held self.now page ≡ Some frame) }
         ensures resident { is_some result ≡ true → is_listed page (paging self.now).order ≡ true }
         ensures room { IfSome result (λ frame. frame < length self.now.frames.items) }
@@ -140,7 +136,7 @@ impl Store {
     pub(crate) fn kept_frame(&self, page: u32) -> Option<u32>
         requires sound { IsSound 0 self.now }
         ensures none { is_some result ≡ is_listed page (paging self.now).kept }
-        ensures there { IfSome result (λ frame. frame_in self.now.lists.kept.items page ≡ Some frame) }
+        ensures there { IfSome result (λ frame. frame_in self.now.lists.kept page ≡ Some frame) }
         ensures held { IfSome result (λ frame. held self.now page ≡ Some frame) }
         ensures room { IfSome result (λ frame. frame < length self.now.frames.items) }
         ensures bytes { IfSome result (λ frame. slice_index_or self.now.frames.items frame [] ≡ (paging self.now).frame page) }
@@ -166,7 +162,7 @@ impl Store {
     /// A modified page's frame is in its block.
     pub(crate) fn mark_flushed(&mut self, page: u32, frame: u32, block: u32)
         requires sound { IsSound 0 self.old }
-        requires there { frame_in self.old.lists.modified.items page ≡ Some frame }
+        requires there { frame_in self.old.lists.modified page ≡ Some frame }
         requires block { block_of self.old.space page ≡ Some block }
         requires few { block < PAGES }
         ensures sound { IsSound 0 self.new }
@@ -175,7 +171,7 @@ impl Store {
         self.tables.set(page, frame);
         self.buffer.forget(page);
         self.lists.clean(page, frame);
-        self.blocked[block as usize] = true;
+        self.blocked.set(block);
         self.written = raised(self.written);
     }
 
@@ -188,12 +184,11 @@ impl Store {
         ensures paging { paging self.new ≡ released evicted (paging self.old) }
     {
         let frame = self.resident_frame(evicted);
-        let was_pinned = self.pins.contains(evicted);
+        let was_pinned = self.lists.is_among_last(evicted, frame, self.pinned);
         self.tables.keep(evicted);
         self.buffer.forget(evicted);
-        self.order.remove(evicted, frame);
-        self.pins.remove(evicted);
         self.lists.keep(evicted, frame);
+        self.pinned = lowered_if(was_pinned, self.pinned);
         self.evicted = raised(self.evicted);
         self.spoiled = raised_if(was_pinned, self.spoiled);
     }
@@ -201,16 +196,14 @@ impl Store {
     /// A kept page is resident again.
     pub(crate) fn take_back(&mut self, page: u32, frame: u32)
         requires sound { IsSound 0 self.old }
-        requires there { frame_in self.old.lists.kept.items page ≡ Some frame }
-        requires pins { length (paging self.old).pinned < (paging self.old).frames }
+        requires there { frame_in self.old.lists.kept page ≡ Some frame }
         ensures sound { IsSound 0 self.new }
         ensures paging { paging self.new ≡ taken_back page (paging self.old) }
     {
         self.tables.set(page, frame);
         self.buffer.forget(page);
-        self.order.push(page, frame);
-        self.pins.push(page);
-        self.lists.take(page, frame);
+        self.lists.take_back(page, frame);
+        self.pinned += 1;
         self.served = raised(self.served);
     }
 
@@ -230,14 +223,14 @@ impl Store {
     /// A kept page gives up its frame.
     pub(crate) fn forget(&mut self, page: u32, frame: u32)
         requires sound { IsSound 0 self.old }
-        requires there { frame_in self.old.lists.kept.items page ≡ Some frame }
+        requires there { frame_in self.old.lists.kept page ≡ Some frame }
         ensures sound { IsSound 1 self.new }
         ensures paging { paging self.new ≡ forgotten page (paging self.old) }
         ensures free { IsFree frame self.new }
     {
         self.tables.clear(page);
         self.buffer.forget(page);
-        self.lists.take(page, frame);
+        self.lists.forget(page, frame);
     }
 
     /// A resident page gives up its frame.
@@ -253,7 +246,7 @@ impl Store {
         let frame = self.resident_frame(page);
         self.tables.clear(page);
         self.buffer.forget(page);
-        self.order.remove(page, frame);
+        self.lists.give_up(page, frame);
         self.evicted = raised(self.evicted);
         frame
     }
@@ -264,7 +257,6 @@ impl Store {
         requires within { is_some (prot_of self.old.space page) ≡ true }
         requires absent { is_listed page (paging self.old).order ≡ false }
         requires unkept { is_listed page (paging self.old).kept ≡ false }
-        requires pins { length (paging self.old).pinned < (paging self.old).frames }
         requires free { IsFree frame self.old }
         ensures sound { IsSound 0 self.new }
         ensures paging { paging self.new ≡ brought page bytes.now (paging self.old) }
@@ -272,8 +264,8 @@ impl Store {
         self.tables.set(page, frame);
         self.buffer.forget(page);
         self.frames[frame as usize] = *bytes;
-        self.order.push(page, frame);
-        self.pins.push(page);
+        self.lists.serve(page, frame);
+        self.pinned += 1;
         self.served = raised(self.served);
     }
 
@@ -283,7 +275,7 @@ impl Store {
         ensures sound { IsSound 0 self.new }
         ensures paging { paging self.new ≡ settled (paging self.old) }
     {
-        self.pins.clear();
+        self.pinned = 0;
     }
 
     /// Whether some frame was never used.
@@ -298,7 +290,7 @@ impl Store {
     /// The page that was kept first.
     pub(crate) fn oldest_kept(&self) -> Option<Placed>
         ensures page { page_in result ≡ first (paging self.now).kept }
-        ensures there { IfSome result (λ placed. frame_in self.now.lists.kept.items placed.page ≡ Some placed.frame) }
+        ensures there { IfSome result (λ placed. frame_in self.now.lists.kept placed.page ≡ Some placed.frame) }
     {
         self.lists.oldest()
     }
@@ -311,7 +303,7 @@ impl Store {
         ensures resident { is_listed result (paging self.now).order ≡ true }
         ensures unpinned { is_listed result (paging self.now).pinned ≡ false }
     {
-        match self.order.first() {
+        match self.lists.first() {
             Some(placed) => placed.page,
             None => unreachable!(),
         }

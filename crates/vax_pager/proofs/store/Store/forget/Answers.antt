@@ -8,11 +8,11 @@ clear-requires c = record { inside = kept_inside 0 _ _ _ c.requires.sound c.requ
 pub returns-clause-sound : goal.returns-clause-sound
 returns-clause-sound c =
     sound_forgotten c.args.self.now c.args.page c.args.frame _ _ _ (record { walk = c.clear.ensures.walked; left = c.clear.ensures.kept })
-    c.forget.ensures.entries c.take.ensures.kept c.take.ensures.fewer c.take.ensures.modified c.requires.there c.requires.sound
+    c.forget.ensures.entries c.forget-2.ensures.kept c.forget-2.ensures.fewer c.requires.there c.requires.sound
 
 pub returns-clause-paging : goal.returns-clause-paging
 returns-clause-paging c =
-    paging_forgotten c.args.self.now c.args.page _ _ _ (record { walk = c.clear.ensures.walked; left = c.clear.ensures.kept }) c.take.ensures.kept c.take.ensures.modified
+    paging_forgotten c.args.self.now c.args.page _ _ _ (record { walk = c.clear.ensures.walked; left = c.clear.ensures.kept }) c.forget-2.ensures.kept
 
 pub returns-clause-free : goal.returns-clause-free
 returns-clause-free c =

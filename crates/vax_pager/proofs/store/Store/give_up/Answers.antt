@@ -8,11 +8,11 @@ clear-requires c = record { inside = resident_inside 0 _ _ c.requires.sound c.re
 pub returns-clause-sound : goal.returns-clause-sound
 returns-clause-sound c =
     sound_given c.args.self.now c.args.page c.resident_frame-frame.result _ _ _ _ (record { walk = c.clear.ensures.walked; left = c.clear.ensures.kept })
-    c.forget.ensures.entries c.remove.ensures.items c.remove.ensures.fewer c.resident_frame-frame.ensures.order c.requires.unmodified c.requires.unpinned c.requires.sound
+    c.forget.ensures.entries c.give_up.ensures.order c.give_up.ensures.fewer c.resident_frame-frame.ensures.order c.requires.unmodified c.requires.unpinned c.requires.sound
 
 pub returns-clause-paging : goal.returns-clause-paging
 returns-clause-paging c =
-    paging_given c.args.self.now c.args.page _ _ _ _ (record { walk = c.clear.ensures.walked; left = c.clear.ensures.kept }) c.remove.ensures.items c.raised-self.ensures
+    paging_given c.args.self.now c.args.page _ _ _ _ (record { walk = c.clear.ensures.walked; left = c.clear.ensures.kept }) c.give_up.ensures.order c.requires.unpinned c.raised-self.ensures c.requires.sound
 
 pub returns-clause-free : goal.returns-clause-free
 returns-clause-free c =

@@ -6,13 +6,11 @@ pub returns-clause-sound : goal.returns-clause-sound
 returns-clause-sound c = sound_new _ c.args.frames c.requires.few (record {
   tables = c.in_ok-tables.ensures.walked;
   kept = c.in_ok-tables.ensures.kept;
-  buffer = c.new-5.ensures.entries;
-  order = c.in_ok-order.ensures;
-  kept_list = c.in_ok-lists.ensures.kept;
-  modified_list = c.in_ok-lists.ensures.modified;
-  pins = c.in_ok-pins.ensures;
+  buffer = c.new-4.ensures.entries;
+  lists = c.in_ok-lists.ensures;
+  pinned = refl;
   frames = c.in_ok-bytes.ensures;
-  flags = c.in_ok-blocked.ensures.items_if_clones_equal (λ y e. e);
+  blocked = c.in_ok-blocked.ensures;
   used = refl;
 })
 
@@ -20,12 +18,10 @@ pub returns-clause-paging : goal.returns-clause-paging
 returns-clause-paging c = paging_new _ c.args.frames (record {
   tables = c.in_ok-tables.ensures.walked;
   kept = c.in_ok-tables.ensures.kept;
-  buffer = c.new-5.ensures.entries;
-  order = c.in_ok-order.ensures;
-  kept_list = c.in_ok-lists.ensures.kept;
-  modified_list = c.in_ok-lists.ensures.modified;
-  pins = c.in_ok-pins.ensures;
+  buffer = c.new-4.ensures.entries;
+  lists = c.in_ok-lists.ensures;
+  pinned = refl;
   frames = c.in_ok-bytes.ensures;
-  flags = c.in_ok-blocked.ensures.items_if_clones_equal (λ y e. e);
+  blocked = c.in_ok-blocked.ensures;
   used = refl;
 }) refl refl refl refl

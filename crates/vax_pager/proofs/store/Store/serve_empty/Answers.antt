@@ -13,9 +13,6 @@ bring-requires-clause-absent g c = rw c.grow-frame.ensures.paging c.requires.abs
 pub bring-requires-clause-unkept : goal.bring-requires-clause-unkept
 bring-requires-clause-unkept g c = rw c.grow-frame.ensures.paging c.requires.unkept
 
-pub bring-requires-clause-pins : goal.bring-requires-clause-pins
-bring-requires-clause-pins g c = rw c.grow-frame.ensures.paging c.requires.pins
-
 pub returns-clause-ok : goal.returns-clause-ok
 returns-clause-ok g c = own_brought _ _ _ _ (c.bring.ensures.paging ∙ ap (brought c.args.page _) c.grow-frame.ensures.paging)
 

@@ -2,7 +2,7 @@ use Rattle.std.proofs.Common.{◌∙◌, ap}
 use Rattle.vax_pager.specs.Store.{paging}
 use Rattle.vax_pager.specs.Steps.{brought}
 use Rattle.vax_pager.proofs.Told.{within_prot, kept_gone}
-use Rattle.vax_pager.proofs.Effects.{own_brought, own_comes, keeps_in_kept, forgotten_areas, forgotten_order, forgotten_unkept, forgotten_pins}
+use Rattle.vax_pager.proofs.Effects.{own_brought, own_comes, keeps_in_kept, forgotten_areas, forgotten_order, forgotten_unkept}
 use Rattle.vax_pager.proofs.store.Store.serve_kept.Goals as goal
 
 pub bring-requires-clause-within : goal.bring-requires-clause-within
@@ -13,9 +13,6 @@ bring-requires-clause-absent g c = rw (c.forget.ensures.paging, forgotten_order)
 
 pub bring-requires-clause-unkept : goal.bring-requires-clause-unkept
 bring-requires-clause-unkept g c = rw c.forget.ensures.paging (forgotten_unkept c.args.page c.args.old.page (paging c.args.self.now) c.requires.unkept)
-
-pub bring-requires-clause-pins : goal.bring-requires-clause-pins
-bring-requires-clause-pins g c = rw c.forget.ensures.paging (forgotten_pins c.args.old.page (paging c.args.self.now) c.requires.pins)
 
 pub returns-clause-ok : goal.returns-clause-ok
 returns-clause-ok g c =

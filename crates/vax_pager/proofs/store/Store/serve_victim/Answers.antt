@@ -2,7 +2,7 @@ use Rattle.std.proofs.Common.{◌∙◌, ap, inl, inr}
 use Rattle.vax_pager.specs.Store.{paging}
 use Rattle.vax_pager.specs.Steps.{brought, removed}
 use Rattle.vax_pager.proofs.Told.{within_prot, resident_within, resident_unkept, writable_is}
-use Rattle.vax_pager.proofs.Effects.{flush_none, on_err, own_brought, own_comes, keeps_in_victim, keeps_then, flush_areas, flush_order, flush_clean, flush_pinned, flush_kept, flush_frames, removed_areas, removed_absent, removed_kept, removed_pins, apart, comes_flushed, read_flushed}
+use Rattle.vax_pager.proofs.Effects.{flush_none, on_err, own_brought, own_comes, keeps_in_victim, keeps_then, flush_areas, flush_order, flush_clean, flush_pinned, flush_kept, flush_frames, removed_areas, removed_absent, removed_kept, apart, comes_flushed, read_flushed}
 use Rattle.vax_pager.proofs.store.Store.serve_victim.Goals as goal
 
 pub flush-requires-clause-within : goal.flush-requires-clause-within
@@ -56,9 +56,6 @@ returns-clause-keeps g c =
     (rw c.in_ok-flush.ensures.ok (flush_clean c.args.victim (paging c.args.self.now)))
     (rw (c.in_ok-flush.ensures.ok, flush_kept) (resident_unkept _ _ c.requires.sound c.requires.resident))
     c.in_ok-bytes.ensures.bytes)
-
-pub bring-requires-clause-pins : goal.bring-requires-clause-pins
-bring-requires-clause-pins g c = rw c.give_up-frame.ensures.paging (removed_pins c.args.victim (paging c.flush.new.self) (rw (c.in_ok-flush.ensures.ok, flush_pinned, flush_frames) c.requires.pins))
 
 pub returns-in_err-flush-clause-err : goal.returns-in_err-flush-clause-err
 returns-in_err-flush-clause-err g c = on_err c.from_residual.result (inl (c.in_err-flush.ensures.err, c.in_err-flush.ensures.unwritten))

@@ -1,0 +1,18 @@
+use Rattle.std.proofs.Common.{List, arith, ap, ◌-◌, ◌∙◌, ℕ}
+use Rattle.vax_lists.specs.Links.{lists_of}
+use Rattle.vax_lists.proofs.Frames.{remove_first}
+use Rattle.vax_lists.proofs.circles.Circles.remove_first.Goals as goal
+
+pub remove-requires-clause-frame : goal.remove-requires-clause-frame
+remove-requires-clause-frame c = (remove_first _ _ _ _ _ _ _ c.self.view_is c.self.invariant c.requires.there).low.frame_low
+
+pub overflow_sub-self : goal.overflow_sub-self
+overflow_sub-self c = omega (arith, (remove_first _ _ _ _ _ _ _ c.self.view_is c.self.invariant c.requires.there).some)
+
+pub invariant_of-self : goal.invariant_of-self
+invariant_of-self c = rw (c.remove.ensures.next, c.remove.ensures.before) (remove_first _ _ _ _ _ _ _ c.self.view_is c.self.invariant c.requires.there).linked
+
+pub returns : goal.returns
+returns c =
+    ap (λ (z : List ℕ). lists_of z c.self.inside.limit (c.self.inside.first - 1) c.self.inside.second) c.remove.ensures.next
+    ∙ (remove_first _ _ _ _ _ _ _ c.self.view_is c.self.invariant c.requires.there).value
