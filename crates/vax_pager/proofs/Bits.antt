@@ -1,8 +1,8 @@
 -- Marks in words of 64 bits.
-use Rattle.std.proofs.Common.{ℕ, zero, suc, ◌≡◌, ◌≢◌, ◌+◌, ◌*◌, ◌/◌, ◌%◌, ◌^◌, ◌<◌, Bool, true, false, List, [], ◌∷◌, length, slice_index, slice_index_or, slice_set, get_or-set_same, get_or-set_other, refl, ap, sym, ◌∙◌, arith, inl, inr, replicate, bit_and, bit_or, w64}
+use Rattle.std.proofs.Common.{ℕ, zero, suc, ◌≡◌, ◌≢◌, ◌*◌, ◌/◌, ◌%◌, ◌^◌, ◌<◌, true, List, [], ◌∷◌, length, slice_index, slice_index_or, slice_set, get_or-set_same, get_or-set_other, refl, ap, ◌∙◌, arith, inl, inr, replicate, bit_and, bit_or, w64}
 use Rattle.std.specs.Prelude.{◌==◌}
 use Rattle.std.proofs.Math.Path.{fun_ext}
-use Rattle.std.proofs.lemmas.Bool.{cases_eq, eq-eqb, ne_eqb}
+use Rattle.std.proofs.lemmas.Bool.{cases_eq}
 use Rattle.std.proofs.lemmas.Nat.Bits.{bit_at_set_other, bit_at_set_same, bit_at-zero, shr_and_one}
 use Rattle.std.proofs.lemmas.List.{length-replicate}
 use Rattle.vax_pager.specs.Marks.{has_mark, no_mark}

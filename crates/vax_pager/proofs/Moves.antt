@@ -1,5 +1,5 @@
 -- What a step of one page leaves of the parts of a pager.
-use Rattle.std.proofs.Common.{ℕ, ◌≡◌, ◌≢◌, ◌+◌, ◌<◌, ◌≤◌, true, false, List, [], ◌∷◌, ◌++◌, length, refl, ap, sym, ◌∙◌, arith, inl, inr, Option, Some, None, slice_index, slice_index_or, slice_set, get_or-set_same, get_or-set_other}
+use Rattle.std.proofs.Common.{ℕ, ◌≡◌, ◌≢◌, ◌+◌, ◌<◌, ◌≤◌, true, false, List, [], length, refl, ap, sym, ◌∙◌, arith, inl, inr, Option, Some, None, slice_index, slice_index_or, slice_set, get_or-set_same, get_or-set_other}
 use Rattle.std.specs.Prelude.{is_some}
 use Rattle.std.proofs.Math.Path.{fun_ext}
 use Rattle.std.proofs.lemmas.Bool.{cases_eq, eq-eqb, ne_eqb, false≢true}
@@ -12,7 +12,7 @@ use Rattle.vax_table.specs.Tables.{walked, kept}
 use Rattle.vax_table.proofs.Walks.{changed_here, changed_other}
 use Rattle.vax_tb.specs.Buffer.{Agrees, dropped}
 use Rattle.vax_tb.specs.Meaning.{buffered}
-use Rattle.vax_lists.specs.Lines.{frame_in, pages_of}
+use Rattle.vax_lists.specs.Lines.{frame_in}
 use Rattle.vax_pager.specs.declared.store.Store.{Store}
 use Rattle.vax_pager.specs.Listing.{is_listed}
 use Rattle.vax_pager.specs.Steps.{at}

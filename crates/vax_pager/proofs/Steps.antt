@@ -27,7 +27,7 @@ use Rattle.vax_pager.specs.Frames.{held_by, dirty_frame}
 use Rattle.vax_pager.specs.Store.{held, flag_of, has_block, last_of, lowered_if, paging, Fits, IsSound, IsFree}
 use Rattle.vax_pager.proofs.Listing.{pages_push, pages_without, pages-length, out_none, out-append, listed_is}
 use Rattle.vax_pager.proofs.Last.{drop_push, last_none, last_parts, last-length, one_less}
-use Rattle.vax_pager.proofs.Moves.{at_same, at_other, Changes, sound_moved, held_changes, frames_of, frames_same, frames_gone, frames_set, held_low, order_held, kept_held, modified_held, resident_is, modified_is, kept_is, one_held}
+use Rattle.vax_pager.proofs.Moves.{at_same, at_other, Changes, sound_moved, held_changes, frames_of, frames_same, frames_gone, frames_set, held_low, order_held, kept_held, modified_held, resident_is, kept_is, one_held}
 
 -- lists at the page of a step, and at another
 gone_here : (p : ℕ) (xs : List Placed) → frame_in (without p xs) p ≡ None

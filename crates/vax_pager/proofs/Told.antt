@@ -1,5 +1,5 @@
 -- What the parts of a pager say of a page, and what the steps require of them.
-use Rattle.std.proofs.Common.{ℕ, zero, suc, ◌≡◌, ◌+◌, ◌<◌, ◌≤◌, ◌^◌, Bool, true, false, List, [], ◌∷◌, ◌++◌, ◌-◌, drop, length, refl, ap, sym, ◌∙◌, subst, arith, inl, inr, Option, Some, None, slice_index_or}
+use Rattle.std.proofs.Common.{ℕ, ◌≡◌, ◌+◌, ◌<◌, ◌≤◌, ◌^◌, Bool, true, false, List, [], ◌∷◌, ◌++◌, ◌-◌, drop, length, refl, ap, sym, ◌∙◌, subst, arith, inl, inr, Option, Some, None, slice_index_or}
 use Rattle.std.specs.Prelude.{is_some, nat_lt, slice_get, IfSome}
 use Rattle.std.specs.Option.{option_map}
 use Rattle.std.proofs.lemmas.Bool.{cases_eq, eq-eqb, ne_eqb, false≢true}

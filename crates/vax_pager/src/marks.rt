@@ -28,7 +28,7 @@ impl Marks {
     pub(crate) fn new(alloc: Global) -> Result<Marks, NoMemory>
         ensures { IfOk result (λ marks. has_mark marks ≡ no_mark) }
     {
-        let words = vec![in alloc; 0u64; PAGES as usize / 64]?;
+        let words = vec![in alloc; 0u64; PAGES / 64]?;
         Ok(Marks { words })
     }
 

@@ -2,7 +2,7 @@ use Rattle.std.proofs.Common.{◌∙◌, ap, inl, inr}
 use Rattle.vax_pager.specs.Store.{paging}
 use Rattle.vax_pager.specs.Steps.{brought, removed}
 use Rattle.vax_pager.proofs.Told.{within_prot, resident_within, resident_unkept, writable_is}
-use Rattle.vax_pager.proofs.Effects.{flush_none, on_err, own_brought, own_comes, keeps_in_victim, keeps_then, flush_areas, flush_order, flush_clean, flush_pinned, flush_kept, flush_frames, removed_areas, removed_absent, removed_kept, apart, comes_flushed, read_flushed}
+use Rattle.vax_pager.proofs.Effects.{flush_none, on_err, own_brought, own_comes, keeps_in_victim, keeps_then, flush_areas, flush_order, flush_clean, flush_pinned, flush_kept, removed_areas, removed_absent, removed_kept, apart, comes_flushed, read_flushed}
 use Rattle.vax_pager.proofs.store.Store.serve_victim.Goals as goal
 
 pub flush-requires-clause-within : goal.flush-requires-clause-within
