@@ -1,15 +1,16 @@
 //! Machines over page files in memory. Expected values are worked by hand.
 use crate::{Applied, Event, Limits, Machine, RunEnd};
 use std::alloc::Global;
+use std::process::Abort;
 use std::test::Fail;
 use vax_flat::Ending;
 use vax_outside::{Chan, MemPages, MemSink};
-use vax_sched::read;
+use vax_sched::{Schedule, read};
 use vax_space::{Area, Bytes, Space};
 use vax_word::{Core, Psl};
 
-/// Pages 0 to 7, which begin with these bytes and which every mode may write, and registers of 0 in kernel mode.
-fn machine(alloc: Global, bytes: &[u8]) -> Result<Machine, Fail> {
+/// Pages 0 to 7, which begin with these bytes and which every mode may write.
+fn space(alloc: Global, bytes: &[u8]) -> Result<Space, Fail> {
     let mut areas = Vec::new(alloc);
     areas.push(Area {
         first: 0,
@@ -17,6 +18,11 @@ fn machine(alloc: Global, bytes: &[u8]) -> Result<Machine, Fail> {
         prot: 4,
         bytes: Bytes::from(bytes.to_vec(alloc)?),
     })?;
+    Ok(Space::new(alloc, areas)?)
+}
+
+/// A machine over these pages, with registers of 0 in kernel mode.
+fn machine(alloc: Global, bytes: &[u8]) -> Result<Machine, Fail> {
     let core = Core {
         regs: [0; 16],
         psl: Psl(0x001F_0000),
@@ -25,47 +31,49 @@ fn machine(alloc: Global, bytes: &[u8]) -> Result<Machine, Fail> {
         iccs: 0,
         clock: 0,
     };
-    Ok(Machine::new(alloc, Space::new(alloc, areas)?, core, Vec::new(alloc), 64)?)
+    Ok(Machine::new(alloc, space(alloc, bytes)?, core, Vec::new(alloc), 64)?)
+}
+
+/// MOVL #89ABCDEF,@#400, MOVL @#400,R1 and HALT.
+const PROGRAM: &[u8] = &[
+    0xD0, 0x8F, 0xEF, 0xCD, 0xAB, 0x89, 0x9F, 0, 4, 0, 0, 0xD0, 0x9F, 0, 4, 0, 0, 0x51, 0,
+];
+
+/// Runs the program to its end, with so many attempts and so many evictions of pinned pages.
+fn run_program<R: Abort>(
+    rt: &R,
+    alloc: Global,
+    schedule: &Schedule,
+    turns: u64,
+    spoiled: u64,
+) -> Result<(), Fail> {
+    let mut machine = machine(alloc, PROGRAM)?;
+    let mut file = MemPages::new(alloc, 8, 100, Vec::new(alloc))?;
+    let mut sink = MemSink::new(alloc, [100; 3], 100, Vec::new(alloc))?;
+    let limits = Limits {
+        steps: 100,
+        turns: 100,
+    };
+    assert_eq!(rt; machine.steps(), 0);
+    assert_eq!(rt; machine.turns(), 0);
+    let end = machine.run(&limits, schedule, &mut file, &mut sink);
+    assert_eq!(rt; end, RunEnd::Ended(Ending::Halt));
+    assert_eq!(rt; machine.steps(), 3);
+    assert_eq!(rt; machine.turns(), turns);
+    assert_eq!(rt; machine.spoiled(), spoiled);
+    assert_eq!(rt; machine.core().regs[1], 0x89AB_CDEF);
+    assert_eq!(rt; machine.units(), 0);
+    assert_eq!(rt; machine.taken(), 0);
+    assert_eq!(rt; sink.bytes(Chan::Out), b"".as_slice());
+    Ok(())
 }
 
 #[test]
 fn runs_to_an_ending(rt: HostRuntime) -> Result<(), Fail> {
     let alloc = rt.alloc();
-    // MOVL @#400,R1 and HALT, with and without evictions before each attempt.
-    let rows = [
-        (b"".as_slice(), 4, 0),
-        (b"at 3 00000000\n".as_slice(), 5, 1),
-    ];
-    for (text, turns, spoiled) in rows {
-        let mut bytes = [0; 0x404];
-        bytes[..7].copy_from_slice(&[0xD0, 0x9F, 0, 4, 0, 0, 0x51]);
-        bytes[0x400..0x404].copy_from_slice(&[0xEF, 0xCD, 0xAB, 0x89]);
-        let mut machine = machine(alloc, &bytes)?;
-        let mut file = MemPages::new(alloc, 8, 100, Vec::new(alloc))?;
-        let mut sink = MemSink::new(alloc, [100; 3], 100, Vec::new(alloc))?;
-        let mut areas = Vec::new(alloc);
-        areas.push(Area {
-            first: 0,
-            pages: 8,
-            prot: 4,
-            bytes: Bytes::from(Vec::new(alloc)),
-        })?;
-        let schedule = read(alloc, text, &Space::new(alloc, areas)?)?;
-        let limits = Limits {
-            steps: 100,
-            turns: 100,
-        };
-        let end = machine.run(&limits, &schedule, &mut file, &mut sink);
-        assert_eq!(rt; end, RunEnd::Ended(Ending::Halt));
-        assert_eq!(rt; machine.steps(), 2);
-        assert_eq!(rt; machine.turns(), turns);
-        assert_eq!(rt; machine.spoiled(), spoiled);
-        assert_eq!(rt; machine.core().regs[1], 0x89AB_CDEF);
-        assert_eq!(rt; machine.units(), 0);
-        assert_eq!(rt; machine.taken(), 0);
-        assert_eq!(rt; sink.bytes(Chan::Out), b"".as_slice());
-    }
-    Ok(())
+    run_program(&rt, alloc, &Schedule::new(alloc), 5, 0)?;
+    let evicting = read(alloc, b"at 3 00000000\n", &space(alloc, &[])?)?;
+    run_program(&rt, alloc, &evicting, 6, 1)
 }
 
 #[test]
