@@ -1,4 +1,4 @@
-use Rattle.std.proofs.Common.{◌≡◌, ◌≤◌, ◌∙◌, ap, sym, subst, true, false}
+use Rattle.std.proofs.Common.{◌≤◌, ◌∙◌, ap, sym, subst, true, false}
 use Rattle.vax_flat.specs.Field.{bits_of, before_first}
 use Rattle.vax_x_field.proofs.BitLaws.{first_clear, before_within}
 use Rattle.vax_x_field.proofs.bits.before_first.Goals as goal
