@@ -1,3 +1,2 @@
 pub mod TopLaws
 pub mod LoadLaws
-pub mod RunLaws
