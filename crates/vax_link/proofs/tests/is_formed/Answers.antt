@@ -1,5 +1,5 @@
 use Rattle.std.proofs.Common.{◌≡◌, ◌≤◌, All, ℕ, List, length, ap, subst, arith}
-use Rattle.std.specs.Prelude.{Option, IfSome}
+use Rattle.std.specs.Prelude.{IfSome}
 use Rattle.vax_module.specs.declared.Module.{Module}
 use Rattle.vax_module.specs.declared.Reloc.{Reloc}
 use Rattle.vax_module.specs.declared.Section.{Section}
