@@ -1,5 +1,5 @@
 -- The areas that the code makes of sections.
-use Rattle.std.proofs.Common.{◌≡◌, ℕ, zero, suc, ◌+◌, ◌-◌, ◌<◌, ◌≤◌, Bool, true, false, cond, List, [], ◌∷◌, ◌++◌, length, take, get_or, map, min, Option, Some, None, refl, sym, ap, subst, ◌∙◌, append_assoc, arith}
+use Rattle.std.proofs.Common.{◌≡◌, ℕ, suc, ◌+◌, ◌-◌, ◌<◌, ◌≤◌, Bool, true, false, cond, List, [], ◌∷◌, ◌++◌, length, take, get_or, Option, Some, None, refl, sym, ap, subst, ◌∙◌, append_assoc, arith}
 use Rattle.std.specs.Bool.{beq}
 use Rattle.std.specs.Prelude.{All, not, ◌&&◌, ◌==◌, replicate, slice_index}
 use Rattle.std.specs.Borrow.{Bor}
@@ -21,7 +21,7 @@ use Rattle.vax_link.specs.Names.{Name}
 use Rattle.vax_link.specs.Layout.{aligned, is_control_block, is_listed, is_named, is_too_large, is_writable, names_in, names_of, origin, page_behind, pages_from, pages_of, pages_of_names, pieces_of, placed_names, sections_in, size_of}
 use Rattle.vax_link.specs.Placed.{IsFilling, IsLayout, bytes_in}
 use Rattle.vax_link.specs.Values.{filled_from}
-use Rattle.vax_link.specs.Linked.{area_of, area_unless_empty, areas_of, bytes_of, is_chosen, ordered, protection, with_piece}
+use Rattle.vax_link.specs.Linked.{area_of, area_unless_empty, areas_of, bytes_of, is_chosen, protection, with_piece}
 use Rattle.vax_link.proofs.LayoutLaws.{aligned_above, listed_at}
 use Rattle.vax_link.proofs.ImageLaws.{few_pages, section_long, size_fits}
 use Rattle.vax_link.proofs.RoomLaws.{name_at}

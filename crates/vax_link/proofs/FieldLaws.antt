@@ -5,7 +5,7 @@ use Rattle.std.specs.Borrow.{Bor}
 use Rattle.std.specs.Global.{Vec}
 use Rattle.std.specs.Slice.{IsGetResult}
 use Rattle.std.specs.List.{fold}
-use Rattle.std.proofs.lemmas.List.{append-nil, drop_more, drop_all, get_or_past, take_all, map_push}
+use Rattle.std.proofs.lemmas.List.{append-nil, drop_more, drop_all, get_or_past, take_all}
 use Rattle.std.proofs.lemmas.List.{get_or-map as read-map}
 use Rattle.std.proofs.lemmas.Grind.{get_or_default_zero}
 use Rattle.std.proofs.Math.ListN.{get_or-map}

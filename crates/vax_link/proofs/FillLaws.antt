@@ -1,11 +1,11 @@
 -- Fields that are filled in leave a section as long as it is.
-use Rattle.std.proofs.Common.{◌≡◌, ℕ, zero, suc, ◌+◌, ◌-◌, ◌<◌, ◌≤◌, Bool, true, false, cond, List, [], ◌∷◌, ◌++◌, length, take, drop, get_or, map, min, Option, Some, refl, sym, ap, subst, ◌∙◌, append_assoc, add-zero, arith}
+use Rattle.std.proofs.Common.{◌≡◌, ℕ, zero, suc, ◌+◌, ◌<◌, ◌≤◌, Bool, true, false, cond, List, [], ◌∷◌, ◌++◌, length, take, drop, get_or, map, Option, Some, refl, sym, ap, subst, ◌∙◌, add-zero, arith}
 use Rattle.std.specs.Prelude.{◌==◌, All, IfSome, slice_get}
-use Rattle.std.specs.List.{fold, flat_map}
+use Rattle.std.specs.List.{fold}
 use Rattle.byteorder.specs.Endian.{little_bytes}
 use Rattle.byteorder.specs.Numbers.{length-bytes_low_first}
 use Rattle.std.proofs.lemmas.Bool.{eqb-true}
-use Rattle.std.proofs.lemmas.List.{append-nil, length-append, length-take, length-drop, length-map, map-append, drop_more, drop_all}
+use Rattle.std.proofs.lemmas.List.{length-append, length-take, length-drop, length-map, map-append}
 use Rattle.std.proofs.lemmas.List.Elements.{All-head, All-tail}
 use Rattle.std.proofs.lemmas.Option.{slice_get-get_or}
 use Rattle.vax_module.specs.declared.Section.{Section}
@@ -15,7 +15,7 @@ use Rattle.vax_module.specs.Formed.{Formed, IsFieldOf, end_of, width_of}
 use Rattle.vax_image.specs.declared.Base.{Base}
 use Rattle.vax_link.specs.Layout.{pieces_of}
 use Rattle.vax_link.specs.Placed.{IsFilling}
-use Rattle.vax_link.specs.Values.{IsWithin, field_content, filled_from, filled_sections_from, with_field, with_reloc}
+use Rattle.vax_link.specs.Values.{field_content, filled_from, filled_sections_from, with_field, with_reloc}
 
 little_long : (width n : ℕ) → length (little_bytes width n) ≡ width
 little_long width n = length-bytes_low_first 0 width n
@@ -58,9 +58,9 @@ sections_long region modules owner relocs number (bytes ∷ rest) within =
     let P : ℕ → Type 0 = λ n. AreWithin n (length bytes) relocs in
     let here = section_long region modules owner number (length bytes) bytes relocs refl (subst P (add-zero number) (within 0 bytes (omega arith))) in
     let next : AreIn (suc number) rest relocs = λ k d lt.
-        let Q : ℕ → Type 0 = λ n. AreWithin n (length (get_or rest k d)) relocs in
-        let same : number + suc k ≡ suc number + k = omega arith in
-        subst Q same (within (suc k) d (omega arith)) in
+    let Q : ℕ → Type 0 = λ n. AreWithin n (length (get_or rest k d)) relocs in
+    let same : number + suc k ≡ suc number + k = omega arith in
+    subst Q same (within (suc k) d (omega arith)) in
     let others = sections_long region modules owner relocs (suc number) rest next in
     ap (λ n. n ∷ map length (filled_sections_from region modules owner relocs (suc number) rest)) here ∙ ap (λ ns. length bytes ∷ ns) others
 

@@ -1,10 +1,10 @@
 -- The areas of linked modules ascend, so that they are those of an image.
-use Rattle.std.proofs.Common.{◌≡◌, ℕ, zero, suc, ◌+◌, ◌-◌, ◌*◌, ◌/◌, ◌%◌, ◌<◌, ◌≤◌, Bool, true, false, cond, List, [], ◌∷◌, ◌++◌, length, get_or, map, max, min, Option, Some, None, refl, sym, ap, subst, ◌∙◌, arith, ◌⊎◌, inl, inr}
+use Rattle.std.proofs.Common.{◌≡◌, ℕ, suc, ◌+◌, ◌-◌, ◌*◌, ◌<◌, ◌≤◌, Bool, true, false, cond, List, [], ◌∷◌, ◌++◌, length, max, Option, Some, None, refl, sym, ap, subst, ◌∙◌, arith, ◌⊎◌, inl, inr}
 use Rattle.std.specs.Prelude.{not, ◌&&◌, ◌||◌, ◌==◌, nat_lt, replicate, codes}
 use Rattle.std.specs.List.{cons_option, fold, filter, filter_map, list_any, zip}
 use Rattle.std.specs.Int.{div_ceil}
 use Rattle.std.specs.Str.{bytes_eq}
-use Rattle.std.proofs.lemmas.Bool.{ltb-false, eqb-true, eqb-false}
+use Rattle.std.proofs.lemmas.Bool.{ltb-false, eqb-false}
 use Rattle.std.proofs.lemmas.List.{append-nil, length-append, length-replicate}
 use Rattle.std.proofs.lemmas.List.Elements.{filter-append, filter_map-append}
 use Rattle.std.proofs.lemmas.List.Filters.{length-filter_both}
@@ -12,12 +12,10 @@ use Rattle.std.proofs.lemmas.Grind.{div_ceil_times}
 use Rattle.std.proofs.lemmas.Slice.Zip.{length-zip}
 use Rattle.std.proofs.lemmas.Slice.Eq.{bytes_eq-Decides}
 use Rattle.vax_space.specs.declared.Area.{Area}
-use Rattle.vax_space.specs.Areas.{end_of, has_page}
 use Rattle.vax_space.specs.Faults.{is_protection}
 use Rattle.vax_module.specs.declared.Section.{Section}
 use Rattle.vax_image.specs.declared.Base.{Base}
 use Rattle.vax_image.specs.declared.Base.TheVariants.{Bare, User}
-use Rattle.vax_image.specs.declared.Image.{Image}
 use Rattle.vax_image.specs.Image.{first_page, end_page, IsAreaFrom, AscendFrom, IsImage, is_in}
 use Rattle.vax_link.specs.Names.{Name}
 use Rattle.vax_link.specs.Layout.{align_of, aligned, aligned_for, behind_piece, end_behind, end_page_from, has_no_room, is_control_block, is_listed, is_named, is_too_large, is_writable, names_of, origin, page_behind, pages_from, pages_of, placed_names, size_of, with_name}

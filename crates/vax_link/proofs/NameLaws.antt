@@ -1,9 +1,8 @@
 -- Names that are defined one after the other, and where they lead.
-use Rattle.std.proofs.Common.{◌≡◌, ℕ, zero, suc, ◌+◌, ◌-◌, ◌<◌, ◌≤◌, Bool, true, false, cond, List, [], ◌∷◌, ◌++◌, length, take, drop, get_or, map, Option, Some, None, refl, sym, ap, subst, ◌∙◌, append_assoc, add-zero, arith, ◌⊎◌, inl, inr}
+use Rattle.std.proofs.Common.{◌≡◌, ℕ, zero, suc, ◌+◌, ◌<◌, ◌≤◌, Bool, true, false, cond, List, [], ◌∷◌, ◌++◌, length, take, drop, get_or, Option, Some, None, refl, sym, ap, subst, ◌∙◌, append_assoc, add-zero, arith, ◌⊎◌, inl, inr}
 use Rattle.std.specs.Prelude.{ℤ, ◌||◌, is_some, option_map, slice_get}
 use Rattle.std.specs.Option.{option_or}
-use Rattle.std.specs.List.{find, flat_map, filter_map}
-use Rattle.std.specs.Map.{lookup}
+use Rattle.std.specs.List.{find, flat_map}
 use Rattle.std.specs.HashMap.{get_by}
 use Rattle.std.specs.Str.{bytes_eq}
 use Rattle.std.proofs.lemmas.List.{append-nil, length_push, length-take-le, map-append, take_all, take-append-drop, take_more}
@@ -20,7 +19,7 @@ use Rattle.vax_link.specs.declared.names.Names.{Names}
 use Rattle.vax_link.specs.declared.names.Chased.{Chased}
 use Rattle.vax_link.specs.declared.names.Chased.TheVariants.{Ends, Unknown, Circles}
 use Rattle.vax_link.specs.Names.{Name, Entries, definition_of, is_defined, repeated, or_else, entries_of, entries_from, transfers, second_transfer, duplicate, led, leads, is_met, chased, chase, external_name, low_longword, plus}
-use Rattle.vax_link.specs.Tables.{IsTable, Adds}
+use Rattle.vax_link.specs.Tables.{IsTable}
 
 same_bool : (x y : Bool) → (x ≡ true → y ≡ true) → (y ≡ true → x ≡ true) → x ≡ y
 same_bool true true f g = refl

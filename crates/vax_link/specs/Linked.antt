@@ -1,10 +1,8 @@
 -- The image of modules, or why they have none.
-use Rattle.std.specs.Prelude.{◌≡◌, ℕ, zero, suc, ◌+◌, ◌-◌, Bool, true, false, not, ◌&&◌, ◌==◌, if◌then◌else◌, List, [], ◌∷◌, ◌++◌, length, replicate, Option, Some, None, Result, Ok, Err}
+use Rattle.std.specs.Prelude.{◌≡◌, ℕ, suc, ◌-◌, Bool, true, false, not, ◌&&◌, ◌==◌, if◌then◌else◌, List, [], ◌∷◌, ◌++◌, length, replicate, Option, Some, None, Result, Ok, Err}
 use Rattle.std.specs.List.{filter, filter_map, fold, zip}
-use Rattle.vax_lex.specs.declared.value.Value.{Value}
 use Rattle.vax_space.specs.declared.Area.{Area}
 use Rattle.vax_module.specs.declared.Section.{Section}
-use Rattle.vax_module.specs.declared.Symbol.{Symbol}
 use Rattle.vax_module.specs.declared.Module.{Module}
 use Rattle.vax_image.specs.declared.Base.{Base}
 use Rattle.vax_image.specs.declared.Base.TheVariants.{Bare, User}

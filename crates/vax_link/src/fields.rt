@@ -81,12 +81,7 @@ impl<'a> Values<'a> {
     {
         let mut externals = Vec::new(alloc);
         for module in names.modules {
-            externals.push(values_of_names(
-                alloc,
-                &layout,
-                names,
-                module.externals.as_slice(),
-            )?)?;
+            externals.push(values_of_names(alloc, &layout, names, module.externals.as_slice())?)?;
         }
         Ok(Values { layout, externals })
     }

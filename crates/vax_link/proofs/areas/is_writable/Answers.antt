@@ -1,4 +1,4 @@
-use Rattle.std.proofs.Common.{◌≡◌, ℕ, true, false, List, sym, ap, ◌∙◌}
+use Rattle.std.proofs.Common.{◌≡◌, ℕ, List, sym, ap, ◌∙◌}
 use Rattle.std.specs.Str.{bytes_eq}
 use Rattle.vax_link.proofs.RoomLaws.{left_false_and, none_writable, right_false_and, writable_here, writable_more}
 use Rattle.vax_link.proofs.areas.is_writable.Goals as goal

@@ -1,5 +1,5 @@
-use Rattle.std.proofs.Common.{◌≡◌, refl, sym, ap, ◌∙◌}
-use Rattle.vax_link.specs.Names.{chase, entries_from}
+use Rattle.std.proofs.Common.{refl, sym, ap, ◌∙◌}
+use Rattle.vax_link.specs.Names.{entries_from}
 use Rattle.vax_link.specs.Values.{chased_value, known_value, name_value}
 use Rattle.vax_link.proofs.FieldLaws.{sum_is}
 use Rattle.vax_link.proofs.fields.name_value.Goals as goal

@@ -1,4 +1,4 @@
-use Rattle.std.proofs.Common.{◌≡◌, ℕ, true, false, Some, List, sym, ap, subst, ◌∙◌}
+use Rattle.std.proofs.Common.{◌≡◌, false, List, sym, ap, subst, ◌∙◌}
 use Rattle.std.specs.Prelude.{Ok, Result}
 use Rattle.vax_space.specs.declared.Area.{Area}
 use Rattle.vax_image.specs.declared.Base.{Base}

@@ -1,19 +1,18 @@
 use Rattle.std.proofs.Common.{◌≡◌, ℕ, List, Some, None, true, false, sym, ap, subst, ◌∙◌}
-use Rattle.std.specs.Prelude.{Option, Result, MatchOption, Err, Ok}
+use Rattle.std.specs.Prelude.{Option, Result, MatchOption, Ok}
 use Rattle.std.specs.Borrow.{Bor}
 use Rattle.std.specs.List.{find}
 use Rattle.vax_module.specs.declared.Module.{Module}
 use Rattle.vax_image.specs.declared.Base.{Base}
 use Rattle.vax_image.specs.declared.Image.{Image}
 use Rattle.vax_link.specs.declared.LinkError.{LinkError}
-use Rattle.vax_link.specs.declared.LinkError.TheVariants.{Duplicate, Undefined}
 use Rattle.vax_link.specs.declared.names.Names.{Names}
 use Rattle.vax_link.specs.declared.placed.Layout.{Layout}
 use Rattle.vax_link.specs.Names.{Name, duplicate, entries_from, externals, is_undefined, undefined}
 use Rattle.vax_link.specs.Tables.{IsNamed, IsTable}
 use Rattle.vax_link.specs.Layout.{is_too_large, pieces_of, sections_in}
 use Rattle.vax_link.specs.Placed.{IsLayout, IsValues}
-use Rattle.vax_link.specs.Linked.{Gives, linked, placed}
+use Rattle.vax_link.specs.Linked.{Gives}
 use Rattle.vax_link.proofs.LinkLaws.{links_duplicate, links_pages, links_placed, links_undefined, undefined_is}
 use Rattle.vax_link.proofs.joining.link.Goals as goal
 

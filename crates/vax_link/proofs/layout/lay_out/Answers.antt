@@ -19,7 +19,7 @@ returns-in_default-2 c =
     let P : Option (Vec (Bor (List ℕ))) → Type 0 = λ o. MatchOption o (64 < length (names_of (sections_in c.deref.result.now))) (λ names. names_in names.items ≡ names_of (sections_in c.deref.result.now)) in
     let named : names_in c.in-Some.names.items ≡ names_of (sections_in c.deref.result.now) = subst P c.in-Some.is c.in_ok-names.ensures.named in
     let Q : Option (Vec ℕ) → Type 0 = λ o. MatchOption o (has_no_room c.args.base (sections_in c.deref-2.result.now) (names_in c.deref-3.result.now) ≡ true)
-        (λ pages. has_no_room c.args.base (sections_in c.deref-2.result.now) (names_in c.deref-3.result.now) ≡ false) in
+    (λ pages. has_no_room c.args.base (sections_in c.deref-2.result.now) (names_in c.deref-3.result.now) ≡ false) in
     let none : has_no_room c.args.base (sections_in c.deref-2.result.now) (names_in c.deref-3.result.now) ≡ true = subst Q c.in_default-2.is c.in_ok-pages.ensures.room in
     let pieces = ap sections_in c.deref.ensures.value ∙ c.in_ok-pieces.ensures.pieces in
     let room =
@@ -35,7 +35,7 @@ invariant_of-result c =
     let F : Option (Vec (Bor (List ℕ))) → Type 0 = λ o. IfSome o (λ names. length names.items ≤ 64) in
     let few : length c.in-Some.names.items ≤ 64 = subst F c.in-Some.is c.in_ok-names.ensures.few in
     let Q : Option (Vec ℕ) → Type 0 = λ o. MatchOption o (has_no_room c.args.base (sections_in c.deref-2.result.now) (names_in c.deref-3.result.now) ≡ true)
-        (λ pages. has_no_room c.args.base (sections_in c.deref-2.result.now) (names_in c.deref-3.result.now) ≡ false) in
+    (λ pages. has_no_room c.args.base (sections_in c.deref-2.result.now) (names_in c.deref-3.result.now) ≡ false) in
     let room : has_no_room c.args.base (sections_in c.deref-2.result.now) (names_in c.deref-3.result.now) ≡ false = subst Q c.in-Some-2.is c.in_ok-pages.ensures.room in
     let R : Option (Vec ℕ) → Type 0 = λ o. IfSome o (λ pages. pages.items ≡ pages_from c.args.base (sections_in c.deref-2.result.now) (origin c.args.base) (names_in c.deref-3.result.now)) in
     let begun : c.in-Some-2.pages.items ≡ pages_from c.args.base (sections_in c.deref-2.result.now) (origin c.args.base) (names_in c.deref-3.result.now) = subst R c.in-Some-2.is c.in_ok-pages.ensures.pages in

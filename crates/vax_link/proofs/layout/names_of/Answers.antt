@@ -1,9 +1,9 @@
-use Rattle.std.proofs.Common.{◌≡◌, ◌+◌, ◌≤◌, ◌++◌, ◌∷◌, [], ℕ, true, false, List, length, take, sym, ap, subst, ◌∙◌, arith, rules}
+use Rattle.std.proofs.Common.{◌≡◌, ◌++◌, ◌∷◌, [], ℕ, false, List, length, sym, ap, ◌∙◌, arith, rules}
 use Rattle.std.specs.Borrow.{Bor}
 use Rattle.std.specs.Global.{Vec}
 use Rattle.std.proofs.lemmas.List.{length-map, map_push}
 use Rattle.vax_link.specs.Names.{Name}
-use Rattle.vax_link.specs.Layout.{is_listed, names_in, names_of, sections_in}
+use Rattle.vax_link.specs.Layout.{is_listed, names_in}
 use Rattle.vax_link.proofs.RoomLaws.{few_push, name_known, name_new, names_too_many}
 use Rattle.vax_link.proofs.layout.names_of.Goals as goal
 use Rattle.vax_link.proofs.layout.names_of.Goals.{then-not-is_listed+else-len-eq-MOST_SECTIONS+in_ok-push, else-not-is_listed}

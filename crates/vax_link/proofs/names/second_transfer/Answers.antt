@@ -1,4 +1,4 @@
-use Rattle.std.proofs.Common.{◌≡◌, ◌+◌, List, true, false, length, take, sym, ap, ◌∙◌}
+use Rattle.std.proofs.Common.{◌+◌, List, length, take, sym, ap, ◌∙◌}
 use Rattle.std.proofs.lemmas.Bool.{false≢true}
 use Rattle.std.proofs.lemmas.List.{length_push}
 use Rattle.vax_module.specs.declared.Symbol.{Symbol}

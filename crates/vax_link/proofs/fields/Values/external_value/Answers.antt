@@ -1,5 +1,4 @@
-use Rattle.std.proofs.Common.{◌≡◌, ◌≤◌, ℕ, List, ap, ◌∙◌, subst, length}
-use Rattle.std.specs.Global.{Vec}
+use Rattle.std.proofs.Common.{ap, ◌∙◌}
 use Rattle.vax_link.specs.Placed.{bytes_in}
 use Rattle.vax_link.proofs.FieldLaws.{external_found, external_past, found_at, past_at, values_at}
 use Rattle.vax_link.proofs.fields.Values.external_value.Goals as goal

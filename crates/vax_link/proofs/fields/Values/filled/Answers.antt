@@ -1,4 +1,4 @@
-use Rattle.std.proofs.Common.{◌≡◌, ◌++◌, ℕ, List, map, ap, ◌∙◌}
+use Rattle.std.proofs.Common.{◌++◌, List, map, ap, ◌∙◌}
 use Rattle.vax_module.specs.declared.Reloc.{Reloc}
 use Rattle.vax_module.specs.declared.Section.{Section}
 use Rattle.vax_link.specs.Placed.{bytes_in}

@@ -1,7 +1,6 @@
-use Rattle.std.proofs.Common.{◌≡◌, ◌++◌, ◌∷◌, [], ◌+◌, ℕ, List, map, take, sym, ap, ◌∙◌}
+use Rattle.std.proofs.Common.{◌≡◌, ◌++◌, ◌∷◌, [], ℕ, List, map, take, sym, ap, ◌∙◌}
 use Rattle.std.proofs.lemmas.List.{map_push, take_all}
 use Rattle.vax_module.specs.declared.Module.{Module}
-use Rattle.vax_space.specs.declared.Bytes.{Bytes}
 use Rattle.vax_link.specs.Placed.{bytes_in}
 use Rattle.vax_link.specs.Values.{name_value}
 use Rattle.vax_link.proofs.NameLaws.{one_more}

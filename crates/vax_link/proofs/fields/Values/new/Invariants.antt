@@ -1,7 +1,7 @@
 use Rattle.std.proofs.Common.{◌≡◌, take}
 use Rattle.vax_image.specs.declared.Base.{Base}
 use Rattle.vax_link.specs.Names.{entries_from}
-use Rattle.vax_link.specs.Placed.{IsLayout, bytes_in, external_values}
+use Rattle.vax_link.specs.Placed.{IsLayout, bytes_in}
 use Rattle.vax_link.specs.Tables.{IsTable}
 use Rattle.std.proofs.Common.{map}
 use Rattle.vax_link.specs.Values.{name_value}

@@ -1,6 +1,6 @@
 use Rattle.std.proofs.Common.{◌≡◌, ◌+◌, ◌-◌, suc, length, Some, None, FitsSigned, w64, sym, ap, ◌∙◌, arith, rules}
 use Rattle.std.proofs.lemmas.Int.{to_z-of_z}
-use Rattle.vax_link.specs.Names.{Entries, definition_of, low_longword}
+use Rattle.vax_link.specs.Names.{definition_of, low_longword}
 use Rattle.vax_link.proofs.NameLaws.{stepped, chase_is, stepped_unknown, stepped_on, stepped_end, stepped_back}
 use Rattle.vax_link.proofs.names.Names.chase.Goals as goal
 

@@ -1,6 +1,6 @@
 use Rattle.std.proofs.Common.{◌≡◌, ◌++◌, take}
-use Rattle.std.specs.Prelude.{Option, None}
-use Rattle.vax_link.specs.Names.{Entries, Name, entries_of, repeated}
+use Rattle.std.specs.Prelude.{None}
+use Rattle.vax_link.specs.Names.{Entries, entries_of, repeated}
 use Rattle.vax_link.specs.Tables.{IsTable}
 use Rattle.vax_link.proofs.names.Names.define_all.Given as goal
 
