@@ -95,8 +95,6 @@ impl Machine {
         file: &mut F,
         sink: &mut K,
     ) -> RunEnd
-        requires steps { (engine self.old).steps ≤ limits.now.steps }
-        requires turns { (engine self.old).turns ≤ limits.now.turns }
         requires few_steps { limits.now.steps < 2 ^ 64 }
         requires few_turns { limits.now.turns < 2 ^ 64 - 2 }
         ensures ends { (place : Place) → Means (engine self.old) (F.contents file.old) place → PinsTouched (residence (engine self.old)) place → Ends limits.now (keeping (engine self.old)).areas schedule.now (begun (engine self.old) place) result (engine self.new) (F.contents file.new) (K.contents sink.old) (K.contents sink.new) }

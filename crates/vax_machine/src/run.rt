@@ -281,8 +281,6 @@ impl Engine {
         sink: &mut K,
     ) -> RunEnd
         requires sound { IsSound self.old }
-        requires steps { self.old.steps ≤ limits.now.steps }
-        requires turns { self.old.turns ≤ limits.now.turns }
         requires few_steps { limits.now.steps < 2 ^ 64 }
         requires few_turns { limits.now.turns < 2 ^ 64 - 2 }
         ensures sound { IsSound self.new }

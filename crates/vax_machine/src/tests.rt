@@ -39,6 +39,20 @@ const PROGRAM: &[u8] = &[
     0xD0, 0x8F, 0xEF, 0xCD, 0xAB, 0x89, 0x9F, 0, 4, 0, 0, 0xD0, 0x9F, 0, 4, 0, 0, 0x51, 0,
 ];
 
+/// Runs for at most 100 steps and 100 attempts.
+fn run_up(
+    machine: &mut Machine,
+    schedule: &Schedule,
+    file: &mut MemPages,
+    sink: &mut MemSink,
+) -> RunEnd {
+    let limits = Limits {
+        steps: 100,
+        turns: 100,
+    };
+    machine.run(&limits, schedule, file, sink)
+}
+
 /// Runs the program to its end, with so many attempts and so many evictions of pinned pages.
 fn run_program<R: Abort>(
     rt: &R,
@@ -50,21 +64,15 @@ fn run_program<R: Abort>(
     let mut machine = machine(alloc, PROGRAM)?;
     let mut file = MemPages::new(alloc, 8, 100, Vec::new(alloc))?;
     let mut sink = MemSink::new(alloc, [100; 3], 100, Vec::new(alloc))?;
-    let limits = Limits {
-        steps: 100,
-        turns: 100,
-    };
-    assert_eq!(rt; machine.steps(), 0);
-    assert_eq!(rt; machine.turns(), 0);
-    let end = machine.run(&limits, schedule, &mut file, &mut sink);
+    let end = run_up(&mut machine, schedule, &mut file, &mut sink);
     assert_eq!(rt; end, RunEnd::Ended(Ending::Halt));
-    assert_eq!(rt; machine.steps(), 3);
-    assert_eq!(rt; machine.turns(), turns);
-    assert_eq!(rt; machine.spoiled(), spoiled);
-    assert_eq!(rt; machine.core().regs[1], 0x89AB_CDEF);
-    assert_eq!(rt; machine.units(), 0);
-    assert_eq!(rt; machine.taken(), 0);
-    assert_eq!(rt; sink.bytes(Chan::Out), b"".as_slice());
+    assert_eq!(rt;
+        [machine.steps(), machine.turns(), machine.spoiled()],
+        [3, turns, spoiled]
+    );
+    assert_eq!(rt; machine.core().regs.get(1), Some(&0x89AB_CDEF));
+    assert_eq!(rt; [machine.units(), machine.taken()], [0, 0]);
+    assert!(rt; sink.bytes(Chan::Out).is_empty());
     Ok(())
 }
 

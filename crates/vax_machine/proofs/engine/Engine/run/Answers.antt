@@ -14,8 +14,6 @@ use Rattle.vax_machine.proofs.engine.Engine.run.Goals as goal
 pub loop-end-init : goal.loop-end-init
 loop-end-init g c = record {
   sound = c.requires.sound;
-  steps = c.requires.steps;
-  turns = c.requires.turns;
   areas = refl;
   at = λ place m pins. at_start c.args.limits.now _ c.args.schedule.now c.args.self.now _ place _ _ c.new-held.ensures m;
   quiet = refl;
@@ -107,8 +105,6 @@ loop-end-smaller-in-Ok-None g c =
 pub loop-end-preserved-in-Ok-None : goal.loop-end-preserved-in-Ok-None
 loop-end-preserved-in-Ok-None g c = record {
   sound = c.several_turns.ensures.sound;
-  steps = c.in-Ok-None.ensures.steps;
-  turns = c.in-Ok-None.ensures.turns;
   areas = c.in-Ok-None.ensures.areas ∙ c.loop-end.invariant.areas;
   at = λ place m pins.
       let r = c.loop-end.invariant.at place m pins in
@@ -132,8 +128,6 @@ loop-end-smaller g c =
 pub loop-end-preserved : goal.loop-end-preserved
 loop-end-preserved g c = record {
   sound = c.several_turns.ensures.sound;
-  steps = c.in-Ok-Some.ensures.steps;
-  turns = c.in-Ok-Some.ensures.turns;
   areas = c.in-Ok-Some.ensures.areas ∙ c.loop-end.invariant.areas;
   at = λ place m pins.
       let r = c.loop-end.invariant.at place m pins in

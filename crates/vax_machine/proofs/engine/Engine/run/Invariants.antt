@@ -1,4 +1,4 @@
-use Rattle.std.proofs.Common.{◌≡◌, ℕ, ◌-◌, ◌≤◌, List}
+use Rattle.std.proofs.Common.{◌≡◌, ℕ, ◌-◌, List}
 use Rattle.vax_outside.specs.Channels.{Grew, only}
 use Rattle.vax_outside.specs.declared.traits.Chan.TheVariants.{Out}
 use Rattle.vax_flat.specs.Parts.{Place}
@@ -12,8 +12,6 @@ use Rattle.vax_machine.proofs.engine.Engine.run.Given as goal
 abbrev pub invariant-loop-end : goal.invariant-loop-end
 invariant-loop-end g l = record {
   sound : IsSound l.self;
-  steps : l.self.steps ≤ l.limits.steps;
-  turns : l.self.turns ≤ l.limits.turns;
   areas : (pages l.self.pager).areas ≡ (pages l.fn.self.pager).areas;
   at : (place : Place) → Means l.fn.self (g.F.PageFile.contents l.fn.file) place → PinsTouched (residence l.fn.self) place → Reached l.limits (pages l.fn.self.pager).areas l.schedule (begun l.fn.self place) l.self (g.F.PageFile.contents l.file) (g.K.Sink.contents l.fn.sink) (g.K.Sink.contents l.sink) l.held.bytes.items;
   quiet : g.F.PageFile.faults l.file ≡ g.F.PageFile.faults l.fn.file;
