@@ -16,8 +16,8 @@ formed m sections relocs externals globals s r e g few aligned known begins with
     let G : List Symbol → Type 0 = λ xs. All (λ x. IsKnown (length sections) (length externals) x.value) xs in
     let G1 : List Section → Type 0 = λ xs. All (λ x. IsKnown (length xs) (length externals) x.value) m.globals in
     let G2 : List (List ℕ) → Type 0 = λ xs. All (λ x. IsKnown (length m.sections) (length xs) x.value) m.globals in
-    let T1 : List Section → Type 0 = λ xs. IfSome m.transfer (λ t. IsKnown (length xs) (length externals) t.value) in
-    let T2 : List (List ℕ) → Type 0 = λ xs. IfSome m.transfer (λ t. IsKnown (length m.sections) (length xs) t.value) in
+    let InNames : List Section → Type 0 = λ xs. IfSome m.transfer (λ t. IsKnown (length xs) (length externals) t.value) in
+    let InTexts : List (List ℕ) → Type 0 = λ xs. IfSome m.transfer (λ t. IsKnown (length m.sections) (length xs) t.value) in
     let R : List Reloc → Type 0 = λ xs. All (λ x. IsKnown (length sections) (length externals) x.target) xs in
     let R1 : List Section → Type 0 = λ xs. All (λ x. IsKnown (length xs) (length externals) x.target) m.relocs in
     let R2 : List (List ℕ) → Type 0 = λ xs. All (λ x. IsKnown (length m.sections) (length xs) x.target) m.relocs in
@@ -27,7 +27,7 @@ formed m sections relocs externals globals s r e g few aligned known begins with
     record {
       aligned = subst A s aligned;
       globals = subst G2 e (subst G1 s (subst G g known));
-      transfer = subst T2 e (subst T1 s begins);
+      transfer = subst InTexts e (subst InNames s begins);
       fields = subst F1 s (subst F r within);
       targets = subst R2 e (subst R1 s (subst R r targets));
       apart = λ i j d below inside. absurd (omega arith);
