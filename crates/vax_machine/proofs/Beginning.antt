@@ -1,18 +1,16 @@
 -- A new machine.
-use Rattle.std.proofs.Common.{ℕ, ◌≡◌, ◌<◌, ◌≤◌, List, [], length, refl, ap, sym, arith, Option, Some, None}
+use Rattle.std.proofs.Common.{ℕ, ◌≡◌, ◌≤◌, List, [], ap, arith, None}
 use Rattle.vax_word.specs.declared.Core.{Core}
 use Rattle.vax_space.specs.declared.Area.{Area}
-use Rattle.vax_outside.specs.Blocks.{BlockFile}
 use Rattle.vax_flat.specs.Parts.{At}
 use Rattle.vax_flat.specs.Step.{Flat}
 use Rattle.vax_cpu.specs.Attempt.{flat_of}
-use Rattle.vax_cpu.specs.declared.cpu.Cpu.{Cpu}
 use Rattle.vax_pager.specs.Calls as pager
 use Rattle.vax_pager.specs.Paging.{Paging}
 use Rattle.vax_undo.specs.declared.term.Term.{Term}
 use Rattle.vax_machine.specs.Machine.{AreSound}
 use Rattle.vax_machine.specs.Meaning.{starts_at}
-use Rattle.vax_machine.specs.Paged.{Paged, fresh}
+use Rattle.vax_machine.specs.Paged.{fresh}
 use Rattle.vax_machine.specs.Residence.{Residence, residence_of}
 
 module _ (s : Paging) (areas : List Area) (frames : ℕ) (is : s ≡ pager.fresh areas frames) where

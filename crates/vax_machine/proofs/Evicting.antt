@@ -1,19 +1,18 @@
 -- Several pages are made absent.
-use Rattle.std.proofs.Common.{ℕ, zero, suc, ◌≡◌, ◌+◌, ◌-◌, ◌^◌, ◌<◌, ◌≤◌, List, [], ◌∷◌, ◌++◌, length, length-append, append_assoc, take, drop, get_or, refl, ap, sym, ◌∙◌, subst, arith, Option, Some, None, Result, Ok, Err}
+use Rattle.std.proofs.Common.{ℕ, zero, suc, ◌≡◌, ◌+◌, ◌^◌, ◌<◌, ◌≤◌, List, [], ◌∷◌, ◌++◌, length, append_assoc, take, drop, get_or, refl, ap, sym, ◌∙◌, subst, arith, Option, Some, None}
 use Rattle.std.specs.List.{flat_map, range_with_len, slice_get}
 use Rattle.std.proofs.lemmas.List.{take_all}
 use Rattle.std.proofs.lemmas.Option.{get_or_from_slice_get, slice_get_within}
 use Rattle.vax_space.specs.declared.Area.{Area}
-use Rattle.vax_space.specs.Areas.{end_of, pages_of}
+use Rattle.vax_space.specs.Areas.{end_of}
 use Rattle.vax_space.specs.Faults.{IsSpace}
 use Rattle.vax_space.proofs.Extents.{area_end}
 use Rattle.vax_outside.specs.Blocks.{BlockFile}
 use Rattle.vax_outside.proofs.Growth.{flat_map-more, flat_map-split}
-use Rattle.vax_pager.specs.declared.calls.PageFault.{PageFault}
 use Rattle.vax_machine.proofs.Tracking.{evicted_append, evicted_last, evicted_none}
 use Rattle.vax_machine.specs.Paged.{Paged, all_evicted, evicted}
 use Rattle.vax_machine.specs.Run.{Tracks}
-use Rattle.vax_machine.specs.Turn.{EvictedAll, IsBegun}
+use Rattle.vax_machine.specs.Turn.{IsBegun}
 use Rattle.vax_machine.specs.declared.engine.Engine.{Engine}
 
 -- pages one behind another

@@ -11,7 +11,7 @@ use Rattle.vax_flat.specs.declared.Flow.TheVariants as flow
 use Rattle.vax_flat.specs.Accesses.{Leaf, Went, Found}
 use Rattle.vax_flat.specs.Outcome.{Outcome, Ends, Raised, first_missing, outcome_of}
 use Rattle.vax_flat.specs.Parts.{Place, gone_back, machine_at, outcome_at, touches_at, turn_from, units_done}
-use Rattle.vax_flat.specs.Step.{Flat, after_delivery, after_instruction, concluded, state_of, whole_delivery, with_byte_sent}
+use Rattle.vax_flat.specs.Step.{Flat, after_delivery, concluded, state_of, whole_delivery, with_byte_sent}
 use Rattle.vax_flat.proofs.Runs.{Extends}
 use Rattle.vax_sched.specs.Due.{due}
 use Rattle.vax_sched.specs.declared.rule.Rule.{Rule}

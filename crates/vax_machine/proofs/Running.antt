@@ -1,9 +1,8 @@
 -- Runs.
-use Rattle.std.proofs.Common.{ℕ, zero, suc, ◌≡◌, ◌+◌, ◌-◌, ◌^◌, ◌<◌, ◌≤◌, Bool, true, false, nat_le, List, [], ◌∷◌, ◌++◌, length, append_assoc, append-nil, refl, ap, sym, ◌∙◌, subst, arith, inl, inr, Option, Some, None, Result, Ok, Err, OnOk}
+use Rattle.std.proofs.Common.{ℕ, zero, suc, ◌≡◌, ◌+◌, ◌-◌, ◌<◌, ◌≤◌, true, false, nat_le, List, [], ◌∷◌, ◌++◌, append_assoc, append-nil, refl, ap, sym, ◌∙◌, subst, arith, inl, inr, Option, Some, None, Result, Ok, Err, OnOk}
 use Rattle.std.specs.Prelude.{◌⊎◌, ◌==◌, IsErr, if◌then◌else◌}
-use Rattle.std.specs.List.{flat_map}
 use Rattle.std.proofs.lemmas.Bool.Decides.{nat_tests}
-use Rattle.std.proofs.lemmas.Bool.{cases_eq, cases_lt, eq-eqb, ne_eqb}
+use Rattle.std.proofs.lemmas.Bool.{cases_eq, cases_lt, ne_eqb}
 use Rattle.vax_space.specs.declared.Area.{Area}
 use Rattle.vax_outside.specs.Blocks.{BlockFile}
 use Rattle.vax_outside.specs.Channels.{Channels, Grew, GrewByPrefix, nothing, only}
@@ -14,7 +13,6 @@ use Rattle.vax_flat.specs.Outcome.{first_missing}
 use Rattle.vax_flat.specs.Parts.{Place, machine_at, touches_at}
 use Rattle.vax_flat.specs.Step.{Flat, with_byte_sent}
 use Rattle.vax_pager.specs.Listing.{is_listed}
-use Rattle.vax_pager.specs.Meaning.{pages}
 use Rattle.vax_pager.specs.declared.calls.PageFault.{PageFault}
 use Rattle.vax_pager.proofs.Listing.{in_push}
 use Rattle.vax_sched.specs.Due.{due}
@@ -22,10 +20,10 @@ use Rattle.vax_sched.specs.declared.rule.Rule.{Rule}
 use Rattle.vax_sched.specs.declared.rule.Target.{Target}
 use Rattle.vax_machine.proofs.Halting.{lost_at, paged_more}
 use Rattle.vax_machine.proofs.Touching.{missed}
-use Rattle.vax_machine.proofs.Tracking.{OnlyEvicted, evicted_none, many_evicted, pins_evicted}
+use Rattle.vax_machine.proofs.Tracking.{evicted_none, many_evicted, pins_evicted}
 use Rattle.vax_machine.specs.Machine.{Means, residence}
-use Rattle.vax_machine.specs.Paged.{Paged, Why, ByEnding, BySteps, ByTurns, all_evicted, all_named, attempted, attempted_by, next_turn, paged, stops, unless_ended}
-use Rattle.vax_machine.specs.Residence.{Residence, is_resident, served, unpinned, victim, without_victim}
+use Rattle.vax_machine.specs.Paged.{Paged, ByEnding, BySteps, ByTurns, all_evicted, all_named, attempted, attempted_by, next_turn, paged, stops, unless_ended}
+use Rattle.vax_machine.specs.Residence.{Residence, is_resident, served, victim, without_victim}
 use Rattle.vax_machine.specs.Run.{Ends, IsCut, IsLost, IsWhole, Passes, Runs, Sends, Tracks, begun, why_of}
 use Rattle.vax_machine.specs.Touched.{PinsTouched, is_touched}
 use Rattle.vax_machine.specs.Turn.{AreCut, AreMade, AreWhole, AttemptsDone, Finishes, IsBegun, IsCutTurn, IsServed, IsStop, IsUnserved, Reached, TurnsMade, attempted_times}

@@ -1,6 +1,6 @@
 -- Several attempts of a machine, and the service of the page that the last one missed, are turns of the paged run.
-use Rattle.std.proofs.Common.{ℕ, zero, suc, ◌≡◌, ◌+◌, ◌-◌, ◌^◌, ◌<◌, ◌≤◌, Bool, true, false, ◌==◌, List, [], ◌∷◌, ◌++◌, length, refl, ap, sym, ◌∙◌, subst, arith, inl, inr, Option, Some, None, Result, Ok, Err, min}
-use Rattle.std.specs.Prelude.{◌⊎◌, is_some}
+use Rattle.std.proofs.Common.{ℕ, zero, suc, ◌≡◌, ◌+◌, ◌-◌, ◌^◌, ◌<◌, ◌≤◌, Bool, true, false, ◌==◌, List, length, refl, ap, sym, ◌∙◌, subst, arith, inl, inr, Option, Some, None}
+use Rattle.std.specs.Prelude.{is_some}
 use Rattle.std.proofs.lemmas.Bool.Decides.{nat_tests}
 use Rattle.vax_space.specs.declared.Area.{Area}
 use Rattle.vax_space.specs.Areas.{area_of}
@@ -11,16 +11,15 @@ use Rattle.vax_flat.specs.declared.Ending.{Ending}
 use Rattle.vax_flat.specs.declared.Flow.TheVariants as flow
 use Rattle.vax_flat.specs.Accesses.{Leaf, Went, Found}
 use Rattle.vax_flat.specs.Outcome.{Outcome, Ends, Raised, first_missing}
-use Rattle.vax_flat.specs.Parts.{Partway, Place, At, Within, Leaves, gone_back, machine_at, outcome_at, touches_at, turn, turn_from, units_after, units_done}
+use Rattle.vax_flat.specs.Parts.{Partway, Place, Leaves, gone_back, machine_at, outcome_at, touches_at, turn, turn_from, units_after, units_done}
 use Rattle.vax_flat.specs.Step.{Flat, ended, with_byte_sent}
 use Rattle.vax_pager.specs.Calls.{IsPaging}
-use Rattle.vax_pager.specs.Listing.{is_listed}
 use Rattle.vax_pager.specs.Meaning.{pages}
 use Rattle.vax_machine.proofs.Touching.{fewer_pins, page_small}
-use Rattle.vax_machine.proofs.Tracking.{IsAdvanced, IsSeveral, attempted_miss, attempted_part, attempted_whole, are_whole, dropped, dropped_more, dropped_order, resident_same, several_are, times_advanced}
+use Rattle.vax_machine.proofs.Tracking.{IsAdvanced, IsSeveral, attempted_miss, attempted_part, attempted_whole, are_whole, dropped, dropped_order, resident_same, several_are, times_advanced}
 use Rattle.vax_machine.specs.Batch.{Advances, HasTriedSeveral, several}
-use Rattle.vax_machine.specs.Machine.{Goes, HasEnded, HasParted, HasStepped, IsSound, IsTry, Keeping, KeepsPlace, Means, Serves, keeping, residence, tried}
-use Rattle.vax_machine.specs.Paged.{Paged, attempted}
+use Rattle.vax_machine.specs.Machine.{IsSound, IsTry, Keeping, KeepsPlace, Means, Serves, keeping, residence, tried}
+use Rattle.vax_machine.specs.Paged.{Paged}
 use Rattle.vax_machine.specs.Residence.{Residence, eased, is_resident, served, unpinned, victim}
 use Rattle.vax_machine.specs.Run.{Tracks}
 use Rattle.vax_machine.specs.Touched.{PinsTouched}

@@ -1,31 +1,25 @@
 -- The turns of a machine are those of the paged run.
-use Rattle.std.proofs.Common.{ℕ, zero, suc, ◌≡◌, ◌+◌, ◌-◌, ◌^◌, ◌<◌, ◌≤◌, Bool, true, false, ◌==◌, List, [], ◌∷◌, ◌++◌, length, refl, ap, sym, ◌∙◌, subst, arith, inl, inr, Option, Some, None, Result, Ok, Err, min, OnOk, OnErr, append_assoc}
-use Rattle.std.specs.Prelude.{◌⊎◌, IsErr, if◌then◌else◌, ◌||◌}
-use Rattle.std.proofs.lemmas.Bool.Decides.{nat_tests}
+use Rattle.std.proofs.Common.{ℕ, zero, suc, ◌≡◌, ◌+◌, ◌^◌, ◌<◌, ◌≤◌, Bool, true, false, ◌==◌, List, [], ◌∷◌, ◌++◌, refl, ap, sym, ◌∙◌, subst, arith, inl, inr, Option, Some, None, Result, Ok, Err, OnOk, OnErr}
+use Rattle.std.specs.Prelude.{IsErr, if◌then◌else◌}
 use Rattle.std.proofs.lemmas.Bool.{cases_Bool, cases_lt}
-use Rattle.vax_space.specs.declared.Area.{Area}
-use Rattle.vax_space.specs.Reference.{page_of}
 use Rattle.vax_outside.specs.Blocks.{BlockFile}
-use Rattle.vax_outside.specs.Faults.{raised}
-use Rattle.vax_flat.specs.declared.Ending.{Ending}
-use Rattle.vax_flat.specs.Outcome.{Range, first_missing, or_else}
-use Rattle.vax_flat.specs.Parts.{Partway, Place, At, Within, Turn, Completes, Leaves, gone_back, machine_at, touches_at, turn}
-use Rattle.vax_flat.specs.Port.{first_absent, is_in}
-use Rattle.vax_flat.specs.Step.{Flat, ended, with_byte_sent}
-use Rattle.vax_pager.specs.Listing.{is_listed, leave_out}
+use Rattle.vax_flat.specs.Outcome.{Range, first_missing}
+use Rattle.vax_flat.specs.Parts.{Partway, Place, At, Within, Completes, Leaves, machine_at, touches_at, turn}
+use Rattle.vax_flat.specs.Step.{Flat}
+use Rattle.vax_pager.specs.Listing.{is_listed}
 use Rattle.vax_pager.specs.Meaning.{pages}
 use Rattle.vax_pager.specs.declared.calls.PageFault.{PageFault}
 use Rattle.vax_pager.proofs.Listing.{in_without}
 use Rattle.vax_machine.specs.Batch.{Advances, several}
-use Rattle.vax_machine.specs.Machine.{Evicts, Goes, HasEnded, HasParted, HasStepped, IsTry, Keeping, KeepsPlace, Means, Serves, keeping, residence, tried}
-use Rattle.vax_machine.specs.Paged.{Paged, attempted, attempted_by, all_evicted, evicted, eviction_of, place_after, steps_after, unless_ended}
+use Rattle.vax_machine.specs.Machine.{Evicts, Keeping, KeepsPlace, keeping, residence}
+use Rattle.vax_machine.specs.Paged.{Paged, attempted, all_evicted, evicted, eviction_of}
 use Rattle.vax_machine.specs.Residence.{Residence, is_resident, served, taken_out, unpinned, victim}
 use Rattle.vax_machine.specs.Run.{Tracks}
-use Rattle.vax_machine.specs.Touched.{PinsTouched, is_touched}
-use Rattle.vax_machine.specs.Turn.{AreWhole, EvictedAll, IsBegun, IsServed, IsUnserved, Still, attempted_times}
+use Rattle.vax_machine.specs.Touched.{PinsTouched}
+use Rattle.vax_machine.specs.Turn.{AreWhole, EvictedAll, IsBegun, Still, attempted_times}
 use Rattle.vax_machine.specs.declared.engine.Engine.{Engine}
 use Rattle.vax_machine.specs.declared.event.Applied.{Applied}
-use Rattle.vax_machine.specs.declared.event.Applied.TheVariants.{Absent, Ended, Evicted, Failed, Flushed, Nothing, Parted, Served, Stepped}
+use Rattle.vax_machine.specs.declared.event.Applied.TheVariants.{Evicted, Failed}
 
 -- an eviction
 

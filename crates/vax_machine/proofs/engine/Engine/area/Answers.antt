@@ -1,4 +1,3 @@
-use Rattle.std.proofs.Common.{◌≡◌}
 use Rattle.vax_machine.proofs.Evicting.{area_fits}
 use Rattle.vax_machine.proofs.engine.Engine.area.Goals as goal
 

@@ -1,5 +1,4 @@
-use Rattle.std.proofs.Common.{◌≡◌, ◌≤◌, arith, refl}
-use Rattle.vax_machine.specs.declared.event.Applied.TheVariants.{Absent}
+use Rattle.std.proofs.Common.{arith, refl}
 use Rattle.vax_machine.proofs.Serving.{gone_served, gone_several, quiet, serve_done, serve_failed, stepped}
 use Rattle.vax_machine.proofs.engine.Engine.attempt_and_serve.Goals as goal
 

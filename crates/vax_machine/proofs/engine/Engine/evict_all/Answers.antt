@@ -1,11 +1,10 @@
-use Rattle.std.proofs.Common.{◌≡◌, ◌≤◌, ◌<◌, ◌+◌, refl, ap, arith, subst, sym, ◌∙◌, ℕ, List, [], Option, Some, length, get_or}
-use Rattle.std.specs.List.{flat_map, slice_get}
+use Rattle.std.proofs.Common.{◌<◌, refl, ap, arith, subst, sym, ◌∙◌, List, [], length, get_or}
+use Rattle.std.specs.List.{slice_get}
 use Rattle.std.proofs.lemmas.Option.{slice_get-get_or}
 use Rattle.vax_space.specs.declared.Area.{Area}
 use Rattle.vax_space.specs.Areas.{pages_of}
 use Rattle.vax_outside.proofs.Growth.{on_err}
 use Rattle.vax_pager.specs.Meaning.{pages}
-use Rattle.vax_machine.specs.Turn.{EvictedAll}
 use Rattle.vax_machine.proofs.Evicting.{all_lists, begun_list, next_list, none_yet}
 use Rattle.vax_machine.proofs.Tracking.{err_begun, still_itself, then_still}
 use Rattle.vax_machine.proofs.engine.Engine.evict_all.Goals as goal

@@ -1,4 +1,4 @@
-use Rattle.std.proofs.Common.{◌≡◌, ℕ, take}
+use Rattle.std.proofs.Common.{◌≡◌, take}
 use Rattle.std.specs.List.{flat_map}
 use Rattle.vax_space.specs.Areas.{pages_of}
 use Rattle.vax_pager.specs.Meaning.{pages}

@@ -1,4 +1,4 @@
-use Rattle.std.proofs.Common.{◌≡◌, ◌≤◌, ◌<◌, ◌+◌, ◌-◌, ◌^◌, refl, ap, arith, subst, sym, ◌∙◌, ℕ, List, Option, length, take, Some, None}
+use Rattle.std.proofs.Common.{◌+◌, refl, arith, subst, sym, ◌∙◌, List, take}
 use Rattle.std.proofs.lemmas.Option.{slice_get_within}
 use Rattle.vax_space.specs.declared.Area.{Area}
 use Rattle.vax_outside.proofs.Growth.{on_err}

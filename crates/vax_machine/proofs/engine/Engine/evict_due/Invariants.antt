@@ -1,4 +1,4 @@
-use Rattle.std.proofs.Common.{◌≡◌, ℕ, ◌≤◌, ◌-◌, ◌+◌, length, take}
+use Rattle.std.proofs.Common.{◌≡◌, ◌≤◌, ◌-◌, ◌+◌, length, take}
 use Rattle.vax_pager.specs.Meaning.{pages}
 use Rattle.vax_sched.specs.Due.{due}
 use Rattle.vax_machine.specs.Machine.{IsSound}

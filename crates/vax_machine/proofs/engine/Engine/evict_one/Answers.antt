@@ -1,4 +1,3 @@
-use Rattle.std.proofs.Common.{◌≡◌}
 use Rattle.vax_machine.proofs.Tracking.{evict_done, evict_failed, still_evict}
 use Rattle.vax_machine.proofs.engine.Engine.evict_one.Goals as goal
 

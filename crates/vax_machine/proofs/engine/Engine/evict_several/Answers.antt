@@ -1,4 +1,4 @@
-use Rattle.std.proofs.Common.{◌≡◌, ◌≤◌, ◌<◌, ◌+◌, refl, ap, arith, subst, sym, ◌∙◌, ℕ}
+use Rattle.std.proofs.Common.{◌≡◌, refl, arith, subst, ◌∙◌, ℕ}
 use Rattle.std.specs.List.{range_with_len}
 use Rattle.vax_outside.proofs.Growth.{on_err}
 use Rattle.vax_machine.specs.Paged.{all_evicted}

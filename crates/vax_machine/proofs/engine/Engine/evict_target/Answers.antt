@@ -1,4 +1,3 @@
-use Rattle.std.proofs.Common.{◌≡◌}
 use Rattle.vax_machine.proofs.Tracking.{done_as}
 use Rattle.vax_machine.proofs.engine.Engine.evict_target.Goals as goal
 

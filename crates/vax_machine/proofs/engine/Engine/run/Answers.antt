@@ -1,13 +1,12 @@
-use Rattle.std.proofs.Common.{◌≡◌, ◌≤◌, ◌<◌, ◌+◌, ◌-◌, ◌^◌, refl, ap, arith, subst, sym, ◌∙◌, ℕ, List, [], ◌∷◌, ◌++◌, Option, Some, None, Result, Ok, Err}
+use Rattle.std.proofs.Common.{◌≡◌, refl, ap, arith, subst, ◌∙◌, ℕ, List, [], ◌∷◌, ◌++◌, Option, Some, None, Result, Ok}
 use Rattle.vax_space.specs.declared.Area.{Area}
 use Rattle.vax_outside.proofs.Growth.{grew_nothing, out_grew, out_last}
 use Rattle.vax_pager.specs.Meaning.{pages}
 use Rattle.vax_pager.specs.declared.calls.PageFault.{PageFault}
 use Rattle.vax_sched.specs.Due.{due}
-use Rattle.vax_machine.specs.Paged.{Paged, paged}
+use Rattle.vax_machine.specs.Paged.{paged}
 use Rattle.vax_machine.specs.Run.{begun}
 use Rattle.vax_machine.specs.Turn.{AreCut, TurnsMade}
-use Rattle.vax_machine.specs.declared.event.RunEnd.TheVariants as run_end
 use Rattle.vax_machine.proofs.Running.{at_start, finishes_cut, finishes_whole, goes_quiet, goes_sent, lost_byte, one_of_both, out_finished, page_cause, pins_paged, stop_unlike, write_cause}
 use Rattle.vax_machine.proofs.engine.Engine.run.Goals as goal
 

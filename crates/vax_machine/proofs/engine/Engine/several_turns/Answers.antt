@@ -1,9 +1,6 @@
-use Rattle.std.proofs.Common.{◌≡◌, ◌≤◌, ◌<◌, ◌+◌, ◌∙◌, ◌^◌, ◌-◌, ℕ, List, sym, subst, ap, arith, Result, Ok, Err}
-use Rattle.vax_outside.proofs.Growth.{on_err}
-use Rattle.vax_space.specs.declared.Area.{Area}
+use Rattle.std.proofs.Common.{◌+◌, ◌∙◌, ℕ, sym, ap, arith}
 use Rattle.vax_pager.specs.Meaning.{pages}
 use Rattle.vax_sched.specs.Due.{due}
-use Rattle.vax_machine.specs.Turn.{AttemptsDone}
 use Rattle.vax_machine.proofs.Running.{by_none, cut_evictions, err_turns, on_ok, turns_made}
 use Rattle.vax_machine.proofs.Tracking.{pins_evicted}
 use Rattle.vax_machine.proofs.engine.Engine.several_turns.Goals as goal

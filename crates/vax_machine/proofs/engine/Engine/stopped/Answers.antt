@@ -1,4 +1,4 @@
-use Rattle.std.proofs.Common.{◌≡◌, ◌<◌, ◌≤◌, arith}
+use Rattle.std.proofs.Common.{arith}
 use Rattle.vax_machine.proofs.Running.{by_ending, by_none, by_steps, by_turns}
 use Rattle.vax_machine.proofs.engine.Engine.stopped.Goals as goal
 

@@ -1,4 +1,4 @@
-use Rattle.std.proofs.Common.{◌≡◌, ◌∷◌, []}
+use Rattle.std.proofs.Common.{◌∷◌, []}
 use Rattle.vax_outside.proofs.Growth.{on_err, out_first}
 use Rattle.vax_machine.proofs.held.Held.push.Goals as goal
 

@@ -1,5 +1,4 @@
 use Rattle.std.proofs.Common.{ap, refl}
-use Rattle.std.specs.Global.{Vec}
 use Rattle.vax_flat.specs.Start.{start_memory}
 use Rattle.vax_pager.specs.Meaning.{pages}
 use Rattle.vax_machine.specs.Meaning.{starts_at}
