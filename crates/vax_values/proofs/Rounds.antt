@@ -70,8 +70,8 @@ pub rounds_give : (sources : List Source) (values : List (Option Value)) → len
 unfolding value_of
 rounds_give sources values same closed backed i =
     same_value (known values i) (known_after (length sources) sources i)
-        (λ v e. rounds_kept (count values) (length sources) sources sources (omega (arith, count_within values, same)) (λ k. inr refl) i v (backed i v e))
-        (rounds_within (length sources) sources (known values) closed i)
+    (λ v e. rounds_kept (count values) (length sources) sources sources (omega (arith, count_within values, same)) (λ k. inr refl) i v (backed i v e))
+    (rounds_within (length sources) sources (known values) closed i)
 
 -- one more value is known
 

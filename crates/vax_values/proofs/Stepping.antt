@@ -1,7 +1,7 @@
 -- Values while definitions are still to be looked at.
 use Rattle.std.proofs.Common.{◌≡◌, ◌≢◌, ◌≤◌, ◌<◌, ℕ, zero, suc, ◌+◌, Bool, true, false, List, [], ◌∷◌, ◌++◌, length, Option, Some, None, refl, ap, sym, ◌∙◌, subst, arith, ⊎_elim, ◌⊎◌, inl, inr}
 use Rattle.std.proofs.lemmas.Bool.Decides.{eqb_tells}
-use Rattle.std.proofs.lemmas.List.{get_or-set_same, get_or-set_other, get_or-map}
+use Rattle.std.proofs.lemmas.List.{get_or-set_same, get_or-set_other, get_or-map, map-set}
 use Rattle.std.proofs.Math.ListN.{get_or-eq_default}
 use Rattle.std.specs.Prelude.{◌==◌, ◌||◌, All, map, is_some, slice_index_or, slice_set, if◌then◌else◌}
 use Rattle.std.specs.Global.{Vec}
@@ -106,10 +106,10 @@ source_unchanged f g i j waiting same ToCome misses w = refl
 source_unchanged f g i j waiting same (Given v) misses w = refl
 source_unchanged f g i j waiting same (Worked w) misses watch =
     let none : All (λ (m : Meaning). m.definition ≢ i) w.names =
-        λ k d h is.
-        let P : ℕ → Type 0 = λ n. listed j (waiters waiting n) ≡ true in
-        let yes : listed j (waiters waiting i) ≡ true = subst P is (watch k d h) in
-        absurd (true_no (sym yes ∙ misses)) in
+    λ k d h is.
+    let P : ℕ → Type 0 = λ n. listed j (waiters waiting n) ≡ true in
+    let yes : listed j (waiters waiting i) ≡ true = subst P is (watch k d h) in
+    absurd (true_no (sym yes ∙ misses)) in
     let functions : named g w.names ≡ named f w.names = λ p. λ name. names_unchanged f g i same w.names none name p in
     ap (λ (names : List ℕ → Option Value). result_ok (value_at names w.symbols)) functions
 
@@ -143,16 +143,16 @@ still_closed sources values waiting rest i v s within unknown gives j u e (inl w
 still_closed sources values waiting rest i v s within unknown gives j u e (inr misses) =
     let more = slice_set values i (Some v) in
     let before : value_under (known values) (source_at sources j) ≡ Some u =
-        sym (source_unchanged (known values) (known more) i j waiting (known_other values i v) (source_at sources j) misses (s.watched j)) ∙ e in
+    sym (source_unchanged (known values) (known more) i j waiting (known_other values i v) (source_at sources j) misses (s.watched j)) ∙ e in
     ⊎_elim
     (λ y. inl (more_known values i v unknown j u y))
     (λ l. ⊎_elim
-          (λ y. inr (listed_left j rest (waiters waiting i) y))
-          (λ is. let P : ℕ → Type 0 = λ k. value_under (known values) (source_at sources k) ≡ Some u in
-                 let Q : ℕ → Type 0 = λ k. known more k ≡ Some u in
-                 let same : u ≡ v = some_same (value_under (known values) (source_at sources i)) u v gives (subst P is before) in
-                 inl (subst Q (sym is) (known_itself values i v within ∙ ap Some (sym same))))
-          (listed_before j i rest l))
+    (λ y. inr (listed_left j rest (waiters waiting i) y))
+    (λ is. let P : ℕ → Type 0 = λ k. value_under (known values) (source_at sources k) ≡ Some u in
+    let Q : ℕ → Type 0 = λ k. known more k ≡ Some u in
+    let same : u ≡ v = some_same (value_under (known values) (source_at sources i)) u v gives (subst P is before) in
+    inl (subst Q (sym is) (known_itself values i v within ∙ ap Some (sym same))))
+    (listed_before j i rest l))
     (s.closed j u before)
 
 -- a definition has a value, and those that wait for it are to be looked at
@@ -167,8 +167,8 @@ resolved sources values waiting rest i v s within unknown gives =
       consistent = λ j u e.
           ⊎_elim
           (λ is. let P : ℕ → Type 0 = λ k. value_under (known more) (source_at sources k) ≡ Some v in
-                 let here : value_under (known more) (source_at sources j) ≡ Some v = subst P (sym is.0) (under_kept (known values) (known more) kept (source_at sources i) v gives) in
-                 here ∙ ap Some (sym is.1))
+          let here : value_under (known more) (source_at sources j) ≡ Some v = subst P (sym is.0) (under_kept (known values) (known more) kept (source_at sources i) v gives) in
+          here ∙ ap Some (sym is.1))
           (λ before. under_kept (known values) (known more) kept (source_at sources j) u (s.consistent j u before))
           (known_before values i v j u e);
       backed = λ j u e. rw (count_more values i v within unknown) (still_backed sources values i v s.backed gives j u (known_before values i v j u e));
@@ -203,22 +203,22 @@ pub watched_more : (sources : List Source) (ws vs : List (List ℕ)) (i : ℕ) (
 watched_more sources ws vs i new within watched grown here j =
     ⊎_elim
     (λ is. let P : ℕ → Type 0 = λ k. Watches vs k (source_at (slice_set sources i new) k) in
-           let Q : Source → Type 0 = λ s. Watches vs i s in
-           subst P (sym is) (subst Q (sym (get_or-set_same sources i new ToCome within)) here))
+    let Q : Source → Type 0 = λ s. Watches vs i s in
+    subst P (sym is) (subst Q (sym (get_or-set_same sources i new ToCome within)) here))
     (λ n. let Q : Source → Type 0 = λ s. Watches vs j s in
-          subst Q (sym (get_or-set_other sources i j new ToCome n)) (watches_grown ws vs j (source_at sources j) grown (watched j)))
+    subst Q (sym (get_or-set_other sources i j new ToCome n)) (watches_grown ws vs j (source_at sources j) grown (watched j)))
     (same_or_apart j i)
 
 pub one_waits : (ws : List (List ℕ)) (s i : ℕ) → s < length ws → Grown ws (slice_set ws s (waiters ws s ++ i ∷ [])) × (listed i (waiters (slice_set ws s (waiters ws s ++ i ∷ [])) s) ≡ true)
 one_waits ws s i h = (
-    λ k j l.
-    ⊎_elim
-    (λ is. let P : ℕ → Type 0 = λ n. listed j (waiters ws n) ≡ true in
-           let Q : ℕ → Type 0 = λ n. listed j (waiters (slice_set ws s (waiters ws s ++ i ∷ [])) n) ≡ true in
-           subst Q (sym is) (ap (listed j) (get_or-set_same ws s (waiters ws s ++ i ∷ []) [] h) ∙ listed_left j (waiters ws s) (i ∷ []) (subst P is l)))
-    (λ n. ap (listed j) (get_or-set_other ws s k (waiters ws s ++ i ∷ []) [] n) ∙ l)
-    (same_or_apart k s),
-    ap (listed i) (get_or-set_same ws s (waiters ws s ++ i ∷ []) [] h) ∙ listed_right i (waiters ws s) (i ∷ []) (listed_itself i),
+  λ k j l.
+      ⊎_elim
+      (λ is. let P : ℕ → Type 0 = λ n. listed j (waiters ws n) ≡ true in
+      let Q : ℕ → Type 0 = λ n. listed j (waiters (slice_set ws s (waiters ws s ++ i ∷ [])) n) ≡ true in
+      subst Q (sym is) (ap (listed j) (get_or-set_same ws s (waiters ws s ++ i ∷ []) [] h) ∙ listed_left j (waiters ws s) (i ∷ []) (subst P is l)))
+      (λ n. ap (listed j) (get_or-set_other ws s k (waiters ws s ++ i ∷ []) [] n) ∙ l)
+      (same_or_apart k s),
+  ap (listed i) (get_or-set_same ws s (waiters ws s ++ i ∷ []) [] h) ∙ listed_right i (waiters ws s) (i ∷ []) (listed_itself i),
 )
 
 -- a definition that is known already, or that isn't there, gives nothing new
@@ -287,3 +287,8 @@ unknown_at values i (Some v) e n = absurd cc
 
 pub waits_at : (ws : List (Vec ℕ)) (i : ℕ) (v : Vec ℕ) → i < length ws → v ≡ slice_index_or ws i v → waiters (map (λ w. w.items) ws) i ≡ v.items
 waits_at ws i v h e = get_or-map (λ (w : Vec ℕ). w.items) ws i v [] h ∙ ap (λ (w : Vec ℕ). w.items) (sym e)
+
+pub wait_added : (ws : List (Vec ℕ)) (i : ℕ) (v w : Vec ℕ) (n : ℕ) → i < length ws → v ≡ slice_index_or ws i v → w.items ≡ v.items ++ n ∷ []
+    → map (λ x. x.items) (slice_set ws i w) ≡ slice_set (map (λ x. x.items) ws) i (waiters (map (λ x. x.items) ws) i ++ n ∷ [])
+wait_added ws i v w n h e more =
+    map-set (λ (x : Vec ℕ). x.items) ws i w ∙ ap (slice_set (map (λ (x : Vec ℕ). x.items) ws) i) (more ∙ ap (λ (l : List ℕ). l ++ n ∷ []) (sym (waits_at ws i v h e)))

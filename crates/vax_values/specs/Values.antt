@@ -1,6 +1,6 @@
 -- What definitions are worth while they are read (VAX MACRO and Instruction Set Reference Manual, "Direct assignment
 -- statement" and "Terms and expressions").
-use Rattle.std.specs.Prelude.{ℕ, zero, suc, ◌-◌, if◌then◌else◌, List, [], ◌∷◌, length, slice_index_or, Option, Some, None, Result}
+use Rattle.std.specs.Prelude.{ℕ, ◌<◌, All, zero, suc, Bool, true, false, ◌&&◌, nat_lt, if◌then◌else◌, List, [], ◌∷◌, length, slice_index_or, slice_set, Option, Some, None, Result}
 use Rattle.std.specs.Result.{result_ok}
 use Rattle.std.specs.Str.{bytes_eq}
 use Rattle.vax_lex.specs.Grammar.{Symbol}
@@ -52,3 +52,23 @@ known_after (suc n) sources i = value_under (known_after n sources) (source_at s
 -- definition that rests on itself never has one.
 unfoldable pub value_of : List Source → ℕ → Option Value
 value_of sources i = known_after (length sources) sources i
+
+-- the names in its expression mean definitions of so many
+abbrev pub Means : ℕ → Source → Type 0
+Means definitions ToCome = Unit {0}
+Means definitions (Given v) = Unit {0}
+Means definitions (Worked w) = All (λ m. m.definition < definitions) w.names
+
+abbrev pub expression_in : Source → Option Written
+expression_in ToCome = None
+expression_in (Given v) = None
+expression_in (Worked w) = Some w
+
+abbrev pub is_to_come : Source → Bool
+is_to_come ToCome = true
+is_to_come (Given v) = false
+is_to_come (Worked w) = false
+
+-- A definition that was to come is there. One that is there already stays.
+abbrev pub with_source : ℕ → Source → List Source → List Source
+with_source i s sources = if nat_lt i (length sources) && is_to_come (source_at sources i) then slice_set sources i s else sources

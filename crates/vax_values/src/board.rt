@@ -1,10 +1,11 @@
 // How values come to be known.
 
-ghost use Rattle.std.specs.Prelude.{◌≡◌, ◌<◌, ◌≤◌, ◌+◌, ◌++◌, ◌∷◌, [], All, IfOk, OnOk, length, map, true, slice_set};
+ghost use Rattle.std.specs.Prelude.{◌≡◌, ◌<◌, ◌≤◌, ◌+◌, ◌++◌, ◌∷◌, [], All, IfOk, OnOk, length, map, true, slice_set, option_map, nat_lt, ◌&&◌};
 ghost use Rattle.std.specs.Str.{bytes_eq};
 ghost use Rattle.vax_values.specs.Values.{named, worth, source_at, value_under, ToCome as to_come};
 ghost use Rattle.vax_values.specs.View.{meaning_of, written_of, source_of, sources_in, lists_in};
 ghost use Rattle.vax_values.specs.Waiting.{known, listed, waiters, Watches, Settled, Standing, Grown, weight};
+ghost use Rattle.vax_values.specs.Values.{Means, expression_in, is_to_come};
 
 use crate::types::{Board, Expression, Meaning, Source};
 use std::alloc::Global;
@@ -49,10 +50,61 @@ impl Names for Looked<'_> {
     }
 }
 
+fn add_last<T: Drop>(list: &mut Vec<T>, item: T) -> Result<(), NoMemory>
+    ensures { OnOk result (list.new.items ≡ list.old.items ++ item ∷ []) }
+{
+    list.push(item).map_err(|_| NoMemory)?;
+    Ok(())
+}
+
 fn add_all(work: &mut Vec<usize>, more: &[usize]) -> Result<(), NoMemory>
     ensures { OnOk result (work.new.items ≡ work.old.items ++ more.now) }
 {
     work.extend_from_slice(more).map_err(|_| NoMemory)
+}
+
+/// One more definition waits for another.
+fn add_waiting(waiting: &mut Vec<Vec<usize>>, other: usize, number: usize) -> Result<(), NoMemory>
+    requires { other < length waiting.old.items }
+    ensures grown { OnOk result (Grown (lists_in waiting.old) (lists_in waiting.new)) }
+    ensures listed { OnOk result (listed number (waiters (lists_in waiting.new) other) ≡ true) }
+    ensures length { length waiting.new.items ≡ length waiting.old.items }
+{
+    add_last(&mut waiting[other], number)?;
+    Ok(())
+}
+
+/// A definition waits for each that these names mean.
+fn wait_for_all(
+    waiting: &mut Vec<Vec<usize>>,
+    names: &[Meaning],
+    number: usize,
+) -> Result<(), NoMemory>
+    requires { All (λ m. m.definition < length waiting.old.items) names.now }
+    ensures grown { OnOk result (Grown (lists_in waiting.old) (lists_in waiting.new)) }
+    ensures listed { OnOk result (All (λ m. listed number (waiters (lists_in waiting.new) m.definition) ≡ true) names.now) }
+    ensures length { length waiting.new.items ≡ length waiting.old.items }
+{
+    for meaning in names {
+        add_waiting(waiting, meaning.definition, number)?;
+    }
+    Ok(())
+}
+
+/// A definition waits for those in its expression.
+fn wait(waiting: &mut Vec<Vec<usize>>, source: &Source, number: usize) -> Result<(), NoMemory>
+    requires { Means (length waiting.old.items) (source_of source.now) }
+    ensures grown { OnOk result (Grown (lists_in waiting.old) (lists_in waiting.new)) }
+    ensures watches { OnOk result (Watches (lists_in waiting.new) number (source_of source.now)) }
+    ensures length { length waiting.new.items ≡ length waiting.old.items }
+{
+    match source {
+        Source::ToCome | Source::Given(_) => Ok(()),
+        Source::Worked(expression) => {
+            wait_for_all(waiting, &expression.names, number)?;
+            Ok(())
+        }
+    }
 }
 
 impl Board {
@@ -65,6 +117,30 @@ impl Board {
             sources: Vec::new(alloc),
             values: Vec::new(alloc),
             waiting: Vec::new(alloc),
+        }
+    }
+
+    pub(crate) fn value(&self, number: usize) -> Option<Value>
+        ensures { result ≡ known self.now.values.items number }
+    {
+        value_at(&self.values, number)
+    }
+
+    pub(crate) fn is_to_come(&self, number: usize) -> bool
+        ensures { result ≡ (nat_lt number (length (sources_in self.now.sources)) && is_to_come (source_at (sources_in self.now.sources) number)) }
+    {
+        match self.sources.get(number) {
+            Some(Source::ToCome) => true,
+            _ => false,
+        }
+    }
+
+    pub(crate) fn expression(&self, number: usize) -> Option<&Expression>
+        ensures { option_map (λ e. written_of e.now) result ≡ expression_in (source_at (sources_in self.now.sources) number) }
+    {
+        match self.sources.get(number) {
+            Some(Source::Worked(expression)) => Some(expression),
+            _ => None,
         }
     }
 
@@ -134,6 +210,46 @@ impl Board {
         'work: while let Some(number) = work.pop() {
             self.look(number, &mut work)?;
         }
+        Ok(())
+    }
+
+    /// A definition that was to come is there.
+    pub(crate) fn define(
+        &mut self,
+        alloc: Global,
+        number: usize,
+        source: Source,
+    ) -> Result<(), NoMemory>
+        requires settled { Settled (sources_in self.old.sources) self.old.values.items (lists_in self.old.waiting) }
+        requires values { length self.old.values.items ≡ length self.old.sources.items }
+        requires waiting { length self.old.waiting.items ≡ length self.old.sources.items }
+        requires within { number < length self.old.sources.items }
+        requires first { source_at (sources_in self.old.sources) number ≡ to_come }
+        requires means { Means (length self.old.sources.items) (source_of source) }
+        ensures settled { OnOk result (Settled (sources_in self.new.sources) self.new.values.items (lists_in self.new.waiting)) }
+        ensures sources { OnOk result (sources_in self.new.sources ≡ slice_set (sources_in self.old.sources) number (source_of source)) }
+        ensures values { OnOk result (length self.new.values.items ≡ length self.new.sources.items) }
+        ensures waiting { OnOk result (length self.new.waiting.items ≡ length self.new.sources.items) }
+    {
+        wait(&mut self.waiting, &source, number)?;
+        self.sources[number] = source;
+        self.settle(alloc, number)?;
+        Ok(())
+    }
+
+    /// One more definition, which is to come.
+    pub(crate) fn open(&mut self, alloc: Global) -> Result<(), NoMemory>
+        requires settled { Settled (sources_in self.old.sources) self.old.values.items (lists_in self.old.waiting) }
+        requires values { length self.old.values.items ≡ length self.old.sources.items }
+        requires waiting { length self.old.waiting.items ≡ length self.old.sources.items }
+        ensures settled { OnOk result (Settled (sources_in self.new.sources) self.new.values.items (lists_in self.new.waiting)) }
+        ensures sources { OnOk result (sources_in self.new.sources ≡ sources_in self.old.sources ++ to_come ∷ []) }
+        ensures values { OnOk result (length self.new.values.items ≡ length self.new.sources.items) }
+        ensures waiting { OnOk result (length self.new.waiting.items ≡ length self.new.sources.items) }
+    {
+        add_last(&mut self.sources, Source::ToCome)?;
+        add_last(&mut self.values, None)?;
+        add_last(&mut self.waiting, Vec::new(alloc))?;
         Ok(())
     }
 }
