@@ -1,11 +1,12 @@
 // Definitions that rest on later ones, and on themselves.
-ghost use Rattle.std.specs.Prelude.{◌≡◌, ◌≤◌, ◌<◌, IfOk, length};
+ghost use Rattle.std.specs.Prelude.{◌≡◌, ◌≤◌, ◌<◌, ◌+◌, IfOk, length};
 ghost use Rattle.vax_values.specs.Definitions.{sources_of};
 ghost use Rattle.vax_values.specs.Values.{Means, Worked};
 ghost use Rattle.vax_values.specs.View.{written_of};
 
 use super::*;
 use std::alloc::Global;
+use std::rc::Rc;
 use std::test::Fail;
 use vax_lex::{ExprError, Value, scan};
 
@@ -24,7 +25,7 @@ fn expression(
         name: name.to_vec(alloc)?,
         definition,
     };
-    let text = text.to_vec(alloc)?;
+    let text = Rc::new(alloc, text.to_vec(alloc)?)?;
     Ok(Expression::new(text, tokens, vec![in alloc; meaning]?))
 }
 

@@ -5,6 +5,7 @@ ghost use Rattle.vax_lex.specs.Grammar.{symbols_of};
 ghost use Rattle.vax_lex.specs.Tokens.{IsTokenOf};
 ghost use Rattle.vax_values.specs.TokenProps.{tokens_prop};
 
+use std::rc::Rc;
 use vax_lex::{Token, Value};
 
 /// What a name means in an expression: the definition with this number.
@@ -15,22 +16,23 @@ pub struct Meaning {
     pub definition: usize,
 }
 
-/// An expression: the tokens of a text, and what the names in it mean. A name that isn't among them means nothing.
+/// An expression: tokens of a text, which other expressions share, and what the names in it mean. A name that isn't
+/// among them means nothing.
 #[derive(Debug, Drop)]
 pub struct Expression {
-    pub(crate) text: Vec<u8>,
+    pub(crate) text: Rc<Vec<u8>>,
     pub(crate) tokens: Vec<Token>,
     pub(crate) names: Vec<Meaning>,
-    ghost own: { All (IsTokenOf text.items) tokens.items } by { tokens_prop text.items tokens.items },
+    ghost own: { All (IsTokenOf text.value.items) tokens.items } by { tokens_prop text.value.items tokens.items },
 }
 
 impl Expression {
     ghost use Rattle.vax_values.specs.View.{meaning_of, written_of};
 
     /// These tokens of a text, with what the names in them mean.
-    pub fn new(text: Vec<u8>, tokens: Vec<Token>, names: Vec<Meaning>) -> Expression
-        requires { All (IsTokenOf text.items) tokens.items }
-        ensures { written_of result ≡ record { symbols = symbols_of text.items tokens.items; names = map meaning_of names.items } }
+    pub fn new(text: Rc<Vec<u8>>, tokens: Vec<Token>, names: Vec<Meaning>) -> Expression
+        requires { All (IsTokenOf text.value.items) tokens.items }
+        ensures { written_of result ≡ record { symbols = symbols_of text.value.items tokens.items; names = map meaning_of names.items } }
     {
         Expression {
             text,
