@@ -1,0 +1,4 @@
+pub mod Keeping
+pub mod Rounds
+pub mod Seen
+pub mod Stepping

@@ -1,0 +1,6 @@
+pub mod Definitions
+pub mod SettledProps
+pub mod TokenProps
+pub mod Values
+pub mod View
+pub mod Waiting

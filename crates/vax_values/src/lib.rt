@@ -1,0 +1,16 @@
+//! The values of definitions while a source is assembled (VAX MACRO and Instruction Set Reference Manual, "Direct
+//! assignment statement").
+//!
+//! A definition is to come, has a value, or is an expression whose names mean other definitions. [`Definitions`] keeps
+//! what each is worth by the others so far: an expression has its value as soon as all that it rests on has one, in
+//! whichever order the definitions come. One that rests on itself never has a value.
+#![tactic(auto)]
+
+mod board;
+mod definitions;
+#[cfg(test)]
+mod tests;
+mod types;
+
+pub use definitions::Definitions;
+pub use types::{Expression, Meaning};
