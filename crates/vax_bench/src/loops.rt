@@ -74,11 +74,10 @@ pub(crate) fn data_of(name: &str) -> u32 {
     }
 }
 
-/// The interval clock's control at the start: in `ticks` it counts, and in `interrupts` it interrupts too.
+/// The interval clock's control at the start: in `ticks` and `interrupts` it counts, and asks for an interrupt every 1000 steps.
 pub(crate) fn clock_of(name: &str) -> u8 {
     match name {
-        "ticks" => 0x01,
-        "interrupts" => 0x41,
+        "ticks" | "interrupts" => 0x40,
         _ => 0,
     }
 }
