@@ -32,6 +32,7 @@ pub fn run<P: Port, K: Sink>(
     requires closed { cpu.old.latch ≡ None }
     requires unsent { cpu.old.term.out ≡ None }
     requires resident { AllResident (P.view port.old).resident (P.view port.old).areas }
+    requires meant { (memory : List Area) × StandsFor (P.view port.old) memory }
     ensures ok { (memory : List Area) → StandsFor (P.view port.old) memory → IfOk result (λ stopped. IsRun limit (flat_of cpu.old memory []) cpu.new (P.view port.new) (K.contents sink.old) (K.contents sink.new) stopped) }
     ensures err { (memory : List Area) → StandsFor (P.view port.old) memory → OnErr result (IsCutShort limit (flat_of cpu.old memory []) (K.contents sink.old) (K.contents sink.new)) }
     ensures later { K.faults sink.old ≤ K.faults sink.new }
@@ -41,28 +42,27 @@ pub fn run<P: Port, K: Sink>(
     let mut steps = 0;
     while steps < limit {
         let batch = cpu.attempts(port, limit - steps);
-        steps += batch.steps + 1;
+        steps += batch.steps;
         match batch.last {
-            Attempt::Step(sent) => match sent {
-                None => {}
-                Some(byte) => put_all(sink, Chan::Out, &[byte])?,
-            },
+            Attempt::Step(sent) => {
+                steps += 1;
+                match sent {
+                    None => {}
+                    Some(byte) => put_all(sink, Chan::Out, &[byte])?,
+                }
+            }
+            // The step goes on with its next part.
+            Attempt::Part => {}
             Attempt::Ended(ending) => {
                 return Ok(Stopped {
                     ending: Some(ending),
-                    steps,
+                    steps: steps + 1,
                 });
             }
-            // Neither comes where every page is resident and no string instruction is open.
+            // No page is absent.
             Attempt::Absent(_) => {
                 return Ok(Stopped {
-                    ending: Some(Ending::Unbuilt),
-                    steps,
-                });
-            }
-            Attempt::Part => {
-                return Ok(Stopped {
-                    ending: Some(Ending::Unbuilt),
+                    ending: None,
                     steps,
                 });
             }

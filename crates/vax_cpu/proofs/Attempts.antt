@@ -19,10 +19,11 @@ use Rattle.vax_flat.proofs.Quiet.{quiet_whole}
 use Rattle.vax_undo.specs.FirstPart.{NothingOpen, first_part_done}
 use Rattle.vax_undo.specs.declared.txn.CutShort.{CutShort}
 use Rattle.vax_undo.specs.declared.txn.Txn.{Txn as Transaction}
-use Rattle.vax_undo.specs.Transaction.{bare, undone, IsReady, Keeps, KeepsUnlessDone}
+use Rattle.vax_undo.specs.Transaction.{bare, undone, IsReady, IsSame, Keeps, KeepsUnlessDone}
 use Rattle.vax_cpu.specs.declared.attempt.Tried.{Tried}
 use Rattle.vax_cpu.specs.declared.attempt.Tried.TheVariants as tried
-use Rattle.vax_cpu.specs.Tried.{ClosesIfDone, IsFinal, IsTried, KeepsClosed, KeepsClosedLater, KeepsTime, LeadsBack, UnlessDone, is_done, marked_as, start_by}
+use Rattle.vax_x_str.specs.Ends.{ClosesIfDone}
+use Rattle.vax_cpu.specs.Tried.{IsFinal, IsTried, KeepsClosed, KeepsClosedLater, KeepsTime, LeadsBack, UnlessDone, is_done, marked_as, start_by}
 use Rattle.vax_cpu.specs.Attempt.{open_after}
 use Rattle.vax_cpu.specs.declared.cpu.Open.{Open}
 use Rattle.vax_cpu.specs.Batch.{Ran}
@@ -212,3 +213,13 @@ sent_step now mid next new byte follows same state view sent =
 
 pub ran_more : (count : ℕ) (old now next : Present) → Ran count old now → IsTried part_step now (tried.Step None) next → next.state.input ≡ now.state.input → Ran (count + 1) old next
 ran_more count old now next ran one input = rw add-one (now, ran, one, input)
+
+-- however an instruction ended, its transaction is over the same
+module _ {P : Type 0} (view : P → View) (along : P → P → Type 0) where
+  pub same_of : (n : ℕ) (r : Result Flow CutShort) (a b : Transaction P) → KeepsUnlessDone view along n r a b → IsSame along a b
+  same_of n (Ok flow.Done) a b k = k.same
+  same_of n (Ok flow.Clocked) a b k = k.same
+  same_of n (Ok (flow.Trap trap)) a b k = k.same
+  same_of n (Ok (flow.More opcode units)) a b k = k.same
+  same_of n (Ok (flow.Ended e)) a b k = k.same
+  same_of n (Err short) a b k = k.same

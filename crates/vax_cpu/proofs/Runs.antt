@@ -12,7 +12,7 @@ use Rattle.vax_flat.specs.Accesses.{Accesses, Leaf, Went}
 use Rattle.vax_flat.specs.Outcome.{first_missing, marked_by}
 use Rattle.vax_flat.specs.OverPort.{Present}
 use Rattle.vax_flat.specs.Step.{Flat, step, run, state_of, concluded, with_byte_sent}
-use Rattle.vax_flat.specs.Parts.{Place, At, machine_at, outcome_at, part_step, start_of, touches_at, tree_at}
+use Rattle.vax_flat.specs.Parts.{Place, At, Completes, machine_at, outcome_at, part_step, start_of, touches_at, tree_at, turn}
 use Rattle.vax_flat.proofs.Parts.{turns_agree}
 use Rattle.vax_cpu.specs.declared.attempt.Tried.{Tried}
 use Rattle.vax_cpu.specs.declared.attempt.Tried.TheVariants as tried
@@ -45,6 +45,7 @@ pub record Reaches (view : View) (m : Flat) (count : ℕ) (p : Present) : Type 0
   pub here : Flat
   pub steps : run count m ≡ here
   pub resident : (k : ℕ) → k < count → first_missing view.resident (touches_at (At (run k m))) ≡ None
+  pub at_once : (k : ℕ) → k < count → turn (At (run k m)) ≡ Completes (step (run k m))
   pub silent : here.output ≡ m.output
   pub input : here.input ≡ m.input
   pub absent : (addr : ℕ) → view.resident (page_of addr) ≡ false → byte_at here.memory addr ≡ byte_at m.memory addr
@@ -76,6 +77,13 @@ reaches_more view m count mid next r t input =
             ap (λ n. first_missing view.resident (touches_at (At (run n m)))) last
             ∙ (ap (λ x. first_missing view.resident (touches_at (At x))) r.steps ∙ (ap (λ f. first_missing f (touches_at (At here))) (sym r.is.resident) ∙ one.first))
       ];
+      at_once = λ k below. elim (cases_lt k count) [
+        | inl earlier ↦ r.at_once k earlier
+        | inr late ↦
+            let last : k ≡ count = omega arith in
+            let now : turn (At here) ≡ Completes (step here) = one.turn ∙ ap (λ x. Completes x) (sym (turns_agree here (At here) (concluded here (Went flow.Done from_here.0) one.memory) r.is.running refl one.turn)) in
+            subst (λ (n : ℕ). turn (At (run n m)) ≡ Completes (step (run n m))) (sym last) (subst (λ (x : Flat). turn (At x) ≡ Completes (step x)) (sym r.steps) now)
+      ];
       silent = sent_nothing here.output from_here.0.sent from_here.3 ∙ r.silent;
       input = r.input;
       absent = λ addr gone. one.leaves.absent addr (ap (λ (f : ℕ → Bool). f (page_of addr)) r.is.resident ∙ gone) ∙ r.absent addr gone;
@@ -98,6 +106,7 @@ reaches view m zero old new w marked ran = record {
   here = m;
   steps = refl;
   resident = λ k below. absurd (omega arith);
+  at_once = λ k below. absurd (omega arith);
   silent = refl;
   input = refl;
   absent = λ addr gone. refl;
@@ -166,7 +175,7 @@ module _ (view : View) (m : Flat) (count : ℕ) (mid : Present) (r : Reaches vie
   before = with_marks view (marks_after view.resident view.marked count m)
 
   all : (answer : Attempt) → Attempted before (At r.here) answer cpu after → StaysAt r.here answer cpu after → after.resident ≡ view.resident → after.areas ≡ view.areas → AreAttempts view m count answer cpu after
-  all answer attempted stays_at pages areas = record { here = r.here; steps = r.steps; running = r.is.running; resident = r.resident; silent = r.silent; absent = r.absent; attempted = attempted; stays = stays_at; pages = pages; areas = areas }
+  all answer attempted stays_at pages areas = record { here = r.here; steps = r.steps; running = r.is.running; resident = r.resident; at_once = r.at_once; silent = r.silent; absent = r.absent; attempted = attempted; stays = stays_at; pages = pages; areas = areas }
 
   -- where the last attempt made no step
   none_made : (answer : Attempt) → Attempted before (At r.here) answer cpu after → StaysAt r.here answer cpu after → new ≡ marked_as mid after → AreAttempts view m count answer cpu after

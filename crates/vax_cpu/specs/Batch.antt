@@ -6,8 +6,8 @@ use Rattle.vax_flat.specs.declared.Exception.{Exception}
 use Rattle.vax_flat.specs.Port.{View, StandsFor, with_marks}
 use Rattle.vax_flat.specs.OverPort.{Present}
 use Rattle.vax_flat.specs.Outcome.{Raised, first_missing, marked_by}
-use Rattle.vax_flat.specs.Step.{Flat, run}
-use Rattle.vax_flat.specs.Parts.{Place, At, outcome_at, part_step, touches_at}
+use Rattle.vax_flat.specs.Step.{Flat, run, step}
+use Rattle.vax_flat.specs.Parts.{Place, At, Completes, outcome_at, part_step, touches_at, turn}
 use Rattle.vax_cpu.specs.declared.attempt.Tried.TheVariants as tried
 use Rattle.vax_cpu.specs.declared.cpu.Attempt.{Attempt}
 use Rattle.vax_cpu.specs.declared.cpu.Attempt.TheVariants.{Step, Part, Absent, Ended}
@@ -44,6 +44,7 @@ pub record AreAttempts (before : View) (m : Flat) (count : ℕ) (last : Attempt)
   pub steps : run count m ≡ here
   pub running : here.ending ≡ None
   pub resident : (k : ℕ) → k < count → first_missing before.resident (touches_at (At (run k m))) ≡ None
+  pub at_once : (k : ℕ) → k < count → turn (At (run k m)) ≡ Completes (step (run k m))
   pub silent : here.output ≡ m.output
   pub absent : (addr : ℕ) → before.resident (page_of addr) ≡ false → byte_at here.memory addr ≡ byte_at m.memory addr
   pub attempted : Attempted (with_marks before (marks_after before.resident before.marked count m)) (At here) last cpu after

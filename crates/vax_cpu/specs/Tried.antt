@@ -89,15 +89,6 @@ KeepsTime clock (Ended e) = clock ≤ 999
 KeepsTime clock (Absent page) = clock ≤ 999
 KeepsTime clock (Event e) = clock ≤ 999
 
--- what completes an instruction leaves none open
-abbrev pub ClosesIfDone : Result Flow CutShort → Psl → Type 0
-ClosesIfDone (Ok flow.Done) psl = NothingOpen psl
-ClosesIfDone (Ok flow.Clocked) psl = NothingOpen psl
-ClosesIfDone (Ok (flow.Trap kind)) psl = NothingOpen psl
-ClosesIfDone (Ok (flow.More opcode units)) psl = Unit {0}
-ClosesIfDone (Ok (flow.Ended e)) psl = Unit {0}
-ClosesIfDone (Err short) psl = Unit {0}
-
 -- an attempt at a step leaves no instruction open, and a part of one was begun with none open
 abbrev pub KeepsClosed : Psl → Tried → Type 0
 KeepsClosed psl (Step sent) = NothingOpen psl

@@ -11,7 +11,8 @@ ghost use Rattle.vax_flat.specs.Parts.{begun_part, part, part_step, later, later
 ghost use Rattle.vax_undo.specs.FirstPart.{NothingOpen};
 ghost use Rattle.vax_undo.specs.Rooms.{room_of_beginning, room_of_end, room_of_step, room_of_tick};
 ghost use Rattle.vax_undo.specs.Transaction.{bare, present, room, state_of, told, undone, with_state, IsReady, IsSame, Keeps, KeepsUnlessDone};
-ghost use Rattle.vax_cpu.specs.Tried.{ClosesIfDone, IsFinal, IsLast, IsTried, KeepsClosed, KeepsClosedLater, KeepsTime, LeadsBack, Made, UnlessDone, is_done, put_again, start_by, tree_of, with_registers};
+ghost use Rattle.vax_x_str.specs.Ends.{ClosesIfDone};
+ghost use Rattle.vax_cpu.specs.Tried.{IsFinal, IsLast, IsTried, KeepsClosed, KeepsClosedLater, KeepsTime, LeadsBack, Made, UnlessDone, is_done, put_again, start_by, tree_of, with_registers};
 ghost use Rattle.vax_cpu.specs.Attempt.{open_after};
 ghost use Rattle.vax_cpu.specs.Batch.{Ran};
 

@@ -173,32 +173,74 @@ fn a_batch_up_to_a_halt(rt: HostRuntime) -> Result<(), Fail> {
 }
 
 #[test]
-fn an_instruction_that_is_not_built(rt: HostRuntime) -> Result<(), Fail> {
+fn a_move_in_two_parts(rt: HostRuntime) -> Result<(), Fail> {
     let alloc = rt.alloc();
-    // MOVC3
-    let mut port = memory(alloc, &[0x28])?;
-    let core = registers(0, 0);
+    // MOVC3 #600,@#^X200,@#^X600
+    let mut bytes = [0; 1112];
+    bytes[..14].copy_from_slice(&[
+        0x28, 0x8F, 0x58, 0x02, 0x9F, 0x00, 0x02, 0x00, 0x00, 0x9F, 0x00, 0x06, 0x00, 0x00,
+    ]);
+    bytes[512] = 1;
+    bytes[1023] = 2;
+    bytes[1024] = 3;
+    bytes[1111] = 4;
+    let mut port = memory(alloc, &bytes)?;
+    let start = registers(0, 0);
+    let mut cpu = Cpu {
+        core: start,
+        term: Term::new(Vec::new(alloc)),
+        latch: None,
+    };
+    assert_eq!(rt; cpu.attempt(&mut port), Attempt::Part);
     assert_eq!(rt;
-        attempt(alloc, &mut port, core),
-        (Attempt::Ended(Ending::Unbuilt), core)
+        cpu.latch,
+        Some(Open {
+            opcode: 0x28,
+            start,
+            units: 512,
+        })
     );
+    let regs = cpu.core.regs;
+    assert_eq!(rt;
+        (regs[0], regs[1], regs[2], regs[3]),
+        (0x0E00_0258, 0x200, 0x0200_0258, 0x600)
+    );
+    assert_eq!(rt;
+        (regs[4], regs[5], regs[15], cpu.core.psl),
+        (0, 0, 0, Psl(0x0800_0000))
+    );
+    assert_eq!(rt; cpu.attempt(&mut port), Attempt::Step(None));
+    let regs = cpu.core.regs;
+    assert_eq!(rt; (regs[0], regs[1], regs[2], regs[3]), (0, 0x458, 0, 0x858));
+    assert_eq!(rt; (regs[15], cpu.core.psl, cpu.latch), (14, Psl(4), None));
+    for (addr, byte) in [(0x600, 1), (0x7FF, 2), (0x800, 3), (0x857, 4), (0x858, 0)] {
+        assert_eq!(rt; port.byte(addr), Some(byte));
+    }
     Ok(())
 }
 
 #[test]
 fn an_instruction_that_is_open(rt: HostRuntime) -> Result<(), Fail> {
     let alloc = rt.alloc();
-    // NOP, which isn't read: the open instruction is MOVC3, which isn't built, from other registers
-    let mut port = memory(alloc, &[0x01])?;
     let start = registers(4, 1);
     for batches in [false, true] {
+        // NOP, which isn't read: the open instruction is MOVC3, of which one byte of two is moved
+        let mut bytes = [0; 0x202];
+        bytes[0] = 1;
+        bytes[0x201] = 9;
+        let mut port = memory(alloc, &bytes)?;
+        let mut core = registers(0, 0x0800_0000);
+        core.regs[0] = 0x0E00_0002;
+        core.regs[1] = 0x200;
+        core.regs[2] = 0x0001_0002;
+        core.regs[3] = 0x300;
         let mut cpu = Cpu {
-            core: registers(0, 0x0800_0000),
+            core,
             term: Term::new(Vec::new(alloc)),
             latch: Some(Open {
                 opcode: 0x28,
                 start,
-                units: 7,
+                units: 1,
             }),
         };
         let answer = if batches {
@@ -206,8 +248,11 @@ fn an_instruction_that_is_open(rt: HostRuntime) -> Result<(), Fail> {
         } else {
             cpu.attempt(&mut port)
         };
-        assert_eq!(rt; answer, Attempt::Ended(Ending::Unbuilt));
-        assert_eq!(rt; (cpu.core, cpu.latch), (start, None));
+        assert_eq!(rt; answer, Attempt::Step(None));
+        let regs = cpu.core.regs;
+        assert_eq!(rt; (regs[0], regs[1], regs[2], regs[3]), (0, 0x202, 0, 0x302));
+        assert_eq!(rt; (regs[15], cpu.core.psl, cpu.latch), (14, Psl(4), None));
+        assert_eq!(rt; (port.byte(0x300), port.byte(0x301)), (Some(0), Some(9)));
     }
     Ok(())
 }

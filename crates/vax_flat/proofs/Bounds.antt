@@ -26,7 +26,9 @@ use Rattle.vax_isa.specs.declared.actions.Queue.{Queue}
 use Rattle.vax_isa.specs.declared.actions.Queue.TheVariants as queue
 use Rattle.vax_isa.specs.declared.actions.Call.{Call}
 use Rattle.vax_isa.specs.declared.actions.Call.TheVariants as call
-use Rattle.vax_isa.specs.Actions.{mode_number, size_of, of_integer, of_control, of_field, of_system, of_queue, of_call}
+use Rattle.vax_isa.specs.declared.actions.Text.{Text}
+use Rattle.vax_isa.specs.declared.actions.Text.TheVariants as text
+use Rattle.vax_isa.specs.Actions.{mode_number, size_of, of_integer, of_control, of_field, of_system, of_queue, of_call, of_text}
 use Rattle.vax_isa.specs.Rows.{action_of}
 use Rattle.vax_flat.specs.declared.Delivery.{Delivery}
 use Rattle.vax_flat.specs.declared.Delivery.TheVariants.{Entered, Ended}
@@ -50,13 +52,16 @@ use Rattle.vax_flat.specs.Delivery.{on_interrupt_stack, takes_interrupt_stack, s
 use Rattle.vax_flat.specs.System.{flow_of_delivery, return_from, is_refused, pointer, input_byte, input_after, input_ready, return_exception, probed, set_processor, get_processor, status_set, status_cleared, unless_privileged, is_for_kernel, performed as system_performed}
 use Rattle.vax_flat.specs.Queue.{inserted, removed, is_odd, aligned_sum, performed as queue_performed}
 use Rattle.vax_flat.specs.Call.{frame_word, saved, restored, registers_pushed, registers_popped, at_procedure, entered as procedure_entered, entry_mask, called_with_list, called_with_stack, is_status, behind_arguments, unwound, return_from as procedure_return, performed as call_performed}
-use Rattle.vax_flat.specs.Instruction.{acted, acted_if, instruction}
+use Rattle.vax_flat.specs.StringParts.{text_part}
+use Rattle.vax_flat.specs.Instruction.{acted, acted_part, acted_part_if, first_part}
 use Rattle.vax_flat.specs.Evaluation.{next_operands}
-use Rattle.vax_flat.specs.Step.{level, begun, finished, handed_over, whole, delivered}
-use Rattle.vax_flat.specs.Bound.{IsClosed, IsWhole}
-use Rattle.vax_flat.proofs.Listed.{place, value, of_integers, of_controls, of_fields, of_systems, of_queues, of_calls, integer_takes, control_takes, field_takes, system_takes, queue_takes, call_takes}
+use Rattle.vax_flat.specs.Step.{level, finished, handed_over, delivered}
+use Rattle.vax_flat.specs.Parts.{begun_part, part, later}
+use Rattle.vax_flat.specs.Bound.{IsClosed, IsWhole, is_string}
+use Rattle.vax_flat.proofs.Listed.{place, value, of_integers, of_controls, of_fields, of_systems, of_queues, of_calls, integer_takes, control_takes, field_takes, system_takes, queue_takes, call_takes, part_takes}
 use Rattle.vax_flat.proofs.Windows.{IsPcNear, near_here, IsStackNear, stack_here, stack_below, stack_pushed, read_adds, write_adds, read_in_adds, fetched_adds, at_most, either}
 use Rattle.vax_flat.proofs.Frames.{IsTopNear, top_here, top_fewer, top_aligned, below_within, below_near, room_here, room_behind, few_named, few_framed, read_within, one_adds, pushes_add, pops_add}
+use Rattle.vax_flat.proofs.StringBounds.{first_by_adds, resumed_adds}
 use Rattle.vax_flat.proofs.OperandBounds.{costs, AreWide, operands_add}
 
 -- the operands of each instruction are 1 to 8 bytes wide, and have few ranges
@@ -153,6 +158,45 @@ queue_short : (i : Queue) → length (of_queue i) ≤ 6
 queue_short queue.Insert = omega arith
 queue_short queue.Remove = omega arith
 queue_short queue.AddAligned = omega arith
+
+text_wide : (t : Text) → AreWide (of_text t)
+text_wide text.Move = ((size_wide size.W).0, (size_wide size.W).1, ((size_wide size.B).0, (size_wide size.B).1, ((size_wide size.B).0, (size_wide size.B).1, tt)))
+text_wide text.MoveFilled = ((size_wide size.W).0, (size_wide size.W).1, ((size_wide size.B).0, (size_wide size.B).1, ((size_wide size.B).0, (size_wide size.B).1, ((size_wide size.W).0, (size_wide size.W).1, ((size_wide size.B).0, (size_wide size.B).1, tt)))))
+text_wide text.MoveTranslated = ((size_wide size.W).0, (size_wide size.W).1, ((size_wide size.B).0, (size_wide size.B).1, ((size_wide size.B).0, (size_wide size.B).1, ((size_wide size.B).0, (size_wide size.B).1, ((size_wide size.W).0, (size_wide size.W).1, ((size_wide size.B).0, (size_wide size.B).1, tt))))))
+text_wide text.MoveTranslatedUntil = ((size_wide size.W).0, (size_wide size.W).1, ((size_wide size.B).0, (size_wide size.B).1, ((size_wide size.B).0, (size_wide size.B).1, ((size_wide size.B).0, (size_wide size.B).1, ((size_wide size.W).0, (size_wide size.W).1, ((size_wide size.B).0, (size_wide size.B).1, tt))))))
+text_wide text.Compare = ((size_wide size.W).0, (size_wide size.W).1, ((size_wide size.B).0, (size_wide size.B).1, ((size_wide size.B).0, (size_wide size.B).1, tt)))
+text_wide text.CompareFilled = ((size_wide size.W).0, (size_wide size.W).1, ((size_wide size.B).0, (size_wide size.B).1, ((size_wide size.B).0, (size_wide size.B).1, ((size_wide size.W).0, (size_wide size.W).1, ((size_wide size.B).0, (size_wide size.B).1, tt)))))
+text_wide text.Locate = ((size_wide size.B).0, (size_wide size.B).1, ((size_wide size.W).0, (size_wide size.W).1, ((size_wide size.B).0, (size_wide size.B).1, tt)))
+text_wide text.Skip = ((size_wide size.B).0, (size_wide size.B).1, ((size_wide size.W).0, (size_wide size.W).1, ((size_wide size.B).0, (size_wide size.B).1, tt)))
+text_wide text.Scan = ((size_wide size.W).0, (size_wide size.W).1, ((size_wide size.B).0, (size_wide size.B).1, ((size_wide size.B).0, (size_wide size.B).1, ((size_wide size.B).0, (size_wide size.B).1, tt))))
+text_wide text.Span = ((size_wide size.W).0, (size_wide size.W).1, ((size_wide size.B).0, (size_wide size.B).1, ((size_wide size.B).0, (size_wide size.B).1, ((size_wide size.B).0, (size_wide size.B).1, tt))))
+text_wide text.Match = ((size_wide size.W).0, (size_wide size.W).1, ((size_wide size.B).0, (size_wide size.B).1, ((size_wide size.W).0, (size_wide size.W).1, ((size_wide size.B).0, (size_wide size.B).1, tt))))
+
+text_few : (t : Text) → costs (of_text t) ≤ 9
+text_few text.Move = omega arith
+text_few text.MoveFilled = omega arith
+text_few text.MoveTranslated = omega arith
+text_few text.MoveTranslatedUntil = omega arith
+text_few text.Compare = omega arith
+text_few text.CompareFilled = omega arith
+text_few text.Locate = omega arith
+text_few text.Skip = omega arith
+text_few text.Scan = omega arith
+text_few text.Span = omega arith
+text_few text.Match = omega arith
+
+text_short : (t : Text) → length (of_text t) ≤ 6
+text_short text.Move = omega arith
+text_short text.MoveFilled = omega arith
+text_short text.MoveTranslated = omega arith
+text_short text.MoveTranslatedUntil = omega arith
+text_short text.Compare = omega arith
+text_short text.CompareFilled = omega arith
+text_short text.Locate = omega arith
+text_short text.Skip = omega arith
+text_short text.Scan = omega arith
+text_short text.Span = omega arith
+text_short text.Match = omega arith
 
 call_modest : (i : Call) → AreModest (of_call i)
 call_modest call.WithList = record { wide = ((size_wide size.B).0, (size_wide size.B).1, ((size_wide size.B).0, (size_wide size.B).1, tt)); few = omega arith; short = omega arith }
@@ -523,6 +567,12 @@ module _ (Q : List ℕ → ℕ → Accesses Leaf → Type 0) (c : IsClosed Q) wh
     listed_by_five kinds wide few short s count here p rest r =
         at_most Q c _ (costs kinds + suc (suc (suc (suc (suc n))))) _ _ (omega arith) (operands_add Q c w ws (suc (suc (suc (suc (suc n))))) kinds wide s count (omega arith) p rest r)
 
+    -- the same where the work has four
+    listed_by_four : (kinds : List OperandKind) → AreWide kinds → costs kinds ≤ 9 → length kinds ≤ 6 → (s : State) (count : ℕ) → count ≤ 1 → IsPcNear s w count → (rest : List (Operand × ℕ) → State → Accesses Leaf) →
+        ((xs : List (Operand × ℕ)) (t : State) → Q (w ∷ ws) (suc (suc (suc (suc n)))) (rest xs t)) → Q (w ∷ ws) (n + 13) (next_operands kinds s rest)
+    listed_by_four kinds wide few short s count here p rest r =
+        at_most Q c _ (costs kinds + suc (suc (suc (suc n)))) _ _ (omega arith) (operands_add Q c w ws (suc (suc (suc (suc n)))) kinds wide s count (omega arith) p rest r)
+
     integer_acts : (i : Integer) (s : State) (count : ℕ) → count ≤ 1 → IsPcNear s w count → Q (w ∷ ws) (n + 13) (integer_performed i s next)
     integer_acts i s count here p =
         subst (λ tree. Q (w ∷ ws) (n + 13) tree) (sym (integer_takes i s next)) (listed_adds (of_integer i) (integer_modest i) s count here p _ (λ xs t. integer_adds (w ∷ ws) n next q i xs t))
@@ -552,48 +602,66 @@ module _ (Q : List ℕ → ℕ → Accesses Leaf → Type 0) (c : IsClosed Q) wh
     call_acts i s count here p =
         subst (λ tree. Q (w ∷ ws) (n + 13) tree) (sym (call_takes i s next)) (listed_adds (of_call i) (call_modest i) s count here p _ (λ xs t. call_adds (w ∷ ws) n next q i xs t))
 
-    unbuilt_acts : (s : State) → Q (w ∷ ws) (n + 13) (next (flow.Ended ending.Unbuilt) s)
-    unbuilt_acts s = at_most Q c _ n _ _ (omega arith) (q _ s tt)
-
-    pub acted_adds : (a : Action) (s : State) (count : ℕ) → count ≤ 1 → IsPcNear s w count → Q (w ∷ ws) (n + 13) (acted a s next)
+    -- an instruction that is no string instruction
+    pub acted_adds : (a : Action) → is_string a ≡ false → (s : State) (count : ℕ) → count ≤ 1 → IsPcNear s w count → Q (w ∷ ws) (n + 13) (acted a s next)
     unfolding acted
-    acted_adds (action.Integer i) s count here p = integer_acts i s count here p
-    acted_adds (action.Control i) s count here p = control_acts i s count here p
-    acted_adds (action.Field i) s count here p = field_acts i s count here p
-    acted_adds (action.Call i) s count here p = call_acts i s count here p
-    acted_adds (action.Queue i) s count here p = queue_acts i s count here p
-    acted_adds (action.System i) s count here p = system_acts i s count here p
-    acted_adds (action.Text i) s count here p = unbuilt_acts s
+    acted_adds (action.Integer i) other s count here p = integer_acts i s count here p
+    acted_adds (action.Control i) other s count here p = control_acts i s count here p
+    acted_adds (action.Field i) other s count here p = field_acts i s count here p
+    acted_adds (action.Call i) other s count here p = call_acts i s count here p
+    acted_adds (action.Queue i) other s count here p = queue_acts i s count here p
+    acted_adds (action.System i) other s count here p = system_acts i s count here p
+    acted_adds (action.Text i) other s count here p = absurd (cc)
 
-    acted_if_adds : (a : Option Action) (s : State) (count : ℕ) → count ≤ 1 → IsPcNear s w count → Q (w ∷ ws) (n + 13) (acted_if a s next)
-    unfolding acted_if
-    acted_if_adds (Some a) s count here p = acted_adds a s count here p
-    acted_if_adds None s count here p = c.raises _ _ _
+    -- the first part of a string instruction has four windows for its work
+    module _ (more : (opcode units : ℕ) (t : State) → Q (w ∷ ws) n (next (flow.More opcode units) t)) where
+      text_acts : (t : Text) (s : State) (count : ℕ) → count ≤ 1 → IsPcNear s w count → Q (w ∷ ws) (n + 13) (text_part t s next)
+      text_acts t s count here p =
+          subst (λ tree. Q (w ∷ ws) (n + 13) tree) (sym (part_takes t s next)) (listed_by_four (of_text t) (text_wide t) (text_few t) (text_short t) s count here p _ (λ xs u.
+          first_by_adds Q c (w ∷ ws) n next (λ v. q flow.Done v tt) more t _ _))
 
-  instruction_adds : (ws : List ℕ) (n : ℕ) (next : Flow → State → Accesses Leaf) → ((how : Flow) (t : State) → IsWhole how → Q ws n (next how t)) → (s : State) → Q ws (suc (n + 13)) (instruction s next)
-  unfolding instruction
-  instruction_adds ws n next q s =
+      acted_part_adds : (a : Action) (s : State) (count : ℕ) → count ≤ 1 → IsPcNear s w count → Q (w ∷ ws) (n + 13) (acted_part a s next)
+      unfolding acted_part
+      acted_part_adds (action.Integer i) s count here p = integer_acts i s count here p
+      acted_part_adds (action.Control i) s count here p = control_acts i s count here p
+      acted_part_adds (action.Field i) s count here p = field_acts i s count here p
+      acted_part_adds (action.Call i) s count here p = call_acts i s count here p
+      acted_part_adds (action.Queue i) s count here p = queue_acts i s count here p
+      acted_part_adds (action.System i) s count here p = system_acts i s count here p
+      acted_part_adds (action.Text i) s count here p = text_acts i s count here p
+
+      acted_part_if_adds : (a : Option Action) (s : State) (count : ℕ) → count ≤ 1 → IsPcNear s w count → Q (w ∷ ws) (n + 13) (acted_part_if a s next)
+      unfolding acted_part_if
+      acted_part_if_adds (Some a) s count here p = acted_part_adds a s count here p
+      acted_part_if_adds None s count here p = c.raises _ _ _
+
+  first_part_adds : (ws : List ℕ) (n : ℕ) (next : Flow → State → Accesses Leaf) → ((how : Flow) (t : State) → IsWhole how → Q ws n (next how t)) → ((opcode units : ℕ) (t : State) → Q ws n (next (flow.More opcode units) t)) → (s : State) → Q ws (suc (n + 13)) (first_part s next)
+  unfolding first_part
+  first_part_adds ws n next q more s =
       c.opens (register s 15) ws (n + 13) _
       (fetched_adds Q c (register s 15) ws (n + 13) 1 0 s _ (omega arith) (omega arith) (near_here s) (λ opcode t near.
-      acted_if_adds (register s 15) ws n next (λ how u whole. c.wider _ ws n _ (q how u whole)) (action_of opcode) t (0 + 1) (omega arith) near))
+      acted_part_if_adds (register s 15) ws n next (λ how u whole. c.wider _ ws n _ (q how u whole)) (λ o units u. c.wider _ ws n _ (more o units u)) (action_of opcode) t (0 + 1) (omega arith) near))
 
-  begun_adds : (ws : List ℕ) (n : ℕ) (next : Flow → State → Accesses Leaf) → ((how : Flow) (t : State) → IsWhole how → Q ws n (next how t)) → (s : State) → Q ws (suc (n + 13)) (begun s next)
-  unfolding begun
-  begun_adds ws n next q s =
+  handler_whole : (how : Delivery) → IsWhole (flow_of_delivery how)
+  handler_whole Entered = tt
+  handler_whole (Ended e) = tt
+
+  pub interrupt_begins : (ws : List ℕ) (n : ℕ) (next : Flow → State → Accesses Leaf) → ((how : Flow) (t : State) → IsWhole how → Q ws n (next how t)) → (level : ℕ) (s : State) → Q ws (suc (suc n)) (interrupt level s (λ how s. next (flow_of_delivery how) s))
+  interrupt_begins ws n next q level s = interrupt_adds ws n _ (λ how t. q (flow_of_delivery how) t (handler_whole how)) level s
+
+  begun_part_adds : (ws : List ℕ) (n : ℕ) (next : Flow → State → Accesses Leaf) → ((how : Flow) (t : State) → IsWhole how → Q ws n (next how t)) → ((opcode units : ℕ) (t : State) → Q ws n (next (flow.More opcode units) t)) → (s : State) → Q ws (suc (n + 13)) (begun_part s next)
+  unfolding begun_part
+  begun_part_adds ws n next q more s =
       either Q c ws _ (nat_lt (priority s) (level s.core)) _ _
-      (λ asks. at_most Q c ws (suc (suc n)) _ _ (omega arith) (interrupt_adds ws n _ (λ how t. q (flow_of_delivery how) t (delivery_whole how)) (level s.core) s))
-      (λ quiet. instruction_adds ws n next q s)
-    where
-      delivery_whole : (how : Delivery) → IsWhole (flow_of_delivery how)
-      delivery_whole Entered = tt
-      delivery_whole (Ended e) = tt
+      (λ asks. at_most Q c ws (suc (suc n)) _ _ (omega arith) (interrupt_begins ws n next q (level s.core) s))
+      (λ quiet. first_part_adds ws n next q more s)
 
   handed_adds : (ws : List ℕ) (n : ℕ) (next : Flow → State → Accesses Leaf) → ((how : Flow) (t : State) → IsWhole how → Q ws n (next how t)) → (how : Delivery) (s : State) → Q ws n (handed_over how s next)
   unfolding handed_over
   handed_adds ws n next q Entered s = q flow.Done _ tt
   handed_adds ws n next q (Ended e) s = q (flow.Ended e) s tt
 
-  finished_adds : (ws : List ℕ) (n : ℕ) (next : Flow → State → Accesses Leaf) → ((how : Flow) (t : State) → IsWhole how → Q ws n (next how t)) → (how : Flow) (s : State) → IsWhole how → Q ws (suc (suc n)) (finished how s next)
+  pub finished_adds : (ws : List ℕ) (n : ℕ) (next : Flow → State → Accesses Leaf) → ((how : Flow) (t : State) → IsWhole how → Q ws n (next how t)) → (how : Flow) (s : State) → IsWhole how → Q ws (suc (suc n)) (finished how s next)
   unfolding finished
   finished_adds ws n next q flow.Done s h = c.fewer ws (suc n) _ (c.fewer ws n _ (q flow.Done _ tt))
   finished_adds ws n next q flow.Clocked s h = c.fewer ws (suc n) _ (c.fewer ws n _ (q flow.Done _ tt))
@@ -601,10 +669,19 @@ module _ (Q : List ℕ → ℕ → Accesses Leaf → Type 0) (c : IsClosed Q) wh
   finished_adds ws n next q (flow.More opcode units) s h = absurd h
   finished_adds ws n next q (flow.Ended e) s h = c.fewer ws (suc n) _ (c.fewer ws n _ (q _ s tt))
 
-  -- a whole step up to its exception, and the delivery of that
-  pub whole_adds : (ws : List ℕ) (n : ℕ) (next : Flow → State → Accesses Leaf) → ((how : Flow) (t : State) → IsWhole how → Q ws n (next how t)) → (s : State) → Q ws (suc (suc (suc n) + 13)) (whole s next)
-  unfolding whole
-  whole_adds ws n next q s = begun_adds ws (suc (suc n)) _ (λ how t h. finished_adds ws n next q how t h) s
+  left_adds : (ws : List ℕ) (n : ℕ) (next : Flow → State → Accesses Leaf) → ((opcode units : ℕ) (t : State) → Q ws n (next (flow.More opcode units) t)) → (opcode units : ℕ) (s : State) → Q ws (suc (suc n)) (finished (flow.More opcode units) s next)
+  unfolding finished
+  left_adds ws n next more opcode units s = c.fewer ws (suc n) _ (c.fewer ws n _ (more opcode units s))
+
+  -- the first part of a step up to its exception, a later part, and the delivery of an exception
+  pub part_adds : (ws : List ℕ) (n : ℕ) (next : Flow → State → Accesses Leaf) → ((how : Flow) (t : State) → IsWhole how → Q ws n (next how t)) → ((opcode units : ℕ) (t : State) → Q ws n (next (flow.More opcode units) t)) → (s : State) → Q ws (suc (suc (suc n) + 13)) (part s next)
+  unfolding part
+  part_adds ws n next q more s = begun_part_adds ws (suc (suc n)) _ (λ how t h. finished_adds ws n next q how t h) (λ opcode units t. left_adds ws n next more opcode units t) s
+
+  pub later_adds : (ws : List ℕ) (n : ℕ) (next : Flow → State → Accesses Leaf) → ((how : Flow) (t : State) → IsWhole how → Q ws n (next how t)) → ((opcode units : ℕ) (t : State) → Q ws n (next (flow.More opcode units) t)) → (opcode : ℕ) (s : State) → Q ws (suc (suc (suc (suc (suc (suc n)))))) (later opcode s next)
+  unfolding later
+  later_adds ws n next q more opcode s =
+      resumed_adds Q c ws (suc (suc n)) _ (λ t. finished_adds ws n next q flow.Done t tt) (λ o units t. left_adds ws n next more o units t) opcode s
 
   pub delivered_adds : (ws : List ℕ) (n : ℕ) (next : Flow → State → Accesses Leaf) → ((how : Flow) (t : State) → IsWhole how → Q ws n (next how t)) → (e : Exception) (s : State) → Q ws (suc (suc n)) (delivered e s next)
   unfolding delivered

@@ -7,6 +7,7 @@ use Rattle.vax_space.specs.Reference.{violation}
 use Rattle.vax_flat.specs.Accesses.{Leaf}
 use Rattle.vax_flat.specs.Memory.{byte_at, number, bytes_from, written, written_run}
 use Rattle.vax_flat.specs.Outcome.{Outcome, Range, outcome_of, touches_of, is_allowed, unless_stopped, unless_violated}
+use Rattle.vax_flat.proofs.StringSearch.{length_run}
 use Rattle.vax_flat.specs.Bound.{IsCovered, AreCovered, LieIn, IsClosed, LeavesNoPart}
 
 -- what is covered stays so with more windows around
@@ -42,7 +43,7 @@ touches_lie = record {
   asks = λ ws n addr len mode access next q memory. q (is_allowed (violation memory addr len mode access)) memory;
   reads = λ ws n addr len mode next c q memory. stopped ws n (violation memory addr len mode Read) _ (first ws n _ _ c (q (number (byte_at memory) addr len) memory));
   writes = λ ws n addr len value mode next c q memory. stopped ws n (violation memory addr len mode Write) _ (first ws n _ _ c (q (written memory addr len value)));
-  reads_run = λ ws n addr len mode next c q memory. stopped ws n (violation memory addr len mode Read) _ (first ws n _ _ c (q (bytes_from (byte_at memory) addr len) memory));
+  reads_run = λ ws n addr len mode next c q memory. stopped ws n (violation memory addr len mode Read) _ (first ws n _ _ c (q (bytes_from (byte_at memory) addr len) (length_run (byte_at memory) addr len) memory));
   writes_run = λ ws n addr bytes mode next c q memory. stopped ws n (violation memory addr (length bytes) mode Write) _ (first ws n _ _ c (q (written_run memory addr bytes)));
 }
   where
@@ -64,7 +65,7 @@ leaves_no_part = record {
   asks = λ ws n addr len mode access next q memory. q (is_allowed (violation memory addr len mode access)) memory;
   reads = λ ws n addr len mode next c q memory. violated (violation memory addr len mode Read) _ (q (number (byte_at memory) addr len) memory);
   writes = λ ws n addr len value mode next c q memory. violated (violation memory addr len mode Write) _ (q (written memory addr len value));
-  reads_run = λ ws n addr len mode next c q memory. violated (violation memory addr len mode Read) _ (q (bytes_from (byte_at memory) addr len) memory);
+  reads_run = λ ws n addr len mode next c q memory. violated (violation memory addr len mode Read) _ (q (bytes_from (byte_at memory) addr len) (length_run (byte_at memory) addr len) memory);
   writes_run = λ ws n addr bytes mode next c q memory. violated (violation memory addr (length bytes) mode Write) _ (q (written_run memory addr bytes));
 }
   where

@@ -11,12 +11,14 @@ pub mod Specifiers
 pub mod Sequences
 pub mod Listed
 pub mod Quiet
+pub mod Readings
 pub mod Closed
 pub mod Windows
 pub mod Frames
 pub mod OperandBounds
 pub mod Bounds
 pub mod Steps
+pub mod Attempts
 pub mod Parts
 pub mod Results
 pub mod Returned
@@ -26,6 +28,12 @@ pub mod Fronts
 pub mod StringState
 pub mod StringSearch
 pub mod StringScan
+pub mod StringBounds
 pub mod StringCompare
 pub mod StringMemory
 pub mod StringMove
+pub mod StringGoing
+pub mod StringBeginning
+pub mod StringMatch
+pub mod StringEscape
+pub mod StringStarts

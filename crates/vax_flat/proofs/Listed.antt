@@ -20,7 +20,10 @@ use Rattle.vax_isa.specs.declared.actions.Queue.{Queue}
 use Rattle.vax_isa.specs.declared.actions.Queue.TheVariants as queue
 use Rattle.vax_isa.specs.declared.actions.Call.{Call}
 use Rattle.vax_isa.specs.declared.actions.Call.TheVariants as call
-use Rattle.vax_isa.specs.Actions.{size_of, of_integer, of_control, of_field, of_system, of_queue, of_call, operands_of}
+use Rattle.vax_isa.specs.declared.actions.Text.{Text}
+use Rattle.vax_isa.specs.declared.actions.Text.TheVariants as text
+use Rattle.vax_isa.specs.Actions.{size_of, of_integer, of_control, of_field, of_system, of_queue, of_call, of_text, operands_of}
+use Rattle.vax_strpart.specs.declared.packing.Progress.{Progress}
 use Rattle.vax_isa.specs.Instructions.{Instruction}
 use Rattle.vax_isa.specs.Rows.{action_of}
 use Rattle.vax_flat.specs.declared.Operand.{Operand}
@@ -40,7 +43,14 @@ use Rattle.vax_flat.specs.Delivery.{change_mode}
 use Rattle.vax_flat.specs.System.{halt, is_for_kernel, flow_of_delivery, return_exception, change_of_mode, probed, probe, with_moved, set_processor, to_register, get_processor, from_register, move_status, status_set, status_cleared, set_status, clear_status, unless_privileged, performed as system_performed}
 use Rattle.vax_flat.specs.Queue.{inserted, insert, removed, remove, aligned_sum, add_aligned, performed as queue_performed}
 use Rattle.vax_flat.specs.Call.{called_with_list, call_with_list, called_with_stack, call_with_stack, return_from, registers_pushed, push_registers, registers_popped, pop_registers, performed as call_performed}
-use Rattle.vax_flat.specs.Instruction.{acted, acted_if, instruction, is_built, is_privileged}
+use Rattle.vax_flat.specs.Instruction.{acted, acted_if, instruction, is_privileged}
+use Rattle.vax_flat.specs.StringOperands.{word, byte_in, longword, next_word, next_byte, next_longword, begun, length_of, search_operands, scan_operands, equal_operands, filled_operands, translated_operands, match_operands}
+use Rattle.vax_flat.specs.StringSearch.{search_part, scan_part, whole_search, whole_scan}
+use Rattle.vax_flat.specs.StringCompare.{compare_part, whole_compare}
+use Rattle.vax_flat.specs.StringMove.{move_start, whole_move}
+use Rattle.vax_flat.specs.StringEscape.{escape_start, whole_escape}
+use Rattle.vax_flat.specs.StringMatch.{match_part, whole_match}
+use Rattle.vax_flat.specs.StringParts.{text_part, text_whole, first_search, first_scan, first_compare, first_compare_filled, first_move, first_move_filled, first_move_translated, first_escape, first_match}
 use Rattle.vax_flat.specs.Grammar.{Sequence, IsInstruction}
 use Rattle.vax_flat.specs.Evaluation.{past, passed, taken, all_come_to, next_operands, AreAhead, DoSame, Takes}
 use Rattle.vax_flat.proofs.Specifiers.{ahead_past, same_first}
@@ -216,15 +226,85 @@ field_takes field.Insert s next = refl
 field_takes (field.FindFirst set) s next = refl
 field_takes (field.Branch set becomes) s next = refl
 
-pub action_takes : (a : Action) → is_built a ≡ true → Takes (is_privileged a) (operands_of a) (acted a)
+-- the progress at the start of a string instruction, from the state before its operands, its operands and the state behind them
+unfoldable pub begins : Text → State → List (Operand × ℕ) → State → Progress
+begins text.Move s xs t = record { op = 0x28; len1 = word (value 0 xs); addr1 = longword (target 1 xs); byte = 0; len2 = word (value 0 xs); addr2 = longword (target 2 xs); table = 0; done = 0; delta = length_of s t }
+begins text.MoveFilled s xs t = record { op = 0x2C; len1 = word (value 0 xs); addr1 = longword (target 1 xs); byte = byte_in (value 2 xs); len2 = word (value 3 xs); addr2 = longword (target 4 xs); table = 0; done = 0; delta = length_of s t }
+begins text.MoveTranslated s xs t = record { op = 0x2E; len1 = word (value 0 xs); addr1 = longword (target 1 xs); byte = byte_in (value 2 xs); len2 = word (value 4 xs); addr2 = longword (target 5 xs); table = longword (target 3 xs); done = 0; delta = length_of s t }
+begins text.MoveTranslatedUntil s xs t = record { op = 0x2F; len1 = word (value 0 xs); addr1 = longword (target 1 xs); byte = byte_in (value 2 xs); len2 = word (value 4 xs); addr2 = longword (target 5 xs); table = longword (target 3 xs); done = 0; delta = length_of s t }
+begins text.Compare s xs t = record { op = 0x29; len1 = word (value 0 xs); addr1 = longword (target 1 xs); byte = 0; len2 = word (value 0 xs); addr2 = longword (target 2 xs); table = 0; done = 0; delta = length_of s t }
+begins text.CompareFilled s xs t = record { op = 0x2D; len1 = word (value 0 xs); addr1 = longword (target 1 xs); byte = byte_in (value 2 xs); len2 = word (value 3 xs); addr2 = longword (target 4 xs); table = 0; done = 0; delta = length_of s t }
+begins text.Locate s xs t = record { op = 0x3A; len1 = word (value 1 xs); addr1 = longword (target 2 xs); byte = byte_in (value 0 xs); len2 = 0; addr2 = 0; table = 0; done = 0; delta = length_of s t }
+begins text.Skip s xs t = record { op = 0x3B; len1 = word (value 1 xs); addr1 = longword (target 2 xs); byte = byte_in (value 0 xs); len2 = 0; addr2 = 0; table = 0; done = 0; delta = length_of s t }
+begins text.Scan s xs t = record { op = 0x2A; len1 = word (value 0 xs); addr1 = longword (target 1 xs); byte = byte_in (value 3 xs); len2 = 0; addr2 = 0; table = longword (target 2 xs); done = 0; delta = length_of s t }
+begins text.Span s xs t = record { op = 0x2B; len1 = word (value 0 xs); addr1 = longword (target 1 xs); byte = byte_in (value 3 xs); len2 = 0; addr2 = 0; table = longword (target 2 xs); done = 0; delta = length_of s t }
+begins text.Match s xs t = record { op = 0x39; len1 = word (value 0 xs); addr1 = longword (target 1 xs); byte = 0; len2 = word (value 2 xs); addr2 = longword (target 3 xs); table = 0; done = 0; delta = length_of s t }
+
+-- what it does from there, whole
+unfoldable pub whole_by : Text → Progress → State → (Flow → State → Accesses Leaf) → Accesses Leaf
+whole_by text.Move p s next = whole_move false p s next
+whole_by text.MoveFilled p s next = whole_move false p s next
+whole_by text.MoveTranslated p s next = whole_move true p s next
+whole_by text.MoveTranslatedUntil p s next = whole_escape p s next
+whole_by text.Compare p s next = whole_compare p s next
+whole_by text.CompareFilled p s next = whole_compare p s next
+whole_by text.Locate p s next = whole_search true p s next
+whole_by text.Skip p s next = whole_search false p s next
+whole_by text.Scan p s next = whole_scan true p s next
+whole_by text.Span p s next = whole_scan false p s next
+whole_by text.Match p s next = whole_match p s next
+
+-- and its first part
+unfoldable pub first_by : Text → Progress → State → (Flow → State → Accesses Leaf) → Accesses Leaf
+first_by text.Move p s next = move_start false p s next
+first_by text.MoveFilled p s next = move_start false p s next
+first_by text.MoveTranslated p s next = move_start true p s next
+first_by text.MoveTranslatedUntil p s next = escape_start p s next
+first_by text.Compare p s next = compare_part p s next
+first_by text.CompareFilled p s next = compare_part p s next
+first_by text.Locate p s next = search_part true p s next
+first_by text.Skip p s next = search_part false p s next
+first_by text.Scan p s next = scan_part true p s next
+first_by text.Span p s next = scan_part false p s next
+first_by text.Match p s next = match_part p s next
+
+pub text_takes : (t : Text) (s : State) (next : Flow → State → Accesses Leaf) → text_whole t s next ≡ next_operands (of_text t) s (λ xs u. whole_by t (begins t s xs u) (begun u) next)
+unfolding text_whole search_operands scan_operands equal_operands filled_operands translated_operands match_operands next_word next_byte next_longword read_value address_value next_operands taken begins whole_by
+text_takes text.Move s next = refl
+text_takes text.MoveFilled s next = refl
+text_takes text.MoveTranslated s next = refl
+text_takes text.MoveTranslatedUntil s next = refl
+text_takes text.Compare s next = refl
+text_takes text.CompareFilled s next = refl
+text_takes text.Locate s next = refl
+text_takes text.Skip s next = refl
+text_takes text.Scan s next = refl
+text_takes text.Span s next = refl
+text_takes text.Match s next = refl
+
+pub part_takes : (t : Text) (s : State) (next : Flow → State → Accesses Leaf) → text_part t s next ≡ next_operands (of_text t) s (λ xs u. first_by t (begins t s xs u) (begun u) next)
+unfolding text_part first_search first_scan first_compare first_compare_filled first_move first_move_filled first_move_translated first_escape first_match search_operands scan_operands equal_operands filled_operands translated_operands match_operands next_word next_byte next_longword read_value address_value next_operands taken begins first_by
+part_takes text.Move s next = refl
+part_takes text.MoveFilled s next = refl
+part_takes text.MoveTranslated s next = refl
+part_takes text.MoveTranslatedUntil s next = refl
+part_takes text.Compare s next = refl
+part_takes text.CompareFilled s next = refl
+part_takes text.Locate s next = refl
+part_takes text.Skip s next = refl
+part_takes text.Scan s next = refl
+part_takes text.Span s next = refl
+part_takes text.Match s next = refl
+
+pub action_takes : (a : Action) → Takes (is_privileged a) (operands_of a) (acted a)
 unfolding acted
-action_takes (action.Integer i) built = record { rest = of_integers i; takes = λ s next. integer_takes i s next }
-action_takes (action.Control c) built = record { rest = of_controls c; takes = λ s next. control_takes c s next }
-action_takes (action.Field f) built = record { rest = of_fields f; takes = λ s next. field_takes f s next }
-action_takes (action.Call c) built = record { rest = of_calls c; takes = λ s next. call_takes c s next }
-action_takes (action.Queue q) built = record { rest = of_queues q; takes = λ s next. queue_takes q s next }
-action_takes (action.System i) built = record { rest = of_systems i; takes = λ s next. system_takes i s next }
-action_takes (action.Text t) built = absurd (cc)
+action_takes (action.Integer i) = record { rest = λ s xs t next. of_integers i xs t next; takes = λ s next. integer_takes i s next }
+action_takes (action.Control c) = record { rest = λ s xs t next. of_controls c xs t next; takes = λ s next. control_takes c s next }
+action_takes (action.Field f) = record { rest = λ s xs t next. of_fields f xs t next; takes = λ s next. field_takes f s next }
+action_takes (action.Call c) = record { rest = λ s xs t next. of_calls c xs t next; takes = λ s next. call_takes c s next }
+action_takes (action.Queue q) = record { rest = λ s xs t next. of_queues q xs t next; takes = λ s next. queue_takes q s next }
+action_takes (action.System i) = record { rest = λ s xs t next. of_systems i xs t next; takes = λ s next. system_takes i s next }
+action_takes (action.Text t) = record { rest = λ s xs u next. whole_by t (begins t s xs u) (begun u) next; takes = λ s next. text_takes t s next }
 
 -- where two trees do the same, they do with the same privilege
 allowed_same : (memory : List Area) (privileged : Bool) (s : State) (a b : Accesses Leaf) → DoSame memory a b → DoSame memory (unless_privileged privileged s a) (unless_privileged privileged s b)
@@ -233,9 +313,9 @@ allowed_same memory true s a b same =
     elim (mode s == 0) as (λ kernel. DoSame memory (if kernel then a else Raises Privileged) (if kernel then b else Raises Privileged)) [ true ↦ same | false ↦ record { outcome = refl; touches = refl } ]
 
 -- an instruction whose action takes the operands that its row lists
-pub listed_agrees : (memory : List Area) (s : State) (bytes : List ℕ) (row : Instruction) (operands : Sequence) (count : ℕ) (privileged : Bool) (t : Takes privileged row.operands (acted row.action)) (next : Flow → State → Accesses Leaf) → AreAhead memory s bytes → IsInstruction bytes row operands count → DoSame memory (instruction s next) (passed (1 ∷ []) s (λ u. unless_privileged privileged u (all_come_to operands u (λ xs u. t.rest xs u next))))
+pub listed_agrees : (memory : List Area) (s : State) (bytes : List ℕ) (row : Instruction) (operands : Sequence) (count : ℕ) (privileged : Bool) (t : Takes privileged row.operands (acted row.action)) (next : Flow → State → Accesses Leaf) → AreAhead memory s bytes → IsInstruction bytes row operands count → DoSame memory (instruction s next) (passed (1 ∷ []) s (λ u. unless_privileged privileged u (all_come_to operands u (λ xs v. t.rest u xs v next))))
 unfolding instruction acted_if action_of passed
 listed_agrees memory s bytes row operands count privileged t next a i =
     let ahead : AreAhead memory s (i.opcode ∷ i.rest) = rw i.split at a in
-    same_first memory s i.opcode i.rest (λ opcode u. acted_if (action_of opcode) u next) (λ u. unless_privileged privileged u (all_come_to operands u (λ xs u. t.rest xs u next))) ahead
-    (rw (i.listed, t.takes (past 1 s) next) (allowed_same memory privileged (past 1 s) _ _ (operands_agree row.operands memory (past 1 s) i.rest (λ xs u. t.rest xs u next) (ahead_past memory s (i.opcode ∷ i.rest) 1 ahead (omega arith)) operands i.read)))
+    same_first memory s i.opcode i.rest (λ opcode u. acted_if (action_of opcode) u next) (λ u. unless_privileged privileged u (all_come_to operands u (λ xs v. t.rest u xs v next))) ahead
+    (rw (i.listed, t.takes (past 1 s) next) (allowed_same memory privileged (past 1 s) _ _ (operands_agree row.operands memory (past 1 s) i.rest (λ xs u. t.rest (past 1 s) xs u next) (ahead_past memory s (i.opcode ∷ i.rest) 1 ahead (omega arith)) operands i.read)))

@@ -11,7 +11,7 @@ use Rattle.vax_flat.specs.Memory.{AllResident, after, byte_at, number, bytes_fro
 use Rattle.vax_flat.specs.Port.{first_absent}
 use Rattle.vax_flat.specs.Accesses.{Accesses, Done, Raises, Checks, Asks, Reads, Writes, ReadsRun, WritesRun, Leaf, Went, Found}
 use Rattle.vax_flat.specs.Outcome.{Outcome, Ends, Raised, Range, outcome_of, touches_of, first_missing, unless_stopped, is_allowed, or_else}
-use Rattle.vax_flat.specs.Step.{Flat, step, step_from, run, state_of, whole_step, whole_delivery, concluded, after_instruction, after_delivery, touches_after, step_touches, with_byte_sent}
+use Rattle.vax_flat.specs.Step.{Flat, step, step_from, run, state_of, whole_step, whole_delivery, concluded, after_instruction, after_delivery, touches_after, with_byte_sent}
 use Rattle.vax_flat.proofs.Memory.{allowed_first, mapped_where_accessible, is_mapped-written, is_mapped-written_run}
 use Rattle.vax_flat.proofs.Joined.{first_missing-append}
 
@@ -60,13 +60,6 @@ pub after_none : (m : Flat) (resident : ℕ → Bool) (outcome : Outcome Leaf) �
 unfolding first_missing
 after_none m resident (Ends leaf memory) all = refl
 after_none m resident (Raised e) all = none_missing (whole_delivery e (state_of m)) resident m.memory all
-
--- nor one that a step touches
-pub none_missing_step : (m : Flat) (resident : ℕ → Bool) → AllResident resident m.memory → first_missing resident (step_touches m) ≡ None
-none_missing_step m resident all =
-    first_missing-append resident (touches_of (whole_step (state_of m)) m.memory) (touches_after m (outcome_of (whole_step (state_of m)) m.memory))
-    ∙ (ap (λ x. or_else x (first_missing resident (touches_after m (outcome_of (whole_step (state_of m)) m.memory)))) (none_missing (whole_step (state_of m)) resident m.memory all)
-    ∙ after_none m resident (outcome_of (whole_step (state_of m)) m.memory) all)
 
 -- one run after another
 pub run-run : (a b : ℕ) (m : Flat) → run a (run b m) ≡ run (a + b) m

@@ -9,11 +9,11 @@ use Rattle.vax_flat.specs.State.{State, register}
 use Rattle.vax_flat.specs.Accesses.{Leaf}
 use Rattle.vax_flat.specs.Outcome.{Outcome, Ends, Raised, Range, outcome_of, touches_of}
 use Rattle.vax_flat.specs.Instruction.{acted}
-use Rattle.vax_flat.specs.Step.{Flat, state_of, leaf, whole_step, whole_delivery, step_touches, touches_after}
+use Rattle.vax_flat.specs.Step.{Flat, state_of, leaf, whole_delivery, touches_after}
 use Rattle.vax_flat.specs.Bound.{place, IsCovered, AreCovered, LieIn, IsOneOf, AreOn, AreFew, IsWhole, LeavesNoPart, is_string}
 use Rattle.vax_flat.proofs.Closed.{covered_behind, all_covered, touches_lie, leaves_no_part}
 use Rattle.vax_flat.proofs.Windows.{near_here}
-use Rattle.vax_flat.proofs.Bounds.{acted_adds, whole_adds, delivered_adds}
+use Rattle.vax_flat.proofs.Bounds.{acted_adds, delivered_adds}
 
 -- the two pages of each window
 abbrev pages_of : List ℕ → List ℕ
@@ -85,16 +85,12 @@ pub touched_after : (m : Flat) (outcome : Outcome Leaf) → LieIn [] 2 (touches_
 touched_after m (Ends x memory) = record { others = []; few = omega arith; covered = tt }
 touched_after m (Raised e) = delivered_adds _ touches_lie [] 0 leaf nothing e (state_of m) m.memory
 
-pub step_is_few : (m : Flat) → AreFew (step_touches m)
-step_is_few m =
-    joined 16 2 _ _ (omega arith) (whole_adds _ touches_lie [] 0 leaf nothing (state_of m) m.memory) (touched_after m (outcome_of (whole_step (state_of m)) m.memory))
-
 pub whole_leaf : (how : Flow) (t : State) → IsWhole how → (memory : List Area) → LeavesNoPart (outcome_of (leaf how t) memory)
 unfolding outcome_of
 whole_leaf how t h memory = h
 
 pub acts_whole : (a : Action) → is_string a ≡ false → (s : State) (memory : List Area) → LeavesNoPart (outcome_of (acted a s leaf) memory)
-acts_whole a h s memory = acted_adds _ leaves_no_part (register s 15) [] 0 leaf whole_leaf a s 0 (omega arith) (near_here s) memory
+acts_whole a h s memory = acted_adds _ leaves_no_part (register s 15) [] 0 leaf whole_leaf a h s 0 (omega arith) (near_here s) memory
 
 pub delivers_whole : (e : Exception) (s : State) (memory : List Area) → LeavesNoPart (outcome_of (whole_delivery e s) memory)
 delivers_whole e s memory = delivered_adds _ leaves_no_part [] 0 leaf whole_leaf e s memory

@@ -1,5 +1,5 @@
 -- Runs that are written one after another.
-use Rattle.std.proofs.Common.{ℕ, zero, suc, ◌≡◌, ◌≢◌, ◌+◌, ◌-◌, ◌*◌, ◌/◌, ◌%◌, ◌^◌, ◌<◌, ◌≤◌, ◌⊎◌, min, true, false, None, List, [], ◌∷◌, ◌++◌, length, take, drop, slice_set, refl, sym, ap, ◌∙◌, inl, inr, arith, length-take, length-drop, leb, ltb}
+use Rattle.std.proofs.Common.{ℕ, zero, suc, ◌≡◌, ◌≢◌, ◌+◌, ◌-◌, ◌*◌, ◌/◌, ◌%◌, ◌^◌, ◌<◌, ◌≤◌, ◌⊎◌, min, true, false, None, List, [], ◌∷◌, ◌++◌, length, take, drop, slice_set, refl, sym, ap, ◌∙◌, inl, inr, arith, length-take, length-drop, leb, ltb, slice_index}
 use Rattle.std.specs.Prelude.{nat_le}
 use Rattle.std.proofs.lemmas.Bool.{cases_Bool, cases_lt, and_parts, leb-true}
 use Rattle.std.proofs.lemmas.Bool.Decides.{nat_tests}
@@ -13,12 +13,11 @@ use Rattle.vax_flat.specs.Memory.{after, byte_at, bytes_from, with_byte, written
 use Rattle.vax_flat.specs.State.{State, mode}
 use Rattle.vax_flat.specs.Accesses.{Accesses, Leaf}
 use Rattle.vax_flat.specs.Outcome.{outcome_of}
-use Rattle.vax_flat.specs.Operand.{plus, write_at}
+use Rattle.vax_flat.specs.Operand.{plus}
 use Rattle.vax_flat.specs.String.{write_run_at, to_page_end}
-use Rattle.vax_flat.specs.StringMove.{number_in, write_pieces, pieces_of, write_span}
+use Rattle.vax_flat.specs.StringMove.{write_pieces, pieces_of, write_high_last, write_low_last, write_span}
 use Rattle.vax_flat.proofs.Alike.{violation-alike}
 use Rattle.vax_flat.proofs.Memory.{allowed_first, layout-written_run}
-use Rattle.vax_flat.proofs.StringSearch.{Each, none, more, each_head, each_tail}
 
 has_page-bytes : (area : Area) (bytes : List ℕ) (page : ℕ) → has_page (record area { bytes = bytes }) page ≡ has_page area page
 unfolding has_page
@@ -174,34 +173,6 @@ pub allowed_at : (areas : List Area) (addr len i mode : ℕ) (access : Access) �
 allowed_at areas addr len i mode access small h free =
     (allowed_first areas (plus addr i) 0 mode access (allowed_part areas addr len i 1 mode access small (omega arith) free)).0
 
--- bytes written as a number
-abbrev pub Bytes : List ℕ → Type 0
-Bytes xs = Each (λ x. x < 256) xs
-
-low_byte : (x r : ℕ) → x < 256 → (x + 256 * r) % 256 ≡ x
-low_byte x r h = omega arith
-
-high_bytes : (x r : ℕ) → x < 256 → (x + 256 * r) / 256 ≡ r
-high_bytes x r h = omega arith
-
-number-run : (areas : List Area) (addr : ℕ) (xs : List ℕ) → Bytes xs → written areas addr (length xs) (number_in xs) ≡ written_run areas addr xs
-unfolding written written_run number_in
-number-run areas addr [] all = refl
-number-run areas addr (x ∷ xs) all =
-    let h = each_head (λ y. y < 256) x xs all in
-    rw (low_byte x (number_in xs) h, high_bytes x (number_in xs) h)
-    (ap (λ m. with_byte m addr x) (number-run areas (after addr) xs (each_tail (λ y. y < 256) x xs all)))
-
-each-take : (P : ℕ → Type 0) (n : ℕ) (xs : List ℕ) → Each P xs → Each P (take n xs)
-each-take P zero xs all = none
-each-take P (suc n) [] all = none
-each-take P (suc n) (x ∷ xs) all = more x (take n xs) (each_head P x xs all) (each-take P n xs (each_tail P x xs all))
-
-each-drop : (P : ℕ → Type 0) (n : ℕ) (xs : List ℕ) → Each P xs → Each P (drop n xs)
-each-drop P zero xs all = all
-each-drop P (suc n) [] all = none
-each-drop P (suc n) (x ∷ xs) all = each-drop P n xs (each_tail P x xs all)
-
 drop_all : (n : ℕ) (xs : List ℕ) → length xs ≤ n → drop n xs ≡ []
 drop_all zero [] h = refl
 drop_all (suc n) [] h = refl
@@ -242,22 +213,17 @@ module _ (s : State) (next : State → Accesses Leaf) where
   unfolding write_run_at outcome_of
   run_written addr xs memory free = rw free refl
 
-number_written : (s : State) (next : State → Accesses Leaf) (addr len : ℕ) (xs : List ℕ) (memory : List Area) → len ≡ length xs → Bytes xs → violation memory addr len (mode s) Write ≡ None → outcome_of (write_at addr len (number_in xs) s next) memory ≡ outcome_of (next s) (written_run memory addr xs)
-unfolding write_at outcome_of
-number_written s next addr len xs memory is all free =
-    rw free (ap (λ m. outcome_of (next s) m) (ap (λ n. written memory addr n (number_in xs)) is ∙ number-run memory addr xs all))
-
-pub pieces_are : (s : State) (next : State → Accesses Leaf) (count addr : ℕ) (xs : List ℕ) (memory : List Area) → addr < 2 ^ 32 → length xs ≤ 8 * count → length xs ≤ 512 → Bytes xs → violation memory addr (length xs) (mode s) Write ≡ None → outcome_of (write_pieces count addr xs s next) memory ≡ outcome_of (next s) (written_run memory addr xs)
+pub pieces_are : (s : State) (next : State → Accesses Leaf) (count addr : ℕ) (xs : List ℕ) (memory : List Area) → addr < 2 ^ 32 → length xs ≤ 8 * count → length xs ≤ 512 → violation memory addr (length xs) (mode s) Write ≡ None → outcome_of (write_pieces count addr xs s next) memory ≡ outcome_of (next s) (written_run memory addr xs)
 unfolding write_pieces
-pieces_are s next zero addr [] memory small enough few all free = ap (outcome_of (next s)) (sym (nothing_written memory addr))
-pieces_are s next zero addr (x ∷ xs) memory small enough few all free = absurd (omega arith)
-pieces_are s next (suc count) addr xs memory small enough few all free =
+pieces_are s next zero addr [] memory small enough few free = ap (outcome_of (next s)) (sym (nothing_written memory addr))
+pieces_are s next zero addr (x ∷ xs) memory small enough few free = absurd (omega arith)
+pieces_are s next (suc count) addr xs memory small enough few free =
     let len = length-take 8 xs in
     let rest = length-drop 8 xs in
-    let first = allowed_front memory addr (length xs) (min 8 (length xs)) (mode s) Write (omega arith) free in
+    let first : violation memory addr (length (take 8 xs)) (mode s) Write ≡ None = ap (λ n. violation memory addr n (mode s) Write) len ∙ allowed_front memory addr (length xs) (min 8 (length xs)) (mode s) Write (omega arith) free in
     let m = written_run memory addr (take 8 xs) in
-    number_written s _ addr (min 8 (length xs)) (take 8 xs) memory (sym len) (each-take (λ x. x < 256) 8 xs all) first
-    ∙ (pieces_are s next count (plus addr 8) (drop 8 xs) m (omega arith) (omega arith) (omega arith) (each-drop (λ x. x < 256) 8 xs all) (still_allowed memory addr (take 8 xs) (plus addr 8) (length (drop 8 xs)) (mode s) Write ∙ behind xs memory small free)
+    run_written s _ addr (take 8 xs) memory first
+    ∙ (pieces_are s next count (plus addr 8) (drop 8 xs) m (omega arith) (omega arith) (omega arith) (still_allowed memory addr (take 8 xs) (plus addr 8) (length (drop 8 xs)) (mode s) Write ∙ behind xs memory small free)
     ∙ ap (outcome_of (next s)) (pieces_written memory addr 8 xs small few))
   where
     behind : (xs : List ℕ) (memory : List Area) → addr < 2 ^ 32 → violation memory addr (length xs) (mode s) Write ≡ None → violation memory (plus addr 8) (length (drop 8 xs)) (mode s) Write ≡ None
@@ -274,7 +240,7 @@ one_again m addr (y ∷ ys) (suc k) small h g few =
     ap (λ a. with_byte a addr y) (sym (byte_over_run m addr y (after addr) (take k ys) (omega arith) (λ i p e. let l = length-take k ys in absurd (omega arith))))
     ∙ byte-again (written_run m (after addr) (take k ys)) addr y y
 
-module _ (s : State) (next : State → Accesses Leaf) (addr : ℕ) (xs : List ℕ) (memory : List Area) (small : addr < 2 ^ 32) (some : 0 < length xs) (few : length xs ≤ 512) (all : Bytes xs) (free : violation memory addr (length xs) (mode s) Write ≡ None) where
+module _ (s : State) (next : State → Accesses Leaf) (addr : ℕ) (xs : List ℕ) (memory : List Area) (small : addr < 2 ^ 32) (some : 0 < length xs) (few : length xs ≤ 512) (free : violation memory addr (length xs) (mode s) Write ≡ None) where
   abbrev n : ℕ
   n = to_page_end addr
 
@@ -299,7 +265,7 @@ module _ (s : State) (next : State → Accesses Leaf) (addr : ℕ) (xs : List �
   after_low : n < length xs → outcome_of (write_pieces (pieces_of low) addr low s (λ s. write_run_at (plus addr n) high s next)) memory ≡ outcome_of (next s) (written_run memory addr xs)
   after_low h =
       let l = low_len h in
-      pieces_are s _ (pieces_of low) addr low memory small (omega arith) (omega arith) (each-take (λ x. x < 256) n xs all) (low_free h)
+      pieces_are s _ (pieces_of low) addr low memory small (omega arith) (omega arith) (low_free h)
       ∙ (run_written s next (plus addr n) high (written_run memory addr low) (still_allowed memory addr low (plus addr n) (length high) (mode s) Write ∙ high_free h)
       ∙ ap (outcome_of (next s)) (pieces_written memory addr n xs small few))
 
@@ -322,16 +288,16 @@ module _ (s : State) (next : State → Accesses Leaf) (addr : ℕ) (xs : List �
       over_one : (m : List Area) (ys : List ℕ) (k : ℕ) → 0 < k → 0 < length ys → length ys ≤ 512 → written_run (written_run m addr (take 1 ys)) addr (take k ys) ≡ written_run m addr (take k ys)
       over_one m ys k h g f = one_again m addr ys k small h g f
 
-  after_high : n < length xs → outcome_of (write_at addr 1 (number_in one) s (λ s. write_pieces (pieces_of high) (plus addr n) high s (λ s. write_run_at addr low s next))) memory ≡ outcome_of (next s) (written_run memory addr xs)
+  after_high : n < length xs → outcome_of (write_run_at addr one s (λ s. write_pieces (pieces_of high) (plus addr n) high s (λ s. write_run_at addr low s next))) memory ≡ outcome_of (next s) (written_run memory addr xs)
   after_high h =
       let r = high_len in
-      number_written s _ addr 1 one memory (sym one_len) (each-take (λ x. x < 256) 1 xs all) (allowed_front memory addr (length xs) 1 (mode s) Write (omega arith) free)
-      ∙ (pieces_are s _ (pieces_of high) (plus addr n) high (written_run memory addr one) (omega arith) (omega arith) (omega arith) (each-drop (λ x. x < 256) n xs all) (still_allowed memory addr one (plus addr n) (length high) (mode s) Write ∙ high_free h)
+      run_written s _ addr one memory (ap (λ k. violation memory addr k (mode s) Write) one_len ∙ allowed_front memory addr (length xs) 1 (mode s) Write (omega arith) free)
+      ∙ (pieces_are s _ (pieces_of high) (plus addr n) high (written_run memory addr one) (omega arith) (omega arith) (omega arith) (still_allowed memory addr one (plus addr n) (length high) (mode s) Write ∙ high_free h)
       ∙ (run_written s next addr low (written_run (written_run memory addr one) (plus addr n) high) (still_allowed (written_run memory addr one) (plus addr n) high addr (length low) (mode s) Write ∙ (still_allowed memory addr one addr (length low) (mode s) Write ∙ low_free h))
       ∙ ap (outcome_of (next s)) (first_again h)))
 
   pub span_written : outcome_of (write_span addr xs s next) memory ≡ outcome_of (next s) (written_run memory addr xs)
-  unfolding write_span
+  unfolding write_span write_high_last write_low_last
   span_written = by (cases_lt n (length xs)) (cases_lt 256 n)
     where
       by : (n < length xs) ⊎ (length xs ≤ n) → (256 < n) ⊎ (n ≤ 256) → outcome_of (write_span addr xs s next) memory ≡ outcome_of (next s) (written_run memory addr xs)

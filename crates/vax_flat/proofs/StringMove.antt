@@ -14,7 +14,6 @@ use Rattle.vax_strpart.specs.Kernels.{translated}
 use Rattle.vax_flat.specs.declared.Flow.{Flow}
 use Rattle.vax_flat.specs.declared.Flow.TheVariants as flow
 use Rattle.vax_flat.specs.Memory.{after, byte_at, bytes_from, written_run}
-use Rattle.vax_flat.specs.Port.{AreBytes}
 use Rattle.vax_flat.specs.State.{State, mode}
 use Rattle.vax_flat.specs.Accesses.{Accesses, Leaf}
 use Rattle.vax_flat.specs.Outcome.{Outcome, outcome_of}
@@ -24,28 +23,9 @@ use Rattle.vax_flat.specs.String.{low_registers, with_low, suspended, continued,
 use Rattle.vax_flat.specs.StringMove.{distance, overlaps, moved_count, is_backward, moved_bytes, moved_low, moved, move_rest, write_span, lowest, run_room, move_room, move_end, table_applied, move_run, fill_room, fill_run, move_part, IsMove, IsChecked}
 use Rattle.vax_flat.specs.StringAgree.{and_rest, IsBehind}
 use Rattle.vax_flat.proofs.StringState.{mode_low, conditions_low, continued_suspended, unpacked_suspended}
-use Rattle.vax_flat.proofs.StringSearch.{none, more, length_run, rest_of_whole, last, left_so}
+use Rattle.vax_flat.proofs.StringSearch.{length_run, rest_of_whole, last, left_so}
 use Rattle.vax_flat.proofs.StringCompare.{run_append, run_is, span_is}
-use Rattle.vax_flat.proofs.StringMemory.{Apart, runs_commute, run-append, bytes_outside, still_allowed, allowed_part, allowed_at, nothing_written, Bytes, run_written, span_written}
-
-pub each_run : (byte : ℕ → ℕ) (addr len : ℕ) → AreBytes byte → Bytes (bytes_from byte addr len)
-unfolding bytes_from
-each_run byte addr zero are = none
-each_run byte addr (suc len) are = more (byte addr) _ (are.below addr) (each_run byte (after addr) len are)
-
-index_below : (xs : List ℕ) (i : ℕ) → Bytes xs → slice_index xs i < 256
-index_below [] zero all = omega arith
-index_below [] (suc i) all = omega arith
-index_below (x ∷ xs) zero (more _ _ h r) = h
-index_below (x ∷ xs) (suc i) (more _ _ h r) = index_below xs i r
-
-each_translated : (table xs : List ℕ) → Bytes table → Bytes (translated table xs)
-each_translated table [] all = none
-each_translated table (x ∷ xs) all = more (slice_index table x) _ (index_below table x all) (each_translated table xs all)
-
-each_replicate : (n x : ℕ) → x < 256 → Bytes (replicate n x)
-each_replicate zero x h = none
-each_replicate (suc n) x h = more x (replicate n x) h (each_replicate n x h)
+use Rattle.vax_flat.proofs.StringMemory.{Apart, runs_commute, run-append, bytes_outside, still_allowed, allowed_part, allowed_at, nothing_written, run_written, span_written}
 
 -- bytes as they are moved
 module _ (translate : Bool) (p : Progress) where
@@ -62,10 +42,6 @@ module _ (translate : Bool) (p : Progress) where
   by-length : (b : Bool) (table xs : List ℕ) → length (by b table xs) ≡ length xs
   by-length true table xs = length-map xs _
   by-length false table xs = refl
-
-  by-bytes : (b : Bool) (table xs : List ℕ) → Bytes table → Bytes xs → Bytes (by b table xs)
-  by-bytes true table xs all some = each_translated table xs all
-  by-bytes false table xs all some = some
 
   -- a run of the source as it is moved
   abbrev pub source : List Area → ℕ → ℕ → List ℕ
@@ -99,7 +75,7 @@ first_within : (b : Bool) (done n : ℕ) → (if b then 0 else min done n) + (n 
 first_within true done n = omega arith
 first_within false done n = omega arith
 
-table_due : (b : Bool) (n : ℕ) → b ≡ true → 0 < n → (b && not (n == 0)) ≡ true
+pub table_due : (b : Bool) (n : ℕ) → b ≡ true → 0 < n → (b && not (n == 0)) ≡ true
 table_due true n e h = let f : (n == 0) ≡ false = grind (arith, nat_tests) in rw f refl
 table_due false n e h = absurd (cc)
 
@@ -312,7 +288,7 @@ unfolding table_applied
 tables true p s m raw k small free = span_is p.table 256 s m _ (small refl) (λ i h. allowed_at m p.table 256 i (mode s) Read (small refl) h (free refl))
 tables false p s m raw k small free = refl
 
-unused_alike : (p : Progress) (j : ℕ) (layout : Layout) (b : Bool) → layout ≡ (if b then Translates else Moves) → AreUnusedZero layout p → AreUnusedZero layout (record p { done = p.done + j })
+pub unused_alike : (p : Progress) (j : ℕ) (layout : Layout) (b : Bool) → layout ≡ (if b then Translates else Moves) → AreUnusedZero layout p → AreUnusedZero layout (record p { done = p.done + j })
 unused_alike p j Moves b is u = u
 unused_alike p j Compares b is u = u
 unused_alike p j Translates b is u = u
@@ -321,7 +297,7 @@ unused_alike p j Searches false is u = absurd (cc)
 unused_alike p j Scans true is u = absurd (cc)
 unused_alike p j Scans false is u = absurd (cc)
 
-some_up : (addr page : ℕ) → 0 < room_up addr page
+pub some_up : (addr page : ℕ) → 0 < room_up addr page
 unfolding room_up
 some_up addr page = by_page (page == addr / 512 + 1)
   where
@@ -346,7 +322,7 @@ some_run p a b = by_way (is_backward p)
     by_way false = let h = some_up a (b / 512) in let k = some_up b (a / 512) in omega arith
 
 -- MOVC3, MOVC5, MOVTC
-module _ (translate : Bool) (p : Progress) (s : State) (m : List Area) (next : Flow → State → Accesses Leaf) (behind : IsBehind next) (ready : IsReady s) (proper : IsProper p) (is : IsMove translate p) (checked : IsChecked translate p s m) (few : p.done ≤ p.len2) (bytes : AreBytes (byte_at m)) where
+module _ (translate : Bool) (p : Progress) (s : State) (m : List Area) (next : Flow → State → Accesses Leaf) (behind : IsBehind next) (ready : IsReady s) (proper : IsProper p) (is : IsMove translate p) (checked : IsChecked translate p s m) (few : p.done ≤ p.len2) where
   abbrev count : ℕ
   count = moved_count p
 
@@ -367,7 +343,7 @@ module _ (translate : Bool) (p : Progress) (s : State) (m : List Area) (next : F
   unfolding moved completed
   moved_over j xs memory = ap (λ t. outcome_of (next flow.Done t) memory) (conditions_low s xs (moved_low translate p) _ ready.full)
 
-  later_move : (j : ℕ) → IsMove translate (on j)
+  pub later_move : (j : ℕ) → IsMove translate (on j)
   later_move j = record { layout = is.layout; addr1 = is.addr1; addr2 = is.addr2; table = is.table; delta = is.delta }
 
   later_checked : (j a : ℕ) (xs ys : List ℕ) → IsChecked translate (on j) (with_low ys s) (written_run m a xs)
@@ -420,7 +396,6 @@ module _ (translate : Bool) (p : Progress) (s : State) (m : List Area) (next : F
       span_is (plus p.addr1 low) j s m _ (omega arith) (λ i h. let e : plus (plus p.addr1 low) i ≡ plus p.addr1 (low + i) = omega arith in ap (λ a. may_access m (page_of a) (mode s) Read) e ∙ allowed_at m p.addr1 count (low + i) (mode s) Read a1 (omega arith) checked.source)
       ∙ (by_translate translate refl raw
       ∙ span_written s _ (plus p.addr2 low) ys m (omega arith) (omega arith) (omega arith)
-      (by-bytes translate p translate (bytes_from (byte_at m) p.table 256) raw (each_run (byte_at m) p.table 256 bytes) (each_run (byte_at m) (plus p.addr1 low) j bytes))
       (ap (λ k. violation m (plus p.addr2 low) k (mode s) Write) len ∙ allowed_part m p.addr2 p.len2 low j (mode s) Write a2 (omega arith) checked.destination))
     where
       by_translate : (b : Bool) → translate ≡ b → (raw : List ℕ) → outcome_of (table_applied translate p raw s (λ bytes t. write_span (plus p.addr2 (lowest p j)) bytes t (λ t. move_end translate p j t next))) m ≡ outcome_of (write_span (plus p.addr2 (lowest p j)) (shaped translate p m raw) s (λ t. move_end translate p j t next)) m
@@ -460,3 +435,33 @@ module _ (translate : Bool) (p : Progress) (s : State) (m : List Area) (next : F
     where
       on_none : on 0 ≡ p
       on_none = let e : p.done + 0 ≡ p.done = omega arith in rw e refl
+
+  -- how a part goes: it completes the move, or writes a run and then does the end of so many units
+  pub data PartOf : Type 0 where
+    AllDone : outcome_of (move_part translate p s next) m ≡ outcome_of (moved translate p s next) m → PartOf
+    Wrote : (j a : ℕ) (xs : List ℕ) → 0 < j → p.done + j ≤ p.len2 → outcome_of (move_part translate p s next) m ≡ outcome_of (move_end translate p j s next) (written_run m a xs) → PartOf
+
+  pub part_goes : PartOf
+  unfolding move_part filled_on
+  part_goes = elim (cases_eq p.done p.len2) [
+    | inl all ↦ AllDone (rw (eq-eqb p.done p.len2 all) refl)
+    | inr part ↦ elim (cases_lt p.done count) [
+      | inl less ↦
+          let t : nat_lt p.done count ≡ true = grind (arith, nat_tests) in
+          let r = room less in
+          Wrote (move_room p) (plus p.addr2 (lowest p (move_room p))) (source translate p m (plus p.addr1 (lowest p (move_room p))) (move_room p)) r.0 (omega arith) (rw (ne_eqb p.done p.len2 part, t) (part_moves (move_room p) r.0 r.1 r.2))
+      | inr more_done ↦
+          let f : nat_lt p.done count ≡ false = grind (arith, nat_tests) in
+          let r = fill (omega arith) in
+          Wrote (fill_room p) (plus p.addr2 p.done) (replicate (fill_room p) p.byte) r.0 r.2 (rw (ne_eqb p.done p.len2 part, f) (part_fills (fill_room p) r.0 r.1 r.2))
+    ]
+  ]
+
+  -- what was checked stays so
+  pub checked_on : (j a : ℕ) (xs : List ℕ) → IsChecked translate (on j) s (written_run m a xs)
+  checked_on j a xs = record {
+    source = still_allowed m a xs p.addr1 count (mode s) Read ∙ checked.source;
+    table = λ e. still_allowed m a xs p.table 256 (mode s) Read ∙ checked.table e;
+    apart = checked.apart;
+    destination = still_allowed m a xs p.addr2 p.len2 (mode s) Write ∙ checked.destination;
+  }

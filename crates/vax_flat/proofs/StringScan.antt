@@ -1,5 +1,5 @@
 -- A search by a table in parts is the search.
-use Rattle.std.proofs.Common.{ℕ, zero, suc, ◌≡◌, ◌+◌, ◌-◌, ◌%◌, ◌^◌, ◌<◌, ◌≤◌, Bool, true, false, not, if◌then◌else◌, Option, None, List, ◌∷◌, ◌++◌, length, take, replicate, slice_index, refl, sym, ap, ◌∙◌, inl, inr, arith}
+use Rattle.std.proofs.Common.{ℕ, zero, suc, ◌≡◌, ◌+◌, ◌-◌, ◌%◌, ◌^◌, ◌<◌, ◌≤◌, Bool, true, false, not, if◌then◌else◌, Option, None, List, ◌∷◌, ◌++◌, length, take, replicate, slice_index, refl, sym, ap, subst, ◌∙◌, inl, inr, arith}
 use Rattle.std.specs.List.{position, position_or_len}
 use Rattle.std.proofs.lemmas.Bool.{cases_Bool, cases_lt, eq-eqb, ne_eqb, cases_eq}
 use Rattle.std.proofs.lemmas.Bool.Decides.{nat_tests}
@@ -17,14 +17,13 @@ use Rattle.vax_flat.specs.declared.Flow.{Flow}
 use Rattle.vax_flat.specs.declared.Flow.TheVariants as flow
 use Rattle.vax_flat.specs.declared.Exception.TheVariants as exception
 use Rattle.vax_flat.specs.Memory.{after, byte_at, number, bytes_from}
-use Rattle.vax_flat.specs.Port.{AreBytes}
 use Rattle.vax_flat.specs.State.{State, mode, with_conditions}
 use Rattle.vax_flat.specs.Accesses.{Accesses, Leaf}
 use Rattle.vax_flat.specs.Outcome.{Outcome, Raised, outcome_of, unless_violated, is_allowed}
 use Rattle.vax_flat.specs.Operand.{plus, read_at, check_at, asked}
 use Rattle.vax_flat.specs.Bound.{LeavesNoPart}
 use Rattle.vax_flat.specs.String.{low_registers, with_low, suspended, continued, completed, read_run_at, from_registers, IsReady}
-use Rattle.vax_flat.specs.StringSearch.{scanned, by_entry, is_masked, sought, whole_scan, searched, search_room, if_found, search_end, scan_run, scan_part, piece_read, table_read, table_split, known_from, known_to, is_unknown, is_masked_entry, found_by, found_codes}
+use Rattle.vax_flat.specs.StringSearch.{scanned, by_entry, is_masked, sought, whole_scan, searched, search_room, if_found, search_end, scan_end, scan_run, scan_part, piece_read, table_read, table_split, known_from, known_to, is_unknown, is_masked_entry, found_by, found_codes}
 use Rattle.vax_flat.specs.StringAgree.{and_rest, IsBehind}
 use Rattle.vax_flat.proofs.StringState.{six, low_set, mode_low, conditions_low, continued_suspended, unpacked_suspended}
 use Rattle.vax_flat.proofs.StringSearch.{page_allowed, first_barred, number_one, length_run, allowed_one, Each, none, more, Tells, run_sought, Alike, sought_over, rest_of_whole, whole_barred, nothing_sought, unused_alike, ended}
@@ -49,6 +48,7 @@ pub record Known (memory : List Area) (s : State) (table from to : ℕ) (entries
   pub allowed : (x : ℕ) → x < 256 → is_unknown from to x ≡ false → may_access memory (page_of (plus table x)) (mode s) Read ≡ true
   pub entry : (x : ℕ) → x < 256 → is_unknown from to x ≡ false → slice_index entries x ≡ byte_at memory (plus table x)
   pub barred : (x : ℕ) → x < 256 → is_unknown from to x ≡ true → may_access memory (page_of (plus table x)) (mode s) Read ≡ false
+  pub end : to ≤ 256
 
 pub record Reads (memory : List Area) (s : State) (table : ℕ) : Type 0 where
   pub from : ℕ
@@ -104,11 +104,13 @@ module _ (memory : List Area) (s : State) (table : ℕ) (small : table < 2 ^ 32)
         allowed = λ x few is. ap (λ page. may_access memory page (mode s) Read) (same_page x (omega arith)) ∙ good;
         entry = λ x few is. byte_in_run (byte_at memory) 256 table x small few;
         barred = λ x few is. absurd (grind (arith, nat_tests));
+        end = omega arith;
       }
       by false bad = record {
         allowed = λ x few is. absurd (grind (arith, nat_tests));
         entry = λ x few is. absurd (grind (arith, nat_tests));
         barred = λ x few is. ap (λ page. may_access memory page (mode s) Read) (same_page x (omega arith)) ∙ bad;
+        end = omega arith;
       }
 
   abbrev low : Bool → List ℕ
@@ -145,21 +147,25 @@ module _ (memory : List Area) (s : State) (table : ℕ) (small : table < 2 ^ 32)
         allowed = λ x few is. elim (cases_lt x split) [ inl l ↦ first x l ∙ p | inr g ↦ second x g few ∙ q ];
         entry = λ x few is. elim (cases_lt x split) [ inl l ↦ low_entry x true l | inr g ↦ high_entry x true g few ];
         barred = λ x few is. absurd (grind (arith, nat_tests));
+        end = omega arith;
       }
       by true false p q = record {
         allowed = λ x few is. first x (grind (arith, nat_tests)) ∙ p;
         entry = λ x few is. low_entry x false (grind (arith, nat_tests));
         barred = λ x few is. second x (grind (arith, nat_tests)) few ∙ q;
+        end = omega arith;
       }
       by false true p q = record {
         allowed = λ x few is. second x (grind (arith, nat_tests)) few ∙ q;
         entry = λ x few is. high_entry x false (grind (arith, nat_tests)) few;
         barred = λ x few is. first x (grind (arith, nat_tests)) ∙ p;
+        end = omega arith;
       }
       by false false p q = record {
         allowed = λ x few is. absurd (grind (arith, nat_tests));
         entry = λ x few is. absurd (grind (arith, nat_tests));
         barred = λ x few is. elim (cases_lt x split) [ inl l ↦ first x l ∙ p | inr g ↦ second x g few ∙ q ];
+        end = omega arith;
       }
 
   one_read : split ≡ 256 → (next : ℕ → ℕ → List ℕ → State → Accesses Leaf) → outcome_of (table_read table s next) memory ≡ outcome_of (next (known_from (may table) 256) 256 (piece (may table) table 256) s) memory
@@ -189,7 +195,7 @@ module _ (memory : List Area) (s : State) (table : ℕ) (small : table < 2 ^ 32)
   ]
 
 -- SCANC, SPANC
-module _ (some : Bool) (p : Progress) (s : State) (memory : List Area) (next : Flow → State → Accesses Leaf) (behind : IsBehind next) (ready : IsReady s) (proper : IsProper p) (kind : layout_of p.op ≡ Scans) (small : p.addr1 < 2 ^ 32) (near : p.table < 2 ^ 32) (short : p.delta < 2 ^ 8) (bytes : AreBytes (byte_at memory)) where
+module _ (some : Bool) (p : Progress) (s : State) (memory : List Area) (next : Flow → State → Accesses Leaf) (behind : IsBehind next) (ready : IsReady s) (proper : IsProper p) (kind : layout_of p.op ≡ Scans) (small : p.addr1 < 2 ^ 32) (near : p.table < 2 ^ 32) (short : p.delta < 2 ^ 8) where
   abbrev rest : State → Accesses Leaf
   rest t = from_registers p.op (whole_scan some) t next
 
@@ -246,19 +252,20 @@ module _ (some : Bool) (p : Progress) (s : State) (memory : List Area) (next : F
   abbrev test : ℕ → Bool
   test = is_masked_entry some held.entries p.byte
 
-  byte_run : (i : ℕ) → i < search_room p → slice_index run i < 256
-  byte_run i h = rw (byte_in_run (byte_at memory) (search_room p) p.addr1 i small h) (bytes.below _)
+  -- a byte whose entry is known is one of a table
+  known_few : (x : ℕ) → is_unknown held.from held.to x ≡ false → x < 256
+  known_few x is = let e = held.known.end in grind (arith, nat_tests)
 
-  tells_one : (x : ℕ) → x < 256 → is_unknown held.from held.to x ≡ false → Tells examine (scanned p.table) test s next memory x
+  tells_one : (x : ℕ) → is_unknown held.from held.to x ≡ false → Tells examine (scanned p.table) test s next memory x
   unfolding by_entry read_at outcome_of
-  tells_one x few is k = rw (allowed_one memory (plus p.table x) (mode s) (held.known.allowed x few is), number_one (byte_at memory) (plus p.table x), held.known.entry x few is) refl
+  tells_one x is k = rw (allowed_one memory (plus p.table x) (mode s) (held.known.allowed x (known_few x is) is), number_one (byte_at memory) (plus p.table x), held.known.entry x (known_few x is) is) refl
 
   all_tell : (len addr : ℕ) → addr < 2 ^ 32 → ((i : ℕ) → i < len → is_unknown held.from held.to (byte_at memory (plus addr i)) ≡ false) → Each (Tells examine (scanned p.table) test s next memory) (bytes_from (byte_at memory) addr len)
   unfolding bytes_from
   all_tell zero addr below each = none
   all_tell (suc len) addr below each =
       let here : plus addr 0 ≡ addr = omega arith in
-      more (byte_at memory addr) _ (tells_one (byte_at memory addr) (bytes.below addr) (ap (λ a. is_unknown held.from held.to (byte_at memory a)) (sym here) ∙ each 0 (omega arith)))
+      more (byte_at memory addr) _ (tells_one (byte_at memory addr) (ap (λ a. is_unknown held.from held.to (byte_at memory a)) (sym here) ∙ each 0 (omega arith)))
       (all_tell len (after addr) (omega arith) (λ i h. let e : plus (after addr) i ≡ plus addr (suc i) = omega arith in ap (λ a. is_unknown held.from held.to (byte_at memory a)) e ∙ each (suc i) (omega arith)))
 
   free : (n : ℕ) → n ≤ search_room p → may_access memory (page_of p.addr1) (mode s) Read ≡ true → violation memory p.addr1 n (mode s) Read ≡ None
@@ -287,7 +294,7 @@ module _ (some : Bool) (p : Progress) (s : State) (memory : List Area) (next : F
   first_is : 0 < search_room p → slice_index run 0 ≡ byte_at memory p.addr1
   first_is h = byte_in_run (byte_at memory) (search_room p) p.addr1 0 small h ∙ ap (byte_at memory) here
 
-  part_read : may_access memory (page_of p.addr1) (mode s) Read ≡ true → outcome_of (scan_run some p (search_room p) s next) memory ≡ outcome_of (check_at (plus p.table (slice_index run 0)) 1 Read s (λ s. search_end (scanned p.table) test p (take count run) s next)) memory
+  part_read : may_access memory (page_of p.addr1) (mode s) Read ≡ true → outcome_of (scan_run some p (search_room p) s next) memory ≡ outcome_of (check_at (plus p.table (slice_index run 0)) 1 Read s (λ s. scan_end some p count held.entries run s next)) memory
   unfolding scan_run read_run_at outcome_of
   part_read good = rw (free (search_room p) (omega arith) good) (held.read _)
 
@@ -313,19 +320,65 @@ module _ (some : Bool) (p : Progress) (s : State) (memory : List Area) (next : F
       let all : p.len1 - 0 ≡ p.len1 = omega arith in
       rw (taken, position_from-zero test (bytes_from (byte_at memory) p.addr1 count), length_run (byte_at memory) p.addr1 count) (rw (here, zero_added, all) at law)
 
-  part_known : 0 < search_room p → may_access memory (page_of p.addr1) (mode s) Read ≡ true → is_unknown held.from held.to (slice_index run 0) ≡ false → whole ≡ and_rest rest (outcome_of (scan_run some p (search_room p) s next) memory)
-  part_known any good is =
+  known_agrees : may_access memory (page_of p.addr1) (mode s) Read ≡ true → whole ≡ and_rest rest (outcome_of (search_end (scanned p.table) test p (take count run) s next) memory)
+  known_agrees good =
       whole_known good
-      ∙ (ended (scanned p.table) test p s next memory rest examine (take count run) behind (let h = room.1 in let g = count_few in omega (arith, taken_length)) done (λ less. goes_on (length (take count run)))
-      ∙ ap (and_rest rest) (sym (part_read good ∙ checked_out _ (held.known.allowed (slice_index run 0) (byte_run 0 any) is))))
+      ∙ ended (scanned p.table) test p s next memory rest examine (take count run) behind (let h = room.1 in let g = count_few in omega (arith, taken_length)) done (λ less. goes_on (length (take count run)))
+
+  -- the first byte by its own entry
+  abbrev own_entry : ℕ
+  own_entry = number (byte_at memory) (plus p.table (slice_index run 0)) 1
+
+  abbrev own : ℕ → Bool
+  own byte = is_masked some p.byte own_entry
+
+  read_own : (k : ℕ → State → Accesses Leaf) → may_access memory (page_of (plus p.table (slice_index run 0))) (mode s) Read ≡ true → outcome_of (read_at (plus p.table (slice_index run 0)) 1 s k) memory ≡ outcome_of (k own_entry s) memory
+  unfolding read_at outcome_of
+  read_own k allowed = rw (allowed_one memory (plus p.table (slice_index run 0)) (mode s) allowed) refl
+
+  own_tells_run : may_access memory (page_of (plus p.table (slice_index run 0))) (mode s) Read ≡ true → Tells examine (scanned p.table) own s next memory (slice_index run 0)
+  unfolding by_entry read_at outcome_of
+  own_tells_run allowed k = rw (allowed_one memory (plus p.table (slice_index run 0)) (mode s) allowed) refl
+
+  own_tells : 0 < search_room p → may_access memory (page_of (plus p.table (slice_index run 0))) (mode s) Read ≡ true → Each (Tells examine (scanned p.table) own s next memory) (bytes_from (byte_at memory) p.addr1 1)
+  unfolding bytes_from
+  own_tells any allowed = more (byte_at memory p.addr1) _ (subst (Tells examine (scanned p.table) own s next memory) (first_is any) (own_tells_run allowed)) none
+
+  one_taken : 0 < search_room p → take 1 run ≡ bytes_from (byte_at memory) p.addr1 1
+  one_taken any = take_run (byte_at memory) p.addr1 1 (search_room p) any
+
+  one_length : 0 < search_room p → length (take 1 run) ≡ 1
+  one_length any = ap length (one_taken any) ∙ length_run (byte_at memory) p.addr1 1
+
+  whole_own : 0 < search_room p → may_access memory (page_of p.addr1) (mode s) Read ≡ true → may_access memory (page_of (plus p.table (slice_index run 0))) (mode s) Read ≡ true → whole ≡ if_found (position own (take 1 run)) (λ i. outcome_of (scanned p.table (p.len1 - i) (plus p.addr1 i) s next) memory) (outcome_of (sought examine (scanned p.table) (p.len1 - length (take 1 run)) (plus p.addr1 (length (take 1 run))) s next) memory)
+  whole_own any good allowed =
+      let law = run_sought examine (scanned p.table) own s next memory 1 0 p.len1 p.addr1 small (let h = room.1 in omega arith) (rw here (free 1 any good)) (rw here (own_tells any allowed)) in
+      let zero_added : 0 + 1 ≡ 1 = refl in
+      let all : p.len1 - 0 ≡ p.len1 = omega arith in
+      rw (one_taken any, position_from-zero own (bytes_from (byte_at memory) p.addr1 1), length_run (byte_at memory) p.addr1 1) (rw (here, zero_added, all) at law)
+
+  own_agrees : 0 < search_room p → may_access memory (page_of p.addr1) (mode s) Read ≡ true → may_access memory (page_of (plus p.table (slice_index run 0))) (mode s) Read ≡ true → whole ≡ and_rest rest (outcome_of (search_end (scanned p.table) own p (take 1 run) s next) memory)
+  own_agrees any good allowed =
+      whole_own any good allowed
+      ∙ ended (scanned p.table) own p s next memory rest examine (take 1 run) behind (let h = room.1 in let l = one_length any in omega arith) done (λ less. goes_on (length (take 1 run)))
+
+  end_agrees : 0 < search_room p → may_access memory (page_of p.addr1) (mode s) Read ≡ true → may_access memory (page_of (plus p.table (slice_index run 0))) (mode s) Read ≡ true → whole ≡ and_rest rest (outcome_of (scan_end some p count held.entries run s next) memory)
+  unfolding scan_end
+  end_agrees any good allowed = elim (cases_eq count 0) [
+    | inl e ↦ rw (eq-eqb count 0 e) (own_agrees any good allowed ∙ ap (and_rest rest) (sym (read_own (λ entry s. search_end (scanned p.table) (λ byte. is_masked some p.byte entry) p (take 1 run) s next) allowed)))
+    | inr n ↦ rw (ne_eqb count 0 n) (known_agrees good)
+  ]
+
+  part_allowed : 0 < search_room p → may_access memory (page_of p.addr1) (mode s) Read ≡ true → may_access memory (page_of (plus p.table (slice_index run 0))) (mode s) Read ≡ true → whole ≡ and_rest rest (outcome_of (scan_run some p (search_room p) s next) memory)
+  part_allowed any good allowed =
+      end_agrees any good allowed ∙ ap (and_rest rest) (sym (part_read good ∙ checked_out _ allowed))
 
   barred_entry : (left addr x : ℕ) → byte_at memory addr ≡ x → may_access memory (page_of addr) (mode s) Read ≡ true → may_access memory (page_of (plus p.table x)) (mode s) Read ≡ false → outcome_of (sought examine (scanned p.table) (suc left) addr s next) memory ≡ Raised (exception.Access (violation_at memory (plus p.table x) Read))
   unfolding sought by_entry read_at outcome_of
   barred_entry left addr x is good bad = rw (allowed_one memory addr (mode s) good, number_one (byte_at memory) addr, is, first_barred memory (plus p.table x) 1 (mode s) Read (omega arith) bad) refl
 
-  part_unknown : 0 < search_room p → may_access memory (page_of p.addr1) (mode s) Read ≡ true → is_unknown held.from held.to (slice_index run 0) ≡ true → whole ≡ and_rest rest (outcome_of (scan_run some p (search_room p) s next) memory)
-  part_unknown any good is =
-      let bad = held.known.barred (slice_index run 0) (byte_run 0 any) is in
+  part_forbidden : 0 < search_room p → may_access memory (page_of p.addr1) (mode s) Read ≡ true → may_access memory (page_of (plus p.table (slice_index run 0))) (mode s) Read ≡ false → whole ≡ and_rest rest (outcome_of (scan_run some p (search_room p) s next) memory)
+  part_forbidden any good bad =
       let more_left : p.len1 ≡ suc (p.len1 - 1) = (let h = room.1 in omega arith) in
       ap (λ n. outcome_of (sought examine (scanned p.table) n p.addr1 s next) memory) more_left
       ∙ (barred_entry (p.len1 - 1) p.addr1 (slice_index run 0) (sym (first_is any)) good bad
@@ -341,9 +394,9 @@ module _ (some : Bool) (p : Progress) (s : State) (memory : List Area) (next : F
   scan_agrees = elim (cases_eq p.len1 0) [
     | inl e ↦ rw (eq-eqb p.len1 0 e) (ap (λ n. outcome_of (sought examine (scanned p.table) n p.addr1 s next) memory) e ∙ (nothing_sought examine (scanned p.table) s next memory p.addr1 ∙ sym (rest_of_whole rest _ (done 0 p.addr1))))
     | inr n ↦ rw (ne_eqb p.len1 0 n) (elim (cases_Bool (may_access memory (page_of p.addr1) (mode s) Read)) [
-      | inl good ↦ elim (cases_Bool (is_unknown held.from held.to (slice_index run 0))) [
-        | inl is ↦ part_unknown (room.0 (omega arith)) good is
-        | inr isn't ↦ part_known (room.0 (omega arith)) good isn't
+      | inl good ↦ elim (cases_Bool (may_access memory (page_of (plus p.table (slice_index run 0))) (mode s) Read)) [
+        | inl allowed ↦ part_allowed (room.0 (omega arith)) good allowed
+        | inr bad ↦ part_forbidden (room.0 (omega arith)) good bad
       ]
       | inr bad ↦ part_barred (omega arith) bad
     ])

@@ -8,16 +8,25 @@ use Rattle.vax_strpart.specs.declared.packing.Layout.TheVariants.{Moves, Compare
 use Rattle.vax_strpart.specs.Packing.{layout_of, packed, packed_as, unpacked, unpacked_as, IsProper}
 use Rattle.vax_strpart.proofs.PackingLaws.{unpacked-packed}
 use Rattle.vax_flat.specs.State.{State, with_conditions, mode}
+use Rattle.vax_flat.specs.StringOperands.{sixteen as sixteen_of}
 use Rattle.vax_flat.specs.String.{low_registers, with_low, left, continued, suspended, IsReady}
 
 -- a list of sixteen
 pub data Sixteen : List ℕ → Type 0 where
   sixteen : (a b c d e f g h i j k l m n o p : ℕ) → Sixteen (a ∷ b ∷ c ∷ d ∷ e ∷ f ∷ g ∷ h ∷ i ∷ j ∷ k ∷ l ∷ m ∷ n ∷ o ∷ p ∷ [])
 
-is_sixteen : (xs : List ℕ) → length xs ≡ 16 → Sixteen xs
+pub is_sixteen : (xs : List ℕ) → length xs ≡ 16 → Sixteen xs
 is_sixteen (a ∷ b ∷ c ∷ d ∷ e ∷ f ∷ g ∷ h ∷ i ∷ j ∷ k ∷ l ∷ m ∷ n ∷ o ∷ p ∷ []) q = sixteen a b c d e f g h i j k l m n o p
 is_sixteen (a ∷ b ∷ c ∷ d ∷ e ∷ f ∷ g ∷ h ∷ i ∷ j ∷ k ∷ l ∷ m ∷ n ∷ o ∷ p ∷ x ∷ xs) q = absurd (omega arith)
 is_sixteen xs q = absurd (omega arith)
+
+by_sixteen : (regs : List ℕ) → Sixteen regs → sixteen_of regs ≡ regs
+unfolding sixteen_of
+by_sixteen regs (sixteen a b c d e f g h i j k l m n o p) = refl
+
+-- a core's registers are its sixteen
+pub sixteen_is : (regs : List ℕ) → length regs ≡ 16 → sixteen_of regs ≡ regs
+sixteen_is regs full = by_sixteen regs (is_sixteen regs full)
 
 -- a state with these registers and this status
 abbrev with : State → List ℕ → Psl → State

@@ -66,7 +66,7 @@ pub record IsClosed (Q : List ℕ → ℕ → Accesses Leaf → Type 0) : Type 0
   pub asks : (windows : List ℕ) (n addr len mode : ℕ) (access : Access) (next : Bool → Accesses Leaf) → ((allowed : Bool) → Q windows n (next allowed)) → Q windows n (Asks addr len mode access next)
   pub reads : (windows : List ℕ) (n addr len mode : ℕ) (next : ℕ → Accesses Leaf) → IsCovered windows addr len → ((x : ℕ) → Q windows n (next x)) → Q windows n (Reads addr len mode next)
   pub writes : (windows : List ℕ) (n addr len value mode : ℕ) (next : Accesses Leaf) → IsCovered windows addr len → Q windows n next → Q windows n (Writes addr len value mode next)
-  pub reads_run : (windows : List ℕ) (n addr len mode : ℕ) (next : List ℕ → Accesses Leaf) → IsCovered windows addr len → ((bytes : List ℕ) → Q windows n (next bytes)) → Q windows n (ReadsRun addr len mode next)
+  pub reads_run : (windows : List ℕ) (n addr len mode : ℕ) (next : List ℕ → Accesses Leaf) → IsCovered windows addr len → ((bytes : List ℕ) → length bytes ≡ len → Q windows n (next bytes)) → Q windows n (ReadsRun addr len mode next)
   pub writes_run : (windows : List ℕ) (n addr : ℕ) (bytes : List ℕ) (mode : ℕ) (next : Accesses Leaf) → IsCovered windows addr (length bytes) → Q windows n next → Q windows n (WritesRun addr bytes mode next)
 
 -- an instruction that is completed, or ends the run, and leaves no part

@@ -130,8 +130,8 @@ pub record DoSame (memory : List Area) (tree other : Accesses Leaf) : Type 0 whe
   pub outcome : outcome_of tree memory ≡ outcome_of other memory
   pub touches : touches_of tree memory ≡ touches_of other memory
 
--- a tree that goes from operand to operand of these kinds, and behind the last has a part of its own; a privileged one does so in kernel mode
--- alone, and takes no operand elsewhere
+-- A tree that goes from operand to operand of these kinds, and behind the last has a part of its own, by the state before the operands, the
+-- operands and the state behind them. A privileged one does so in kernel mode alone, and takes no operand elsewhere.
 pub record Takes (privileged : Bool) (kinds : List OperandKind) (tree : State → (Flow → State → Accesses Leaf) → Accesses Leaf) : Type 0 where
-  pub rest : List (Operand × ℕ) → State → (Flow → State → Accesses Leaf) → Accesses Leaf
-  pub takes : (s : State) (next : Flow → State → Accesses Leaf) → tree s next ≡ unless_privileged privileged s (next_operands kinds s (λ xs s. rest xs s next))
+  pub rest : State → List (Operand × ℕ) → State → (Flow → State → Accesses Leaf) → Accesses Leaf
+  pub takes : (s : State) (next : Flow → State → Accesses Leaf) → tree s next ≡ unless_privileged privileged s (next_operands kinds s (λ xs t. rest s xs t next))

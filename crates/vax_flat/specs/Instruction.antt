@@ -5,8 +5,6 @@ use Rattle.vax_isa.specs.declared.actions.Action.TheVariants as action
 use Rattle.vax_isa.specs.Rows.{action_of}
 use Rattle.vax_flat.specs.declared.Exception.TheVariants.{Privileged}
 use Rattle.vax_flat.specs.declared.Flow.{Flow}
-use Rattle.vax_flat.specs.declared.Flow.TheVariants as flow
-use Rattle.vax_flat.specs.declared.Ending.TheVariants as ending
 use Rattle.vax_flat.specs.State.{State}
 use Rattle.vax_flat.specs.Accesses.{Accesses, Raises, Leaf}
 use Rattle.vax_flat.specs.Operand.{fetched}
@@ -16,10 +14,7 @@ use Rattle.vax_flat.specs.Field.{performed as field}
 use Rattle.vax_flat.specs.Call.{performed as call}
 use Rattle.vax_flat.specs.Queue.{performed as queue}
 use Rattle.vax_flat.specs.System.{is_for_kernel, performed as system}
-
--- what isn't built yet
-abbrev unbuilt : State → (Flow → State → Accesses Leaf) → Accesses Leaf
-unbuilt s next = next (flow.Ended ending.Unbuilt) s
+use Rattle.vax_flat.specs.StringParts.{text_part, text_whole}
 
 unfoldable pub acted : Action → State → (Flow → State → Accesses Leaf) → Accesses Leaf
 acted (action.Integer i) s next = integer i s next
@@ -28,7 +23,7 @@ acted (action.Field f) s next = field f s next
 acted (action.Call c) s next = call c s next
 acted (action.Queue q) s next = queue q s next
 acted (action.System i) s next = system i s next
-acted (action.Text t) s next = unbuilt s next
+acted (action.Text t) s next = text_whole t s next
 
 -- the first part of it: of a string instruction, which may be made in parts, so many of its units; of any other all
 unfoldable pub acted_part : Action → State → (Flow → State → Accesses Leaf) → Accesses Leaf
@@ -38,21 +33,7 @@ acted_part (action.Field f) s next = field f s next
 acted_part (action.Call c) s next = call c s next
 acted_part (action.Queue q) s next = queue q s next
 acted_part (action.System i) s next = system i s next
-acted_part (action.Text t) s next = unbuilt s next
-
--- a later part of the string instruction with this opcode, by the registers alone, which say what remains
-unfoldable pub resumed : ℕ → State → (Flow → State → Accesses Leaf) → Accesses Leaf
-resumed opcode s next = unbuilt s next
-
--- the actions of which the definition stands above
-abbrev pub is_built : Action → Bool
-is_built (action.Integer i) = true
-is_built (action.Control c) = true
-is_built (action.Field f) = true
-is_built (action.Call c) = true
-is_built (action.Queue q) = true
-is_built (action.System i) = true
-is_built (action.Text t) = false
+acted_part (action.Text t) s next = text_part t s next
 
 -- the instructions for kernel mode alone
 abbrev pub is_privileged : Action → Bool

@@ -23,6 +23,7 @@ pub mod StringCompare
 pub mod StringMove
 pub mod StringEscape
 pub mod StringMatch
+pub mod StringParts
 pub mod Instruction
 pub mod Grammar
 pub mod Evaluation

@@ -9,7 +9,8 @@ use Rattle.vax_flat.specs.Accesses.{Accesses, Leaf, Went}
 use Rattle.vax_flat.specs.Outcome.{Outcome, Range, Ends, outcome_of, touches_of}
 use Rattle.vax_flat.specs.Delivery.{interrupt}
 use Rattle.vax_flat.specs.System.{flow_of_delivery}
-use Rattle.vax_flat.specs.Instruction.{first_part, resumed}
+use Rattle.vax_flat.specs.Instruction.{first_part}
+use Rattle.vax_flat.specs.StringParts.{resumed}
 use Rattle.vax_flat.specs.Step.{Flat, state_of, level, finished, leaf, after_instruction, touches_after}
 
 -- an interrupt above the priority, or the first part of the instruction at PC

@@ -128,7 +128,3 @@ run (suc n) m = step (run n m)
 abbrev pub touches_after : Flat → Outcome Leaf → List Range
 touches_after m (Ends leaf memory) = []
 touches_after m (Raised e) = touches_of (whole_delivery e (state_of m)) m.memory
-
--- the ranges that a completed step reads or writes, in order
-abbrev pub step_touches : Flat → List Range
-step_touches m = touches_of (whole_step (state_of m)) m.memory ++ touches_after m (outcome_of (whole_step (state_of m)) m.memory)

@@ -1,14 +1,17 @@
 -- MOVTUC: a string is moved by a table up to a byte that escapes
 -- (VAX MACRO and Instruction Set Reference Manual, character string instructions).
-use Rattle.std.specs.Prelude.{ℕ, ◌+◌, ◌-◌, ◌/◌, Bool, true, false, not, ◌==◌, ◌&&◌, ◌||◌, nat_le, nat_lt, min, if◌then◌else◌, List, [], ◌∷◌, length, take}
+use Rattle.std.specs.Prelude.{None, ◌<◌, ◌≡◌, ℕ, ◌+◌, ◌-◌, ◌/◌, Bool, true, false, not, ◌==◌, ◌&&◌, ◌||◌, nat_le, nat_lt, min, if◌then◌else◌, List, [], ◌∷◌, length, take}
 use Rattle.std.specs.List.{position_or_len}
 use Rattle.vax_word.specs.declared.Size.TheVariants.{W}
 use Rattle.vax_word.specs.Arithmetic.{compared}
+use Rattle.vax_space.specs.declared.Access.TheVariants.{Read, Write}
+use Rattle.vax_space.specs.declared.Area.{Area}
+use Rattle.vax_space.specs.Reference.{violation}
 use Rattle.vax_strpart.specs.declared.packing.Progress.{Progress}
 use Rattle.vax_strpart.specs.Kernels.{translated, is_escape}
 use Rattle.vax_flat.specs.declared.Exception.TheVariants.{Operand}
 use Rattle.vax_flat.specs.declared.Flow.{Flow}
-use Rattle.vax_flat.specs.State.{State}
+use Rattle.vax_flat.specs.State.{State, mode}
 use Rattle.vax_flat.specs.Accesses.{Accesses, Raises, Leaf}
 use Rattle.vax_flat.specs.Operand.{plus}
 use Rattle.vax_flat.specs.String.{leaves, completed, read_run_at, write_run_at, read_span, room_up}
@@ -61,15 +64,20 @@ source_room p =
 unfoldable pub written_some : ℕ → List ℕ → State → (State → Accesses Leaf) → Accesses Leaf
 written_some addr bytes s next = if length bytes == 0 then next s else write_span addr bytes s next
 
--- the end of a part that has read these bytes of the source, and has this room in the destination
+-- the end of a part that has so many bytes before the first that escapes, this room in the destination, and so many bytes of the source
+abbrev pub escape_close : Progress → ℕ → ℕ → ℕ → State → (Flow → State → Accesses Leaf) → Accesses Leaf
+escape_close p count room len s next =
+    let moved = min count room in
+    if nat_le count room && nat_lt count len then escaped p (p.done + count) true s next
+    else if p.done + moved == moved_count p then escaped p (moved_count p) false s next
+    else leaves (record p { done = p.done + moved }) moved s next
+
+-- the same of a part that has read these bytes of the source
 unfoldable pub escape_end : Progress → ℕ → List ℕ → List ℕ → State → (Flow → State → Accesses Leaf) → Accesses Leaf
 escape_end p room bytes table s next =
     let count = position_or_len (is_escape table p.byte) bytes in
-    let moved = min count room in
-    written_some (plus p.addr2 p.done) (translated table (take moved bytes)) s (λ s.
-    if nat_le count room && nat_lt count (length bytes) then escaped p (p.done + count) true s next
-    else if p.done + moved == moved_count p then escaped p (moved_count p) false s next
-    else leaves (record p { done = p.done + moved }) moved s next)
+    written_some (plus p.addr2 p.done) (translated table (take (min count room) bytes)) s (λ s.
+    escape_close p count room (length bytes) s next)
 
 unfoldable pub escape_run : Progress → ℕ → ℕ → State → (Flow → State → Accesses Leaf) → Accesses Leaf
 escape_run p count room s next =
@@ -86,3 +94,10 @@ unfoldable pub escape_start : Progress → State → (Flow → State → Accesse
 escape_start p s next =
     if is_escape_reserved p then Raises Operand
     else move_checked true p (moved_count p) s (λ s. escape_part p s next)
+
+-- what was checked at the start of MOVTUC
+pub record IsEscapeChecked (p : Progress) (s : State) (memory : List Area) : Type 0 where
+  pub source : violation memory p.addr1 (moved_count p) (mode s) Read ≡ None
+  pub table : 0 < moved_count p → violation memory p.table 256 (mode s) Read ≡ None
+  pub apart : is_escape_reserved p ≡ false
+  pub destination : violation memory p.addr2 (moved_count p) (mode s) Write ≡ None

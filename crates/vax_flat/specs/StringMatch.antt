@@ -68,12 +68,16 @@ is_near first second p =
     let b = plus p.addr2 p.done / 512 in
     (a == first || a == second) && (b == first || b == second)
 
--- what remains once a part made so many units: at most so many more, in these pages
-unfoldable pub match_on : ℕ → ℕ → ℕ → ℕ → Progress → State → (Flow → State → Accesses Leaf) → Accesses Leaf
-match_on zero units first second p s next =
+-- the end of a part that made so many units
+abbrev pub match_end : Progress → ℕ → State → (Flow → State → Accesses Leaf) → Accesses Leaf
+match_end p units s next =
     if nat_lt p.len2 p.len1 then unmatched p s next
     else if p.done == p.len1 then matched p s next
     else leaves p units s next
+
+-- what remains once a part made so many units: at most so many more, in these pages
+unfoldable pub match_on : ℕ → ℕ → ℕ → ℕ → Progress → State → (Flow → State → Accesses Leaf) → Accesses Leaf
+match_on zero units first second p s next = match_end p units s next
 match_on (suc more) units first second p s next =
     if nat_lt p.len2 p.len1 then unmatched p s next
     else if p.done == p.len1 then matched p s next

@@ -1,6 +1,6 @@
 -- MOVC3, MOVC5, MOVTC and MOVTUC: a string is moved, as it is or by a table
 -- (VAX MACRO and Instruction Set Reference Manual, character string instructions).
-use Rattle.std.specs.Prelude.{◌≡◌, ℕ, ◌<◌, suc, zero, ◌+◌, ◌-◌, ◌*◌, ◌/◌, ◌^◌, Bool, true, false, not, ◌==◌, ◌&&◌, ◌||◌, nat_le, nat_lt, min, max, if◌then◌else◌, None, List, [], ◌∷◌, length, take, drop, replicate}
+use Rattle.std.specs.Prelude.{◌≡◌, ℕ, ◌<◌, suc, zero, ◌+◌, ◌-◌, ◌*◌, ◌/◌, ◌^◌, Bool, true, false, not, ◌==◌, ◌&&◌, ◌||◌, nat_le, nat_lt, min, max, if◌then◌else◌, None, List, [], ◌∷◌, length, take, drop, replicate, slice_index}
 use Rattle.vax_word.specs.declared.Size.TheVariants.{W}
 use Rattle.vax_word.specs.Arithmetic.{compared}
 use Rattle.vax_space.specs.declared.Access.TheVariants.{Read, Write}
@@ -88,31 +88,36 @@ whole_move translate p s next =
     if is_reserved translate p then Raises Operand
     else move_checked translate p p.len2 s (λ s. move_rest translate p s next)
 
--- the number that bytes are, the lowest first
-unfoldable pub number_in : List ℕ → ℕ
-number_in [] = 0
-number_in (byte ∷ bytes) = byte + 256 * number_in bytes
-
--- bytes written as so many numbers of at most eight
+-- bytes written as so many runs of at most eight
 unfoldable pub write_pieces : ℕ → ℕ → List ℕ → State → (State → Accesses Leaf) → Accesses Leaf
 write_pieces zero addr bytes s next = next s
 write_pieces (suc count) addr bytes s next =
-    write_at addr (min 8 (length bytes)) (number_in (take 8 bytes)) s (λ s. write_pieces count (plus addr 8) (drop 8 bytes) s next)
+    write_run_at addr (take 8 bytes) s (λ s. write_pieces count (plus addr 8) (drop 8 bytes) s next)
 
 abbrev pub pieces_of : List ℕ → ℕ
 pieces_of bytes = (length bytes + 7) / 8
 
--- A run of at most 512 bytes that may go on in the next page: its smaller piece goes first, in numbers, behind a byte in the first page.
+-- A run that goes on in the next page: its smaller piece goes first, in runs of eight bytes. That may be the piece in the first page,
+unfoldable pub write_high_last : ℕ → List ℕ → State → (State → Accesses Leaf) → Accesses Leaf
+write_high_last addr bytes s next =
+    let first = to_page_end addr in
+    write_pieces (pieces_of (take first bytes)) addr (take first bytes) s (λ s.
+    write_run_at (plus addr first) (drop first bytes) s next)
+
+-- or else the one in the next page, behind one byte in the first.
+unfoldable pub write_low_last : ℕ → List ℕ → State → (State → Accesses Leaf) → Accesses Leaf
+write_low_last addr bytes s next =
+    let first = to_page_end addr in
+    write_run_at addr (take 1 bytes) s (λ s.
+    write_pieces (pieces_of (drop first bytes)) (plus addr first) (drop first bytes) s (λ s.
+    write_run_at addr (take first bytes) s next))
+
+-- a run of at most 512 bytes that may go on in the next page
 unfoldable pub write_span : ℕ → List ℕ → State → (State → Accesses Leaf) → Accesses Leaf
 write_span addr bytes s next =
-    let first = to_page_end addr in
-    let low = take first bytes in
-    let high = drop first bytes in
-    if nat_le (length bytes) first then write_run_at addr bytes s next
-    else if nat_le first 256 then write_pieces (pieces_of low) addr low s (λ s. write_run_at (plus addr first) high s next)
-    else write_at addr 1 (number_in (take 1 bytes)) s (λ s.
-    write_pieces (pieces_of high) (plus addr first) high s (λ s.
-    write_run_at addr low s next))
+    if nat_le (length bytes) (to_page_end addr) then write_run_at addr bytes s next
+    else if nat_le (to_page_end addr) 256 then write_high_last addr bytes s next
+    else write_low_last addr bytes s next
 
 -- the lowest of the indices of so many bytes that are moved next
 unfoldable pub lowest : Progress → ℕ → ℕ

@@ -131,6 +131,14 @@ is_unknown from to byte = not (nat_le from byte && nat_lt byte to)
 abbrev pub is_masked_entry : Bool → List ℕ → ℕ → ℕ → Bool
 is_masked_entry some entries mask byte = if some then is_hit entries mask byte else is_miss entries mask byte
 
+-- The end of a part of SCANC or SPANC that has these bytes of the string, of which so many have entries that are known. The first goes by its
+-- own entry where it has none of these.
+unfoldable pub scan_end : Bool → Progress → ℕ → List ℕ → List ℕ → State → (Flow → State → Accesses Leaf) → Accesses Leaf
+scan_end some p known entries bytes s next =
+    if known == 0
+    then read_at (plus p.table (slice_index bytes 0)) 1 s (λ entry s. search_end (scanned p.table) (λ byte. is_masked some p.byte entry) p (take 1 bytes) s next)
+    else search_end (scanned p.table) (is_masked_entry some entries p.byte) p (take known bytes) s next
+
 -- a part of SCANC or SPANC that reads so many bytes; it goes on up to the first whose entry may not be read, and this is a violation where it
 -- is the part's first
 unfoldable pub scan_run : Bool → Progress → ℕ → State → (Flow → State → Accesses Leaf) → Accesses Leaf
@@ -138,7 +146,7 @@ scan_run some p count s next =
     read_run_at p.addr1 count s (λ bytes s.
     table_read p.table s (λ from to entries s.
     check_at (plus p.table (slice_index bytes 0)) 1 Read s (λ s.
-    search_end (scanned p.table) (is_masked_entry some entries p.byte) p (take (position_or_len (is_unknown from to) bytes) bytes) s next)))
+    scan_end some p (position_or_len (is_unknown from to) bytes) entries bytes s next)))
 
 unfoldable pub scan_part : Bool → Progress → State → (Flow → State → Accesses Leaf) → Accesses Leaf
 scan_part some p s next =

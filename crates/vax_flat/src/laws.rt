@@ -23,7 +23,7 @@ ghost use Rattle.vax_flat.specs.Returned.{AreThere, behind, caller_status, with_
 ghost use Rattle.vax_word.specs.declared.Psl.{Psl};
 ghost use Rattle.vax_word.specs.Status.{field};
 ghost use Rattle.vax_flat.specs.System.{unless_privileged};
-ghost use Rattle.vax_flat.specs.Instruction.{acted, instruction, is_built, is_privileged};
+ghost use Rattle.vax_flat.specs.Instruction.{acted, instruction, is_privileged};
 ghost use Rattle.vax_flat.specs.declared.Exception.{Exception};
 ghost use Rattle.vax_flat.specs.declared.Delivery.{Delivery};
 ghost use Rattle.vax_word.specs.declared.Size.{Size};
@@ -33,8 +33,9 @@ ghost use Rattle.vax_isa.specs.declared.actions.Binary.TheVariants.{Add, AddWith
 ghost use Rattle.vax_flat.specs.Integer.{of_one, of_two, rotated};
 ghost use Rattle.vax_flat.specs.Quiet.{RaisesNothing};
 ghost use Rattle.vax_flat.specs.Delivery.{delivery, interrupt};
-ghost use Rattle.vax_flat.specs.Step.{Flat, leaf, step, step_touches, whole_delivery};
-ghost use Rattle.vax_flat.specs.Parts.{Place, Completes, GoesBy, touches_at, turn};
+ghost use Rattle.vax_flat.specs.Step.{Flat, leaf, step, whole_delivery};
+ghost use Rattle.vax_flat.specs.Parts.{Partway, Place, Within, Completes, Leaves, GoesBy, touches_at, turn};
+ghost use Rattle.vax_flat.specs.StringParts.{remaining_in};
 ghost use Rattle.vax_flat.specs.Bound.{AreFew, LeavesNoPart, is_string};
 ghost use Rattle.vax_flat.specs.Grammar.{Specifier, Reading, Reads, Sequence, IsInstruction, read_operand, read_operands};
 ghost use Rattle.vax_flat.specs.Evaluation.{AreAhead, DoSame, Takes, comes_to, all_come_to, passed, next_operands, next_instruction};
@@ -61,12 +62,12 @@ pub fn grammar_agrees()
     ensures instruction { (memory : List Area) → (s : State) → (bytes : List ℕ) → (row : Instruction) → (operands : Sequence) → (count : ℕ) → (next : List (Operand × ℕ) → State → Accesses Leaf) → AreAhead memory s bytes → IsInstruction bytes row operands count → DoSame memory (next_instruction s next) (passed (1 ∷ []) s (λ t. all_come_to operands t next)) }
 {}
 
-/// Every action that is built takes the operands that `operands_of` gives it, in order, and then does a part of its own on what they came to; a
+/// Every action takes the operands that `operands_of` gives it, in order, and then does a part of its own on what they came to; a
 /// privileged one takes none outside kernel mode, and raises its exception. So where the bytes at PC are an instruction whose action takes its
 /// row's operands, the machine does what these come to as the grammar reads them, and then that part.
 pub fn operands_are_listed()
-    ensures listed { (action : Action) → is_built action ≡ true → Takes (is_privileged action) (operands_of action) (acted action) }
-    ensures instruction { (memory : List Area) → (s : State) → (bytes : List ℕ) → (row : Instruction) → (operands : Sequence) → (count : ℕ) → (privileged : Bool) → (takes : Takes privileged row.operands (acted row.action)) → (next : Flow → State → Accesses Leaf) → AreAhead memory s bytes → IsInstruction bytes row operands count → DoSame memory (instruction s next) (passed (1 ∷ []) s (λ t. unless_privileged privileged t (all_come_to operands t (λ xs u. takes.rest xs u next)))) }
+    ensures listed { (action : Action) → Takes (is_privileged action) (operands_of action) (acted action) }
+    ensures instruction { (memory : List Area) → (s : State) → (bytes : List ℕ) → (row : Instruction) → (operands : Sequence) → (count : ℕ) → (privileged : Bool) → (takes : Takes privileged row.operands (acted row.action)) → (next : Flow → State → Accesses Leaf) → AreAhead memory s bytes → IsInstruction bytes row operands count → DoSame memory (instruction s next) (passed (1 ∷ []) s (λ t. unless_privileged privileged t (all_come_to operands t (λ xs u. takes.rest t xs u next)))) }
 {}
 
 /// A delivery raises no exception where what follows it raises none: it asks whether it may read the vector and push, and ends the run where it
@@ -77,20 +78,20 @@ pub fn deliveries_raise_nothing()
     ensures step { (e : Exception) → (s : State) → RaisesNothing (whole_delivery e s) }
 {}
 
-/// Whatever the state, a step touches ranges that lie in at most 20 windows of 512 bytes, and so in at most 40 pages, its delivery's among them; and
-/// so does an attempt at a part of one.
+/// Whatever the state, an attempt at a step, or at a part of one, touches ranges that lie in at most 20 windows of 512 bytes, and so in at most 40
+/// pages, its delivery's among them.
 /// Only a string instruction leaves a part of itself for a later attempt.
 pub fn steps_are_bounded()
-    ensures touches { (m : Flat) → AreFew (step_touches m) }
     ensures attempts { (place : Place) → AreFew (touches_at place) }
     ensures whole { (action : Action) → is_string action ≡ false → (s : State) → (memory : List Area) → LeavesNoPart (outcome_of (acted action s leaf) memory) }
     ensures delivery { (e : Exception) → (s : State) → (memory : List Area) → LeavesNoPart (outcome_of (whole_delivery e s) memory) }
 {}
 
 /// A step that is made in parts comes to the step: whichever part completes it, and whether by its end, by its ending or by the delivery of an
-/// exception that a later part meets.
+/// exception that a later part meets. Each later part leaves less than there was, so that their number is finite.
 pub fn parts_agree()
-    ensures { (m : Flat) → (place : Place) → (next : Flat) → m.ending ≡ None → GoesBy m place → turn place ≡ Completes next → step m ≡ next }
+    ensures step { (m : Flat) → (place : Place) → (next : Flat) → m.ending ≡ None → GoesBy m place → turn place ≡ Completes next → step m ≡ next }
+    ensures less { (m : Flat) → (p : Partway) → (next : Partway) → GoesBy m (Within p) → turn (Within p) ≡ Leaves next → remaining_in next.opcode next.now.core < remaining_in p.opcode p.now.core }
 {}
 
 /// Results that say something apart from how they are worked out: MNEG is SUB from 0, ADWC without a carry is ADD and SBWC without a borrow is SUB,

@@ -4,6 +4,7 @@
 //! accesses to memory), `Memory` (areas with their bytes), `Outcome` (what a tree does to that memory), `Operand` and `Rows` (operands,
 //! values and results), `Integer`, `Control`, `Field` and `Instruction` (the instructions as such trees), `Grammar` and `Evaluation` (what bytes are
 //! as operands, and what those come to), `Step` (a whole step and a whole run), and `Parts` (a step that is made in parts).
+//! `String` and its neighbours have the string instructions, as wholes and in parts.
 #![tactic(auto)]
 
 mod laws;
@@ -14,7 +15,9 @@ pub use crate::laws::{
     joined_ranges, operands_are_listed, parts_agree, results_agree, steps_are_bounded,
     stops_for_missing_pages,
 };
-pub use crate::string_laws::{comparisons_agree, moves_agree, searches_agree};
+pub use crate::string_laws::{
+    comparisons_agree, escapes_agree, matches_agree, moves_agree, searches_agree,
+};
 use vax_space::Violation;
 
 /// What interrupts an instruction (VAX Architecture Reference Manual, exceptions and interrupts).
@@ -77,8 +80,6 @@ pub enum Ending {
     Scb,
     /// A change of mode on the interrupt stack.
     Change,
-    /// The instruction needs what isn't built yet.
-    Unbuilt,
 }
 
 /// The form of an operand specifier, as its first byte has it: the mode in bits 7:4, a register in bits 3:0

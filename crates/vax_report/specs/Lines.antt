@@ -2,7 +2,7 @@
 use Rattle.std.specs.Prelude.{ℕ, List, [], ◌∷◌, ◌++◌, codes, decimal, Option, None, Some}
 use Rattle.std.specs.List.{flat_map}
 use Rattle.vax_flat.specs.declared.Ending.{Ending}
-use Rattle.vax_flat.specs.declared.Ending.TheVariants.{Halt, Vector, Stack, Scb, Change, Unbuilt}
+use Rattle.vax_flat.specs.declared.Ending.TheVariants.{Halt, Vector, Stack, Scb, Change}
 use Rattle.vax_outside.specs.Hex.{hex}
 use Rattle.vax_report.specs.declared.Last.{Last}
 use Rattle.vax_report.specs.declared.Last.TheVariants.{Ending as Ended, Steps, Turns, PageFault}
@@ -29,7 +29,6 @@ ending_text (Vector offset) = codes "VECTOR " ++ hex 3 offset
 ending_text Stack = codes "STACK"
 ending_text Scb = codes "SCB"
 ending_text Change = codes "CHANGE"
-ending_text Unbuilt = codes "UNBUILT"
 
 -- why a run stopped
 abbrev pub last_text : Last → List ℕ

@@ -34,7 +34,6 @@ fn push_last(text: &mut Text, last: Last)
         Last::Ending(Ending::Stack) => text.push(b"STACK"),
         Last::Ending(Ending::Scb) => text.push(b"SCB"),
         Last::Ending(Ending::Change) => text.push(b"CHANGE"),
-        Last::Ending(Ending::Unbuilt) => text.push(b"UNBUILT"),
         Last::Steps => text.push(b"STEPS"),
         Last::Turns => text.push(b"TURNS"),
         Last::PageFault => text.push(b"PAGEFAULT"),

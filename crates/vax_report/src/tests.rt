@@ -119,7 +119,6 @@ fn builds_single_lines(rt: HostRuntime) -> Result<(), Fail> {
         (Last::Ending(Ending::Stack), "ENDING STACK\n"),
         (Last::Ending(Ending::Scb), "ENDING SCB\n"),
         (Last::Ending(Ending::Change), "ENDING CHANGE\n"),
-        (Last::Ending(Ending::Unbuilt), "ENDING UNBUILT\n"),
         (Last::Steps, "ENDING STEPS\n"),
         (Last::Turns, "ENDING TURNS\n"),
         (Last::PageFault, "ENDING PAGEFAULT\n"),

@@ -34,18 +34,27 @@ module _ {P : Type 0} (view : P → View) (along : P → P → Type 0) where
   pub left_then : (n m : ℕ) (a b c : Transaction P) → IsLeft along n a b → Kept m b c → IsLeft along (n + m) a c
   left_then n m a b c first second = record { room = omega (arith, first.room, second.room); closed = omega (arith, first.closed, second.closed); same = same_through a b c first.same second.same }
 
-  left_of : (n : ℕ) (a b : Transaction P) → Kept n a b → IsLeft along n a b
+  pub left_of : (n : ℕ) (a b : Transaction P) → Kept n a b → IsLeft along n a b
   left_of n a b keeps = record { room = keeps.room; closed = keeps.closed; same = keeps.same }
 
-  left_through : (n m : ℕ) (a b c : Transaction P) → Kept n a b → IsLeft along m b c → IsLeft along (n + m) a c
+  pub left_through : (n m : ℕ) (a b c : Transaction P) → Kept n a b → IsLeft along m b c → IsLeft along (n + m) a c
   left_through n m a b c first second = record { room = omega (arith, first.room, second.room); closed = omega (arith, first.closed, second.closed); same = same_through a b c first.same second.same }
 
-  open_of : (n : ℕ) (a b : Transaction P) → Kept n a b → IsLeftOpen view along n a b
+  pub open_of : (n : ℕ) (a b : Transaction P) → Kept n a b → IsLeftOpen view along n a b
   open_of n a b keeps = record { state = ap (λ (p : Present). p.state) keeps.undone; ready = keeps.ready; room = keeps.room; same = keeps.same }
 
-  open_through : (n m : ℕ) (a b c : Transaction P) → Kept n a b → IsLeftOpen view along m b c → IsLeftOpen view along (n + m) a c
+  pub open_through : (n m : ℕ) (a b c : Transaction P) → Kept n a b → IsLeftOpen view along m b c → IsLeftOpen view along (n + m) a c
   open_through n m a b c first second = record {
     state = second.state ∙ ap (λ (p : Present). p.state) first.undone;
+    ready = λ h. second.ready (first.ready h);
+    room = omega (arith, first.room, second.room);
+    same = same_through a b c first.same second.same;
+  }
+
+  -- two steps that leave an instruction open
+  pub open_then : (n m : ℕ) (a b c : Transaction P) → IsLeftOpen view along n a b → IsLeftOpen view along m b c → IsLeftOpen view along (n + m) a c
+  open_then n m a b c first second = record {
+    state = second.state ∙ first.state;
     ready = λ h. second.ready (first.ready h);
     room = omega (arith, first.room, second.room);
     same = same_through a b c first.same second.same;

@@ -33,14 +33,22 @@ room_of_field = 19
 abbrev pub room_of_call : ℕ
 room_of_call = 31
 
+-- the first part of a string instruction: six operands, bytes that are written in pieces, and the registers between two parts
+abbrev pub room_of_text : ℕ
+room_of_text = 66
+
+-- a later part of one
+abbrev pub room_of_later_part : ℕ
+room_of_later_part = 43
+
 -- any instruction whose opcode PC is past
 abbrev pub room_of_instruction : ℕ
-room_of_instruction = 31
+room_of_instruction = 66
 
 -- an interrupt, or the instruction at PC with its opcode
 abbrev pub room_of_beginning : ℕ
-room_of_beginning = 32
+room_of_beginning = 67
 
 -- a step
 abbrev pub room_of_step : ℕ
-room_of_step = 50
+room_of_step = 85

@@ -145,6 +145,10 @@ fn changes_are_kept(rt: HostRuntime) -> Result<(), Fail> {
         (txn.reg(3), txn.reg(2), txn.psl(), txn.stack(4)),
         (70, 7, Psl(8), 71)
     );
+    assert_eq!(rt;
+        txn.registers(),
+        &[7, 7, 7, 70, 7, 7, 7, 7, 7, 7, 7, 7, 7, 7, 7, 7][..]
+    );
     assert_eq!(rt; (txn.sisr(), txn.iccs(), txn.clock()), (72, 73, 74));
     assert_eq!(rt; txn.check(0x800, 1, USER, Access::Read).is_err(), true);
     assert_eq!(rt; txn.write(0x3FE, 4, 0x4433_2211, USER), Ok(()));

@@ -197,6 +197,17 @@ impl<'a, P: Port> Txn<'a, P> {
         self.why
     }
 
+    /// The sixteen registers.
+    #[inline(always)]
+    pub fn registers(&self) -> &[u32]
+        ensures exact { result.now ≡ (present P.view self.now).state.core.regs }
+        ensures sixteen { length (present P.view self.now).state.core.regs ≡ 16 }
+    {
+        let registers: &[u32] = &self.core.regs;
+        prove!(registers.len() == 16);
+        registers
+    }
+
     /// Register `n`, below 16.
     #[inline(always)]
     pub fn reg(&self, n: u8) -> u32

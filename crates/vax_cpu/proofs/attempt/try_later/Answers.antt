@@ -1,7 +1,7 @@
 use Rattle.std.proofs.Common.{◌≤◌, ◌∙◌, ap, subst, sym, rules}
 use Rattle.vax_word.specs.declared.Core.{Core}
 use Rattle.vax_cpu.specs.declared.attempt.Tried.TheVariants as tried
-use Rattle.vax_cpu.specs.Tried.{ClosesIfDone}
+use Rattle.vax_x_str.specs.Ends.{ClosesIfDone}
 use Rattle.vax_undo.specs.FirstPart.{NothingOpen}
 use Rattle.vax_flat.specs.OverPort.{Present, Follows}
 use Rattle.vax_flat.specs.Parts.{later, later_step}

@@ -5,7 +5,7 @@ use Rattle.vax_flat.specs.Parts.{part, part_step}
 use Rattle.vax_undo.specs.FirstPart.{NothingOpen}
 use Rattle.vax_undo.specs.Rooms.{room_of_step}
 use Rattle.vax_undo.specs.Transaction.{present, told}
-use Rattle.vax_cpu.specs.Tried.{ClosesIfDone}
+use Rattle.vax_x_str.specs.Ends.{ClosesIfDone}
 use Rattle.vax_cpu.proofs.Attempts.{clock_at, clock_unless, closed_at, closed_unless, closes_through, still_closed, done_of, renewed_step, sent_step, ran_more, tried_at, leads_back}
 use Rattle.vax_cpu.proofs.attempt.try_steps.Goals as goal
 

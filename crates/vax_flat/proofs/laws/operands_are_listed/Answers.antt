@@ -3,6 +3,6 @@ use Rattle.vax_flat.proofs.laws.operands_are_listed.Goals as goal
 
 pub returns : goal.returns
 returns c = record {
-  listed = λ action built. action_takes action built;
+  listed = λ action. action_takes action;
   instruction = λ memory s bytes row operands count privileged takes next ahead is. listed_agrees memory s bytes row operands count privileged takes next ahead is;
 }

@@ -1,5 +1,9 @@
 use Rattle.vax_flat.proofs.StringMove.{move_agrees}
+use Rattle.vax_flat.proofs.StringStarts.{move_starts}
 use Rattle.vax_flat.proofs.string_laws.moves_agree.Goals as goal
 
 pub returns : goal.returns
-returns c = λ translate p s memory next behind ready proper is checked few bytes. move_agrees translate p s memory next behind ready proper is checked few bytes
+returns c = record {
+  rest = λ translate p s memory next behind ready proper is checked few. move_agrees translate p s memory next behind ready proper is checked few;
+  start = λ translate p s memory next behind ready proper is few. move_starts translate p s memory next behind ready proper is few;
+}

@@ -1,0 +1,4 @@
+pub mod Pieces
+pub mod Left
+pub mod Translation
+pub mod MatchUnits
