@@ -10,7 +10,6 @@ use Rattle.vax_flat.specs.Outcome.{first_missing}
 use Rattle.vax_flat.specs.Parts.{Place, At, Within, Turn, Completes, Leaves, machine_at, touches_at, turn}
 use Rattle.vax_flat.specs.Port.{StandsFor}
 use Rattle.vax_flat.specs.Step.{Flat, run, step, ended}
-use Rattle.vax_flat.proofs.Parts.{leaves_nothing, turns_agree}
 use Rattle.vax_flat.proofs.Runs.{going_back}
 use Rattle.vax_cpu.specs.Attempt.{IsAsBefore, IsAt, IsOpenAfter, StopsInside, flat_of}
 use Rattle.vax_cpu.specs.Batch.{AreAttempts, IsOneAttempt}
@@ -31,24 +30,20 @@ use Rattle.vax_machine.specs.declared.engine.Engine.{Engine}
 use Rattle.vax_machine.specs.declared.event.Applied.{Applied}
 use Rattle.vax_machine.specs.declared.event.Applied.TheVariants.{Stepped}
 
--- a step that is made at once is a turn
-
-turn_is_step : (m : Flat) (t : Turn) → m.ending ≡ None → turn (At m) ≡ t → turn (At m) ≡ Completes (step m)
-turn_is_step m (Completes next) going e = e ∙ ap (λ (z : Flat). Completes z) (sym (turns_agree m (At m) next going refl e))
-turn_is_step m (Leaves p) going e = absurd (leaves_nothing m p e)
+-- steps that are made at once are turns
 
 module _ (resident : ℕ → Bool) (m : Flat) where
-  advances : (count : ℕ) → (run count m).ending ≡ None → ((k : ℕ) → k < count → first_missing resident (touches_at (At (run k m))) ≡ None) → Advances resident count (At m) (At (run count m))
+  advances : (count : ℕ) → (run count m).ending ≡ None → ((k : ℕ) → k < count → first_missing resident (touches_at (At (run k m))) ≡ None) → ((k : ℕ) → k < count → turn (At (run k m)) ≡ Completes (step (run k m))) → Advances resident count (At m) (At (run count m))
   unfolding Advances run
-  advances zero going none = refl
-  advances (suc count) going none =
+  advances zero going none once = refl
+  advances (suc count) going none once =
       let more : suc count ≡ 1 + count = omega arith in
       let before : (run count m).ending ≡ None = going_back count 1 m (subst (λ (n : ℕ). (run n m).ending ≡ None) more going) in (
         At (run count m),
         step (run count m),
-        advances count before (λ k low. none k (omega (arith, low))),
+        advances count before (λ k low. none k (omega (arith, low))) (λ k low. once k (omega (arith, low))),
         none count (omega arith),
-        turn_is_step (run count m) (turn (At (run count m))) before refl,
+        once count (omega arith),
         going,
         refl,
       )
@@ -162,7 +157,7 @@ module _ (old mid new : Engine) (t : Paging) (result : Applied) (last : Attempt)
       let a = subst (λ (z : Flat). AreAttempts (view_of (pages old.pager)) z count last mid.cpu (view_of t)) at.machine (steps at.open_one m.memory m.output st) in
       let running : (run count m).ending ≡ None = ap (λ (z : Flat). z.ending) a.steps ∙ a.running in (
         At a.here,
-        subst (λ (z : Flat). Advances (is_resident (residence_of (pages old.pager))) count (At m) (At z)) a.steps (advances (is_resident (residence_of (pages old.pager))) m count running a.resident),
+        subst (λ (z : Flat). Advances (is_resident (residence_of (pages old.pager))) count (At m) (At z)) a.steps (advances (is_resident (residence_of (pages old.pager))) m count running a.resident a.at_once),
         a.silent,
         batch_goes (pages old.pager) t old.cpu mid new result w f (b.ended ∙ going) count b.pages file m at.open_one means.memory last a c latch,
       )

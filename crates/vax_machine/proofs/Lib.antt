@@ -1,3 +1,4 @@
+pub mod Bound
 pub mod Lists
 pub mod Attempts
 pub mod Services

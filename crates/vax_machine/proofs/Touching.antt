@@ -1,5 +1,5 @@
 -- Which pages an attempt touches, and that few are pinned.
-use Rattle.std.proofs.Common.{ℕ, zero, suc, ◌≡◌, ◌^◌, ◌<◌, Bool, true, false, ◌==◌, List, [], ◌∷◌, length, refl, ap, sym, ◌∙◌, subst, arith, inl, inr, Option, Some, None}
+use Rattle.std.proofs.Common.{ℕ, zero, suc, ◌≡◌, ◌^◌, ◌<◌, ◌≤◌, Bool, true, false, ◌==◌, List, [], ◌∷◌, length, refl, ap, sym, ◌∙◌, subst, arith, inl, inr, Option, Some, None}
 use Rattle.std.specs.Prelude.{◌||◌, is_some}
 use Rattle.std.specs.Option.{option_map}
 use Rattle.std.proofs.lemmas.Bool.{cases_Bool, cases_eq, cases_lt, eq-eqb, ne_eqb}
@@ -15,7 +15,7 @@ use Rattle.vax_flat.specs.Memory.{after}
 use Rattle.vax_flat.specs.Outcome.{Range, first_missing, or_else}
 use Rattle.vax_flat.specs.Parts.{Place, touches_at}
 use Rattle.vax_flat.specs.Port.{first_absent, is_in}
-use Rattle.vax_flat.proofs.Parts.{attempt_is_few}
+use Rattle.vax_flat.proofs.Attempts.{attempt_is_few}
 use Rattle.vax_pager.specs.Listing.{AreOnce, is_listed}
 use Rattle.vax_machine.proofs.Lists.{fits}
 use Rattle.vax_machine.specs.Residence.{Residence, is_resident}
@@ -124,5 +124,13 @@ fewer_pins r place page once resident small low pins e =
           let there : is_listed p r.pinned ≡ true = rw (ne_eqb page p o) at h in
           touched_on few.pages (touches_at place) p few.on (small p (resident p there)) (pins.touched p there)
     ]) in
+    let most = few.few_pages in
+    omega (arith, count, most)
+
+-- where the attempt that comes touches each page that is pinned, at most 40 are
+pub few_pins : (r : Residence) (place : Place) → AreOnce r.pinned → ((p : ℕ) → is_listed p r.pinned ≡ true → is_listed p r.order ≡ true) → ((p : ℕ) → is_listed p r.order ≡ true → p < 2 ^ 23) → PinsTouched r place → length r.pinned ≤ 40
+few_pins r place once resident small pins =
+    let few = attempt_is_few place in
+    let count = fits r.pinned few.pages once (λ p h. touched_on few.pages (touches_at place) p few.on (small p (resident p h)) (pins.touched p h)) in
     let most = few.few_pages in
     omega (arith, count, most)

@@ -1,8 +1,10 @@
 //! The laws of machines, each the contract of a call that does nothing.
-ghost use Rattle.std.specs.Prelude.{◌≡◌, ◌+◌, ◌<◌, ◌^◌, ℕ, List, Option, length};
+ghost use Rattle.std.specs.Prelude.{◌≡◌, ◌+◌, ◌-◌, ◌*◌, ◌<◌, ◌≤◌, ◌^◌, ℕ, List, [], Option, length};
 ghost use Rattle.vax_space.specs.declared.Area.{Area};
+ghost use Rattle.vax_space.specs.Faults.{IsSpace};
 ghost use Rattle.vax_outside.specs.Blocks.{BlockFile};
 ghost use Rattle.vax_flat.specs.Parts.{GoesBy};
+ghost use Rattle.vax_flat.specs.Port.{layout};
 ghost use Rattle.vax_flat.specs.Step.{Flat, run};
 ghost use Rattle.vax_sched.specs.declared.rule.Target.{Target};
 ghost use Rattle.vax_machine.specs.Events.{FollowsRun, Happen};
@@ -20,4 +22,15 @@ pub fn events_follow_the_run()
 /// do, whatever is resident or made absent.
 pub fn turns_follow_the_run()
     ensures { (areas : List Area) → (asks : ℕ → List Target) → (count : ℕ) → (frames : ℕ) → (start : Flat) → GoesBy (run (paged areas asks count (fresh frames start)).steps start) (paged areas asks count (fresh frames start)).place }
+{}
+
+/// Few turns are made in vain: from the start on there are at most 41 for each part that was completed, 40 for the part that is open, and one for
+/// each eviction of a pinned page, as long as these haven't been counted up to their last value.
+pub fn turns_are_few()
+    ensures { (areas : List Area) → (asks : ℕ → List Target) → (count : ℕ) → (frames : ℕ) → (start : Flat) → IsSpace areas → layout start.memory ≡ layout areas → (paged areas asks count (fresh frames start)).residence.spoiled < 2 ^ 64 - 1 → (paged areas asks count (fresh frames start)).turns ≤ 41 * (paged areas asks count (fresh frames start)).parts + 40 + (paged areas asks count (fresh frames start)).residence.spoiled }
+{}
+
+/// Where nothing is ever due, no pinned page is evicted.
+pub fn pinned_pages_stay()
+    ensures { (areas : List Area) → (asks : ℕ → List Target) → (count : ℕ) → (frames : ℕ) → (start : Flat) → ((turn : ℕ) → asks turn ≡ []) → (paged areas asks count (fresh frames start)).residence.spoiled ≡ 0 }
 {}

@@ -11,5 +11,7 @@ mod run;
 mod tests;
 
 pub use crate::event::{Applied, Event, Limits, RunEnd};
-pub use crate::laws::{events_follow_the_run, turns_follow_the_run};
+pub use crate::laws::{
+    events_follow_the_run, pinned_pages_stay, turns_are_few, turns_follow_the_run,
+};
 pub use crate::machine::Machine;

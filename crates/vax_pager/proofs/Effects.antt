@@ -181,6 +181,13 @@ unfolding read_for
 keeps_read p s t None = elim (cases_Bool (s.blocked p)) [ inl b ↦ rw b (λ memory st. st) | inr b ↦ rw b (λ memory st. st) ]
 keeps_read p s t (Some file) = elim (cases_Bool (s.blocked p)) [ inl b ↦ rw b (λ memory st. read_stands t file memory st) | inr b ↦ rw b (λ memory st. st) ]
 
+-- a page without a frame was looked at
+pub keeps_peeked : (p : ℕ) (s : Paging) (file after : Option BlockFile) → after ≡ read_for p s file → Keeps s file s after
+keeps_peeked p s file after e = subst (λ (z : Option BlockFile). Keeps s file s z) (sym e) (keeps_read p s s file)
+
+pub keeps_unchanged : (s : Paging) (file after : Option BlockFile) → after ≡ file → Keeps s file s after
+keeps_unchanged s file after e = subst (λ (z : Option BlockFile). Keeps s file s z) (sym e) (λ memory st. st)
+
 pub keeps_brought : (p : ℕ) (x : List ℕ) (s t : Paging) (file after : Option BlockFile) → t ≡ brought p x s → after ≡ read_for p s file → is_some (area_of s.areas p) ≡ true → is_listed p s.order ≡ false → ComesFrom s file p x → Keeps s file t after
 keeps_brought p x s t file after e a low r c =
     subst (λ (z : Option BlockFile). Keeps s file t z) (sym a) (subst (λ (z : Paging). Keeps s file z (read_for p s file)) (sym e)

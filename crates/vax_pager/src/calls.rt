@@ -273,6 +273,7 @@ impl Store {
         ensures kept { is_listed (page_of addr) (paging self.now).kept ≡ true → file.new ≡ file.old }
         ensures blockless { (paging self.now).blocked (page_of addr) ≡ false → file.new ≡ file.old }
         ensures err { OnErr result (F.contents file.new ≡ F.contents file.old) }
+        ensures keeps { Keeps (paging self.now) (F.contents file.old) (paging self.now) (F.contents file.new) }
         ensures later { F.faults file.old ≤ F.faults file.new }
         ensures cause { OnErr result (Rose (F.faults file.old) (F.faults file.new)) }
         ensures quiet { OnOk result (F.faults file.new ≡ F.faults file.old) }

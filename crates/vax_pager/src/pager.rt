@@ -131,6 +131,7 @@ impl Pager {
         ensures byte { IfOk result (λ r. IfSome r (IsByte (pages self.old) (F.contents file.old) addr)) }
         ensures from { IfOk result (λ r. IfSome r (PeekedFrom (pages self.old) (F.contents file.old) addr)) }
         ensures same { pages self.new ≡ pages self.old }
+        ensures keeps { Keeps (pages self.old) (F.contents file.old) (pages self.new) (F.contents file.new) }
         ensures untouched { is_listed (page_of addr) (pages self.old).order ≡ true → file.new ≡ file.old }
         ensures kept { is_listed (page_of addr) (pages self.old).kept ≡ true → file.new ≡ file.old }
         ensures blockless { (pages self.old).blocked (page_of addr) ≡ false → file.new ≡ file.old }

@@ -1,2 +1,3 @@
 pub mod TopLaws
 pub mod LoadLaws
+pub mod RunLaws

@@ -1,3 +1,5 @@
 pub mod Status
 pub mod Ends
+pub mod Went
+pub mod Fresh
 pub mod Top

@@ -29,6 +29,10 @@ named label name = label ++ name ++ codes "\n"
 unfoldable pub source_fault : ℕ → ℕ → ℕ → List ℕ
 source_fault file line kind = codes "vax: source " ++ decimal file ++ codes " line " ++ decimal line ++ codes " fault " ++ decimal kind ++ codes "\n"
 
+-- the place of a fault in a schedule
+unfoldable pub schedule_fault : ℕ → ℕ → List ℕ
+schedule_fault line kind = codes "vax: schedule line " ++ decimal line ++ codes " fault " ++ decimal kind ++ codes "\n"
+
 -- the line that an answer before the run writes to Report, if it is a refusal
 abbrev pub refusal : Status → Option (List ℕ)
 refusal Done = None
@@ -37,7 +41,7 @@ refusal (Missing name) = Some (named (codes "vax: missing ") name)
 refusal (Large name) = Some (named (codes "vax: large ") name)
 refusal (Refused file line kind) = Some (source_fault file line kind)
 refusal (Link kind name place) = None
-refusal (Schedule line kind) = None
+refusal (Schedule line kind) = Some (schedule_fault line kind)
 refusal (Image place kind) = None
 refusal Turns = None
 refusal PageFault = None
@@ -61,10 +65,10 @@ IsBuilt (Missing name) = Unit {0}
 IsBuilt (Large name) = Unit {0}
 IsBuilt (Refused file line kind) = Unit {0}
 IsBuilt (Link kind name place) = ⊥
-IsBuilt (Schedule line kind) = ⊥
+IsBuilt (Schedule line kind) = Unit {0}
 IsBuilt (Image place kind) = ⊥
-IsBuilt Turns = ⊥
-IsBuilt PageFault = ⊥
+IsBuilt Turns = Unit {0}
+IsBuilt PageFault = Unit {0}
 IsBuilt ReadFault = Unit {0}
 IsBuilt WriteFault = Unit {0}
 IsBuilt NoMemory = Unit {0}

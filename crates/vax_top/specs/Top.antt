@@ -1,20 +1,19 @@
 -- What a call of the program comes to.
-use Rattle.std.specs.Prelude.{◌≡◌, ◌⊎◌, ℕ, List, [], ◌∷◌, Option, None, Some, IfSome, MatchOption, Result, Ok, Err, ⊤}
+use Rattle.std.specs.Prelude.{◌≡◌, ◌⊎◌, ℕ, List, [], ◌∷◌, ◌++◌, Option, None, Some, IfSome, MatchOption, Result, Ok, Err, ⊤}
 use Rattle.std.specs.Option.{option_map_or}
-use Rattle.vax_outside.specs.Channels.{Channels, only, append}
+use Rattle.vax_outside.specs.Channels.{Channels, only}
 use Rattle.vax_outside.specs.Directory.{Directory, read_result}
 use Rattle.vax_outside.specs.declared.traits.FilesFault.{FilesFault}
 use Rattle.vax_outside.specs.declared.traits.FilesFault.TheVariants as faults
 use Rattle.vax_outside.specs.declared.traits.Chan.TheVariants as channel
 use Rattle.vax_words.specs.Words.{Text, Options, Said, bare, about, command_of}
 use Rattle.vax_source.specs.Program.{Assembles, Faults}
-use Rattle.vax_flat.specs.declared.Ending.{Ending}
-use Rattle.vax_flat.specs.Step.{Flat, run}
-use Rattle.vax_bare.specs.Start.{start_of}
-use Rattle.vax_bare.specs.Run.{StopsAt}
-use Rattle.vax_report.specs.Report.{report}
-use Rattle.vax_report.specs.declared.Last.{Last}
-use Rattle.vax_report.specs.declared.Last.TheVariants as last
+use Rattle.vax_outside.specs.Blocks.{BlockFile}
+use Rattle.vax_bare.specs.Start.{areas, start_of}
+use Rattle.vax_sched.specs.Faults.{Denotes, IsFirstFault}
+use Rattle.vax_sched.specs.declared.rule.Rule.{Rule}
+use Rattle.vax_machine.specs.Paged.{fresh}
+use Rattle.vax_top.specs.Went.{Went, limits_of}
 use Rattle.vax_top.specs.Status.{refusal_growth}
 use Rattle.vax_top.specs.declared.status.Status.{Status}
 use Rattle.vax_top.specs.declared.status.Status.TheVariants.{Done, Usage, Missing, Large, Refused, Link, Schedule, Image, Turns, PageFault, ReadFault, WriteFault, NoMemory}
@@ -23,14 +22,14 @@ use Rattle.vax_top.specs.declared.status.Status.TheVariants.{Done, Usage, Missin
 abbrev pub file_limit : ℕ
 file_limit = 4194304
 
--- the file of the console's input, if one is given
-abbrev pub input_files : Option Text → List Text
-input_files None = []
-input_files (Some name) = name ∷ []
+-- the file of an option, if it is given
+abbrev pub given : Option Text → List Text
+given None = []
+given (Some name) = name ∷ []
 
 -- the files that a command reads, in order
 abbrev pub reads_of : Said → List Text
-reads_of (bare name options) = name ∷ input_files options.input
+reads_of (bare name options) = name ∷ given options.input ++ given options.schedule
 reads_of about = []
 
 -- the files that the words have read, in order
@@ -67,19 +66,6 @@ ReadEnds rose contents names ReadFault = rose
 ReadEnds rose contents names WriteFault = ⊥
 ReadEnds rose contents names NoMemory = ⊤
 
--- why a run stopped: the machine's ending, or the limit of steps
-abbrev pub last_of : Option Ending → Last
-last_of None = last.Steps
-last_of (Some ending) = last.Ending ending
-
--- the report on a machine after n steps
-unfoldable pub run_report : Flat → ℕ → Text
-run_report m n = report (run n m).core (last_of (run n m).ending) n 0 (run n m).taken []
-
--- what a run of n steps writes: the guest's output, and the report
-abbrev pub run_output : Flat → ℕ → Channels
-run_output m n = append (only channel.Out (run n m).output) (only channel.Report (run_report m n))
-
 -- the first source has this fault
 pub record IsRefused (source : Text) (status : Status) : Type 0 where
   pub line : ℕ
@@ -87,45 +73,90 @@ pub record IsRefused (source : Text) (status : Status) : Type 0 where
   pub answer : status ≡ Refused 1 line kind
   pub fault : Faults source line kind
 
--- the program of a source was run with this input, as far as it goes within so many steps
-pub record IsRun (source input : Text) (most : ℕ) (grown : Channels) : Type 0 where
+-- the schedule of a program has this first fault
+pub record IsMisplanned (source schedule : Text) (status : Status) : Type 0 where
   pub bytes : List ℕ
   pub start : ℕ
   pub program : Assembles source bytes start
-  pub steps : ℕ
-  pub stops : StopsAt steps most (start_of bytes start input)
-  pub wrote : grown ≡ run_output (start_of bytes start input) steps
+  pub line : ℕ
+  pub kind : ℕ
+  pub answer : status ≡ Schedule line kind
+  pub fault : IsFirstFault (areas bytes) schedule line kind
 
--- `bare`: a source with a fault is refused, and the program of another is run
-abbrev pub BareDoes : Text → Text → ℕ → Status → Channels → Type 0
-BareDoes source input most status grown = (IsRefused source status × (grown ≡ refusal_growth status)) ⊎ ((status ≡ Done) × IsRun source input most grown)
+-- A program was run with its input under a schedule, from its start on and with no page resident. `failed` says that a call of the page file
+-- failed; `told` are the contents of the page file, where it tells them.
+pub record IsRun (failed : Type 0) (told : Option BlockFile) (source input schedule : Text) (options : Options) (status : Status) (grown : Channels) : Type 0 where
+  pub bytes : List ℕ
+  pub start : ℕ
+  pub program : Assembles source bytes start
+  pub rules : List Rule
+  pub planned : Denotes (areas bytes) schedule rules
+  pub went : Went failed told (limits_of options) (areas bytes) rules (fresh options.frames (start_of bytes start input)) status grown
+
+-- `bare`: a source or a schedule with a fault is refused before any call of the page file, and the program of another source is run
+abbrev pub BareDoes : Type 0 → Type 0 → Option BlockFile → Text → Text → Text → Options → Status → Channels → Type 0
+BareDoes kept failed told source input schedule options status grown =
+    ((IsRefused source status ⊎ IsMisplanned source schedule status) × (grown ≡ refusal_growth status) × kept)
+    ⊎ IsRun failed told source input schedule options status grown
+
+-- memory was refused before the run
+abbrev pub LacksMemory : Type 0 → Status → Channels → Type 0
+LacksMemory kept status grown = (status ≡ NoMemory) × (grown ≡ refusal_growth NoMemory) × kept
 
 -- a text about the program was shown, or memory was refused before
 abbrev pub IsAbout : Status → Channels → Type 0
 IsAbout status grown = ((status ≡ NoMemory) × (grown ≡ refusal_growth NoMemory)) ⊎ ((text : Text) × (status ≡ Done) × (grown ≡ only channel.Out text))
 
 -- `bare` went so, or memory was refused before the run
-abbrev pub IsBare : Text → Text → ℕ → Status → Channels → Type 0
-IsBare source input most status grown = ((status ≡ NoMemory) × (grown ≡ refusal_growth NoMemory)) ⊎ BareDoes source input most status grown
+abbrev pub IsBare : Type 0 → Type 0 → Option BlockFile → Text → Text → Text → Options → Status → Channels → Type 0
+IsBare kept failed told source input schedule options status grown =
+    LacksMemory kept status grown ⊎ BareDoes kept failed told source input schedule options status grown
 
--- the bytes of the input's file, none where no file is given
-abbrev pub input_in : List Text → Text
-input_in [] = []
-input_in (bytes ∷ files) = bytes
+-- the bytes of an option's file, none where it isn't given, and the files behind it
+abbrev pub first_of : Option Text → List Text → Text
+first_of None files = []
+first_of (Some name) [] = []
+first_of (Some name) (bytes ∷ files) = bytes
 
--- what a command does with its files: the table of commands
-abbrev pub Does : Said → List Text → Status → Channels → Type 0
-Does (bare name options) [] status grown = ⊥
-Does (bare name options) (source ∷ files) status grown = BareDoes source (input_in files) options.steps status grown
-Does about files status grown = (text : Text) × (status ≡ Done) × (grown ≡ only channel.Out text)
+abbrev pub behind : Option Text → List Text → List Text
+behind None files = files
+behind (Some name) [] = []
+behind (Some name) (bytes ∷ files) = files
+
+-- the bytes of an option's file are these, where the files are told; none where it isn't given
+abbrev pub Has : Option Directory → Option Text → Text → Type 0
+Has contents None bytes = bytes ≡ []
+Has contents (Some name) bytes = Reads contents (name ∷ []) (Ok (bytes ∷ []))
+
+-- the files of the options are these
+pub record HasBoth (contents : Option Directory) (options : Options) (input schedule : Text) : Type 0 where
+  pub files : List Text
+  pub read : Reads contents (given options.input ++ given options.schedule) (Ok files)
+  pub is_input : input ≡ first_of options.input files
+  pub is_schedule : schedule ≡ first_of options.schedule (behind options.input files)
+
+-- the files of a command are these
+pub record HasRead (contents : Option Directory) (said : Said) (source : Text) (options : Options) (input schedule : Text) : Type 0 where
+  pub files : List Text
+  pub read : Reads contents (reads_of said) (Ok (source ∷ files))
+  pub is_input : input ≡ first_of options.input files
+  pub is_schedule : schedule ≡ first_of options.schedule (behind options.input files)
+
+-- What a command does with its files: the table of commands. `kept` says that the page file is as before.
+abbrev pub Does : Type 0 → Type 0 → Option BlockFile → Said → List Text → Status → Channels → Type 0
+Does kept failed told (bare name options) [] status grown = ⊥
+Does kept failed told (bare name options) (source ∷ files) status grown =
+    BareDoes kept failed told source (first_of options.input files) (first_of options.schedule (behind options.input files)) options status grown
+Does kept failed told about files status grown = (text : Text) × (status ≡ Done) × (grown ≡ only channel.Out text) × kept
 
 -- the answer that a command is to give, and what it is to write
-abbrev pub CommandComes : Type 0 → Option Directory → Said → Status → Channels → Type 0
-CommandComes rose contents said status grown =
-    (ReadEnds rose contents (reads_of said) status × (grown ≡ refusal_growth status))
-    ⊎ ((files : List Text) × Reads contents (reads_of said) (Ok files) × Does said files status grown)
+abbrev pub CommandComes : Type 0 → Type 0 → Type 0 → Option Directory → Option BlockFile → Said → Status → Channels → Type 0
+CommandComes rose kept failed contents told said status grown =
+    (ReadEnds rose contents (reads_of said) status × (grown ≡ refusal_growth status) × kept)
+    ⊎ ((files : List Text) × Reads contents (reads_of said) (Ok files) × Does kept failed told said files status grown)
 
--- the same for any words
-abbrev pub Comes : Type 0 → Option Directory → List Text → Status → Channels → Type 0
-Comes rose contents words status grown =
-    MatchOption (command_of words) ((status ≡ Usage) × (grown ≡ refusal_growth Usage)) (λ said. CommandComes rose contents said status grown)
+-- The same for any words. `rose` says that a read of the files failed, `kept` that the page file is as before, and `failed` that one of its calls
+-- failed; then come what the files and the page file tell.
+abbrev pub Comes : Type 0 → Type 0 → Type 0 → Option Directory → Option BlockFile → List Text → Status → Channels → Type 0
+Comes rose kept failed contents told words status grown =
+    MatchOption (command_of words) ((status ≡ Usage) × (grown ≡ refusal_growth Usage) × kept) (λ said. CommandComes rose kept failed contents told said status grown)

@@ -1,24 +1,25 @@
 //! The files that a command reads.
-ghost use Rattle.std.specs.Prelude.{◌≡◌, ◌≢◌, ◌⊎◌, ◌≤◌, List, ℕ, [], ◌∷◌, Ok, IfOk, IfErr, IsErrOf, length};
+ghost use Rattle.std.specs.Prelude.{◌≡◌, ◌≢◌, ◌⊎◌, ◌≤◌, ◌++◌, [], ◌∷◌, Ok, IfOk, IfErr, IsErrOf, length};
 ghost use Rattle.std.specs.Option.{option_copied};
 ghost use Rattle.vax_outside.specs.Faults.{Rose};
-ghost use Rattle.vax_words.specs.Said.{said_bare};
-ghost use Rattle.vax_top.specs.Top.{file_limit, input_files, input_in, Reads, ReadEnds, reads_of};
+ghost use Rattle.vax_words.specs.Said.{options as said_options, said_bare};
+ghost use Rattle.vax_top.specs.Top.{Has, HasBoth, HasRead, Reads, ReadEnds, file_limit, given, reads_of};
 
 use crate::name::Name;
 use crate::status::Status;
 use std::alloc::Global;
 use vax_outside::{Files, FilesFault};
-use vax_words::Bare;
+use vax_words::{Bare, Options};
 
 /// The most bytes of a file.
 const FILE_LIMIT: u32 = 4_194_304;
 
-/// The source of `bare`, and the console's input, empty where no file of it is given.
+/// The source of `bare`, the console's input and the schedule, each empty where no file of it is given.
 #[derive(Drop)]
 pub(crate) struct Loaded {
     pub(crate) source: Vec<u8>,
     pub(crate) input: Vec<u8>,
+    pub(crate) schedule: Vec<u8>,
 }
 
 /// The answer for a file that isn't there.
@@ -59,13 +60,14 @@ fn load<S: Files>(alloc: Global, name: &str, files: &mut S) -> Result<Vec<u8>, S
     }
 }
 
-/// Reads the console's input.
-fn load_input<S: Files>(alloc: Global, name: Option<&str>, files: &mut S) -> Result<Vec<u8>, Status>
+/// Reads the file of an option, empty where it isn't given.
+fn load_given<S: Files>(alloc: Global, name: Option<&str>, files: &mut S) -> Result<Vec<u8>, Status>
+    ensures same { S.contents files.new ≡ S.contents files.old }
     ensures later { S.faults files.old ≤ S.faults files.new }
     ensures failed { S.faults files.new ≢ S.faults files.old → IsErrOf result Status.ReadFault }
     ensures bound { IfOk result (λ v. length v.items ≤ file_limit) }
-    ensures ok { IfOk result (λ v. (rest : List (List ℕ)) × Reads (S.contents files.old) (input_files (option_copied name.entry)) (Ok rest) × (v.items ≡ input_in rest)) }
-    ensures ends { IfErr result (λ status. ReadEnds (Rose (S.faults files.old) (S.faults files.new)) (S.contents files.old) (input_files (option_copied name.entry)) status) }
+    ensures ok { IfOk result (λ v. Has (S.contents files.old) (option_copied name.entry) v.items) }
+    ensures ends { IfErr result (λ status. ReadEnds (Rose (S.faults files.old) (S.faults files.new)) (S.contents files.old) (given (option_copied name.entry)) status) }
 {
     match name {
         None => Ok(Vec::new(alloc)),
@@ -73,7 +75,24 @@ fn load_input<S: Files>(alloc: Global, name: Option<&str>, files: &mut S) -> Res
     }
 }
 
-/// Reads the files of `bare`: the source, then the input.
+/// Reads the files of the options: the input, then the schedule.
+fn load_options<S: Files>(
+    alloc: Global,
+    options: Options,
+    files: &mut S,
+) -> Result<(Vec<u8>, Vec<u8>), Status>
+    ensures later { S.faults files.old ≤ S.faults files.new }
+    ensures failed { S.faults files.new ≢ S.faults files.old → IsErrOf result Status.ReadFault }
+    ensures bounds { IfOk result (λ r. (length r.0.items ≤ file_limit) × (length r.1.items ≤ file_limit)) }
+    ensures ok { IfOk result (λ r. HasBoth (S.contents files.old) (said_options options.entry) r.0.items r.1.items) }
+    ensures ends { IfErr result (λ status. ReadEnds (Rose (S.faults files.old) (S.faults files.new)) (S.contents files.old) (given (said_options options.entry).input ++ given (said_options options.entry).schedule) status) }
+{
+    let input = load_given(alloc, options.input, files)?;
+    let schedule = load_given(alloc, options.schedule, files)?;
+    Ok((input, schedule))
+}
+
+/// Reads the files of `bare`: the source, then those of its options.
 pub(crate) fn load_bare<S: Files>(
     alloc: Global,
     bare: Bare,
@@ -81,11 +100,16 @@ pub(crate) fn load_bare<S: Files>(
 ) -> Result<Loaded, Status>
     ensures later { S.faults files.old ≤ S.faults files.new }
     ensures failed { S.faults files.new ≢ S.faults files.old → IsErrOf result Status.ReadFault }
-    ensures bound { IfOk result (λ l. length l.input.items ≤ file_limit) }
-    ensures ok { IfOk result (λ l. (rest : List (List ℕ)) × Reads (S.contents files.old) (reads_of (said_bare bare.entry)) (Ok (l.source.items ∷ rest)) × (l.input.items ≡ input_in rest)) }
+    ensures input { IfOk result (λ l. length l.input.items ≤ file_limit) }
+    ensures schedule { IfOk result (λ l. length l.schedule.items ≤ file_limit) }
+    ensures ok { IfOk result (λ l. HasRead (S.contents files.old) (said_bare bare.entry) l.source.items (said_options bare.entry.options) l.input.items l.schedule.items) }
     ensures ends { IfErr result (λ status. ReadEnds (Rose (S.faults files.old) (S.faults files.new)) (S.contents files.old) (reads_of (said_bare bare.entry)) status) }
 {
     let source = load(alloc, bare.name, files)?;
-    let input = load_input(alloc, bare.options.input, files)?;
-    Ok(Loaded { source, input })
+    let (input, schedule) = load_options(alloc, bare.options, files)?;
+    Ok(Loaded {
+        source,
+        input,
+        schedule,
+    })
 }

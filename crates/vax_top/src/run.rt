@@ -1,80 +1,75 @@
-//! The command `bare`: reads a source, runs its program, and reports.
-ghost use Rattle.std.specs.Prelude.{◌≡◌, ◌⊎◌, ◌≤◌, ℕ, None, IfOk, IfErr, length};
-ghost use Rattle.vax_outside.specs.Channels.{Channels};
-ghost use Rattle.vax_flat.specs.Port.{StandsFor};
-ghost use Rattle.vax_flat.specs.Memory.{AllResident};
-ghost use Rattle.vax_undo.specs.Plain.{view_of};
-ghost use Rattle.vax_bare.specs.Start.{start_of, core, memory as memory_at_start};
-ghost use Rattle.vax_bare.specs.Run.{StopsAt};
+//! The command `bare`: reads a source and a schedule, runs the program, and reports.
+ghost use Rattle.std.specs.Prelude.{◌≡◌, ◌≢◌, ◌⊎◌, ◌≤◌, ◌<◌, ◌^◌, ◌-◌, ℕ, List, IfOk, IfErr, length};
+ghost use Rattle.vax_outside.specs.Channels.{Channels, only};
+ghost use Rattle.vax_outside.specs.Faults.{Rose};
+ghost use Rattle.vax_outside.specs.declared.traits.Chan.TheVariants.{Report};
+ghost use Rattle.vax_flat.specs.Step.{Flat};
+ghost use Rattle.vax_bare.specs.Start.{areas, start_of};
+ghost use Rattle.vax_machine.specs.Meaning.{engine};
+ghost use Rattle.vax_machine.specs.Machine.{keeping};
+ghost use Rattle.vax_machine.specs.Paged.{fresh};
+ghost use Rattle.vax_sched.specs.Faults.{Denotes, IsFirstFault};
 ghost use Rattle.vax_source.specs.Program.{Assembles};
-ghost use Rattle.vax_top.specs.Status.{refusal_growth};
+ghost use Rattle.vax_words.specs.Said.{AreWithin, options as said_options};
 ghost use Rattle.vax_top.specs.Ends.{Ends};
-ghost use Rattle.vax_top.specs.Top.{IsBare, IsRefused, last_of, file_limit, run_output, run_report};
+ghost use Rattle.vax_top.specs.Fresh.{IsFresh, IsPrepared, machine_report};
+ghost use Rattle.vax_top.specs.Top.{IsBare, IsRefused, file_limit};
+ghost use Rattle.vax_top.specs.Went.{Went};
 
 use crate::load::Loaded;
 use crate::refuse::refuse;
 use crate::status::Status;
 use std::alloc::Global;
-use vax_bare::{core_at, memory_of, run};
-use vax_cpu::Cpu;
-use vax_flat::Ending;
-use vax_outside::{Failed, Sink};
+use vax_bare::{core_at, space_of};
+use vax_machine::{Limits, Machine, RunEnd};
+use vax_outside::{Failed, PageFile, Sink};
 use vax_report::{Last, write_report};
+use vax_sched::{SchedError, Schedule, read};
 use vax_source::{Program, SourceError, read_source};
-use vax_undo::{Plain, Term};
+use vax_space::Space;
+use vax_words::Options;
 
-/// Why a run stopped.
-fn last_of(ending: Option<Ending>) -> Last
-    ensures { result ≡ last_of ending }
+/// Writes the report on a machine, and answers so.
+fn report<K: Sink>(machine: &Machine, last: Last, meant: Status, sink: &mut K) -> Status
+    ensures { Ends (K.faults sink.old) (K.faults sink.new) (K.contents sink.old) (K.contents sink.new) meant (only Report (machine_report (engine machine.now) last)) result }
 {
-    match ending {
-        Some(ending) => Last::Ending(ending),
-        None => Last::Steps,
-    }
-}
-
-/// A processor at the start of a program.
-fn start(begin: u32, input: Vec<u8>) -> Cpu
-    requires { length input.items ≤ file_limit }
-    ensures core { result.core ≡ core begin }
-    ensures place { result.term.place ≡ 0 }
-    ensures out { result.term.out ≡ None }
-    ensures latch { result.latch ≡ None }
-    ensures input { result.term.input.items ≡ input.items }
-{
-    Cpu {
-        core: core_at(begin),
-        term: Term::new(input),
-        latch: None,
-    }
-}
-
-/// Runs a program for at most so many steps, and writes the report.
-fn execute<K: Sink>(
-    program: &Program,
-    memory: Plain,
-    input: Vec<u8>,
-    most: u64,
-    sink: &mut K,
-) -> Status
-    requires stands { StandsFor (view_of memory) (memory_at_start program.now.bytes.items) }
-    requires resident { AllResident (view_of memory).resident (view_of memory).areas }
-    requires short { length input.items ≤ file_limit }
-    ensures { (n : ℕ) × StopsAt n most (start_of program.now.bytes.items program.now.start input.items)
-        × Ends (K.faults sink.old) (K.faults sink.new) (K.contents sink.old) (K.contents sink.new) Status.Done (run_output (start_of program.now.bytes.items program.now.start input.items) n) result }
-{
-    let mut memory = memory;
-    let mut cpu = start(program.start, input);
-    match run(&mut cpu, &mut memory, most, sink) {
-        Ok(stopped) => {
-            let last = last_of(stopped.ending);
-            let taken = cpu.term.place;
-            match write_report(&cpu.core, last, stopped.steps, 0, taken, &[], sink) {
-                Ok(()) => Status::Done,
-                Err(Failed) => Status::WriteFault,
-            }
-        }
+    let written = write_report(
+        machine.core(),
+        last,
+        machine.steps(),
+        machine.units(),
+        machine.taken(),
+        &[],
+        sink,
+    );
+    match written {
+        Ok(()) => meant,
         Err(Failed) => Status::WriteFault,
+    }
+}
+
+/// Runs a machine under a schedule, and writes the report.
+fn execute<K: Sink, F: PageFile>(
+    machine: Machine,
+    limits: &Limits,
+    schedule: &Schedule,
+    sink: &mut K,
+    pages: &mut F,
+) -> Status
+    requires few_steps { limits.now.steps < 2 ^ 64 }
+    requires few_turns { limits.now.turns < 2 ^ 64 - 2 }
+    ensures went { (frames : ℕ) → (m : Flat) → IsFresh (engine machine) frames m → (meant : Status) × (grown : Channels)
+        × Went (Rose (F.faults pages.old) (F.faults pages.new)) (F.contents pages.old) limits.now (keeping (engine machine)).areas schedule.now (fresh frames m) meant grown
+        × Ends (K.faults sink.old) (K.faults sink.new) (K.contents sink.old) (K.contents sink.new) meant grown result }
+    ensures failed { F.faults pages.new ≢ F.faults pages.old → (result ≡ Status.PageFault) ⊎ (result ≡ Status.WriteFault) }
+{
+    let mut machine = machine;
+    match machine.run(limits, schedule, pages, sink) {
+        RunEnd::Ended(ending) => report(&machine, Last::Ending(ending), Status::Done, sink),
+        RunEnd::Steps => report(&machine, Last::Steps, Status::Done, sink),
+        RunEnd::Turns => report(&machine, Last::Turns, Status::Turns, sink),
+        RunEnd::PageFault => report(&machine, Last::PageFault, Status::PageFault, sink),
+        RunEnd::WriteFault => Status::WriteFault,
     }
 }
 
@@ -95,19 +90,80 @@ fn assemble(alloc: Global, source: &[u8]) -> Result<Program, Status>
     }
 }
 
-/// Runs a source with its input, for at most so many steps.
-pub(crate) fn run_bare<K: Sink>(alloc: Global, loaded: Loaded, most: u64, sink: &mut K) -> Status
-    requires { length loaded.input.items ≤ file_limit }
-    ensures { (meant : Status) × (grown : Channels)
-        × IsBare loaded.source.items loaded.input.items most meant grown
+/// The schedule of a text, or the answer to its first fault.
+fn plan(alloc: Global, text: &[u8], space: &Space) -> Result<Schedule, Status>
+    requires { length text.now ≤ file_limit }
+    ensures planned { IfOk result (λ schedule. Denotes space.now text.now schedule) }
+    ensures fault { IfErr result (λ status. ((line : ℕ) × (kind : ℕ) × (status ≡ Status.Schedule line kind) × IsFirstFault space.now text.now line kind) ⊎ (status ≡ Status.NoMemory)) }
+{
+    match read(alloc, text, space) {
+        Ok(schedule) => Ok(schedule),
+        Err(SchedError::Fault { line, kind }) => Err(Status::Schedule { line, kind }),
+        Err(SchedError::NoMemory) => Err(Status::NoMemory),
+    }
+}
+
+/// A machine at the start of a program, with so many frames, and the schedule of a text.
+fn prepare(
+    alloc: Global,
+    program: &Program,
+    input: Vec<u8>,
+    schedule: &[u8],
+    frames: u32,
+) -> Result<(Machine, Schedule), Status>
+    requires short { length program.now.bytes.items ≤ 700000 }
+    requires input { length input.items ≤ file_limit }
+    requires schedule { length schedule.now ≤ file_limit }
+    requires some { 64 ≤ frames }
+    requires few { frames ≤ 32768 }
+    ensures prepared { IfOk result (λ r. IsPrepared (engine r.0) frames (start_of program.now.bytes.items program.now.start input.items) (areas program.now.bytes.items)) }
+    ensures planned { IfOk result (λ r. Denotes (areas program.now.bytes.items) schedule.now r.1) }
+    ensures fault { IfErr result (λ status. ((line : ℕ) × (kind : ℕ) × (status ≡ Status.Schedule line kind) × IsFirstFault (areas program.now.bytes.items) schedule.now line kind) ⊎ (status ≡ Status.NoMemory)) }
+{
+    let Ok(space) = space_of(alloc, &program.bytes) else {
+        return Err(Status::NoMemory);
+    };
+    let schedule = plan(alloc, schedule, &space)?;
+    match Machine::new(alloc, space, core_at(program.start), input, frames) {
+        Ok(machine) => Ok((machine, schedule)),
+        Err(_) => Err(Status::NoMemory),
+    }
+}
+
+/// Runs a source with its input under a schedule, as far as the options let it go.
+pub(crate) fn run_bare<K: Sink, F: PageFile>(
+    alloc: Global,
+    loaded: Loaded,
+    options: Options,
+    sink: &mut K,
+    pages: &mut F,
+) -> Status
+    requires input { length loaded.input.items ≤ file_limit }
+    requires schedule { length loaded.schedule.items ≤ file_limit }
+    requires within { AreWithin (said_options options) }
+    ensures bare { (meant : Status) × (grown : Channels)
+        × IsBare (pages.new ≡ pages.old) (Rose (F.faults pages.old) (F.faults pages.new)) (F.contents pages.old) loaded.source.items loaded.input.items loaded.schedule.items (said_options options.entry) meant grown
         × Ends (K.faults sink.old) (K.faults sink.new) (K.contents sink.old) (K.contents sink.new) meant grown result }
+    ensures failed { F.faults pages.new ≢ F.faults pages.old → (result ≡ Status.PageFault) ⊎ (result ≡ Status.WriteFault) }
 {
     let program = match assemble(alloc, &loaded.source) {
         Ok(program) => program,
         Err(status) => return refuse(status, sink),
     };
-    match memory_of(alloc, &program.bytes) {
-        Ok(memory) => execute(&program, memory, loaded.input, most, sink),
-        Err(_) => refuse(Status::NoMemory, sink),
+    match prepare(
+        alloc,
+        &program,
+        loaded.input,
+        &loaded.schedule,
+        options.frames,
+    ) {
+        Ok((machine, schedule)) => {
+            let limits = Limits {
+                steps: options.steps,
+                turns: options.turns,
+            };
+            execute(machine, &limits, &schedule, sink, pages)
+        }
+        Err(status) => refuse(status, sink),
     }
 }

@@ -49,14 +49,15 @@ pub fn vax_main<S: Files, K: Sink, F: PageFile>(
     pages: &mut F,
 ) -> Status
     ensures headline { (meant : Status) × (grown : Channels)
-        × Comes (Rose (S.faults files.old) (S.faults files.new)) (S.contents files.old) (texts words.now) meant grown
+        × Comes (Rose (S.faults files.old) (S.faults files.new)) (pages.new ≡ pages.old) (Rose (F.faults pages.old) (F.faults pages.new)) (S.contents files.old) (F.contents pages.old) (texts words.now) meant grown
         × Ends (K.faults sink.old) (K.faults sink.new) (K.contents sink.old) (K.contents sink.new) meant grown result }
-    ensures pages { pages.new ≡ pages.old }
     ensures usage { result ≡ Status.Usage → said_of (texts words.now) ≡ None }
     ensures not_plain { said_of (texts words.now) ≡ None → (result ≡ Status.Usage) ⊎ (result ≡ Status.WriteFault) }
     ensures missing { (name : List ℕ) → result ≡ Status.Missing name → Reads (S.contents files.old) (reads (texts words.now)) (Err (name, files_fault.Missing)) }
     ensures large { (name : List ℕ) → result ≡ Status.Large name → Reads (S.contents files.old) (reads (texts words.now)) (Err (name, files_fault.Large)) }
     ensures read { result ≡ Status.ReadFault → Rose (S.faults files.old) (S.faults files.new) }
+    ensures page_fault { result ≡ Status.PageFault → Rose (F.faults pages.old) (F.faults pages.new) }
+    ensures page_failed { F.faults pages.new ≢ F.faults pages.old → (result ≡ Status.PageFault) ⊎ (result ≡ Status.WriteFault) }
     ensures write { result ≡ Status.WriteFault → Rose (K.faults sink.old) (K.faults sink.new) }
     ensures read_failed { S.faults files.new ≢ S.faults files.old → (result ≡ Status.ReadFault) ⊎ (result ≡ Status.WriteFault) }
     ensures write_failed { K.faults sink.new ≢ K.faults sink.old → result ≡ Status.WriteFault }
@@ -68,7 +69,7 @@ pub fn vax_main<S: Files, K: Sink, F: PageFile>(
         Err(WordsError::NoMemory) => refuse(Status::NoMemory, sink),
         Ok(Command::About) => tell(alloc, words, sink),
         Ok(Command::Bare(bare)) => match load_bare(alloc, bare, files) {
-            Ok(loaded) => run_bare(alloc, loaded, bare.options.steps, sink),
+            Ok(loaded) => run_bare(alloc, loaded, bare.options, sink, pages),
             Err(status) => refuse(status, sink),
         },
     }

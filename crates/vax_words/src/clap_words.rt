@@ -41,9 +41,27 @@ fn bare<'a>(alloc: Global) -> Result<Command<'a>, AllocError> {
         ))?
         .arg(option(
             alloc,
+            "schedule",
+            "FILE",
+            "Which pages are made absent before which attempt; none where it isn't given",
+        ))?
+        .arg(option(
+            alloc,
+            "frames",
+            "N",
+            "So many pages may be resident, 64 to 32768; 256 where it isn't given",
+        ))?
+        .arg(option(
+            alloc,
             "steps",
             "N",
             "Stop after so many steps, at most 10^15; 10000000 where it isn't given",
+        ))?
+        .arg(option(
+            alloc,
+            "turns",
+            "N",
+            "Stop after so many attempts, 1 to 10^15; 10^12 where it isn't given",
         ))?
         .arg(name)
 }

@@ -1,7 +1,7 @@
 //! Words, as they were checked and as `clap` reads them.
 ghost use Rattle.std.specs.Prelude.{◌≡◌, IfOk, IsErrOf, None, Some};
 ghost use Rattle.vax_words.specs.Words.{command_of as said_of};
-ghost use Rattle.vax_words.specs.Said.{said, texts};
+ghost use Rattle.vax_words.specs.Said.{IsWithin, said, texts};
 
 use crate::clap_words::read;
 use crate::words::{Bare, Command, Written, bare_written, plain_command};
@@ -23,13 +23,17 @@ fn bare_by_clap<'a>(alloc: Global, words: &'a [String]) -> Option<Bare<'a>> {
     bare_written(Written {
         name: bare.get_str("NAME"),
         input: bare.get_str("input"),
+        schedule: bare.get_str("schedule"),
+        frames: bare.get_str("frames"),
         steps: bare.get_str("steps"),
+        turns: bare.get_str("turns"),
     })
 }
 
 /// The command that the words name.
 pub fn command_of<'a>(alloc: Global, words: &'a [String]) -> Result<Command<'a>, WordsError>
     ensures ok { IfOk result (λ c. said_of (texts words.entry.now) ≡ Some (said c)) }
+    ensures within { IfOk result (λ c. IsWithin (said c)) }
     ensures usage { IsErrOf result WordsError.Usage → said_of (texts words.entry.now) ≡ None }
     ensures not_plain { said_of (texts words.entry.now) ≡ None → IsErrOf result WordsError.Usage }
 {

@@ -10,48 +10,80 @@ fn words(rt: &HostRuntime, all: &[&str]) -> Result<Vec<String>, Fail> {
     Ok(made)
 }
 
-#[test]
-fn reads_bare(rt: HostRuntime) -> Result<(), Fail> {
-    let all = words(&rt, &["bare", "A"])?;
-    assert!(rt;
-        matches!(
-            command_of(rt.alloc(), all.as_slice()),
-            Ok(Command::Bare(Bare {
-                name: "A",
-                options: Options {
-                    input: None,
-                    steps: 10_000_000
-                }
-            }))
-        )
-    );
-    Ok(())
-}
+/// What is asked for where no word says it.
+const USUAL: Options = Options {
+    input: None,
+    schedule: None,
+    frames: 256,
+    steps: 10_000_000,
+    turns: 1_000_000_000_000,
+};
 
 /// Plain words, with what they say; clap reads them all.
 #[test]
 fn reads_options(rt: HostRuntime) -> Result<(), Fail> {
-    let rows: [(&[&str], Option<&str>, u64); 5] = [
-        (&["bare", "A", "--input", "B"], Some("B"), 10_000_000),
-        (&["bare", "--input=B", "A"], Some("B"), 10_000_000),
-        (&["bare", "--steps", "007", "A"], None, 7),
+    let rows: [(&[&str], Options); 9] = [
+        (&["bare", "A"], USUAL),
+        (
+            &["bare", "A", "--input", "B"],
+            Options {
+                input: Some("B"),
+                ..USUAL
+            },
+        ),
+        (
+            &["bare", "--input=B", "A"],
+            Options {
+                input: Some("B"),
+                ..USUAL
+            },
+        ),
+        (
+            &["bare", "--steps", "007", "A"],
+            Options { steps: 7, ..USUAL },
+        ),
         (
             &["bare", "A", "--steps=1000000000000000"],
-            None,
-            1_000_000_000_000_000,
+            Options {
+                steps: 1_000_000_000_000_000,
+                ..USUAL
+            },
         ),
         (
             &["bare", "--steps=0", "--input", "B=C", "A"],
-            Some("B=C"),
-            0,
+            Options {
+                input: Some("B=C"),
+                steps: 0,
+                ..USUAL
+            },
+        ),
+        (
+            &["bare", "A", "--schedule", "S", "--frames=64"],
+            Options {
+                schedule: Some("S"),
+                frames: 64,
+                ..USUAL
+            },
+        ),
+        (
+            &["bare", "--frames", "32768", "A", "--turns=1"],
+            Options {
+                frames: 32_768,
+                turns: 1,
+                ..USUAL
+            },
+        ),
+        (
+            &["bare", "A", "--turns", "1000000000000000"],
+            Options {
+                turns: 1_000_000_000_000_000,
+                ..USUAL
+            },
         ),
     ];
-    for (row, input, steps) in rows {
+    for (row, options) in rows {
         let all = words(&rt, row)?;
-        let bare = Bare {
-            name: "A",
-            options: Options { input, steps },
-        };
+        let bare = Bare { name: "A", options };
         assert!(rt; command_of(rt.alloc(), all.as_slice()) == Ok(Command::Bare(bare)));
     }
     Ok(())
@@ -59,10 +91,15 @@ fn reads_options(rt: HostRuntime) -> Result<(), Fail> {
 
 #[test]
 fn refuses_other_words(rt: HostRuntime) -> Result<(), Fail> {
-    let rows: [&[&str]; 14] = [
+    let rows: [&[&str]; 19] = [
         &["bare"],
         &["bare", "A", "B"],
         &["bare", "A", "--frames", "63"],
+        &["bare", "A", "--frames", "32769"],
+        &["bare", "A", "--frames", "64", "--frames", "64"],
+        &["bare", "A", "--turns", "0"],
+        &["bare", "A", "--turns=1000000000000001"],
+        &["bare", "A", "--schedule"],
         &["bare", "A", "--input"],
         &["bare", "A", "--input="],
         &["bare", "A", "--input=-"],

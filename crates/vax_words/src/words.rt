@@ -1,14 +1,26 @@
 //! Which words are plain.
-ghost use Rattle.std.specs.Prelude.{◌≡◌, ◌==◌, None, slice_index};
+ghost use Rattle.std.specs.Prelude.{◌≡◌, ◌==◌, ◌<◌, ◌≤◌, ◌^◌, None, IfSome, slice_index};
 ghost use Rattle.std.specs.Option.{option_map, option_copied};
-ghost use Rattle.vax_words.specs.Words.{bare_of, bare_written, command_of, decimal, is_plain, key_of, more, nothing, once, said_by, steps_of, with_name, with_value, written as written_by};
-ghost use Rattle.vax_words.specs.Said.{said, said_bare, texts, written};
+ghost use Rattle.vax_words.specs.Words.{bare_of, bare_written, command_of, decimal, frames_of, is_plain, key_of, more, nothing, number_of, once, options_written, said_by, with_name, with_value, written as written_by};
+ghost use Rattle.vax_words.specs.Said.{AreWithin, IsWithin, options, said, said_bare, texts, written};
 
-/// The most steps of a run that a word may ask for.
+/// The most steps or turns of a run that a word may ask for.
 const MOST_STEPS: u64 = 1_000_000_000_000_000;
 
 /// The most steps of a run where no word says it.
 const USUAL_STEPS: u64 = 10_000_000;
+
+/// The most turns of a run where no word says it.
+const USUAL_TURNS: u64 = 1_000_000_000_000;
+
+/// The fewest frames that a word may ask for.
+const LEAST_FRAMES: u64 = 64;
+
+/// The most frames that a word may ask for.
+const MOST_FRAMES: u64 = 32_768;
+
+/// The frames where no word says it.
+const USUAL_FRAMES: u64 = 256;
 
 /// What the words ask for.
 #[derive(Clone, Copy, Debug, PartialEq, Eq)]
@@ -31,15 +43,24 @@ pub struct Bare<'a> {
 pub struct Options<'a> {
     /// `--input NAME`: the file of the console's input; none where there is no input.
     pub input: Option<&'a str>,
+    /// `--schedule NAME`: the file of the eviction schedule; none where there is no schedule.
+    pub schedule: Option<&'a str>,
+    /// `--frames N`: how many pages may be resident, 64 to 32,768; 256 where no word says it.
+    pub frames: u32,
     /// `--steps N`: the most steps, at most 10^15; 10,000,000 where no word says it.
     pub steps: u64,
+    /// `--turns N`: the most turns, 1 to 10^15; 10^12 where no word says it.
+    pub turns: u64,
 }
 
 /// An option.
 #[derive(Clone, Copy, Debug, PartialEq, Eq)]
 pub enum Key {
     Input,
+    Schedule,
+    Frames,
     Steps,
+    Turns,
 }
 
 /// A name and the options' values, as they are written.
@@ -47,7 +68,10 @@ pub enum Key {
 pub struct Written<'a> {
     pub name: Option<&'a str>,
     pub input: Option<&'a str>,
+    pub schedule: Option<&'a str>,
+    pub frames: Option<&'a str>,
     pub steps: Option<&'a str>,
+    pub turns: Option<&'a str>,
 }
 
 /// It is neither empty nor begins with a dash.
@@ -73,7 +97,8 @@ fn has_sign(word: &str) -> bool
 /// The number that decimal digits alone write, if it isn't above the greatest.
 #[tactic(auto, using(crate::proofs::NumberLaws::decimal_found, crate::proofs::NumberLaws::decimal_large, crate::proofs::NumberLaws::decimal_none, crate::proofs::NumberLaws::decimal_signed))]
 fn decimal(most: u64, word: &str) -> Option<u64>
-    ensures { result ≡ decimal most word.now }
+    ensures number { result ≡ decimal most word.now }
+    ensures within { IfSome result (λ n. n ≤ most) }
 {
     if has_sign(word) {
         return None;
@@ -90,7 +115,10 @@ fn key_of(word: &str) -> Option<Key>
 {
     match word {
         "--input" => Some(Key::Input),
+        "--schedule" => Some(Key::Schedule),
+        "--frames" => Some(Key::Frames),
         "--steps" => Some(Key::Steps),
+        "--turns" => Some(Key::Turns),
         _ => None,
     }
 }
@@ -126,10 +154,31 @@ fn with_value<'a>(key: Key, word: &'a str, given: Written<'a>) -> Option<Written
                 ..given
             })
         }
+        Key::Schedule => {
+            let schedule = once(given.schedule, word)?;
+            Some(Written {
+                schedule: Some(schedule),
+                ..given
+            })
+        }
+        Key::Frames => {
+            let frames = once(given.frames, word)?;
+            Some(Written {
+                frames: Some(frames),
+                ..given
+            })
+        }
         Key::Steps => {
             let steps = once(given.steps, word)?;
             Some(Written {
                 steps: Some(steps),
+                ..given
+            })
+        }
+        Key::Turns => {
+            let turns = once(given.turns, word)?;
+            Some(Written {
+                turns: Some(turns),
                 ..given
             })
         }
@@ -163,7 +212,10 @@ fn read_words<'a>(words: &'a [String]) -> Option<Written<'a>>
     let mut given = Written {
         name: None,
         input: None,
+        schedule: None,
+        frames: None,
         steps: None,
+        turns: None,
     };
     let mut pending = None;
     for word in words {
@@ -175,34 +227,64 @@ fn read_words<'a>(words: &'a [String]) -> Option<Written<'a>>
     }
 }
 
-/// The most steps that the words ask for.
-fn steps_of(word: Option<&str>) -> Option<u64>
-    ensures { result ≡ steps_of (option_copied word.entry) }
+/// The number of an option: its usual value where no word says it, else one from the least to the greatest.
+fn number_of(usual: u64, least: u64, most: u64, word: Option<&str>) -> Option<u64>
+    requires low { least ≤ usual }
+    requires high { usual ≤ most }
+    requires few { most < 2 ^ 63 }
+    ensures number { result ≡ number_of usual least most (option_copied word.entry) }
+    ensures least { IfSome result (λ n. least ≤ n) }
+    ensures most { IfSome result (λ n. n ≤ most) }
 {
-    match word {
-        None => Some(USUAL_STEPS),
-        Some(word) => decimal(MOST_STEPS, word),
+    let Some(word) = word else {
+        return Some(usual);
+    };
+    match decimal(most, word) {
+        Some(number) if number >= least => Some(number),
+        _ => None,
     }
+}
+
+/// How many pages may be resident.
+fn frames_of(word: Option<&str>) -> Option<u32>
+    ensures number { result ≡ frames_of (option_copied word.entry) }
+    ensures least { IfSome result (λ n. 64 ≤ n) }
+    ensures most { IfSome result (λ n. n ≤ 32768) }
+{
+    Some(number_of(USUAL_FRAMES, LEAST_FRAMES, MOST_FRAMES, word)? as u32)
+}
+
+/// What the values of the options say.
+fn options_written<'a>(given: Written<'a>) -> Option<Options<'a>>
+    ensures options { option_map options result ≡ options_written (written given.entry) }
+    ensures within { IfSome result (λ o. AreWithin (options o)) }
+{
+    let frames = frames_of(given.frames)?;
+    let steps = number_of(USUAL_STEPS, 0, MOST_STEPS, given.steps)?;
+    let turns = number_of(USUAL_TURNS, 1, MOST_STEPS, given.turns)?;
+    Some(Options {
+        input: given.input,
+        schedule: given.schedule,
+        frames,
+        steps,
+        turns,
+    })
 }
 
 /// What a name and options say.
 pub(crate) fn bare_written<'a>(given: Written<'a>) -> Option<Bare<'a>>
-    ensures { option_map said_bare result ≡ bare_written (written given.entry) }
+    ensures bare { option_map said_bare result ≡ bare_written (written given.entry) }
+    ensures within { IfSome result (λ b. IsWithin (said_bare b)) }
 {
     let name = given.name?;
-    let steps = steps_of(given.steps)?;
-    Some(Bare {
-        name,
-        options: Options {
-            input: given.input,
-            steps,
-        },
-    })
+    let options = options_written(given)?;
+    Some(Bare { name, options })
 }
 
 /// What stands behind `bare`.
 fn bare_of<'a>(words: &'a [String]) -> Option<Command<'a>>
-    ensures { option_map said result ≡ bare_of (texts words.entry.now) }
+    ensures said { option_map said result ≡ bare_of (texts words.entry.now) }
+    ensures within { IfSome result (λ c. IsWithin (said c)) }
 {
     if let [word] = words {
         if word.as_str() == "--help" {
@@ -214,7 +296,8 @@ fn bare_of<'a>(words: &'a [String]) -> Option<Command<'a>>
 
 /// A command, and the words behind it.
 fn said_by<'a>(command: &'a str, words: &'a [String]) -> Option<Command<'a>>
-    ensures { option_map said result ≡ said_by command.entry.now (texts words.entry.now) }
+    ensures said { option_map said result ≡ said_by command.entry.now (texts words.entry.now) }
+    ensures within { IfSome result (λ c. IsWithin (said c)) }
 {
     match command {
         "bare" => bare_of(words),
@@ -224,7 +307,8 @@ fn said_by<'a>(command: &'a str, words: &'a [String]) -> Option<Command<'a>>
 
 /// The command that plain words name.
 pub(crate) fn plain_command<'a>(words: &'a [String]) -> Option<Command<'a>>
-    ensures { option_map said result ≡ command_of (texts words.entry.now) }
+    ensures said { option_map said result ≡ command_of (texts words.entry.now) }
+    ensures within { IfSome result (λ c. IsWithin (said c)) }
 {
     let (first, rest) = words.split_first()?;
     let first = first.as_str();

@@ -2,7 +2,7 @@ use Rattle.std.proofs.Common.{rules}
 use Rattle.vax_space.specs.Reference.{page_of}
 use Rattle.vax_pager.specs.Listing.{is_listed}
 use Rattle.vax_pager.specs.Store.{paging}
-use Rattle.vax_pager.proofs.Effects.{either_true, first_true, neither, peek_absent, peek_kept, peek_resident, peeked_frame, peeked_home}
+use Rattle.vax_pager.proofs.Effects.{either_true, first_true, neither, peek_absent, peek_kept, peek_resident, keeps_peeked, keeps_unchanged, peeked_frame, peeked_home}
 use Rattle.vax_pager.proofs.store.Store.peek.Goals as goal
 
 pub returns-then-is_resident-clause-byte : goal.returns-then-is_resident-clause-byte
@@ -22,3 +22,9 @@ returns-clause-byte g c = λ memory st. peek_absent _ _ memory c.args.addr _ _ (
 
 pub returns-clause-from : goal.returns-clause-from
 returns-clause-from g c = peeked_home (paging c.args.self.now) _ c.args.addr _ c.in_ok-bytes.bytes (neither (is_listed (page_of c.args.addr) (paging c.args.self.now).order) (is_listed (page_of c.args.addr) (paging c.args.self.now).kept) (search rules) (search rules)) c.in_ok-bytes.ensures.bytes (search rules)
+
+pub returns-clause-keeps : goal.returns-clause-keeps
+returns-clause-keeps g c = keeps_peeked _ _ _ _ c.in_ok-bytes.ensures.read
+
+pub returns-in_err-bytes-clause-keeps : goal.returns-in_err-bytes-clause-keeps
+returns-in_err-bytes-clause-keeps g c = keeps_unchanged _ _ _ c.in_err-bytes.ensures.err
