@@ -72,7 +72,7 @@ fn is_too_long(size: u32, total: u32, more: u32) -> bool
 
 impl<F> Building<F> {
     fn add(&mut self, more: u32, piece: Piece<F>) -> Result<(), AllocFailed<Piece<F>>>
-        requires { self.old.size + more < 2 ^ 32 }
+        requires { self.old.size + more ≤ 1048576 }
         ensures { OnOk result (section_of self.new ≡ longer more (part_of piece) (section_of self.old)) }
     {
         self.pieces.push(piece)?;
@@ -149,7 +149,7 @@ impl<F> Layout<F> {
 
     #[tactic(auto, using(crate::proofs::Changing::part_added))]
     fn add(&mut self, more: u32, piece: Piece<F>) -> Result<(), AllocFailed<Piece<F>>>
-        requires section { (current_of (sections_of self.old)).size + more < 2 ^ 32 }
+        requires section { (current_of (sections_of self.old)).size + more ≤ 1048576 }
         requires total { self.old.total + more < 2 ^ 32 }
         ensures { OnOk result (sections_of self.new ≡ with_part more (part_of piece) (sections_of self.old)) }
     {

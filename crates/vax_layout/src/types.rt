@@ -35,6 +35,7 @@ pub struct Building<F> {
     pub size: u32,
     pub pieces: Vec<Piece<F>>,
     pub ghost aligned: { align ≤ 9 },
+    pub ghost short: { size ≤ 1048576 },
 }
 
 /// Why a section can't be chosen or grow.

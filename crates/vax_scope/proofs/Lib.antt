@@ -1,0 +1,5 @@
+pub mod Closing
+pub mod Binding
+pub mod Range
+pub mod Seen
+pub mod Spelling

@@ -1,0 +1,32 @@
+-- What the code's lists are in the definitions' terms.
+use Rattle.std.proofs.Common.{◌≡◌, ◌<◌, ◌≤◌, arith, ℕ, List, [], ◌∷◌, ◌++◌, length, map, sym, ap, ◌∙◌, subst}
+use Rattle.std.proofs.lemmas.List.{get_or-map, length-map, length-set, map-append}
+use Rattle.std.specs.Global.{Vec}
+use Rattle.std.specs.Prelude.{slice_index_or, slice_set}
+use Rattle.vax_names.specs.Names as specs
+use Rattle.vax_names.specs.View.{name_of}
+use Rattle.vax_names.specs.declared.types.Name.{Name}
+use Rattle.vax_values.specs.Values.{Written, Means, Worked}
+use Rattle.vax_values.specs.View.{meaning_of}
+use Rattle.vax_values.specs.declared.types.Meaning.{Meaning}
+
+pub definition_seen : (xs : List Name) (all : List specs.Name) (i : ℕ) (d : Name) → map name_of xs ≡ all → i < length all → (slice_index_or xs i d).definition ≡ (specs.name_at all i).definition
+definition_seen xs all i d is h =
+    let within : i < length xs = subst (λ n. i < n) (length-map xs name_of) (subst (λ (l : List specs.Name). i < length l) (sym is) h) in
+    ap (λ (n : specs.Name). n.definition) (sym (get_or-map name_of xs i d (specs.first_seen [] 0) within) ∙ ap (λ (l : List specs.Name). specs.name_at l i) is)
+
+pub meaning_added : (ms : List Meaning) (m : Meaning) → map meaning_of (ms ++ m ∷ []) ≡ map meaning_of ms ++ meaning_of m ∷ []
+meaning_added ms m = map-append meaning_of ms (m ∷ [])
+
+pub within_changed : (xs : List specs.Name) (i : ℕ) (n : specs.Name) → i < length xs → i < length (slice_set xs i n)
+within_changed xs i n h = rw (length-set xs i n) h
+
+-- what is there stays there
+pub means_more : (w : Written) (n m : ℕ) → Means n (Worked w) → n ≤ m → Means m (Worked w)
+means_more w n m h less = λ i d l. omega (arith, h i d l, less)
+
+pub text_added : (vs : List (Vec ℕ)) (v : Vec ℕ) (t : List ℕ) → v.items ≡ t → map (λ (w : Vec ℕ). w.items) (vs ++ v ∷ []) ≡ map (λ (w : Vec ℕ). w.items) vs ++ t ∷ []
+text_added vs v t e = map-append (λ (w : Vec ℕ). w.items) vs (v ∷ []) ∙ ap (λ (x : List ℕ). map (λ (w : Vec ℕ). w.items) vs ++ x ∷ []) e
+
+pub texts_count : (vs : List (Vec ℕ)) → length (map (λ (w : Vec ℕ). w.items) vs) ≡ length vs
+texts_count vs = length-map vs (λ (w : Vec ℕ). w.items)

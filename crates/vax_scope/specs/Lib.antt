@@ -1,0 +1,7 @@
+pub mod Kept
+pub mod Known
+pub mod PlaceView
+pub mod RangeProps
+pub mod Scope
+pub mod Used
+pub mod View
