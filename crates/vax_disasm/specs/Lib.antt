@@ -1,0 +1,4 @@
+pub mod Text
+pub mod Listed
+pub mod Seen
+pub mod Denoted
