@@ -1,3 +1,4 @@
+pub mod Circles
 pub mod Kept
 pub mod Known
 pub mod PlaceView

@@ -17,11 +17,17 @@ scope_in t = record { names = names_of t.names; sources = sources_of t.definitio
 abbrev pub bound_in : Vec Meaning → Tables → Bound
 bound_in m t = record { names = map meaning_of m.items; scope = scope_in t }
 
--- what a definition leaves, or that it is a second one; memory may be refused at any time
+-- what an assignment leaves, or that it is a second one; memory may be refused at any time
 abbrev pub Defines : Result Unit LabelError → Scope → Result Scope Duplicate → Type 0
 Defines (Ok done) after r = r ≡ Ok after
 Defines (Err errors.Duplicate) after r = r ≡ Err (record {})
 Defines (Err errors.NoMemory) after r = Unit {0}
+
+-- what a label leaves, or that it is a second one, where all is as before; memory may be refused at any time
+abbrev pub Labels : Result Unit LabelError → Scope → Scope → Result Scope Duplicate → Type 0
+Labels (Ok done) before after r = r ≡ Ok after
+Labels (Err errors.Duplicate) before after r = (r ≡ Err (record {})) × (after ≡ before)
+Labels (Err errors.NoMemory) before after r = Unit {0}
 
 abbrev pub texts_of : Vec (Vec ℕ) → List (List ℕ)
 texts_of v = map (λ w. w.items) v.items

@@ -15,7 +15,7 @@ use vax_values::Expression;
 
 /// The names and the definitions so far.
 ///
-/// A call that refuses leaves nothing of them: whoever assembles a source ends there.
+/// Where memory is refused, nothing of them is left: whoever assembles a source ends there.
 #[derive(Drop)]
 pub struct Scope {
     tables: Tables,
@@ -27,12 +27,14 @@ impl Scope {
     ghost use Rattle.vax_lex.specs.Grammar.{symbols_of, spelling, Expression as Tree};
     ghost use Rattle.vax_lex.specs.Tokens.{IsTokenOf};
     ghost use Rattle.vax_names.specs.View.{name_of};
+    ghost use Rattle.vax_scope.specs.Circles.{endless};
     ghost use Rattle.vax_scope.specs.Kept.{scope_of};
     ghost use Rattle.vax_scope.specs.Known.{known};
     ghost use Rattle.vax_scope.specs.Scope.{nothing, entry, definition_at, bound, labelled, assigned, labelled_locally, begun_block, made_global, external_names, closed};
     ghost use Rattle.vax_scope.specs.Used.{names_of};
-    ghost use Rattle.vax_scope.specs.View.{Defines, texts_of};
+    ghost use Rattle.vax_scope.specs.View.{Defines, Labels, texts_of};
     ghost use Rattle.vax_values.specs.Values.{Means, Worked, value_of, worth};
+    ghost use Rattle.vax_values.specs.ToCome.{names_to_come};
     ghost use Rattle.vax_values.specs.View.{written_of};
 
     /// No names and no definitions.
@@ -66,6 +68,14 @@ impl Scope {
         ensures { result ≡ worth (value_of (scope_of self.now).sources) (written_of expression.now) }
     {
         self.tables.definitions.evaluate(expression)
+    }
+
+    /// Whether a name of an expression means a definition that is still to come. Once the source is read, that is a local
+    /// label that its block doesn't define.
+    pub fn names_to_come(&self, expression: &Expression) -> bool
+        ensures { result ≡ names_to_come (scope_of self.now).sources (written_of expression.now) }
+    {
+        self.tables.definitions.names_to_come(expression)
     }
 
     /// What a name is worth where a statement stands, by what stands before it. `here` is what `.` is worth.
@@ -116,15 +126,24 @@ impl Scope {
 
     /// A label defines a name.
     ///
-    /// [`LabelError::Duplicate`] where the name has a definition, [`LabelError::NoMemory`] where memory is refused.
+    /// [`LabelError::Duplicate`] where the name has a definition, and all is as before then; [`LabelError::NoMemory`] where
+    /// memory is refused.
     pub fn label(&mut self, alloc: Global, text: &[u8], value: Value) -> Result<(), LabelError>
-        ensures { Defines result (scope_of self.new) (labelled text.now value (scope_of self.old)) }
+        ensures { Labels result (scope_of self.old) (scope_of self.new) (labelled text.now value (scope_of self.old)) }
     {
         let Scope { tables, .. } = mem::replace(self, Scope::new(alloc));
         let mut tables = tables;
-        tables.label(alloc, text, value)?;
-        *self = Scope { tables };
-        Ok(())
+        match tables.label(alloc, text, value) {
+            Ok(()) => {
+                *self = Scope { tables };
+                Ok(())
+            }
+            Err(LabelError::Duplicate) => {
+                *self = Scope { tables };
+                Err(LabelError::Duplicate)
+            }
+            Err(LabelError::NoMemory) => Err(LabelError::NoMemory),
+        }
     }
 
     /// An assignment defines a name: by the value of the expression where it has one, else by the expression, whose
@@ -147,23 +166,41 @@ impl Scope {
         Ok(())
     }
 
+    /// Whether the definition that a name means comes back to itself, which is no local label. Asked behind an assignment
+    /// of the name, it tells whether the definitions so far have a circle through this assignment.
+    ///
+    /// Takes time with the definitions without a value that it rests on, and none where no expression has it in it.
+    pub fn is_endless(&self, alloc: Global, text: &[u8]) -> Result<bool, NoMemory>
+        ensures { IfOk result (λ b. b ≡ endless text.now (scope_of self.now)) }
+    {
+        self.tables.is_endless(alloc, text)
+    }
+
     /// A local label is defined in its block.
     ///
-    /// [`LabelError::Duplicate`] where it is defined in the block already, [`LabelError::NoMemory`] where memory is
-    /// refused.
+    /// [`LabelError::Duplicate`] where it is defined in the block already, and all is as before then;
+    /// [`LabelError::NoMemory`] where memory is refused.
     pub fn label_local(
         &mut self,
         alloc: Global,
         text: &[u8],
         value: Value,
     ) -> Result<(), LabelError>
-        ensures { Defines result (scope_of self.new) (labelled_locally text.now value (scope_of self.old)) }
+        ensures { Labels result (scope_of self.old) (scope_of self.new) (labelled_locally text.now value (scope_of self.old)) }
     {
         let Scope { tables, .. } = mem::replace(self, Scope::new(alloc));
         let mut tables = tables;
-        tables.label_local(alloc, text, value)?;
-        *self = Scope { tables };
-        Ok(())
+        match tables.label_local(alloc, text, value) {
+            Ok(()) => {
+                *self = Scope { tables };
+                Ok(())
+            }
+            Err(LabelError::Duplicate) => {
+                *self = Scope { tables };
+                Err(LabelError::Duplicate)
+            }
+            Err(LabelError::NoMemory) => Err(LabelError::NoMemory),
+        }
     }
 
     /// A block of local labels begins.

@@ -112,11 +112,12 @@ fn close_all(
 
 impl Tables {
     ghost use Rattle.vax_names.specs.Names.{name_at};
+    ghost use Rattle.vax_scope.specs.Circles.{endless};
     ghost use Rattle.vax_scope.specs.Known.{known};
     ghost use Rattle.vax_scope.specs.PlaceView.{place_of};
     ghost use Rattle.vax_scope.specs.Scope.{nothing, entry, mean, mean_here, mean_local, bind, bind_all, bound, labelled, assigned, kept, labelled_locally, opened_if_fresh, made_global, closed};
     ghost use Rattle.vax_scope.specs.Used.{used_by};
-    ghost use Rattle.vax_scope.specs.View.{scope_in, bound_in, Defines};
+    ghost use Rattle.vax_scope.specs.View.{scope_in, bound_in, Defines, Labels};
     ghost use Rattle.vax_values.specs.Values.{Means, Worked};
     ghost use Rattle.vax_values.specs.View.{written_of};
     ghost use Rattle.std.specs.Prelude.{Result};
@@ -277,15 +278,15 @@ impl Tables {
         Ok(found)
     }
 
-    /// A label defines a name.
-    #[tactic(auto, using(crate::proofs::Seen::within_changed))]
+    /// A label defines a name. Where it is a second one, all is as before.
+    #[tactic(auto, using(crate::proofs::Seen::within_changed, crate::proofs::Seen::second_label))]
     pub(crate) fn label(
         &mut self,
         alloc: Global,
         text: &[u8],
         value: Value,
     ) -> Result<(), LabelError>
-        ensures { Defines result (scope_in self.new) (labelled text.now value (scope_in self.old)) }
+        ensures { Labels result (scope_in self.old) (scope_in self.new) (labelled text.now value (scope_in self.old)) }
     {
         let Ok(number) = self.entry(alloc, text) else {
             return Err(LabelError::NoMemory);
@@ -347,6 +348,18 @@ impl Tables {
         Ok(())
     }
 
+    /// Whether the definition that a name means comes back to itself.
+    pub(crate) fn is_endless(&self, alloc: Global, text: &[u8]) -> Result<bool, NoMemory>
+        ensures { IfOk result (λ b. b ≡ endless text.now (scope_in self.now)) }
+    {
+        match self.names.number(text) {
+            Some(number) => self
+                .definitions
+                .is_endless(alloc, self.definition_of(number)),
+            None => Ok(false),
+        }
+    }
+
     /// A local label is defined.
     pub(crate) fn label_local(
         &mut self,
@@ -354,7 +367,7 @@ impl Tables {
         text: &[u8],
         value: Value,
     ) -> Result<(), LabelError>
-        ensures { Defines result (scope_in self.new) (labelled_locally text.now value (scope_in self.old)) }
+        ensures { Labels result (scope_in self.old) (scope_in self.new) (labelled_locally text.now value (scope_in self.old)) }
     {
         let fresh = self.definitions.count();
         let local = self.names.label_local(alloc, text, fresh)?;

@@ -65,6 +65,24 @@ fn a_use_before_any_definition_means_the_first(rt: HostRuntime) -> Result<(), Fa
 }
 
 #[test]
+fn an_assignment_may_close_a_circle(rt: HostRuntime) -> Result<(), Fail> {
+    let alloc = rt.alloc();
+    let mut scope = Scope::new(alloc);
+    let later = stands(alloc, &mut scope, b"Y")?;
+    scope.assign(alloc, b"X", later)?;
+    assert!(rt; !scope.is_endless(alloc, b"X")?);
+    let back = stands(alloc, &mut scope, b"X-X")?;
+    scope.assign(alloc, b"Y", back)?;
+    assert!(rt; scope.is_endless(alloc, b"Y")?);
+    // A use before any definition means the first.
+    scope.appear(alloc, b"Z")?;
+    let itself = stands(alloc, &mut scope, b"Z+1")?;
+    scope.assign(alloc, b"Z", itself)?;
+    assert!(rt; scope.is_endless(alloc, b"Z")?);
+    Ok(())
+}
+
+#[test]
 fn local_labels_stay_in_their_block(rt: HostRuntime) -> Result<(), Fail> {
     let alloc = rt.alloc();
     let mut scope = Scope::new(alloc);

@@ -1,6 +1,9 @@
+pub mod Circles
 pub mod Definitions
 pub mod SettledProps
+pub mod ToCome
 pub mod TokenProps
 pub mod Values
 pub mod View
 pub mod Waiting
+pub mod Walks

@@ -6,6 +6,7 @@ ghost use Rattle.vax_values.specs.Values.{named, worth, source_at, value_under, 
 ghost use Rattle.vax_values.specs.View.{meaning_of, written_of, source_of, sources_in, lists_in};
 ghost use Rattle.vax_values.specs.Waiting.{known, listed, waiters, Watches, Settled, Standing, Grown, weight};
 ghost use Rattle.vax_values.specs.Values.{Means, expression_in, is_to_come};
+ghost use Rattle.vax_values.specs.ToCome.{names_to_come};
 
 use crate::types::{Board, Expression, Meaning, Source};
 use std::alloc::Global;
@@ -50,7 +51,7 @@ impl Names for Looked<'_> {
     }
 }
 
-fn add_last<T: Drop>(list: &mut Vec<T>, item: T) -> Result<(), NoMemory>
+pub(crate) fn add_last<T: Drop>(list: &mut Vec<T>, item: T) -> Result<(), NoMemory>
     ensures { OnOk result (list.new.items ≡ list.old.items ++ item ∷ []) }
 {
     list.push(item).map_err(|_| NoMemory)?;
@@ -133,6 +134,29 @@ impl Board {
             Some(Source::ToCome) => true,
             _ => false,
         }
+    }
+
+    /// Whether a name means a definition that is still to come.
+    fn is_open(&self, meaning: &Meaning) -> bool
+        ensures { result ≡ is_to_come (source_at (sources_in self.now.sources) (meaning_of meaning.now).definition) }
+    {
+        match self.sources.get(meaning.definition) {
+            None | Some(Source::ToCome) => true,
+            _ => false,
+        }
+    }
+
+    /// Whether one of the names of an expression does.
+    #[tactic(auto, using(crate::proofs::Open::name_found, crate::proofs::Open::name_passed, crate::proofs::Open::names_passed))]
+    pub(crate) fn names_to_come(&self, expression: &Expression) -> bool
+        ensures { result ≡ names_to_come (sources_in self.now.sources) (written_of expression.now) }
+    {
+        for meaning in &expression.names {
+            if self.is_open(meaning) {
+                return true;
+            }
+        }
+        false
     }
 
     pub(crate) fn expression(&self, number: usize) -> Option<&Expression>

@@ -24,8 +24,10 @@ pub struct Definitions {
 
 impl Definitions {
     ghost use Rattle.std.specs.Prelude.{◌<◌, ◌++◌, ◌∷◌, [], IfOk, OnOk, option_map};
+    ghost use Rattle.vax_values.specs.Circles.{endless};
     ghost use Rattle.vax_values.specs.Definitions.{sources_of};
     ghost use Rattle.vax_values.specs.Values.{Given as given, Worked as worked, Means, expression_in, source_at, with_source, ToCome as to_come, value_of, worth};
+    ghost use Rattle.vax_values.specs.ToCome.{names_to_come};
     ghost use Rattle.vax_values.specs.View.{source_of, written_of};
 
     /// No definitions.
@@ -107,6 +109,23 @@ impl Definitions {
         ensures { result ≡ worth (value_of (sources_of self.now)) (written_of expression.now) }
     {
         self.board.evaluate(expression)
+    }
+
+    /// Whether a name of an expression means a definition that is still to come.
+    pub fn names_to_come(&self, expression: &Expression) -> bool
+        ensures { result ≡ names_to_come (sources_of self.now) (written_of expression.now) }
+    {
+        self.board.names_to_come(expression)
+    }
+
+    /// Whether a definition comes back to itself: whether its expression has it in it, or has definitions without a value
+    /// in it that come back to it.
+    ///
+    /// Takes time with the definitions without a value that it rests on, and none where no expression has it in it.
+    pub fn is_endless(&self, alloc: Global, number: usize) -> Result<bool, NoMemory>
+        ensures { IfOk result (λ b. b ≡ endless (sources_of self.now) number) }
+    {
+        self.board.is_endless(alloc, number)
     }
 
     /// The expression that a definition is, if it is one.

@@ -3,10 +3,12 @@
 //!
 //! A definition is to come, has a value, or is an expression whose names mean other definitions. [`Definitions`] keeps
 //! what each is worth by the others so far: an expression has its value as soon as all that it rests on has one, in
-//! whichever order the definitions come. One that rests on itself never has a value.
+//! whichever order the definitions come. One that comes back to itself never has a value.
 #![tactic(auto)]
 
 mod board;
+mod circles;
+mod copies;
 mod definitions;
 #[cfg(test)]
 mod tests;

@@ -61,3 +61,21 @@ fn a_circle_has_no_value(rt: HostRuntime) -> Result<(), Fail> {
     assert_eq!(rt; definitions.evaluate(&use_of_it), Err(ExprError::Unknown));
     Ok(())
 }
+
+#[test]
+fn tells_a_circle_from_a_chain(rt: HostRuntime) -> Result<(), Fail> {
+    let alloc = rt.alloc();
+    let mut definitions = Definitions::new(alloc);
+    definitions.open(alloc)?;
+    definitions.open(alloc)?;
+    definitions.open(alloc)?;
+    // A = B and B = C, which is to come
+    definitions.write(alloc, 0, expression(alloc, b"B", b"B", 1)?)?;
+    definitions.write(alloc, 1, expression(alloc, b"C", b"C", 2)?)?;
+    assert!(rt; !definitions.is_endless(alloc, 1)?);
+    // C = A+1
+    definitions.write(alloc, 2, expression(alloc, b"A+1", b"A", 0)?)?;
+    assert!(rt; definitions.is_endless(alloc, 2)?);
+    assert!(rt; definitions.is_endless(alloc, 0)?);
+    Ok(())
+}

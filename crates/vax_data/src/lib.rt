@@ -1,0 +1,17 @@
+//! The directives of data of MACRO-32: what they leave in a section, and their faults (VAX MACRO and Instruction Set
+//! Reference Manual, "VAX MACRO assembler directives").
+//!
+//! Each call carries out one directive where it stands: [`data`] `.BYTE` to `.QUAD`, [`addresses`] `.ADDRESS`, [`text`]
+//! `.ASCII`, `.ASCIC` and `.ASCIZ`, [`space`] `.BLKB` to `.BLKQ`, [`align`] `.ALIGN` and [`even`] `.EVEN`. [`item`] is one item,
+//! as a part of a statement.
+#![tactic(auto)]
+
+mod boundary;
+mod items;
+#[cfg(test)]
+mod tests;
+mod texts;
+
+pub use boundary::{align, even, space};
+pub use items::{addresses, data, item};
+pub use texts::{TextForm, text};

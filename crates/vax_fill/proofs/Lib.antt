@@ -1,0 +1,6 @@
+pub mod Fitting
+pub mod Forming
+pub mod Order
+pub mod Repeating
+pub mod Steps
+pub mod Whole

@@ -1,0 +1,125 @@
+-- The whole of a module, from its parts.
+use Rattle.std.proofs.Common.{◌≡◌, ℕ, suc, List, [], ◌∷◌, length, map, refl, sym, ap, ◌∙◌}
+use Rattle.std.proofs.lemmas.List.Elements.{All-cons, All-nil}
+use Rattle.std.specs.Global.{Vec}
+use Rattle.std.specs.Prelude.{All, Option, Some, None, Result, Ok, Err}
+use Rattle.vax_layout.specs.Layout.{Section}
+use Rattle.vax_layout.specs.View.{part_of, section_of}
+use Rattle.vax_layout.specs.declared.types.Building.{Building}
+use Rattle.vax_layout.specs.declared.types.Piece.{Piece}
+use Rattle.vax_layout.specs.declared.types.Piece.TheVariants as piece
+use Rattle.vax_macro.specs.Rest.{Opening}
+use Rattle.vax_module.specs.declared.Module.{Module}
+use Rattle.vax_names.specs.Names.{Name}
+use Rattle.vax_pass.specs.Fixups.{Fixup as Fixed, Assignment}
+use Rattle.vax_pass.specs.Standing.{Standing}
+use Rattle.vax_pass.specs.View.{part_seen, section_seen}
+use Rattle.vax_pass.specs.declared.types.Fixup.{Fixup}
+use Rattle.vax_scope.specs.Scope.{closed, external_names}
+use Rattle.vax_values.specs.Values.{Source}
+use Rattle.vax_fill.specs.Faults.{first_of}
+use Rattle.vax_fill.specs.Laid.{Known, laid}
+use Rattle.vax_fill.specs.Modules.{known_in, faults, module_of, unless_faulty, filled_in}
+use Rattle.vax_fill.specs.View.{Lays, Fills}
+use Rattle.vax_fill.specs.declared.types.Fault.{Fault}
+use Rattle.vax_fill.specs.declared.types.FillError.{FillError}
+use Rattle.vax_fill.specs.declared.types.FillError.TheVariants as errors
+use Rattle.vax_fill.proofs.Forming.{IsSoundPart, IsSoundSection}
+
+-- ---- what code keeps of its sections
+
+part_sound : (p : Piece Fixup) → IsSoundPart (part_seen (part_of p))
+part_sound (piece.Zeros n) = tt
+part_sound (piece.Bytes v) = tt
+part_sound (piece.Field f) = f.sound
+
+parts_sound : (pieces : List (Piece Fixup)) → All IsSoundPart (map part_seen (map part_of pieces))
+parts_sound [] = All-nil IsSoundPart
+parts_sound (p ∷ pieces) = All-cons IsSoundPart (part_seen (part_of p)) (map part_seen (map part_of pieces)) (part_sound p) (parts_sound pieces)
+
+section_sound : (b : Building Fixup) → IsSoundSection (section_seen (section_of b))
+section_sound b = record { align = b.aligned; parts = parts_sound b.pieces.items }
+
+pub sections_sound : (sections : List (Building Fixup)) → All IsSoundSection (map section_seen (map section_of sections))
+sections_sound [] = All-nil IsSoundSection
+sections_sound (b ∷ sections) = All-cons IsSoundSection (section_seen (section_of b)) (map section_seen (map section_of sections)) (section_sound b) (sections_sound sections)
+
+-- ---- what is known
+
+pub known_is : (s : Standing) (sources : List Source) (sections externals : ℕ) → sources ≡ (closed s.scope).sources → sections ≡ length s.sections.all → externals ≡ length (external_names s.scope.names.all)
+    → record { sources = sources; sections = sections; externals = externals } ≡ known_in s
+known_is s sources sections externals e f g = cc
+
+-- ---- the module or the fault
+
+pub fault_told : (s : Standing) (begin : Option Opening) (k : Known) (f : Fault) → k ≡ known_in s → first_of (faults k s.sections.all s.assignments begin) ≡ Some f → filled_in s begin ≡ Err f
+unfolding filled_in
+fault_told s begin k f e h =
+    let names = s.scope.names.all in
+    let m = λ (j : Known). module_of j (laid j 0 s.sections.all) names (external_names names) s.transfer in
+    ap (λ (j : Known). unless_faulty (first_of (faults j s.sections.all s.assignments begin)) (m j)) (sym e) ∙ ap (λ (o : Option Fault). unless_faulty o (m k)) h
+
+pub module_told : (s : Standing) (begin : Option Opening) (k : Known) (m : Module) → k ≡ known_in s → first_of (faults k s.sections.all s.assignments begin) ≡ None
+    → m ≡ module_of k (laid k 0 s.sections.all) s.scope.names.all (external_names s.scope.names.all) s.transfer
+    → filled_in s begin ≡ Ok m
+unfolding filled_in
+module_told s begin k m e h g =
+    let names = s.scope.names.all in
+    let made = λ (j : Known). module_of j (laid j 0 s.sections.all) names (external_names names) s.transfer in
+    ap (λ (j : Known). unless_faulty (first_of (faults j s.sections.all s.assignments begin)) (made j)) (sym e)
+    ∙ ap (λ (o : Option Fault). unless_faulty o (made k)) h
+    ∙ ap (λ (n : Module). let told : Result Module Fault = Ok n in told) (sym g)
+
+-- What the code has found once the source is read: the definitions, the sections, the names, the externals and the assignments.
+pub record IsFound (s : Standing) (definitions : List Source) (m n : ℕ) (sections : List (Section Fixed)) (externals : List (List ℕ)) (assigned : List Assignment) : Type 0 where
+  pub sources : definitions ≡ (closed s.scope).sources
+  pub seen : sections ≡ s.sections.all
+  pub count : m ≡ length sections
+  pub texts : externals ≡ external_names s.scope.names.all
+  pub named : n ≡ length externals
+  pub assignments : assigned ≡ s.assignments
+
+abbrev pub known_from : List Source → ℕ → ℕ → Known
+known_from sources count named = record { sources = sources; sections = count; externals = named }
+
+known_found : (s : Standing) (sources : List Source) (count named : ℕ) (seen : List (Section Fixed)) (texts : List (List ℕ)) (assignments : List Assignment)
+    → IsFound s sources count named seen texts assignments → known_from sources count named ≡ known_in s
+known_found s sources count named seen texts assignments f = known_is s sources count named f.sources (f.count ∙ ap length f.seen) (f.named ∙ ap length f.texts)
+
+faults_found : (s : Standing) (begin : Option Opening) (sources : List Source) (count named : ℕ) (seen : List (Section Fixed)) (texts : List (List ℕ)) (assignments : List Assignment)
+    → IsFound s sources count named seen texts assignments
+    → first_of (faults (known_from sources count named) s.sections.all s.assignments begin) ≡ first_of (faults (known_from sources count named) seen assignments begin)
+faults_found s begin sources count named seen texts assignments f =
+    let k = known_from sources count named in
+    ap (λ (l : List (Section Fixed)). first_of (faults k l s.assignments begin)) (sym f.seen) ∙ ap (λ (l : List Assignment). first_of (faults k seen l begin)) (sym f.assignments)
+
+pub error_found : (s : Standing) (begin : Option Opening) (sources : List Source) (count named : ℕ) (seen : List (Section Fixed)) (texts : List (List ℕ)) (assignments : List Assignment) (e : FillError)
+    → IsFound s sources count named seen texts assignments
+    → Lays (Err e) (laid (known_from sources count named) 0 seen) (first_of (faults (known_from sources count named) seen assignments begin))
+    → Fills (Err e) (filled_in s begin)
+error_found s begin sources count named seen texts assignments (errors.Fault x) f h =
+    fault_told s begin (known_from sources count named) x (known_found s sources count named seen texts assignments f)
+    (faults_found s begin sources count named seen texts assignments f ∙ h)
+error_found s begin sources count named seen texts assignments errors.NoMemory f h = tt
+
+pub module_found : (s : Standing) (begin : Option Opening) (sources : List Source) (count named : ℕ) (seen : List (Section Fixed)) (names : List Name) (texts : List (List ℕ)) (assignments : List Assignment) (m : Module)
+    → IsFound s sources count named seen texts assignments → names ≡ s.scope.names.all
+    → first_of (faults (known_from sources count named) seen assignments begin) ≡ None
+    → m ≡ module_of (known_from sources count named) (laid (known_from sources count named) 0 seen) names texts s.transfer
+    → filled_in s begin ≡ Ok m
+module_found s begin sources count named seen names texts assignments m f n h made =
+    let k = known_from sources count named in
+    module_told s begin k m (known_found s sources count named seen texts assignments f)
+    (faults_found s begin sources count named seen texts assignments f ∙ h)
+    (made
+    ∙ ap (λ (l : List (Section Fixed)). module_of k (laid k 0 l) names texts s.transfer) f.seen
+    ∙ ap (λ (l : List Name). module_of k (laid k 0 s.sections.all) l texts s.transfer) n
+    ∙ ap (λ (l : List (List ℕ)). module_of k (laid k 0 s.sections.all) s.scope.names.all l s.transfer) f.texts)
+
+pub seen_count : (sections : List (Building Fixup)) → length sections ≡ length (map section_seen (map section_of sections))
+seen_count [] = refl
+seen_count (b ∷ sections) = ap suc (seen_count sections)
+
+pub texts_count : (texts : List (Vec ℕ)) → length texts ≡ length (map (λ w. w.items) texts)
+texts_count [] = refl
+texts_count (t ∷ texts) = ap suc (texts_count texts)

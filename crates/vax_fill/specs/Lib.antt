@@ -1,0 +1,5 @@
+pub mod Contents
+pub mod Faults
+pub mod Laid
+pub mod Modules
+pub mod View

@@ -1,0 +1,4 @@
+pub mod Bytes
+pub mod Placing
+pub mod Stating
+pub mod View

@@ -1,0 +1,12 @@
+//! The statements of instructions (VAX MACRO and Instruction Set Reference Manual, "Addressing modes").
+//!
+//! [`instruction`] reads the operands between commas, and leaves in the current section the opcode and a field for each
+//! operand, to be filled in once all names have values. The bytes are then read back as the instruction.
+#![tactic(auto)]
+
+mod placing;
+mod statement;
+#[cfg(test)]
+mod tests;
+
+pub use statement::instruction;

@@ -1,0 +1,6 @@
+pub mod Contents
+pub mod Faults
+pub mod Fixups
+pub mod Progress
+pub mod Standing
+pub mod View

@@ -1,0 +1,18 @@
+//! What the first pass over a source keeps: names, definitions, sections, and in them what is filled in once all names
+//! have values (VAX MACRO and Instruction Set Reference Manual, "VAX MACRO assembler directives").
+//!
+//! A [`Standing`] is what the statements so far leave. Data and instructions leave [`Fixup`]s in it. A statement is carried
+//! out part by part, and of the faults of its parts [`lowest`] is the one that counts.
+#![tactic(auto)]
+
+mod faults;
+mod site;
+mod standing;
+#[cfg(test)]
+mod tests;
+mod types;
+
+pub use faults::{fault_of_value, lowest, number_of, unless_place};
+pub use site::{Site, add, counted, filling_of, site_of};
+pub use types::{Assignment, Content, Filling, Fixup, Origin, Refused, Standing, Told, Transfer};
+pub use vax_macro::FaultKind;
