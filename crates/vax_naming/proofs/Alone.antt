@@ -1,5 +1,5 @@
 -- The name that a token is.
-use Rattle.std.proofs.Common.{◌≡◌, ◌≤◌, ℕ, Bool, true, false, List, [], ◌∷◌, length, Option, Some, None, refl}
+use Rattle.std.proofs.Common.{◌≡◌, ◌≤◌, ℕ, Bool, true, false, List, [], ◌∷◌, length, Some, None, refl}
 use Rattle.std.specs.Prelude.{◌&&◌, if◌then◌else◌, not}
 use Rattle.vax_lex.specs.Characters.{canonical_name}
 use Rattle.vax_lex.specs.Tokens.{IsTokenOf, KindFits, token_text}

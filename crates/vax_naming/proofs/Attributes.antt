@@ -1,9 +1,8 @@
 -- The attributes of a section, one operand after another.
-use Rattle.std.proofs.Common.{◌≡◌, ◌<◌, ◌≤◌, ◌+◌, ℕ, suc, add-one, Bool, true, false, List, [], ◌∷◌, length, map, drop, Option, Some, None, refl, sym, ap, ◌∙◌, arith, drop-cons, leb-true, subst}
-use Rattle.std.specs.Prelude.{All, IfSome, ◌&&◌, ◌==◌, if◌then◌else◌, nat_le, slice_index_or}
+use Rattle.std.proofs.Common.{◌≡◌, ◌<◌, ◌≤◌, ◌+◌, ℕ, suc, add-one, Bool, true, false, List, [], ◌∷◌, length, map, drop, Option, Some, None, refl, sym, ap, ◌∙◌, drop-cons, leb-true, subst}
+use Rattle.std.specs.Prelude.{IfSome, ◌&&◌, ◌==◌, if◌then◌else◌, nat_le, slice_index_or}
 use Rattle.std.specs.Str.{IsUtf8, str_eq_ignore_ascii_case}
 use Rattle.vax_layout.specs.declared.types.Attributes.{Attributes}
-use Rattle.vax_lex.specs.Tokens.{IsTokenOf}
 use Rattle.vax_lex.specs.declared.token.Token.{Token}
 use Rattle.vax_naming.proofs.Spelled.{is_ascii, spelled_is_utf8}
 use Rattle.vax_naming.specs.Naming.{attribute_at, attribute_by, attributes_from, nothing_said, same, with_align, with_attribute, with_write}

@@ -4,7 +4,7 @@ use Rattle.std.proofs.Math.ListN.{get_or-map}
 use Rattle.std.proofs.lemmas.List.{map-append, length-map}
 use Rattle.std.specs.Prelude.{if◌then◌else◌, slice_index_or}
 use Rattle.std.specs.Str.{bytes_eq}
-use Rattle.vax_layout.specs.Layout.{Section, Sections, begun, conflicts, gone_back, made, numbered, selected, unnamed}
+use Rattle.vax_layout.specs.Layout.{Section, Sections, begun, conflicts, made, numbered, selected, unnamed}
 use Rattle.vax_layout.specs.View.{sections_of}
 use Rattle.vax_layout.specs.declared.types.Attributes.{Attributes}
 use Rattle.vax_layout.specs.declared.types.Layout.{Layout}

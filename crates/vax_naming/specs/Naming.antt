@@ -2,7 +2,7 @@
 -- Manual, "Label field", "Direct assignment statement", `.PSECT`, `.ENTRY`, `.GLOBAL`, `.EXTERNAL` and `.END`).
 use Rattle.std.specs.Prelude.{ℕ, Bool, true, false, ◌==◌, not, if◌then◌else◌, List, [], ◌∷◌, ◌++◌, Option, Some, None, Result, Ok, Err, codes}
 use Rattle.std.specs.Str.{bytes_eq}
-use Rattle.vax_data.specs.Data.{item_stated, one_alone, unless_none}
+use Rattle.vax_data.specs.Data.{item_stated, unless_none}
 use Rattle.vax_layout.specs.Layout.{Sections, selected}
 use Rattle.vax_layout.specs.declared.types.Attributes.{Attributes}
 use Rattle.vax_layout.specs.declared.types.Refusal.{Refusal}

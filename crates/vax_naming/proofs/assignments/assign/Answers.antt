@@ -7,7 +7,7 @@ use Rattle.vax_pass.specs.Standing.{Standing, Told, told, with_scope}
 use Rattle.vax_pass.specs.View.{site_seen, standing_of, told_of, Stands}
 use Rattle.vax_pass.specs.declared.types.Refused.{Refused}
 use Rattle.vax_scope.specs.Kept.{scope_of}
-use Rattle.vax_scope.specs.Scope.{Scope, assigned, entry}
+use Rattle.vax_scope.specs.Scope.{assigned, entry}
 use Rattle.vax_naming.proofs.Ending.{part_fails, scope_left}
 use Rattle.vax_naming.proofs.assignments.assign.Goals as goal
 

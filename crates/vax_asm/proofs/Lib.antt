@@ -1,0 +1,5 @@
+pub mod Opening
+pub mod Parsing
+pub mod Pieces
+pub mod Within
+pub mod Words

@@ -1,0 +1,14 @@
+use Rattle.std.proofs.Common.{suc, arith}
+use Rattle.vax_macro.specs.Expanders.{rest_of}
+use Rattle.vax_macro.specs.Rest.{work}
+use Rattle.vax_pass.specs.View.{standing_of}
+use Rattle.vax_asm.proofs.Opening.{started_walk}
+use Rattle.vax_asm.proofs.walk.module_of.Goals as goal
+
+pub statements-init : goal.statements-init
+statements-init c =
+    let rest = rest_of c.in-Ok.expander in
+    record {
+      walks = (suc (work rest), omega arith, started_walk c.args.source.now rest (standing_of c.in-Ok-new.standing) c.in-Ok.ensures.rest c.in-Ok-new.ensures);
+      quiet = c.in-Ok.ensures.error;
+    }

@@ -1,0 +1,5 @@
+pub mod Placing
+pub mod Sound
+pub mod Walk
+pub mod View
+pub mod PlacingView

@@ -1,0 +1,158 @@
+-- What a statement does (VAX MACRO and Instruction Set Reference Manual, "VAX MACRO source statement format").
+use Rattle.std.specs.Prelude.{ℕ, ◌^◌, ◌-◌, Bool, true, false, ◌==◌, nat_lt, if◌then◌else◌, List, [], ◌∷◌, map, Option, Some, None, Result, Ok, Err}
+use Rattle.std.specs.List.{list_all, list_any}
+use Rattle.vax_data.specs.Data.{Plain, Counted_first, Zero_last, data_stated, addresses_stated, text_stated, space_stated, align_stated, even_stated}
+use Rattle.vax_instruction.specs.Stating.{instruction_stated}
+use Rattle.vax_isa.specs.Instructions.{Instruction}
+use Rattle.vax_isa.specs.Rows.{row_of, with_name}
+use Rattle.vax_lex.specs.Tokens.{pieces_of, token_text}
+use Rattle.vax_lex.specs.declared.token.Piece.{Piece}
+use Rattle.vax_lex.specs.declared.token.PieceKind.{PieceKind}
+use Rattle.vax_lex.specs.declared.token.PieceKind.TheVariants as kinds
+use Rattle.vax_lex.specs.declared.token.Token.{Token}
+use Rattle.vax_lex.specs.declared.token.TokenKind.{TokenKind}
+use Rattle.vax_lex.specs.declared.token.TokenKind.TheVariants.{Number}
+use Rattle.vax_macro.specs.declared.error.FaultKind.{FaultKind}
+use Rattle.vax_macro.specs.declared.error.FaultKind.TheVariants as fault
+use Rattle.vax_naming.specs.Naming.{label_stated, assignment_stated, section_stated, entry_stated, names_stated, end_stated}
+use Rattle.vax_pass.specs.Faults.{first_of}
+use Rattle.vax_pass.specs.Standing.{Standing}
+use Rattle.vax_pass.specs.declared.types.Origin.{Origin}
+use Rattle.vax_statement.specs.Directives.{directive_of}
+use Rattle.vax_statement.specs.Reading.{Parsed, What, Nothing, Assignment, Operation, Malformed, parsed}
+use Rattle.vax_statement.specs.declared.directives.Directive.{Directive}
+use Rattle.vax_statement.specs.declared.directives.Directive.TheVariants as directive
+use Rattle.vax_statement.specs.declared.reading.Label.{Label}
+
+-- ---- What a line is cut into
+
+-- A piece as a token: a number above 64 bits stands for the greatest, and a byte where no token begins for a number, which is neither a name nor a
+-- mark. Both are faults of their own, beside those of the statement that is read so.
+abbrev pub kind_of : PieceKind → TokenKind
+kind_of (kinds.Token kind) = kind
+kind_of kinds.Wide = Number (2 ^ 64 - 1)
+kind_of kinds.Bad = Number 0
+
+abbrev pub token_of : Piece → Token
+token_of p = record { kind = kind_of p.kind; start = p.start; end = p.end }
+
+abbrev pub is_wide : Piece → Bool
+is_wide p = elim p.kind [
+  | kinds.Token kind ↦ false
+  | kinds.Wide ↦ true
+  | kinds.Bad ↦ false
+]
+
+abbrev pub is_bad : Piece → Bool
+is_bad p = elim p.kind [
+  | kinds.Token kind ↦ false
+  | kinds.Wide ↦ false
+  | kinds.Bad ↦ true
+]
+
+-- ---- Operations
+
+-- the bytes are those of characters in ASCII, as those of all names are
+abbrev pub in_ascii : List ℕ → Bool
+in_ascii name = list_all (λ b. nat_lt b 128) name
+
+abbrev pub directive_named : List ℕ → Option Directive
+directive_named name = if in_ascii name then directive_of name else None
+
+abbrev pub instruction_named : List ℕ → Option Instruction
+instruction_named name = if in_ascii name then with_name name else None
+
+abbrev pub directed : Directive → Origin → List ℕ → List Token → Standing → Result Standing FaultKind
+directed directive.Section origin line tokens s = section_stated line tokens s
+directed directive.Entry origin line tokens s = entry_stated origin line tokens s
+directed (directive.Data size) origin line tokens s = data_stated size origin line tokens s
+directed directive.Address origin line tokens s = addresses_stated origin line tokens s
+directed directive.Text origin line tokens s = text_stated Plain origin line tokens s
+directed directive.CountedText origin line tokens s = text_stated Counted_first origin line tokens s
+directed directive.ZeroText origin line tokens s = text_stated Zero_last origin line tokens s
+directed (directive.Space size) origin line tokens s = space_stated size origin line tokens s
+directed directive.Align origin line tokens s = align_stated origin line tokens s
+directed directive.Even origin line tokens s = even_stated tokens s
+directed directive.Global origin line tokens s = names_stated true line tokens s
+directed directive.External origin line tokens s = names_stated false line tokens s
+directed directive.Listing origin line tokens s = Ok s
+directed directive.End origin line tokens s = end_stated line tokens s
+
+abbrev pub instructed : Option Instruction → Origin → List ℕ → List Token → Standing → Result Standing FaultKind
+instructed (Some i) origin line tokens s = instruction_stated (row_of i) origin line tokens s
+instructed None origin line tokens s = Err fault.UnknownOperator
+
+abbrev pub operated_by : Option Directive → Origin → List ℕ → (name : List ℕ) → List Token → Standing → Result Standing FaultKind
+operated_by (Some d) origin line name tokens s = directed d origin line tokens s
+operated_by None origin line name tokens s = instructed (instruction_named name) origin line tokens s
+
+-- An operator is a directive or an instruction.
+abbrev pub operation_stated : Origin → List ℕ → (name : List ℕ) → List Token → Standing → Result Standing FaultKind
+operation_stated origin line name tokens s = operated_by (directive_named name) origin line name tokens s
+
+-- what stands behind the label
+unfoldable pub body_stated : Origin → List ℕ → What → Standing → Result Standing FaultKind
+body_stated origin line Nothing s = Ok s
+body_stated origin line (Assignment name global tokens) s = assignment_stated origin line name global tokens s
+body_stated origin line (Operation name tokens) s = operation_stated origin line (token_text line name) tokens s
+body_stated origin line Malformed s = Err fault.Form
+
+-- ---- Statements
+
+-- What comes of a statement: what stands behind it; a fault of a label that stands alone, behind which its line may go on; or another fault,
+-- with which the line ends.
+pub data Placed : Type 0 where
+  Stands : Standing → Placed
+  FaultyLabel : FaultKind → Placed
+  Faulty : FaultKind → Placed
+
+abbrev pub placed_by : Result Standing FaultKind → Placed
+placed_by (Ok s) = Stands s
+placed_by (Err kind) = Faulty kind
+
+abbrev pub also : FaultKind → Result Standing FaultKind → Placed
+also kind (Ok s) = Faulty kind
+also kind (Err other) = Faulty (first_of kind other)
+
+-- Behind a faulty label the rest is tried from what stood before.
+abbrev pub beside : FaultKind → What → Result Standing FaultKind → Placed
+beside kind Nothing rest = FaultyLabel kind
+beside kind what rest = also kind rest
+
+abbrev pub behind_label : Origin → List ℕ → What → (before : Standing) → Result Standing FaultKind → Placed
+behind_label origin line what s (Ok t) = placed_by (body_stated origin line what t)
+behind_label origin line what s (Err kind) = beside kind what (body_stated origin line what s)
+
+abbrev pub stated_by : Origin → List ℕ → Option Label → What → Standing → Placed
+stated_by origin line None what s = placed_by (body_stated origin line what s)
+stated_by origin line (Some label) what s = behind_label origin line what s (label_stated line label s)
+
+unfoldable pub stated : Origin → List ℕ → Parsed → Standing → Placed
+stated origin line p s = stated_by origin line p.label p.what s
+
+-- The rest of a listing directive's line may hold anything.
+abbrev pub is_listing_by : Option Directive → Bool
+is_listing_by (Some directive.Listing) = true
+is_listing_by _ = false
+
+abbrev pub is_listing : List ℕ → What → Bool
+is_listing line (Operation name tokens) = is_listing_by (directive_named (token_text line name))
+is_listing line _ = false
+
+-- a number above 64 bits is out of range
+abbrev pub with_range : Placed → Placed
+with_range (Stands s) = Faulty fault.Range
+with_range (FaultyLabel kind) = Faulty (first_of kind fault.Range)
+with_range (Faulty kind) = Faulty (first_of kind fault.Range)
+
+abbrev pub if_wide : Bool → Placed → Placed
+if_wide true p = with_range p
+if_wide false p = p
+
+abbrev pub placed_as : Origin → List ℕ → List Piece → Parsed → Standing → Placed
+placed_as origin line pieces p s =
+    if is_listing line p.what then stated origin line p s
+    else (if list_any is_bad pieces then Faulty fault.Token else if_wide (list_any is_wide pieces) (stated origin line p s))
+
+unfoldable pub placed : Origin → List ℕ → Standing → Placed
+placed origin line s = let pieces = pieces_of line in placed_as origin line pieces (parsed (map token_of pieces)) s

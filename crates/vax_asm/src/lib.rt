@@ -1,0 +1,17 @@
+//! The assembler: from a source in MACRO-32 to its module.
+//!
+//! [`assemble`] reads a source statement by statement, as its macros, repeats and conditions open, and fills in what rests on later
+//! definitions once all of it is read. (VAX MACRO and Instruction Set Reference Manual, "VAX MACRO assembler directives".)
+#![tactic(auto)]
+
+mod error;
+mod met;
+mod placing;
+#[cfg(test)]
+mod tests;
+mod tokens;
+mod walk;
+
+pub use error::AsmError;
+pub use vax_macro::FaultKind;
+pub use walk::assemble;

@@ -1,0 +1,305 @@
+// One statement.
+
+ghost use Rattle.std.specs.Prelude.{◌≡◌, ◌≤◌, ◌<◌, ◌^◌, ◌-◌, ℕ, List, All, IfOk, length, map};
+ghost use Rattle.vax_asm.specs.Placing.{Placed as Meant, placed, placed_as, placed_by, beside, body_stated, directed, operation_stated, instructed, stated, is_listing, instruction_named, token_of, with_range};
+ghost use Rattle.vax_asm.specs.Sound.{IsSound, IsSoundWhat};
+ghost use Rattle.vax_pass.specs.Standing.{Standing as Before};
+ghost use Rattle.vax_statement.specs.Within.{Within, WhatWithin};
+ghost use Rattle.vax_asm.specs.PlacingView.{IsPlaced};
+ghost use Rattle.vax_lex.specs.Tokens.{IsTokenOf, pieces_of};
+ghost use Rattle.vax_pass.specs.View.{standing_of, Stands};
+ghost use Rattle.vax_statement.specs.Reading.{body_seen, parsed, statement_seen};
+
+use crate::met::first_of;
+use crate::tokens::{directive, has_bad, has_wide, instruction, tokens_of};
+use std::alloc::Global;
+use std::rc::Rc;
+use vax_data::{TextForm, addresses, align, data, even, space, text};
+use vax_lex::{Piece, Token, pieces};
+use vax_macro::FaultKind;
+use vax_naming::{assignment, end, entry, label, names, section};
+use vax_pass::{Origin, Refused, Standing};
+use vax_space::NoMemory;
+use vax_statement::{Body, Directive, Statement, read_statement, text_of};
+
+/// What comes of a statement.
+pub(crate) enum Placed {
+    Stands,
+    /// A label that stands alone has this fault. All is as before, and its line may go on.
+    FaultyLabel(FaultKind),
+    /// The statement has this fault, and its line ends with it.
+    Faulty(FaultKind),
+}
+
+/// A directive.
+fn direct(
+    standing: &mut Standing,
+    alloc: Global,
+    origin: Origin,
+    line: &Rc<Vec<u8>>,
+    directive: Directive,
+    operands: &[Token],
+) -> Result<(), Refused>
+    requires tokens { All (IsTokenOf line.now.value.items) operands.now }
+    requires few { length operands.now < 2 ^ 32 }
+    ensures { Stands result (standing_of standing.new) (directed directive origin line.now.value.items operands.now (standing_of standing.old)) }
+{
+    match directive {
+        Directive::Section => section(standing, alloc, line, operands),
+        Directive::Entry => entry(standing, alloc, origin, line, operands),
+        Directive::Data(size) => data(standing, alloc, origin, line, size, operands),
+        Directive::Address => addresses(standing, alloc, origin, line, operands),
+        Directive::Text => text(standing, alloc, origin, line, TextForm::Plain, operands),
+        Directive::CountedText => text(
+            standing,
+            alloc,
+            origin,
+            line,
+            TextForm::CountFirst,
+            operands,
+        ),
+        Directive::ZeroText => text(standing, alloc, origin, line, TextForm::ZeroLast, operands),
+        Directive::Space(size) => space(standing, alloc, origin, line, size, operands),
+        Directive::Align => align(standing, alloc, origin, line, operands),
+        Directive::Even => even(standing, operands),
+        Directive::Global => names(standing, alloc, line, true, operands),
+        Directive::External => names(standing, alloc, line, false, operands),
+        Directive::Listing => Ok(()),
+        Directive::End => end(standing, alloc, line, operands),
+    }
+}
+
+/// An instruction.
+fn instruct(
+    standing: &mut Standing,
+    alloc: Global,
+    origin: Origin,
+    line: &Rc<Vec<u8>>,
+    name: &[u8],
+    operands: &[Token],
+) -> Result<(), Refused>
+    requires tokens { All (IsTokenOf line.now.value.items) operands.now }
+    requires few { length operands.now < 2 ^ 32 }
+    ensures { Stands result (standing_of standing.new) (instructed (instruction_named name.now) origin line.now.value.items operands.now (standing_of standing.old)) }
+{
+    match instruction(name) {
+        Some(row) => vax_instruction::instruction(standing, alloc, origin, line, &row, operands),
+        None => Err(Refused::Fault(FaultKind::UnknownOperator)),
+    }
+}
+
+/// An operator with its operands.
+fn operate(
+    standing: &mut Standing,
+    alloc: Global,
+    origin: Origin,
+    line: &Rc<Vec<u8>>,
+    name: &[u8],
+    operands: &[Token],
+) -> Result<(), Refused>
+    requires tokens { All (IsTokenOf line.now.value.items) operands.now }
+    requires few { length operands.now < 2 ^ 32 }
+    ensures { Stands result (standing_of standing.new) (operation_stated origin line.now.value.items name.now operands.now (standing_of standing.old)) }
+{
+    match directive(name) {
+        Some(found) => direct(standing, alloc, origin, line, found, operands),
+        None => instruct(standing, alloc, origin, line, name, operands),
+    }
+}
+
+/// What stands behind the label.
+#[tactic(auto, unfolding(crate::specs::Placing::body_stated))]
+fn state_body(
+    standing: &mut Standing,
+    alloc: Global,
+    origin: Origin,
+    line: &Rc<Vec<u8>>,
+    body: Body<'_>,
+) -> Result<(), Refused>
+    requires within { WhatWithin line.now.value.items (body_seen body) }
+    requires sound { IsSoundWhat (2 ^ 32 - 1) (body_seen body) }
+    ensures { Stands result (standing_of standing.new) (body_stated origin line.now.value.items (body_seen body.entry) (standing_of standing.old)) }
+{
+    match body {
+        Body::Nothing => Ok(()),
+        Body::Assignment {
+            name,
+            global,
+            expression,
+        } => assignment(standing, alloc, origin, line, name, global, expression),
+        Body::Operation { name, operands } => {
+            operate(standing, alloc, origin, line, text_of(line, name), operands)
+        }
+        Body::Malformed => Err(Refused::Fault(FaultKind::Form)),
+    }
+}
+
+/// A statement without a label, or behind one that stands.
+fn state_rest(
+    standing: &mut Standing,
+    alloc: Global,
+    origin: Origin,
+    line: &Rc<Vec<u8>>,
+    body: Body<'_>,
+) -> Result<Placed, NoMemory>
+    requires within { WhatWithin line.now.value.items (body_seen body) }
+    requires sound { IsSoundWhat (2 ^ 32 - 1) (body_seen body) }
+    ensures { IfOk result (λ p. IsPlaced p (standing_of standing.old) (standing_of standing.new) (placed_by (body_stated origin line.now.value.items (body_seen body.entry) (standing_of standing.old)))) }
+{
+    match state_body(standing, alloc, origin, line, body) {
+        Ok(()) => Ok(Placed::Stands),
+        Err(Refused::Fault(kind)) => Ok(Placed::Faulty(kind)),
+        Err(Refused::NoMemory) => Err(NoMemory),
+    }
+}
+
+/// Behind a faulty label the rest is tried from what stood before, for a fault that goes before the label's.
+fn state_beside(
+    standing: &mut Standing,
+    alloc: Global,
+    origin: Origin,
+    line: &Rc<Vec<u8>>,
+    body: Body<'_>,
+    kind: FaultKind,
+) -> Result<Placed, NoMemory>
+    requires within { WhatWithin line.now.value.items (body_seen body) }
+    requires sound { IsSoundWhat (2 ^ 32 - 1) (body_seen body) }
+    ensures { IfOk result (λ p. IsPlaced p (standing_of standing.old) (standing_of standing.new) (beside kind (body_seen body.entry) (body_stated origin line.now.value.items (body_seen body.entry) (standing_of standing.old)))) }
+{
+    if let Body::Nothing = body {
+        return Ok(Placed::FaultyLabel(kind));
+    }
+    match state_body(standing, alloc, origin, line, body) {
+        Ok(()) => Ok(Placed::Faulty(kind)),
+        Err(Refused::Fault(other)) => Ok(Placed::Faulty(first_of(kind, other))),
+        Err(Refused::NoMemory) => Err(NoMemory),
+    }
+}
+
+/// The label, and what stands behind it.
+#[tactic(auto, unfolding(crate::specs::Placing::stated))]
+fn state(
+    standing: &mut Standing,
+    alloc: Global,
+    origin: Origin,
+    line: &Rc<Vec<u8>>,
+    statement: Statement<'_>,
+) -> Result<Placed, NoMemory>
+    requires within { Within line.now.value.items (statement_seen statement) }
+    requires sound { IsSound (2 ^ 32 - 1) (statement_seen statement) }
+    ensures { IfOk result (λ p. IsPlaced p (standing_of standing.old) (standing_of standing.new) (stated origin line.now.value.items (statement_seen statement.entry) (standing_of standing.old))) }
+{
+    let Some(found) = statement.label else {
+        return state_rest(standing, alloc, origin, line, statement.body);
+    };
+    match label(standing, alloc, line, found) {
+        Ok(()) => state_rest(standing, alloc, origin, line, statement.body),
+        Err(Refused::Fault(kind)) => {
+            state_beside(standing, alloc, origin, line, statement.body, kind)
+        }
+        Err(Refused::NoMemory) => Err(NoMemory),
+    }
+}
+
+/// Whether the rest of the line may hold anything.
+fn is_listing(line: &[u8], body: Body<'_>) -> bool
+    requires within { WhatWithin line.now (body_seen body) }
+    ensures { result ≡ is_listing line.now (body_seen body.entry) }
+{
+    match body {
+        Body::Operation { name, .. } => match directive(text_of(line, name)) {
+            Some(Directive::Listing) => true,
+            _ => false,
+        },
+        Body::Nothing | Body::Assignment { .. } | Body::Malformed => false,
+    }
+}
+
+/// A number above 64 bits is out of range.
+fn with_range(placed: Placed) -> Placed
+    ensures { (before : Before) (after : Before) (p : Meant) → IsPlaced placed before after p → IsPlaced result before after (with_range p) }
+{
+    match placed {
+        Placed::Stands => Placed::Faulty(FaultKind::Range),
+        Placed::FaultyLabel(kind) | Placed::Faulty(kind) => {
+            Placed::Faulty(first_of(kind, FaultKind::Range))
+        }
+    }
+}
+
+/// Carries out the statement that the tokens of a line are.
+fn carry_out(
+    standing: &mut Standing,
+    alloc: Global,
+    origin: Origin,
+    line: &Rc<Vec<u8>>,
+    found: &[Piece],
+    statement: Statement<'_>,
+) -> Result<Placed, NoMemory>
+    requires within { Within line.now.value.items (statement_seen statement) }
+    requires sound { IsSound (2 ^ 32 - 1) (statement_seen statement) }
+    ensures { IfOk result (λ p. IsPlaced p (standing_of standing.old) (standing_of standing.new) (placed_as origin line.now.value.items found.now (statement_seen statement.entry) (standing_of standing.old))) }
+{
+    if is_listing(line, statement.body) {
+        return state(standing, alloc, origin, line, statement);
+    }
+    if has_bad(found) {
+        return Ok(Placed::Faulty(FaultKind::Token));
+    }
+    let placed = state(standing, alloc, origin, line, statement)?;
+    if has_wide(found) {
+        return Ok(with_range(placed));
+    }
+    Ok(placed)
+}
+
+/// The pieces of a text, and its tokens.
+#[tactic(auto, using(crate::proofs::Within::few_tokens))]
+fn read(alloc: Global, text: &[u8]) -> Result<(Vec<Piece>, Vec<Token>), NoMemory>
+    requires { length text.now ≤ 1024 }
+    ensures pieces { IfOk result (λ r. r.0.items ≡ pieces_of text.now) }
+    ensures tokens { IfOk result (λ r. r.1.items ≡ map token_of (pieces_of text.now)) }
+    ensures within { IfOk result (λ r. All (IsTokenOf text.now) r.1.items) }
+    ensures few { IfOk result (λ r. length r.1.items ≤ length text.now) }
+{
+    let Ok(found) = pieces(alloc, text) else {
+        return Err(NoMemory);
+    };
+    let tokens = tokens_of(alloc, &found)?;
+    Ok((found, tokens))
+}
+
+/// The statement that the tokens of a line are.
+fn statement_of<'a>(tokens: &'a [Token]) -> Statement<'a>
+    requires few { length tokens.now ≤ 1024 }
+    ensures statement { statement_seen result ≡ parsed tokens.now }
+    ensures within { (line : List ℕ) → All (IsTokenOf line) tokens.now → Within line (statement_seen result) }
+    ensures sound { IsSound (2 ^ 32 - 1) (statement_seen result) }
+{
+    read_statement(tokens)
+}
+
+/// Carries out the statement of a text, from what stands before it.
+#[tactic(auto, unfolding(crate::specs::Placing::placed))]
+pub(crate) fn place(
+    standing: &mut Standing,
+    alloc: Global,
+    origin: Origin,
+    text: Vec<u8>,
+) -> Result<Placed, NoMemory>
+    requires { length text.items ≤ 1024 }
+    ensures { IfOk result (λ p. IsPlaced p (standing_of standing.old) (standing_of standing.new) (placed origin text.items (standing_of standing.old))) }
+{
+    let (found, tokens) = read(alloc, &text)?;
+    let Ok(line) = Rc::new(alloc, text) else {
+        return Err(NoMemory);
+    };
+    carry_out(
+        standing,
+        alloc,
+        origin,
+        &line,
+        &found,
+        statement_of(&tokens),
+    )
+}

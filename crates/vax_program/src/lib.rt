@@ -1,0 +1,15 @@
+//! From the files of a program to its image.
+//!
+//! A program is an image that stands alone in its file, or one to eight sources, each of which is assembled and which are then linked.
+//! [`read_parts`] finds which, or the first fault of a source or of an image's file; [`link_parts`] gives the image, or what the linker found.
+#![tactic(auto)]
+
+mod linking;
+mod parts;
+#[cfg(test)]
+mod tests;
+mod types;
+
+pub use linking::link_parts;
+pub use parts::read_parts;
+pub use types::{Parts, ProgramError, Refusal};

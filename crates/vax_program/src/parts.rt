@@ -1,0 +1,124 @@
+// What the files of a program are.
+
+ghost use Rattle.std.specs.Prelude.{◌≡◌, ◌≤◌, ◌+◌, ◌∷◌, [], ℕ, All, IfOk, Ok, length, true};
+ghost use Rattle.vax_image.specs.Image.{IsImage};
+ghost use Rattle.vax_image.specs.Reading.{image_of};
+ghost use Rattle.vax_module.specs.Formed.{Formed};
+ghost use Rattle.vax_program.specs.Program.{as_parts, from_image, is_image, modules_of, parts_of, same_base};
+ghost use Rattle.vax_program.specs.View.{Answers, IsSound, base_of, parts_seen, texts};
+
+use crate::types::{Parts, ProgramError, Refusal};
+use std::alloc::Global;
+use vax_asm::{AsmError, assemble};
+use vax_image::{BASE, Base, ImageError, read};
+use vax_module::Module;
+
+/// Where the base stands in an image's file.
+const BASE_PLACE: u32 = 6;
+
+/// An image stands among several files.
+const NOT_ALONE: u8 = 11;
+
+/// Whether a file is one of an image, by its first four bytes.
+fn is_image(file: &[u8]) -> bool
+    ensures { result ≡ is_image file.now }
+{
+    file.starts_with(b"VAXI")
+}
+
+fn same_base(a: Base, b: Base) -> bool
+    ensures value { result ≡ same_base a b }
+    ensures same { result ≡ true → a ≡ b }
+{
+    match (a, b) {
+        (Base::Bare, Base::Bare) | (Base::User, Base::User) => true,
+        _ => false,
+    }
+}
+
+/// The image in a file.
+fn read_image(alloc: Global, base: Base, file: &[u8]) -> Result<Parts, ProgramError>
+    ensures parts { Answers parts_seen result (from_image base (image_of file.now)) }
+    ensures sound { IfOk result IsSound }
+    ensures base { IfOk result (λ p. base_of p ≡ base) }
+{
+    match read(alloc, file) {
+        Ok(image) if same_base(base, image.base) => Ok(Parts::Image(image)),
+        Ok(_) => Err(ProgramError::Refused(Refusal::Image {
+            place: BASE_PLACE,
+            kind: BASE,
+        })),
+        Err(ImageError::Fault { place, kind }) => Err(ProgramError::Refused(Refusal::Image {
+            place,
+            kind,
+        })),
+        Err(ImageError::NoMemory) => Err(ProgramError::NoMemory),
+    }
+}
+
+/// The module of a source among several files.
+fn module_of(alloc: Global, file: u8, source: &[u8]) -> Result<Module, ProgramError>
+    ensures modules { Answers (λ m. m ∷ []) result (modules_of file (source.now ∷ [])) }
+    ensures formed { IfOk result Formed }
+{
+    if is_image(source) {
+        return Err(ProgramError::Refused(Refusal::Image {
+            place: 0,
+            kind: NOT_ALONE,
+        }));
+    }
+    match assemble(alloc, source) {
+        Ok(module) => Ok(module),
+        Err(AsmError::Fault { line, kind }) => Err(ProgramError::Refused(Refusal::Source {
+            file,
+            line,
+            kind: kind.code(),
+        })),
+        Err(AsmError::NoMemory) => Err(ProgramError::NoMemory),
+    }
+}
+
+/// The modules of sources.
+#[tactic(auto, using(crate::proofs::Joining::one_more, crate::proofs::Joining::refused))]
+fn read_sources(alloc: Global, first: u8, files: &[Vec<u8>]) -> Result<Vec<Module>, ProgramError>
+    requires few { first + length files.now ≤ 255 }
+    ensures modules { Answers (λ v. v.items) result (modules_of first (texts files.now)) }
+    ensures formed { IfOk result (λ v. All Formed v.items) }
+    ensures count { IfOk result (λ v. length v.items ≡ length files.now) }
+{
+    let mut modules = Vec::new(alloc);
+    let mut number = first;
+    for file in files {
+        let module = module_of(alloc, number, file)?;
+        modules.push(module)?;
+        number += 1;
+    }
+    Ok(modules)
+}
+
+/// The parts of a program for a base, whose files are numbered from `first` on: an image that stands alone, or sources.
+///
+/// [`Refusal::Source`] with the first fault of the first source that has one; [`Refusal::Image`] with the first fault of an image's file, also
+/// where it is one for another base, or where it stands among several files; [`ProgramError::NoMemory`] where memory is refused.
+#[tactic(auto, unfolding(crate::specs::Program::parts_of))]
+pub fn read_parts(
+    alloc: Global,
+    base: Base,
+    first: u8,
+    files: &[Vec<u8>],
+) -> Result<Parts, ProgramError>
+    requires some { 1 ≤ length files.now }
+    requires few { length files.now ≤ 8 }
+    requires numbers { first ≤ 1 }
+    ensures parts { Answers parts_seen result (parts_of base first (texts files.now)) }
+    ensures sound { IfOk result IsSound }
+    ensures base { IfOk result (λ p. base_of p ≡ base) }
+{
+    if let [file] = files {
+        if is_image(file) {
+            return read_image(alloc, base, file);
+        }
+    }
+    let list = read_sources(alloc, first, files)?;
+    Ok(Parts::Modules { base, list })
+}
