@@ -1,7 +1,7 @@
 -- Sections with what the code keeps in them change as their meanings do.
-use Rattle.std.proofs.Common.{◌≡◌, ◌<◌, ◌+◌, ℕ, Bool, true, false, List, [], ◌∷◌, ◌++◌, length, map, Result, Ok, Err, refl, sym, ap, ◌∙◌, arith}
+use Rattle.std.proofs.Common.{◌≡◌, ◌<◌, ◌+◌, ℕ, Bool, true, false, List, [], ◌∷◌, length, map, Result, Ok, Err, refl, sym, ap, ◌∙◌}
 use Rattle.std.proofs.lemmas.List.{get_or-map, map-append, map-set, length-set, length-map}
-use Rattle.std.specs.Prelude.{if◌then◌else◌, slice_index_or, slice_set, ◌^◌}
+use Rattle.std.specs.Prelude.{if◌then◌else◌, slice_set, ◌^◌}
 use Rattle.vax_layout.specs.Layout.{Part, Zeros, Section, Sections, unnamed, current_of, longer, exceeds, with_part, put, gap, raised, with_raised, raise, aligned}
 use Rattle.vax_layout.specs.declared.types.Refusal.{Refusal}
 use Rattle.vax_layout.specs.declared.types.Refusal.TheVariants.{TooLong}

@@ -1,13 +1,11 @@
 -- The faults of a statement that it and what stands before it decide (VAX MACRO and Instruction Set Reference Manual,
 -- "VAX MACRO assembler directives" and "Diagnostic messages").
-use Rattle.std.specs.Prelude.{ℕ, pos, negsuc, Bool, true, false, ◌||◌, nat_lt, if◌then◌else◌, List, [], ◌∷◌, Option, Some, None, Result, Ok, Err, codes}
-use Rattle.std.specs.Str.{bytes_eq}
+use Rattle.std.specs.Prelude.{ℕ, pos, negsuc, Bool, true, false, nat_lt, if◌then◌else◌, Option, Some, None, Result, Ok, Err}
 use Rattle.vax_encode.specs.Fields.{filled}
 use Rattle.vax_encode.specs.declared.filling.Filled.{Filled}
 use Rattle.vax_encode.specs.declared.filling.FieldFault.{FieldFault}
 use Rattle.vax_encode.specs.declared.filling.FieldFault.TheVariants as field_fault
 use Rattle.vax_encode.specs.declared.operand.Field.{Field}
-use Rattle.vax_lex.specs.Grammar.{Symbol}
 use Rattle.vax_lex.specs.declared.value.Value.{Value}
 use Rattle.vax_lex.specs.declared.value.Value.TheVariants as value
 use Rattle.vax_lex.specs.declared.value.ExprError.{ExprError}
