@@ -38,7 +38,7 @@ item_stated size site item s =
     let symbols = symbols_of site.line item.expression in
     let t = told site.here symbols s.scope in
     let c = counted site item.count t.scope in
-    placed_item size site (unless_place (uses_place symbols) (fault_of_value (Number size) 0 0 t.value)) c.number (filling_by t.value t.written) (with_scope c.scope s)
+    placed_item size site (unless_place (uses_place symbols) (fault_of_value (Number size) 0 0 t.settled)) c.number (filling_by t.value t.written) (with_scope c.scope s)
 
 abbrev pub items_stated : Size → Site → List Item → Progress → Progress
 items_stated size site [] p = p

@@ -63,7 +63,10 @@ fn state_item(
 {
     let here = uses_place(site.line, item.expression);
     let told = standing.tell(alloc, site.line, item.expression, site.here)?;
-    let fault = unless_place(here, fault_of_value(Field::Number(size), 0, 0, told.value));
+    let fault = unless_place(
+        here,
+        fault_of_value(Field::Number(size), 0, 0, told.settled),
+    );
     let count = counted(standing, alloc, site, item.count)?;
     let count = match count {
         Ok(count) => count,

@@ -97,6 +97,14 @@ fn lays_out_items(rt: HostRuntime) -> Result<(), Fail> {
         fault(FaultKind::Range)
     );
     assert_eq!(rt;
+        alone(alloc, Directive::Data(Size::L), b".LONG X+X/0")?,
+        fault(FaultKind::Range)
+    );
+    assert_eq!(rt;
+        alone(alloc, bytes, b".BYTE 1[X/0]")?,
+        fault(FaultKind::Undefined)
+    );
+    assert_eq!(rt;
         alone(alloc, words, b".WORD 1[600000]")?,
         fault(FaultKind::Large)
     );

@@ -39,7 +39,7 @@ unless_here true v = Err expr.Form
 unless_here false v = v
 
 abbrev pub with_told : modes.Operand → Bool → Told → Prepared
-with_told o here t = record { addressed = record { mode = o.mode; index = o.index; value = unless_here here t.value }; filling = filling_by t.value t.written; scope = t.scope }
+with_told o here t = record { addressed = record { mode = o.mode; index = o.index; value = unless_here here t.settled }; filling = filling_by t.value t.written; scope = t.scope }
 
 -- what an operand without an expression has in its place: `@(Rn)` is `@B^0(Rn)`
 abbrev pub zero_value : Value

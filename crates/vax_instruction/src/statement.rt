@@ -80,7 +80,7 @@ fn prepare(
     }
     let here = uses_place(site.line, expression);
     let told = standing.tell(alloc, site.line, expression, site.here)?;
-    let value = unless_here(here, told.value);
+    let value = unless_here(here, told.settled);
     Ok(Prepared {
         addressed: Addressed { mode, index, value },
         filling: filling_of(told),

@@ -172,7 +172,7 @@ fn state_behind(
 #[test]
 fn faults_of_instructions(rt: HostRuntime) -> Result<(), Fail> {
     let alloc = rt.alloc();
-    let rows: [(u32, &str, &[u8], FaultKind); 16] = [
+    let rows: [(u32, &str, &[u8], FaultKind); 18] = [
         (0, "MOVL", b"MOVL #5", FaultKind::Count),
         (0, "MOVL", b"MOVL ,R1", FaultKind::Form),
         (0, "HALT", b"HALT ,", FaultKind::Count),
@@ -185,7 +185,9 @@ fn faults_of_instructions(rt: HostRuntime) -> Result<(), Fail> {
         (0, "MOVL", b"MOVL R1[R2],R3", FaultKind::Form),
         (0, "MOVL", b"MOVL (R1)+[R1],R3", FaultKind::Form),
         (0, "MOVL", b"MOVL #.,R3", FaultKind::Form),
+        (0, "MOVL", b"MOVL X/0(R1),R3", FaultKind::Range),
         (0, "BRB", b"BRB #5", FaultKind::Form),
+        (0, "BRB", b"BRB X/0", FaultKind::Range),
         (127, "BRB", b"BRB BACK", FaultKind::Range),
         (1_048_574, "MOVL", b"MOVL #5,R1", FaultKind::Large),
         // the branch would be out of reach where it would stand

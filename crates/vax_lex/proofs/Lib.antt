@@ -1,12 +1,14 @@
 pub mod Bytes
 pub mod Canonical
 pub mod Depth
+pub mod Dividing
 pub mod Heads
 pub mod Lines
 pub mod Parsing
 pub mod Quotients
 pub mod Runs
 pub mod Spelling
+pub mod Staying
 pub mod Symbols
 pub mod Unique
 pub mod Reader

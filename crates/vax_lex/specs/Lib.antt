@@ -1,3 +1,4 @@
+pub mod Certain
 pub mod Characters
 pub mod Grammar
 pub mod Reading

@@ -22,9 +22,9 @@ use crate::value::{
 
 /// What has been read: its value or error, and the place of the first token behind it.
 #[derive(Drop)]
-struct Read {
-    answer: Outcome,
-    end: usize,
+pub(crate) struct Read {
+    pub(crate) answer: Outcome,
+    pub(crate) end: usize,
 }
 
 /// The token at a place, if there is one.
@@ -97,7 +97,7 @@ fn characters_of(line: &[u8], token: Token) -> &[u8]
 }
 
 /// Whether this mark stands at a place.
-fn is_mark_at(tokens: &[Token], at: usize, mark: u8) -> bool
+pub(crate) fn is_mark_at(tokens: &[Token], at: usize, mark: u8) -> bool
     ensures value { result ≡ is_that_mark mark (slice_get tokens.now at) }
     ensures room { OnTrue result (at < length tokens.now) }
     ensures small { OnTrue result (at + 2 < 2 ^ 64) }
@@ -290,7 +290,7 @@ fn marked<N: Names>(line: &[u8], tokens: &[Token], names: &N, at: usize, mark: u
 
 /// The term that begins at a place.
 #[cycle(expression)]
-fn term<N: Names>(line: &[u8], tokens: &[Token], names: &N, at: usize) -> Option<Read>
+pub(crate) fn term<N: Names>(line: &[u8], tokens: &[Token], names: &N, at: usize) -> Option<Read>
     requires { All (IsTokenOf line.now) tokens.now }
     ensures { ReadsTerm (N.meaning names.now) (symbols_of line.now tokens.now) at result }
 {

@@ -6,7 +6,8 @@ ghost use Rattle.vax_lex.specs.declared.value.Value.TheVariants.{Absolute, Secti
 
 use crate::character::is_word;
 use crate::{
-    ExprError, LexError, Names, PieceKind, Span, TokenKind, Value, evaluate, names, pieces, scan,
+    ExprError, LexError, Names, PieceKind, Span, TokenKind, Value, certain_fault, evaluate, names,
+    pieces, scan,
 };
 use std::alloc::Global;
 use std::process::Abort;
@@ -497,6 +498,30 @@ fn expressions_are_refused(rt: HostRuntime) -> Result<(), Fail> {
     for line in RANGE.iter() {
         let found = value(&rt, rt.alloc(), line)?;
         assert!(rt; found == Err(ExprError::Range), "{line}: {found:?}");
+    }
+    Ok(())
+}
+
+/// Expressions with names without a value, and the fault that they have all the same.
+static FAULTS: [(&str, Option<ExprError>); 9] = [
+    ("X/0", Some(ExprError::Range)),
+    ("-X/<A-5>+1", Some(ExprError::Range)),
+    ("5/<1+<X/0>>", Some(ExprError::Range)),
+    ("L*X", Some(ExprError::Form)),
+    ("X/0*L", Some(ExprError::Form)),
+    ("5/X", None),
+    ("5/<X-X>", None),
+    ("X-5/A", None),
+    ("6/A", None),
+];
+
+#[test]
+fn some_faults_stay_whatever_names_stand_for(rt: HostRuntime) -> Result<(), Fail> {
+    for (line, fault) in FAULTS.iter() {
+        assert!(rt; line.len() <= 1024);
+        let tokens = scan(rt.alloc(), line.as_bytes())?;
+        let found = certain_fault(line.as_bytes(), tokens.as_slice(), &Symbols);
+        assert!(rt; found == *fault, "{line}: {found:?}");
     }
     Ok(())
 }

@@ -108,7 +108,7 @@ assigned_by origin global name t s (Err e) = Err fault.Duplicate
 abbrev pub name_assigned : Site → Bool → List ℕ → List Token → Standing → Result Standing FaultKind
 name_assigned site global name tokens s =
     let t = told site.here (symbols_of site.line tokens) (entry name s.scope).scope in
-    done (joined (fault_of t.value) (after_change s (assigned_by site.origin global name t s (assigned name t.written t.scope))))
+    done (joined (fault_of t.settled) (after_change s (assigned_by site.origin global name t s (assigned name t.written t.scope))))
 
 abbrev pub named_assignment : Site → Bool → List ℕ → List Token → Standing → Result Standing FaultKind
 named_assignment site global name tokens s =

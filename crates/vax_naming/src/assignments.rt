@@ -111,7 +111,7 @@ fn assign(
 {
     standing.scope.appear(alloc, name)?;
     let told = standing.tell(alloc, site.line, tokens, site.here)?;
-    let fault = fault_of(told.value);
+    let fault = fault_of(told.settled);
     match define(standing, alloc, site.origin, global, name, told) {
         Ok(()) => Ok(fault),
         Err(Refused::Fault(kind)) => Ok(lowest(fault, Some(kind))),

@@ -188,6 +188,10 @@ fn tells_the_faults_of_assignments(rt: HostRuntime) -> Result<(), Fail> {
         alone(alloc, ASSIGNMENT, b"X = 1/0")?,
         fault(FaultKind::Range)
     );
+    assert_eq!(rt;
+        alone(alloc, ASSIGNMENT, b"X = Y/0")?,
+        fault(FaultKind::Range)
+    );
     let divided = behind_label(alloc, b"L", ASSIGNMENT, b"L = 1/0")?;
     assert_eq!(rt; divided, fault(FaultKind::Duplicate));
     let formless = behind_label(alloc, b"L", ASSIGNMENT, b"L = )")?;

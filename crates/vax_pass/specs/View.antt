@@ -57,7 +57,7 @@ standing_of s = record {
 }
 
 abbrev pub told_of : Told → Scope → standing.Told
-told_of t scope = record { written = written_of t.expression; value = t.value; scope = scope }
+told_of t scope = record { written = written_of t.expression; value = t.value; settled = t.settled; scope = scope }
 
 -- what a statement leaves, or its fault; memory may be refused at any time
 abbrev pub Stands : Result Unit Refused → standing.Standing → Result standing.Standing FaultKind → Type 0

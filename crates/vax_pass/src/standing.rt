@@ -5,20 +5,39 @@ ghost use Rattle.vax_layout.specs.Layout.{current_of, put, aligned};
 ghost use Rattle.vax_layout.specs.View.{part_of};
 ghost use Rattle.vax_lex.specs.Grammar.{symbols_of};
 ghost use Rattle.vax_lex.specs.Tokens.{IsTokenOf};
-ghost use Rattle.vax_pass.specs.Standing.{at_start, here_in, told, with_scope, with_sections};
+ghost use Rattle.vax_pass.specs.Standing.{at_start, here_in, told, unless_certain, with_scope, with_sections};
 ghost use Rattle.vax_pass.specs.View.{standing_of, sections_in, told_of, part_seen, Changes};
 ghost use Rattle.vax_scope.specs.Kept.{scope_of};
-ghost use Rattle.vax_values.specs.Values.{Means, Worked};
+ghost use Rattle.vax_values.specs.Certain.{certain};
+ghost use Rattle.vax_values.specs.Values.{Means, Worked, value_of};
 ghost use Rattle.vax_values.specs.View.{written_of};
 
 use crate::types::{Fixup, Refused, Standing, Told};
 use std::alloc::Global;
 use std::rc::Rc;
 use vax_layout::{Layout, Piece, Refusal};
-use vax_lex::{Token, Value};
+use vax_lex::{ExprError, Token, Value};
 use vax_macro::FaultKind;
 use vax_scope::Scope;
 use vax_space::NoMemory;
+use vax_values::Expression;
+
+/// What is settled of an expression's value, whatever comes later.
+fn settled(
+    scope: &Scope,
+    expression: &Expression,
+    value: Result<Value, ExprError>,
+) -> Result<Value, ExprError>
+    ensures { result ≡ unless_certain (certain (value_of (scope_of scope.now).sources) (written_of expression.now)) value }
+{
+    match value {
+        Err(ExprError::Unknown) => match scope.certain_fault(expression) {
+            Some(fault) => Err(fault),
+            None => Err(ExprError::Unknown),
+        },
+        known => known,
+    }
+}
 
 impl Standing {
     /// No names, and the section without a name alone.
@@ -70,7 +89,12 @@ impl Standing {
     {
         let expression = self.scope.expression(alloc, line, tokens, here)?;
         let value = self.scope.evaluate(&expression);
-        Ok(Told { expression, value })
+        let settled = settled(&self.scope, &expression, value);
+        Ok(Told {
+            expression,
+            value,
+            settled,
+        })
     }
 
     /// Adds so many bytes to the section that the next statement goes into.

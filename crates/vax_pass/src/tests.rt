@@ -24,6 +24,13 @@ fn tells_expressions_where_they_stand(rt: HostRuntime) -> Result<(), Fail> {
     let line = Rc::new(alloc, text.to_vec(alloc)?)?;
     let early = standing.tell(alloc, &line, &tokens, here)?;
     assert_eq!(rt; early.value, Err(ExprError::Unknown));
+    assert_eq!(rt; early.settled, Err(ExprError::Unknown));
+    let text = b"X/0".as_slice();
+    let tokens = scan(alloc, text)?;
+    let line = Rc::new(alloc, text.to_vec(alloc)?)?;
+    let never = standing.tell(alloc, &line, &tokens, here)?;
+    assert_eq!(rt; never.value, Err(ExprError::Unknown));
+    assert_eq!(rt; never.settled, Err(ExprError::Range));
     standing.scope.label(
         alloc,
         b"X",

@@ -79,11 +79,14 @@ pub struct Standing {
     pub transfer: Option<Transfer>,
 }
 
-/// An expression where it stands, and its value by what stands before it.
+/// An expression where it stands.
 #[derive(Drop)]
 pub struct Told {
     pub expression: Expression,
+    /// Its value by what stands before it.
     pub value: Result<Value, ExprError>,
+    /// The same, with the fault that it has whatever comes later in place of a value that isn't known yet.
+    pub settled: Result<Value, ExprError>,
 }
 
 /// Why a statement can't be carried out.

@@ -33,6 +33,7 @@ impl Scope {
     ghost use Rattle.vax_scope.specs.Scope.{nothing, entry, definition_at, bound, labelled, assigned, labelled_locally, begun_block, made_global, external_names, closed};
     ghost use Rattle.vax_scope.specs.Used.{names_of};
     ghost use Rattle.vax_scope.specs.View.{Defines, Labels, texts_of};
+    ghost use Rattle.vax_values.specs.Certain.{certain};
     ghost use Rattle.vax_values.specs.Values.{Means, Worked, value_of, worth};
     ghost use Rattle.vax_values.specs.ToCome.{names_to_come};
     ghost use Rattle.vax_values.specs.View.{written_of};
@@ -68,6 +69,15 @@ impl Scope {
         ensures { result ≡ worth (value_of (scope_of self.now).sources) (written_of expression.now) }
     {
         self.tables.definitions.evaluate(expression)
+    }
+
+    /// The fault that an expression has whatever the definitions are worth that have no value yet.
+    ///
+    /// [`ExprError`] as for `vax_lex`'s `certain_fault`.
+    pub fn certain_fault(&self, expression: &Expression) -> Option<ExprError>
+        ensures { result ≡ certain (value_of (scope_of self.now).sources) (written_of expression.now) }
+    {
+        self.tables.definitions.certain_fault(expression)
     }
 
     /// Whether a name of an expression means a definition that is still to come. Once the source is read, that is a local

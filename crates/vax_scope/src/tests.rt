@@ -58,6 +58,9 @@ fn a_use_before_any_definition_means_the_first(rt: HostRuntime) -> Result<(), Fa
     scope.label(alloc, b"L", HERE)?;
     let later = stands(alloc, &mut scope, b"L+N")?;
     scope.assign(alloc, b"M", later)?;
+    let quotient = stands(alloc, &mut scope, b"M/0")?;
+    assert_eq!(rt; scope.evaluate(&quotient), Err(ExprError::Unknown));
+    assert_eq!(rt; scope.certain_fault(&quotient), Some(ExprError::Range));
     let two = stands(alloc, &mut scope, b"-2")?;
     scope.assign(alloc, b"N", two)?;
     assert_eq!(rt; scope.evaluate(&early), Ok(Value::Absolute(2)));

@@ -1,3 +1,4 @@
+pub mod Certain
 pub mod Circles
 pub mod Definitions
 pub mod SettledProps

@@ -2,6 +2,7 @@
 
 ghost use Rattle.std.specs.Prelude.{◌≡◌, ◌<◌, ◌≤◌, ◌+◌, ◌++◌, ◌∷◌, [], All, IfOk, OnOk, length, map, true, slice_set, option_map, nat_lt, ◌&&◌};
 ghost use Rattle.std.specs.Str.{bytes_eq};
+ghost use Rattle.vax_values.specs.Certain.{certain};
 ghost use Rattle.vax_values.specs.Values.{named, worth, source_at, value_under, ToCome as to_come};
 ghost use Rattle.vax_values.specs.View.{meaning_of, written_of, source_of, sources_in, lists_in};
 ghost use Rattle.vax_values.specs.Waiting.{known, listed, waiters, Watches, Settled, Standing, Grown, weight};
@@ -10,7 +11,7 @@ ghost use Rattle.vax_values.specs.ToCome.{names_to_come};
 
 use crate::types::{Board, Expression, Meaning, Source};
 use std::alloc::Global;
-use vax_lex::{ExprError, Names, Value, evaluate};
+use vax_lex::{ExprError, Names, Value, certain_fault, evaluate};
 use vax_space::NoMemory;
 
 /// The values of the names of an expression.
@@ -177,6 +178,17 @@ impl Board {
             values: &self.values,
         };
         evaluate(&expression.text, &expression.tokens, &looked)
+    }
+
+    /// The fault that an expression has whatever the definitions are worth that have no value so far.
+    pub(crate) fn certain_fault(&self, expression: &Expression) -> Option<ExprError>
+        ensures { result ≡ certain (known self.now.values.items) (written_of expression.now) }
+    {
+        let looked = Looked {
+            names: &expression.names,
+            values: &self.values,
+        };
+        certain_fault(&expression.text, &expression.tokens, &looked)
     }
 
     /// What a definition is worth by the values so far.

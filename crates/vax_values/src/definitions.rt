@@ -24,6 +24,7 @@ pub struct Definitions {
 
 impl Definitions {
     ghost use Rattle.std.specs.Prelude.{◌<◌, ◌++◌, ◌∷◌, [], IfOk, OnOk, option_map};
+    ghost use Rattle.vax_values.specs.Certain.{certain};
     ghost use Rattle.vax_values.specs.Circles.{endless};
     ghost use Rattle.vax_values.specs.Definitions.{sources_of};
     ghost use Rattle.vax_values.specs.Values.{Given as given, Worked as worked, Means, expression_in, source_at, with_source, ToCome as to_come, value_of, worth};
@@ -109,6 +110,15 @@ impl Definitions {
         ensures { result ≡ worth (value_of (sources_of self.now)) (written_of expression.now) }
     {
         self.board.evaluate(expression)
+    }
+
+    /// The fault that an expression has whatever the definitions are worth that have no value yet.
+    ///
+    /// [`ExprError`] as for `vax_lex`'s `certain_fault`.
+    pub fn certain_fault(&self, expression: &Expression) -> Option<ExprError>
+        ensures { result ≡ certain (value_of (sources_of self.now)) (written_of expression.now) }
+    {
+        self.board.certain_fault(expression)
     }
 
     /// Whether a name of an expression means a definition that is still to come.

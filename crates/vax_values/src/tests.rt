@@ -37,6 +37,11 @@ fn values_come_in_any_order(rt: HostRuntime) -> Result<(), Fail> {
     definitions.open(alloc)?;
     definitions.write(alloc, 0, expression(alloc, b"Y+1", b"Y", 1)?)?;
     assert_eq!(rt; definitions.value(0), None);
+    let quotient = expression(alloc, b"Y/0", b"Y", 1)?;
+    assert_eq!(rt;
+        definitions.certain_fault(&quotient),
+        Some(ExprError::Range)
+    );
     definitions.give(alloc, 1, Value::Absolute(4))?;
     assert_eq!(rt; definitions.value(0), Some(Value::Absolute(5)));
     assert_eq!(rt; definitions.count(), 2);

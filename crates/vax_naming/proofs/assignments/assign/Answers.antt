@@ -29,7 +29,7 @@ returns-in-Err-Fault c =
     ∙ ap (λ (x : Told). ends x (with_scope (scope_of c.tell.new.self.scope) before)) (sym is_told)
     ∙ ap (ends (told_of c.in_ok-told.told (scope_of c.tell.new.self.scope))) (sym c.in_ok-told.ensures.same)
     ∙ subst refused c.in-Err-Fault.field-0-is c.in-Err-Fault.ensures in
-    let fault : c.fault_of-fault.result ≡ fault_of t.value = c.fault_of-fault.ensures ∙ ap (λ (x : Told). fault_of x.value) is_told in
+    let fault : c.fault_of-fault.result ≡ fault_of t.settled = c.fault_of-fault.ensures ∙ ap (λ (x : Told). fault_of x.settled) is_told in
     ap (λ (o : Option FaultKind). done_by o after) c.lowest.ensures
     ∙ part_fails c.fault_of-fault.result kind before after (ends t before) fails
     ∙ ap (λ (o : Option FaultKind). done (joined o (after_change before (ends t before)))) fault

@@ -1,0 +1,278 @@
+-- A fault that is certain stays when more names have values.
+use Rattle.std.proofs.Common.{◌≡◌, ℕ, ℤ, pos, Bool, true, false, List, [], ◌∷◌, Option, Some, None, Result, Ok, Err, refl, ap, ◌∙◌, sym, subst, ⊎_elim}
+use Rattle.std.proofs.lemmas.Bool.{false_from_ne_true, false≢true}
+use Rattle.std.proofs.lemmas.Bool.Decides.{Decides-int_eq}
+use Rattle.std.specs.Prelude.{◌&&◌, ◌||◌, ◌≢◌, ok_or, if◌then◌else◌}
+use Rattle.std.specs.Ordering.{int_eq}
+use Rattle.vax_lex.specs.Certain.{Keeps, HasNone, is_zero, is_division, begins_with_zero, divides_by_zero, certain_by}
+use Rattle.vax_lex.specs.Grammar.{Symbol, mark, Term, constant, named_by, quoted, mask, plus, minus, complement, bracketed, Joined, finish, joined, operator_mark, names_then, term_then, joined_then, term_value, joined_value, Expression, spelling, value_of, Evaluates}
+use Rattle.vax_lex.specs.Values.{Operation, addition, subtraction, multiplication, division, arithmetic_shift, logical_and, inclusive_or, exclusive_or, apply, product_of, quotient, combine, negated, complemented, first_error, refuses_left, refuses_right}
+use Rattle.vax_lex.specs.declared.value.Value.{Value}
+use Rattle.vax_lex.specs.declared.value.Value.TheVariants.{Absolute, Section, External}
+use Rattle.vax_lex.specs.declared.value.ExprError.{ExprError}
+use Rattle.vax_lex.specs.declared.value.ExprError.TheVariants.{Form, Unknown, Range}
+use Rattle.vax_lex.proofs.Dividing.{term_is}
+use Rattle.vax_lex.proofs.Quotients.{quotient_by_0}
+use Rattle.vax_lex.proofs.Reader.{value_spelled, value_none}
+
+abbrev NotOk : Result Value ExprError → Type 0
+NotOk r = (v : Value) → r ≡ Ok v → ⊥
+
+-- what becomes of a result once more names have values: a value stays, and so does a fault but for an unknown name
+abbrev Later : Result Value ExprError → Result Value ExprError → Type 0
+Later (Ok x) s = s ≡ Ok x
+Later (Err Form) s = NotOk s
+Later (Err Unknown) s = Unit {0}
+Later (Err Range) s = NotOk s
+
+not_ok : (e : ExprError) → NotOk (Err e)
+not_ok e v is = cc
+
+later_itself : (r : Result Value ExprError) → Later r r
+later_itself (Ok x) = refl
+later_itself (Err Form) = not_ok Form
+later_itself (Err Unknown) = tt
+later_itself (Err Range) = not_ok Range
+
+-- an operator has a value only where its operands have
+
+record Operands (op : Operation) (l r : Result Value ExprError) (v : Value) : Type 0 where
+  left : Value
+  left_is : l ≡ Ok left
+  right : Value
+  right_is : r ≡ Ok right
+  gives : apply op left right ≡ Ok v
+
+operands : (op : Operation) (l r : Result Value ExprError) (v : Value) → combine op l r ≡ Ok v → Operands op l r v
+operands op (Ok x) (Ok y) v e = record { left = x; left_is = refl; right = y; right_is = refl; gives = e }
+operands op (Ok x) (Err d) v e = absurd cc
+operands op (Err d) (Ok y) v e = absurd cc
+operands op (Err d) (Err f) v e = absurd cc
+
+left_not_ok : (op : Operation) (l r : Result Value ExprError) → NotOk l → NotOk (combine op l r)
+left_not_ok op l r h v e = let o = operands op l r v e in h o.left o.left_is
+
+right_not_ok : (op : Operation) (l r : Result Value ExprError) → NotOk r → NotOk (combine op l r)
+right_not_ok op l r h v e = let o = operands op l r v e in h o.right o.right_is
+
+record Numbers (x y : Value) : Type 0 where
+  left : ℤ
+  left_is : x ≡ Absolute left
+  right : ℤ
+  right_is : y ≡ Absolute right
+
+numbers : (op : Operation) (x y v : Value) → product_of op x y ≡ Ok v → Numbers x y
+numbers op (Absolute a) (Absolute b) v e = record { left = a; left_is = refl; right = b; right_is = refl }
+numbers op (Absolute a) (Section s b) v e = absurd cc
+numbers op (Absolute a) (External i b) v e = absurd cc
+numbers op (Section s a) y v e = absurd cc
+numbers op (External i a) y v e = absurd cc
+
+number_left : (op : Operation) → ((a : ℤ) → refuses_left op (Absolute a) ≡ false) → (x y v : Value) → refuses_left op x ≡ true → product_of op x y ≡ Ok v → ⊥
+number_left op takes x y v r e = let n = numbers op x y v e in false≢true (sym (ap (refuses_left op) n.left_is ∙ takes n.left) ∙ r)
+
+number_right : (op : Operation) → ((a : ℤ) → refuses_right op (Absolute a) ≡ false) → (x y v : Value) → refuses_right op y ≡ true → product_of op x y ≡ Ok v → ⊥
+number_right op takes x y v r e = let n = numbers op x y v e in false≢true (sym (ap (refuses_right op) n.right_is ∙ takes n.right) ∙ r)
+
+refused_left : (op : Operation) (x y v : Value) → refuses_left op x ≡ true → apply op x y ≡ Ok v → ⊥
+refused_left addition x y v r e = false≢true r
+refused_left subtraction x y v r e = false≢true r
+refused_left multiplication x y v r e = number_left multiplication (λ a. refl) x y v r e
+refused_left division x y v r e = number_left division (λ a. refl) x y v r e
+refused_left arithmetic_shift x y v r e = number_left arithmetic_shift (λ a. refl) x y v r e
+refused_left logical_and x y v r e = number_left logical_and (λ a. refl) x y v r e
+refused_left inclusive_or x y v r e = number_left inclusive_or (λ a. refl) x y v r e
+refused_left exclusive_or x y v r e = number_left exclusive_or (λ a. refl) x y v r e
+
+external_right : (x y v : Value) → refuses_right subtraction y ≡ true → apply subtraction x y ≡ Ok v → ⊥
+external_right x (Absolute b) v r e = false≢true r
+external_right x (Section s b) v r e = false≢true r
+external_right (Absolute a) (External i b) v r e = cc
+external_right (Section s a) (External i b) v r e = cc
+external_right (External j a) (External i b) v r e = cc
+
+refused_right : (op : Operation) (x y v : Value) → refuses_right op y ≡ true → apply op x y ≡ Ok v → ⊥
+refused_right addition x y v r e = false≢true r
+refused_right subtraction x y v r e = external_right x y v r e
+refused_right multiplication x y v r e = number_right multiplication (λ a. refl) x y v r e
+refused_right division x y v r e = number_right division (λ a. refl) x y v r e
+refused_right arithmetic_shift x y v r e = number_right arithmetic_shift (λ a. refl) x y v r e
+refused_right logical_and x y v r e = number_right logical_and (λ a. refl) x y v r e
+refused_right inclusive_or x y v r e = number_right inclusive_or (λ a. refl) x y v r e
+refused_right exclusive_or x y v r e = number_right exclusive_or (λ a. refl) x y v r e
+
+error_right : (op : Operation) (m s : Result Value ExprError) (e : ExprError) → Later (Err e) s → Later (Err e) (combine op m s)
+error_right op m s Form h = right_not_ok op m s h
+error_right op m s Unknown h = tt
+error_right op m s Range h = right_not_ok op m s h
+
+error_left : (op : Operation) (m s : Result Value ExprError) (e : ExprError) → Later (Err e) m → Later (Err e) (combine op m s)
+error_left op m s Form h = left_not_ok op m s h
+error_left op m s Unknown h = tt
+error_left op m s Range h = left_not_ok op m s h
+
+value_left : (op : Operation) (x : Value) (m s : Result Value ExprError) (e : ExprError) (b : Bool) → refuses_left op x ≡ b → m ≡ Ok x → Later (Err e) s → Later (Err (if b then Form else e)) (combine op m s)
+value_left op x m s e true r is h = λ v ok.
+    let o = operands op m s v ok in
+    let same : o.left ≡ x = let p = o.left_is in cc in
+    refused_left op o.left o.right v (ap (refuses_left op) same ∙ r) o.gives
+value_left op x m s e false r is h = error_right op m s e h
+
+value_right : (op : Operation) (y : Value) (m s : Result Value ExprError) (d : ExprError) (b : Bool) → refuses_right op y ≡ b → s ≡ Ok y → Later (Err d) m → Later (Err (if b then Form else d)) (combine op m s)
+value_right op y m s d true r is h = λ v ok.
+    let o = operands op m s v ok in
+    let same : o.right ≡ y = let p = o.right_is in cc in
+    refused_right op o.left o.right v (ap (refuses_right op) same ∙ r) o.gives
+value_right op y m s d false r is h = error_left op m s d h
+
+two_errors : (op : Operation) (m s : Result Value ExprError) (d e : ExprError) → Later (Err d) m → Later (Err e) s → Later (Err (first_error d e)) (combine op m s)
+two_errors op m s Form e h i = left_not_ok op m s h
+two_errors op m s Unknown Form h i = right_not_ok op m s i
+two_errors op m s Unknown Unknown h i = tt
+two_errors op m s Unknown Range h i = tt
+two_errors op m s Range e h i = error_right op m s e i
+
+combine_later : (op : Operation) (l m r s : Result Value ExprError) → Later l m → Later r s → Later (combine op l r) (combine op m s)
+combine_later op (Ok x) m (Ok y) s h i = rw h (rw i (later_itself (apply op x y)))
+combine_later op (Ok x) m (Err e) s h i = value_left op x m s e (refuses_left op x) refl h i
+combine_later op (Err d) m (Ok y) s h i = value_right op y m s d (refuses_right op y) refl i h
+combine_later op (Err d) m (Err e) s h i = two_errors op m s d e h i
+
+negated_of : (s : Result Value ExprError) (v : Value) → negated s ≡ Ok v → (u : Value) × (s ≡ Ok u)
+negated_of (Ok u) v e = (u, refl)
+negated_of (Err d) v e = absurd cc
+
+complemented_of : (s : Result Value ExprError) (v : Value) → complemented s ≡ Ok v → (u : Value) × (s ≡ Ok u)
+complemented_of (Ok u) v e = (u, refl)
+complemented_of (Err d) v e = absurd cc
+
+negated_later : (r s : Result Value ExprError) → Later r s → Later (negated r) (negated s)
+negated_later (Ok x) s h = rw h (later_itself (negated (Ok x)))
+negated_later (Err Form) s h = λ v e. let u = negated_of s v e in h u.0 u.1
+negated_later (Err Unknown) s h = tt
+negated_later (Err Range) s h = λ v e. let u = negated_of s v e in h u.0 u.1
+
+complemented_later : (r s : Result Value ExprError) → Later r s → Later (complemented r) (complemented s)
+complemented_later (Ok x) s h = rw h (later_itself (complemented (Ok x)))
+complemented_later (Err Form) s h = λ v e. let u = complemented_of s v e in h u.0 u.1
+complemented_later (Err Unknown) s h = tt
+complemented_later (Err Range) s h = λ v e. let u = complemented_of s v e in h u.0 u.1
+
+found_later : (o p : Option Value) → ((v : Value) → o ≡ Some v → p ≡ Some v) → Later (ok_or o Unknown) (ok_or p Unknown)
+found_later (Some x) p h = ap (λ q. ok_or q Unknown) (h x refl)
+found_later None p h = tt
+
+mutual
+  term_later : (names more : List ℕ → Option Value) → Keeps names more → (t : Term) → Later (term_value names t) (term_value more t)
+  term_later names more h (constant n) = refl
+  term_later names more h (named_by s) = found_later (names s) (more s) (h s)
+  term_later names more h (quoted text) = later_itself (term_value names (quoted text))
+  term_later names more h (mask registers) = later_itself (term_value names (mask registers))
+  term_later names more h (plus t) = term_later names more h t
+  term_later names more h (minus t) = negated_later (term_value names t) (term_value more t) (term_later names more h t)
+  term_later names more h (complement t) = complemented_later (term_value names t) (term_value more t) (term_later names more h t)
+  term_later names more h (bracketed t j) = joined_later names more h (term_value names t) (term_value more t) (term_later names more h t) j
+
+  joined_later : (names more : List ℕ → Option Value) → Keeps names more → (l m : Result Value ExprError) → Later l m → (j : Joined) → Later (joined_value names l j) (joined_value more m j)
+  joined_later names more h l m less finish = less
+  joined_later names more h l m less (joined op t j) =
+      joined_later names more h (combine op l (term_value names t)) (combine op m (term_value more t))
+      (combine_later op l m (term_value names t) (term_value more t) less (term_later names more h t)) j
+
+value_later : (names more : List ℕ → Option Value) → Keeps names more → (e : Expression) → Later (value_of names e) (value_of more e)
+value_later names more h e = joined_later names more h (term_value names e.first) (term_value more e.first) (term_later names more h e.first) e.more
+
+-- what has a value divides by no 0
+
+first_of : (names : List ℕ → Option Value) (l : Result Value ExprError) (j : Joined) (v : Value) → joined_value names l j ≡ Ok v → (u : Value) × (l ≡ Ok u)
+first_of names l finish v e = (v, e)
+first_of names l (joined op t j) v e =
+    let n = first_of names (combine op l (term_value names t)) j v e in
+    let o = operands op l (term_value names t) n.0 n.1 in
+    (o.left, o.left_is)
+
+divisor : (a b : ℤ) (v : Value) → quotient a b ≡ Ok v → int_eq b (pos 0) ≡ false
+divisor a b v e =
+    false_from_ne_true (int_eq b (pos 0)) (λ is. let none : Err Range ≡ Ok v = sym (quotient_by_0 a b ((Decides-int_eq b (pos 0)).0 is)) ∙ e in cc)
+
+divided : (x y v : Value) → product_of division x y ≡ Ok v → is_zero (Ok y) ≡ false
+divided x y v e =
+    let n = numbers division x y v e in
+    let left = ap (λ a. product_of division a y) (sym n.left_is) in
+    let right = ap (product_of division (Absolute n.left)) (sym n.right_is) in
+    ap (λ b. is_zero (Ok b)) n.right_is ∙ divisor n.left n.right v (right ∙ left ∙ e)
+
+no_zero : (y : Value) (r : Result Value ExprError) → Later r (Ok y) → is_zero (Ok y) ≡ false → is_zero r ≡ false
+no_zero y (Ok z) h e = ap is_zero (sym h) ∙ e
+no_zero y (Err d) h e = refl
+
+not_by_zero : (op : Operation) (x y v : Value) (r : Result Value ExprError) → Later r (Ok y) → apply op x y ≡ Ok v → (is_division (mark (operator_mark op)) && is_zero r) ≡ false
+not_by_zero addition x y v r h e = refl
+not_by_zero subtraction x y v r h e = refl
+not_by_zero multiplication x y v r h e = refl
+not_by_zero division x y v r h e = no_zero y r h (divided x y v e)
+not_by_zero arithmetic_shift x y v r h e = refl
+not_by_zero logical_and x y v r h e = refl
+not_by_zero inclusive_or x y v r h e = refl
+not_by_zero exclusive_or x y v r h e = refl
+
+mask_passed : (names : List ℕ → Option Value) (registers : List (List ℕ)) (rest : List Symbol) → divides_by_zero names (names_then registers (mark 62 ∷ rest)) ≡ divides_by_zero names rest
+mask_passed names [] rest = refl
+mask_passed names (r ∷ []) rest = refl
+mask_passed names (r ∷ s ∷ registers) rest = mask_passed names (s ∷ registers) rest
+
+mutual
+  term_passed : (names more : List ℕ → Option Value) → Keeps names more → (t : Term) (rest : List Symbol) (v : Value) → term_value more t ≡ Ok v
+      → divides_by_zero names (term_then t rest) ≡ divides_by_zero names rest
+  term_passed names more h (constant n) rest v e = refl
+  term_passed names more h (named_by s) rest v e = refl
+  term_passed names more h (quoted text) rest v e = refl
+  term_passed names more h (mask registers) rest v e = mask_passed names registers rest
+  term_passed names more h (plus t) rest v e = term_passed names more h t rest v e
+  term_passed names more h (minus t) rest v e = let u = negated_of (term_value more t) v e in term_passed names more h t rest u.0 u.1
+  term_passed names more h (complement t) rest v e = let u = complemented_of (term_value more t) v e in term_passed names more h t rest u.0 u.1
+  term_passed names more h (bracketed t j) rest v e =
+      let u = first_of more (term_value more t) j v e in
+      term_passed names more h t (joined_then j (mark 62 ∷ rest)) u.0 u.1 ∙ joined_passed names more h (term_value more t) j (mark 62 ∷ rest) v e
+
+  joined_passed : (names more : List ℕ → Option Value) → Keeps names more → (l : Result Value ExprError) (j : Joined) (rest : List Symbol) (v : Value) → joined_value more l j ≡ Ok v
+      → divides_by_zero names (joined_then j rest) ≡ divides_by_zero names rest
+  joined_passed names more h l finish rest v e = refl
+  joined_passed names more h l (joined op t j) rest v e =
+      let n = first_of more (combine op l (term_value more t)) j v e in
+      let o = operands op l (term_value more t) n.0 n.1 in
+      let behind = term_then t (joined_then j rest) in
+      let P : Result Value ExprError → Type 0 = λ r. Later (term_value names t) r in
+      let zero_there : is_zero (term_value names t) ≡ begins_with_zero names behind = term_is names behind (joined_then j rest) t (term_value names t) refl refl in
+      let none = not_by_zero op o.left o.right n.0 (term_value names t) (subst P o.right_is (term_later names more h t)) o.gives in
+      ap (λ b. (is_division (mark (operator_mark op)) && b) || divides_by_zero names behind) (sym zero_there)
+      ∙ ap (λ b. b || divides_by_zero names behind) none
+      ∙ term_passed names more h t (joined_then j rest) o.right o.right_is
+      ∙ joined_passed names more h (combine op l (term_value more t)) j rest v e
+
+none_divided : (names more : List ℕ → Option Value) → Keeps names more → (e : Expression) (v : Value) → value_of more e ≡ Ok v → divides_by_zero names (spelling e) ≡ false
+none_divided names more h e v is =
+    let u = first_of more (term_value more e.first) e.more v is in
+    term_passed names more h e.first (joined_then e.more []) u.0 u.1 ∙ joined_passed names more h (term_value more e.first) e.more [] v is
+
+-- the fault stays
+
+no_fault : (answer : Result Value ExprError) (b : Bool) (f : ExprError) (v : Value) → Later answer (Ok v) → b ≡ false → certain_by b answer ≡ Some f → ⊥
+no_fault (Ok x) b f v h i e = cc
+no_fault (Err Form) b f v h i e = h v refl
+no_fault (Err Unknown) b f v h i e = let none : None ≡ Some f = sym (ap (λ c. certain_by c (Err Unknown)) i) ∙ e in cc
+no_fault (Err Range) b f v h i e = h v refl
+
+pub stays : (names : List ℕ → Option Value) (symbols : List Symbol) (answer : Result Value ExprError) (f : ExprError) → Evaluates names symbols answer
+    → certain_by (divides_by_zero names symbols) answer ≡ Some f → HasNone names symbols
+stays names symbols answer f evaluates certain more h v ok =
+    ⊎_elim
+    (λ (p : (e : Expression) × (spelling e ≡ symbols) × (answer ≡ value_of names e)).
+    let P : Result Value ExprError → Type 0 = λ r. Later r (Ok v) in
+    let Q : Result Value ExprError → Type 0 = λ r. Later (value_of names p.0) r in
+    let value : value_of more p.0 ≡ Ok v = sym (value_spelled more symbols p.0 p.1) ∙ ok in
+    no_fault answer (divides_by_zero names symbols) f v (subst P (sym p.2) (subst Q value (value_later names more h p.0)))
+    (ap (divides_by_zero names) (sym p.1) ∙ none_divided names more h p.0 v value) certain)
+    (λ (p : ((e : Expression) → spelling e ≢ symbols) × (answer ≡ Err Form)).
+    let none : Err Form ≡ Ok v = sym (value_none more symbols p.0) ∙ ok in cc)
+    evaluates
