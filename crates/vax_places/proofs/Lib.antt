@@ -1,0 +1,7 @@
+mod Counting
+mod Data
+mod Naming
+mod Operands
+mod Stating
+mod Laying
+mod Walking
