@@ -260,9 +260,9 @@ fn case_of<P: Port>(txn: &mut Txn<P>, size: Narrow) -> Result<Flow, CutShort>
 }
 
 /// The instruction by its shape.
-#[inline(always)]
+#[inline(never)]
 #[tactic(auto, unfolding(vax_flat::specs::Control::performed))]
-pub(crate) fn perform<P: Port>(txn: &mut Txn<P>, instruction: Control) -> Result<Flow, CutShort>
+fn perform_any<P: Port>(txn: &mut Txn<P>, instruction: Control) -> Result<Flow, CutShort>
     requires { 20 ≤ room txn.old }
     ensures exact { Follows (control.performed instruction (present P.view txn.old).state) (present P.view txn.old) (told txn.new result) (present P.view txn.new) }
     ensures keeps { Keeps P.view P.since 20 txn.old txn.new }
@@ -278,5 +278,25 @@ pub(crate) fn perform<P: Port>(txn: &mut Txn<P>, instruction: Control) -> Result
         Control::SubtractOne(relation) => subtract_one(txn, relation),
         Control::AddCompare(size) => add_compare(txn, size.into()),
         Control::Case(size) => case_of(txn, size),
+    }
+}
+
+/// The instruction by its shape. The commonest have arms of their own and stand in the loop over instructions; the others are one call.
+#[inline(always)]
+#[tactic(auto, unfolding(vax_flat::specs::Control::performed))]
+pub(crate) fn perform<P: Port>(txn: &mut Txn<P>, instruction: Control) -> Result<Flow, CutShort>
+    requires { 20 ≤ room txn.old }
+    ensures exact { Follows (control.performed instruction (present P.view txn.old).state) (present P.view txn.old) (told txn.new result) (present P.view txn.new) }
+    ensures keeps { Keeps P.view P.since 20 txn.old txn.new }
+{
+    match instruction {
+        Control::Branch {
+            condition,
+            size: Narrow::B,
+        } => branch(txn, condition, Narrow::B),
+        Control::BranchSubroutine(Narrow::B) => branch_subroutine(txn, Narrow::B),
+        Control::Return => return_subroutine(txn),
+        Control::SubtractOne(relation) => subtract_one(txn, relation),
+        _ => perform_any(txn, instruction),
     }
 }

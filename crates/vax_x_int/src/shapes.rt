@@ -309,9 +309,9 @@ fn index<P: Port>(txn: &mut Txn<P>) -> Result<Flow, CutShort>
 }
 
 /// The instruction by its shape.
-#[inline(always)]
+#[inline(never)]
 #[tactic(auto, unfolding(vax_flat::specs::Integer::performed))]
-pub(crate) fn perform<P: Port>(txn: &mut Txn<P>, instruction: Integer) -> Result<Flow, CutShort>
+fn perform_any<P: Port>(txn: &mut Txn<P>, instruction: Integer) -> Result<Flow, CutShort>
     requires { 27 ≤ room txn.old }
     ensures exact { Follows (integer.performed instruction (present P.view txn.old).state) (present P.view txn.old) (told txn.new result) (present P.view txn.new) }
     ensures keeps { Keeps P.view P.since 27 txn.old txn.new }
@@ -337,5 +337,38 @@ pub(crate) fn perform<P: Port>(txn: &mut Txn<P>, instruction: Integer) -> Result
         Integer::ExtendedMultiply => extended_multiply(txn),
         Integer::ExtendedDivide => extended_divide(txn),
         Integer::Index => index(txn),
+    }
+}
+
+/// The instruction by its shape. The commonest have arms of their own, each with its operation and size as constants, and stand in the loop over
+/// instructions; the others are one call.
+#[inline(always)]
+#[tactic(auto, unfolding(vax_flat::specs::Integer::performed))]
+pub(crate) fn perform<P: Port>(txn: &mut Txn<P>, instruction: Integer) -> Result<Flow, CutShort>
+    requires { 27 ≤ room txn.old }
+    ensures exact { Follows (integer.performed instruction (present P.view txn.old).state) (present P.view txn.old) (told txn.new result) (present P.view txn.new) }
+    ensures keeps { Keeps P.view P.since 27 txn.old txn.new }
+{
+    match instruction {
+        Integer::Unary {
+            operation: Unary::Move,
+            from: Size::L,
+            to: Size::L,
+        } => unary(txn, Unary::Move, Size::L, Size::L),
+        Integer::Two {
+            operation: Binary::Add,
+            size: Narrow::L,
+        } => two(txn, Binary::Add, Narrow::L),
+        Integer::Two {
+            operation: Binary::Subtract,
+            size: Narrow::L,
+        } => two(txn, Binary::Subtract, Narrow::L),
+        Integer::ByOne {
+            operation: Binary::Add,
+            size: Narrow::L,
+        } => by_one(txn, Binary::Add, Narrow::L),
+        Integer::Compare(Narrow::L) => compare(txn, Size::L),
+        Integer::Test(Narrow::L) => test(txn, Size::L),
+        _ => perform_any(txn, instruction),
     }
 }
