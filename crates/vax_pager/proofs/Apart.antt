@@ -25,7 +25,7 @@ or_next : (a b c : Bool) → (a || (b || c)) ≡ ((a || b) || c)
 or_next true b c = refl
 or_next false b c = refl
 
-in_parts : (addr a b page : ℕ) → addr < 2 ^ 32 → is_in addr (a + b) page ≡ (is_in addr a page || is_in (byte_after addr a) b page)
+pub in_parts : (addr a b page : ℕ) → addr < 2 ^ 32 → is_in addr (a + b) page ≡ (is_in addr a page || is_in (byte_after addr a) b page)
 unfolding is_in
 in_parts addr zero b page small =
     let e : byte_after addr 0 ≡ addr = omega arith in

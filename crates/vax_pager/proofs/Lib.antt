@@ -11,3 +11,6 @@ pub mod Views
 pub mod Writes
 pub mod Writable
 pub mod Apart
+pub mod Turned
+pub mod Pins
+pub mod Poking

@@ -15,7 +15,7 @@ use Rattle.vax_pager.specs.declared.store.Store.{Store}
 use Rattle.vax_pager.specs.Listing.{AreOnce, is_listed, first, first_outside, page_in}
 use Rattle.vax_pager.specs.Marks.{has_mark}
 use Rattle.vax_pager.specs.Calls.{IsPaging}
-use Rattle.vax_pager.specs.Frames.{dirty_frame}
+use Rattle.vax_pager.specs.Frames.{dirty_frame, held_by}
 use Rattle.vax_pager.specs.Store.{held, flag_of, has_block, last_of, paging, IsSound, IsFree}
 use Rattle.vax_pager.proofs.Listing.{pages-length, pages_drop, listed_is, first_page, first_frame}
 use Rattle.vax_pager.proofs.Last.{last-length}
@@ -281,6 +281,18 @@ pinned_once : (s : Store) → EachOnce s.lists.order → IsSound 0 s → AreOnce
 unfolding paging
 pinned_once s once h = once_end (front_of s) (last_of s.pinned (pages_of s.lists.order)) (subst AreOnce (parts s) (once_pages s.lists.order once))
 
+held_resident : (walk : Walk) (left : Option ℕ) → is_resident walk ≡ true → is_some (held_by walk left) ≡ true
+held_resident (Resident f pr md) left r = refl
+held_resident (Absent pr) left r = absurd (false≢true r)
+held_resident (Outside past) left r = absurd (false≢true r)
+
+some_whole : (o : Option ℕ) (s : Store) (p : ℕ) → held s p ≡ o → is_some o ≡ true → IsSound 0 s → length ((paging s).frame p) ≡ 512
+some_whole (Some f) s p e there h = ap (length {A = ℕ}) (sym (frame_means s p f e)) ∙ h.whole f (held_room 0 s p f h e)
+some_whole None s p e there h = absurd (false≢true there)
+
+resident_whole : (s : Store) (p : ℕ) → IsSound 0 s → is_listed p (paging s).order ≡ true → length ((paging s).frame p) ≡ 512
+resident_whole s p h r = some_whole (held s p) s p refl (unfold held in held_resident (walked s.tables p) (kept s.tables p) (sym (resident_is 0 s p h) ∙ r)) h
+
 pub is_paging : (s : Store) → EachOnce s.lists.order → IsSound 0 s → IsPaging (paging s)
 is_paging s once h = record {
   once = order_once s once;
@@ -291,6 +303,7 @@ is_paging s once h = record {
   writable = λ p. writable_is s p h;
   inside = λ p. resident_within s p h;
   held = omega (arith, order-length s, kept-length s, frames_are s, h.lengths, h.used);
+  whole = λ p. resident_whole s p h;
 }
 
 pub frames_few : (s : Store) → IsSound 0 s → length s.frames.items < 2 ^ 32

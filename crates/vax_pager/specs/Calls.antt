@@ -137,3 +137,4 @@ pub record IsPaging (s : Paging) : Type 0 where
   pub pinned_once : AreOnce s.pinned
   pub inside : (page : ℕ) → is_listed page s.order ≡ true → is_some (area_of s.areas page) ≡ true
   pub held : length s.order + length s.kept ≤ s.frames
+  pub whole : (page : ℕ) → is_listed page s.order ≡ true → length (s.frame page) ≡ 512

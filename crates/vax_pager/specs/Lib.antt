@@ -2,6 +2,7 @@ pub mod Listing
 pub mod Paging
 pub mod Steps
 pub mod Calls
+pub mod Poking
 pub mod Marks
 pub mod Frames
 pub mod Store

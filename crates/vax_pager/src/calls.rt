@@ -1,5 +1,5 @@
 //! The calls of a pager on a page file.
-ghost use Rattle.std.specs.Prelude.{◌≡◌, ◌+◌, ◌<◌, ◌≤◌, ◌/◌, ◌⊎◌, ◌%◌, [], true, false, length, slice_index, slice_index_or, is_some, IfOk, OnOk, OnErr, Some, None, IfSome};
+ghost use Rattle.std.specs.Prelude.{◌≡◌, ◌+◌, ◌<◌, ◌≤◌, ◌/◌, ◌⊎◌, ◌%◌, ◌++◌, ◌∷◌, [], true, false, length, slice_index, slice_index_or, is_some, IfOk, OnOk, OnErr, Some, None, IfSome};
 ghost use Rattle.std.specs.Option.{option_map};
 ghost use Rattle.vax_outside.specs.Faults.{Rose};
 
@@ -232,6 +232,7 @@ impl Store {
         ensures sound { IsSound 0 self.new }
         ensures answer { IfOk result (λ r. r ≡ victim_of (source page (paging self.old))) }
         ensures ok { OnOk result (paging self.new ≡ came (source page (paging self.old)) page ((paging self.new).frame page) (paging self.old)) }
+        ensures pinned { OnOk result ((paging self.new).pinned ≡ (paging self.old).pinned ++ page ∷ []) }
         ensures file { OnOk result (F.contents file.new ≡ file_after (source page (paging self.old)) page (paging self.old) (F.contents file.old)) }
         ensures bytes { OnOk result (is_listed page (paging self.old).kept ≡ false → ComesFrom (paging self.old) (F.contents file.old) page ((paging self.new).frame page)) }
         ensures taken { is_listed page (paging self.old).kept ≡ true → file.new ≡ file.old }

@@ -7,6 +7,7 @@ mod calls;
 mod counts;
 mod marks;
 mod pager;
+mod poke;
 mod port;
 mod store;
 #[cfg(test)]

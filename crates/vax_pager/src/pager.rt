@@ -8,7 +8,7 @@ use crate::PageFault;
 use crate::store::Store;
 use std::alloc::Global;
 use vax_outside::PageFile;
-use vax_space::{NoMemory, Space};
+use vax_space::{Access, NoMemory, Space};
 
 /// How many pages came in, were made absent (those whose frame was taken among them), and were written to their blocks.
 /// Each count stands still at its last value.
@@ -32,7 +32,8 @@ pub struct Pager {
 
 impl Pager {
     ghost use Rattle.vax_space.specs.Areas.{area_of};
-    ghost use Rattle.vax_space.specs.Reference.{page_of};
+    ghost use Rattle.vax_space.specs.Reference.{page_of, violation};
+    ghost use Rattle.vax_flat.specs.Outcome.{is_allowed};
     ghost use Rattle.vax_pager.specs.Listing.{first, is_listed};
     ghost use Rattle.vax_pager.specs.Paging.{Backs, ComesFrom, Keeps};
     ghost use Rattle.vax_flat.specs.Start.{start_memory};
@@ -40,6 +41,7 @@ impl Pager {
     ghost use Rattle.vax_pager.specs.Steps.{settled};
     ghost use Rattle.vax_pager.specs.Calls.{IsByte, IsLeft, IsPaging, PeekedFrom, after_evict, after_flush, came, file_after, fresh, source, takes_modified, victim_of, wrote_back};
     ghost use Rattle.vax_pager.specs.Meaning.{hits, pages};
+    ghost use Rattle.vax_pager.specs.Poking.{IsPage, Pokes};
 
     /// A pager over a space, with so many frames, 64 to 32,768. No page is resident, and with any page file it stands
     /// for the memory at the start.
@@ -141,6 +143,48 @@ impl Pager {
         ensures quiet { OnOk result (F.faults file.new ≡ F.faults file.old) }
     {
         self.store.peek(addr, file)
+    }
+
+    /// The bytes of a page of the memory that the pager stands for, with no change of what is resident; none exactly where no area has it. A
+    /// block is read only where the page is neither resident nor kept.
+    pub fn page<F: PageFile>(
+        &mut self,
+        page: u32,
+        file: &mut F,
+    ) -> Result<Option<[u8; 512]>, PageFault>
+        ensures none { IfOk result (λ r. is_some r ≡ is_some (area_of (pages self.old).areas page)) }
+        ensures bytes { IfOk result (λ r. IfSome r (IsPage (pages self.old) (F.contents file.old) page)) }
+        ensures same { pages self.new ≡ pages self.old }
+        ensures keeps { Keeps (pages self.old) (F.contents file.old) (pages self.new) (F.contents file.new) }
+        ensures err { OnErr result (F.contents file.new ≡ F.contents file.old) }
+        ensures later { F.faults file.old ≤ F.faults file.new }
+        ensures cause { OnErr result (Rose (F.faults file.old) (F.faults file.new)) }
+        ensures quiet { OnOk result (F.faults file.new ≡ F.faults file.old) }
+    {
+        self.store.page(page, file)
+    }
+
+    /// Writes 1 to 64 bytes whatever the protection of their pages. It answers false exactly where some byte lies in no area, or in a page that no
+    /// mode may write (those that some mode may write the kernel may), and changes nothing then.
+    ///
+    /// The pages come in first, and no page is pinned afterwards. After a failure every byte is as it was.
+    pub fn poke<F: PageFile>(
+        &mut self,
+        addr: u32,
+        bytes: &[u8],
+        file: &mut F,
+    ) -> Result<bool, PageFault>
+        requires some { 1 ≤ length bytes.now }
+        requires few { length bytes.now ≤ 64 }
+        requires frames { 3 ≤ (pages self.old).frames }
+        ensures answer { IfOk result (λ r. r ≡ is_allowed (violation (pages self.old).areas addr (length bytes.now) 0 Access.Write)) }
+        ensures refused { IfOk result (λ r. r ≡ false → (self.new ≡ self.old) × (file.new ≡ file.old)) }
+        ensures pokes { Pokes result addr bytes.now (pages self.old) (F.contents file.old) (pages self.new) (F.contents file.new) }
+        ensures later { F.faults file.old ≤ F.faults file.new }
+        ensures cause { OnErr result (Rose (F.faults file.old) (F.faults file.new)) }
+        ensures quiet { OnOk result (F.faults file.new ≡ F.faults file.old) }
+    {
+        self.store.poke(addr, bytes, file)
     }
 
     /// What is so of every pager.

@@ -1,4 +1,6 @@
 //! Pagers with 64 frames over page files in memory, as tables of calls and answers. Expected values are worked by hand.
+ghost use Rattle.std.specs.Prelude.{◌≤◌, length};
+
 use crate::{PageFault, Pager};
 use std::alloc::Global;
 use std::process::Abort;
@@ -357,6 +359,48 @@ fn runs(rt: HostRuntime) -> Result<(), Fail> {
     assert_eq!(rt; pager.check(0x2_0000, 1, USER, Access::Read), Ok(()));
     pager.facts();
     assert_eq!(rt; pager.space().areas().len(), 2);
+    Ok(())
+}
+
+/// Writes bytes whatever the protection of their pages, by a pager with as many frames as any has.
+fn poke(
+    rt: &impl Abort,
+    pager: &mut Pager,
+    addr: u32,
+    bytes: &[u8],
+    file: &mut MemPages,
+) -> Result<bool, PageFault>
+    requires some { 1 ≤ length bytes.now }
+    requires few { length bytes.now ≤ 64 }
+{
+    assert!(rt; pager.frames() >= 64);
+    pager.poke(addr, bytes, file)
+}
+
+/// Bytes are written whatever the protection, also where the service of the second page takes the frame of the first.
+#[test]
+fn pokes(rt: HostRuntime) -> Result<(), Fail> {
+    let mut pager = pager(rt.alloc())?;
+    let mut file = pages(rt.alloc(), Vec::new(rt.alloc()))?;
+    fill(&rt, &mut pager, &mut file, 10, 11);
+    fill(&rt, &mut pager, &mut file, 20, 83);
+    assert_eq!(rt;
+        poke(&rt, &mut pager, 0x15FE, &[1, 2, 3, 4], &mut file),
+        Ok(true)
+    );
+    assert!(rt; pager.is_resident(10) && pager.is_resident(11));
+    assert_eq!(rt; pager.pins(), 0);
+    assert_eq!(rt; pager.peek(0x15FF, &mut file), Ok(Some(2)));
+    let Ok(Some(bytes)) = pager.page(11, &mut file) else {
+        return Err(Fail::from("no page"));
+    };
+    assert_eq!(rt; bytes.split_at(3).0, [3, 4, 0].as_slice());
+    // The end of the first area, and a page that no mode may write.
+    assert_eq!(rt;
+        poke(&rt, &mut pager, 0xC7FF, &[5, 6], &mut file),
+        Ok(false)
+    );
+    assert_eq!(rt; poke(&rt, &mut pager, 0x2_0000, &[5], &mut file), Ok(false));
     Ok(())
 }
 

@@ -2,6 +2,7 @@ use Rattle.std.proofs.Common.{◌≡◌, rules, refl, subst, sym, false}
 use Rattle.vax_pager.specs.Calls.{Source, takes_modified}
 use Rattle.vax_pager.specs.Store.{paging}
 use Rattle.vax_pager.proofs.Effects.{source_back, source_empty, source_kept, source_victim, keeps_taken, has_room, pins_left}
+use Rattle.vax_pager.proofs.Pins.{pins_back, pins_brought, pins_kept, pins_victim}
 use Rattle.vax_pager.proofs.store.Store.serve.Goals as goal
 
 pub returns-then-has_empty-clause-answer : goal.returns-then-has_empty-clause-answer
@@ -60,3 +61,15 @@ returns-in_ok-serve_victim-in-None-clause-blockless g c = λ none clean. c.serve
 
 pub returns-in_err-serve_victim-in-None-clause-blockless : goal.returns-in_err-serve_victim-in-None-clause-blockless
 returns-in_err-serve_victim-in-None-clause-blockless g c = λ none clean. c.serve_victim.ensures.untouched none (subst (λ (z : Source). takes_modified z (paging c.args.self.now) ≡ false) (source_victim c.args.page c.victim-victim.result (paging c.args.self.now) (search rules) (search rules) c.in-None.ensures.page c.victim-victim.ensures.value) clean)
+
+pub returns-in-Some-clause-pinned : goal.returns-in-Some-clause-pinned
+returns-in-Some-clause-pinned g c = pins_back c.args.page (paging c.args.self.now) _ c.take_back.ensures.paging
+
+pub returns-then-has_empty-clause-pinned : goal.returns-then-has_empty-clause-pinned
+returns-then-has_empty-clause-pinned g c = pins_brought c.args.page _ (paging c.args.self.now) _ c.in_ok-serve_empty.ensures.ok
+
+pub returns-in_ok-serve_kept-in-Some-oldest_kept-clause-pinned : goal.returns-in_ok-serve_kept-in-Some-oldest_kept-clause-pinned
+returns-in_ok-serve_kept-in-Some-oldest_kept-clause-pinned g c = pins_kept c.args.page _ _ (paging c.args.self.now) _ c.in_ok-serve_kept-in-Some-oldest_kept.ensures.ok
+
+pub returns-in_ok-serve_victim-in-None-clause-pinned : goal.returns-in_ok-serve_victim-in-None-clause-pinned
+returns-in_ok-serve_victim-in-None-clause-pinned g c = pins_victim c.args.page _ _ (paging c.args.self.now) _ c.in_ok-serve_victim-in-None.ensures.ok

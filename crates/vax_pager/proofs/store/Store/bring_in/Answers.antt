@@ -1,0 +1,18 @@
+use Rattle.std.proofs.Common.{rules}
+use Rattle.vax_pager.proofs.Poking.{alike_itself, came_alike, left_alike, served_in, was_in}
+use Rattle.vax_pager.proofs.store.Store.bring_in.Goals as goal
+
+pub returns-in_err-serve-clause-alike : goal.returns-in_err-serve-clause-alike
+returns-in_err-serve-clause-alike g c = left_alike _ _ _ _ _ c.in_err-serve.ensures.err
+
+pub returns-in_ok-serve-clause-alike : goal.returns-in_ok-serve-clause-alike
+returns-in_ok-serve-clause-alike g c = came_alike _ c.args.page _ _ _ c.in_ok-serve.ensures.ok
+
+pub returns-in_ok-serve-clause-brings : goal.returns-in_ok-serve-clause-brings
+returns-in_ok-serve-clause-brings g c = served_in c.args.page _ _ (search rules) c.in_ok-serve.ensures.pinned c.facts.ensures
+
+pub returns-else-not-is_resident-clause-alike : goal.returns-else-not-is_resident-clause-alike
+returns-else-not-is_resident-clause-alike g c = alike_itself _
+
+pub returns-else-not-is_resident-clause-brings : goal.returns-else-not-is_resident-clause-brings
+returns-else-not-is_resident-clause-brings g c = was_in c.args.page _ (search rules)

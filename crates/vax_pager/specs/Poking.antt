@@ -1,0 +1,53 @@
+-- What bytes that are written from outside make of a pager.
+use Rattle.std.specs.Prelude.{ℕ, ◌≡◌, ◌+◌, ◌*◌, ◌<◌, ◌≤◌, ◌||◌, Bool, true, false, Option, Result, Ok, Err, List, [], ◌∷◌, ◌++◌, length, slice_index}
+use Rattle.vax_space.specs.declared.Area.{Area}
+use Rattle.vax_space.specs.Reference.{page_of}
+use Rattle.vax_outside.specs.Blocks.{BlockFile}
+use Rattle.vax_flat.specs.Memory.{byte_at, written_run}
+use Rattle.vax_flat.specs.Port.{StandsFor, is_in}
+use Rattle.vax_pager.specs.Listing.{is_listed}
+use Rattle.vax_pager.specs.Paging.{Keeps, Paging, StandsWith, view_of}
+use Rattle.vax_pager.specs.Steps.{OnlyWritten}
+use Rattle.vax_pager.specs.declared.calls.PageFault.{PageFault}
+
+-- the bytes of a page of each memory that the pager stands for with this file
+abbrev pub IsPage : Paging → Option BlockFile → ℕ → List ℕ → Type 0
+IsPage s file page bytes = (memory : List Area) → StandsWith s file memory → (k : ℕ) → k < 512 → slice_index bytes k ≡ byte_at memory (512 * page + k)
+
+-- what stays while pages come in and make room
+pub record StaysAlike (s t : Paging) : Type 0 where
+  pub areas : t.areas ≡ s.areas
+  pub frames : t.frames ≡ s.frames
+  pub spoiled : t.numbers.spoiled ≡ s.numbers.spoiled
+
+-- a page was made resident, if it wasn't
+pub record BringsIn (page : ℕ) (s t : Paging) : Type 0 where
+  pub here : is_listed page t.order ≡ true
+  pub same : is_listed page s.order ≡ true → t ≡ s
+  pub pinned : is_listed page s.order ≡ false → t.pinned ≡ s.pinned ++ page ∷ []
+
+-- bytes were written to resident pages
+pub record WritesThere (s : Paging) (addr : ℕ) (bytes : List ℕ) (t : Paging) : Type 0 where
+  pub stands : (memory : List Area) → StandsFor (view_of s) memory → StandsFor (view_of t) (written_run memory addr bytes)
+  pub absent : (memory : List Area) → StandsFor (view_of s) memory → (place : ℕ) → is_listed (page_of place) s.order ≡ false → byte_at (written_run memory addr bytes) place ≡ byte_at memory place
+  pub only : OnlyWritten s t
+  pub marked : (page : ℕ) → is_listed page t.modified ≡ (is_listed page s.modified || is_in addr (length bytes) page)
+
+-- the bytes are those of the memory, their pages are modified, and no page is pinned
+pub record HasPoked (addr : ℕ) (bytes : List ℕ) (s : Paging) (file : Option BlockFile) (t : Paging) (after : Option BlockFile) : Type 0 where
+  pub alike : StaysAlike s t
+  pub unpinned : t.pinned ≡ []
+  pub stands : (memory : List Area) → StandsWith s file memory → StandsWith t after (written_run memory addr bytes)
+  pub marked : (page : ℕ) → is_in addr (length bytes) page ≡ true → is_listed page t.modified ≡ true
+
+-- every byte is as it was, and no page is pinned
+pub record HasFailed (s : Paging) (file : Option BlockFile) (t : Paging) (after : Option BlockFile) : Type 0 where
+  pub alike : StaysAlike s t
+  pub unpinned : t.pinned ≡ []
+  pub keeps : Keeps s file t after
+
+-- what writing these bytes comes to, where it isn't refused
+abbrev pub Pokes : Result Bool PageFault → ℕ → List ℕ → Paging → Option BlockFile → Paging → Option BlockFile → Type 0
+Pokes (Ok true) addr bytes s file t after = HasPoked addr bytes s file t after
+Pokes (Ok false) addr bytes s file t after = Unit {0}
+Pokes (Err e) addr bytes s file t after = HasFailed s file t after
