@@ -12,7 +12,8 @@ use Rattle.vax_outside.specs.Blocks.{BlockFile}
 use Rattle.vax_flat.specs.declared.Ending.{Ending}
 use Rattle.vax_flat.specs.Inside.{IsMissing}
 use Rattle.vax_flat.specs.Memory.{byte_at}
-use Rattle.vax_flat.specs.Parts.{Place, At, Within, machine_at, start_of, gone_back}
+use Rattle.vax_flat.specs.Outcome.{marked_by}
+use Rattle.vax_flat.specs.Parts.{Place, At, Within, machine_at, start_of, gone_back, touches_at}
 use Rattle.vax_flat.specs.Port.{View, StandsFor, with_marks}
 use Rattle.vax_flat.specs.Step.{Flat, ended, with_byte_sent}
 use Rattle.vax_cpu.specs.Attempt.{Attempted, IsAsBefore, IsAt, IsEnd, IsOpenAfter, IsPart, IsStep, StopsInside, flat_of, open_at}
@@ -27,98 +28,13 @@ use Rattle.vax_pager.specs.Meaning.{pages}
 use Rattle.vax_pager.specs.Paging.{Paging, StandsWith, content, home, is_clean, view_of}
 use Rattle.vax_pager.specs.Steps.{OnlyWritten, settled}
 use Rattle.vax_pager.specs.declared.pager.Pager.{Pager}
+use Rattle.vax_pager.proofs.Turned.{port_stands, stands_settled, stands_turned}
 use Rattle.vax_machine.specs.Conclusion.{Concludes, applied_of, eased_pages}
 use Rattle.vax_machine.specs.Machine.{AreSound, Goes, HasEnded, HasParted, HasStepped, HasTried, IsThere, IsTry, Keeping, Means, Tries, keeping, tried}
 use Rattle.vax_machine.specs.Residence.{Residence, residence_of, unpinned, eased}
 use Rattle.vax_machine.specs.declared.engine.Engine.{Engine}
 use Rattle.vax_machine.specs.declared.event.Applied.{Applied}
 use Rattle.vax_machine.specs.declared.event.Applied.TheVariants.{Absent, Ended, Failed, Parted, Stepped}
-
--- the memory of a pager and a file
-
-resident_byte : (s : Paging) (file : BlockFile) (addr byte : ℕ) → is_listed (page_of addr) s.order ≡ true → option_map (λ page. slice_index page (addr % 512)) (content s file (page_of addr)) ≡ Some byte → slice_index (s.frame (page_of addr)) (addr % 512) ≡ byte
-unfolding content
-resident_byte s file addr byte r e =
-    let k : Some (slice_index (s.frame (page_of addr)) (addr % 512)) ≡ Some byte = rw r at e in
-    cc
-
--- a pager that stands for a memory with a file is a port that stands for it
-pub port_stands : (s : Paging) (file : Option BlockFile) (memory : List Area) → IsPaging s → StandsWith s file memory → StandsFor (view_of s) memory
-port_stands s None memory f st = absurd st
-port_stands s (Some file) memory f st = record {
-  areas = st.areas;
-  bytes = λ addr r. resident_byte s file addr (byte_at memory addr) r (st.bytes addr (f.inside (page_of addr) r));
-  whole = st.whole;
-}
-
-pub stands_settled : (s : Paging) (file : Option BlockFile) (memory : List Area) → StandsWith s file memory → StandsWith (settled s) file memory
-unfolding settled
-stands_settled s None memory st = st
-stands_settled s (Some file) memory st = record {
-  areas = st.areas;
-  whole = st.whole;
-  bytes = unfold content home in λ addr h. unfold content home in st.bytes addr h;
-  clean = unfold is_clean home in λ page h. unfold is_clean home in st.clean page h;
-}
-
-module _ (s t : Paging) (file : BlockFile) (w : OnlyWritten s t) (f : IsPaging s) where
-  home_same : (page : ℕ) → home t file page ≡ home s file page
-  unfolding home
-  home_same page = rw (w.blocked, w.areas) refl
-
-  byte_kept : (addr old new : ℕ) → is_listed (page_of addr) s.order ≡ false → new ≡ old → option_map (λ page. slice_index page (addr % 512)) (content s file (page_of addr)) ≡ Some old → option_map (λ page. slice_index page (addr % 512)) (content t file (page_of addr)) ≡ Some new
-  unfolding content home
-  byte_kept addr old new a e h =
-      let k : option_map (λ page. slice_index page (addr % 512)) (home s file (page_of addr)) ≡ Some old = rw a at h in
-      rw (w.order, a, home_same (page_of addr), e) k
-
-  byte_there : (addr byte : ℕ) → is_listed (page_of addr) t.order ≡ true → slice_index (t.frame (page_of addr)) (addr % 512) ≡ byte → option_map (λ page. slice_index page (addr % 512)) (content t file (page_of addr)) ≡ Some byte
-  unfolding content
-  byte_there addr byte r e = rw r (ap (λ (z : ℕ). Some z) e)
-
-  order_same : (page : ℕ) → is_listed page s.order ≡ is_listed page t.order
-  order_same page = ap (is_listed page) (sym w.order)
-
-  kept_same : (page : ℕ) → is_listed page s.kept ≡ is_listed page t.kept
-  kept_same page = ap (is_listed page) (sym w.kept)
-
-  from_home : (page : ℕ) → ((p : ℕ) → is_clean s p ≡ true → home s file p ≡ Some (s.frame p)) → is_clean s page ≡ true → t.frame page ≡ s.frame page → home t file page ≡ Some (t.frame page)
-  from_home page clean c e = home_same page ∙ (clean page c ∙ ap (λ (z : List ℕ). Some z) (sym e))
-
-  clean_kept : (page : ℕ) → ((p : ℕ) → is_clean s p ≡ true → home s file p ≡ Some (s.frame p)) → is_clean t page ≡ true → home t file page ≡ Some (t.frame page)
-  unfolding is_clean
-  clean_kept page clean h = elim (cases_Bool (is_listed page t.order)) [
-    | inl r ↦ elim (cases_Bool (is_listed page t.modified)) [
-      | inl m ↦
-          let kept : is_listed page t.kept ≡ true = rw (r, m) at h in
-          let none : is_listed page s.kept ≡ false = f.apart page (order_same page ∙ r) in
-          let no : false ≡ true = sym none ∙ (kept_same page ∙ kept) in
-          cc
-      | inr m ↦
-          let k = w.clean page m in
-          from_home page clean (rw (order_same page ∙ r, k.0) refl) k.1
-    ]
-    | inr a ↦
-        let kept : is_listed page t.kept ≡ true = rw a at h in
-        let away : is_listed page s.order ≡ false = order_same page ∙ a in
-        from_home page clean (rw (away, kept_same page ∙ kept) refl) (w.held page away)
-  ]
-
--- after an attempt
-pub stands_turned : (s t : Paging) (file : Option BlockFile) (old new : List Area) → OnlyWritten s t → IsPaging s → StandsFor (view_of t) new → ((addr : ℕ) → is_listed (page_of addr) s.order ≡ false → byte_at new addr ≡ byte_at old addr) → StandsWith s file old → StandsWith t file new
-stands_turned s t None old new w f stands absent st = st
-stands_turned s t (Some file) old new w f stands absent st = record {
-  areas = stands.areas;
-  whole = stands.whole;
-  bytes = λ addr h. elim (cases_Bool (is_listed (page_of addr) t.order)) [
-    | inl r ↦ byte_there s t file w f addr (byte_at new addr) r (stands.bytes addr r)
-    | inr a ↦
-        let away : is_listed (page_of addr) s.order ≡ false = order_same s t file w f (page_of addr) ∙ a in
-        byte_kept s t file w f addr (byte_at old addr) (byte_at new addr) away (absent addr away)
-        (st.bytes addr (ap (λ (z : List Area). is_some (area_of z (page_of addr))) (sym w.areas) ∙ h))
-  ];
-  clean = λ page h. clean_kept s t file w f page st.clean h;
-}
 
 stands_same_bytes : (before after : View) (memory : List Area) → after ≡ with_marks before after.marked → StandsFor before memory → StandsFor after memory
 stands_same_bytes before after memory e st = rw e (record { areas = st.areas; bytes = st.bytes; whole = st.whole })
@@ -302,6 +218,31 @@ keeps_by (attempt.Ended x) old new result k e c =
     subst (λ (z : Applied). keeping new ≡ tried z k) (sym c.answer) (subst (λ (z : Keeping). keeping new ≡ tried (Ended x) z) e
     (keeping_by new (tried (Ended x) (keeping old)) (areas_settled (pages old.pager) (pages new.pager) c.pages) c.steps c.turns (residence_settled (pages old.pager) (pages new.pager) c.pages) c.wanted c.ended))
 
+-- the pages that are modified, by what the attempt came to
+
+pub settled_marks : (s u : Paging) → u ≡ settled s → (view_of u).marked ≡ (view_of s).marked
+unfolding settled
+settled_marks s u e = ap (λ (z : Paging). (view_of z).marked) e
+
+eased_marks : (s : Paging) → (view_of (eased_pages s)).marked ≡ (view_of s).marked
+unfolding eased_pages
+eased_marks s = elim (cases_Bool (length s.pinned == 40)) [
+  | inl t ↦ rw t (unfold settled in refl)
+  | inr f ↦ rw f refl
+]
+
+pub concluded_marks : (last : Attempt) (old : Engine) (result : Applied) (new : Engine) → Concludes last old result new → (view_of (pages new.pager)).marked ≡ (view_of (pages old.pager)).marked
+concluded_marks (attempt.Step sent) old result new c = settled_marks (pages old.pager) (pages new.pager) c.pages
+concluded_marks attempt.Part old result new c = settled_marks (pages old.pager) (pages new.pager) c.pages
+concluded_marks (attempt.Absent page) old result new c = ap (λ (z : Paging). (view_of z).marked) c.pages ∙ eased_marks (pages old.pager)
+concluded_marks (attempt.Ended x) old result new c = settled_marks (pages old.pager) (pages new.pager) c.pages
+
+pub attempted_marks : (last : Attempt) (before : View) (place : Place) (cpu : Cpu) (after : View) → Attempted before place last cpu after → after.marked ≡ marked_by before.resident before.marked (touches_at place)
+attempted_marks (attempt.Step sent) before place cpu after a = a.1.leaves.marks
+attempted_marks attempt.Part before place cpu after a = a.1.leaves.marks
+attempted_marks (attempt.Absent page) before place cpu after a = a.1
+attempted_marks (attempt.Ended x) before place cpu after a = a.1.marks
+
 pub is_try : (last : Attempt) → IsTry (applied_of last)
 is_try (attempt.Step sent) = tt
 is_try attempt.Part = tt
@@ -317,6 +258,9 @@ has_tried old p after new result last w f going c attempted before latch = recor
   goes = λ file place m.
       let b = begins old file place going f m in
       goes_by (pages old.pager) (pages p) old.cpu (record old { pager = p; cpu = after }) new result w f going refl file place b.0 m.memory last c (attempted place b.0 b.1) before latch;
+  marks = λ file place m.
+      let b = begins old file place going f m in
+      concluded_marks last (record old { pager = p; cpu = after }) result new c ∙ attempted_marks last (view_of (pages old.pager)) place after (view_of (pages p)) (attempted place b.0 b.1);
 }
 
 pub tries_running : (e : Option Ending) (old : Engine) (result : Applied) (new : Engine) → e ≡ None → HasTried old result new → Tries e old result new

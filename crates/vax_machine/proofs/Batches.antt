@@ -8,11 +8,11 @@ use Rattle.vax_outside.specs.Faults.{raised}
 use Rattle.vax_flat.specs.Memory.{byte_at}
 use Rattle.vax_flat.specs.Outcome.{first_missing}
 use Rattle.vax_flat.specs.Parts.{Place, At, Within, Turn, Completes, Leaves, machine_at, touches_at, turn}
-use Rattle.vax_flat.specs.Port.{StandsFor}
+use Rattle.vax_flat.specs.Port.{StandsFor, with_marks}
 use Rattle.vax_flat.specs.Step.{Flat, run, step, ended}
 use Rattle.vax_flat.proofs.Runs.{going_back}
 use Rattle.vax_cpu.specs.Attempt.{IsAsBefore, IsAt, IsOpenAfter, StopsInside, flat_of}
-use Rattle.vax_cpu.specs.Batch.{AreAttempts, IsOneAttempt}
+use Rattle.vax_cpu.specs.Batch.{AreAttempts, IsOneAttempt, marks_after}
 use Rattle.vax_cpu.specs.declared.cpu.Attempt.{Attempt}
 use Rattle.vax_cpu.specs.declared.cpu.Attempt.TheVariants as attempt
 use Rattle.vax_cpu.specs.declared.cpu.Cpu.{Cpu}
@@ -21,25 +21,29 @@ use Rattle.vax_pager.specs.Listing.{is_listed}
 use Rattle.vax_pager.specs.Meaning.{pages}
 use Rattle.vax_pager.specs.Paging.{Paging, StandsWith, view_of}
 use Rattle.vax_pager.specs.Steps.{OnlyWritten, settled}
-use Rattle.vax_machine.proofs.Attempts.{areas_settled, begins, ended_as, goes_by, is_try, keeping_by, keeps_by, means_by, parted_as, residence_same, residence_settled, sound_before, stands_eased, stands_settled, stands_turned, stepped_as, still_missing}
+use Rattle.vax_machine.proofs.Attempts.{areas_settled, attempted_marks, begins, concluded_marks, ended_as, goes_by, is_try, keeping_by, keeps_by, means_by, parted_as, residence_same, residence_settled, sound_before, stands_eased, stepped_as, still_missing}
+use Rattle.vax_pager.proofs.Turned.{stands_settled, stands_turned}
 use Rattle.vax_machine.specs.Conclusion.{Concludes, applied_of, eased_pages, settled_after}
 use Rattle.vax_machine.specs.Machine.{AreSound, Goes, IsTry, Keeping, Means, keeping, tried}
 use Rattle.vax_machine.specs.Residence.{residence_of, is_resident, unpinned}
-use Rattle.vax_machine.specs.Batch.{Advances, HasTriedSeveral, several}
+use Rattle.vax_machine.specs.Batch.{Advances, GoesFar, HasTriedSeveral, Spot, several}
 use Rattle.vax_machine.specs.declared.engine.Engine.{Engine}
 use Rattle.vax_machine.specs.declared.event.Applied.{Applied}
 use Rattle.vax_machine.specs.declared.event.Applied.TheVariants.{Stepped}
 
 -- steps that are made at once are turns
 
-module _ (resident : ℕ → Bool) (m : Flat) where
-  advances : (count : ℕ) → (run count m).ending ≡ None → ((k : ℕ) → k < count → first_missing resident (touches_at (At (run k m))) ≡ None) → ((k : ℕ) → k < count → turn (At (run k m)) ≡ Completes (step (run k m))) → Advances resident count (At m) (At (run count m))
-  unfolding Advances run
+module _ (resident marked : ℕ → Bool) (m : Flat) where
+  abbrev spot : ℕ → Spot
+  spot count = record { place = At (run count m); modified = marks_after resident marked count m }
+
+  advances : (count : ℕ) → (run count m).ending ≡ None → ((k : ℕ) → k < count → first_missing resident (touches_at (At (run k m))) ≡ None) → ((k : ℕ) → k < count → turn (At (run k m)) ≡ Completes (step (run k m))) → Advances resident count (record { place = At m; modified = marked }) (spot count)
+  unfolding Advances run marks_after
   advances zero going none once = refl
   advances (suc count) going none once =
       let more : suc count ≡ 1 + count = omega arith in
       let before : (run count m).ending ≡ None = going_back count 1 m (subst (λ (n : ℕ). (run n m).ending ≡ None) more going) in (
-        At (run count m),
+        spot count,
         step (run count m),
         advances count before (λ k low. none k (omega (arith, low))) (λ k low. once k (omega (arith, low))),
         none count (omega arith),
@@ -96,6 +100,11 @@ module _ (s t : Paging) (cpu : Cpu) (mid new : Engine) (result : Applied) (w : O
             (after_settled (attempt.Ended x) a a.here.memory c.pages a.stays.1 (λ addr away. refl)),
       )
 
+settled_after_marks : (count : ℕ) (s : Paging) → (view_of (settled_after count s)).marked ≡ (view_of s).marked
+unfolding settled_after
+settled_after_marks zero s = refl
+settled_after_marks (suc count) s = unfold settled in refl
+
 -- what is kept
 
 exact : (n count : ℕ) → n + count < 2 ^ 64 - 1 → raised (n + count) ≡ n + suc count
@@ -146,34 +155,44 @@ module _ (old mid new : Engine) (t : Paging) (result : Applied) (last : Attempt)
     (before : count ≡ 0 → IsAsBefore last old.cpu (view_of (pages old.pager)) mid.cpu (view_of t))
     (latch : IsOpenAfter last old.cpu.latch mid.cpu.latch) where
   abbrev GoesFrom : Option BlockFile → Place → Type 0
-  GoesFrom file place =
-      (here : Place) × Advances (is_resident (residence_of (pages old.pager))) count place here × ((machine_at here).output ≡ (machine_at place).output)
-      × Goes result (is_resident (residence_of (pages old.pager))) new file here
+  GoesFrom file place = GoesFar count old result new file place
+
+  behind_marks : (view_of (pages mid.pager)).marked ≡ (view_of t).marked
+  behind_marks = ap (λ (z : Paging). (view_of z).marked) b.pages ∙ settled_after_marks count t
 
   from_start : (file : Option BlockFile) (m : Flat) → Means old file (At m) → GoesFrom file (At m)
   from_start file m means =
       let at = (begins old file (At m) going f means).0 in
       let st = (begins old file (At m) going f means).1 in
-      let a = subst (λ (z : Flat). AreAttempts (view_of (pages old.pager)) z count last mid.cpu (view_of t)) at.machine (steps at.open_one m.memory m.output st) in
-      let running : (run count m).ending ≡ None = ap (λ (z : Flat). z.ending) a.steps ∙ a.running in (
-        At a.here,
-        subst (λ (z : Flat). Advances (is_resident (residence_of (pages old.pager))) count (At m) (At z)) a.steps (advances (is_resident (residence_of (pages old.pager))) m count running a.resident a.at_once),
-        a.silent,
-        batch_goes (pages old.pager) t old.cpu mid new result w f (b.ended ∙ going) count b.pages file m at.open_one means.memory last a c latch,
-      )
+      let v = view_of (pages old.pager) in
+      let a = subst (λ (z : Flat). AreAttempts v z count last mid.cpu (view_of t)) at.machine (steps at.open_one m.memory m.output st) in
+      let running : (run count m).ending ≡ None = ap (λ (z : Flat). z.ending) a.steps ∙ a.running in
+      record {
+        here = record { place = At a.here; modified = marks_after v.resident v.marked count m };
+        advances =
+            subst (λ (z : Flat). Advances v.resident count (record { place = At m; modified = v.marked }) (record { place = At z; modified = marks_after v.resident v.marked count m })) a.steps
+            (advances v.resident v.marked m count running a.resident a.at_once);
+        silent = a.silent;
+        goes = batch_goes (pages old.pager) t old.cpu mid new result w f (b.ended ∙ going) count b.pages file m at.open_one means.memory last a c latch;
+        marks = concluded_marks last mid result new c ∙ (behind_marks ∙ attempted_marks last (with_marks v (marks_after v.resident v.marked count m)) (At a.here) mid.cpu (view_of t) a.attempted);
+      }
 
   from_within : (file : Option BlockFile) (place : Place) → IsSome old.cpu.latch → Means old file place → GoesFrom file place
   unfolding Advances settled_after
   from_within file place opened means =
       let at = (begins old file place going f means).0 in
       let st = (begins old file place going f means).1 in
+      let v = view_of (pages old.pager) in
       let one = within opened place at st in
-      let same : pages mid.pager ≡ t = subst (λ (n : ℕ). pages mid.pager ≡ settled_after n t) one.steps b.pages in (
-        place,
-        subst (λ (n : ℕ). Advances (is_resident (residence_of (pages old.pager))) n place place) (sym one.steps) refl,
-        refl,
-        goes_by (pages old.pager) t old.cpu mid new result w f (b.ended ∙ going) same file place at means.memory last c one.attempted (before one.steps) latch,
-      )
+      let same : pages mid.pager ≡ t = subst (λ (n : ℕ). pages mid.pager ≡ settled_after n t) one.steps b.pages in
+      let here : Spot = record { place = place; modified = v.marked } in
+      record {
+        here = here;
+        advances = subst (λ (n : ℕ). Advances v.resident n here here) (sym one.steps) refl;
+        silent = refl;
+        goes = goes_by (pages old.pager) t old.cpu mid new result w f (b.ended ∙ going) same file place at means.memory last c one.attempted (before one.steps) latch;
+        marks = concluded_marks last mid result new c ∙ (behind_marks ∙ attempted_marks last v place mid.cpu (view_of t) one.attempted);
+      }
 
   from_place : (file : Option BlockFile) (place : Place) → Means old file place → GoesFrom file place
   from_place file (At m) means = from_start file m means

@@ -1,11 +1,12 @@
 -- A new machine.
-use Rattle.std.proofs.Common.{ℕ, ◌≡◌, ◌≤◌, List, [], ap, arith, None}
+use Rattle.std.proofs.Common.{ℕ, ◌≡◌, ◌≤◌, Bool, List, [], ap, arith, false, None}
 use Rattle.vax_word.specs.declared.Core.{Core}
 use Rattle.vax_space.specs.declared.Area.{Area}
 use Rattle.vax_flat.specs.Parts.{At}
 use Rattle.vax_flat.specs.Step.{Flat}
 use Rattle.vax_cpu.specs.Attempt.{flat_of}
 use Rattle.vax_pager.specs.Calls as pager
+use Rattle.vax_pager.specs.Listing.{is_listed}
 use Rattle.vax_pager.specs.Paging.{Paging}
 use Rattle.vax_undo.specs.declared.term.Term.{Term}
 use Rattle.vax_machine.specs.Machine.{AreSound}
@@ -26,8 +27,16 @@ module _ (s : Paging) (areas : List Area) (frames : ℕ) (is : s ≡ pager.fresh
   unfolding pager.fresh
   fresh_areas = ap (λ (z : Paging). z.areas) is
 
-  pub fresh_begun : (start : Flat) → record { place = At start; steps = 0; parts = 0; turns = 0; residence = residence_of s; evictions = [] } ≡ fresh frames start
-  fresh_begun start = ap (λ (r : Residence). record { place = At start; steps = 0; parts = 0; turns = 0; residence = r; evictions = [] }) fresh_residence
+  pub fresh_pins : s.pinned ≡ []
+  unfolding pager.fresh
+  fresh_pins = ap (λ (z : Paging). z.pinned) is
+
+  fresh_modified : ◌≡◌ {A = ℕ → Bool} (λ page. is_listed page s.modified) (λ page. false)
+  unfolding pager.fresh is_listed
+  fresh_modified = let listed : Paging → ℕ → Bool = λ z page. is_listed page z.modified in ap listed is
+
+  pub fresh_begun : (start : Flat) → record { place = At start; steps = 0; parts = 0; turns = 0; residence = residence_of s; modified = λ page. is_listed page s.modified; evictions = [] } ≡ fresh frames start
+  fresh_begun start = λ i. record { place = At start; steps = 0; parts = 0; turns = 0; residence = fresh_residence i; modified = fresh_modified i; evictions = [] }
 
 pub started : (core : Core) (memory : List Area) (term : Term) (input : List ℕ) → term.input.items ≡ input → term.place ≡ 0 → record (flat_of (record { core = core; term = term; latch = None }) memory []) { ending = None } ≡ starts_at core memory input
 started core memory term input a b i = record { core = core; memory = memory; input = a i; taken = b i; output = []; ending = None }

@@ -23,10 +23,14 @@ use Rattle.vax_pager.specs.Listing.{AreOnce, first_outside, is_listed, leave_out
 use Rattle.vax_pager.proofs.Listing.{in_push, in_without, out_none}
 use Rattle.vax_sched.specs.declared.rule.Target.{Target}
 use Rattle.vax_machine.proofs.Lists.{still_out}
-use Rattle.vax_machine.proofs.Touching.{few_pins, missed, page_small}
-use Rattle.vax_machine.specs.Paged.{Paged, all_evicted, all_named, attempted, attempted_by, evicted, fresh, paged, place_after, unless_ended}
+use Rattle.vax_machine.proofs.Halting.{paged_more}
+use Rattle.vax_machine.proofs.Touching.{few_pins, fewer_pins, missed, page_small}
+use Rattle.vax_machine.proofs.Tracking.{many_evicted}
+use Rattle.vax_machine.specs.Paged.{Paged, all_evicted, all_named, attempted, attempted_by, evicted, fresh, marked, paged, place_after, unless_ended}
 use Rattle.vax_machine.specs.Residence.{Residence, is_resident, served, taken_out, victim, without_victim}
+use Rattle.vax_machine.specs.Run.{FewTurns}
 use Rattle.vax_machine.specs.Touched.{PinsTouched, is_touched}
+use Rattle.vax_machine.specs.Turn.{Misses}
 
 -- a page that is missed first is one of an area
 
@@ -209,7 +213,7 @@ once_push page (x ∷ xs) once h = elim (cases_Bool (x == page)) [
   | inr e ↦ let rest : is_listed page xs ≡ false = rw e at h in (in_push x page xs ∙ rw e once.0, once_push page xs once.1 rest)
 ]
 
-one_fewer : (page : ℕ) (xs : List ℕ) → AreOnce xs → is_listed page xs ≡ true → length (leave_out page xs) + 1 ≡ length xs
+pub one_fewer : (page : ℕ) (xs : List ℕ) → AreOnce xs → is_listed page xs ≡ true → length (leave_out page xs) + 1 ≡ length xs
 unfolding AreOnce leave_out is_listed
 one_fewer page [] once h = cc
 one_fewer page (x ∷ xs) once h = elim (cases_eq x page) [
@@ -299,17 +303,18 @@ serving page r = serving_by page r (victim r) refl
 
 -- turns
 
--- the pinned pages are few, and few turns were made
-record IsBounded (areas : List Area) (p : Paged) : Type 0 where
+-- the pinned pages are few, and few turns were made since the beginning
+pub record IsBounded (areas : List Area) (b p : Paged) : Type 0 where
   pub memory : layout (machine_at p.place).memory ≡ layout areas
   pub pins : PinsTouched p.residence p.place
   pub once : AreOnce p.residence.pinned
   pub held : (page : ℕ) → is_listed page p.residence.pinned ≡ true → is_listed page p.residence.order ≡ true
   pub small : (page : ℕ) → is_listed page p.residence.order ≡ true → page < 2 ^ 23
-  pub turns : p.residence.spoiled < last → p.turns ≤ 41 * p.parts + length p.residence.pinned + p.residence.spoiled
+  pub turns : p.residence.spoiled < last →
+      p.turns + 41 * b.parts + length b.residence.pinned + b.residence.spoiled ≤ 41 * p.parts + length p.residence.pinned + p.residence.spoiled + b.turns
 
-taken_bounded : (areas : List Area) (page : ℕ) (p q : Paged) → q.place ≡ p.place → q.parts ≡ p.parts → q.turns ≡ p.turns → IsTaken page p.residence q.residence → IsBounded areas p → IsBounded areas q
-taken_bounded areas page p q place parts turns t h = record {
+taken_bounded : (areas : List Area) (b : Paged) (page : ℕ) (p q : Paged) → q.place ≡ p.place → q.parts ≡ p.parts → q.turns ≡ p.turns → IsTaken page p.residence q.residence → IsBounded areas b p → IsBounded areas b q
+taken_bounded areas b page p q place parts turns t h = record {
   memory = ap (λ (z : Place). layout (machine_at z).memory) place ∙ h.memory;
   pins = record {
     touched = λ other k. ap (λ (z : Place). is_touched other (touches_at z)) place ∙ h.pins.touched other (out_of other page p.residence.pinned (ap (is_listed other) (sym t.pinned) ∙ k));
@@ -319,28 +324,29 @@ taken_bounded areas page p q place parts turns t h = record {
   small = λ other k. h.small other (out_of other page p.residence.order (ap (is_listed other) (sym t.order) ∙ k));
   turns = λ low.
       let s = t.sum h.once low in
-      let a = s.0 in let b = s.1 in
-      let few = h.turns (omega (arith, b, low)) in
+      let a = s.0 in
+      let c = s.1 in
+      let few = h.turns (omega (arith, c, low)) in
       omega (arith, a, few, parts, turns);
 }
 
-evicted_bounded : (areas : List Area) (page : ℕ) (p : Paged) → IsBounded areas p → IsBounded areas (evicted page p)
+evicted_bounded : (areas : List Area) (b : Paged) (page : ℕ) (p : Paged) → IsBounded areas b p → IsBounded areas b (evicted page p)
 unfolding evicted
-evicted_bounded areas page p h = elim (cases_Bool (is_listed page p.residence.order)) [
-  | inl t ↦ rw t (taken_bounded areas page p _ refl refl refl (taken page p.residence t) h)
+evicted_bounded areas b page p h = elim (cases_Bool (is_listed page p.residence.order)) [
+  | inl t ↦ rw t (taken_bounded areas b page p _ refl refl refl (taken page p.residence t) h)
   | inr f ↦ rw f h
 ]
 
-all_bounded : (areas : List Area) (pages : List ℕ) (p : Paged) → IsBounded areas p → IsBounded areas (all_evicted pages p)
+all_bounded : (areas : List Area) (b : Paged) (pages : List ℕ) (p : Paged) → IsBounded areas b p → IsBounded areas b (all_evicted pages p)
 unfolding all_evicted
-all_bounded areas [] p h = h
-all_bounded areas (page ∷ pages) p h = all_bounded areas pages (evicted page p) (evicted_bounded areas page p h)
+all_bounded areas b [] p h = h
+all_bounded areas b (page ∷ pages) p h = all_bounded areas b pages (evicted page p) (evicted_bounded areas b page p h)
 
-pins_of : (areas : List Area) (p : Paged) → IsBounded areas p → length p.residence.pinned ≤ 40
-pins_of areas p h = few_pins p.residence p.place h.once h.held h.small h.pins
+pins_of : (areas : List Area) (b : Paged) (p : Paged) → IsBounded areas b p → length p.residence.pinned ≤ 40
+pins_of areas b p h = few_pins p.residence p.place h.once h.held h.small h.pins
 
-served_bounded : (areas : List Area) (page : ℕ) (p q : Paged) → IsSpace areas → first_missing (is_resident p.residence) (touches_at p.place) ≡ Some page → q.place ≡ p.place → q.parts ≡ p.parts → q.turns ≡ p.turns + 1 → IsServing page p.residence q.residence → IsBounded areas p → IsBounded areas q
-served_bounded areas page p q space e place parts turns s h =
+served_bounded : (areas : List Area) (b : Paged) (page : ℕ) (p q : Paged) → IsSpace areas → first_missing (is_resident p.residence) (touches_at p.place) ≡ Some page → q.place ≡ p.place → q.parts ≡ p.parts → q.turns ≡ p.turns + 1 → IsServing page p.residence q.residence → IsBounded areas b p → IsBounded areas b q
+served_bounded areas b page p q space e place parts turns s h =
     let m = missed (is_resident p.residence) (touches_at p.place) page e in
     let away : is_listed page p.residence.pinned ≡ false = elim (cases_Bool (is_listed page p.residence.pinned)) [
       | inl t ↦ let no : false ≡ true = sym m.1 ∙ h.held page t in cc
@@ -371,9 +377,9 @@ served_bounded areas page p q space e place parts turns s h =
           omega (arith, few, l, v, parts, turns);
     }
 
-by_attempt : (areas : List Area) (p : Paged) (m : Option ℕ) → IsSpace areas → first_missing (is_resident p.residence) (touches_at p.place) ≡ m → IsBounded areas p → IsBounded areas (attempted_by m p)
+by_attempt : (areas : List Area) (b : Paged) (p : Paged) (m : Option ℕ) → IsSpace areas → first_missing (is_resident p.residence) (touches_at p.place) ≡ m → IsBounded areas b p → IsBounded areas b (attempted_by m p)
 unfolding is_listed AreOnce
-by_attempt areas p None space e h = record {
+by_attempt areas b p None space e h = record {
   memory = place_layout p.place ∙ h.memory;
   pins = record { touched = λ page k. let no : false ≡ true = k in cc };
   once = tt;
@@ -381,47 +387,99 @@ by_attempt areas p None space e h = record {
   small = h.small;
   turns = λ low.
       let few = h.turns low in
-      let pins = pins_of areas p h in
+      let pins = pins_of areas b p h in
       omega (arith, few, pins);
 }
-by_attempt areas p (Some page) space e h = served_bounded areas page p _ space e refl refl refl (serving page p.residence) h
+by_attempt areas b p (Some page) space e h = served_bounded areas b page p _ space e refl refl refl (serving page p.residence) h
 
-unless_bounded : (areas : List Area) (how : Option Ending) (p next : Paged) → IsBounded areas p → IsBounded areas next → IsBounded areas (unless_ended how p next)
-unless_bounded areas (Some e) p next a b = a
-unless_bounded areas None p next a b = b
+unless_bounded : (areas : List Area) (b : Paged) (how : Option Ending) (p next : Paged) → IsBounded areas b p → IsBounded areas b next → IsBounded areas b (unless_ended how p next)
+unless_bounded areas b (Some e) p next x y = x
+unless_bounded areas b None p next x y = y
 
-attempted_bounded : (areas : List Area) (p : Paged) → IsSpace areas → IsBounded areas p → IsBounded areas (attempted p)
+-- only the pages that are modified differ
+alike : (areas : List Area) (b p q : Paged) → q.place ≡ p.place → q.parts ≡ p.parts → q.turns ≡ p.turns → q.residence ≡ p.residence → IsBounded areas b p → IsBounded areas b q
+alike areas b p q place parts turns r h = record {
+  memory = ap (λ (z : Place). layout (machine_at z).memory) place ∙ h.memory;
+  pins = rw (place, r) h.pins;
+  once = rw r h.once;
+  held = rw r h.held;
+  small = rw r h.small;
+  turns = rw (turns, parts, r) h.turns;
+}
+
+attempted_bounded : (areas : List Area) (b : Paged) (p : Paged) → IsSpace areas → IsBounded areas b p → IsBounded areas b (attempted p)
 unfolding attempted
-attempted_bounded areas p space h =
+attempted_bounded areas b p space h =
     let m = first_missing (is_resident p.residence) (touches_at p.place) in
-    unless_bounded areas (machine_at p.place).ending p (attempted_by m p) h (by_attempt areas p m space refl h)
+    unless_bounded areas b (machine_at p.place).ending p (attempted_by m (marked p)) h (by_attempt areas b (marked p) m space refl (alike areas b p (marked p) refl refl refl refl h))
 
-paged_bounded : (areas : List Area) (asks : ℕ → List Target) (count : ℕ) (p : Paged) → IsSpace areas → IsBounded areas p → IsBounded areas (paged areas asks count p)
+pub paged_bounded : (areas : List Area) (asks : ℕ → List Target) (count : ℕ) (b p : Paged) → IsSpace areas → IsBounded areas b p → IsBounded areas b (paged areas asks count p)
 unfolding paged
-paged_bounded areas asks zero p space h = h
-paged_bounded areas asks (suc count) p space h =
+paged_bounded areas asks zero b p space h = h
+paged_bounded areas asks (suc count) b p space h =
     let q = paged areas asks count p in
     let pages = all_named areas (asks (q.turns + 1)) in
-    attempted_bounded areas (all_evicted pages q) space (all_bounded areas pages q (paged_bounded areas asks count p space h))
+    attempted_bounded areas b (all_evicted pages q) space (all_bounded areas b pages q (paged_bounded areas asks count b p space h))
 
-fresh_bounded : (areas : List Area) (frames : ℕ) (start : Flat) → layout start.memory ≡ layout areas → IsBounded areas (fresh frames start)
+-- where a machine begins
+pub begun_bounded : (areas : List Area) (p : Paged) → layout (machine_at p.place).memory ≡ layout areas → PinsTouched p.residence p.place → AreOnce p.residence.pinned → ((page : ℕ) → is_listed page p.residence.pinned ≡ true → is_listed page p.residence.order ≡ true) → ((page : ℕ) → is_listed page p.residence.order ≡ true → page < 2 ^ 23) → IsBounded areas p p
+begun_bounded areas p memory pins once held small = record { memory = memory; pins = pins; once = once; held = held; small = small; turns = λ low. omega arith }
+
+pub few_turns : (areas : List Area) (b p : Paged) → IsBounded areas b p → FewTurns b p
+few_turns areas b p h = record { pins = pins_of areas b p h; turns = h.turns }
+
+-- where a page that was missed wasn't served, fewer than 40 pages are pinned
+missed_pins : (areas : List Area) (b p : Paged) → IsSpace areas → IsBounded areas b p → Misses p → length p.residence.pinned < 40
+missed_pins areas b p space h m =
+    let inside : is_some (area_of areas m.page) ≡ true =
+    mapped_is areas m.page (sym (mapped_alike m.page (machine_at p.place).memory areas h.memory) ∙ place_mapped (is_resident p.residence) p.place m.page m.missing) in
+    fewer_pins p.residence p.place m.page h.once h.held h.small (page_small areas m.page space inside) h.pins m.missing
+
+pub few_cut : (areas : List Area) (b p : Paged) (front : List ℕ) (turns : ℕ) → IsSpace areas → IsBounded areas b p → (turns ≡ p.turns) ⊎ (turns ≡ p.turns + 1) → (turns ≡ p.turns) ⊎ Misses (all_evicted front p) → (all_evicted front p).residence.spoiled < last → turns + 41 * b.parts + length b.residence.pinned + b.residence.spoiled ≤ 41 * p.parts + 40 + (all_evicted front p).residence.spoiled + b.turns
+few_cut areas b p front turns space h made missed low =
+    let q = all_evicted front p in
+    let k = all_bounded areas b front p h in
+    let same = many_evicted front p in
+    let few = k.turns low in
+    let pins = pins_of areas b q k in
+    let a = same.parts in
+    let c = same.turns in
+    elim missed [
+      | inl none ↦ omega (arith, few, pins, a, c, none)
+      | inr m ↦
+          let less = missed_pins areas b q space k m in
+          elim made [
+            | inl none ↦ omega (arith, few, pins, a, c, none)
+            | inr one ↦ omega (arith, few, less, a, c, one)
+          ]
+    ]
+
+fresh_bounded : (areas : List Area) (frames : ℕ) (start : Flat) → layout start.memory ≡ layout areas → IsBounded areas (fresh frames start) (fresh frames start)
 unfolding is_listed AreOnce
-fresh_bounded areas frames start e = record {
-  memory = e;
-  pins = record { touched = λ page k. let no : false ≡ true = k in cc };
-  once = tt;
-  held = λ page k. let no : false ≡ true = k in cc;
-  small = λ page k. let no : false ≡ true = k in cc;
-  turns = λ low. omega arith;
-}
+fresh_bounded areas frames start e =
+    begun_bounded areas (fresh frames start) e (record { touched = λ page k. let no : false ≡ true = k in cc }) tt (λ page k. let no : false ≡ true = k in cc) (λ page k. let no : false ≡ true = k in cc)
 
 pub turns_bounded : (areas : List Area) (asks : ℕ → List Target) (count frames : ℕ) (start : Flat) → IsSpace areas → layout start.memory ≡ layout areas → (paged areas asks count (fresh frames start)).residence.spoiled < 2 ^ 64 - 1 → (paged areas asks count (fresh frames start)).turns ≤ 41 * (paged areas asks count (fresh frames start)).parts + 40 + (paged areas asks count (fresh frames start)).residence.spoiled
 turns_bounded areas asks count frames start space e low =
     let p = paged areas asks count (fresh frames start) in
-    let h = paged_bounded areas asks count (fresh frames start) space (fresh_bounded areas frames start e) in
+    let first = fresh frames start in
+    let h = paged_bounded areas asks count first first space (fresh_bounded areas frames start e) in
     let few = h.turns low in
-    let pins = pins_of areas p h in
+    let pins = pins_of areas first p h in
     omega (arith, few, pins)
+
+-- as long as no part is completed
+
+pub parts_end : (areas : List Area) (asks : ℕ → List Target) (count more frames : ℕ) (start : Flat) → IsSpace areas → layout start.memory ≡ layout areas → (paged areas asks (more + count) (fresh frames start)).parts ≡ (paged areas asks count (fresh frames start)).parts → (paged areas asks (more + count) (fresh frames start)).residence.spoiled < 2 ^ 64 - 1 → (paged areas asks (more + count) (fresh frames start)).turns + (paged areas asks count (fresh frames start)).residence.spoiled ≤ (paged areas asks count (fresh frames start)).turns + 40 + (paged areas asks (more + count) (fresh frames start)).residence.spoiled
+parts_end areas asks count more frames start space e parts low =
+    let first = fresh frames start in
+    let b = paged areas asks count first in
+    let h = paged_bounded areas asks count first first space (fresh_bounded areas frames start e) in
+    let begun = begun_bounded areas b h.memory h.pins h.once h.held h.small in
+    let k = subst (λ (z : Paged). IsBounded areas b z) (paged_more areas asks more count first) (paged_bounded areas asks more b b space begun) in
+    let few = k.turns low in
+    let pins = pins_of areas b (paged areas asks (more + count) first) k in
+    omega (arith, few, pins, parts)
 
 -- with nothing due no pinned page is evicted
 
@@ -437,7 +495,7 @@ attempted_unspoiled : (p : Paged) → (attempted p).residence.spoiled ≡ p.resi
 unfolding attempted
 attempted_unspoiled p =
     let m = first_missing (is_resident p.residence) (touches_at p.place) in
-    unless_unspoiled (machine_at p.place).ending p (attempted_by m p) (attempt_unspoiled p m)
+    unless_unspoiled (machine_at p.place).ending p (attempted_by m (marked p)) (attempt_unspoiled (marked p) m)
 
 pub never_spoiled : (areas : List Area) (asks : ℕ → List Target) (count frames : ℕ) (start : Flat) → ((turn : ℕ) → asks turn ≡ []) → (paged areas asks count (fresh frames start)).residence.spoiled ≡ 0
 unfolding paged all_evicted

@@ -1,5 +1,5 @@
 -- Several pages are made absent.
-use Rattle.std.proofs.Common.{ℕ, zero, suc, ◌≡◌, ◌+◌, ◌^◌, ◌<◌, ◌≤◌, List, [], ◌∷◌, ◌++◌, length, append_assoc, take, drop, get_or, refl, ap, sym, ◌∙◌, subst, arith, Option, Some, None}
+use Rattle.std.proofs.Common.{ℕ, zero, suc, ◌≡◌, ◌+◌, ◌^◌, ◌<◌, ◌≤◌, List, [], ◌∷◌, ◌++◌, length, append_assoc, take, drop, get_or, refl, ap, sym, ◌∙◌, subst, arith, Option, Some, None, Result, Ok, Err}
 use Rattle.std.specs.List.{flat_map, range_with_len, slice_get}
 use Rattle.std.proofs.lemmas.List.{take_all}
 use Rattle.std.proofs.lemmas.Option.{get_or_from_slice_get, slice_get_within}
@@ -8,12 +8,18 @@ use Rattle.vax_space.specs.Areas.{end_of}
 use Rattle.vax_space.specs.Faults.{IsSpace}
 use Rattle.vax_space.proofs.Extents.{area_end}
 use Rattle.vax_outside.specs.Blocks.{BlockFile}
+use Rattle.vax_outside.specs.Channels.{Channels}
 use Rattle.vax_outside.proofs.Growth.{flat_map-more, flat_map-split}
-use Rattle.vax_machine.proofs.Tracking.{evicted_append, evicted_last, evicted_none}
-use Rattle.vax_machine.specs.Paged.{Paged, all_evicted, evicted}
-use Rattle.vax_machine.specs.Run.{Tracks}
-use Rattle.vax_machine.specs.Turn.{IsBegun}
+use Rattle.vax_machine.proofs.Listing.{grows_evicted}
+use Rattle.vax_machine.proofs.Outputs.{IsErrLike, lost_on}
+use Rattle.vax_machine.proofs.Tracking.{evicted_append, evicted_none}
+use Rattle.vax_machine.specs.Paged.{Paged, all_evicted}
+use Rattle.vax_machine.specs.Turn.{EvictedAll, Follows, IsBegun, LostPart}
+use Rattle.vax_machine.specs.Writing.{Origin}
 use Rattle.vax_machine.specs.declared.engine.Engine.{Engine}
+use Rattle.vax_machine.specs.declared.event.Fault.{Fault}
+use Rattle.vax_machine.specs.declared.event.Fault.TheVariants.{Page, Write}
+use Rattle.vax_machine.specs.declared.held.Held.{Held}
 
 -- pages one behind another
 
@@ -33,55 +39,74 @@ range_splits first (suc n) (suc many) low =
     let b : first + suc n ≡ (first + 1) + n = omega arith in
     (k.0, rw b (ap (λ (xs : List ℕ). first ∷ xs) k.1))
 
-pub none_yet : (m : Engine) (file : Option BlockFile) (p : Paged) → Tracks m file p → Tracks m file (all_evicted [] p)
-none_yet m file p t = subst (λ (z : Paged). Tracks m file z) (sym (evicted_none p)) t
+module _ (o : Origin) (p : Paged) (m : Engine) (file : Option BlockFile) (now : Option Channels) (left : Held) where
+  pub none_yet : Follows o p m file now left → Follows o (all_evicted [] p) m file now left
+  none_yet f = subst (λ (z : Paged). Follows o z m file now left) (sym (evicted_none p)) f
 
-pub next_page : (m : Engine) (file : Option BlockFile) (p : Paged) (first n : ℕ) → Tracks m file (evicted (first + n) (all_evicted (range_with_len first n) p)) → Tracks m file (all_evicted (range_with_len first (n + 1)) p)
-next_page m file p first n t =
-    subst (λ (z : Paged). Tracks m file z) (sym (ap (λ (xs : List ℕ). all_evicted xs p) (range_more first n) ∙ evicted_last (range_with_len first n) (first + n) p)) t
+  pub next_page : (first n : ℕ) → Follows o (all_evicted ((first + n) ∷ []) (all_evicted (range_with_len first n) p)) m file now left → Follows o (all_evicted (range_with_len first (n + 1)) p) m file now left
+  next_page first n f =
+      subst (λ (z : Paged). Follows o z m file now left) (sym (ap (λ (xs : List ℕ). all_evicted xs p) (range_more first n) ∙ evicted_append (range_with_len first n) ((first + n) ∷ []) p)) f
 
-pub begun_range : (m : Engine) (file : Option BlockFile) (p : Paged) (first n many : ℕ) → n < many → Tracks m file (all_evicted (range_with_len first n) p) → IsBegun (range_with_len first many) p m file
-begun_range m file p first n many low t =
-    let k = range_splits first n many low in
-    record { front = range_with_len first n; rest = (first + n) ∷ k.0; splits = k.1; tracks = t }
+-- some of the pages were made absent, and then a call failed
 
--- lists of pages one behind another
-
-pub begun_in : (m : Engine) (file : Option BlockFile) (p : Paged) (done next rest all : List ℕ) → all ≡ done ++ (next ++ rest) → IsBegun next (all_evicted done p) m file → IsBegun all p m file
-begun_in m file p done next rest all e b = record {
+begun_in : (o : Origin) (p : Paged) (m : Engine) (file : Option BlockFile) (now : Option Channels) (left : Held) (done next rest all : List ℕ) → all ≡ done ++ (next ++ rest) → IsBegun o next (all_evicted done p) m file now left → IsBegun o all p m file now left
+begun_in o p m file now left done next rest all e b = record {
   front = done ++ b.front;
   rest = b.rest ++ rest;
   splits =
       e ∙ (ap (λ (xs : List ℕ). done ++ (xs ++ rest)) b.splits
       ∙ (ap (λ (xs : List ℕ). done ++ xs) (append_assoc b.front b.rest rest) ∙ sym (append_assoc done b.front (b.rest ++ rest))));
-  tracks = subst (λ (z : Paged). Tracks m file z) (sym (evicted_append done b.front p)) b.tracks;
+  follows = subst (λ (z : Paged). Follows o z m file now left) (sym (evicted_append done b.front p)) b.follows;
 }
 
-module _ {X : Type 0} (f : X → List ℕ) (xs : List X) (i : ℕ) (x : X) (there : slice_get xs i ≡ Some x) (m : Engine) (file : Option BlockFile) (p : Paged) where
+part_in : (o : Origin) (p : Paged) (file : Option BlockFile) (now : Option Channels) (done next rest all : List ℕ) → all ≡ done ++ (next ++ rest) → LostPart o (all_evicted next (all_evicted done p)) file now → LostPart o (all_evicted all p) file now
+part_in o p file now done next rest all e w =
+    let there : all_evicted all p ≡ all_evicted rest (all_evicted next (all_evicted done p)) =
+    ap (λ (xs : List ℕ). all_evicted xs p) e ∙ (evicted_append done (next ++ rest) p ∙ evicted_append next rest (all_evicted done p)) in
+    subst (λ (z : Paged). LostPart o z file now) (sym there)
+    (lost_on o (all_evicted next (all_evicted done p)) (all_evicted rest (all_evicted next (all_evicted done p))) file now (grows_evicted o.listed rest (all_evicted next (all_evicted done p))) w)
+
+pub failed_in : (o : Origin) (p : Paged) (m : Engine) (file : Option BlockFile) (now : Option Channels) (left : Held) (done next rest all : List ℕ) (r q : Result (Unit {0}) Fault) → IsErrLike r q → all ≡ done ++ (next ++ rest) → EvictedAll q o next (all_evicted done p) m file now left → EvictedAll r o all p m file now left
+failed_in o p m file now left done next rest all (Ok x) (Ok y) l e h = absurd l
+failed_in o p m file now left done next rest all (Ok x) (Err b) l e h = absurd l
+failed_in o p m file now left done next rest all (Err a) (Ok y) l e h = absurd l
+failed_in o p m file now left done next rest all (Err Page) (Err Page) l e h = begun_in o p m file now left done next rest all e h
+failed_in o p m file now left done next rest all (Err Write) (Err Write) l e h = part_in o p file now done next rest all e h
+failed_in o p m file now left done next rest all (Err Page) (Err Write) l e h = cc
+failed_in o p m file now left done next rest all (Err Write) (Err Page) l e h = cc
+
+pub failed_range : (o : Origin) (p : Paged) (m : Engine) (file : Option BlockFile) (now : Option Channels) (left : Held) (first n many : ℕ) (r q : Result (Unit {0}) Fault) → n < many → IsErrLike r q → EvictedAll q o ((first + n) ∷ []) (all_evicted (range_with_len first n) p) m file now left → EvictedAll r o (range_with_len first many) p m file now left
+failed_range o p m file now left first n many r q low l h =
+    let k = range_splits first n many low in
+    failed_in o p m file now left (range_with_len first n) ((first + n) ∷ []) k.0 (range_with_len first many) r q l k.1 h
+
+-- lists of pages one behind another
+
+module _ {X : Type 0} (f : X → List ℕ) (xs : List X) (i : ℕ) (x : X) (there : slice_get xs i ≡ Some x) (o : Origin) (p : Paged) (m : Engine) (file : Option BlockFile) (now : Option Channels) (left : Held) where
   is_there : get_or xs i x ≡ x
   is_there = get_or_from_slice_get xs i x x there
 
-  pub next_list : Tracks m file (all_evicted (f x) (all_evicted (flat_map f (take i xs)) p)) → Tracks m file (all_evicted (flat_map f (take (i + 1) xs)) p)
+  pub next_list : Follows o (all_evicted (f x) (all_evicted (flat_map f (take i xs)) p)) m file now left → Follows o (all_evicted (flat_map f (take (i + 1) xs)) p) m file now left
   next_list t =
       let e : flat_map f (take i xs) ++ f x ≡ flat_map f (take (i + 1) xs) =
       ap (λ (z : X). flat_map f (take i xs) ++ f z) (sym is_there) ∙ flat_map-more f xs i x (slice_get_within xs i x there) in
-      subst (λ (z : Paged). Tracks m file z) (sym (evicted_append (flat_map f (take i xs)) (f x) p) ∙ ap (λ (zs : List ℕ). all_evicted zs p) e) t
+      subst (λ (z : Paged). Follows o z m file now left) (sym (evicted_append (flat_map f (take i xs)) (f x) p) ∙ ap (λ (zs : List ℕ). all_evicted zs p) e) t
 
-  pub begun_list : IsBegun (f x) (all_evicted (flat_map f (take i xs)) p) m file → IsBegun (flat_map f xs) p m file
-  begun_list b =
-      begun_in m file p (flat_map f (take i xs)) (f x) (flat_map f (drop (i + 1) xs)) (flat_map f xs)
-      (sym (ap (λ (z : X). flat_map f (take i xs) ++ (f z ++ flat_map f (drop (i + 1) xs))) (sym is_there) ∙ flat_map-split f xs i x (slice_get_within xs i x there))) b
+  pub failed_list : (r q : Result (Unit {0}) Fault) → IsErrLike r q → EvictedAll q o (f x) (all_evicted (flat_map f (take i xs)) p) m file now left → EvictedAll r o (flat_map f xs) p m file now left
+  failed_list r q l h =
+      failed_in o p m file now left (flat_map f (take i xs)) (f x) (flat_map f (drop (i + 1) xs)) (flat_map f xs) r q l
+      (sym (ap (λ (z : X). flat_map f (take i xs) ++ (f z ++ flat_map f (drop (i + 1) xs))) (sym is_there) ∙ flat_map-split f xs i x (slice_get_within xs i x there))) h
 
 none_past : {X : Type 0} (xs : List X) (i : ℕ) → slice_get xs i ≡ None → length xs ≤ i
 none_past [] i h = omega arith
 none_past (x ∷ xs) zero h = cc
 none_past (x ∷ xs) (suc i) h = let k = none_past xs i h in omega (arith, k)
 
-pub all_lists : {X : Type 0} (f : X → List ℕ) (xs : List X) (i : ℕ) (m : Engine) (file : Option BlockFile) (p : Paged) → length xs ≤ i → Tracks m file (all_evicted (flat_map f (take i xs)) p) → Tracks m file (all_evicted (flat_map f xs) p)
-all_lists f xs i m file p past t = subst (λ zs. Tracks m file (all_evicted (flat_map f zs) p)) (take_all i xs past) t
+pub all_lists : {X : Type 0} (f : X → List ℕ) (xs : List X) (i : ℕ) (o : Origin) (p : Paged) (m : Engine) (file : Option BlockFile) (now : Option Channels) (left : Held) → length xs ≤ i → Follows o (all_evicted (flat_map f (take i xs)) p) m file now left → Follows o (all_evicted (flat_map f xs) p) m file now left
+all_lists f xs i o p m file now left past t = subst (λ zs. Follows o (all_evicted (flat_map f zs) p) m file now left) (take_all i xs past) t
 
-pub past_all : {X : Type 0} (f : X → List ℕ) (xs : List X) (i : ℕ) (m : Engine) (file : Option BlockFile) (p : Paged) → slice_get xs i ≡ None → Tracks m file (all_evicted (flat_map f (take i xs)) p) → Tracks m file (all_evicted (flat_map f xs) p)
-past_all f xs i m file p none t = all_lists f xs i m file p (none_past xs i none) t
+pub past_all : {X : Type 0} (f : X → List ℕ) (xs : List X) (i : ℕ) (o : Origin) (p : Paged) (m : Engine) (file : Option BlockFile) (now : Option Channels) (left : Held) → slice_get xs i ≡ None → Follows o (all_evicted (flat_map f (take i xs)) p) m file now left → Follows o (all_evicted (flat_map f xs) p) m file now left
+past_all f xs i o p m file now left none t = all_lists f xs i o p m file now left (none_past xs i none) t
 
 -- an area's end is a page number
 pub area_fits : (all areas here : List Area) (i : ℕ) (area : Area) → all ≡ areas → areas ≡ here → IsSpace areas → i < length here → area ≡ get_or all i area → area.first + area.pages < 2 ^ 32

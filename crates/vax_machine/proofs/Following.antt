@@ -1,5 +1,5 @@
 -- A machine follows the run of the flat machine, whatever happens to it.
-use Rattle.std.proofs.Common.{ℕ, zero, suc, ◌≡◌, ◌+◌, ◌-◌, ◌^◌, ◌<◌, ◌≤◌, Bool, true, false, List, [], ◌∷◌, length, refl, ap, sym, ◌∙◌, subst, arith, inl, inr, Option, Some, None}
+use Rattle.std.proofs.Common.{ℕ, ◌==◌, zero, suc, ◌≡◌, ◌+◌, ◌-◌, ◌^◌, ◌<◌, ◌≤◌, Bool, true, false, List, [], ◌∷◌, length, refl, ap, sym, ◌∙◌, subst, arith, inl, inr, Option, Some, None}
 use Rattle.vax_space.specs.declared.Area.{Area}
 use Rattle.vax_outside.specs.Blocks.{BlockFile}
 use Rattle.vax_outside.specs.Faults.{raised}
@@ -13,11 +13,15 @@ use Rattle.vax_flat.proofs.Parts.{turns_agree}
 use Rattle.vax_pager.specs.Listing.{is_listed}
 use Rattle.vax_pager.specs.Meaning.{pages}
 use Rattle.vax_sched.specs.declared.rule.Target.{Target}
-use Rattle.vax_machine.proofs.Tracking.{many_evicted}
-use Rattle.vax_machine.specs.Events.{FollowsRun, Happen}
+use Rattle.std.proofs.lemmas.Bool.{cases_Bool}
+use Rattle.vax_machine.proofs.Running.{pinned_or, served_pins}
+use Rattle.vax_machine.proofs.Touching.{missed}
+use Rattle.vax_machine.proofs.Tracking.{fewer_pinned, many_evicted}
+use Rattle.vax_machine.specs.Events.{FollowsRun, GoesOn, Happen, IsTouching}
 use Rattle.vax_machine.specs.Machine.{Applies, Evicts, Flushes, Goes, Keeping, KeepsPlace, Means, Serves, Tries, keeping, residence, tried}
-use Rattle.vax_machine.specs.Paged.{Paged, all_evicted, all_named, attempted, attempted_by, fresh, paged, place_after, steps_after, unless_ended}
-use Rattle.vax_machine.specs.Residence.{is_resident}
+use Rattle.vax_machine.specs.Paged.{Paged, all_evicted, all_named, attempted, attempted_by, fresh, marked, paged, place_after, steps_after, unless_ended}
+use Rattle.vax_machine.specs.Residence.{Residence, eased, is_resident, unpinned}
+use Rattle.vax_machine.specs.Touched.{is_touched}
 use Rattle.vax_machine.specs.declared.engine.Engine.{Engine}
 use Rattle.vax_machine.specs.declared.event.Applied.{Applied}
 use Rattle.vax_machine.specs.declared.event.Applied.TheVariants.{Absent, Ended, Evicted, Failed, Flushed, Nothing, Parted, Served, Stepped}
@@ -71,13 +75,69 @@ one_further : (steps n : ℕ) (start next : Flat) → n ≡ steps + 1 → step (
 unfolding run
 one_further steps n start next e is = let k : n ≡ suc steps = omega (arith, e) in sym is ∙ ap (λ (z : ℕ). run z start) (sym k)
 
-completes : (old new : Engine) (file : Option BlockFile) (start next : Flat) (f : FollowsRun old file start) → old.ended ≡ None → new.steps ≡ old.steps + 1 → turn f.place ≡ Completes next → Means new file (At next) → FollowsRun new file start
-completes old new file start next f going steps t means =
+completes : (old new : Engine) (file : Option BlockFile) (start next : Flat) (f : FollowsRun old file start) → old.ended ≡ None → new.steps ≡ old.steps + 1 → turn f.place ≡ Completes next → Means new file (At next) → IsTouching (keeping new) (At next) → FollowsRun new file start
+completes old new file start next f going steps t means touching =
     let alive : (run old.steps start).ending ≡ None = sym (goes_ending (run old.steps start) f.place f.goes) ∙ running old file f.place going f.means in
-    record { place = At next; means = means; goes = one_further old.steps new.steps start next steps (turns_agree (run old.steps start) f.place next alive f.goes t) }
+    record { place = At next; means = means; goes = one_further old.steps new.steps start next steps (turns_agree (run old.steps start) f.place next alive f.goes t); touching = touching }
 
-same_place : (old new : Engine) (before after : Option BlockFile) (start : Flat) → new.steps ≡ old.steps → KeepsPlace old before new after → FollowsRun old before start → FollowsRun new after start
-same_place old new before after start steps keeps f = record { place = f.place; means = keeps f.place f.means; goes = subst (λ (n : ℕ). GoesBy (run n start) f.place) (sym steps) f.goes }
+same_place : (old new : Engine) (before after : Option BlockFile) (start : Flat) → new.steps ≡ old.steps → KeepsPlace old before new after → ((place : Place) → IsTouching (keeping old) place → IsTouching (keeping new) place) → FollowsRun old before start → FollowsRun new after start
+same_place old new before after start steps keeps touches f = record {
+  place = f.place;
+  means = keeps f.place f.means;
+  goes = subst (λ (n : ℕ). GoesBy (run n start) f.place) (sym steps) f.goes;
+  touching = touches f.place f.touching;
+}
+
+-- the pages that the attempt that comes touches
+
+-- no page is pinned or wanted
+nothing_touched : (k m : Keeping) (place : Place) → m.residence ≡ unpinned k.residence → m.wanted ≡ None → IsTouching m place
+unfolding is_listed
+nothing_touched k m place r w = record {
+  pins = rw r (record { touched = λ page h. let no : false ≡ true = h in cc });
+  wanted = λ page e. let no : None ≡ Some page = sym w ∙ e in cc;
+}
+
+eased_fewer : (r : Residence) (page : ℕ) → is_listed page (eased r).pinned ≡ true → is_listed page r.pinned ≡ true
+unfolding eased is_listed
+eased_fewer r page = elim (cases_Bool (length r.pinned == 40)) [
+  | inl t ↦ rw t (λ h. let no : false ≡ true = h in cc)
+  | inr f ↦ rw f (λ h. h)
+]
+
+missed_touched : (k m : Keeping) (place : Place) (page : ℕ) → m.residence ≡ eased k.residence → m.wanted ≡ Some page → first_missing (is_resident k.residence) (touches_at place) ≡ Some page → IsTouching k place → IsTouching m place
+missed_touched k m place page r w e h = record {
+  pins = rw r (record { touched = λ other listed. h.pins.touched other (eased_fewer k.residence other listed) });
+  wanted = λ other is.
+      let same : Some page ≡ Some other = sym w ∙ is in
+      let q : page ≡ other = cc in
+      ap (λ (z : ℕ). is_touched z (touches_at place)) (sym q) ∙ (missed (is_resident k.residence) (touches_at place) page e).0;
+}
+
+as_before : (k m : Keeping) (place : Place) → m ≡ k → IsTouching k place → IsTouching m place
+as_before k m place e h = rw e h
+
+serve_touches : (want : Option ℕ) (old new : Keeping) (result : Applied) (place : Place) → old.wanted ≡ want → Serves want old result new → IsTouching old place → IsTouching new place
+serve_touches None old new result place w x h = as_before old new place x.1 h
+serve_touches (Some page) old new result place w (inl x) h = as_before old new place x.1 h
+serve_touches (Some page) old new result place w (inr x) h = rw x.1 (record {
+  pins = record {
+    touched = λ other listed. elim (pinned_or page other old.residence.pinned (ap (is_listed other) (sym (served_pins page old.residence)) ∙ listed)) [
+      | inl same ↦ ap (λ (z : ℕ). is_touched z (touches_at place)) same ∙ h.wanted page w
+      | inr there ↦ h.pins.touched other there
+    ];
+  };
+  wanted = λ other e. let no : None ≡ Some other = e in cc;
+})
+
+evict_touches : (page : ℕ) (b : Bool) (old new : Keeping) (result : Applied) (place : Place) → Evicts page b old result new → IsTouching old place → IsTouching new place
+evict_touches page false old new result place x h = as_before old new place x.1 h
+evict_touches page true old new result place (inl x) h = as_before old new place x.1 h
+evict_touches page true old new result place (inr x) h = rw x.1 (record { pins = record { touched = λ other listed. h.pins.touched other (fewer_pinned page old.residence other listed) }; wanted = h.wanted })
+
+flush_touches : (b : Bool) (old new : Keeping) (result : Applied) (place : Place) → Flushes b old result new → IsTouching old place → IsTouching new place
+flush_touches false old new result place x h = as_before old new place x.1 h
+flush_touches true old new result place x h = as_before old new place x.1 h
 
 exact : (n : ℕ) → n < 2 ^ 64 - 1 → raised n ≡ n + 1
 exact n h = omega (arith, h)
@@ -85,18 +145,22 @@ exact n h = omega (arith, h)
 attempt_follows : (result : Applied) (old new : Engine) (file : Option BlockFile) (start : Flat) (f : FollowsRun old file start) → old.ended ≡ None → old.steps < 2 ^ 64 - 1 → keeping new ≡ tried result (keeping old) → Goes result (is_resident (residence old)) new file f.place → FollowsRun new file start
 attempt_follows (Stepped sent) old new file start f going low k g =
     completes old new file start g.1.next f going (ap (λ (z : Keeping). z.steps) k ∙ exact old.steps low) g.1.turn g.1.means
+    (nothing_touched (keeping old) (keeping new) (At g.1.next) (ap (λ (z : Keeping). z.residence) k) (ap (λ (z : Keeping). z.wanted) k))
 attempt_follows Parted old new file start f going low k g = record {
   place = Within g.1.next;
   means = g.1.means;
   goes = subst (λ (n : ℕ). GoesBy (run n start) (Within g.1.next)) (sym (ap (λ (z : Keeping). z.steps) k)) (goes_further (run old.steps start) f.place g.1.next f.goes g.1.turn);
+  touching = nothing_touched (keeping old) (keeping new) (Within g.1.next) (ap (λ (z : Keeping). z.residence) k) (ap (λ (z : Keeping). z.wanted) k);
 }
 attempt_follows (Absent page) old new file start f going low k g = record {
   place = f.place;
   means = g.1;
   goes = subst (λ (n : ℕ). GoesBy (run n start) f.place) (sym (ap (λ (z : Keeping). z.steps) k)) f.goes;
+  touching = missed_touched (keeping old) (keeping new) f.place page (ap (λ (z : Keeping). z.residence) k) (ap (λ (z : Keeping). z.wanted) k) g.0 f.touching;
 }
 attempt_follows (Ended x) old new file start f going low k g =
     completes old new file start (ended (gone_back f.place) x) f going (ap (λ (z : Keeping). z.steps) k ∙ exact old.steps low) g.1.turn g.1.means
+    (nothing_touched (keeping old) (keeping new) (At (ended (gone_back f.place) x)) (ap (λ (z : Keeping). z.residence) k) (ap (λ (z : Keeping). z.wanted) k))
 attempt_follows (Served page) old new file start f going low k g = absurd g
 attempt_follows Evicted old new file start f going low k g = absurd g
 attempt_follows Flushed old new file start f going low k g = absurd g
@@ -124,11 +188,13 @@ flush_steps true old result new x = ap (λ (z : Keeping). z.steps) x.1
 pub event_follows : (e : Event) (old new : Engine) (before after : Option BlockFile) (result : Applied) (start : Flat) → old.steps < 2 ^ 64 - 1 → Applies e old before result new after → FollowsRun old before start → FollowsRun new after start
 event_follows event.Attempt old new before after result start low h f =
     subst (λ (z : Option BlockFile). FollowsRun new z start) (sym h.1) (tries_follow old.ended result old new before start refl f low h.0)
-event_follows event.Serve old new before after result start low h f = same_place old new before after start (serve_steps old.wanted (keeping old) result (keeping new) h.0) h.1 f
+event_follows event.Serve old new before after result start low h f = same_place old new before after start (serve_steps old.wanted (keeping old) result (keeping new) h.0) h.1 (λ place t. serve_touches old.wanted (keeping old) (keeping new) result place refl h.0 t) f
 event_follows (event.Evict page) old new before after result start low h f =
-    same_place old new before after start (evict_steps page (is_listed page (pages old.pager).order) (keeping old) result (keeping new) h.0) h.1 f
+    same_place old new before after start (evict_steps page (is_listed page (pages old.pager).order) (keeping old) result (keeping new) h.0) h.1
+    (λ place t. evict_touches page (is_listed page (pages old.pager).order) (keeping old) (keeping new) result place h.0 t) f
 event_follows (event.Flush page) old new before after result start low h f =
-    same_place old new before after start (flush_steps (is_listed page (pages old.pager).modified) (keeping old) result (keeping new) h.0) h.1 f
+    same_place old new before after start (flush_steps (is_listed page (pages old.pager).modified) (keeping old) result (keeping new) h.0) h.1
+    (λ place t. flush_touches (is_listed page (pages old.pager).modified) (keeping old) (keeping new) result place h.0 t) f
 
 -- an event completes at most one step
 
@@ -170,35 +236,54 @@ events_follow (e ∷ events) old new before after start low h f =
 
 -- and so does the paged run
 
-paged_turn : (t : Turn) (p : Paged) (start : Flat) → (machine_at p.place).ending ≡ None → GoesBy (run p.steps start) p.place → turn p.place ≡ t → GoesBy (run (steps_after t p.steps) start) (place_after t)
-paged_turn (Completes next) p start going g is =
-    let alive : (run p.steps start).ending ≡ None = sym (goes_ending (run p.steps start) p.place g) ∙ going in
-    one_further p.steps (p.steps + 1) start next refl (turns_agree (run p.steps start) p.place next alive g is)
-paged_turn (Leaves q) p start going g is = goes_further (run p.steps start) p.place q g is
+paged_turn : (t : Turn) (p : Paged) (made : ℕ) (start : Flat) → (machine_at p.place).ending ≡ None → GoesBy (run made start) p.place → turn p.place ≡ t → GoesBy (run (steps_after t made) start) (place_after t)
+paged_turn (Completes next) p made start going g is =
+    let alive : (run made start).ending ≡ None = sym (goes_ending (run made start) p.place g) ∙ going in
+    one_further made (made + 1) start next refl (turns_agree (run made start) p.place next alive g is)
+paged_turn (Leaves q) p made start going g is = goes_further (run made start) p.place q g is
 
-paged_by : (m : Option ℕ) (p : Paged) (start : Flat) → (machine_at p.place).ending ≡ None → GoesBy (run p.steps start) p.place → GoesBy (run (attempted_by m p).steps start) (attempted_by m p).place
-paged_by (Some page) p start going g = g
-paged_by None p start going g = paged_turn (turn p.place) p start going g refl
+steps_more : (t : Turn) (steps made : ℕ) → steps_after t (steps + made) ≡ steps + steps_after t made
+steps_more (Completes next) steps made = omega arith
+steps_more (Leaves q) steps made = refl
 
-paged_unless : (how : Option Ending) (p : Paged) (start : Flat) → (machine_at p.place).ending ≡ how → GoesBy (run p.steps start) p.place → GoesBy (run (unless_ended how p (attempted_by (first_missing (is_resident p.residence) (touches_at p.place)) p)).steps start) (unless_ended how p (attempted_by (first_missing (is_resident p.residence) (touches_at p.place)) p)).place
-paged_unless (Some e) p start is g = g
-paged_unless None p start is g = paged_by (first_missing (is_resident p.residence) (touches_at p.place)) p start is g
+paged_by : (m : Option ℕ) (p : Paged) (steps : ℕ) (start : Flat) → (machine_at p.place).ending ≡ None → GoesOn steps start p → GoesOn steps start (attempted_by m p)
+paged_by (Some page) p steps start going g = record { made = g.made; steps = g.steps; goes = g.goes }
+paged_by None p steps start going g = record {
+  made = steps_after (turn p.place) g.made;
+  steps = ap (steps_after (turn p.place)) g.steps ∙ steps_more (turn p.place) steps g.made;
+  goes = paged_turn (turn p.place) p g.made start going g.goes refl;
+}
 
-paged_attempted : (p : Paged) (start : Flat) → GoesBy (run p.steps start) p.place → GoesBy (run (attempted p).steps start) (attempted p).place
+paged_unless : (how : Option Ending) (p next : Paged) (steps : ℕ) (start : Flat) → (machine_at p.place).ending ≡ how → GoesOn steps start p → ((machine_at p.place).ending ≡ None → GoesOn steps start next) → GoesOn steps start (unless_ended how p next)
+paged_unless (Some e) p next steps start is g more = g
+paged_unless None p next steps start is g more = more is
+
+paged_attempted : (p : Paged) (steps : ℕ) (start : Flat) → GoesOn steps start p → GoesOn steps start (attempted p)
 unfolding attempted
-paged_attempted p start g = paged_unless (machine_at p.place).ending p start refl g
+paged_attempted p steps start g =
+    paged_unless (machine_at p.place).ending p _ steps start refl g (λ going. paged_by (first_missing (is_resident p.residence) (touches_at p.place)) (marked p) steps start going (record { made = g.made; steps = g.steps; goes = g.goes }))
 
-paged_follows : (areas : List Area) (asks : ℕ → List Target) (count : ℕ) (b : Paged) (start : Flat) → GoesBy (run b.steps start) b.place → GoesBy (run (paged areas asks count b).steps start) (paged areas asks count b).place
+paged_evicted : (pages : List ℕ) (p : Paged) (steps : ℕ) (start : Flat) → GoesOn steps start p → GoesOn steps start (all_evicted pages p)
+paged_evicted pages p steps start g =
+    let o = many_evicted pages p in
+    record { made = g.made; steps = o.steps ∙ g.steps; goes = subst (λ (z : Place). GoesBy (run g.made start) z) (sym o.place) g.goes }
+
+paged_follows : (areas : List Area) (asks : ℕ → List Target) (count : ℕ) (b : Paged) (steps : ℕ) (start : Flat) → GoesOn steps start b → GoesOn steps start (paged areas asks count b)
 unfolding paged
-paged_follows areas asks zero b start g = g
-paged_follows areas asks (suc count) b start g =
+paged_follows areas asks zero b steps start g = g
+paged_follows areas asks (suc count) b steps start g =
     let q = paged areas asks count b in
     let all = all_named areas (asks (q.turns + 1)) in
-    let o = many_evicted all q in
-    paged_attempted (all_evicted all q) start
-    (subst (λ (z : Place). GoesBy (run (all_evicted all q).steps start) z) (sym o.place)
-    (subst (λ (n : ℕ). GoesBy (run n start) q.place) (sym o.steps) (paged_follows areas asks count b start g)))
+    paged_attempted (all_evicted all q) steps start (paged_evicted all q steps start (paged_follows areas asks count b steps start g))
+
+pub turns_go : (areas : List Area) (asks : ℕ → List Target) (count : ℕ) (b : Paged) (start : Flat) → b.place ≡ At start → GoesOn b.steps start (paged areas asks count b)
+unfolding run
+turns_go areas asks count b start is =
+    paged_follows areas asks count b b.steps start (record { made = 0; steps = omega arith; goes = subst (λ (z : Place). GoesBy start z) (sym is) refl })
 
 pub turns_follow : (areas : List Area) (asks : ℕ → List Target) (count frames : ℕ) (start : Flat) → GoesBy (run (paged areas asks count (fresh frames start)).steps start) (paged areas asks count (fresh frames start)).place
-unfolding run
-turns_follow areas asks count frames start = paged_follows areas asks count (fresh frames start) start refl
+turns_follow areas asks count frames start =
+    let p = paged areas asks count (fresh frames start) in
+    let g = turns_go areas asks count (fresh frames start) start refl in
+    let e : g.made ≡ p.steps = let s = g.steps in omega (arith, s) in
+    subst (λ (n : ℕ). GoesBy (run n start) p.place) e g.goes

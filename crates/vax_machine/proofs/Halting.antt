@@ -1,11 +1,10 @@
--- Every run stops, and what later turns send comes behind what was sent before.
-use Rattle.std.proofs.Common.{ℕ, zero, suc, ◌≡◌, ◌+◌, ◌-◌, ◌<◌, ◌≤◌, Bool, true, false, nat_le, List, [], ◌∷◌, ◌++◌, append_assoc, append-nil, refl, ap, sym, ◌∙◌, subst, arith, inl, inr, Option, Some, None}
+-- Every run stops, and what later turns write comes behind what was written before.
+use Rattle.std.proofs.Common.{ℕ, zero, suc, ◌≡◌, ◌+◌, ◌-◌, ◌<◌, ◌≤◌, Bool, true, false, nat_le, List, [], ◌∷◌, ◌++◌, append-nil, refl, ap, sym, ◌∙◌, subst, arith, inl, inr, Option, Some, None}
 use Rattle.std.proofs.lemmas.Bool.Decides.{nat_tests}
 use Rattle.std.proofs.lemmas.Bool.{cases_lt}
 use Rattle.vax_space.specs.declared.Area.{Area}
-use Rattle.vax_outside.specs.Channels.{Channels, GrewByPrefix, only}
-use Rattle.vax_outside.specs.declared.traits.Chan.TheVariants.{Out}
-use Rattle.vax_outside.proofs.Growth.{out_first}
+use Rattle.vax_outside.specs.Blocks.{BlockFile}
+use Rattle.vax_outside.specs.Channels.{Channels}
 use Rattle.vax_flat.specs.declared.Ending.{Ending}
 use Rattle.vax_flat.specs.declared.Flow.TheVariants as flow
 use Rattle.vax_flat.specs.Accesses.{Leaf, Went, Found}
@@ -16,10 +15,13 @@ use Rattle.vax_flat.proofs.Runs.{Extends}
 use Rattle.vax_sched.specs.Due.{due}
 use Rattle.vax_sched.specs.declared.rule.Rule.{Rule}
 use Rattle.vax_sched.specs.declared.rule.Target.{Target}
+use Rattle.vax_machine.proofs.Listing.{grows_evicted}
+use Rattle.vax_machine.proofs.Outputs.{Grows, grows_again, grows_by, grows_same, lost_on}
 use Rattle.vax_machine.proofs.Tracking.{many_evicted}
-use Rattle.vax_machine.specs.Paged.{Paged, Why, all_evicted, all_named, attempted, attempted_by, next_turn, paged, place_after, stop_by, stops, unless_ended}
-use Rattle.vax_machine.specs.Residence.{is_resident}
-use Rattle.vax_machine.specs.Run.{IsLost, Runs}
+use Rattle.vax_machine.specs.Paged.{Eviction, Paged, Why, all_evicted, all_named, attempted, attempted_by, evictions_of, marked, next_turn, paged, place_after, stop_by, stops, unless_ended}
+use Rattle.vax_machine.specs.Residence.{is_resident, victim}
+use Rattle.vax_machine.specs.Run.{IsLost, Runs, origin}
+use Rattle.vax_machine.specs.Turn.{LostPart}
 use Rattle.vax_machine.specs.declared.event.Limits.{Limits}
 
 -- what an attempt sends comes behind what was sent before
@@ -30,9 +32,6 @@ extends_same output = record { more = []; is = sym (append-nil output) }
 extends_sent : (output : List ℕ) (sent : Option ℕ) → Extends output (with_byte_sent output sent)
 extends_sent output None = extends_same output
 extends_sent output (Some byte) = record { more = byte ∷ []; is = refl }
-
-extends_again : (a b c : List ℕ) → Extends a b → Extends b c → Extends a c
-extends_again a b c x y = record { more = x.more ++ y.more; is = y.is ∙ (ap (λ l. l ++ y.more) x.is ∙ append_assoc a x.more y.more) }
 
 extends_concluded : (m : Flat) (leaf : Leaf) (memory : List Area) → Extends m.output (concluded m leaf memory).output
 extends_concluded m (Went flow.Done s) memory = extends_sent m.output s.sent
@@ -65,17 +64,43 @@ extends_unless None p next h = h
 
 extends_attempted : (p : Paged) → Extends (machine_at p.place).output (machine_at (attempted p).place).output
 unfolding attempted
-extends_attempted p = extends_unless (machine_at p.place).ending p _ (extends_by (first_missing (is_resident p.residence) (touches_at p.place)) p)
+extends_attempted p = extends_unless (machine_at p.place).ending p _ (extends_by (first_missing (is_resident p.residence) (touches_at p.place)) (marked p))
 
-extends_paged : (areas : List Area) (asks : ℕ → List Target) (count : ℕ) (p : Paged) → Extends (machine_at p.place).output (machine_at (paged areas asks count p).place).output
+-- and so do the evictions
+
+record Lists (p q : Paged) : Type 0 where
+  pub made : List Eviction
+  pub is : q.evictions ≡ p.evictions ++ made
+  pub vain : p.turns + q.parts ≤ q.turns + p.parts
+
+lists_by : (m : Option ℕ) (p : Paged) → Lists p (attempted_by m p)
+lists_by None p = record { made = []; is = sym (append-nil p.evictions); vain = omega arith }
+lists_by (Some page) p = record { made = evictions_of (p.turns + 2) (victim p.residence) p; is = refl; vain = omega arith }
+
+lists_unless : (how : Option Ending) (p next : Paged) → Lists p next → Lists p (unless_ended how p next)
+lists_unless (Some e) p next h = record { made = []; is = sym (append-nil p.evictions); vain = omega arith }
+lists_unless None p next h = h
+
+lists_attempted : (p : Paged) → Lists p (attempted p)
+unfolding attempted
+lists_attempted p =
+    let l = lists_by (first_missing (is_resident p.residence) (touches_at p.place)) (marked p) in
+    lists_unless (machine_at p.place).ending p _ (record { made = l.made; is = l.is; vain = l.vain })
+
+pub grows_attempted : (listed : Bool) (p : Paged) → Grows listed p (attempted p)
+grows_attempted listed p = let l = lists_attempted p in grows_by listed p (attempted p) l.made (extends_attempted p) l.is l.vain
+
+pub grows_turn : (listed : Bool) (areas : List Area) (asks : ℕ → List Target) (p : Paged) → Grows listed p (next_turn areas asks p)
+grows_turn listed areas asks p =
+    let there = all_evicted (all_named areas (asks (p.turns + 1))) p in
+    grows_again listed p there (attempted there) (grows_evicted listed (all_named areas (asks (p.turns + 1))) p) (grows_attempted listed there)
+
+grows_paged : (listed : Bool) (areas : List Area) (asks : ℕ → List Target) (count : ℕ) (p : Paged) → Grows listed p (paged areas asks count p)
 unfolding paged
-extends_paged areas asks zero p = extends_same (machine_at p.place).output
-extends_paged areas asks (suc count) p =
+grows_paged listed areas asks zero p = grows_same listed p
+grows_paged listed areas asks (suc count) p =
     let q = paged areas asks count p in
-    let pages = all_named areas (asks (q.turns + 1)) in
-    let o = many_evicted pages q in
-    extends_again _ _ _ (extends_paged areas asks count p)
-    (subst (λ (z : Place). Extends (machine_at z).output (machine_at (attempted (all_evicted pages q)).place).output) o.place (extends_attempted (all_evicted pages q)))
+    grows_again listed p q (next_turn areas asks q) (grows_paged listed areas asks count p) (grows_turn listed areas asks q)
 
 -- turns behind one another
 
@@ -107,7 +132,7 @@ counted_by (Some page) p = refl
 
 counted : (p : Paged) → (machine_at p.place).ending ≡ None → (attempted p).turns ≡ p.turns + 1
 unfolding attempted
-counted p going = rw going (counted_by (first_missing (is_resident p.residence) (touches_at p.place)) p)
+counted p going = rw going (counted_by (first_missing (is_resident p.residence) (touches_at p.place)) (marked p))
 
 turn_counted : (areas : List Area) (asks : ℕ → List Target) (p : Paged) → (machine_at p.place).ending ≡ None → (next_turn areas asks p).turns ≡ p.turns + 1
 turn_counted areas asks p going =
@@ -160,18 +185,19 @@ module _ (limits : Limits) (areas : List Area) (rules : List Rule) where
       let t = turn_counted areas (due rules) p g.0 in
       halts_later p none (halts left (next_turn areas (due rules) p) (omega (arith, t, few))))
 
-  -- a prefix of what some turns sent is one of what the whole run sends
-  pub lost_at : (b : Paged) (n : ℕ) (sent : List ℕ) (old new : Option Channels) → Runs limits areas rules b n → (machine_at (paged areas (due rules) n b).place).output ≡ (machine_at b.place).output ++ sent → GrewByPrefix old new (only Out sent) → IsLost limits areas rules b old new
-  lost_at b n sent old new goes is wrote =
+  -- a prefix of what some turns write is one of what the whole run writes
+  pub lost_at : (b : Paged) (before file : Option BlockFile) (n : ℕ) (old new : Option Channels) → Runs limits areas rules b n → LostPart (origin limits areas b before old) (paged areas (due rules) n b) file new → IsLost limits areas rules b before file old new
+  lost_at b before file n old new goes lost =
+      let o = origin limits areas b before old in
       let q = paged areas (due rules) n b in
       let h = halts limits.turns q (omega arith) in
-      let x = extends_paged areas (due rules) h.count q in
       let e = paged_more areas (due rules) h.count n b in
+      let later = subst (λ (z : Paged). LostPart o z file new) e (lost_on o q (paged areas (due rules) h.count q) file new (grows_paged limits.listed areas (due rules) h.count q) lost) in
       record {
         count = h.count + n;
         goes = record {
           going = λ i low. elim (cases_lt i n) [
-            | inl before ↦ goes.going i before
+            | inl early ↦ goes.going i early
             | inr here ↦
                 let f : (i - n) + n ≡ i = omega (arith, here) in
                 subst (λ (z : Paged). stops limits.steps limits.turns z ≡ None) (paged_more areas (due rules) (i - n) n b ∙ ap (λ (k : ℕ). paged areas (due rules) k b) f) (h.goes.going (i - n) (omega (arith, low, here)))
@@ -179,7 +205,6 @@ module _ (limits : Limits) (areas : List Area) (rules : List Rule) where
         };
         why = h.why;
         stopped = subst (λ (z : Paged). stops limits.steps limits.turns z ≡ Some h.why) e h.stopped;
-        more = sent ++ x.more;
-        sends = ap (λ (z : Paged). (machine_at z.place).output) (sym e) ∙ (x.is ∙ (ap (λ l. l ++ x.more) is ∙ append_assoc (machine_at b.place).output sent x.more));
-        wrote = out_first old new sent x.more wrote;
+        wrote = later.wrote;
+        moved = later.moved;
       }

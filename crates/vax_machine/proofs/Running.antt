@@ -1,36 +1,47 @@
 -- Runs.
-use Rattle.std.proofs.Common.{ℕ, zero, suc, ◌≡◌, ◌+◌, ◌-◌, ◌<◌, ◌≤◌, true, false, nat_le, List, [], ◌∷◌, ◌++◌, append_assoc, append-nil, refl, ap, sym, ◌∙◌, subst, arith, inl, inr, Option, Some, None, Result, Ok, Err, OnOk}
+use Rattle.std.proofs.Common.{ℕ, zero, suc, ◌≡◌, ◌+◌, ◌-◌, ◌<◌, ◌≤◌, true, false, nat_le, List, [], ◌∷◌, ◌++◌, append-nil, refl, ap, sym, ◌∙◌, subst, arith, inl, inr, Option, Some, None, Result, Ok, Err, OnOk}
 use Rattle.std.specs.Prelude.{◌⊎◌, ◌==◌, IsErr, if◌then◌else◌}
 use Rattle.std.proofs.lemmas.Bool.Decides.{nat_tests}
 use Rattle.std.proofs.lemmas.Bool.{cases_eq, cases_lt, ne_eqb}
 use Rattle.vax_space.specs.declared.Area.{Area}
+use Rattle.vax_space.specs.Faults.{IsSpace}
 use Rattle.vax_outside.specs.Blocks.{BlockFile}
-use Rattle.vax_outside.specs.Channels.{Channels, Grew, GrewByPrefix, nothing, only}
-use Rattle.vax_outside.specs.declared.traits.Chan.TheVariants.{Out}
-use Rattle.vax_outside.proofs.Growth.{append-nothing, grew_nothing, out_grew, out_last}
+use Rattle.vax_outside.specs.Channels.{Channels, Grew, GrewByPrefix, nothing}
 use Rattle.vax_flat.specs.declared.Ending.{Ending}
 use Rattle.vax_flat.specs.Outcome.{first_missing}
 use Rattle.vax_flat.specs.Parts.{Place, machine_at, touches_at}
-use Rattle.vax_flat.specs.Step.{Flat, with_byte_sent}
+use Rattle.vax_flat.specs.Port.{layout}
+use Rattle.vax_flat.specs.Step.{Flat}
 use Rattle.vax_pager.specs.Listing.{is_listed}
-use Rattle.vax_pager.specs.declared.calls.PageFault.{PageFault}
+use Rattle.vax_pager.specs.Calls.{IsPaging}
+use Rattle.vax_pager.specs.Meaning.{pages}
+use Rattle.vax_pager.specs.Paging.{Paging, StandsWith}
 use Rattle.vax_pager.proofs.Listing.{in_push}
 use Rattle.vax_sched.specs.Due.{due}
 use Rattle.vax_sched.specs.declared.rule.Rule.{Rule}
 use Rattle.vax_sched.specs.declared.rule.Target.{Target}
-use Rattle.vax_machine.proofs.Halting.{lost_at, paged_more}
-use Rattle.vax_machine.proofs.Touching.{missed}
-use Rattle.vax_machine.proofs.Tracking.{evicted_none, many_evicted, pins_evicted}
+use Rattle.vax_machine.proofs.Halting.{grows_attempted, lost_at, paged_more}
+use Rattle.vax_machine.proofs.Listing.{grows_evicted}
+use Rattle.vax_machine.proofs.Bound.{IsBounded, begun_bounded, few_cut, few_turns, paged_bounded}
+use Rattle.vax_machine.proofs.Moving.{moved_again, moved_first, moved_none}
+use Rattle.vax_machine.proofs.Outputs.{Grows, IsErrLike, lost_on, part_on, sends_none, sends_same, wrote_all, wrote_part}
+use Rattle.vax_machine.proofs.Touching.{missed, page_small}
+use Rattle.vax_machine.proofs.Tracking.{evicted_append, evicted_none, many_evicted, pins_evicted}
+use Rattle.vax_machine.specs.Blocks.{Moved, MovedUpTo}
 use Rattle.vax_machine.specs.Machine.{Means, residence}
-use Rattle.vax_machine.specs.Paged.{Paged, ByEnding, BySteps, ByTurns, all_evicted, all_named, attempted, attempted_by, next_turn, paged, stops, unless_ended}
+use Rattle.vax_machine.specs.Paged.{Paged, ByEnding, BySteps, ByTurns, all_evicted, all_named, attempted, attempted_by, marked, next_turn, paged, stops, unless_ended}
 use Rattle.vax_machine.specs.Residence.{Residence, is_resident, served, victim, without_victim}
-use Rattle.vax_machine.specs.Run.{Ends, IsCut, IsLost, IsWhole, Passes, Runs, Sends, Tracks, begun, why_of}
+use Rattle.vax_machine.specs.Run.{Ends, FewTurns, IsCut, IsLost, IsWhole, Runs, Tracks, begun, origin, why_of}
 use Rattle.vax_machine.specs.Touched.{PinsTouched, is_touched}
-use Rattle.vax_machine.specs.Turn.{AreCut, AreMade, AreWhole, AttemptsDone, Finishes, IsBegun, IsCutTurn, IsServed, IsStop, IsUnserved, Reached, TurnsMade, attempted_times}
+use Rattle.vax_machine.specs.Turn.{AreCut, AreLost, AreMade, AreWhole, AttemptsCut, AttemptsDone, AttemptsFollow, AttemptsLost, EvictedAll, Finishes, Follows, IsBegun, IsCutTurn, IsStop, IsUnserved, LostPart, Misses, Reached, TurnsMade, attempted_times}
+use Rattle.vax_machine.specs.Writing.{Origin, Sends, WrotePart, held_in}
 use Rattle.vax_machine.specs.declared.engine.Engine.{Engine}
+use Rattle.vax_machine.specs.declared.event.Fault.{Fault}
+use Rattle.vax_machine.specs.declared.event.Fault.TheVariants.{Page, Write}
 use Rattle.vax_machine.specs.declared.event.Limits.{Limits}
 use Rattle.vax_machine.specs.declared.event.RunEnd.{RunEnd}
 use Rattle.vax_machine.specs.declared.event.RunEnd.TheVariants as run_end
+use Rattle.vax_machine.specs.declared.held.Held.{Held}
 
 -- the attempt that comes goes on to touch the pages that are pinned
 
@@ -38,11 +49,11 @@ victim_pins : (v : Option ℕ) (r : Residence) → (without_victim v r).pinned �
 victim_pins None r = refl
 victim_pins (Some page) r = refl
 
-served_pins : (page : ℕ) (r : Residence) → (served page r).pinned ≡ r.pinned ++ page ∷ []
+pub served_pins : (page : ℕ) (r : Residence) → (served page r).pinned ≡ r.pinned ++ page ∷ []
 unfolding served
 served_pins page r = ap (λ (xs : List ℕ). xs ++ page ∷ []) (victim_pins (victim r) r)
 
-pinned_or : (page other : ℕ) (xs : List ℕ) → is_listed other (xs ++ page ∷ []) ≡ true → (other ≡ page) ⊎ (is_listed other xs ≡ true)
+pub pinned_or : (page other : ℕ) (xs : List ℕ) → is_listed other (xs ++ page ∷ []) ≡ true → (other ≡ page) ⊎ (is_listed other xs ≡ true)
 pinned_or page other xs h = elim (cases_eq other page) [
   | inl e ↦ inl e
   | inr o ↦ let k : (if other == page then true else is_listed other xs) ≡ true = sym (in_push other page xs) ∙ h in inr (rw (ne_eqb other page o) at k)
@@ -64,8 +75,8 @@ pins_unless None p next a b = b
 
 pins_attempted : (p : Paged) → PinsTouched p.residence p.place → PinsTouched (attempted p).residence (attempted p).place
 unfolding attempted
-pins_attempted p h = pins_unless (machine_at p.place).ending p (attempted_by (first_missing (is_resident p.residence) (touches_at p.place)) p) h
-    (pins_step p (first_missing (is_resident p.residence) (touches_at p.place)) refl h)
+pins_attempted p h = pins_unless (machine_at p.place).ending p (attempted_by (first_missing (is_resident p.residence) (touches_at p.place)) (marked p)) h
+    (pins_step (marked p) (first_missing (is_resident p.residence) (touches_at p.place)) refl h)
 
 pub pins_paged : (areas : List Area) (asks : ℕ → List Target) (count : ℕ) (p : Paged) → PinsTouched p.residence p.place → PinsTouched (paged areas asks count p).residence (paged areas asks count p).place
 unfolding paged
@@ -143,29 +154,55 @@ module _ (limits : Limits) (areas : List Area) (asks : ℕ → List Target) (p :
       subst (λ (z : Paged). stops limits.steps limits.turns z ≡ None) (sym (turns_are count whole quiet i (omega (arith, low))))
       (goes_on limits (attempted_times (suc i) behind) (whole.going (suc i) low) (omega (arith, a, c, s, low)) (omega (arith, b, d, u, low)))
 
-module _ (limits : Limits) (areas : List Area) (rules : List Rule) (old m : Engine) (before file : Option BlockFile) (p : Paged) (t : Tracks old before p) where
+module _ (limits : Limits) (o : Origin) (areas : List Area) (rules : List Rule) (old m : Engine) (before file : Option BlockFile) (now : Option Channels) (left : Held) (p : Paged) (t : Tracks old before p) where
   due_as : all_named areas (due rules (old.turns + 1)) ≡ all_named areas (due rules (p.turns + 1))
   due_as = let e : old.turns + 1 ≡ p.turns + 1 = ap (λ (n : ℕ). n + 1) t.turns in ap (λ (n : ℕ). all_named areas (due rules n)) e
 
+  first_going : stops limits.steps limits.turns p ≡ None → (i : ℕ) → i ≤ 0 → stops limits.steps limits.turns (paged areas (due rules) i p) ≡ None
+  unfolding paged
+  first_going none i low = let e : i ≡ 0 = omega (arith, low) in subst (λ (z : ℕ). stops limits.steps limits.turns (paged areas (due rules) z p) ≡ None) (sym e) none
+
   -- not all of what was due was made absent
-  pub cut_evictions : stops limits.steps limits.turns p ≡ None → IsBegun (all_named areas (due rules (old.turns + 1))) p m file → AreCut limits areas rules p m file
+  cut_evictions : stops limits.steps limits.turns p ≡ None → IsBegun o (all_named areas (due rules (old.turns + 1))) p m file now left → AreCut limits o areas rules p m file now left
   unfolding paged
   cut_evictions none h =
-      let o = many_evicted h.front p in
+      let e = many_evicted h.front p in
       record {
         count = 0;
-        going = λ i low. let e : i ≡ 0 = omega (arith, low) in subst (λ (z : ℕ). stops limits.steps limits.turns (paged areas (due rules) z p) ≡ None) (sym e) none;
-        silent = refl;
+        going = first_going none;
         cut = record {
           front = h.front;
           rest = h.rest;
           splits = sym due_as ∙ h.splits;
-          residence = h.tracks.residence;
-          means = subst (λ (z : Place). Means m file z) o.place h.tracks.means;
-          steps = h.tracks.steps ∙ o.steps;
-          made = inl (h.tracks.turns ∙ o.turns);
+          residence = h.follows.tracks.residence;
+          means = subst (λ (z : Place). Means m file z) e.place h.follows.tracks.means;
+          steps = h.follows.tracks.steps ∙ e.steps;
+          made = inl (h.follows.tracks.turns ∙ e.turns);
+          missed = inl (h.follows.tracks.turns ∙ e.turns);
+          moved = inl h.follows.moved;
+          sends = h.follows.sends;
         };
       }
+
+  -- or not all of it was listed
+  lost_evictions : stops limits.steps limits.turns p ≡ None → LostPart o (all_evicted (all_named areas (due rules (old.turns + 1))) p) file now → AreLost limits o areas rules p file now
+  unfolding paged
+  lost_evictions none w =
+      let there = all_evicted (all_named areas (due rules (p.turns + 1))) p in
+      record {
+        count = 0;
+        going = first_going none;
+        part = lost_on o there (attempted there) file now (grows_attempted o.listed there) (subst (λ (pages : List ℕ). LostPart o (all_evicted pages p) file now) due_as w);
+      }
+
+  pub unevicted : (r q : Result (Unit {0}) Fault) → IsErrLike r q → stops limits.steps limits.turns p ≡ None → EvictedAll q o (all_named areas (due rules (old.turns + 1))) p m file now left → TurnsMade r limits o areas rules p m file now left
+  unevicted (Ok x) (Ok y) l none h = absurd l
+  unevicted (Ok x) (Err b) l none h = absurd l
+  unevicted (Err a) (Ok y) l none h = absurd l
+  unevicted (Err Page) (Err Page) l none h = cut_evictions none h
+  unevicted (Err Write) (Err Write) l none h = lost_evictions none h
+  unevicted (Err Page) (Err Write) l none h = cc
+  unevicted (Err Write) (Err Page) l none h = cc
 
   module _ (most : ℕ) (steps_room : old.steps + most ≤ limits.steps) (turns_room : old.turns + most ≤ limits.turns) (none : stops limits.steps limits.turns p ≡ None) (gap : (k : ℕ) → k + 1 < most → due rules (old.turns + 2 + k) ≡ []) where
     quiet : (count : ℕ) → count < most → (k : ℕ) → k < count → due rules (p.turns + 2 + k) ≡ []
@@ -179,95 +216,149 @@ module _ (limits : Limits) (areas : List Area) (rules : List Rule) (old m : Engi
     turns_low : (count : ℕ) → count < most → p.turns + count < limits.turns
     turns_low count few = let a = t.turns in omega (arith, a, few, turns_room)
 
-    made : (sent : Option ℕ) → IsServed most (behind limits areas (due rules) p) sent m file → AreMade limits areas rules p sent m file
-    made sent h =
-        let q = quiet h.count h.few in
-        let e = turns_are limits areas (due rules) p h.count h.whole q h.count (omega arith) in
-        let o = many_evicted (all_named areas (due rules (p.turns + 1))) p in
-        record {
-          count = h.count;
-          going = goes_through limits areas (due rules) p h.count h.whole q none (steps_low h.count h.few) (turns_low h.count h.few);
-          tracks = subst (λ (z : Paged). Tracks m file z) (sym e) h.tracks;
-          sends = ap (λ (z : Paged). (machine_at z.place).output) e ∙ (h.sends ∙ ap (λ (z : Place). with_byte_sent (machine_at z).output sent) o.place);
-        }
+    abbrev here : Paged
+    here = behind limits areas (due rules) p
 
-    cut_at : (count : ℕ) → IsUnserved most (behind limits areas (due rules) p) m file → (whole : AreWhole (behind limits areas (due rules) p) count) → count < most → m.steps ≡ (attempted_times count (behind limits areas (due rules) p)).steps → m.turns ≡ (attempted_times count (behind limits areas (due rules) p)).turns + 1 → residence m ≡ (attempted_times count (behind limits areas (due rules) p)).residence → Means m file (attempted_times count (behind limits areas (due rules) p)).place → (machine_at (attempted_times count (behind limits areas (due rules) p)).place).output ≡ (machine_at (behind limits areas (due rules) p).place).output → ((machine_at (paged areas (due rules) count p).place).output ≡ (machine_at p.place).output) × IsCutTurn areas rules (paged areas (due rules) count p) m file
+    going_through : (count : ℕ) → count < most → AreWhole here count → (i : ℕ) → i ≤ count → stops limits.steps limits.turns (paged areas (due rules) i p) ≡ None
+    going_through count few whole = goes_through limits areas (due rules) p count whole (quiet count few) none (steps_low count few) (turns_low count few)
+
+    last_turn : (count : ℕ) → count < most → AreWhole here count → paged areas (due rules) (suc count) p ≡ attempted_times (suc count) here
+    last_turn count few whole = turns_are limits areas (due rules) p count whole (quiet count few) count (omega arith)
+
+    made : AttemptsFollow most o here m file now left → AreMade limits o areas rules p m file now left
+    made h = record {
+      count = h.count;
+      going = going_through h.count h.few h.whole;
+      follows = subst (λ (z : Paged). Follows o z m file now left) (sym (last_turn h.count h.few h.whole)) h.follows;
+    }
+
+    lost : AttemptsLost most o here file now → AreLost limits o areas rules p file now
+    lost h = record {
+      count = h.count;
+      going = going_through h.count h.few h.whole;
+      part = subst (λ (z : Paged). LostPart o z file now) (sym (last_turn h.count h.few h.whole)) h.part;
+    }
+
+    -- what was written to blocks, up to the attempt whose page wasn't served
+    moved_here : (middle : Option BlockFile) (u : IsUnserved most o.areas here middle m file) → Moved o.areas o.at here o.file middle → Moved o.areas o.at (attempted_times u.count here) o.file file ⊎ Moved o.areas o.at (attempted_times (suc u.count) here) o.file file
+    moved_here middle u x = elim u.moved [
+      | inl y ↦ inl (moved_again o.areas o.at here (attempted_times u.count here) o.file middle file x y)
+      | inr y ↦ inr (moved_again o.areas o.at here (attempted_times (suc u.count) here) o.file middle file x y)
+    ]
+
+    moved_up : (q : Paged) → Moved o.areas o.at q o.file file ⊎ Moved o.areas o.at (attempted q) o.file file → MovedUpTo o.areas o.at q [] o.file file
+    moved_up q (inl x) = inl x
+    moved_up q (inr x) = inr (refl, x)
+
+    cut_at : (count : ℕ) → (whole : AreWhole here count) → count < most → m.steps ≡ (attempted_times count here).steps → m.turns ≡ (attempted_times count here).turns + 1 → residence m ≡ (attempted_times count here).residence → Means m file (attempted_times count here).place → Misses (attempted_times count here) → Moved o.areas o.at (attempted_times count here) o.file file ⊎ Moved o.areas o.at (attempted (attempted_times count here)) o.file file → Sends o (attempted_times count here) now (held_in left) → IsCutTurn o areas rules (paged areas (due rules) count p) m file now left
     unfolding paged attempted_times
-    cut_at zero h whole few s u r means silent =
+    cut_at zero whole few s u r means missed moved sends =
         let all = all_named areas (due rules (p.turns + 1)) in
-        let o = many_evicted all p in (
-          refl,
-          record {
-            front = all;
-            rest = [];
-            splits = sym (append-nil all);
-            residence = r;
-            means = subst (λ (z : Place). Means m file z) o.place means;
-            steps = s ∙ o.steps;
-            made = inr (u ∙ ap (λ (n : ℕ). n + 1) o.turns, refl);
-          },
-        )
-    cut_at (suc count) h whole few s u r means silent =
-        let x = attempted_times (suc count) (behind limits areas (due rules) p) in
+        let e = many_evicted all p in
+        record {
+          front = all;
+          rest = [];
+          splits = sym (append-nil all);
+          residence = r;
+          means = subst (λ (z : Place). Means m file z) e.place means;
+          steps = s ∙ e.steps;
+          made = inr (u ∙ ap (λ (n : ℕ). n + 1) e.turns, refl);
+          missed = inr missed;
+          moved = moved_up here moved;
+          sends = sends;
+        }
+    cut_at (suc count) whole few s u r means missed moved sends =
+        let x = attempted_times (suc count) here in
         let q = quiet (suc count) few in
         let e = turns_are limits areas (due rules) p (suc count) whole q count (omega arith) in
-        let o = many_evicted (all_named areas (due rules (p.turns + 1))) p in
         let none_at : due rules (x.turns + 1) ≡ [] = none_due limits areas (due rules) p (suc count) count whole q (omega arith) in
-        subst (λ (z : Paged). ((machine_at z.place).output ≡ (machine_at p.place).output) × IsCutTurn areas rules z m file) (sym e) (
-          silent ∙ ap (λ (z : Place). (machine_at z).output) o.place,
-          record {
-            front = [];
-            rest = [];
-            splits = ap (all_named areas) none_at;
-            residence = r ∙ ap (λ (z : Paged). z.residence) (sym (evicted_none x));
-            means = means;
-            steps = s;
-            made = inr (u, refl);
-          },
-        )
+        let none_more = sym (evicted_none x) in
+        subst (λ (z : Paged). IsCutTurn o areas rules z m file now left) (sym e) (record {
+          front = [];
+          rest = [];
+          splits = ap (all_named areas) none_at;
+          residence = r ∙ ap (λ (z : Paged). z.residence) none_more;
+          means = means;
+          steps = s;
+          made = inr (u, refl);
+          missed = inr (subst Misses none_more missed);
+          moved = subst (λ (z : Paged). MovedUpTo o.areas o.at z [] o.file file) none_more (moved_up x moved);
+          sends = subst (λ (z : Paged). Sends o z now (held_in left)) none_more sends;
+        })
 
-    cut_short : IsUnserved most (behind limits areas (due rules) p) m file → AreCut limits areas rules p m file
+    cut_short : AttemptsCut most o here m file now left → AreCut limits o areas rules p m file now left
+    unfolding attempted_times
     cut_short h =
-        let q = quiet h.count h.few in
-        let k = cut_at h.count h h.whole h.few h.steps h.turns h.residence h.means h.silent in
+        let u = h.unserved in
         record {
-          count = h.count;
-          going = goes_through limits areas (due rules) p h.count h.whole q none (steps_low h.count h.few) (turns_low h.count h.few);
-          silent = k.0;
-          cut = k.1;
+          count = u.count;
+          going = going_through u.count u.few u.whole;
+          cut = cut_at u.count u.whole u.few u.steps u.turns u.residence u.means u.missed (moved_here h.before u h.moved) (sends_same o here (attempted_times u.count here) now (held_in left) h.sends (u.silent o.listed));
         }
 
-    done_by : (result : Result (Option ℕ) PageFault) → AttemptsDone result most (behind limits areas (due rules) p) m file → TurnsMade result limits areas rules p m file
-    done_by (Ok sent) h = made sent h
-    done_by (Err e) h = cut_short h
+    done_by : (result : Result (Unit {0}) Fault) → AttemptsDone result most o here m file now left → TurnsMade result limits o areas rules p m file now left
+    done_by (Ok x) h = made h
+    done_by (Err Page) h = cut_short h
+    done_by (Err Write) h = lost h
 
-    pub turns_made : (result : Result (Option ℕ) PageFault) → AttemptsDone result most (all_evicted (all_named areas (due rules (old.turns + 1))) p) m file → TurnsMade result limits areas rules p m file
-    turns_made result h = done_by result (subst (λ (pages : List ℕ). AttemptsDone result most (all_evicted pages p) m file) due_as h)
-
-pub err_turns : (r : Result (Option ℕ) PageFault) (limits : Limits) (areas : List Area) (rules : List Rule) (p : Paged) (m : Engine) (file : Option BlockFile) → IsErr r → AreCut limits areas rules p m file → TurnsMade r limits areas rules p m file
-err_turns (Ok x) limits areas rules p m file e b = let bad : false ≡ true = e in cc
-err_turns (Err x) limits areas rules p m file e b = b
+    pub turns_made : (result : Result (Unit {0}) Fault) → AttemptsDone result most o (all_evicted (all_named areas (due rules (old.turns + 1))) p) m file now left → TurnsMade result limits o areas rules p m file now left
+    turns_made result h = done_by result (subst (λ (pages : List ℕ). AttemptsDone result most o (all_evicted pages p) m file now left) due_as h)
 
 pub on_ok : {A E P : Type 0} (r : Result A E) → P → OnOk r P
 on_ok (Ok x) p = p
 on_ok (Err e) p = tt
 
+-- where not all that was to be written was, the last attempt's page that made room may have been written
+lost_cut : (o : Origin) (p all : Paged) (rest : List ℕ) (file : Option BlockFile) (now : Option Channels) → Grows o.listed p all → all_evicted rest p ≡ all → WrotePart o p now → MovedUpTo o.areas o.at p rest o.file file → LostPart o (attempted all) file now
+lost_cut o p all rest file now g e w (inl x) =
+    lost_on o all (attempted all) file now (grows_attempted o.listed all) (lost_on o p all file now g (record { wrote = w; moved = moved_first o.areas o.at p o.file file x }))
+lost_cut o p all rest file now g e w (inr x) =
+    let same : p ≡ all = sym (evicted_none p) ∙ (ap (λ (xs : List ℕ). all_evicted xs p) (sym x.0) ∙ e) in
+    subst (λ (z : Paged). LostPart o (attempted z) file now) same
+    (record { wrote = part_on o p (attempted p) now (grows_attempted o.listed p) w; moved = moved_first o.areas o.at (attempted p) o.file file x.1 })
+
+cut_turns : {m p : ℕ} {P : Type 0} → (m ≡ p) ⊎ ((m ≡ p + 1) × P) → (m ≡ p) ⊎ (m ≡ p + 1)
+cut_turns (inl e) = inl e
+cut_turns (inr e) = inr e.0
+
+-- a run begins with few pages pinned
+
+stands_layout : (s : Paging) (file : Option BlockFile) (memory : List Area) → StandsWith s file memory → layout memory ≡ layout s.areas
+stands_layout s None memory st = absurd st
+stands_layout s (Some file) memory st = st.areas
+
+pub begins_bounded : (m : Engine) (file : Option BlockFile) (place : Place) → IsPaging (pages m.pager) → IsSpace (pages m.pager).areas → Means m file place → PinsTouched (residence m) place → IsBounded (pages m.pager).areas (begun m place) (begun m place)
+begins_bounded m file place f space means pins =
+    begun_bounded (pages m.pager).areas (begun m place) (stands_layout (pages m.pager) file (machine_at place).memory means.memory) pins f.pinned_once f.pinned
+    (λ page r. page_small (pages m.pager).areas page space (f.inside page r))
+
 -- the loop
 
-pub at_start : (limits : Limits) (areas : List Area) (rules : List Rule) (m : Engine) (file : Option BlockFile) (place : Place) (old : Option Channels) (held : List ℕ) → held ≡ [] → Means m file place → Reached limits areas rules (begun m place) m file old old held
+pub at_start : (limits : Limits) (areas : List Area) (rules : List Rule) (m : Engine) (file : Option BlockFile) (place : Place) (old : Option Channels) (left : Held) → held_in left ≡ nothing → left.listed ≡ limits.listed → (pages m.pager).areas ≡ areas → Means m file place → Reached limits (origin limits areas (begun m place) file old) areas rules m file old left
 unfolding paged
-at_start limits areas rules m file place old held none h = record {
+at_start limits areas rules m file place old left none listed same h = record {
   made = 0;
   goes = record { going = λ i low. absurd (omega (arith, low)) };
-  tracks = record { steps = refl; turns = refl; residence = refl; means = h };
-  sends = record { sent = []; is = rw none (sym (append-nil (machine_at place).output)); wrote = grew_nothing old };
+  follows = record {
+    tracks = record { steps = refl; turns = refl; residence = refl; modified = refl; means = h };
+    sends = sends_none (origin limits areas (begun m place) file old) (held_in left) none;
+    listed = listed;
+    areas = same;
+    moved = moved_none areas (begun m place) file;
+  };
 }
 
-module _ (limits : Limits) (areas : List Area) (rules : List Rule) (b : Paged) (m : Engine) (file : Option BlockFile) (old now : Option Channels) (held : List ℕ) (r : Reached limits areas rules b m file old now held) where
-  goes_far : (count : ℕ) → ((i : ℕ) → i ≤ count → stops limits.steps limits.turns (paged areas (due rules) i (paged areas (due rules) r.made b)) ≡ None) → Runs limits areas rules b (suc (count + r.made))
+module _ (limits : Limits) (areas : List Area) (rules : List Rule) (b : Paged) (before : Option BlockFile) (m : Engine) (file : Option BlockFile) (old now : Option Channels) (left : Held) (r : Reached limits (origin limits areas b before old) areas rules m file now left) (bounded : IsBounded areas b b) (space : IsSpace areas) where
+  abbrev o : Origin
+  o = origin limits areas b before old
+
+  abbrev q : Paged
+  q = paged areas (due rules) r.made b
+
+  goes_far : (count : ℕ) → ((i : ℕ) → i ≤ count → stops limits.steps limits.turns (paged areas (due rules) i q) ≡ None) → Runs limits areas rules b (suc (count + r.made))
   goes_far count going = record {
     going = λ i low. elim (cases_lt i r.made) [
-      | inl before ↦ r.goes.going i before
+      | inl early ↦ r.goes.going i early
       | inr here ↦
           let e : (i - r.made) + r.made ≡ i = omega (arith, here) in
           let k = going (i - r.made) (omega (arith, low, here)) in
@@ -275,96 +366,97 @@ module _ (limits : Limits) (areas : List Area) (rules : List Rule) (b : Paged) (
     ];
   }
 
-  later : (count : ℕ) → paged areas (due rules) (suc count) (paged areas (due rules) r.made b) ≡ paged areas (due rules) (suc (count + r.made)) b
+  later : (count : ℕ) → paged areas (due rules) (suc count) q ≡ paged areas (due rules) (suc (count + r.made)) b
   later count =
       let e : suc count + r.made ≡ suc (count + r.made) = omega arith in
       paged_more areas (due rules) (suc count) r.made b ∙ ap (λ (n : ℕ). paged areas (due rules) n b) e
 
-  pub goes_quiet : (new : Engine) (after : Option BlockFile) → AreMade limits areas rules (paged areas (due rules) r.made b) None new after → Reached limits areas rules b new after old now held
-  goes_quiet new after h = record {
+  pub goes_further : (new : Engine) (after : Option BlockFile) (next : Option Channels) (held : Held) → AreMade limits o areas rules q new after next held → Reached limits o areas rules new after next held
+  goes_further new after next held h = record {
     made = suc (h.count + r.made);
     goes = goes_far h.count h.going;
-    tracks = subst (λ (z : Paged). Tracks new after z) (later h.count) h.tracks;
-    sends = record { sent = r.sends.sent; is = ap (λ (z : Paged). (machine_at z.place).output) (sym (later h.count)) ∙ (h.sends ∙ r.sends.is); wrote = r.sends.wrote };
+    follows = subst (λ (z : Paged). Follows o z new after next held) (later h.count) h.follows;
   }
 
-  sent_more : (more after all : List ℕ) (sent : List ℕ) → sent ++ after ≡ held ++ more → all ≡ (machine_at b.place).output ++ (r.sends.sent ++ held) → all ++ more ≡ (machine_at b.place).output ++ ((r.sends.sent ++ sent) ++ after)
-  sent_more more after all sent e a =
-      ap (λ xs. xs ++ more) a ∙ (append_assoc (machine_at b.place).output (r.sends.sent ++ held) more
-      ∙ ap (λ xs. (machine_at b.place).output ++ xs) (append_assoc r.sends.sent held more ∙ (ap (λ xs. r.sends.sent ++ xs) (sym e) ∙ sym (append_assoc r.sends.sent sent after))))
+  few_at : (count : ℕ) → FewTurns b (paged areas (due rules) count b)
+  few_at count = few_turns areas b (paged areas (due rules) count b) (paged_bounded areas (due rules) count b b space bounded)
 
-  pub goes_sent : (new : Engine) (after : Option BlockFile) (byte : ℕ) (left : List ℕ) (next : Option Channels) → AreMade limits areas rules (paged areas (due rules) r.made b) (Some byte) new after → Passes held (byte ∷ []) left now next → Reached limits areas rules b new after old next left
-  goes_sent new after byte left next h p = record {
-    made = suc (h.count + r.made);
-    goes = goes_far h.count h.going;
-    tracks = subst (λ (z : Paged). Tracks new after z) (later h.count) h.tracks;
-    sends = record {
-      sent = r.sends.sent ++ p.sent;
-      is = ap (λ (z : Paged). (machine_at z.place).output) (sym (later h.count)) ∙ (h.sends ∙ sent_more (byte ∷ []) left (machine_at (paged areas (due rules) r.made b).place).output p.sent p.is r.sends.is);
-      wrote = out_grew old now next r.sends.sent p.sent r.sends.wrote p.wrote;
-    };
-  }
+  whole : (result : RunEnd) (next : Option Channels) → stops limits.steps limits.turns q ≡ why_of result → Grew now next (held_in left) → IsWhole limits areas rules b result before m file old next
+  whole result next why g = record { count = r.made; goes = r.goes; stopped = why; tracks = r.follows.tracks; wrote = wrote_all o q now (held_in left) r.follows.sends next g; moved = r.follows.moved; few = few_at r.made }
 
-  all_sent : (q : Paged) (next : Option Channels) → (machine_at q.place).output ≡ (machine_at (paged areas (due rules) r.made b).place).output → Passes held [] [] now next → Sends b q old next []
-  all_sent q next same p = record {
-    sent = r.sends.sent ++ p.sent;
-    is = same ∙ (sym (append-nil (machine_at (paged areas (due rules) r.made b).place).output) ∙ sent_more [] [] (machine_at (paged areas (due rules) r.made b).place).output p.sent p.is r.sends.is);
-    wrote = out_grew old now next r.sends.sent p.sent r.sends.wrote p.wrote;
-  }
+  unwritten : (next : Option Channels) → GrewByPrefix now next (held_in left) → IsLost limits areas rules b before file old next
+  unwritten next g = lost_at limits areas rules b before file r.made old next r.goes (record { wrote = wrote_part o q now (held_in left) r.follows.sends next g; moved = moved_first areas b q before file r.follows.moved })
 
-  whole : (result : RunEnd) (next : Option Channels) → stops limits.steps limits.turns (paged areas (due rules) r.made b) ≡ why_of result → Passes held [] [] now next → IsWhole limits areas rules b result m file old next
-  whole result next why p = record { count = r.made; goes = r.goes; stopped = why; tracks = r.tracks; sends = all_sent (paged areas (due rules) r.made b) next refl p }
+  -- where several turns were cut short
 
-  cut : (new : Engine) (after : Option BlockFile) (next : Option Channels) → AreCut limits areas rules (paged areas (due rules) r.made b) new after → Passes held [] [] now next → IsCut limits areas rules b new after old next
-  cut new after next h p =
-      let e = paged_more areas (due rules) h.count r.made b in
-      let k : IsCutTurn areas rules (paged areas (due rules) (h.count + r.made) b) new after = subst (λ (z : Paged). IsCutTurn areas rules z new after) e h.cut in
-      record {
-        count = h.count + r.made;
-        goes = goes_far h.count h.going;
-        front = k.front;
-        rest = k.rest;
-        splits = k.splits;
-        residence = k.residence;
-        means = k.means;
-        steps = k.steps;
-        made = k.made;
-        sends = all_sent (paged areas (due rules) (h.count + r.made) b) next (ap (λ (z : Paged). (machine_at z.place).output) (sym e) ∙ h.silent) p;
-      }
+  abbrev Cut : Engine → Option BlockFile → Option Channels → Held → Type 0
+  Cut new after next held = AreCut limits o areas rules q new after next held
 
-  lost : (next : Option Channels) → GrewByPrefix now next (only Out held) → IsLost limits areas rules b old next
-  lost next g = lost_at limits areas rules b r.made (r.sends.sent ++ held) old next r.goes r.sends.is (out_last old now next r.sends.sent held r.sends.wrote g)
+  module _ (new : Engine) (after : Option BlockFile) (mid : Option Channels) (held : Held) (h : Cut new after mid held) where
+    there : paged areas (due rules) h.count q ≡ paged areas (due rules) (h.count + r.made) b
+    there = paged_more areas (due rules) h.count r.made b
 
-  pub lost_byte : (new : Engine) (after : Option BlockFile) (byte : ℕ) (next : Option Channels) → AreMade limits areas rules (paged areas (due rules) r.made b) (Some byte) new after → GrewByPrefix now next (only Out (held ++ byte ∷ [])) → IsLost limits areas rules b old next
-  lost_byte new after byte next h g = lost_at limits areas rules b (suc (h.count + r.made)) (r.sends.sent ++ (held ++ byte ∷ [])) old next (goes_far h.count h.going)
-      (ap (λ (z : Paged). (machine_at z.place).output) (sym (later h.count))
-      ∙ (h.sends ∙ (ap (λ xs. xs ++ byte ∷ []) r.sends.is ∙ (append_assoc (machine_at b.place).output (r.sends.sent ++ held) (byte ∷ []) ∙ ap (λ xs. (machine_at b.place).output ++ xs) (append_assoc r.sends.sent held (byte ∷ []))))))
-      (out_last old now next r.sends.sent (held ++ byte ∷ []) r.sends.wrote g)
+    turn_cut : IsCutTurn o areas rules (paged areas (due rules) (h.count + r.made) b) new after mid held
+    turn_cut = subst (λ (z : Paged). IsCutTurn o areas rules z new after mid held) there h.cut
 
-  ends_whole : (end : RunEnd) (next : Option Channels) → IsStop end → IsWhole limits areas rules b end m file old next → Ends limits areas rules b end m file old next
+    cut : (next : Option Channels) → Grew mid next (held_in held) → IsCut limits areas rules b before new after old next
+    cut next g =
+        let k = turn_cut in
+        record {
+          count = h.count + r.made;
+          goes = goes_far h.count h.going;
+          front = k.front;
+          rest = k.rest;
+          splits = k.splits;
+          residence = k.residence;
+          means = k.means;
+          steps = k.steps;
+          made = k.made;
+          wrote = wrote_all o (all_evicted k.front (paged areas (due rules) (h.count + r.made) b)) mid (held_in held) k.sends next g;
+          moved = k.moved;
+          few = few_cut areas b (paged areas (due rules) (h.count + r.made) b) k.front new.turns space (paged_bounded areas (due rules) (h.count + r.made) b b space bounded) (cut_turns k.made) k.missed;
+        }
+
+    cut_lost : (next : Option Channels) → GrewByPrefix mid next (held_in held) → IsLost limits areas rules b before after old next
+    unfolding paged
+    cut_lost next g =
+        let k = turn_cut in
+        let p = paged areas (due rules) (h.count + r.made) b in
+        let w = wrote_part o (all_evicted k.front p) mid (held_in held) k.sends next g in
+        let all = all_evicted (all_named areas (due rules (p.turns + 1))) p in
+        let e : all_evicted k.rest (all_evicted k.front p) ≡ all = sym (ap (λ (xs : List ℕ). all_evicted xs p) k.splits ∙ evicted_append k.front k.rest p) in
+        lost_at limits areas rules b before after (suc (h.count + r.made)) old next (goes_far h.count h.going)
+        (lost_cut o (all_evicted k.front p) all k.rest after next (subst (λ (z : Paged). Grows limits.listed (all_evicted k.front p) z) e (grows_evicted limits.listed k.rest (all_evicted k.front p))) e w k.moved)
+
+  ends_whole : (end : RunEnd) (next : Option Channels) → IsStop end → IsWhole limits areas rules b end before m file old next → Ends limits areas rules b before end m file old next
   ends_whole (run_end.Ended e) next s h = h
   ends_whole run_end.Steps next s h = h
   ends_whole run_end.Turns next s h = h
   ends_whole run_end.PageFault next s h = absurd s
   ends_whole run_end.WriteFault next s h = absurd s
 
-  pub finishes_whole : (end result : RunEnd) (next : Option Channels) (rose : Type 0) → IsStop end → ((p : Paged) → Tracks m file p → stops limits.steps limits.turns p ≡ why_of end) → Finishes end result held now next rose → Ends limits areas rules b result m file old next
+  pub finishes_whole : (end result : RunEnd) (next : Option Channels) (rose : Type 0) → IsStop end → ((p : Paged) → Tracks m file p → stops limits.steps limits.turns p ≡ why_of end) → Finishes end result (held_in left) now next rose → Ends limits areas rules b before result m file old next
   finishes_whole end result next rose s why (inl h) =
-      subst (λ (x : RunEnd). Ends limits areas rules b x m file old next) (sym h.0) (ends_whole end next s (whole end next (why (paged areas (due rules) r.made b) r.tracks) h.1))
+      subst (λ (x : RunEnd). Ends limits areas rules b before x m file old next) (sym h.0) (ends_whole end next s (whole end next (why q r.follows.tracks) h.1))
   finishes_whole end result next rose s why (inr h) =
-      subst (λ (x : RunEnd). Ends limits areas rules b x m file old next) (sym h.0) (lost next h.1)
+      subst (λ (x : RunEnd). Ends limits areas rules b before x m file old next) (sym h.0) (unwritten next h.1)
 
-  pub finishes_cut : (new : Engine) (after : Option BlockFile) (result : RunEnd) (next : Option Channels) (rose : Type 0) → AreCut limits areas rules (paged areas (due rules) r.made b) new after → Finishes run_end.PageFault result held now next rose → Ends limits areas rules b result new after old next
-  finishes_cut new after result next rose h (inl f) = subst (λ (x : RunEnd). Ends limits areas rules b x new after old next) (sym f.0) (cut new after next h f.1)
-  finishes_cut new after result next rose h (inr f) = subst (λ (x : RunEnd). Ends limits areas rules b x new after old next) (sym f.0) (lost next f.1)
+  pub finishes_cut : (new : Engine) (after : Option BlockFile) (mid : Option Channels) (held : Held) (result : RunEnd) (next : Option Channels) (rose : Type 0) → Cut new after mid held → Finishes run_end.PageFault result (held_in held) mid next rose → Ends limits areas rules b before result new after old next
+  finishes_cut new after mid held result next rose h (inl f) = subst (λ (x : RunEnd). Ends limits areas rules b before x new after old next) (sym f.0) (cut new after mid held h next f.1)
+  finishes_cut new after mid held result next rose h (inr f) = subst (λ (x : RunEnd). Ends limits areas rules b before x new after old next) (sym f.0) (cut_lost new after mid held h next f.1)
+
+  pub lost_turns : (after : Option BlockFile) (next : Option Channels) → AreLost limits o areas rules q after next → IsLost limits areas rules b before after old next
+  lost_turns after next h =
+      lost_at limits areas rules b before after (suc (h.count + r.made)) old next (goes_far h.count h.going)
+      (subst (λ (z : Paged). LostPart o z after next) (later h.count) h.part)
 
 -- the causes
 
-pub write_cause : (end result : RunEnd) (held : List ℕ) (old new : Option Channels) (rose : Type 0) → Finishes end result held old new rose → (end ≡ run_end.WriteFault → ⊥) → result ≡ run_end.WriteFault → rose
+pub write_cause : (end result : RunEnd) (held : Channels) (old new : Option Channels) (rose : Type 0) → Finishes end result held old new rose → (end ≡ run_end.WriteFault → ⊥) → result ≡ run_end.WriteFault → rose
 write_cause end result held old new rose (inl h) other is = absurd (other (sym h.0 ∙ is))
 write_cause end result held old new rose (inr h) other is = h.2
 
-pub page_cause : (end result : RunEnd) (held : List ℕ) (old new : Option Channels) (rose : Type 0) → Finishes end result held old new rose → result ≡ run_end.PageFault → end ≡ run_end.PageFault
+pub page_cause : (end result : RunEnd) (held : Channels) (old new : Option Channels) (rose : Type 0) → Finishes end result held old new rose → result ≡ run_end.PageFault → end ≡ run_end.PageFault
 page_cause end result held old new rose (inl h) is = sym h.0 ∙ is
 page_cause end result held old new rose (inr h) is = let bad : run_end.WriteFault ≡ run_end.PageFault = sym h.0 ∙ is in cc
 
@@ -375,15 +467,6 @@ stop_unlike run_end.Turns s = (λ x. cc, λ x. cc)
 stop_unlike run_end.PageFault s = absurd s
 stop_unlike run_end.WriteFault s = absurd s
 
-pub one_of_both : (end result : RunEnd) (held : List ℕ) (old new : Option Channels) (rose : Type 0) → Finishes end result held old new rose → (result ≡ end → ⊥) → (result ≡ run_end.WriteFault → ⊥) → ⊥
+pub one_of_both : (end result : RunEnd) (held : Channels) (old new : Option Channels) (rose : Type 0) → Finishes end result held old new rose → (result ≡ end → ⊥) → (result ≡ run_end.WriteFault → ⊥) → ⊥
 one_of_both end result held old new rose (inl h) a b = a h.0
 one_of_both end result held old new rose (inr h) a b = b h.0
-
--- nothing but Out grows
-
-whole_prefix : (old new : Option Channels) (sent : List ℕ) → Grew old new (only Out sent) → GrewByPrefix old new (only Out sent)
-whole_prefix old new sent g = record { prefix = only Out sent; rest = nothing; splits = append-nothing (only Out sent); grew = g }
-
-pub out_finished : (end result : RunEnd) (held : List ℕ) (old now new : Option Channels) (sent : List ℕ) (rose : Type 0) → Grew old now (only Out sent) → Finishes end result held now new rose → (all : List ℕ) × GrewByPrefix old new (only Out all)
-out_finished end result held old now new sent rose g (inl h) = (sent ++ h.1.sent, whole_prefix old new (sent ++ h.1.sent) (out_grew old now new sent h.1.sent g h.1.wrote))
-out_finished end result held old now new sent rose g (inr h) = (sent ++ held, out_last old now new sent held g h.1)

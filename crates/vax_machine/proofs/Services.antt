@@ -1,13 +1,13 @@
 -- What a service, an eviction and a flush make of a machine.
-use Rattle.std.proofs.Common.{ℕ, ◌≡◌, ◌+◌, ◌<◌, ◌≤◌, Bool, true, false, List, [], ◌∷◌, ◌++◌, length, length-append, if◌then◌else◌, refl, ap, sym, ◌∙◌, subst, arith, inl, inr, Option, Some, None}
-use Rattle.std.specs.Prelude.{nat_lt, is_some}
+use Rattle.std.proofs.Common.{ℕ, ◌≡◌, ◌+◌, ◌<◌, ◌≤◌, ◌==◌, Bool, true, false, List, [], ◌∷◌, ◌++◌, length, length-append, if◌then◌else◌, refl, ap, sym, ◌∙◌, subst, arith, inl, inr, Option, Some, None}
+use Rattle.std.specs.Prelude.{◌||◌, nat_lt, is_some}
 use Rattle.std.proofs.lemmas.Bool.Decides.{nat_tests}
-use Rattle.std.proofs.lemmas.Bool.{cases_Bool}
+use Rattle.std.proofs.lemmas.Bool.{cases_Bool, eq-eqb}
 use Rattle.vax_space.specs.declared.Area.{Area}
 use Rattle.vax_space.specs.Areas.{area_of}
 use Rattle.vax_outside.specs.Blocks.{BlockFile}
 use Rattle.vax_flat.specs.Parts.{machine_at}
-use Rattle.vax_pager.specs.Calls.{IsLeft, IsPaging, Source, Back, Empty, OfKept, OfVictim, Nowhere, after_flush, after_evict, begun, came, source, taken_from, victim_of}
+use Rattle.vax_pager.specs.Calls.{IsLeft, IsPaging, Source, Back, Empty, OfKept, OfVictim, Nowhere, after_flush, after_evict, begun, came, source, taken_from, victim_of, wrote_back}
 use Rattle.vax_pager.specs.Listing.{is_listed, leave_out, first, first_outside, AreOnce}
 use Rattle.vax_pager.specs.Meaning.{pages}
 use Rattle.vax_pager.specs.Paging.{Paging, Keeps}
@@ -18,6 +18,10 @@ use Rattle.vax_machine.specs.Machine.{AreSound, Keeping, keeping, Evicts, Flushe
 use Rattle.vax_machine.specs.Residence.{Residence, residence_of, victim, without_victim, served, taken_out}
 use Rattle.vax_machine.specs.declared.engine.Engine.{Engine}
 use Rattle.vax_machine.specs.declared.event.Applied.{Applied}
+
+or_true : (b : Bool) → (b || true) ≡ true
+or_true true = refl
+or_true false = refl
 
 lt_true : (a b : ℕ) → a < b → nat_lt a b ≡ true
 lt_true a b h = grind (arith, nat_tests)
@@ -143,6 +147,29 @@ sound_after s t page bytes want w e f h =
     let sound : AreSound s.areas (residence_of s) (Some page) = subst (λ (z : Option ℕ). AreSound s.areas (residence_of s) z) w h in
     rw (e, k.residence, k.areas) (sound_served s.areas (residence_of s) page sound)
 
+-- the page that made room was resident
+
+first_listed : (others xs : List ℕ) (page : ℕ) → first_outside others xs ≡ Some page → is_listed page xs ≡ true
+unfolding first_outside is_listed
+first_listed others [] page e = cc
+first_listed others (x ∷ xs) page e = elim (cases_Bool (is_listed x others)) [
+  | inl t ↦ let k = first_listed others xs page (rw t at e) in rw k (or_true (x == page))
+  | inr f ↦ let k : Some x ≡ Some page = rw f at e in let q : x ≡ page = cc in rw (eq-eqb x page q) refl
+]
+
+pub victim_listed : (r : Residence) (page : ℕ) → victim r ≡ Some page → is_listed page r.order ≡ true
+unfolding victim
+victim_listed r page e = elim (cases_Bool (nat_lt (length r.order) r.frames)) [
+  | inl t ↦ let no_page : None ≡ Some page = rw t at e in cc
+  | inr f ↦ first_listed r.pinned r.order page (rw f at e)
+]
+
+pub victim_inside : (s t : Paging) (page other : ℕ) (bytes : List ℕ) (v : Option ℕ) → t ≡ came (source page s) page bytes s → v ≡ victim_of (source page s) → v ≡ Some other → IsPaging s → length s.pinned < s.frames → is_some (area_of t.areas other) ≡ true
+victim_inside s t page other bytes v e is some f few =
+    let k = is_service page bytes s f few in
+    let listed = victim_listed (residence_of s) other (sym k.answer ∙ (sym is ∙ some)) in
+    subst (λ (z : List Area). is_some (area_of z other) ≡ true) (sym (ap (λ (z : Paging). z.areas) e ∙ k.areas)) (f.inside other listed)
+
 -- a service that failed
 
 begun_same : (s : Paging) (from : Source) → (residence_of (begun from s) ≡ residence_of s) × ((begun from s).areas ≡ s.areas)
@@ -235,3 +262,23 @@ pub keeping_same : (old : Engine) (p : Pager) → (residence_of (pages p) ≡ re
 keeping_same old p e =
     ap (λ (a : List Area). record { areas = a; steps = old.steps; turns = old.turns; residence = residence_of (pages p); wanted = old.wanted; ended = old.ended }) e.1
     ∙ ap (λ (r : Residence). record { areas = (pages old.pager).areas; steps = old.steps; turns = old.turns; residence = r; wanted = old.wanted; ended = old.ended }) e.0
+
+-- where a page isn't modified, or isn't resident, nothing is written
+
+pub wrote_clean : (page : ℕ) (s : Paging) (file : Option BlockFile) → is_listed page s.modified ≡ false → wrote_back page s file ≡ file
+unfolding wrote_back
+wrote_clean page s file e = rw e refl
+
+pub flushed_nothing : (page : ℕ) (s : Paging) → is_listed page s.modified ≡ false → after_flush page s ≡ s
+unfolding after_flush
+flushed_nothing page s e = rw e refl
+
+pub evicted_nothing : (page : ℕ) (s : Paging) → is_listed page s.order ≡ false → after_evict page s ≡ s
+unfolding after_evict
+evicted_nothing page s e = rw e refl
+
+pub wrote_nothing_of : (page : ℕ) (s : Paging) (file : Option BlockFile) → IsPaging s → is_listed page s.order ≡ false → wrote_back page s file ≡ file
+wrote_nothing_of page s file f e = wrote_clean page s file (elim (cases_Bool (is_listed page s.modified)) [
+  | inl t ↦ let bad : false ≡ true = sym e ∙ f.dirty page t in cc
+  | inr o ↦ o
+])

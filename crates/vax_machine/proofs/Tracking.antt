@@ -3,74 +3,82 @@ use Rattle.std.proofs.Common.{ℕ, zero, suc, ◌≡◌, ◌+◌, ◌^◌, ◌<�
 use Rattle.std.specs.Prelude.{IsErr, if◌then◌else◌}
 use Rattle.std.proofs.lemmas.Bool.{cases_Bool, cases_lt}
 use Rattle.vax_outside.specs.Blocks.{BlockFile}
-use Rattle.vax_flat.specs.Outcome.{Range, first_missing}
+use Rattle.vax_flat.specs.Outcome.{Range, first_missing, marked_by}
 use Rattle.vax_flat.specs.Parts.{Partway, Place, At, Within, Completes, Leaves, machine_at, touches_at, turn}
 use Rattle.vax_flat.specs.Step.{Flat}
 use Rattle.vax_pager.specs.Listing.{is_listed}
 use Rattle.vax_pager.specs.Meaning.{pages}
-use Rattle.vax_pager.specs.declared.calls.PageFault.{PageFault}
 use Rattle.vax_pager.proofs.Listing.{in_without}
-use Rattle.vax_machine.specs.Batch.{Advances, several}
-use Rattle.vax_machine.specs.Machine.{Evicts, Keeping, KeepsPlace, keeping, residence}
-use Rattle.vax_machine.specs.Paged.{Paged, attempted, all_evicted, evicted, eviction_of}
+use Rattle.vax_machine.specs.Batch.{Advances, Spot, several}
+use Rattle.vax_machine.specs.Machine.{Evicts, Keeping, KeepsPlace, keeping, modified_of, residence}
+use Rattle.vax_machine.specs.Paged.{Paged, attempted, attempted_by, all_evicted, cleaned, evicted, eviction_of, marked}
 use Rattle.vax_machine.specs.Residence.{Residence, is_resident, served, taken_out, unpinned, victim}
 use Rattle.vax_machine.specs.Run.{Tracks}
 use Rattle.vax_machine.specs.Touched.{PinsTouched}
-use Rattle.vax_machine.specs.Turn.{AreWhole, EvictedAll, IsBegun, Still, attempted_times}
+use Rattle.vax_machine.specs.Turn.{AreWhole, Still, attempted_times}
 use Rattle.vax_machine.specs.declared.engine.Engine.{Engine}
 use Rattle.vax_machine.specs.declared.event.Applied.{Applied}
-use Rattle.vax_machine.specs.declared.event.Applied.TheVariants.{Evicted, Failed}
+use Rattle.vax_machine.specs.declared.event.Applied.TheVariants.{Evicted, Failed, Nothing}
 
 -- an eviction
 
-record IsEvicted (page : ℕ) (p q : Paged) : Type 0 where
+pub record IsEvicted (page : ℕ) (p q : Paged) : Type 0 where
   pub residence : q.residence ≡ taken_out page p.residence
   pub steps : q.steps ≡ p.steps
   pub turns : q.turns ≡ p.turns
   pub place : q.place ≡ p.place
+  pub parts : q.parts ≡ p.parts
+  pub modified : q.modified ≡ cleaned page p.modified
+  pub evictions : q.evictions ≡ p.evictions ++ eviction_of (p.turns + 1) page p ∷ []
 
-evicted_there : (page : ℕ) (p : Paged) → is_listed page p.residence.order ≡ true → IsEvicted page p (evicted page p)
+pub evicted_there : (page : ℕ) (p : Paged) → is_listed page p.residence.order ≡ true → IsEvicted page p (evicted page p)
 unfolding evicted
-evicted_there page p h = rw h (record { residence = refl; steps = refl; turns = refl; place = refl })
+evicted_there page p h = rw h (record { residence = refl; steps = refl; turns = refl; place = refl; parts = refl; modified = refl; evictions = refl })
 
-evicted_away : (page : ℕ) (p : Paged) → is_listed page p.residence.order ≡ false → evicted page p ≡ p
+pub evicted_away : (page : ℕ) (p : Paged) → is_listed page p.residence.order ≡ false → evicted page p ≡ p
 unfolding evicted
 evicted_away page p h = rw h refl
 
-with_evicted : (old new : Engine) (before after : Option BlockFile) (p : Paged) (page : ℕ) → is_listed page (pages old.pager).order ≡ true → keeping new ≡ record (keeping old) { residence = taken_out page (residence old) } → KeepsPlace old before new after → Tracks old before p → Tracks new after (evicted page p)
-with_evicted old new before after p page b e keeps t =
+with_evicted : (old new : Engine) (before after : Option BlockFile) (p : Paged) (page : ℕ) → is_listed page (pages old.pager).order ≡ true → modified_of new ≡ cleaned page (modified_of old) → keeping new ≡ record (keeping old) { residence = taken_out page (residence old) } → KeepsPlace old before new after → Tracks old before p → Tracks new after (evicted page p)
+with_evicted old new before after p page b marks e keeps t =
     let x = evicted_there page p (ap (λ (r : Residence). is_listed page r.order) (sym t.residence) ∙ b) in
     record {
       steps = ap (λ (k : Keeping). k.steps) e ∙ t.steps ∙ sym x.steps;
       turns = ap (λ (k : Keeping). k.turns) e ∙ t.turns ∙ sym x.turns;
       residence = ap (λ (k : Keeping). k.residence) e ∙ ap (taken_out page) t.residence ∙ sym x.residence;
+      modified = marks ∙ ap (cleaned page) t.modified ∙ sym x.modified;
       means = rw x.place (keeps p.place t.means);
     }
 
-tracks_same : (old new : Engine) (before after : Option BlockFile) (p : Paged) → keeping new ≡ keeping old → KeepsPlace old before new after → Tracks old before p → Tracks new after p
-tracks_same old new before after p e keeps t = record {
+tracks_same : (old new : Engine) (before after : Option BlockFile) (p : Paged) → modified_of new ≡ modified_of old → keeping new ≡ keeping old → KeepsPlace old before new after → Tracks old before p → Tracks new after p
+tracks_same old new before after p marks e keeps t = record {
   steps = ap (λ (k : Keeping). k.steps) e ∙ t.steps;
   turns = ap (λ (k : Keeping). k.turns) e ∙ t.turns;
   residence = ap (λ (k : Keeping). k.residence) e ∙ t.residence;
+  modified = marks ∙ t.modified;
   means = keeps p.place t.means;
 }
 
-evict_step : (old new : Engine) (before after : Option BlockFile) (p : Paged) (page : ℕ) (b : Bool) (result : Applied) → is_listed page (pages old.pager).order ≡ b → Evicts page b (keeping old) result (keeping new) → KeepsPlace old before new after → (result ≡ Failed → ⊥) → Tracks old before p → Tracks new after (evicted page p)
-evict_step old new before after p page true result b (inl x) keeps ok t = absurd (ok x.0)
-evict_step old new before after p page true result b (inr x) keeps ok t = with_evicted old new before after p page b x.1 keeps t
-evict_step old new before after p page false result b x keeps ok t =
-    subst (λ (z : Paged). Tracks new after z) (sym (evicted_away page p (ap (λ (r : Residence). is_listed page r.order) (sym t.residence) ∙ b))) (tracks_same old new before after p x.1 keeps t)
+pub evict_gone : (old new : Engine) (page : ℕ) (b : Bool) → Evicts page b (keeping old) Evicted (keeping new) → (b ≡ true) × (keeping new ≡ record (keeping old) { residence = taken_out page (residence old) })
+evict_gone old new page true (inl x) = let bad : Evicted ≡ Failed = x.0 in cc
+evict_gone old new page true (inr x) = (refl, x.1)
+evict_gone old new page false x = let bad : Evicted ≡ Nothing = x.0 in cc
 
-pub evict_done : (old new : Engine) (before after : Option BlockFile) (p : Paged) (page : ℕ) (result : Applied) → Evicts page (is_listed page (pages old.pager).order) (keeping old) result (keeping new) × KeepsPlace old before new after → (result ≡ Failed → ⊥) → Tracks old before p → Tracks new after (evicted page p)
-evict_done old new before after p page result h ok t = evict_step old new before after p page (is_listed page (pages old.pager).order) result refl h.0 h.1 ok t
+-- it was resident, and is absent now
+pub evict_done : (old new : Engine) (before after : Option BlockFile) (p : Paged) (page : ℕ) → Evicts page (is_listed page (pages old.pager).order) (keeping old) Evicted (keeping new) × KeepsPlace old before new after → modified_of new ≡ cleaned page (modified_of old) → Tracks old before p → Tracks new after (evicted page p)
+evict_done old new before after p page h marks t =
+    let g = evict_gone old new page (is_listed page (pages old.pager).order) h.0 in
+    with_evicted old new before after p page g.0 marks g.1 h.1 t
 
-failed_step : (old new : Engine) (page : ℕ) (b : Bool) → Evicts page b (keeping old) Failed (keeping new) → keeping new ≡ keeping old
-failed_step old new page true (inl x) = x.1
-failed_step old new page true (inr x) = let bad : Failed ≡ Evicted = x.0 in cc
-failed_step old new page false x = x.1
+evict_not : (old new : Engine) (page : ℕ) (b : Bool) (result : Applied) → Evicts page b (keeping old) result (keeping new) → (result ≡ Evicted → ⊥) → keeping new ≡ keeping old
+evict_not old new page true result (inl x) none = x.1
+evict_not old new page true result (inr x) none = absurd (none x.0)
+evict_not old new page false result x none = x.1
 
-pub evict_failed : (old new : Engine) (before after : Option BlockFile) (p : Paged) (page : ℕ) → Evicts page (is_listed page (pages old.pager).order) (keeping old) Failed (keeping new) × KeepsPlace old before new after → Tracks old before p → Tracks new after p
-evict_failed old new before after p page h t = tracks_same old new before after p (failed_step old new page (is_listed page (pages old.pager).order) h.0) h.1 t
+-- nothing was done
+pub evict_none : (old new : Engine) (before after : Option BlockFile) (p : Paged) (page : ℕ) (result : Applied) → Evicts page (is_listed page (pages old.pager).order) (keeping old) result (keeping new) × KeepsPlace old before new after → (result ≡ Evicted → ⊥) → modified_of new ≡ modified_of old → Tracks old before p → Tracks new after p
+evict_none old new before after p page result h none marks t =
+    tracks_same old new before after p marks (evict_not old new page (is_listed page (pages old.pager).order) result h.0 none) h.1 t
 
 -- what evictions leave, whatever the memory is
 
@@ -99,19 +107,9 @@ pub evicted_none : (p : Paged) → all_evicted [] p ≡ p
 unfolding all_evicted
 evicted_none p = refl
 
-pub evicted_last : (xs : List ℕ) (page : ℕ) (p : Paged) → all_evicted (xs ++ page ∷ []) p ≡ evicted page (all_evicted xs p)
+pub evicted_one : (page : ℕ) (p : Paged) → all_evicted (page ∷ []) p ≡ evicted page p
 unfolding all_evicted
-evicted_last [] page p = refl
-evicted_last (x ∷ xs) page p = evicted_last xs page (evicted x p)
-
-pub done_as : (r : Result (Unit {0}) PageFault) (p : Paged) (page : ℕ) (m : Engine) (file : Option BlockFile) → OnOk r (Tracks m file (evicted page p)) → OnErr r (Tracks m file p) → EvictedAll r (page ∷ []) p m file
-unfolding all_evicted
-done_as (Ok x) p page m file a b = a
-done_as (Err e) p page m file a b = record { front = []; rest = page ∷ []; splits = refl; tracks = b }
-
-pub err_begun : (r : Result (Unit {0}) PageFault) (all : List ℕ) (p : Paged) (m : Engine) (file : Option BlockFile) → IsErr r → IsBegun all p m file → EvictedAll r all p m file
-err_begun (Ok x) all p m file e b = let bad : false ≡ true = e in cc
-err_begun (Err x) all p m file e b = b
+evicted_one page p = refl
 
 -- evictions keep the place, and pin nothing
 pub record OnlyEvicted (p q : Paged) : Type 0 where
@@ -125,7 +123,7 @@ listed_out : (page other : ℕ) (xs : List ℕ) (b : Bool) → (other == page) �
 listed_out page other xs true e h = let no : false ≡ true = h in cc
 listed_out page other xs false e h = h
 
-fewer_pinned : (page : ℕ) (r : Residence) (other : ℕ) → is_listed other (taken_out page r).pinned ≡ true → is_listed other r.pinned ≡ true
+pub fewer_pinned : (page : ℕ) (r : Residence) (other : ℕ) → is_listed other (taken_out page r).pinned ≡ true → is_listed other r.pinned ≡ true
 unfolding taken_out
 fewer_pinned page r other = elim (cases_Bool (is_listed page r.order)) [
   | inl t ↦ rw t (λ h. listed_out page other r.pinned (other == page) refl (sym (in_without other page r.pinned) ∙ h))
@@ -154,15 +152,15 @@ pins_evicted pages p h =
 
 -- an attempt of the paged run
 
-pub attempted_whole : (p : Paged) (next : Flat) → (machine_at p.place).ending ≡ None → first_missing (is_resident p.residence) (touches_at p.place) ≡ None → turn p.place ≡ Completes next → attempted p ≡ record { place = At next; steps = p.steps + 1; parts = p.parts + 1; turns = p.turns + 1; residence = unpinned p.residence; evictions = p.evictions }
+pub attempted_whole : (p : Paged) (next : Flat) → (machine_at p.place).ending ≡ None → first_missing (is_resident p.residence) (touches_at p.place) ≡ None → turn p.place ≡ Completes next → attempted p ≡ record { place = At next; steps = p.steps + 1; parts = p.parts + 1; turns = p.turns + 1; residence = unpinned p.residence; modified = marked_by (is_resident p.residence) p.modified (touches_at p.place); evictions = p.evictions }
 unfolding attempted
 attempted_whole p next going m e = rw (going, m, e) refl
 
-pub attempted_part : (p : Paged) (next : Partway) → (machine_at p.place).ending ≡ None → first_missing (is_resident p.residence) (touches_at p.place) ≡ None → turn p.place ≡ Leaves next → attempted p ≡ record { place = Within next; steps = p.steps; parts = p.parts + 1; turns = p.turns + 1; residence = unpinned p.residence; evictions = p.evictions }
+pub attempted_part : (p : Paged) (next : Partway) → (machine_at p.place).ending ≡ None → first_missing (is_resident p.residence) (touches_at p.place) ≡ None → turn p.place ≡ Leaves next → attempted p ≡ record { place = Within next; steps = p.steps; parts = p.parts + 1; turns = p.turns + 1; residence = unpinned p.residence; modified = marked_by (is_resident p.residence) p.modified (touches_at p.place); evictions = p.evictions }
 unfolding attempted
 attempted_part p next going m e = rw (going, m, e) refl
 
-pub attempted_miss : (p : Paged) (page : ℕ) → (machine_at p.place).ending ≡ None → first_missing (is_resident p.residence) (touches_at p.place) ≡ Some page → attempted p ≡ record p { turns = p.turns + 1; residence = served page p.residence; evictions = p.evictions ++ eviction_of (p.turns + 2) (victim p.residence) }
+pub attempted_miss : (p : Paged) (page : ℕ) → (machine_at p.place).ending ≡ None → first_missing (is_resident p.residence) (touches_at p.place) ≡ Some page → attempted p ≡ attempted_by (Some page) (marked p)
 unfolding attempted
 attempted_miss p page going m = rw (going, m) refl
 
@@ -172,8 +170,11 @@ abbrev pub dropped : ℕ → Residence → Residence
 dropped zero r = r
 dropped (suc count) r = unpinned r
 
-pub record IsAdvanced (p : Paged) (count : ℕ) (here : Place) (q : Paged) : Type 0 where
-  pub place : q.place ≡ here
+pub record IsAdvanced (p : Paged) (count : ℕ) (here : Spot) (q : Paged) : Type 0 where
+  pub place : q.place ≡ here.place
+  pub modified : q.modified ≡ here.modified
+  pub parts : q.parts ≡ p.parts + count
+  pub evictions : q.evictions ≡ p.evictions
   pub steps : q.steps ≡ p.steps + count
   pub turns : q.turns ≡ p.turns + count
   pub residence : q.residence ≡ dropped count p.residence
@@ -190,19 +191,40 @@ dropped_more (suc count) r = refl
 pub resident_same : (r q : Residence) (ranges : List Range) (m : Option ℕ) → r.order ≡ q.order → first_missing (is_resident r) ranges ≡ m → first_missing (is_resident q) ranges ≡ m
 resident_same r q ranges m e h = subst (λ (z : List ℕ). first_missing (λ page. is_listed page z) ranges ≡ m) e h
 
-pub times_advanced : (p : Paged) (count : ℕ) (here : Place) → (machine_at p.place).ending ≡ None → Advances (is_resident p.residence) count p.place here → IsAdvanced p count here (attempted_times count p)
+abbrev pub spot_of : Paged → Spot
+spot_of p = record { place = p.place; modified = p.modified }
+
+pub times_advanced : (p : Paged) (count : ℕ) (here : Spot) → (machine_at p.place).ending ≡ None → Advances (is_resident p.residence) count (spot_of p) here → IsAdvanced p count here (attempted_times count p)
 unfolding attempted_times Advances
-times_advanced p zero here going a = record { place = sym a; steps = omega arith; turns = omega arith; residence = refl; going = going }
+times_advanced p zero here going a = record {
+  place = ap (λ (z : Spot). z.place) (sym a);
+  modified = ap (λ (z : Spot). z.modified) (sym a);
+  parts = omega arith;
+  evictions = refl;
+  steps = omega arith;
+  turns = omega arith;
+  residence = refl;
+  going = going;
+}
 times_advanced p (suc count) here going a =
     let h = times_advanced p count a.0 going a.2 in
     let q = attempted_times count p in
+    let order : p.residence.order ≡ q.residence.order = sym (ap (λ (z : Residence). z.order) h.residence ∙ dropped_order count p.residence) in
     let missing : first_missing (is_resident q.residence) (touches_at q.place) ≡ None =
-    rw h.place (resident_same p.residence q.residence (touches_at a.0) None (sym (ap (λ (z : Residence). z.order) h.residence ∙ dropped_order count p.residence)) a.3) in
+    rw h.place (resident_same p.residence q.residence (touches_at a.0.place) None order a.3) in
     let e = attempted_whole q a.1 h.going missing (ap turn h.place ∙ a.4) in
     let s = h.steps in
     let t = h.turns in
+    let n = h.parts in
+    let marks : marked_by (is_resident q.residence) q.modified (touches_at q.place) ≡ marked_by (is_resident p.residence) a.0.modified (touches_at a.0.place) =
+    ap (λ (z : Place). marked_by (is_resident q.residence) q.modified (touches_at z)) h.place
+    ∙ (ap (λ (z : ℕ → Bool). marked_by (is_resident q.residence) z (touches_at a.0.place)) h.modified
+    ∙ ap (λ (z : List ℕ). marked_by (λ page. is_listed page z) a.0.modified (touches_at a.0.place)) (sym order)) in
     record {
-      place = ap (λ (z : Paged). z.place) e ∙ sym a.6;
+      place = ap (λ (z : Paged). z.place) e ∙ ap (λ (z : Spot). z.place) (sym a.6);
+      modified = ap (λ (z : Paged). z.modified) e ∙ (marks ∙ ap (λ (z : Spot). z.modified) (sym a.6));
+      parts = ap (λ (z : Paged). z.parts) e ∙ omega (arith, n);
+      evictions = ap (λ (z : Paged). z.evictions) e ∙ h.evictions;
       steps = ap (λ (z : Paged). z.steps) e ∙ omega (arith, s);
       turns = ap (λ (z : Paged). z.turns) e ∙ omega (arith, t);
       residence = ap (λ (z : Paged). z.residence) e ∙ (ap unpinned h.residence ∙ dropped_more count p.residence);
@@ -210,20 +232,20 @@ times_advanced p (suc count) here going a =
     }
 
 -- the fronts of such a list of attempts
-pub advances_front : (resident : ℕ → Bool) (count : ℕ) (from to : Place) (n : ℕ) → n ≤ count → Advances resident count from to → (mid : Place) × Advances resident n from mid
+pub advances_front : (resident : ℕ → Bool) (count : ℕ) (from to : Spot) (n : ℕ) → n ≤ count → Advances resident count from to → (mid : Spot) × Advances resident n from mid
 unfolding Advances
 advances_front resident zero from to zero low a = (from, refl)
 advances_front resident zero from to (suc n) low a = absurd (omega (arith, low))
 advances_front resident (suc count) from to n low a = elim (cases_lt n (suc count)) [
   | inl less ↦ advances_front resident count from a.0 n (omega (arith, less)) a.2
-  | inr more ↦ let e : n ≡ suc count = omega (arith, low, more) in subst (λ (z : ℕ). (mid : Place) × Advances resident z from mid) (sym e) (to, a)
+  | inr more ↦ let e : n ≡ suc count = omega (arith, low, more) in subst (λ (z : ℕ). (mid : Spot) × Advances resident z from mid) (sym e) (to, a)
 ]
 
-pub are_whole : (p : Paged) (count : ℕ) (here : Place) → (machine_at p.place).ending ≡ None → Advances (is_resident p.residence) count p.place here → AreWhole p count
+pub are_whole : (p : Paged) (count : ℕ) (here : Spot) → (machine_at p.place).ending ≡ None → Advances (is_resident p.residence) count (spot_of p) here → AreWhole p count
 are_whole p count here going a = record {
-  going = λ i low. (times_advanced p i _ going (advances_front (is_resident p.residence) count p.place here i low a).1).going;
-  steps = λ i low. (times_advanced p i _ going (advances_front (is_resident p.residence) count p.place here i low a).1).steps;
-  turns = λ i low. (times_advanced p i _ going (advances_front (is_resident p.residence) count p.place here i low a).1).turns;
+  going = λ i low. (times_advanced p i _ going (advances_front (is_resident p.residence) count (spot_of p) here i low a).1).going;
+  steps = λ i low. (times_advanced p i _ going (advances_front (is_resident p.residence) count (spot_of p) here i low a).1).steps;
+  turns = λ i low. (times_advanced p i _ going (advances_front (is_resident p.residence) count (spot_of p) here i low a).1).turns;
 }
 
 -- what a machine keeps behind so many

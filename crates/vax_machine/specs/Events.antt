@@ -1,9 +1,11 @@
 -- Lists of events.
-use Rattle.std.specs.Prelude.{◌≡◌, Option, List, [], ◌∷◌}
+use Rattle.std.specs.Prelude.{◌≡◌, ◌+◌, ℕ, true, Option, Some, List, [], ◌∷◌}
 use Rattle.vax_outside.specs.Blocks.{BlockFile}
-use Rattle.vax_flat.specs.Parts.{Place, GoesBy}
+use Rattle.vax_flat.specs.Parts.{Place, GoesBy, touches_at}
 use Rattle.vax_flat.specs.Step.{Flat, run}
-use Rattle.vax_machine.specs.Machine.{Applies, Means}
+use Rattle.vax_machine.specs.Machine.{Applies, Keeping, Means, keeping}
+use Rattle.vax_machine.specs.Paged.{Paged}
+use Rattle.vax_machine.specs.Touched.{PinsTouched, is_touched}
 use Rattle.vax_machine.specs.declared.engine.Engine.{Engine}
 use Rattle.vax_machine.specs.declared.event.Applied.{Applied}
 use Rattle.vax_machine.specs.declared.event.Event.{Event}
@@ -14,9 +16,21 @@ Happen [] old before new after = (new ≡ old) × (after ≡ before)
 Happen (event ∷ events) old before new after =
     (mid : Engine) × (between : Option BlockFile) × (result : Applied) × Applies event old before result mid between × Happen events mid between new after
 
+-- A paged run that began with this number of steps at this flat machine is where the steps that it has made since lead, or where parts of the next one do.
+pub record GoesOn (first : ℕ) (start : Flat) (p : Paged) : Type 0 where
+  pub made : ℕ
+  pub steps : p.steps ≡ first + made
+  pub goes : GoesBy (run made start) p.place
+
+-- the attempt that comes touches each page that is pinned, and the one that is wanted
+pub record IsTouching (k : Keeping) (place : Place) : Type 0 where
+  pub pins : PinsTouched k.residence place
+  pub wanted : (page : ℕ) → k.wanted ≡ Some page → is_touched page (touches_at place) ≡ true
+
 -- The machine with its file stands for the flat machine's run from a start: it is where the steps that it completed lead, or where parts of the
 -- next one lead.
 pub record FollowsRun (m : Engine) (file : Option BlockFile) (start : Flat) : Type 0 where
   pub place : Place
   pub means : Means m file place
   pub goes : GoesBy (run m.steps start) place
+  pub touching : IsTouching (keeping m) place

@@ -2,9 +2,12 @@ pub mod Residence
 pub mod Machine
 pub mod Conclusion
 pub mod Batch
-pub mod Events
 pub mod Touched
 pub mod Paged
+pub mod Events
+pub mod Blocks
+pub mod Writing
 pub mod Run
 pub mod Turn
 pub mod Meaning
+pub mod Console

@@ -1,18 +1,19 @@
 -- What a machine means, and what each event makes of it.
-use Rattle.std.specs.Prelude.{ℕ, ◌≡◌, ◌<◌, ◌≤◌, ◌⊎◌, Bool, true, false, Option, Some, None, is_some, List, length}
+use Rattle.std.specs.Prelude.{ℕ, ◌≡◌, ◌+◌, ◌<◌, ◌≤◌, ◌==◌, ◌⊎◌, if◌then◌else◌, Bool, true, false, Option, Some, None, is_some, List, length}
 use Rattle.vax_space.specs.declared.Area.{Area}
 use Rattle.vax_space.specs.Areas.{area_of}
 use Rattle.vax_outside.specs.Blocks.{BlockFile}
 use Rattle.vax_outside.specs.Faults.{raised}
 use Rattle.vax_flat.specs.declared.Ending.{Ending}
-use Rattle.vax_flat.specs.Outcome.{first_missing}
+use Rattle.vax_flat.specs.Outcome.{first_missing, marked_by}
 use Rattle.vax_flat.specs.Parts.{Partway, Place, At, Within, Completes, Leaves, gone_back, machine_at, touches_at, turn}
 use Rattle.vax_flat.specs.Step.{Flat, ended, with_byte_sent}
 use Rattle.vax_cpu.specs.Attempt.{flat_of, open_at}
 use Rattle.vax_cpu.specs.declared.cpu.Cpu.{Cpu}
+use Rattle.vax_pager.specs.Calls.{IsLeft, after_evict, after_flush, came, file_after, source, wrote_back}
 use Rattle.vax_pager.specs.Listing.{is_listed}
 use Rattle.vax_pager.specs.Meaning.{pages}
-use Rattle.vax_pager.specs.Paging.{StandsWith}
+use Rattle.vax_pager.specs.Paging.{Paging, StandsWith}
 use Rattle.vax_machine.specs.Residence.{Residence, residence_of, is_resident, unpinned, eased, taken_out, victim, served, most_pins}
 use Rattle.vax_machine.specs.declared.engine.Engine.{Engine}
 use Rattle.vax_machine.specs.declared.event.Applied.{Applied}
@@ -32,6 +33,10 @@ pub record Means (m : Engine) (file : Option BlockFile) (place : Place) : Type 0
 
 abbrev pub residence : Engine → Residence
 residence m = residence_of (pages m.pager)
+
+-- the resident pages that have been written to since they came in or were last written to their blocks
+abbrev pub modified_of : Engine → ℕ → Bool
+modified_of m page = is_listed page (pages m.pager).modified
 
 -- What is so of every machine: few pages are pinned, and a page that is wanted is one of an area, absent, and may be pinned.
 pub record AreSound (areas : List Area) (r : Residence) (want : Option ℕ) : Type 0 where
@@ -112,11 +117,12 @@ IsTry Nothing = ⊥
 IsTry Failed = ⊥
 
 -- an attempt of a machine that goes on: what it keeps changes by the answer alone, with whatever page file, and with each it goes on from the place
--- for which it stood
+-- for which it stood; exactly the pages are modified anew to which the attempt writes, up to the first page that it misses
 pub record HasTried (old : Engine) (result : Applied) (new : Engine) : Type 0 where
   pub answer : IsTry result
   pub keeps : keeping new ≡ tried result (keeping old)
   pub goes : (file : Option BlockFile) → (place : Place) → Means old file place → Goes result (is_resident (residence old)) new file place
+  pub marks : (file : Option BlockFile) → (place : Place) → Means old file place → modified_of new ≡ marked_by (is_resident (residence old)) (modified_of old) (touches_at place)
 
 -- an attempt of a machine that ended so, or goes on
 abbrev pub Tries : Option Ending → Engine → Applied → Engine → Type 0
@@ -152,3 +158,77 @@ Applies (event.Evict page) old before result new after =
     Evicts page (is_listed page (pages old.pager).order) (keeping old) result (keeping new) × KeepsPlace old before new after
 Applies (event.Flush page) old before result new after =
     Flushes (is_listed page (pages old.pager).modified) (keeping old) result (keeping new) × KeepsPlace old before new after
+
+-- what a service of this page makes of the pager and of its file: at most one write, of the page that makes room, where that is modified, and then at
+-- most one read
+abbrev pub ServesFrom : ℕ → Applied → Paging → Option BlockFile → Paging → Option BlockFile → Type 0
+ServesFrom page Failed s before t after = IsLeft (source page s) s before t after
+ServesFrom page (Served v) s before t after = (t ≡ came (source page s) page (t.frame page) s) × (after ≡ file_after (source page s) page s before)
+ServesFrom page (Stepped sent) s before t after = ⊥
+ServesFrom page Parted s before t after = ⊥
+ServesFrom page (Absent other) s before t after = ⊥
+ServesFrom page (Ended e) s before t after = ⊥
+ServesFrom page Evicted s before t after = ⊥
+ServesFrom page Flushed s before t after = ⊥
+ServesFrom page Nothing s before t after = ⊥
+
+abbrev pub ServesAs : Option ℕ → Applied → Paging → Option BlockFile → Paging → Option BlockFile → Type 0
+ServesAs None result s before t after = (t ≡ s) × (after ≡ before)
+ServesAs (Some page) result s before t after = ServesFrom page result s before t after
+
+-- an eviction: one write of the page, where it is modified
+abbrev pub EvictsFrom : ℕ → Applied → Paging → Option BlockFile → Paging → Option BlockFile → Type 0
+EvictsFrom page Evicted s before t after = (t ≡ after_evict page s) × (after ≡ wrote_back page s before)
+EvictsFrom page (Stepped sent) s before t after = ⊥
+EvictsFrom page Parted s before t after = ⊥
+EvictsFrom page (Absent other) s before t after = ⊥
+EvictsFrom page (Ended e) s before t after = ⊥
+EvictsFrom page (Served v) s before t after = ⊥
+EvictsFrom page Flushed s before t after = ⊥
+EvictsFrom page Nothing s before t after = (t ≡ s) × (after ≡ before)
+EvictsFrom page Failed s before t after = (t ≡ s) × (after ≡ before)
+
+-- a flush: one write of the page, where it is modified
+abbrev pub FlushesFrom : ℕ → Applied → Paging → Option BlockFile → Paging → Option BlockFile → Type 0
+FlushesFrom page Flushed s before t after = (t ≡ after_flush page s) × (after ≡ wrote_back page s before)
+FlushesFrom page (Stepped sent) s before t after = ⊥
+FlushesFrom page Parted s before t after = ⊥
+FlushesFrom page (Absent other) s before t after = ⊥
+FlushesFrom page (Ended e) s before t after = ⊥
+FlushesFrom page (Served v) s before t after = ⊥
+FlushesFrom page Evicted s before t after = ⊥
+FlushesFrom page Nothing s before t after = (t ≡ s) × (after ≡ before)
+FlushesFrom page Failed s before t after = (t ≡ s) × (after ≡ before)
+
+-- what each event makes of the pages and of the page file
+abbrev pub Moves : Event → Engine → Option BlockFile → Applied → Engine → Option BlockFile → Type 0
+Moves event.Attempt old before result new after = after ≡ before
+Moves event.Serve old before result new after = ServesAs old.wanted result (pages old.pager) before (pages new.pager) after
+Moves (event.Evict page) old before result new after = EvictsFrom page result (pages old.pager) before (pages new.pager) after
+Moves (event.Flush page) old before result new after = FlushesFrom page result (pages old.pager) before (pages new.pager) after
+
+-- attempts less pins less evictions of pinned pages rise by at most this much
+abbrev pub RisesAtMost : ℕ → Keeping → Keeping → Type 0
+RisesAtMost most old new =
+    new.turns + length old.residence.pinned + old.residence.spoiled ≤ old.turns + length new.residence.pinned + new.residence.spoiled + most
+
+-- they rise by this much
+abbrev pub Rises : ℕ → Keeping → Keeping → Type 0
+Rises count old new =
+    new.turns + length old.residence.pinned + old.residence.spoiled ≡ old.turns + length new.residence.pinned + new.residence.spoiled + count
+
+-- an attempt that misses a page pins nothing, and drops 40 pins at once
+abbrev pub missed_cost : ℕ → ℕ
+missed_cost pins = if pins == most_pins then 41 else 1
+
+-- how far an event with this answer takes them
+abbrev pub Spends : Applied → Keeping → Keeping → Type 0
+Spends (Stepped sent) old new = RisesAtMost 41 old new
+Spends Parted old new = RisesAtMost 41 old new
+Spends (Ended e) old new = RisesAtMost 41 old new
+Spends (Absent page) old new = Rises (missed_cost (length old.residence.pinned)) old new
+Spends (Served v) old new = Rises 1 new old
+Spends Evicted old new = Rises 0 old new
+Spends Flushed old new = Rises 0 old new
+Spends Nothing old new = Rises 0 old new
+Spends Failed old new = Rises 0 old new

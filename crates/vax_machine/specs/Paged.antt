@@ -1,10 +1,11 @@
 -- The run of the flat machine in turns, where pages are absent at first and are served when they are missed.
-use Rattle.std.specs.Prelude.{ℕ, zero, suc, ◌+◌, Bool, true, false, nat_le, if◌then◌else◌, Option, Some, None, List, [], ◌∷◌, ◌++◌}
+use Rattle.std.specs.Prelude.{ℕ, zero, suc, ◌+◌, ◌*◌, ◌==◌, Bool, true, false, nat_le, if◌then◌else◌, Option, Some, None, List, [], ◌∷◌, ◌++◌}
 use Rattle.std.specs.List.{flat_map}
 use Rattle.vax_space.specs.declared.Area.{Area}
 use Rattle.vax_space.specs.Areas.{pages_of}
 use Rattle.vax_flat.specs.declared.Ending.{Ending}
-use Rattle.vax_flat.specs.Outcome.{first_missing}
+use Rattle.vax_flat.specs.Memory.{byte_at, bytes_from}
+use Rattle.vax_flat.specs.Outcome.{first_missing, marked_by}
 use Rattle.vax_flat.specs.Parts.{Place, At, Within, Turn, Completes, Leaves, machine_at, touches_at, turn}
 use Rattle.vax_flat.specs.Step.{Flat}
 use Rattle.vax_pager.specs.Listing.{is_listed}
@@ -12,18 +13,21 @@ use Rattle.vax_sched.specs.declared.rule.Target.{Target}
 use Rattle.vax_sched.specs.declared.rule.Target.TheVariants.{Page, All}
 use Rattle.vax_machine.specs.Residence.{Residence, is_resident, unpinned, taken_out, victim, served}
 
--- a page that was made absent, with the number of the attempt before which it was
+-- a page that was made absent, with the number of the attempt before which it was, and the bytes that were written to its block, if they were
 pub record Eviction : Type 0 where
   pub turn : ℕ
   pub page : ℕ
+  pub wrote : Option (List ℕ)
 
--- where the flat machine is, the steps and the parts that were completed, the attempts that were made, which pages are resident, and the evictions
+-- where the flat machine is, the steps and the parts that were completed, the attempts that were made, which pages are resident and which of these
+-- attempts have written to, and the evictions
 pub record Paged : Type 0 where
   pub place : Place
   pub steps : ℕ
   pub parts : ℕ
   pub turns : ℕ
   pub residence : Residence
+  pub modified : ℕ → Bool
   pub evictions : List Eviction
 
 -- the pages that a target names: one, or all that an area has, in ascending order
@@ -35,20 +39,45 @@ named areas All = flat_map pages_of areas
 abbrev pub all_named : List Area → List Target → List ℕ
 all_named areas targets = flat_map (named areas) targets
 
+-- the bytes of a page of memory
+abbrev pub page_bytes : List Area → ℕ → List ℕ
+page_bytes memory page = bytes_from (byte_at memory) (512 * page) 512
+
+abbrev pub some_if : Bool → List ℕ → Option (List ℕ)
+some_if true bytes = Some bytes
+some_if false bytes = None
+
+-- a page is made absent before the attempt of this number; its bytes are written to its block exactly where an attempt has written to it
+abbrev pub eviction_of : ℕ → ℕ → Paged → Eviction
+eviction_of turn page p = record { turn = turn; page = page; wrote = some_if (p.modified page) (page_bytes (machine_at p.place).memory page) }
+
+-- and isn't modified any more
+abbrev pub cleaned : ℕ → (ℕ → Bool) → ℕ → Bool
+cleaned page modified other = if other == page then false else modified other
+
 -- a page is made absent, if it is resident
 unfoldable pub evicted : ℕ → Paged → Paged
 evicted page p =
     if is_listed page p.residence.order
-    then record p { residence = taken_out page p.residence; evictions = p.evictions ++ record { turn = p.turns + 1; page = page } ∷ [] }
+    then record p { residence = taken_out page p.residence; modified = cleaned page p.modified; evictions = p.evictions ++ eviction_of (p.turns + 1) page p ∷ [] }
     else p
 
 unfoldable pub all_evicted : List ℕ → Paged → Paged
 all_evicted [] p = p
 all_evicted (page ∷ pages) p = all_evicted pages (evicted page p)
 
-abbrev pub eviction_of : ℕ → Option ℕ → List Eviction
-eviction_of turn None = []
-eviction_of turn (Some page) = record { turn = turn; page = page } ∷ []
+-- the page that made room, if one did
+abbrev pub evictions_of : ℕ → Option ℕ → Paged → List Eviction
+evictions_of turn None p = []
+evictions_of turn (Some page) p = eviction_of turn page p ∷ []
+
+abbrev pub cleaned_of : Option ℕ → (ℕ → Bool) → ℕ → Bool
+cleaned_of None modified = modified
+cleaned_of (Some page) modified = cleaned page modified
+
+-- the pages are modified to which the attempt that comes writes, up to the first page that it misses
+abbrev pub marked : Paged → Paged
+marked p = record p { modified = marked_by (is_resident p.residence) p.modified (touches_at p.place) }
 
 abbrev pub place_after : Turn → Place
 place_after (Completes m) = At m
@@ -66,12 +95,14 @@ attempted_by None p = record {
   parts = p.parts + 1;
   turns = p.turns + 1;
   residence = unpinned p.residence;
+  modified = p.modified;
   evictions = p.evictions;
 }
 attempted_by (Some page) p = record p {
   turns = p.turns + 1;
   residence = served page p.residence;
-  evictions = p.evictions ++ eviction_of (p.turns + 2) (victim p.residence);
+  modified = cleaned_of (victim p.residence) p.modified;
+  evictions = p.evictions ++ evictions_of (p.turns + 2) (victim p.residence) p;
 }
 
 -- a machine that ended makes no attempt
@@ -80,7 +111,7 @@ unless_ended (Some e) p next = p
 unless_ended None p next = next
 
 unfoldable pub attempted : Paged → Paged
-attempted p = unless_ended (machine_at p.place).ending p (attempted_by (first_missing (is_resident p.residence) (touches_at p.place)) p)
+attempted p = unless_ended (machine_at p.place).ending p (attempted_by (first_missing (is_resident p.residence) (touches_at p.place)) (marked p))
 
 -- one turn: what is due is made absent, and an attempt is made
 abbrev pub next_turn : List Area → (ℕ → List Target) → Paged → Paged
@@ -115,5 +146,6 @@ fresh frames m = record {
   parts = 0;
   turns = 0;
   residence = record { frames = frames; order = []; pinned = []; spoiled = 0 };
+  modified = λ page. false;
   evictions = [];
 }

@@ -1,14 +1,15 @@
 -- What a run comes to, by the turns of the flat machine.
-use Rattle.std.specs.Prelude.{ℕ, suc, ◌≡◌, ◌+◌, ◌<◌, ◌⊎◌, Option, Some, None, List, [], ◌++◌}
+use Rattle.std.specs.Prelude.{ℕ, suc, ◌≡◌, ◌+◌, ◌-◌, ◌*◌, ◌^◌, ◌<◌, ◌≤◌, ◌⊎◌, Option, Some, None, List, [], ◌++◌, length}
 use Rattle.vax_space.specs.declared.Area.{Area}
 use Rattle.vax_outside.specs.Blocks.{BlockFile}
-use Rattle.vax_outside.specs.Channels.{Channels, Grew, GrewByPrefix, only}
-use Rattle.vax_outside.specs.declared.traits.Chan.TheVariants.{Out}
-use Rattle.vax_flat.specs.Parts.{Place, machine_at}
+use Rattle.vax_outside.specs.Channels.{Channels}
+use Rattle.vax_flat.specs.Parts.{Place}
 use Rattle.vax_sched.specs.Due.{due}
 use Rattle.vax_sched.specs.declared.rule.Rule.{Rule}
-use Rattle.vax_machine.specs.Machine.{Means, residence}
+use Rattle.vax_machine.specs.Blocks.{Moved, MovedFirst, MovedUpTo}
+use Rattle.vax_machine.specs.Machine.{Means, modified_of, residence}
 use Rattle.vax_machine.specs.Paged.{Paged, Why, ByEnding, BySteps, ByTurns, all_evicted, all_named, paged, stops}
+use Rattle.vax_machine.specs.Writing.{Origin, Wrote, WrotePart}
 use Rattle.vax_machine.specs.declared.engine.Engine.{Engine}
 use Rattle.vax_machine.specs.declared.event.Limits.{Limits}
 use Rattle.vax_machine.specs.declared.event.RunEnd.{RunEnd}
@@ -16,30 +17,30 @@ use Rattle.vax_machine.specs.declared.event.RunEnd.TheVariants.{Ended, Steps, Tu
 
 -- where the turns of a machine that stands for this place begin
 abbrev pub begun : Engine → Place → Paged
-begun m place = record { place = place; steps = m.steps; parts = 0; turns = m.turns; residence = residence m; evictions = [] }
+begun m place = record { place = place; steps = m.steps; parts = 0; turns = m.turns; residence = residence m; modified = modified_of m; evictions = [] }
 
 -- the machine, with what the file tells, is where the paged run is
 pub record Tracks (m : Engine) (file : Option BlockFile) (p : Paged) : Type 0 where
   pub steps : m.steps ≡ p.steps
   pub turns : m.turns ≡ p.turns
   pub residence : residence m ≡ p.residence
+  pub modified : modified_of m ≡ p.modified
   pub means : Means m file p.place
+
+-- Few turns were made in vain since the beginning: attempts are at most 41 for each part that was completed, one for each page that is pinned, of which
+-- there are at most 40, and one for each eviction of a pinned page, as long as these haven't been counted up to their last value.
+pub record FewTurns (b p : Paged) : Type 0 where
+  pub pins : length p.residence.pinned ≤ 40
+  pub turns : p.residence.spoiled < 2 ^ 64 - 1 →
+      p.turns + 41 * b.parts + length b.residence.pinned + b.residence.spoiled ≤ 41 * p.parts + length p.residence.pinned + p.residence.spoiled + b.turns
+
+-- where a run of this machine, with these limits, begins
+abbrev pub origin : Limits → List Area → Paged → Option BlockFile → Option Channels → Origin
+origin limits areas b before old = record { at = b; areas = areas; file = before; channels = old; listed = limits.listed }
 
 -- none of so many turns after the beginning was stopped
 pub record Runs (limits : Limits) (areas : List Area) (rules : List Rule) (b : Paged) (count : ℕ) : Type 0 where
   pub going : (i : ℕ) → i < count → stops limits.steps limits.turns (paged areas (due rules) i b) ≡ None
-
--- what was sent since the beginning went to Out, but for the bytes that are held
-pub record Sends (b p : Paged) (old now : Option Channels) (held : List ℕ) : Type 0 where
-  pub sent : List ℕ
-  pub is : (machine_at p.place).output ≡ (machine_at b.place).output ++ (sent ++ held)
-  pub wrote : Grew old now (only Out sent)
-
--- bytes passed through a buffer to Out
-pub record Passes (before more after : List ℕ) (old new : Option Channels) : Type 0 where
-  pub sent : List ℕ
-  pub is : sent ++ after ≡ before ++ more
-  pub wrote : Grew old new (only Out sent)
 
 abbrev pub why_of : RunEnd → Option Why
 why_of (Ended e) = Some (ByEnding e)
@@ -49,15 +50,17 @@ why_of PageFault = None
 why_of WriteFault = None
 
 -- the run stopped by itself
-pub record IsWhole (limits : Limits) (areas : List Area) (rules : List Rule) (b : Paged) (result : RunEnd) (m : Engine) (file : Option BlockFile) (old new : Option Channels) : Type 0 where
+pub record IsWhole (limits : Limits) (areas : List Area) (rules : List Rule) (b : Paged) (result : RunEnd) (before : Option BlockFile) (m : Engine) (file : Option BlockFile) (old new : Option Channels) : Type 0 where
   pub count : ℕ
   pub goes : Runs limits areas rules b count
   pub stopped : stops limits.steps limits.turns (paged areas (due rules) count b) ≡ why_of result
   pub tracks : Tracks m file (paged areas (due rules) count b)
-  pub sends : Sends b (paged areas (due rules) count b) old new []
+  pub wrote : Wrote (origin limits areas b before old) (paged areas (due rules) count b) new
+  pub moved : Moved areas b (paged areas (due rules) count b) before file
+  pub few : FewTurns b (paged areas (due rules) count b)
 
 -- a call of the page file failed: the place is that after so many whole turns, and the first of what was due then was made absent
-pub record IsCut (limits : Limits) (areas : List Area) (rules : List Rule) (b : Paged) (m : Engine) (file : Option BlockFile) (old new : Option Channels) : Type 0 where
+pub record IsCut (limits : Limits) (areas : List Area) (rules : List Rule) (b : Paged) (before : Option BlockFile) (m : Engine) (file : Option BlockFile) (old new : Option Channels) : Type 0 where
   pub count : ℕ
   pub goes : Runs limits areas rules b (suc count)
   pub front : List ℕ
@@ -67,21 +70,24 @@ pub record IsCut (limits : Limits) (areas : List Area) (rules : List Rule) (b : 
   pub means : Means m file (paged areas (due rules) count b).place
   pub steps : m.steps ≡ (paged areas (due rules) count b).steps
   pub made : (m.turns ≡ (paged areas (due rules) count b).turns) ⊎ ((m.turns ≡ (paged areas (due rules) count b).turns + 1) × (rest ≡ []))
-  pub sends : Sends b (paged areas (due rules) count b) old new []
+  pub wrote : Wrote (origin limits areas b before old) (all_evicted front (paged areas (due rules) count b)) new
+  pub moved : MovedUpTo areas b (all_evicted front (paged areas (due rules) count b)) rest before file
+  pub few : (all_evicted front (paged areas (due rules) count b)).residence.spoiled < 2 ^ 64 - 1 →
+      m.turns + 41 * b.parts + length b.residence.pinned + b.residence.spoiled
+      ≤ 41 * (paged areas (due rules) count b).parts + 40 + (all_evicted front (paged areas (due rules) count b)).residence.spoiled + b.turns
 
--- a write failed: a prefix of what the whole run sends was written
-pub record IsLost (limits : Limits) (areas : List Area) (rules : List Rule) (b : Paged) (old new : Option Channels) : Type 0 where
+-- a write failed: a prefix of what the whole run writes was written
+pub record IsLost (limits : Limits) (areas : List Area) (rules : List Rule) (b : Paged) (before file : Option BlockFile) (old new : Option Channels) : Type 0 where
   pub count : ℕ
   pub goes : Runs limits areas rules b count
   pub why : Why
   pub stopped : stops limits.steps limits.turns (paged areas (due rules) count b) ≡ Some why
-  pub more : List ℕ
-  pub sends : (machine_at (paged areas (due rules) count b).place).output ≡ (machine_at b.place).output ++ more
-  pub wrote : GrewByPrefix old new (only Out more)
+  pub wrote : WrotePart (origin limits areas b before old) (paged areas (due rules) count b) new
+  pub moved : MovedFirst areas b (paged areas (due rules) count b) before file
 
-abbrev pub Ends : Limits → List Area → List Rule → Paged → RunEnd → Engine → Option BlockFile → Option Channels → Option Channels → Type 0
-Ends limits areas rules b (Ended e) m file old new = IsWhole limits areas rules b (Ended e) m file old new
-Ends limits areas rules b Steps m file old new = IsWhole limits areas rules b Steps m file old new
-Ends limits areas rules b Turns m file old new = IsWhole limits areas rules b Turns m file old new
-Ends limits areas rules b PageFault m file old new = IsCut limits areas rules b m file old new
-Ends limits areas rules b WriteFault m file old new = IsLost limits areas rules b old new
+abbrev pub Ends : Limits → List Area → List Rule → Paged → Option BlockFile → RunEnd → Engine → Option BlockFile → Option Channels → Option Channels → Type 0
+Ends limits areas rules b before (Ended e) m file old new = IsWhole limits areas rules b (Ended e) before m file old new
+Ends limits areas rules b before Steps m file old new = IsWhole limits areas rules b Steps before m file old new
+Ends limits areas rules b before Turns m file old new = IsWhole limits areas rules b Turns before m file old new
+Ends limits areas rules b before PageFault m file old new = IsCut limits areas rules b before m file old new
+Ends limits areas rules b before WriteFault m file old new = IsLost limits areas rules b before file old new

@@ -1,5 +1,5 @@
 //! A processor over a pager, with what a run counts.
-ghost use Rattle.std.specs.Prelude.{◌≡◌, ◌≢◌, ◌+◌, ◌<◌, ◌≤◌, ◌^◌, Option, None};
+ghost use Rattle.std.specs.Prelude.{◌≡◌, ◌≢◌, ℕ, ◌+◌, ◌-◌, ◌<◌, ◌≤◌, ◌^◌, Option, None, Some, is_some, true};
 ghost use Rattle.vax_outside.specs.Blocks.{BlockFile};
 ghost use Rattle.vax_outside.specs.Faults.{Rose, raised};
 ghost use Rattle.vax_pager.specs.Meaning.{pages};
@@ -53,12 +53,27 @@ fn settle_after(pager: &mut Pager, steps: u64)
 }
 
 impl Engine {
+    ghost use Rattle.vax_space.specs.Areas.{area_of};
+    ghost use Rattle.vax_space.specs.Faults.{IsSpace};
+    ghost use Rattle.vax_flat.specs.Parts.{Place};
+    ghost use Rattle.vax_pager.specs.Calls.{IsPaging};
+    ghost use Rattle.vax_machine.specs.Touched.{PinsTouched};
     ghost use Rattle.vax_cpu.specs.Attempt.{StopsInside};
     ghost use Rattle.vax_pager.specs.Paging.{view_of};
     ghost use Rattle.vax_machine.specs.Conclusion.{Concludes};
     ghost use Rattle.vax_machine.specs.Batch.{HasTriedSeveral};
-    ghost use Rattle.vax_machine.specs.Machine.{Applies, IsSound};
+    ghost use Rattle.vax_machine.specs.Console.{MayGoOn};
+    ghost use Rattle.vax_machine.specs.Machine.{Applies, IsSound, Means, Moves, Spends, keeping, residence};
     ghost use Rattle.vax_machine.specs.declared.event.Event.TheVariants as event;
+
+    /// What is so of every machine's memory.
+    pub(crate) fn facts(&self)
+        ensures paging { IsPaging (pages self.now.pager) }
+        ensures space { IsSpace (pages self.now.pager).areas }
+    {
+        self.pager.facts();
+        let _areas = self.pager.space().areas();
+    }
 
     /// Makes one attempt. It calls no page file.
     pub(crate) fn attempt(&mut self) -> Applied
@@ -84,6 +99,7 @@ impl Engine {
         requires turns { self.old.turns + most < 2 ^ 64 }
         ensures sound { IsSound self.new }
         ensures tried { HasTriedSeveral most self.old result self.new }
+        ensures goes_on { MayGoOn (self.old.steps + most) self.new }
     {
         self.pager.facts();
         let batch = self.cpu.attempts(&mut self.pager, most);
@@ -131,6 +147,8 @@ impl Engine {
         requires sound { IsSound self.old }
         ensures sound { IsSound self.new }
         ensures applies { Applies event.Serve self.old (F.contents file.old) result self.new (F.contents file.new) }
+        ensures moves { Moves event.Serve self.old (F.contents file.old) result self.new (F.contents file.new) }
+        ensures inside { (page : ℕ) → result ≡ Applied.Served (Some page) → is_some (area_of (pages self.new.pager).areas page) ≡ true }
         ensures later { F.faults file.old ≤ F.faults file.new }
         ensures cause { result ≡ Applied.Failed → Rose (F.faults file.old) (F.faults file.new) }
         ensures quiet { result ≢ Applied.Failed → F.faults file.new ≡ F.faults file.old }
@@ -155,6 +173,8 @@ impl Engine {
         requires sound { IsSound self.old }
         ensures sound { IsSound self.new }
         ensures applies { Applies (event.Evict page) self.old (F.contents file.old) result self.new (F.contents file.new) }
+        ensures moves { Moves (event.Evict page) self.old (F.contents file.old) result self.new (F.contents file.new) }
+        ensures inside { result ≡ Applied.Evicted → is_some (area_of (pages self.new.pager).areas page) ≡ true }
         ensures later { F.faults file.old ≤ F.faults file.new }
         ensures cause { result ≡ Applied.Failed → Rose (F.faults file.old) (F.faults file.new) }
         ensures quiet { result ≢ Applied.Failed → F.faults file.new ≡ F.faults file.old }
@@ -180,6 +200,7 @@ impl Engine {
         requires sound { IsSound self.old }
         ensures sound { IsSound self.new }
         ensures applies { Applies (event.Flush page) self.old (F.contents file.old) result self.new (F.contents file.new) }
+        ensures moves { Moves (event.Flush page) self.old (F.contents file.old) result self.new (F.contents file.new) }
         ensures later { F.faults file.old ≤ F.faults file.new }
         ensures cause { result ≡ Applied.Failed → Rose (F.faults file.old) (F.faults file.new) }
         ensures quiet { result ≢ Applied.Failed → F.faults file.new ≡ F.faults file.old }
@@ -205,10 +226,14 @@ impl Engine {
         requires sound { IsSound self.old }
         ensures sound { IsSound self.new }
         ensures applies { Applies event self.old (F.contents file.old) result self.new (F.contents file.new) }
+        ensures moves { Moves event self.old (F.contents file.old) result self.new (F.contents file.new) }
+        ensures unsettled { (place : Place) → Means self.old (F.contents file.old) place → PinsTouched (residence self.old) place → (page : ℕ) → result ≡ Applied.Absent page → residence self.new ≡ residence self.old }
+        ensures spends { self.old.turns < 2 ^ 64 - 1 → (residence self.old).spoiled < 2 ^ 64 - 1 → Spends result (keeping self.old) (keeping self.new) }
         ensures later { F.faults file.old ≤ F.faults file.new }
         ensures cause { result ≡ Applied.Failed → Rose (F.faults file.old) (F.faults file.new) }
         ensures quiet { result ≢ Applied.Failed → F.faults file.new ≡ F.faults file.old }
     {
+        self.facts();
         match event {
             Event::Attempt => self.attempt(),
             Event::Serve => self.serve(file),

@@ -37,11 +37,22 @@ pub enum Applied {
     Failed,
 }
 
-/// How far a run may go: up to so many steps and so many attempts in all.
+/// How far a run may go: up to so many steps and so many attempts in all; and whether it lists its evictions.
 #[derive(Clone, Copy, Debug, PartialEq, Eq)]
 pub struct Limits {
     pub steps: u64,
     pub turns: u64,
+    /// Each page that is made absent gets a line in Record.
+    pub listed: bool,
+}
+
+/// Why turns of a run were cut short.
+#[derive(Clone, Copy, Debug, PartialEq, Eq)]
+pub(crate) enum Fault {
+    /// A call of the page file failed.
+    Page,
+    /// A write failed.
+    Write,
 }
 
 /// How a run stopped.

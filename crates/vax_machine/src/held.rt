@@ -1,56 +1,134 @@
-//! Bytes that are held back until there are many of them.
-ghost use Rattle.std.specs.Prelude.{◌≡◌, [], ◌∷◌, ◌++◌, OnOk, OnErr, ◌≤◌};
-ghost use Rattle.vax_outside.specs.Channels.{GrewByPrefix, only};
-ghost use Rattle.vax_outside.specs.Faults.{Rose};
-ghost use Rattle.vax_outside.specs.declared.traits.Chan.TheVariants.{Out};
+//! What a run has to write, held back until there is much of it.
+ghost use Rattle.std.specs.Prelude.{◌≡◌, ℕ, [], ◌∷◌, ◌+◌, ◌<◌, ◌≤◌, ◌^◌, length, OnOk, Some, None, if◌then◌else◌};
+ghost use Rattle.vax_outside.specs.Channels.{append, nothing, only};
+ghost use Rattle.vax_outside.specs.declared.traits.Chan.TheVariants.{Out, Record};
+ghost use Rattle.vax_machine.specs.Writing.{Counts, Passed, Puts, StillWrites};
 
+use crate::event::Fault;
 use arrayvec::ArrayVec;
-use vax_outside::{Chan, Failed, Sink, put_all};
+use vax_outside::{Chan, Sink, Text, put_all};
+use vax_sched::push_at;
 
-/// Bytes on their way to Out.
+/// The most bytes of lines beside which another line has room.
+const MOST_LINES: usize = 479;
+
+/// Bytes on their way to Out, and lines on their way to Record, where evictions are listed.
 #[derive(Drop)]
 pub struct Held {
     pub bytes: ArrayVec<u8, 512>,
+    pub lines: Text,
+    pub listed: bool,
+}
+
+/// Writes all the bytes to a channel.
+fn put<K: Sink>(sink: &mut K, chan: Chan, bytes: &[u8]) -> Result<(), Fault>
+    ensures puts { Puts result (only chan bytes.now) (K.contents sink.old) (K.contents sink.new) }
+    ensures counts { (file : ℕ) → Counts result file file (K.faults sink.old) (K.faults sink.new) }
+{
+    match put_all(sink, chan, bytes) {
+        Ok(()) => Ok(()),
+        Err(_) => Err(Fault::Write),
+    }
+}
+
+/// Writes bytes to Out where another has no room beside them, and holds none then.
+fn make_space<K: Sink>(bytes: &mut ArrayVec<u8, 512>, sink: &mut K) -> Result<(), Fault>
+    ensures space { OnOk result (length bytes.new.items < 512) }
+    ensures passes { Passed result (only Out bytes.old.items) nothing (only Out bytes.new.items) (K.contents sink.old) (K.contents sink.new) }
+    ensures counts { (file : ℕ) → Counts result file file (K.faults sink.old) (K.faults sink.new) }
+{
+    if bytes.is_full() {
+        put(sink, Chan::Out, bytes)?;
+        bytes.clear();
+    }
+    Ok(())
+}
+
+/// Writes lines to Record where another has no room beside them, and holds none then.
+fn make_room<K: Sink>(lines: &mut Text, sink: &mut K) -> Result<(), Fault>
+    ensures room { OnOk result (length lines.new + 33 ≤ 512) }
+    ensures passes { Passed result (only Record lines.old) nothing (only Record lines.new) (K.contents sink.old) (K.contents sink.new) }
+    ensures counts { (file : ℕ) → Counts result file file (K.faults sink.old) (K.faults sink.new) }
+{
+    if lines.as_slice().len() > MOST_LINES {
+        put(sink, Chan::Record, lines.as_slice())?;
+        *lines = Text::new();
+    }
+    Ok(())
 }
 
 impl Held {
-    ghost use Rattle.vax_machine.specs.Run.{Passes};
+    ghost use Rattle.vax_machine.specs.Writing.{held_in, listed_by, sent_by};
 
     /// Nothing is held.
-    pub fn new() -> Held
-        ensures { result.bytes.items ≡ [] }
+    pub fn new(listed: bool) -> Held
+        ensures nothing { held_in result ≡ nothing }
+        ensures listed { result.listed ≡ listed }
     {
         Held {
             bytes: ArrayVec::new(),
+            lines: Text::new(),
+            listed,
         }
     }
 
-    /// Holds one byte more, and writes what is held where there is no room.
-    pub fn push<K: Sink>(&mut self, byte: u8, sink: &mut K) -> Result<(), Failed>
-        ensures ok { OnOk result (Passes self.old.bytes.items (byte ∷ []) self.new.bytes.items (K.contents sink.old) (K.contents sink.new)) }
-        ensures err { OnErr result (GrewByPrefix (K.contents sink.old) (K.contents sink.new) (only Out (self.old.bytes.items ++ byte ∷ []))) }
-        ensures later { K.faults sink.old ≤ K.faults sink.new }
-        ensures cause { OnErr result (Rose (K.faults sink.old) (K.faults sink.new)) }
-        ensures quiet { OnOk result (K.faults sink.new ≡ K.faults sink.old) }
+    /// Holds a byte more for Out, if one was sent, and writes those that are held first where there is no room.
+    pub fn send<K: Sink>(&mut self, sent: Option<u8>, sink: &mut K) -> Result<(), Fault>
+        ensures passes { Passed result (held_in self.old) (sent_by sent) (held_in self.new) (K.contents sink.old) (K.contents sink.new) }
+        ensures still { StillWrites self.old self.new (K.contents sink.old) (K.contents sink.new) }
+        ensures counts { (file : ℕ) → Counts result file file (K.faults sink.old) (K.faults sink.new) }
     {
-        if self.bytes.is_full() {
-            self.flush(sink)?;
+        match sent {
+            None => Ok(()),
+            Some(byte) => self.hold(byte, sink),
         }
+    }
+
+    /// Holds a byte more for Out.
+    fn hold<K: Sink>(&mut self, byte: u8, sink: &mut K) -> Result<(), Fault>
+        ensures passes { Passed result (held_in self.old) (sent_by (Some byte)) (held_in self.new) (K.contents sink.old) (K.contents sink.new) }
+        ensures still { StillWrites self.old self.new (K.contents sink.old) (K.contents sink.new) }
+        ensures counts { (file : ℕ) → Counts result file file (K.faults sink.old) (K.faults sink.new) }
+    {
+        make_space(&mut self.bytes, sink)?;
         self.bytes.push(byte);
         Ok(())
     }
 
-    /// Writes all that is held.
-    pub fn flush<K: Sink>(&mut self, sink: &mut K) -> Result<(), Failed>
-        ensures ok { OnOk result (Passes self.old.bytes.items [] [] (K.contents sink.old) (K.contents sink.new)) }
-        ensures empty { OnOk result (self.new.bytes.items ≡ []) }
-        ensures err { OnErr result (GrewByPrefix (K.contents sink.old) (K.contents sink.new) (only Out self.old.bytes.items)) }
-        ensures later { K.faults sink.old ≤ K.faults sink.new }
-        ensures cause { OnErr result (Rose (K.faults sink.old) (K.faults sink.new)) }
-        ensures quiet { OnOk result (K.faults sink.new ≡ K.faults sink.old) }
+    /// Holds one line more for Record, of a page that was made absent before this attempt, where evictions are listed; those that are held are
+    /// written first where there is no room.
+    pub fn list<K: Sink>(&mut self, turn: u64, page: u32, sink: &mut K) -> Result<(), Fault>
+        requires small { page < 2 ^ 23 }
+        ensures passes { Passed result (held_in self.old) (listed_by self.old.listed turn (Some page)) (held_in self.new) (K.contents sink.old) (K.contents sink.new) }
+        ensures still { StillWrites self.old self.new (K.contents sink.old) (K.contents sink.new) }
+        ensures counts { (file : ℕ) → Counts result file file (K.faults sink.old) (K.faults sink.new) }
     {
-        put_all(sink, Chan::Out, &self.bytes)?;
-        self.bytes.clear();
+        if self.listed {
+            make_room(&mut self.lines, sink)?;
+            push_at(&mut self.lines, turn, page);
+        }
         Ok(())
+    }
+
+    /// Writes the lines that are held, where evictions are listed.
+    fn write_lines<K: Sink>(&self, sink: &mut K) -> Result<(), Fault>
+        ensures puts { Puts result (only Record (if self.now.listed then self.now.lines else [])) (K.contents sink.old) (K.contents sink.new) }
+        ensures counts { (file : ℕ) → Counts result file file (K.faults sink.old) (K.faults sink.new) }
+    {
+        if self.listed {
+            put(sink, Chan::Record, self.lines.as_slice())
+        } else {
+            Ok(())
+        }
+    }
+
+    /// Writes all that is held.
+    pub fn write<K: Sink>(&self, sink: &mut K) -> Result<(), Fault>
+        ensures puts { Puts result (held_in self.now) (K.contents sink.old) (K.contents sink.new) }
+        ensures still { StillWrites self.now self.now (K.contents sink.old) (K.contents sink.new) }
+        ensures counts { (file : ℕ) → Counts result file file (K.faults sink.old) (K.faults sink.new) }
+    {
+        put(sink, Chan::Out, &self.bytes)?;
+        self.write_lines(sink)
     }
 }

@@ -1,6 +1,7 @@
 //! A machine: a processor over a pager, with a page file. Its events are attempts, services, evictions and flushes, in whatever order.
 #![tactic(auto)]
 
+mod console;
 mod engine;
 mod event;
 mod held;
@@ -12,6 +13,7 @@ mod tests;
 
 pub use crate::event::{Applied, Event, Limits, RunEnd};
 pub use crate::laws::{
-    events_follow_the_run, pinned_pages_stay, turns_are_few, turns_follow_the_run,
+    events_follow_the_run, parts_end_soon, pinned_pages_stay, turns_are_few, turns_follow_the_run,
+    turns_go_on, writes_suffice,
 };
 pub use crate::machine::Machine;

@@ -1,19 +1,18 @@
 //! The machine as callers have it.
 ghost use Rattle.std.specs.Prelude.{◌≡◌, ◌≢◌, ◌-◌, ◌≤◌, ◌<◌, ◌^◌, ◌⊎◌, ℕ, List, Option, Some, None, IfOk, IfSome, OnErr, OnOk, is_some, true, false, length};
 ghost use Rattle.vax_outside.specs.Blocks.{BlockFile};
-ghost use Rattle.vax_outside.specs.Channels.{GrewByPrefix, only};
 ghost use Rattle.vax_outside.specs.Faults.{Rose};
-ghost use Rattle.vax_outside.specs.declared.traits.Chan.TheVariants.{Out};
 ghost use Rattle.vax_machine.specs.Machine.{IsSound};
 
 use crate::engine::Engine;
 use crate::event::{Applied, Event, Limits, RunEnd};
 use std::alloc::Global;
 use vax_cpu::Cpu;
+use vax_flat::Ending;
 use vax_outside::{PageFile, Sink};
 use vax_pager::{Counts, PageFault, Pager};
 use vax_sched::Schedule;
-use vax_space::{NoMemory, Space};
+use vax_space::{Access, NoMemory, Space};
 use vax_undo::Term;
 use vax_word::Core;
 
@@ -27,17 +26,21 @@ pub struct Machine {
 
 impl Machine {
     ghost use Rattle.vax_space.specs.Areas.{area_of};
-    ghost use Rattle.vax_space.specs.Reference.{page_of};
-    ghost use Rattle.vax_flat.specs.Parts.{Place, At};
+    ghost use Rattle.vax_space.specs.Reference.{page_of, violation};
+    ghost use Rattle.vax_flat.specs.Outcome.{is_allowed};
+    ghost use Rattle.vax_flat.specs.Parts.{Place, At, machine_at};
     ghost use Rattle.vax_flat.specs.Start.{start_memory};
+    ghost use Rattle.vax_flat.specs.Step.{Flat};
     ghost use Rattle.vax_pager.specs.Calls.{IsByte};
     ghost use Rattle.vax_pager.specs.Listing.{first};
-    ghost use Rattle.vax_machine.specs.Machine.{Applies, Means, keeping, residence};
+    ghost use Rattle.vax_machine.specs.Console.{AreShown, Deposits, IsBetween, StopsBetween, cpu_with_register, let_go, memory_from, with_register};
+    ghost use Rattle.vax_machine.specs.Machine.{Applies, KeepsPlace, Means, Moves, Spends, keeping, residence};
     ghost use Rattle.vax_machine.specs.Meaning.{engine, memory_of, starts_at, units_of};
     ghost use Rattle.vax_machine.specs.Paged.{fresh};
     ghost use Rattle.vax_machine.specs.Residence.{is_resident};
     ghost use Rattle.vax_machine.specs.Run.{Ends, begun};
     ghost use Rattle.vax_machine.specs.Touched.{PinsTouched};
+    ghost use Rattle.vax_machine.specs.Writing.{OnlyWrote};
 
     /// A machine at the start: these registers, this input of at most 4,194,304 bytes, and a space of which no page is resident, with so many
     /// frames, 64 to 32,768. With any page file it stands for the flat machine at the start.
@@ -54,6 +57,7 @@ impl Machine {
         ensures start { IfOk result (λ m. (file : BlockFile) → Means (engine m) (Some file) (At (starts_at core (start_memory space) input.items))) }
         ensures begun { IfOk result (λ m. begun (engine m) (At (starts_at core (start_memory space) input.items)) ≡ fresh frames (starts_at core (start_memory space) input.items)) }
         ensures kept { IfOk result (λ m. (keeping (engine m)).areas ≡ space) }
+        ensures between { IfOk result (λ m. IsBetween (engine m)) }
     {
         let pager = Pager::new(alloc, space, frames)?;
         let cpu = Cpu {
@@ -76,9 +80,17 @@ impl Machine {
     /// Does what an event says.
     ///
     /// `Attempt` makes one attempt; once the run has ended it answers the same ending and changes nothing. `Serve` brings in the page that the
-    /// last attempt missed. A completed step or part unpins all pages, and so does an attempt that misses a page while 40 are pinned.
+    /// last attempt missed. A completed step or part unpins all pages, and so does an attempt that misses a page while 40 are pinned, which none does that
+    /// touches each of these.
+    ///
+    /// `Evict` and `Flush` write a modified page to its block; `Serve` writes at most the page that makes room, and reads at most one block; an attempt
+    /// calls no file. Attempts less pins less evictions of pinned pages rise by at most 41 where a part is completed, by 1 where a page is missed, and
+    /// fall by 1 where it is served.
     pub fn apply<F: PageFile>(&mut self, event: Event, file: &mut F) -> Applied
         ensures applies { Applies event (engine self.old) (F.contents file.old) result (engine self.new) (F.contents file.new) }
+        ensures moves { Moves event (engine self.old) (F.contents file.old) result (engine self.new) (F.contents file.new) }
+        ensures unsettled { (place : Place) → Means (engine self.old) (F.contents file.old) place → PinsTouched (residence (engine self.old)) place → (page : ℕ) → result ≡ Applied.Absent page → residence (engine self.new) ≡ residence (engine self.old) }
+        ensures spends { (engine self.old).turns < 2 ^ 64 - 1 → (residence (engine self.old)).spoiled < 2 ^ 64 - 1 → Spends result (keeping (engine self.old)) (keeping (engine self.new)) }
         ensures later { F.faults file.old ≤ F.faults file.new }
         ensures cause { result ≡ Applied.Failed → Rose (F.faults file.old) (F.faults file.new) }
         ensures quiet { result ≢ Applied.Failed → F.faults file.new ≡ F.faults file.old }
@@ -87,7 +99,11 @@ impl Machine {
     }
 
     /// Runs up to an ending or a limit: at each turn what the schedule has due is made absent, an attempt is made, and the page that it misses
-    /// is served. The bytes that the program sends to its console go to Out in order.
+    /// is served. The bytes that the program sends to its console go to Out in order. Where evictions are listed, each page that was resident and
+    /// is made absent, by the schedule or to make room, gets a line `at T PAGE` in Record, in order: T is the number of the attempt that comes next,
+    /// and PAGE the address of the page.
+    ///
+    /// Each page that is made absent is written to its block exactly where an attempt has written to it since it came in.
     pub fn run<F: PageFile, K: Sink>(
         &mut self,
         limits: &Limits,
@@ -97,14 +113,15 @@ impl Machine {
     ) -> RunEnd
         requires few_steps { limits.now.steps < 2 ^ 64 }
         requires few_turns { limits.now.turns < 2 ^ 64 - 2 }
-        ensures ends { (place : Place) → Means (engine self.old) (F.contents file.old) place → PinsTouched (residence (engine self.old)) place → Ends limits.now (keeping (engine self.old)).areas schedule.now (begun (engine self.old) place) result (engine self.new) (F.contents file.new) (K.contents sink.old) (K.contents sink.new) }
+        ensures ends { (place : Place) → Means (engine self.old) (F.contents file.old) place → PinsTouched (residence (engine self.old)) place → Ends limits.now (keeping (engine self.old)).areas schedule.now (begun (engine self.old) place) (F.contents file.old) result (engine self.new) (F.contents file.new) (K.contents sink.old) (K.contents sink.new) }
+        ensures between { StopsBetween result → IsBetween (engine self.old) → IsBetween (engine self.new) }
         ensures later { F.faults file.old ≤ F.faults file.new }
         ensures sunk { K.faults sink.old ≤ K.faults sink.new }
         ensures fault { result ≡ RunEnd.PageFault → Rose (F.faults file.old) (F.faults file.new) }
         ensures cause { result ≡ RunEnd.WriteFault → Rose (K.faults sink.old) (K.faults sink.new) }
         ensures unfailed { result ≢ RunEnd.PageFault → result ≢ RunEnd.WriteFault → F.faults file.new ≡ F.faults file.old }
         ensures written { result ≢ RunEnd.WriteFault → K.faults sink.new ≡ K.faults sink.old }
-        ensures out { (sent : List ℕ) × GrewByPrefix (K.contents sink.old) (K.contents sink.new) (only Out sent) }
+        ensures only { OnlyWrote limits.now.listed (K.contents sink.old) (K.contents sink.new) }
     {
         self.engine.run(limits, schedule, file, sink)
     }
@@ -128,6 +145,13 @@ impl Machine {
         ensures { result ≡ (engine self.now).turns }
     {
         self.engine.turns
+    }
+
+    /// How the run ended, if it did.
+    pub fn ended(&self) -> Option<Ending>
+        ensures { result ≡ (engine self.now).ended }
+    {
+        self.engine.ended
     }
 
     /// How many units of the string instruction that is open are done, 0 where none is open.
@@ -167,14 +191,80 @@ impl Machine {
     pub fn peek<F: PageFile>(&mut self, addr: u32, file: &mut F) -> Result<Option<u8>, PageFault>
         ensures none { IfOk result (λ r. is_some r ≡ is_some (area_of (memory_of self.old).areas (page_of addr))) }
         ensures byte { IfOk result (λ r. IfSome r (IsByte (memory_of self.old) (F.contents file.old) addr)) }
+        ensures cpu { (engine self.new).cpu ≡ (engine self.old).cpu }
         ensures keeps { keeping (engine self.new) ≡ keeping (engine self.old) }
         ensures same { memory_of self.new ≡ memory_of self.old }
+        ensures means { KeepsPlace (engine self.old) (F.contents file.old) (engine self.new) (F.contents file.new) }
         ensures err { OnErr result (F.contents file.new ≡ F.contents file.old) }
         ensures later { F.faults file.old ≤ F.faults file.new }
         ensures cause { OnErr result (Rose (F.faults file.old) (F.faults file.new)) }
         ensures quiet { OnOk result (F.faults file.new ≡ F.faults file.old) }
     {
         self.engine.pager.peek(addr, file)
+    }
+
+    /// Fills cells with the bytes of memory from an address on, with no change of what is resident: None exactly where no area has the byte. After a
+    /// failure what the cells hold is left open.
+    pub fn dump<F: PageFile>(
+        &mut self,
+        addr: u32,
+        cells: &mut [Option<u8>],
+        file: &mut F,
+    ) -> Result<(), PageFault>
+        requires few { length cells.old < 2 ^ 32 }
+        ensures len { length cells.new ≡ length cells.old }
+        ensures none { OnOk result (AreShown (keeping (engine self.old)).areas addr cells.new) }
+        ensures bytes { OnOk result ((place : Place) → Means (engine self.old) (F.contents file.old) place → cells.new ≡ memory_from (machine_at place).memory addr (length cells.old)) }
+        ensures cpu { (engine self.new).cpu ≡ (engine self.old).cpu }
+        ensures keeps { keeping (engine self.new) ≡ keeping (engine self.old) }
+        ensures same { memory_of self.new ≡ memory_of self.old }
+        ensures means { KeepsPlace (engine self.old) (F.contents file.old) (engine self.new) (F.contents file.new) }
+        ensures later { F.faults file.old ≤ F.faults file.new }
+        ensures cause { OnErr result (Rose (F.faults file.old) (F.faults file.new)) }
+        ensures quiet { OnOk result (F.faults file.new ≡ F.faults file.old) }
+    {
+        self.engine.dump(addr, cells, file)
+    }
+
+    /// Whether a string instruction is open.
+    pub fn is_open(&self) -> bool
+        ensures { result ≡ is_some (engine self.now).cpu.latch }
+    {
+        self.engine.cpu.latch.is_some()
+    }
+
+    /// Changes 1 to 64 bytes of memory whatever the protection of their pages; no string instruction is open. It answers false exactly where some
+    /// byte lies in no area, or in a page that no mode may write (those that some mode may write the kernel may), and changes nothing then.
+    ///
+    /// After any other answer no page is pinned and none is wanted; which pages are resident is left open. After a failure every byte is as it was.
+    pub fn poke<F: PageFile>(
+        &mut self,
+        addr: u32,
+        bytes: &[u8],
+        file: &mut F,
+    ) -> Result<bool, PageFault>
+        requires closed { (engine self.old).cpu.latch ≡ None }
+        requires some { 1 ≤ length bytes.now }
+        requires few { length bytes.now ≤ 64 }
+        ensures answer { IfOk result (λ r. r ≡ is_allowed (violation (keeping (engine self.old)).areas addr (length bytes.now) 0 Access.Write)) }
+        ensures cpu { (engine self.new).cpu ≡ (engine self.old).cpu }
+        ensures deposits { Deposits result addr bytes.now (engine self.old) (F.contents file.old) (engine self.new) (F.contents file.new) }
+        ensures later { F.faults file.old ≤ F.faults file.new }
+        ensures cause { OnErr result (Rose (F.faults file.old) (F.faults file.new)) }
+        ensures quiet { OnOk result (F.faults file.new ≡ F.faults file.old) }
+    {
+        self.engine.poke(addr, bytes, file)
+    }
+
+    /// Changes a register, R0 to R15; no string instruction is open. Afterwards no page is pinned and none is wanted.
+    pub fn set_reg(&mut self, n: u8, value: u32)
+        requires closed { (engine self.old).cpu.latch ≡ None }
+        requires number { n < 16 }
+        ensures cpu { (engine self.new).cpu ≡ cpu_with_register n value (engine self.old).cpu }
+        ensures keeps { keeping (engine self.new) ≡ let_go (keeping (engine self.old)) }
+        ensures deposits { (file : Option BlockFile) → (m : Flat) → Means (engine self.old) file (At m) → Means (engine self.new) file (At (with_register n value m)) }
+    {
+        self.engine.set_reg(n, value);
     }
 
     /// The resident page that has been modified longest, none where none is modified.

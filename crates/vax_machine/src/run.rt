@@ -1,29 +1,27 @@
 //! Runs of a machine.
-ghost use Rattle.std.specs.Prelude.{◌≡◌, ◌≢◌, ℕ, ◌+◌, ◌-◌, ◌<◌, ◌≤◌, ◌^◌, None, Some, [], List, length, slice_get, OnOk, OnErr, Option, IfSome};
+ghost use Rattle.std.specs.Prelude.{◌≡◌, ◌≢◌, ℕ, ◌+◌, ◌-◌, ◌<◌, ◌≤◌, ◌^◌, None, Some, [], ◌∷◌, length, slice_get, OnOk, Option, IfSome, is_some, true};
 ghost use Rattle.vax_space.specs.declared.Area.{Area};
 ghost use Rattle.vax_outside.specs.Blocks.{BlockFile};
-ghost use Rattle.vax_outside.specs.Channels.{GrewByPrefix, only};
 ghost use Rattle.vax_outside.specs.Faults.{Rose};
-ghost use Rattle.vax_outside.specs.declared.traits.Chan.TheVariants.{Out};
 ghost use Rattle.vax_flat.specs.Parts.{Place};
 ghost use Rattle.vax_machine.specs.Turn.{Finishes};
+ghost use Rattle.vax_machine.specs.Writing.{OnlyWrote, held_in};
 
 use crate::engine::Engine;
-use crate::event::{Applied, Limits, RunEnd};
+use crate::event::{Applied, Fault, Limits, RunEnd};
 use crate::held::Held;
 use vax_outside::{PageFile, Sink};
-use vax_pager::PageFault;
 use vax_sched::{Schedule, Target};
 use vax_space::Area;
 
-/// Writes what is held, and ends so, or by a write fault.
-fn finish<K: Sink>(held: Held, end: RunEnd, sink: &mut K) -> RunEnd
-    ensures done { Finishes end result held.bytes.items (K.contents sink.old) (K.contents sink.new) (Rose (K.faults sink.old) (K.faults sink.new)) }
+/// Writes what is held back, and ends so, or by a write fault.
+fn finish<K: Sink>(held: &Held, end: RunEnd, sink: &mut K) -> RunEnd
+    ensures done { Finishes end result (held_in held.now) (K.contents sink.old) (K.contents sink.new) (Rose (K.faults sink.old) (K.faults sink.new)) }
+    ensures only { OnlyWrote held.now.listed (K.contents sink.old) (K.contents sink.new) }
     ensures later { K.faults sink.old ≤ K.faults sink.new }
     ensures quiet { result ≢ RunEnd.WriteFault → K.faults sink.new ≡ K.faults sink.old }
 {
-    let mut held = held;
-    match held.flush(sink) {
+    match held.write(sink) {
         Ok(()) => end,
         Err(_) => RunEnd::WriteFault,
     }
@@ -31,63 +29,85 @@ fn finish<K: Sink>(held: Held, end: RunEnd, sink: &mut K) -> RunEnd
 
 impl Engine {
     ghost use Rattle.std.specs.List.{flat_map, range_with_len};
-    ghost use Rattle.vax_space.specs.Areas.{pages_of};
+    ghost use Rattle.vax_space.specs.Areas.{area_of, pages_of};
     ghost use Rattle.vax_space.specs.Faults.{IsSpace};
     ghost use Rattle.vax_pager.specs.Calls.{IsPaging};
     ghost use Rattle.vax_pager.specs.Meaning.{pages};
     ghost use Rattle.vax_sched.specs.Due.{due};
+    ghost use Rattle.vax_machine.specs.Console.{IsBetween, MayGoOn, StopsBetween};
     ghost use Rattle.vax_machine.specs.Machine.{IsSound, Means, residence};
     ghost use Rattle.vax_machine.specs.Paged.{Paged, all_named, evicted, named, stops};
     ghost use Rattle.vax_machine.specs.Run.{Ends, Tracks, begun};
     ghost use Rattle.vax_machine.specs.Touched.{PinsTouched};
-    ghost use Rattle.vax_machine.specs.Turn.{AttemptsDone, EvictedAll, HasGone, IsStop, Still, TurnsMade, why_stopped};
+    ghost use Rattle.vax_machine.specs.Turn.{AttemptsDone, EvictedAll, Follows, HasGone, IsStop, ServesAndLists, Still, TurnsMade, why_stopped};
+    ghost use Rattle.vax_machine.specs.Writing.{Counts, Origin, Passed, StillWrites, listed_by};
 
-    /// Makes a page absent.
-    fn evict_one<F: PageFile>(&mut self, page: u32, file: &mut F) -> Result<(), PageFault>
-        requires sound { IsSound self.old }
-        ensures sound { IsSound self.new }
-        ensures ok { (p : Paged) → Tracks self.old (F.contents file.old) p → OnOk result (Tracks self.new (F.contents file.new) (evicted page p)) }
-        ensures err { (p : Paged) → Tracks self.old (F.contents file.old) p → OnErr result (Tracks self.new (F.contents file.new) p) }
-        ensures still { Still self.old self.new }
-        ensures later { F.faults file.old ≤ F.faults file.new }
-        ensures cause { OnErr result (Rose (F.faults file.old) (F.faults file.new)) }
-        ensures quiet { OnOk result (F.faults file.new ≡ F.faults file.old) }
+    /// Lists a page, if one was made absent before the attempt that comes.
+    fn list<K: Sink>(
+        &self,
+        evicted: Option<u32>,
+        held: &mut Held,
+        sink: &mut K,
+    ) -> Result<(), Fault>
+        requires turns { self.now.turns < 2 ^ 64 - 1 }
+        requires inside { (page : ℕ) → evicted ≡ Some page → is_some (area_of (pages self.now.pager).areas page) ≡ true }
+        ensures passes { Passed result (held_in held.old) (listed_by held.old.listed (self.now.turns + 1) evicted) (held_in held.new) (K.contents sink.old) (K.contents sink.new) }
+        ensures writes { StillWrites held.old held.new (K.contents sink.old) (K.contents sink.new) }
+        ensures counts { (file : ℕ) → Counts result file file (K.faults sink.old) (K.faults sink.new) }
     {
+        self.facts();
+        match evicted {
+            None => Ok(()),
+            Some(page) => held.list(self.turns + 1, page, sink),
+        }
+    }
+
+    /// Makes a page absent, and lists it where it was resident.
+    fn evict_one<F: PageFile, K: Sink>(
+        &mut self,
+        page: u32,
+        held: &mut Held,
+        file: &mut F,
+        sink: &mut K,
+    ) -> Result<(), Fault>
+        requires sound { IsSound self.old }
+        requires turns { self.old.turns < 2 ^ 64 - 1 }
+        ensures sound { IsSound self.new }
+        ensures done { (o : Origin) → (p : Paged) → Follows o p self.old (F.contents file.old) (K.contents sink.old) held.old → EvictedAll result o (page ∷ []) p self.new (F.contents file.new) (K.contents sink.new) held.new }
+        ensures still { Still self.old self.new }
+        ensures writes { StillWrites held.old held.new (K.contents sink.old) (K.contents sink.new) }
+        ensures counts { Counts result (F.faults file.old) (F.faults file.new) (K.faults sink.old) (K.faults sink.new) }
+    {
+        self.facts();
         match self.evict(page, file) {
-            Applied::Failed => Err(PageFault),
+            Applied::Failed => Err(Fault::Page),
+            Applied::Evicted => self.list(Some(page), held, sink),
             _ => Ok(()),
         }
     }
 
     /// Makes so many pages absent, from one on, in ascending order.
-    fn evict_several<F: PageFile>(
+    fn evict_several<F: PageFile, K: Sink>(
         &mut self,
         first: u32,
         count: u32,
+        held: &mut Held,
         file: &mut F,
-    ) -> Result<(), PageFault>
+        sink: &mut K,
+    ) -> Result<(), Fault>
         requires sound { IsSound self.old }
+        requires turns { self.old.turns < 2 ^ 64 - 1 }
         requires within { first + count < 2 ^ 32 }
         ensures sound { IsSound self.new }
-        ensures done { (p : Paged) → Tracks self.old (F.contents file.old) p → EvictedAll result (range_with_len first count) p self.new (F.contents file.new) }
+        ensures done { (o : Origin) → (p : Paged) → Follows o p self.old (F.contents file.old) (K.contents sink.old) held.old → EvictedAll result o (range_with_len first count) p self.new (F.contents file.new) (K.contents sink.new) held.new }
         ensures still { Still self.old self.new }
-        ensures later { F.faults file.old ≤ F.faults file.new }
-        ensures cause { OnErr result (Rose (F.faults file.old) (F.faults file.new)) }
-        ensures quiet { OnOk result (F.faults file.new ≡ F.faults file.old) }
+        ensures writes { StillWrites held.old held.new (K.contents sink.old) (K.contents sink.new) }
+        ensures counts { Counts result (F.faults file.old) (F.faults file.new) (K.faults sink.old) (K.faults sink.new) }
     {
         for place in 0..count {
-            self.evict_one(first + place, file)?;
+            self.evict_one(first + place, held, file, sink)?;
         }
         Ok(())
-    }
-
-    /// What is so of every machine's memory.
-    fn facts(&self)
-        ensures paging { IsPaging (pages self.now.pager) }
-        ensures space { IsSpace (pages self.now.pager).areas }
-    {
-        self.pager.facts();
-        let _areas = self.pager.space().areas();
     }
 
     /// How many areas there are.
@@ -108,102 +128,148 @@ impl Engine {
     }
 
     /// Makes all pages of one area absent.
-    fn evict_area<F: PageFile>(&mut self, place: usize, file: &mut F) -> Result<(), PageFault>
+    fn evict_area<F: PageFile, K: Sink>(
+        &mut self,
+        place: usize,
+        held: &mut Held,
+        file: &mut F,
+        sink: &mut K,
+    ) -> Result<(), Fault>
         requires sound { IsSound self.old }
+        requires turns { self.old.turns < 2 ^ 64 - 1 }
         requires there { place < length (pages self.old.pager).areas }
         ensures sound { IsSound self.new }
-        ensures done { (p : Paged) → (area : Area) → slice_get (pages self.old.pager).areas place ≡ Some area → Tracks self.old (F.contents file.old) p → EvictedAll result (pages_of area) p self.new (F.contents file.new) }
+        ensures done { (o : Origin) → (p : Paged) → (area : Area) → slice_get (pages self.old.pager).areas place ≡ Some area → Follows o p self.old (F.contents file.old) (K.contents sink.old) held.old → EvictedAll result o (pages_of area) p self.new (F.contents file.new) (K.contents sink.new) held.new }
         ensures still { Still self.old self.new }
-        ensures later { F.faults file.old ≤ F.faults file.new }
-        ensures cause { OnErr result (Rose (F.faults file.old) (F.faults file.new)) }
-        ensures quiet { OnOk result (F.faults file.new ≡ F.faults file.old) }
+        ensures writes { StillWrites held.old held.new (K.contents sink.old) (K.contents sink.new) }
+        ensures counts { Counts result (F.faults file.old) (F.faults file.new) (K.faults sink.old) (K.faults sink.new) }
     {
         let area = self.area(place);
         let first = area.first;
         let count = area.pages;
-        self.evict_several(first, count, file)
+        self.evict_several(first, count, held, file, sink)
     }
 
     /// Makes all pages absent, in ascending order.
-    fn evict_all<F: PageFile>(&mut self, file: &mut F) -> Result<(), PageFault>
+    fn evict_all<F: PageFile, K: Sink>(
+        &mut self,
+        held: &mut Held,
+        file: &mut F,
+        sink: &mut K,
+    ) -> Result<(), Fault>
         requires sound { IsSound self.old }
+        requires turns { self.old.turns < 2 ^ 64 - 1 }
         ensures sound { IsSound self.new }
-        ensures done { (p : Paged) → Tracks self.old (F.contents file.old) p → EvictedAll result (flat_map pages_of (pages self.old.pager).areas) p self.new (F.contents file.new) }
+        ensures done { (o : Origin) → (p : Paged) → Follows o p self.old (F.contents file.old) (K.contents sink.old) held.old → EvictedAll result o (flat_map pages_of (pages self.old.pager).areas) p self.new (F.contents file.new) (K.contents sink.new) held.new }
         ensures still { Still self.old self.new }
-        ensures later { F.faults file.old ≤ F.faults file.new }
-        ensures cause { OnErr result (Rose (F.faults file.old) (F.faults file.new)) }
-        ensures quiet { OnOk result (F.faults file.new ≡ F.faults file.old) }
+        ensures writes { StillWrites held.old held.new (K.contents sink.old) (K.contents sink.new) }
+        ensures counts { Counts result (F.faults file.old) (F.faults file.new) (K.faults sink.old) (K.faults sink.new) }
     {
         let count = self.area_count();
         for place in 0..count {
-            self.evict_area(place, file)?;
+            self.evict_area(place, held, file, sink)?;
         }
         Ok(())
     }
 
     /// Makes what a target names absent.
-    fn evict_target<F: PageFile>(&mut self, target: Target, file: &mut F) -> Result<(), PageFault>
+    fn evict_target<F: PageFile, K: Sink>(
+        &mut self,
+        target: Target,
+        held: &mut Held,
+        file: &mut F,
+        sink: &mut K,
+    ) -> Result<(), Fault>
         requires sound { IsSound self.old }
+        requires turns { self.old.turns < 2 ^ 64 - 1 }
         ensures sound { IsSound self.new }
-        ensures done { (p : Paged) → Tracks self.old (F.contents file.old) p → EvictedAll result (named (pages self.old.pager).areas target) p self.new (F.contents file.new) }
+        ensures done { (o : Origin) → (p : Paged) → Follows o p self.old (F.contents file.old) (K.contents sink.old) held.old → EvictedAll result o (named (pages self.old.pager).areas target) p self.new (F.contents file.new) (K.contents sink.new) held.new }
         ensures still { Still self.old self.new }
-        ensures later { F.faults file.old ≤ F.faults file.new }
-        ensures cause { OnErr result (Rose (F.faults file.old) (F.faults file.new)) }
-        ensures quiet { OnOk result (F.faults file.new ≡ F.faults file.old) }
+        ensures writes { StillWrites held.old held.new (K.contents sink.old) (K.contents sink.new) }
+        ensures counts { Counts result (F.faults file.old) (F.faults file.new) (K.faults sink.old) (K.faults sink.new) }
     {
         match target {
-            Target::Page(page) => self.evict_one(page, file),
-            Target::All => self.evict_all(file),
+            Target::Page(page) => self.evict_one(page, held, file, sink),
+            Target::All => self.evict_all(held, file, sink),
         }
     }
 
     /// Makes what is due at the turn that comes absent.
-    fn evict_due<F: PageFile>(&mut self, schedule: &Schedule, file: &mut F) -> Result<(), PageFault>
+    fn evict_due<F: PageFile, K: Sink>(
+        &mut self,
+        schedule: &Schedule,
+        held: &mut Held,
+        file: &mut F,
+        sink: &mut K,
+    ) -> Result<(), Fault>
         requires sound { IsSound self.old }
         requires turns { self.old.turns < 2 ^ 64 - 1 }
         ensures sound { IsSound self.new }
-        ensures done { (p : Paged) → Tracks self.old (F.contents file.old) p → EvictedAll result (all_named (pages self.old.pager).areas (due schedule.now (self.old.turns + 1))) p self.new (F.contents file.new) }
+        ensures done { (o : Origin) → (p : Paged) → Follows o p self.old (F.contents file.old) (K.contents sink.old) held.old → EvictedAll result o (all_named (pages self.old.pager).areas (due schedule.now (self.old.turns + 1))) p self.new (F.contents file.new) (K.contents sink.new) held.new }
         ensures still { Still self.old self.new }
-        ensures later { F.faults file.old ≤ F.faults file.new }
-        ensures cause { OnErr result (Rose (F.faults file.old) (F.faults file.new)) }
-        ensures quiet { OnOk result (F.faults file.new ≡ F.faults file.old) }
+        ensures writes { StillWrites held.old held.new (K.contents sink.old) (K.contents sink.new) }
+        ensures counts { Counts result (F.faults file.old) (F.faults file.new) (K.faults sink.old) (K.faults sink.new) }
     {
         let turn = self.turns + 1;
         let mut place = 0;
         while let Some(target) = schedule.due(turn, place) {
-            self.evict_target(target, file)?;
+            self.evict_target(target, held, file, sink)?;
             place += 1;
         }
         Ok(())
     }
 
     /// Makes at most `most` attempts, at least one, up to the first that doesn't complete a step with no byte sent, and serves the page that
-    /// the last one missed. It answers the byte that was sent.
-    fn attempt_and_serve<F: PageFile>(
+    /// the last one missed. The byte that was sent is held for Out, and the page that made room is listed.
+    fn attempt_and_serve<F: PageFile, K: Sink>(
         &mut self,
         most: u64,
+        held: &mut Held,
         file: &mut F,
-    ) -> Result<Option<u8>, PageFault>
+        sink: &mut K,
+    ) -> Result<(), Fault>
         requires sound { IsSound self.old }
         requires going { self.old.ended ≡ None }
         requires some { 1 ≤ most }
         requires steps { self.old.steps + most < 2 ^ 64 }
-        requires turns { self.old.turns + most < 2 ^ 64 }
+        requires turns { self.old.turns + most < 2 ^ 64 - 1 }
         ensures sound { IsSound self.new }
-        ensures done { (p : Paged) → Tracks self.old (F.contents file.old) p → PinsTouched p.residence p.place → AttemptsDone result most p self.new (F.contents file.new) }
+        ensures done { (o : Origin) → (p : Paged) → Follows o p self.old (F.contents file.old) (K.contents sink.old) held.old → PinsTouched p.residence p.place → AttemptsDone result most o p self.new (F.contents file.new) (K.contents sink.new) held.new }
         ensures gone { HasGone most self.old self.new }
-        ensures later { F.faults file.old ≤ F.faults file.new }
-        ensures cause { OnErr result (Rose (F.faults file.old) (F.faults file.new)) }
-        ensures quiet { OnOk result (F.faults file.new ≡ F.faults file.old) }
+        ensures goes_on { MayGoOn (self.old.steps + most) self.new }
+        ensures writes { StillWrites held.old held.new (K.contents sink.old) (K.contents sink.new) }
+        ensures counts { Counts result (F.faults file.old) (F.faults file.new) (K.faults sink.old) (K.faults sink.new) }
     {
         self.facts();
         match self.attempts(most) {
-            Applied::Stepped(sent) => Ok(sent),
-            Applied::Absent(_) => match self.serve(file) {
-                Applied::Failed => Err(PageFault),
-                _ => Ok(None),
-            },
-            _ => Ok(None),
+            Applied::Stepped(sent) => held.send(sent, sink),
+            Applied::Absent(_) => {
+                self.facts();
+                self.serve_and_list(held, file, sink)
+            }
+            _ => Ok(()),
+        }
+    }
+
+    /// Serves the page that is wanted, and lists the page that made room for it.
+    fn serve_and_list<F: PageFile, K: Sink>(
+        &mut self,
+        held: &mut Held,
+        file: &mut F,
+        sink: &mut K,
+    ) -> Result<(), Fault>
+        requires sound { IsSound self.old }
+        requires wanted { is_some self.old.wanted ≡ true }
+        requires turns { self.old.turns < 2 ^ 64 - 1 }
+        ensures sound { IsSound self.new }
+        ensures served { ServesAndLists result self.old (F.contents file.old) held.old (K.contents sink.old) self.new (F.contents file.new) held.new (K.contents sink.new) }
+        ensures writes { StillWrites held.old held.new (K.contents sink.old) (K.contents sink.new) }
+        ensures counts { Counts result (F.faults file.old) (F.faults file.new) (K.faults sink.old) (K.faults sink.new) }
+    {
+        match self.serve(file) {
+            Applied::Failed => Err(Fault::Page),
+            Applied::Served(victim) => self.list(victim, held, sink),
+            _ => Ok(()),
         }
     }
 
@@ -222,14 +288,15 @@ impl Engine {
         room.min(quiet + 1)
     }
 
-    /// Makes several turns. What is due at the first of them is made absent, and nothing is due at the others. It answers the byte that the
-    /// last one sent.
-    fn several_turns<F: PageFile>(
+    /// Makes several turns. What is due at the first of them is made absent, and nothing is due at the others.
+    fn several_turns<F: PageFile, K: Sink>(
         &mut self,
         limits: &Limits,
         schedule: &Schedule,
+        held: &mut Held,
         file: &mut F,
-    ) -> Result<Option<u8>, PageFault>
+        sink: &mut K,
+    ) -> Result<(), Fault>
         requires sound { IsSound self.old }
         requires going { self.old.ended ≡ None }
         requires steps { self.old.steps < limits.now.steps }
@@ -237,18 +304,18 @@ impl Engine {
         requires few_steps { limits.now.steps < 2 ^ 64 }
         requires few_turns { limits.now.turns < 2 ^ 64 - 2 }
         ensures sound { IsSound self.new }
-        ensures done { (p : Paged) → Tracks self.old (F.contents file.old) p → PinsTouched p.residence p.place → TurnsMade result limits.now (pages self.old.pager).areas schedule.now p self.new (F.contents file.new) }
+        ensures done { (o : Origin) → (p : Paged) → Follows o p self.old (F.contents file.old) (K.contents sink.old) held.old → PinsTouched p.residence p.place → TurnsMade result limits.now o (pages self.old.pager).areas schedule.now p self.new (F.contents file.new) (K.contents sink.new) held.new }
         ensures steps { OnOk result (self.new.steps ≤ limits.now.steps) }
         ensures turns { OnOk result (self.new.turns ≤ limits.now.turns) }
         ensures some { OnOk result (self.old.turns < self.new.turns) }
         ensures areas { OnOk result ((pages self.new.pager).areas ≡ (pages self.old.pager).areas) }
-        ensures later { F.faults file.old ≤ F.faults file.new }
-        ensures cause { OnErr result (Rose (F.faults file.old) (F.faults file.new)) }
-        ensures quiet { OnOk result (F.faults file.new ≡ F.faults file.old) }
+        ensures goes_on { OnOk result (MayGoOn limits.now.steps self.new) }
+        ensures writes { StillWrites held.old held.new (K.contents sink.old) (K.contents sink.new) }
+        ensures counts { Counts result (F.faults file.old) (F.faults file.new) (K.faults sink.old) (K.faults sink.new) }
     {
-        self.evict_due(schedule, file)?;
+        self.evict_due(schedule, held, file, sink)?;
         let most = self.most_attempts(limits, schedule);
-        self.attempt_and_serve(most, file)
+        self.attempt_and_serve(most, held, file, sink)
     }
 
     /// Why a run stops here, if it does.
@@ -256,6 +323,7 @@ impl Engine {
         ensures stops { (file : Option BlockFile) → (p : Paged) → Tracks self.now file p → stops limits.now.steps limits.now.turns p ≡ why_stopped result }
         ensures none { result ≡ None → (self.now.ended ≡ None) × (self.now.steps < limits.now.steps) × (self.now.turns < limits.now.turns) }
         ensures whole { IfSome result IsStop }
+        ensures between { MayGoOn limits.now.steps self.now → IfSome result (λ end. StopsBetween end → IsBetween self.now) }
     {
         if let Some(ending) = self.ended {
             return Some(RunEnd::Ended(ending));
@@ -269,9 +337,10 @@ impl Engine {
         None
     }
 
-    /// Runs up to an ending or a limit. The bytes that the program sends to its console go to Out in order.
+    /// Runs up to an ending or a limit. The bytes that the program sends to its console go to Out in order, and where evictions are listed a line
+    /// for each to Record.
     ///
-    /// After a page fault the machine stands where the turns before it left it; after a write fault, a prefix of what the whole run sends was
+    /// After a page fault the machine stands where the turns before it left it; after a write fault, a prefix of what the whole run writes was
     /// written.
     pub(crate) fn run<F: PageFile, K: Sink>(
         &mut self,
@@ -284,27 +353,26 @@ impl Engine {
         requires few_steps { limits.now.steps < 2 ^ 64 }
         requires few_turns { limits.now.turns < 2 ^ 64 - 2 }
         ensures sound { IsSound self.new }
-        ensures ends { (place : Place) → Means self.old (F.contents file.old) place → PinsTouched (residence self.old) place → Ends limits.now (pages self.old.pager).areas schedule.now (begun self.old place) result self.new (F.contents file.new) (K.contents sink.old) (K.contents sink.new) }
+        ensures ends { (place : Place) → Means self.old (F.contents file.old) place → PinsTouched (residence self.old) place → Ends limits.now (pages self.old.pager).areas schedule.now (begun self.old place) (F.contents file.old) result self.new (F.contents file.new) (K.contents sink.old) (K.contents sink.new) }
+        ensures between { StopsBetween result → IsBetween self.old → IsBetween self.new }
         ensures later { F.faults file.old ≤ F.faults file.new }
         ensures sunk { K.faults sink.old ≤ K.faults sink.new }
         ensures fault { result ≡ RunEnd.PageFault → Rose (F.faults file.old) (F.faults file.new) }
         ensures cause { result ≡ RunEnd.WriteFault → Rose (K.faults sink.old) (K.faults sink.new) }
         ensures unfailed { result ≢ RunEnd.PageFault → result ≢ RunEnd.WriteFault → F.faults file.new ≡ F.faults file.old }
         ensures written { result ≢ RunEnd.WriteFault → K.faults sink.new ≡ K.faults sink.old }
-        ensures out { (sent : List ℕ) × GrewByPrefix (K.contents sink.old) (K.contents sink.new) (only Out sent) }
+        ensures only { OnlyWrote limits.now.listed (K.contents sink.old) (K.contents sink.new) }
     {
-        let mut held = Held::new();
+        self.facts();
+        let mut held = Held::new(limits.listed);
         loop {
             if let Some(end) = self.stopped(limits) {
-                return finish(held, end, sink);
+                return finish(&held, end, sink);
             }
-            match self.several_turns(limits, schedule, file) {
-                Err(_) => return finish(held, RunEnd::PageFault, sink),
-                Ok(None) => {}
-                Ok(Some(byte)) => match held.push(byte, sink) {
-                    Ok(()) => {}
-                    Err(_) => return RunEnd::WriteFault,
-                },
+            match self.several_turns(limits, schedule, &mut held, file, sink) {
+                Ok(()) => {}
+                Err(Fault::Page) => return finish(&held, RunEnd::PageFault, sink),
+                Err(Fault::Write) => return RunEnd::WriteFault,
             }
         }
     }

@@ -5,24 +5,30 @@ use std::process::Abort;
 use std::test::Fail;
 use vax_flat::Ending;
 use vax_outside::{Chan, MemPages, MemSink};
+use vax_pager::PageFault;
 use vax_sched::{Schedule, read};
 use vax_space::{Area, Bytes, Space};
 use vax_word::{Core, Psl};
 
-/// Pages 0 to 7, which begin with these bytes and which every mode may write.
-fn space(alloc: Global, bytes: &[u8]) -> Result<Space, Fail> {
+/// So many pages, from page 0 on, which begin with these bytes and which every mode may write.
+fn pages(alloc: Global, count: u32, bytes: &[u8]) -> Result<Space, Fail> {
     let mut areas = Vec::new(alloc);
     areas.push(Area {
         first: 0,
-        pages: 8,
+        pages: count,
         prot: 4,
         bytes: Bytes::from(bytes.to_vec(alloc)?),
     })?;
     Ok(Space::new(alloc, areas)?)
 }
 
-/// A machine over these pages, with registers of 0 in kernel mode.
-fn machine(alloc: Global, bytes: &[u8]) -> Result<Machine, Fail> {
+/// Pages 0 to 7.
+fn space(alloc: Global, bytes: &[u8]) -> Result<Space, Fail> {
+    pages(alloc, 8, bytes)
+}
+
+/// A machine over a space, with registers of 0 in kernel mode and 64 frames.
+fn machine_over(alloc: Global, space: Space) -> Result<Machine, Fail> {
     let core = Core {
         regs: [0; 16],
         psl: Psl(0x001F_0000),
@@ -31,7 +37,12 @@ fn machine(alloc: Global, bytes: &[u8]) -> Result<Machine, Fail> {
         iccs: 0,
         clock: 0,
     };
-    Ok(Machine::new(alloc, space(alloc, bytes)?, core, Vec::new(alloc), 64)?)
+    Ok(Machine::new(alloc, space, core, Vec::new(alloc), 64)?)
+}
+
+/// A machine over eight pages.
+fn machine(alloc: Global, bytes: &[u8]) -> Result<Machine, Fail> {
+    machine_over(alloc, space(alloc, bytes)?)
 }
 
 /// MOVL #89ABCDEF,@#400, MOVL @#400,R1 and HALT.
@@ -49,6 +60,7 @@ fn run_up(
     let limits = Limits {
         steps: 100,
         turns: 100,
+        listed: true,
     };
     machine.run(&limits, schedule, file, sink)
 }
@@ -113,8 +125,133 @@ fn events_one_by_one(rt: HostRuntime) -> Result<(), Fail> {
     }
     assert_eq!(rt; machine.steps(), 3);
     assert_eq!(rt; machine.turns(), 6);
+    assert_eq!(rt; machine.ended(), Some(Ending::Halt));
     assert_eq!(rt; machine.peek(0x600, &mut file), Ok(Some(1)));
     assert_eq!(rt; machine.next_flush(), None);
     assert_eq!(rt; machine.counts().written, 1);
+    Ok(())
+}
+
+#[test]
+fn lists_evictions(rt: HostRuntime) -> Result<(), Fail> {
+    let alloc = rt.alloc();
+    // MOVL #5,R1 and HALT; every page is made absent before the second and the fourth attempt.
+    let mut machine = machine(alloc, &[0xD0, 5, 0x51, 0])?;
+    let schedule = read(alloc, b"each 2 all\n", &space(alloc, &[])?)?;
+    let mut file = MemPages::new(alloc, 8, 100, Vec::new(alloc))?;
+    let mut sink = MemSink::new(alloc, [100; 3], 7, Vec::new(alloc))?;
+    let end = run_up(&mut machine, &schedule, &mut file, &mut sink);
+    assert_eq!(rt; end, RunEnd::Ended(Ending::Halt));
+    assert_eq!(rt; machine.turns(), 5);
+    assert_eq!(rt;
+        sink.bytes(Chan::Record),
+        b"at 2 00000000\nat 4 00000000\n".as_slice()
+    );
+    assert_eq!(rt; machine.counts().written, 0);
+    Ok(())
+}
+
+#[test]
+fn changes_registers(rt: HostRuntime) -> Result<(), Fail> {
+    let alloc = rt.alloc();
+    let mut machine = machine(alloc, PROGRAM)?;
+    if !machine.is_open() {
+        machine.set_reg(3, 0xCAFE);
+    }
+    assert_eq!(rt; machine.core().regs.get(3), Some(&0xCAFE));
+    Ok(())
+}
+
+/// Changes two bytes; no string instruction is open.
+fn change(
+    machine: &mut Machine,
+    addr: u32,
+    bytes: &[u8; 2],
+    file: &mut MemPages,
+) -> Result<bool, PageFault> {
+    if machine.is_open() {
+        return Ok(false);
+    }
+    machine.poke(addr, bytes, file)
+}
+
+/// Writes to pages 1 to 64, so that no other page has a frame; the answer tells whether each write was made.
+fn fill_frames(machine: &mut Machine, file: &mut MemPages) -> bool {
+    let mut filled = true;
+    for page in 1..65u32 {
+        filled = change(machine, page * 512, &[9, 9], file) == Ok(true) && filled;
+    }
+    filled
+}
+
+#[test]
+fn shows_and_changes(rt: HostRuntime) -> Result<(), Fail> {
+    let alloc = rt.alloc();
+    let mut machine = machine(alloc, PROGRAM)?;
+    let mut file = MemPages::new(alloc, 8, 100, Vec::new(alloc))?;
+    assert_eq!(rt; change(&mut machine, 0x3FF, &[1, 2], &mut file), Ok(true));
+    assert_eq!(rt; change(&mut machine, 0xFFF, &[5, 6], &mut file), Ok(false));
+    let mut cells = [None; 3];
+    assert_eq!(rt; machine.dump(0x3FE, &mut cells, &mut file), Ok(()));
+    assert_eq!(rt; cells, [Some(0), Some(1), Some(2)]);
+    assert_eq!(rt; machine.dump(0xFFE, &mut cells, &mut file), Ok(()));
+    assert_eq!(rt; cells, [Some(0), Some(0), None]);
+    Ok(())
+}
+
+#[test]
+fn page_file_calls_fail(rt: HostRuntime) -> Result<(), Fail> {
+    let alloc = rt.alloc();
+    let mut machine = machine_over(alloc, pages(alloc, 128, &[])?)?;
+    let mut fails = Vec::new(alloc);
+    fails.push(vax_outside::Fail::Read(1))?;
+    fails.push(vax_outside::Fail::Read(3))?;
+    fails.push(vax_outside::Fail::Write(2))?;
+    let mut file = MemPages::new(alloc, 128, 300, fails)?;
+    assert_eq!(rt; change(&mut machine, 0, &[7, 7], &mut file), Ok(true));
+    assert_eq!(rt; machine.apply(Event::Evict(0), &mut file), Applied::Evicted);
+    assert!(rt; fill_frames(&mut machine, &mut file));
+
+    // The second page's block isn't written, so page 0 finds no frame.
+    assert_eq!(rt; change(&mut machine, 0, &[8, 8], &mut file), Err(PageFault));
+    let mut cells = [None; 2];
+    assert_eq!(rt; machine.dump(0, &mut cells, &mut file), Err(PageFault));
+    assert_eq!(rt; machine.dump(0, &mut cells, &mut file), Ok(()));
+    assert_eq!(rt; cells, [Some(7), Some(7)]);
+    // Its own block isn't read.
+    assert_eq!(rt; change(&mut machine, 0, &[8, 8], &mut file), Err(PageFault));
+    assert_eq!(rt; machine.peek(0, &mut file), Ok(Some(7)));
+    assert_eq!(rt; change(&mut machine, 0, &[8, 8], &mut file), Ok(true));
+    assert_eq!(rt; machine.peek(0, &mut file), Ok(Some(8)));
+    assert_eq!(rt; machine.spoiled(), 0);
+    Ok(())
+}
+
+#[test]
+fn writes_what_makes_room(rt: HostRuntime) -> Result<(), Fail> {
+    let alloc = rt.alloc();
+    // MOVC5 #0,@#0,#1,#35840,@#400 fills pages 2 to 71; then MOVB #2,@#400 and HALT.
+    let program = [
+        0x2C, 0, 0x9F, 0, 0, 0, 0, 1, 0x8F, 0, 0x8C, 0x9F, 0, 4, 0, 0, 0x90, 2, 0x9F, 0, 4, 0, 0, 0,
+    ];
+    let mut machine = machine_over(alloc, pages(alloc, 128, &program)?)?;
+    let mut file = MemPages::new(alloc, 128, 300, Vec::new(alloc))?;
+    let mut sink = MemSink::new(alloc, [3000; 3], 100, Vec::new(alloc))?;
+    let limits = Limits {
+        steps: 100,
+        turns: 1000,
+        listed: true,
+    };
+    let end = machine.run(&limits, &Schedule::new(alloc), &mut file, &mut sink);
+    assert_eq!(rt; end, RunEnd::Ended(Ending::Halt));
+    // Page 0 and 70 pages come, then page 0 again, which made room, and page 2. So 9 make room; page 0 isn't written, since nothing was written to it.
+    assert_eq!(rt; machine.counts().served, 73);
+    assert_eq!(rt; machine.counts().evicted, 9);
+    assert_eq!(rt; file.writes().len(), 8);
+    for (_, block) in file.writes() {
+        assert_eq!(rt; [block[0], block[511]], [1, 1]);
+    }
+    // `at 132 00000000` and the like.
+    assert_eq!(rt; sink.bytes(Chan::Record).len(), 9 * 16);
     Ok(())
 }

@@ -1,46 +1,60 @@
-use Rattle.std.proofs.Common.{arith, refl}
-use Rattle.vax_machine.proofs.Serving.{gone_served, gone_several, quiet, serve_done, serve_failed, stepped}
+use Rattle.std.proofs.Common.{◌≡◌, ap, arith, refl, true}
+use Rattle.std.specs.Prelude.{is_some}
+use Rattle.vax_machine.proofs.Between.{served_and_listed}
+use Rattle.vax_machine.proofs.Outputs.{writes_nothing}
+use Rattle.vax_machine.proofs.Passing.{gone_on, in_silence, passed_on, served_on}
+use Rattle.vax_machine.proofs.Serving.{gone_several, quiet, stepped}
+use Rattle.vax_machine.specs.Machine.{Keeping}
+use Rattle.vax_machine.specs.Writing.{sent_by}
 use Rattle.vax_machine.proofs.engine.Engine.attempt_and_serve.Goals as goal
 
 pub returns-in-Stepped-clause-done : goal.returns-in-Stepped-clause-done
-returns-in-Stepped-clause-done g c = λ p t pins.
-    stepped c.args.self.now p _ t c.requires.going c.args.most c.attempts.new.self c.requires.steps c.requires.turns _ c.in-Stepped.ensures.tried
+returns-in-Stepped-clause-done g c = λ o p f pins.
+    let low = c.requires.turns in
+    let h = stepped c.args.self.now p _ f.tracks c.requires.going c.args.most c.attempts.new.self c.requires.steps (omega (arith, low)) c.in-Stepped.sent c.in-Stepped.ensures.tried in
+    passed_on o p c.args.self.now c.attempts.new.self _ _ _ _ c.args.most f (λ listed. sent_by c.in-Stepped.sent) _ _ c.send.result h c.send.ensures.passes c.send.ensures.still.listed
 
 pub returns-in-Stepped-clause-gone : goal.returns-in-Stepped-clause-gone
 returns-in-Stepped-clause-gone g c =
-    gone_several c.args.self.now c.attempts.new.self c.args.most c.attempts.result c.requires.steps c.requires.turns c.attempts.ensures.tried
+    let low = c.requires.turns in
+    gone_several c.args.self.now c.attempts.new.self c.args.most c.attempts.result c.requires.steps (omega (arith, low)) c.attempts.ensures.tried
 
-pub returns-in-Failed-clause-done : goal.returns-in-Failed-clause-done
-returns-in-Failed-clause-done g c = λ p t pins.
-    serve_failed c.args.self.now c.attempts.new.self p c.in-Absent.field-0 _ t c.requires.going c.args.most c.requires.steps c.requires.turns c.in-Absent.ensures.tried c.facts.ensures.paging c.facts.ensures.space c.attempts.ensures.sound pins
-    c.serve.new.self _ c.in-Failed.ensures.applies
+pub serve_and_list-requires-clause-wanted : goal.serve_and_list-requires-clause-wanted
+serve_and_list-requires-clause-wanted g c = ap (λ (k : Keeping). is_some k.wanted) c.in-Absent.ensures.tried.keeps
 
-pub returns-in-Failed-clause-gone : goal.returns-in-Failed-clause-gone
-returns-in-Failed-clause-gone g c =
-    gone_served c.args.self.now c.attempts.new.self c.serve.new.self c.args.most c.serve.result
-    (gone_several c.args.self.now c.attempts.new.self c.args.most c.attempts.result c.requires.steps c.requires.turns c.attempts.ensures.tried) c.serve.ensures.applies.0
+pub serve_and_list-requires-clause-turns : goal.serve_and_list-requires-clause-turns
+serve_and_list-requires-clause-turns g c =
+    let low = c.requires.turns in
+    let t = (gone_several c.args.self.now c.attempts.new.self c.args.most c.attempts.result c.requires.steps (omega (arith, low)) c.attempts.ensures.tried).turns in
+    omega (arith, low, t)
 
-pub returns-in_default-serve : goal.returns-in_default-serve
-returns-in_default-serve g c = record {
-  sound = c.serve.ensures.sound;
-  done = λ p t pins.
-      serve_done c.args.self.now c.attempts.new.self p c.in-Absent.field-0 _ t c.requires.going c.args.most c.requires.steps c.requires.turns c.in-Absent.ensures.tried c.facts.ensures.paging c.facts.ensures.space c.attempts.ensures.sound pins
-      c.serve.new.self _ _ c.serve.ensures.applies c.in_default-serve.not-Failed;
-  gone =
-      gone_served c.args.self.now c.attempts.new.self c.serve.new.self c.args.most c.serve.result
-      (gone_several c.args.self.now c.attempts.new.self c.args.most c.attempts.result c.requires.steps c.requires.turns c.attempts.ensures.tried) c.serve.ensures.applies.0;
-  later = c.serve.ensures.later;
-  cause = tt;
-  quiet = c.serve.ensures.quiet c.in_default-serve.not-Failed;
-}
+pub returns-in-Absent-clause-done : goal.returns-in-Absent-clause-done
+returns-in-Absent-clause-done g c = λ o p f pins.
+    let low = c.requires.turns in
+    served_on o p c.args.self.now c.attempts.new.self c.serve_and_list.new.self _ _ _ _ c.args.most c.in-Absent.field-0 f c.requires.going c.requires.steps (omega (arith, low)) c.in-Absent.ensures.tried c.facts.ensures.paging c.facts.ensures.space c.attempts.ensures.sound pins c.facts-in-Absent.ensures.paging
+    c.serve_and_list.result _ _ c.serve_and_list.ensures.writes.listed c.serve_and_list.ensures.served
+
+pub returns-in-Absent-clause-gone : goal.returns-in-Absent-clause-gone
+returns-in-Absent-clause-gone g c =
+    let low = c.requires.turns in
+    gone_on c.serve_and_list.result c.args.self.now c.attempts.new.self c.serve_and_list.new.self c.args.most _ _ _ _ _ _
+    (gone_several c.args.self.now c.attempts.new.self c.args.most c.attempts.result c.requires.steps (omega (arith, low)) c.attempts.ensures.tried) c.serve_and_list.ensures.served
+
+pub returns-in-Absent-clause-goes_on : goal.returns-in-Absent-clause-goes_on
+returns-in-Absent-clause-goes_on g c =
+    let low = c.requires.turns in
+    served_and_listed c.serve_and_list.result c.args.self.now c.attempts.new.self c.serve_and_list.new.self c.args.most c.in-Absent.field-0 _ _ _ _ _ _ c.requires.going c.requires.steps (omega (arith, low)) c.in-Absent.ensures.tried c.serve_and_list.ensures.served
 
 pub returns-in_default : goal.returns-in_default
-returns-in_default g c = record {
-  sound = c.attempts.ensures.sound;
-  done = λ p t pins.
-      quiet c.args.self.now p _ t c.requires.going c.args.most c.attempts.new.self c.requires.steps c.requires.turns _ c.attempts.ensures.tried c.in_default.not-Stepped c.in_default.not-Absent;
-  gone = gone_several c.args.self.now c.attempts.new.self c.args.most c.attempts.result c.requires.steps c.requires.turns c.attempts.ensures.tried;
-  later = omega arith;
-  cause = tt;
-  quiet = refl;
-}
+returns-in_default g c =
+    let low = c.requires.turns in
+    record {
+      sound = c.attempts.ensures.sound;
+      done = λ o p f pins.
+          in_silence o p c.args.self.now c.attempts.new.self _ _ _ _ c.args.most f
+          (quiet c.args.self.now p _ f.tracks c.requires.going c.args.most c.attempts.new.self c.requires.steps (omega (arith, low)) c.attempts.result c.attempts.ensures.tried c.in_default.not-Stepped c.in_default.not-Absent);
+      gone = gone_several c.args.self.now c.attempts.new.self c.args.most c.attempts.result c.requires.steps (omega (arith, low)) c.attempts.ensures.tried;
+      goes_on = c.attempts.ensures.goes_on;
+      writes = writes_nothing _ _;
+      counts = (refl, refl);
+    }

@@ -1,6 +1,7 @@
-use Rattle.std.proofs.Common.{refl}
+use Rattle.std.proofs.Common.{◌+◌, arith, refl}
 use Rattle.vax_pager.specs.Meaning.{pages}
 use Rattle.vax_pager.proofs.Views.{only_itself}
+use Rattle.vax_machine.proofs.Between.{concluded}
 use Rattle.vax_machine.proofs.Batches.{has_tried_several, missing_behind, sound_behind}
 use Rattle.vax_machine.proofs.engine.Engine.attempts.Goals as goal
 
@@ -20,3 +21,8 @@ returns-clause-tried c =
     (record { pages = c.settle_after.ensures; steps = refl; turns = refl; wanted = refl; ended = refl })
     c.conclude.ensures.concludes c.attempts-batch.ensures.steps c.attempts-batch.ensures.within c.attempts-batch.ensures.before c.attempts-batch.ensures.latch
     _ c.attempts-batch.ensures.few c.requires.steps c.requires.turns
+
+pub returns-clause-goes_on : goal.returns-clause-goes_on
+returns-clause-goes_on c =
+    let few = c.attempts-batch.ensures.few in
+    concluded (c.args.self.now.steps + c.args.most) c.attempts-batch.result.last _ c.conclude.new.self c.conclude.result c.args.self.now.cpu.latch c.conclude.ensures.concludes c.attempts-batch.ensures.latch c.requires.going (omega (arith, few))

@@ -1,8 +1,11 @@
-use Rattle.std.proofs.Common.{ap, refl, sym, ◌∙◌, inl, inr, true, false}
+use Rattle.std.proofs.Common.{◌≡◌, List, ap, refl, subst, sym, ◌∙◌, inl, inr, true, false}
+use Rattle.std.specs.Prelude.{is_some}
+use Rattle.vax_space.specs.declared.Area.{Area}
+use Rattle.vax_space.specs.Areas.{area_of}
 use Rattle.vax_pager.specs.Meaning.{pages}
 use Rattle.vax_pager.specs.Paging.{Paging}
 use Rattle.vax_machine.specs.Residence.{residence_of}
-use Rattle.vax_machine.proofs.Services.{areas_evicted, evicts_as, keeping_same, keeps_place, not_there, outside_absent, residence_evicted, sound_evicted}
+use Rattle.vax_machine.proofs.Services.{areas_evicted, evicted_nothing, evicts_as, keeping_same, keeps_place, not_there, outside_absent, residence_evicted, sound_evicted, wrote_nothing_of}
 use Rattle.vax_machine.proofs.engine.Engine.evict.Goals as goal
 
 pub returns-then-not-has-clause-applies : goal.returns-then-not-has-clause-applies
@@ -50,3 +53,21 @@ returns-else-resident-clause-quiet g c = λ other. c.in-Ok.ensures.quiet
 
 pub returns-in-Err-clause-quiet : goal.returns-in-Err-clause-quiet
 returns-in-Err-clause-quiet g c = λ other. absurd (other refl)
+
+pub returns-then-resident-clause-inside : goal.returns-then-resident-clause-inside
+returns-then-resident-clause-inside g c = λ is.
+    subst (λ (z : List Area). is_some (area_of z c.args.page) ≡ true) (sym (areas_evicted (pages c.args.self.now.pager) (pages c.evict.new.self) _ c.in-Ok.ensures.ok))
+    (c.facts.ensures.inside c.args.page (sym c.in-Ok.ensures.answer ∙ c.if-resident.true))
+
+pub returns-then-resident-clause-moves : goal.returns-then-resident-clause-moves
+returns-then-resident-clause-moves g c = (c.in-Ok.ensures.ok, c.in-Ok.ensures.wrote)
+
+pub returns-else-resident-clause-moves : goal.returns-else-resident-clause-moves
+returns-else-resident-clause-moves g c =
+    let away = sym c.in-Ok.ensures.answer ∙ c.if-resident.false in (
+      c.in-Ok.ensures.ok ∙ evicted_nothing c.args.page (pages c.args.self.now.pager) away,
+      c.in-Ok.ensures.wrote ∙ wrote_nothing_of c.args.page (pages c.args.self.now.pager) _ c.facts.ensures away,
+    )
+
+pub returns-in-Err-clause-moves : goal.returns-in-Err-clause-moves
+returns-in-Err-clause-moves g c = (c.in-Err.ensures.err, c.in-Err.ensures.unwritten)

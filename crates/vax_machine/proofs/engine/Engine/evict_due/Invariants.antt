@@ -3,8 +3,8 @@ use Rattle.vax_pager.specs.Meaning.{pages}
 use Rattle.vax_sched.specs.Due.{due}
 use Rattle.vax_machine.specs.Machine.{IsSound}
 use Rattle.vax_machine.specs.Paged.{Paged, all_evicted, all_named}
-use Rattle.vax_machine.specs.Run.{Tracks}
-use Rattle.vax_machine.specs.Turn.{Still}
+use Rattle.vax_machine.specs.Turn.{Follows, Still}
+use Rattle.vax_machine.specs.Writing.{Origin, StillWrites}
 use Rattle.vax_machine.proofs.engine.Engine.evict_due.Given as goal
 
 abbrev pub invariant-loop-target : goal.invariant-loop-target
@@ -13,8 +13,10 @@ invariant-loop-target g l = record {
   still : Still l.fn.self l.self;
   turn : l.turn ≡ l.fn.self.turns + 1;
   within : l.place ≤ length (due l.schedule l.turn);
-  at : (p : Paged) → Tracks l.fn.self (g.F.PageFile.contents l.fn.file) p → Tracks l.self (g.F.PageFile.contents l.file) (all_evicted (all_named (pages l.fn.self.pager).areas (take l.place (due l.schedule l.turn))) p);
+  writes : StillWrites l.fn.held l.held (g.K.Sink.contents l.fn.sink) (g.K.Sink.contents l.sink);
+  at : (o : Origin) → (p : Paged) → Follows o p l.fn.self (g.F.PageFile.contents l.fn.file) (g.K.Sink.contents l.fn.sink) l.fn.held → Follows o (all_evicted (all_named (pages l.fn.self.pager).areas (take l.place (due l.schedule l.turn))) p) l.self (g.F.PageFile.contents l.file) (g.K.Sink.contents l.sink) l.held;
   quiet : g.F.PageFile.faults l.file ≡ g.F.PageFile.faults l.fn.file;
+  written : g.K.Sink.faults l.sink ≡ g.K.Sink.faults l.fn.sink;
 }
 
 abbrev pub decreases-loop-target : goal.decreases-loop-target

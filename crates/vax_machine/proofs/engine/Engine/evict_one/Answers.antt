@@ -1,19 +1,52 @@
-use Rattle.vax_machine.proofs.Tracking.{evict_done, evict_failed, still_evict}
+use Rattle.std.proofs.Common.{◌≡◌, ℕ, Some, arith, refl, subst, true}
+use Rattle.std.specs.Prelude.{is_some}
+use Rattle.vax_space.specs.Areas.{area_of}
+use Rattle.vax_pager.specs.Meaning.{pages}
+use Rattle.vax_machine.proofs.Listing.{evict_away, evict_cut, evict_listed}
+use Rattle.vax_machine.proofs.Outputs.{then_counts, writes_nothing}
+use Rattle.vax_machine.proofs.Tracking.{still_evict}
 use Rattle.vax_machine.proofs.engine.Engine.evict_one.Goals as goal
 
-pub returns-in-Failed-clause-err : goal.returns-in-Failed-clause-err
-returns-in-Failed-clause-err g c = λ p t. evict_failed c.args.self.now c.evict.new.self _ _ p c.args.page c.in-Failed.ensures.applies t
+pub returns-in-Failed-clause-done : goal.returns-in-Failed-clause-done
+returns-in-Failed-clause-done g c = λ o p f. evict_cut o p c.args.self.now c.evict.new.self _ _ _ _ c.args.page f c.in-Failed.ensures.applies c.in-Failed.ensures.moves
 
 pub returns-in-Failed-clause-still : goal.returns-in-Failed-clause-still
 returns-in-Failed-clause-still g c = still_evict c.args.self.now c.evict.new.self _ _ _ c.evict.ensures.applies.0
 
+pub returns-in-Failed-clause-writes : goal.returns-in-Failed-clause-writes
+returns-in-Failed-clause-writes g c = writes_nothing _ _
+
+pub returns-in-Failed-clause-counts : goal.returns-in-Failed-clause-counts
+returns-in-Failed-clause-counts g c = (record { later = c.evict.ensures.later; rose = c.in-Failed.ensures.cause refl }, refl)
+
+pub list-requires-clause-turns : goal.list-requires-clause-turns
+list-requires-clause-turns g c =
+    let t = (still_evict c.args.self.now c.evict.new.self _ _ _ c.evict.ensures.applies.0).turns in
+    let r = c.requires.turns in
+    omega (arith, t, r)
+
+pub list-requires-clause-inside : goal.list-requires-clause-inside
+list-requires-clause-inside g c = λ page is.
+    let k : Some c.args.page ≡ Some page = is in
+    let e : c.args.page ≡ page = cc in
+    subst (λ (z : ℕ). is_some (area_of (pages c.evict.new.self.pager).areas z) ≡ true) e (c.in-Evicted.ensures.inside refl)
+
+pub returns-in-Evicted-clause-done : goal.returns-in-Evicted-clause-done
+returns-in-Evicted-clause-done g c = λ o p f.
+    let still = still_evict c.args.self.now c.evict.new.self _ _ _ c.evict.ensures.applies.0 in
+    evict_listed o p c.args.self.now c.evict.new.self _ _ _ _ c.args.page f c.in-Evicted.ensures.applies c.in-Evicted.ensures.moves c.facts.ensures.paging c.facts.ensures.space _ _ c.evict.new.self.turns _ still.turns c.list.ensures.passes c.list.ensures.writes.listed
+
+pub returns-in-Evicted-clause-still : goal.returns-in-Evicted-clause-still
+returns-in-Evicted-clause-still g c = still_evict c.args.self.now c.evict.new.self _ _ _ c.evict.ensures.applies.0
+
+pub returns-in-Evicted-clause-counts : goal.returns-in-Evicted-clause-counts
+returns-in-Evicted-clause-counts g c = then_counts c.list.result _ _ _ _ _ _ (c.in-Evicted.ensures.quiet (λ x. cc)) refl (c.list.ensures.counts (g.F.PageFile.faults c.evict.new.file))
+
 pub returns-in_default : goal.returns-in_default
 returns-in_default g c = record {
   sound = c.evict.ensures.sound;
-  ok = λ p t. evict_done c.args.self.now c.evict.new.self _ _ p c.args.page _ c.evict.ensures.applies c.in_default.not-Failed t;
-  err = λ p t. tt;
+  done = λ o p f. evict_away o p c.args.self.now c.evict.new.self _ _ _ _ c.args.page f _ c.evict.ensures.applies c.evict.ensures.moves c.in_default.not-Failed c.in_default.not-Evicted;
   still = still_evict c.args.self.now c.evict.new.self _ _ _ c.evict.ensures.applies.0;
-  later = c.evict.ensures.later;
-  cause = tt;
-  quiet = c.evict.ensures.quiet c.in_default.not-Failed;
+  writes = writes_nothing _ _;
+  counts = (c.evict.ensures.quiet c.in_default.not-Failed, refl);
 }

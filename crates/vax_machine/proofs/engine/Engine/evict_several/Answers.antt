@@ -1,58 +1,61 @@
 use Rattle.std.proofs.Common.{◌≡◌, refl, arith, subst, ◌∙◌, ℕ}
 use Rattle.std.specs.List.{range_with_len}
-use Rattle.vax_outside.proofs.Growth.{on_err}
 use Rattle.vax_machine.specs.Paged.{all_evicted}
-use Rattle.vax_machine.specs.Run.{Tracks}
-use Rattle.vax_machine.proofs.Evicting.{begun_range, next_page, none_yet}
-use Rattle.vax_machine.proofs.Tracking.{err_begun, still_itself, then_still}
+use Rattle.vax_machine.specs.Turn.{Follows}
+use Rattle.vax_machine.proofs.Evicting.{failed_range, next_page, none_yet}
+use Rattle.vax_machine.proofs.Outputs.{counts_like, err_like, then_counts, then_writes, writes_nothing}
+use Rattle.vax_machine.proofs.Tracking.{still_itself, then_still}
 use Rattle.vax_machine.proofs.engine.Engine.evict_several.Goals as goal
 
 pub loop-place-init : goal.loop-place-init
 loop-place-init g c = record {
   sound = c.requires.sound;
   still = still_itself c.args.self.now;
-  at = λ p t. none_yet _ _ p t;
+  writes = writes_nothing _ _;
+  at = λ o p f. none_yet o p _ _ _ _ f;
   quiet = refl;
+  written = refl;
 }
 
 pub evict_one-requires : goal.evict_one-requires
-evict_one-requires g c = record { sound = c.loop-place.invariant.sound }
+evict_one-requires g c = record { sound = c.loop-place.invariant.sound; turns = let s = c.loop-place.invariant.still.turns in let r = c.requires.turns in omega (arith, s, r) }
 
 pub returns-in_err-evict_one-clause-done : goal.returns-in_err-evict_one-clause-done
-returns-in_err-evict_one-clause-done g c = λ p t.
-    err_begun c.from_residual.result _ p _ _ c.from_residual.ensures.0
-    (begun_range c.evict_one.new.self _ p c.args.first c.loop-place.place c.args.count c.loop-place-test.true (c.in_err-evict_one.ensures.err _ (c.loop-place.invariant.at p t)))
+returns-in_err-evict_one-clause-done g c = λ o p f.
+    failed_range o p c.evict_one.new.self _ _ _ c.args.first c.loop-place.place c.args.count c.from_residual.result c.evict_one.result c.loop-place-test.true (err_like c.from_residual.result c.evict_one.result _ c.from_residual.ensures.1 c.in_err-evict_one.was) (c.evict_one.ensures.done o _ (c.loop-place.invariant.at o p f))
 
 pub returns-in_err-evict_one-clause-still : goal.returns-in_err-evict_one-clause-still
 returns-in_err-evict_one-clause-still g c = then_still _ _ _ c.loop-place.invariant.still c.evict_one.ensures.still
 
-pub returns-in_err-evict_one-clause-later : goal.returns-in_err-evict_one-clause-later
-returns-in_err-evict_one-clause-later g c = let q = c.loop-place.invariant.quiet in omega (arith, q, c.evict_one.ensures.later)
+pub returns-in_err-evict_one-clause-writes : goal.returns-in_err-evict_one-clause-writes
+returns-in_err-evict_one-clause-writes g c = then_writes _ _ _ _ _ _ c.loop-place.invariant.writes c.evict_one.ensures.writes
 
-pub returns-in_err-evict_one-clause-cause : goal.returns-in_err-evict_one-clause-cause
-returns-in_err-evict_one-clause-cause g c = on_err c.from_residual.result (let q = c.loop-place.invariant.quiet in let r = c.in_err-evict_one.ensures.cause in omega (arith, q, r))
+pub returns-in_err-evict_one-clause-counts : goal.returns-in_err-evict_one-clause-counts
+returns-in_err-evict_one-clause-counts g c = then_counts c.from_residual.result _ _ _ _ _ _ c.loop-place.invariant.quiet c.loop-place.invariant.written (counts_like _ c.evict_one.result _ _ _ _ (err_like c.from_residual.result c.evict_one.result _ c.from_residual.ensures.1 c.in_err-evict_one.was) c.evict_one.ensures.counts)
 
 pub loop-place-preserved : goal.loop-place-preserved
 loop-place-preserved g c = record {
   sound = c.evict_one.ensures.sound;
   still = then_still _ _ _ c.loop-place.invariant.still c.evict_one.ensures.still;
-  at = λ p t. next_page _ _ p c.args.first c.loop-place.place (c.in_ok-evict_one.ensures.ok _ (c.loop-place.invariant.at p t));
-  quiet = c.in_ok-evict_one.ensures.quiet ∙ c.loop-place.invariant.quiet;
+  writes = then_writes _ _ _ _ _ _ c.loop-place.invariant.writes c.evict_one.ensures.writes;
+  at = λ o p f. next_page o p _ _ _ _ c.args.first c.loop-place.place (c.in_ok-evict_one.ensures.done o _ (c.loop-place.invariant.at o p f));
+  quiet = c.in_ok-evict_one.ensures.counts.0 ∙ c.loop-place.invariant.quiet;
+  written = c.in_ok-evict_one.ensures.counts.1 ∙ c.loop-place.invariant.written;
 }
 
 pub returns-clause-sound : goal.returns-clause-sound
 returns-clause-sound g c = c.loop-place.invariant.sound
 
 pub returns-clause-done : goal.returns-clause-done
-returns-clause-done g c = λ p t.
+returns-clause-done g c = λ o p f.
     let e : c.loop-place.place ≡ c.args.count = let b = c.loop-place-test.false in let x = c.loop-place.auto.place-end in omega (arith, b, x) in
-    subst (λ (n : ℕ). Tracks c.loop-place.self (g.F.PageFile.contents c.loop-place.file) (all_evicted (range_with_len c.args.first n) p)) e (c.loop-place.invariant.at p t)
+    subst (λ (n : ℕ). Follows o (all_evicted (range_with_len c.args.first n) p) c.loop-place.self (g.F.PageFile.contents c.loop-place.file) (g.K.Sink.contents c.loop-place.sink) c.loop-place.held) e (c.loop-place.invariant.at o p f)
 
 pub returns-clause-still : goal.returns-clause-still
 returns-clause-still g c = c.loop-place.invariant.still
 
-pub returns-clause-later : goal.returns-clause-later
-returns-clause-later g c = let q = c.loop-place.invariant.quiet in omega (arith, q)
+pub returns-clause-writes : goal.returns-clause-writes
+returns-clause-writes g c = c.loop-place.invariant.writes
 
-pub returns-clause-quiet : goal.returns-clause-quiet
-returns-clause-quiet g c = c.loop-place.invariant.quiet
+pub returns-clause-counts : goal.returns-clause-counts
+returns-clause-counts g c = (c.loop-place.invariant.quiet, c.loop-place.invariant.written)

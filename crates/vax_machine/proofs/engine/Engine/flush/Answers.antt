@@ -2,7 +2,7 @@ use Rattle.std.proofs.Common.{ap, refl, sym, ◌∙◌, inl, inr, true, false}
 use Rattle.vax_pager.specs.Meaning.{pages}
 use Rattle.vax_pager.specs.Paging.{Paging}
 use Rattle.vax_machine.specs.Residence.{residence_of}
-use Rattle.vax_machine.proofs.Services.{flushes_as, keeping_same, keeps_place, outside_clean, residence_flushed, sound_same}
+use Rattle.vax_machine.proofs.Services.{flushed_nothing, flushes_as, keeping_same, keeps_place, outside_clean, residence_flushed, sound_same, wrote_clean}
 use Rattle.vax_machine.proofs.engine.Engine.flush.Goals as goal
 
 pub returns-then-not-has-clause-applies : goal.returns-then-not-has-clause-applies
@@ -54,3 +54,14 @@ returns-else-written-clause-quiet g c = λ other. c.in-Ok.ensures.quiet
 
 pub returns-in-Err-clause-quiet : goal.returns-in-Err-clause-quiet
 returns-in-Err-clause-quiet g c = λ other. absurd (other refl)
+
+pub returns-then-written-clause-moves : goal.returns-then-written-clause-moves
+returns-then-written-clause-moves g c = (c.in-Ok.ensures.ok, c.in-Ok.ensures.wrote)
+
+pub returns-else-written-clause-moves : goal.returns-else-written-clause-moves
+returns-else-written-clause-moves g c =
+    let away = sym c.in-Ok.ensures.answer ∙ c.if-written.false in
+    (c.in-Ok.ensures.ok ∙ flushed_nothing c.args.page (pages c.args.self.now.pager) away, c.in-Ok.ensures.wrote ∙ wrote_clean c.args.page (pages c.args.self.now.pager) _ away)
+
+pub returns-in-Err-clause-moves : goal.returns-in-Err-clause-moves
+returns-in-Err-clause-moves g c = (c.in-Err.ensures.err, c.in-Err.ensures.unwritten)

@@ -1,6 +1,7 @@
-use Rattle.std.proofs.Common.{refl, inl, inr}
+use Rattle.std.proofs.Common.{◌≡◌, Some, refl, inl, inr}
 use Rattle.vax_pager.specs.Meaning.{pages}
-use Rattle.vax_machine.proofs.Services.{areas_after, failed_same, few_pins, is_service, keeping_same, keeps_place, residence_after, serves_as, sound_after, sound_same}
+use Rattle.vax_machine.proofs.Services.{areas_after, failed_same, few_pins, is_service, keeping_same, keeps_place, residence_after, serves_as, sound_after, sound_same, victim_inside}
+use Rattle.vax_machine.specs.declared.event.Applied.TheVariants.{Served}
 use Rattle.vax_machine.proofs.engine.Engine.serve.Goals as goal
 
 pub returns-in-Ok-clause-sound : goal.returns-in-Ok-clause-sound
@@ -44,3 +45,17 @@ returns-in-Ok-clause-quiet g c = λ other. c.in-Ok.ensures.quiet
 
 pub returns-in-Err-clause-quiet : goal.returns-in-Err-clause-quiet
 returns-in-Err-clause-quiet g c = λ other. absurd (other refl)
+
+pub returns-in-Ok-clause-inside : goal.returns-in-Ok-clause-inside
+returns-in-Ok-clause-inside g c = λ page is.
+    let e : c.in-Ok.victim ≡ Some page = let k : Served c.in-Ok.victim ≡ Served (Some page) = is in cc in
+    victim_inside (pages c.args.self.now.pager) (pages c.serve.new.self) c.in-Some.page page _ c.in-Ok.victim c.in-Ok.ensures.ok c.in-Ok.ensures.answer e c.facts.ensures (few_pins _ (pages c.args.self.now.pager) _ _ c.in-Some.is c.requires.sound.pages)
+
+pub returns-in-None-clause-moves : goal.returns-in-None-clause-moves
+returns-in-None-clause-moves g c = rw c.in-None.is (refl, refl)
+
+pub returns-in-Ok-clause-moves : goal.returns-in-Ok-clause-moves
+returns-in-Ok-clause-moves g c = rw c.in-Some.is (c.in-Ok.ensures.ok, c.in-Ok.ensures.file)
+
+pub returns-in-Err-clause-moves : goal.returns-in-Err-clause-moves
+returns-in-Err-clause-moves g c = rw c.in-Some.is c.in-Err.ensures.err

@@ -1,7 +1,9 @@
 use Rattle.std.proofs.Common.{◌+◌, ◌∙◌, ℕ, sym, ap, arith}
 use Rattle.vax_pager.specs.Meaning.{pages}
 use Rattle.vax_sched.specs.Due.{due}
-use Rattle.vax_machine.proofs.Running.{by_none, cut_evictions, err_turns, on_ok, turns_made}
+use Rattle.vax_machine.proofs.Between.{wider}
+use Rattle.vax_machine.proofs.Outputs.{err_like, then_writes}
+use Rattle.vax_machine.proofs.Running.{by_none, on_ok, turns_made, unevicted}
 use Rattle.vax_machine.proofs.Tracking.{pins_evicted}
 use Rattle.vax_machine.proofs.engine.Engine.several_turns.Goals as goal
 
@@ -12,10 +14,9 @@ pub most_attempts-most-requires-clause-turns : goal.most_attempts-most-requires-
 most_attempts-most-requires-clause-turns g c = let e = c.in_ok-evict_due.ensures.still.turns in let r = c.requires.turns in omega (arith, e, r)
 
 pub returns-in_err-evict_due-clause-done : goal.returns-in_err-evict_due-clause-done
-returns-in_err-evict_due-clause-done g c = λ p t pins.
-    err_turns c.from_residual.result c.args.limits.now _ c.args.schedule.now p _ _ c.from_residual.ensures.0
-    (cut_evictions c.args.limits.now _ c.args.schedule.now c.args.self.now _ _ _ p t
-    (by_none c.args.limits.now c.args.self.now _ p c.requires.going c.requires.steps c.requires.turns t) (c.in_err-evict_due.ensures.done p t))
+returns-in_err-evict_due-clause-done g c = λ o p f pins.
+    unevicted c.args.limits.now o _ c.args.schedule.now c.args.self.now _ _ _ _ _ p f.tracks c.from_residual.result c.evict_due.result (err_like c.from_residual.result c.evict_due.result _ c.from_residual.ensures.1 c.in_err-evict_due.was)
+    (by_none c.args.limits.now c.args.self.now _ p c.requires.going c.requires.steps c.requires.turns f.tracks) (c.evict_due.ensures.done o p f)
 
 pub attempt_and_serve-requires-clause-going : goal.attempt_and_serve-requires-clause-going
 attempt_and_serve-requires-clause-going g c = c.in_ok-evict_due.ensures.still.ended ∙ c.requires.going
@@ -27,15 +28,15 @@ pub attempt_and_serve-requires-clause-turns : goal.attempt_and_serve-requires-cl
 attempt_and_serve-requires-clause-turns g c = let a = c.most_attempts-most.ensures.turns in let b = c.requires.few_turns in omega (arith, a, b)
 
 pub returns-clause-done : goal.returns-clause-done
-returns-clause-done g c = λ p t pins.
+returns-clause-done g c = λ o p f pins.
     let still = c.in_ok-evict_due.ensures.still in
-    turns_made c.args.limits.now (pages c.args.self.now.pager).areas c.args.schedule.now c.args.self.now c.attempt_and_serve.new.self _ _ p t c.most_attempts-most.result
+    turns_made c.args.limits.now o (pages c.args.self.now.pager).areas c.args.schedule.now c.args.self.now c.attempt_and_serve.new.self _ _ _ _ p f.tracks c.most_attempts-most.result
     (let a = c.most_attempts-most.ensures.steps in let b = still.steps in omega (arith, a, b))
     (let a = c.most_attempts-most.ensures.turns in let b = still.turns in omega (arith, a, b))
-    (by_none c.args.limits.now c.args.self.now _ p c.requires.going c.requires.steps c.requires.turns t)
+    (by_none c.args.limits.now c.args.self.now _ p c.requires.going c.requires.steps c.requires.turns f.tracks)
     (λ k low. ap (λ (n : ℕ). due c.args.schedule.now (n + 2 + k)) (sym still.turns) ∙ c.most_attempts-most.ensures.quiet k low)
     c.attempt_and_serve.result
-    (c.attempt_and_serve.ensures.done _ (c.in_ok-evict_due.ensures.done p t) (pins_evicted _ p pins))
+    (c.attempt_and_serve.ensures.done o _ (c.in_ok-evict_due.ensures.done o p f) (pins_evicted _ p pins))
 
 pub returns-clause-steps : goal.returns-clause-steps
 returns-clause-steps g c =
@@ -57,3 +58,11 @@ returns-clause-some g c =
 
 pub returns-clause-areas : goal.returns-clause-areas
 returns-clause-areas g c = on_ok c.attempt_and_serve.result (c.attempt_and_serve.ensures.gone.areas ∙ c.in_ok-evict_due.ensures.still.areas)
+
+pub returns-clause-writes : goal.returns-clause-writes
+returns-clause-writes g c = then_writes _ _ _ _ _ _ c.in_ok-evict_due.ensures.writes c.attempt_and_serve.ensures.writes
+
+pub returns-clause-goes_on : goal.returns-clause-goes_on
+returns-clause-goes_on g c =
+    let a = c.most_attempts-most.ensures.steps in
+    on_ok c.attempt_and_serve.result (wider _ c.args.limits.now.steps c.attempt_and_serve.new.self (omega (arith, a)) c.attempt_and_serve.ensures.goes_on)

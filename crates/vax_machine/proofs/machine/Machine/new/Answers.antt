@@ -2,7 +2,7 @@ use Rattle.std.proofs.Common.{ap, refl}
 use Rattle.vax_flat.specs.Start.{start_memory}
 use Rattle.vax_pager.specs.Meaning.{pages}
 use Rattle.vax_machine.specs.Meaning.{starts_at}
-use Rattle.vax_machine.proofs.Beginning.{fresh_areas, fresh_begun, fresh_sound, started}
+use Rattle.vax_machine.proofs.Beginning.{fresh_areas, fresh_begun, fresh_pins, fresh_sound, started}
 use Rattle.vax_machine.proofs.machine.Machine.new.Goals as goal
 
 pub invariant_of-result : goal.invariant_of-result
@@ -25,3 +25,6 @@ returns-clause-begun c =
 
 pub returns-clause-kept : goal.returns-clause-kept
 returns-clause-kept c = fresh_areas (pages c.in_ok-pager.pager) c.args.space c.args.frames c.in_ok-pager.ensures.pages
+
+pub returns-clause-between : goal.returns-clause-between
+returns-clause-between c = record { closed = refl; unpinned = fresh_pins (pages c.in_ok-pager.pager) c.args.space c.args.frames c.in_ok-pager.ensures.pages }

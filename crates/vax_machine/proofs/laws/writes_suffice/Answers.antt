@@ -1,0 +1,5 @@
+use Rattle.vax_machine.proofs.Unwritten.{writes_suffice}
+use Rattle.vax_machine.proofs.laws.writes_suffice.Goals as goal
+
+pub returns : goal.returns
+returns c = λ areas asks count frames start pages page small clean. writes_suffice areas asks count frames start pages page small clean
