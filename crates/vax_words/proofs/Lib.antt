@@ -1,1 +1,4 @@
 pub mod NumberLaws
+pub mod Prefixes
+pub mod Parts
+pub mod Counted

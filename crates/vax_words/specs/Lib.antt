@@ -1,2 +1,5 @@
+pub mod Table
+pub mod Values
+pub mod Items
 pub mod Words
 pub mod Said

@@ -1,9 +1,124 @@
 //! The command line, as `clap` builds and reads it.
+use crate::table::{Key, VERBS, Verb};
 use clap::{Arg, ArgAction, ArgMatches, Command, Error};
 use std::alloc::{AllocError, Global};
 
-/// What stands below each help.
-const WHERE_TO_READ: &str = "Sources, reports, exit statuses and kinds of faults: docs/MACHINE.md";
+/// The names of files in what `clap` finds.
+pub(crate) const FILES: &str = "FILE";
+
+/// What help says of a command.
+#[derive(Clone, Copy)]
+struct Summary<'a> {
+    name: &'a str,
+    about: &'a str,
+    example: &'a str,
+}
+
+fn summary_of<'a>(verb: Verb) -> Summary<'a> {
+    match verb {
+        Verb::Bare => Summary {
+            name: "vax bare",
+            about: "Run a program in kernel mode and report the registers on standard error",
+            example: "Example: at most 5000 steps, then 16 bytes of memory in the report\n  \
+                vax bare COUNT.MAR --steps 5000 --dump 80000200:16\n\n\
+                Sources, reports, exit statuses and kinds of faults: docs/MACHINE.md",
+        },
+        Verb::Run => Summary {
+            name: "vax run",
+            about: "Run a program in user mode under a system and report the registers on standard error",
+            example: "Example: two sources, linked in this order, read the console's input from a file\n  \
+                vax run MAIN.MAR WORDS.MAR --input TEXT.TXT\n\n\
+                Sources, reports, exit statuses and kinds of faults: docs/MACHINE.md",
+        },
+        Verb::Build => Summary {
+            name: "vax build",
+            about: "Write the image of a program to standard output",
+            example: "Example: an image that `vax bare` takes in place of the source\n  \
+                vax build COUNT.MAR --base bare >COUNT.IMG\n\n\
+                Sources, images, exit statuses and kinds of faults: docs/MACHINE.md",
+        },
+        Verb::List => Summary {
+            name: "vax list",
+            about: "Write the instructions of a program to standard output",
+            example: "Example: what a source is assembled to\n  \
+                vax list COUNT.MAR --base bare\n\n\
+                Sources, exit statuses and kinds of faults: docs/MACHINE.md",
+        },
+        Verb::Console => Summary {
+            name: "vax console",
+            about: "Run a program as the lines of a script say, and answer each on standard error",
+            example: "Example: a script of the lines EXAMINE R1, NEXT 10 and CONTINUE\n  \
+                vax console COUNT.MAR --base bare --script LINES.TXT\n\n\
+                Sources, scripts, exit statuses and kinds of faults: docs/MACHINE.md",
+        },
+        Verb::Work => Summary {
+            name: "vax work",
+            about: "Make a program from a number, run it, and report the registers on standard error",
+            example: "Example: a longer program, with few pages resident\n  \
+                vax work --seed 7 --size 5000 --frames 64\n\n\
+                Reports, exit statuses and kinds of faults: docs/MACHINE.md",
+        },
+    }
+}
+
+/// What help calls an option's value, and what it says of the option.
+fn value_and_help<'a>(key: Key) -> (&'a str, &'a str) {
+    match key {
+        Key::Input => (
+            "FILE",
+            "The bytes that the console gives the program; none where it isn't given",
+        ),
+        Key::System => (
+            "FILE",
+            "The system that the program runs under; a built-in one where it isn't given",
+        ),
+        Key::Schedule => (
+            "FILE",
+            "Which pages are made absent before which attempt; none where it isn't given",
+        ),
+        Key::Frames => (
+            "N",
+            "So many pages may be resident, 64 to 32768; 256 where it isn't given",
+        ),
+        Key::Steps => (
+            "N",
+            "Stop after so many steps, at most 10^15; 10000000 where it isn't given",
+        ),
+        Key::Turns => (
+            "N",
+            "Stop after so many attempts, 1 to 10^15; 10^12 where it isn't given",
+        ),
+        Key::Dump => (
+            "LIST",
+            "Memory for the report: 1 to 16 items AAAAAAAA:N with commas between them, each an \
+                address of eight hexadecimal digits and a count of bytes, 1 to 4096",
+        ),
+        Key::Record => (
+            "on|off",
+            "Write the evictions to the file vax.rec or not; off where it isn't given",
+        ),
+        Key::Base => (
+            "user|bare",
+            "Link for user mode or for the bare machine; user where it isn't given",
+        ),
+        Key::Format => (
+            "1|2",
+            "The version of the image's format; 1 where it isn't given",
+        ),
+        Key::Script => (
+            "FILE",
+            "The lines of the session: EXAMINE, DEPOSIT, NEXT and CONTINUE",
+        ),
+        Key::Seed => (
+            "N",
+            "The number that the program is made from, 0 to 4294967295; 1 where it isn't given",
+        ),
+        Key::Size => (
+            "N",
+            "The size of the program, 1 to 5000; 100 where it isn't given",
+        ),
+    }
+}
 
 /// `--help`, without clap's short form, which isn't among the plain words.
 fn help<'a>(alloc: Global) -> Arg<'a> {
@@ -14,56 +129,43 @@ fn help<'a>(alloc: Global) -> Arg<'a> {
 }
 
 /// An option with its value.
-fn option<'a>(alloc: Global, name: &'a str, value: &'a str, help: &'a str) -> Arg<'a> {
+fn option<'a>(alloc: Global, key: Key) -> Arg<'a> {
+    let name: &'a str = key.name();
+    let long = name.strip_prefix("--").unwrap_or(name);
+    let (value, help) = value_and_help(key);
     Arg::new(alloc, name)
-        .long(name)
+        .long(long)
         .value_name(value)
+        .required(key == Key::Script)
         .help(help)
 }
 
-/// `bare`.
-fn bare<'a>(alloc: Global) -> Result<Command<'a>, AllocError> {
-    let name = Arg::new(alloc, "NAME")
+/// The files of a command.
+fn files<'a>(alloc: Global) -> Arg<'a> {
+    Arg::new(alloc, FILES)
         .required(true)
-        .action(ArgAction::Set)
-        .help("A source: labels, MOVL, ADDL2, HALT and .END");
-    Command::new(alloc, "bare")
-        .bin_name("vax bare")?
-        .about("Run a source in kernel mode and report the registers on standard error")
-        .after_help(WHERE_TO_READ)
+        .num_args(1..=8)
+        .action(ArgAction::Append)
+        .help("1 to 8 sources, which are linked in this order, or one image")
+}
+
+/// A command with its files and options.
+fn command<'a>(alloc: Global, verb: Verb) -> Result<Command<'a>, AllocError> {
+    let name: &'a str = verb.name();
+    let summary = summary_of(verb);
+    let mut command = Command::new(alloc, name)
+        .bin_name(summary.name)?
+        .about(summary.about)
+        .after_help(summary.example)
         .disable_help_flag(true)
-        .arg(help(alloc))?
-        .arg(option(
-            alloc,
-            "input",
-            "FILE",
-            "The bytes that the console gives the program; none where it isn't given",
-        ))?
-        .arg(option(
-            alloc,
-            "schedule",
-            "FILE",
-            "Which pages are made absent before which attempt; none where it isn't given",
-        ))?
-        .arg(option(
-            alloc,
-            "frames",
-            "N",
-            "So many pages may be resident, 64 to 32768; 256 where it isn't given",
-        ))?
-        .arg(option(
-            alloc,
-            "steps",
-            "N",
-            "Stop after so many steps, at most 10^15; 10000000 where it isn't given",
-        ))?
-        .arg(option(
-            alloc,
-            "turns",
-            "N",
-            "Stop after so many attempts, 1 to 10^15; 10^12 where it isn't given",
-        ))?
-        .arg(name)
+        .arg(help(alloc))?;
+    for key in verb.keys() {
+        command = command.arg(option(alloc, *key))?;
+    }
+    if verb.takes_files(1) {
+        command = command.arg(files(alloc))?;
+    }
+    Ok(command)
 }
 
 /// The whole command line.
@@ -72,19 +174,26 @@ fn command_line<'a>(alloc: Global) -> Result<Command<'a>, AllocError> {
         .long("version")
         .action(ArgAction::Version)
         .help("Print version");
-    Command::new(alloc, "vax")
+    let mut line = Command::new(alloc, "vax")
         .version("0.1.0")
         .bin_name("vax")?
-        .about("An emulator of a VAX-11")
-        .after_help(WHERE_TO_READ)
+        .about("An emulator of a VAX-11, with its assembler, linker, disassembler and console")
+        .after_help(
+            "Example: run a source, then ask what else `vax run` takes\n  \
+                vax run HELLO.MAR\n  vax run --help\n\n\
+                Sources, reports, exit statuses and kinds of faults: docs/MACHINE.md",
+        )
         .no_binary_name(true)
         .subcommand_required(true)
         .disable_help_subcommand(true)
         .disable_help_flag(true)
         .disable_version_flag(true)
         .arg(help(alloc))?
-        .arg(version)?
-        .subcommand(bare(alloc)?)
+        .arg(version)?;
+    for verb in VERBS {
+        line = line.subcommand(command(alloc, verb)?)?;
+    }
+    Ok(line)
 }
 
 /// What `clap` makes of the words.

@@ -1,15 +1,20 @@
 //! The words of the command line.
 //!
-//! Which words are plain is decided first, word by word; then `clap` reads them, and its values are compared with those
-//! that were found. A reading of `clap` that fails, or that differs, counts as want of memory: on plain words it has no
-//! other reason.
+//! Which words are plain is decided first, by one table of commands and their options; then `clap` reads them, and its
+//! values are compared with those that were found. A reading of `clap` that fails, or that differs, counts as want of
+//! memory: on plain words it has no other reason.
 #![tactic(auto)]
 
 mod clap_words;
+mod command;
+mod items;
+mod number;
+mod plain;
 mod read;
+mod table;
 #[cfg(test)]
 mod tests;
-mod words;
+mod values;
 
+pub use command::{Base, Command, DumpItem, Dumps, Format, Names, Options};
 pub use read::{WordsError, about, command_of};
-pub use words::{Bare, Command, Options};

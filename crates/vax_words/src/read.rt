@@ -3,8 +3,11 @@ ghost use Rattle.std.specs.Prelude.{◌≡◌, IfOk, IsErrOf, None, Some};
 ghost use Rattle.vax_words.specs.Words.{command_of as said_of};
 ghost use Rattle.vax_words.specs.Said.{IsWithin, said, texts};
 
-use crate::clap_words::read;
-use crate::words::{Bare, Command, Written, bare_written, plain_command};
+use crate::clap_words::{FILES, read};
+use crate::command::Command;
+use crate::items::{names_in, read_items, value_in};
+use crate::plain::plain_command;
+use crate::table::verb_of;
 use clap::error::ErrorKind;
 use std::alloc::Global;
 
@@ -16,18 +19,24 @@ pub enum WordsError {
     NoMemory,
 }
 
-/// What `clap` finds behind `bare`.
-fn bare_by_clap<'a>(alloc: Global, words: &'a [String]) -> Option<Bare<'a>> {
+/// `clap` finds the same files, and the same value of each option; none where the words aren't plain or memory was refused.
+fn reads_alike(alloc: Global, words: &[String]) -> Option<bool> {
+    let (first, rest) = words.split_first()?;
+    let verb = verb_of(first.as_str())?;
+    let items = read_items(verb.keys(), rest)?;
+    let files = names_in(&items)?;
     let matches = read(alloc, words).ok()?;
-    let bare = matches.subcommand_matches("bare")?;
-    bare_written(Written {
-        name: bare.get_str("NAME"),
-        input: bare.get_str("input"),
-        schedule: bare.get_str("schedule"),
-        frames: bare.get_str("frames"),
-        steps: bare.get_str("steps"),
-        turns: bare.get_str("turns"),
-    })
+    let found = matches.subcommand_matches(verb.name())?;
+    let found_files = found.get_strs(FILES).unwrap_or(&[]);
+    if found_files != files.as_slice() {
+        return Some(false);
+    }
+    for key in verb.keys() {
+        if found.get_str(key.name()) != value_in(*key, &items) {
+            return Some(false);
+        }
+    }
+    Some(true)
 }
 
 /// The command that the words name.
@@ -37,18 +46,17 @@ pub fn command_of<'a>(alloc: Global, words: &'a [String]) -> Result<Command<'a>,
     ensures usage { IsErrOf result WordsError.Usage → said_of (texts words.entry.now) ≡ None }
     ensures not_plain { said_of (texts words.entry.now) ≡ None → IsErrOf result WordsError.Usage }
 {
-    let Some(command) = plain_command(words) else {
-        return Err(WordsError::Usage);
-    };
-    match command {
-        Command::Bare(bare) if bare_by_clap(alloc, words) != Some(bare) => Err(
-            WordsError::NoMemory,
-        ),
-        _ => Ok(command),
+    match plain_command(words) {
+        None => Err(WordsError::Usage),
+        Some(Command::About) => Ok(Command::About),
+        Some(command) => match reads_alike(alloc, words) {
+            Some(true) => Ok(command),
+            _ => Err(WordsError::NoMemory),
+        },
     }
 }
 
-/// The text that `clap` has for `--help`, `bare --help` or `--version`. Other words have none, which counts as want of
+/// The text that `clap` has for `--help`, `COMMAND --help` or `--version`. Other words have none, which counts as want of
 /// memory.
 pub fn about(alloc: Global, words: &[String]) -> Result<String, WordsError> {
     let Err(shown) = read(alloc, words) else {

@@ -1,0 +1,97 @@
+//! What the words ask for.
+use arrayvec::ArrayVec;
+
+/// The names of a command's files, in order: 1 to 8.
+pub type Names<'a> = ArrayVec<&'a str, 8>;
+
+/// The memory that a report shows, in order: at most 16 items.
+pub type Dumps = ArrayVec<DumpItem, 16>;
+
+/// What the words ask for.
+#[derive(Debug, PartialEq, Eq, Drop)]
+pub enum Command<'a> {
+    /// `bare FILE..`: run a program in kernel mode.
+    Bare {
+        files: Names<'a>,
+        options: Options<'a>,
+    },
+    /// `run FILE..`: run a program in user mode, under a system.
+    Run {
+        files: Names<'a>,
+        options: Options<'a>,
+    },
+    /// `build FILE..`: write the image of a program.
+    Build {
+        files: Names<'a>,
+        base: Base,
+        format: Format,
+    },
+    /// `list FILE..`: write the instructions of a program.
+    List {
+        files: Names<'a>,
+        base: Base,
+    },
+    /// `console FILE..`: run a program as a script says.
+    Console {
+        files: Names<'a>,
+        base: Base,
+        /// `--script NAME`: the file of the script.
+        script: &'a str,
+        options: Options<'a>,
+    },
+    /// `work`: run a workload that is made from a number.
+    Work {
+        /// `--seed N`: the number; 1 where no word says it.
+        seed: u32,
+        /// `--size N`: the size, 1 to 5,000; 100 where no word says it.
+        size: u32,
+        options: Options<'a>,
+    },
+    /// `--help`, `--help` behind a command, or `--version`: a text about the program.
+    About,
+}
+
+/// What a run is given beside its program. A command leaves the options that it doesn't take as no word says them.
+#[derive(Debug, PartialEq, Eq, Drop)]
+pub struct Options<'a> {
+    /// `--input NAME`: the file of the console's input; none where there is no input.
+    pub input: Option<&'a str>,
+    /// `--system NAME`: the file of the system that a program in user mode runs under; none for the built-in one.
+    pub system: Option<&'a str>,
+    /// `--schedule NAME`: the file of the eviction schedule; none where there is no schedule.
+    pub schedule: Option<&'a str>,
+    /// `--frames N`: how many pages may be resident, 64 to 32,768; 256 where no word says it.
+    pub frames: u32,
+    /// `--steps N`: the most steps, at most 10^15; 10,000,000 where no word says it.
+    pub steps: u64,
+    /// `--turns N`: the most turns, 1 to 10^15; 10^12 where no word says it.
+    pub turns: u64,
+    /// `--dump LIST`: the memory to report.
+    pub dumps: Dumps,
+    /// `--record on` or `--record off`: whether evictions are recorded; off where no word says it.
+    pub recorded: bool,
+}
+
+/// Bytes of memory from an address on: `AAAAAAAA:N`.
+#[derive(Clone, Copy, Debug, Default, PartialEq, Eq)]
+pub struct DumpItem {
+    pub address: u32,
+    /// How many bytes, 1 to 4,096.
+    pub count: u32,
+}
+
+/// What a program is linked for: `--base user` or `--base bare`; user where no word says it.
+#[derive(Clone, Copy, Debug, PartialEq, Eq)]
+pub enum Base {
+    /// User mode, under a system.
+    User,
+    /// Kernel mode, alone on the machine.
+    Bare,
+}
+
+/// The version of an image's format: `--format 1` or `--format 2`; 1 where no word says it.
+#[derive(Clone, Copy, Debug, PartialEq, Eq)]
+pub enum Format {
+    First,
+    Second,
+}
