@@ -1,0 +1,10 @@
+use Rattle.std.proofs.Common.{arith}
+use Rattle.vax_outside.proofs.Growth.{prefix_next, on_err}
+use Rattle.vax_outside.specs.declared.traits.Chan.TheVariants.{Out}
+use Rattle.vax_listing.specs.Listing.{area_lines, listing}
+use Rattle.vax_listing.proofs.write_listing.Goals as goal
+
+pub returns-in_err-write_area-clause-prefix : goal.returns-in_err-write_area-clause-prefix
+unfolding listing
+returns-in_err-write_area-clause-prefix g c =
+    on_err c.from_residual.result (prefix_next _ _ _ Out area_lines c.args.areas.now c.loop-area.area-index c.area-item.result (omega arith) c.loop-area.invariant.grew (rw (← c.area-item.is) c.in_err-write_area.ensures.prefix))

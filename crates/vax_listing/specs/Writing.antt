@@ -1,0 +1,10 @@
+-- A text on its way to Out.
+use Rattle.std.specs.Prelude.{◌≡◌, ℕ, List, ◌++◌, Option}
+use Rattle.vax_outside.specs.Channels.{Channels, Grew, only}
+use Rattle.vax_outside.specs.declared.traits.Chan.TheVariants.{Out}
+
+-- so much of the text was written, this is held back, and the rest is still to come
+pub record IsBetween (whole : List ℕ) (old now : Option Channels) (held rest : List ℕ) : Type 0 where
+  pub sent : List ℕ
+  pub is : sent ++ (held ++ rest) ≡ whole
+  pub wrote : Grew old now (only Out sent)
