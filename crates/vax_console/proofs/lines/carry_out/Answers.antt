@@ -1,0 +1,17 @@
+use Rattle.std.proofs.Common.{◌≡◌, ◌∙◌, ◌++◌, ◌∷◌, [], List, ℕ, Option, ap, refl, sym, subst, true, false, length, slice_index}
+use Rattle.vax_script.specs.declared.request.Line.{Line}
+use Rattle.vax_script.specs.declared.request.Line.TheVariants as line
+use Rattle.vax_console.specs.Ends.{Goes, session_on}
+use Rattle.vax_machine.specs.Meaning.{engine}
+use Rattle.vax_console.proofs.Only.{reply_only}
+use Rattle.vax_console.proofs.Requested.{blank_goes, malformed_goes}
+use Rattle.vax_console.proofs.lines.carry_out.Goals as goal
+
+pub returns-in-Blank-clause-goes : goal.returns-in-Blank-clause-goes
+returns-in-Blank-clause-goes g c m means = rw c.in-Blank.is (blank_goes c.args.limits.now m (engine c.args.machine.now) (g.F.PageFile.contents c.args.file.now) (g.K.Sink.contents c.args.sink.now) means)
+
+pub returns-in-Malformed-clause-goes : goal.returns-in-Malformed-clause-goes
+returns-in-Malformed-clause-goes g c m means = rw c.in-Malformed.is (malformed_goes c.reply.result c.args.limits.now m (engine c.args.machine.now) (g.F.PageFile.contents c.args.file.now) (g.K.Sink.faults c.args.sink.now) (g.K.Sink.faults c.reply.new.sink) (g.K.Sink.contents c.args.sink.now) (g.K.Sink.contents c.reply.new.sink) means c.reply.ensures)
+
+pub returns-in-Malformed-clause-only : goal.returns-in-Malformed-clause-only
+returns-in-Malformed-clause-only g c = reply_only _ _ _ _ _ _ c.reply.ensures

@@ -1,0 +1,53 @@
+use Rattle.std.proofs.Common.{◌≡◌, ◌<◌, ◌+◌, ◌-◌, ◌∙◌, ◌++◌, ◌∷◌, [], List, ℕ, Bool, Option, Result, Ok, Err, Some, ap, refl, sym, subst, arith, append_assoc, true, false, length, min, nat_lt, slice_index, is_some}
+use Rattle.vax_flat.specs.Parts.{At}
+use Rattle.vax_flat.specs.Step.{Flat}
+use Rattle.vax_machine.specs.Machine.{Means}
+use Rattle.vax_machine.specs.Meaning.{engine}
+use Rattle.vax_script.specs.Lines.{Text, lines}
+use Rattle.vax_script.specs.Requests.{line_of, readings}
+use Rattle.vax_script.specs.declared.request.Line.{Line}
+use Rattle.vax_console.specs.Ends.{Carries, Goes, session_on}
+use Rattle.vax_console.specs.declared.stopped.Stopped.{Stopped}
+use Rattle.vax_console.proofs.Only.{only_none, only_then}
+use Rattle.vax_console.proofs.Running.{err_same}
+use Rattle.vax_console.proofs.Sessions.{none_carried, one_read, stopped_further, then_goes}
+use Rattle.vax_console.proofs.lines.carry_out_all.Goals as goal
+
+pub loop-line-init : goal.loop-line-init
+loop-line-init g c = record {
+  quiet = refl;
+  sunk = refl;
+  between = c.requires.between;
+  only = only_none (g.K.Sink.contents c.args.sink.now);
+  carried = ([], refl, λ m means. none_carried c.args.limits.now (session_on (engine c.args.machine.now) m) (engine c.args.machine.now) (g.F.PageFile.contents c.args.file.now) (g.K.Sink.contents c.args.sink.now) refl means);
+}
+
+pub returns-in_err-carry_out-clause-goes : goal.returns-in_err-carry_out-clause-goes
+returns-in_err-carry_out-clause-goes g c m means =
+    let before = c.loop-line.invariant.carried in
+    let e = c.in_err-carry_out.field-0.0 in
+    let split : readings c.args.script.now ≡ (before.0 ++ c.read_line.result ∷ []) ++ readings c.in-Some.behind.now = one_read c.args.script.now c.loop-line.rest.now c.in-Some.line.now c.in-Some.behind.now before.0 c.read_line.result before.1 c.in-Some.ensures.lines c.read_line.ensures.says in
+    let here = then_goes (Err e) c.args.limits.now (session_on (engine c.args.machine.now) m) before.0 (c.read_line.result ∷ []) (engine c.loop-line.machine) (engine c.carry_out.new.machine) (g.F.PageFile.contents c.loop-line.file) (g.F.PageFile.contents c.carry_out.new.file) (g.K.Sink.contents c.args.sink.now) (g.K.Sink.contents c.loop-line.sink) (g.K.Sink.contents c.carry_out.new.sink) (before.2 m means) c.in_err-carry_out.ensures.goes in
+    let all = stopped_further e c.args.limits.now (session_on (engine c.args.machine.now) m) (before.0 ++ c.read_line.result ∷ []) (readings c.in-Some.behind.now) (engine c.carry_out.new.machine) (g.F.PageFile.contents c.carry_out.new.file) (g.K.Sink.contents c.args.sink.now) (g.K.Sink.contents c.carry_out.new.sink) here in
+    subst (λ (z : Result (Unit {0}) Stopped). Goes z c.args.limits.now (session_on (engine c.args.machine.now) m) (readings c.args.script.now) (engine c.carry_out.new.machine) (g.F.PageFile.contents c.carry_out.new.file) (g.K.Sink.contents c.args.sink.now) (g.K.Sink.contents c.carry_out.new.sink)) (sym (err_same c.from_residual.result e c.from_residual.ensures.1))
+    (subst (λ (z : List Line). Goes (Err e) c.args.limits.now (session_on (engine c.args.machine.now) m) z (engine c.carry_out.new.machine) (g.F.PageFile.contents c.carry_out.new.file) (g.K.Sink.contents c.args.sink.now) (g.K.Sink.contents c.carry_out.new.sink)) (sym split) all)
+
+pub returns-in_err-carry_out-clause-only : goal.returns-in_err-carry_out-clause-only
+returns-in_err-carry_out-clause-only g c = only_then _ _ _ c.loop-line.invariant.only c.carry_out.ensures.only
+
+pub loop-line-preserved : goal.loop-line-preserved
+loop-line-preserved g c =
+    let before = c.loop-line.invariant.carried in
+    let split : readings c.args.script.now ≡ (before.0 ++ c.read_line.result ∷ []) ++ readings c.in-Some.behind.now = one_read c.args.script.now c.loop-line.rest.now c.in-Some.line.now c.in-Some.behind.now before.0 c.read_line.result before.1 c.in-Some.ensures.lines c.read_line.ensures.says in
+    record {
+      quiet = c.in_ok-carry_out.ensures.causes.0 ∙ c.loop-line.invariant.quiet;
+      sunk = c.in_ok-carry_out.ensures.causes.1 ∙ c.loop-line.invariant.sunk;
+      between = c.in_ok-carry_out.ensures.between refl;
+      only = only_then _ _ _ c.loop-line.invariant.only c.carry_out.ensures.only;
+      carried = (
+        before.0 ++ c.read_line.result ∷ [],
+        split,
+        λ m means.
+            then_goes (Ok tt) c.args.limits.now (session_on (engine c.args.machine.now) m) before.0 (c.read_line.result ∷ []) (engine c.loop-line.machine) (engine c.carry_out.new.machine) (g.F.PageFile.contents c.loop-line.file) (g.F.PageFile.contents c.carry_out.new.file) (g.K.Sink.contents c.args.sink.now) (g.K.Sink.contents c.loop-line.sink) (g.K.Sink.contents c.carry_out.new.sink) (before.2 m means) c.in_ok-carry_out.ensures.goes,
+      );
+    }

@@ -1,0 +1,14 @@
+use Rattle.std.proofs.Common.{◌≡◌, ◌∙◌, ◌++◌, ◌∷◌, [], List, ℕ, ap, refl, sym, subst, true, false, length, slice_index}
+use Rattle.vax_machine.specs.Machine.{Keeping}
+use Rattle.vax_machine.specs.Meaning.{engine}
+use Rattle.vax_console.proofs.Only.{reply_only}
+use Rattle.vax_console.proofs.Requested.{put_in_goes}
+use Rattle.vax_console.proofs.requests.deposit_register.Goals as goal
+
+pub returns-clause-goes : goal.returns-clause-goes
+returns-clause-goes g c m means =
+    put_in_goes c.reply.result c.args.limits.now m c.args.n c.args.value (engine c.args.machine.now) (engine c.set_reg.new.self) (g.F.PageFile.contents c.args.file.now) (g.K.Sink.faults c.args.sink.now) (g.K.Sink.faults c.reply.new.sink) (g.K.Sink.contents c.args.sink.now) (g.K.Sink.contents c.reply.new.sink)
+    (ap (λ (z : Keeping). z.steps) c.set_reg.ensures.keeps) (c.set_reg.ensures.deposits (g.F.PageFile.contents c.args.file.now) m means) c.reply.ensures
+
+pub returns-clause-only : goal.returns-clause-only
+returns-clause-only g c = reply_only _ _ _ _ _ _ c.reply.ensures

@@ -1,0 +1,29 @@
+use Rattle.std.proofs.Common.{◌≡◌, ◌<◌, ◌+◌, ◌-◌, ◌∙◌, ◌++◌, ◌∷◌, [], List, ℕ, Bool, Option, Result, Ok, Err, Some, ap, refl, sym, subst, arith, append_assoc, true, false, length, min, nat_lt, slice_index, is_some}
+use Rattle.std.proofs.lemmas.List.{length-take-le}
+use Rattle.vax_report.specs.Lines.{memory_line}
+use Rattle.vax_flat.specs.Parts.{At}
+use Rattle.vax_machine.specs.Console.{memory_from}
+use Rattle.vax_machine.specs.Machine.{Keeping}
+use Rattle.vax_machine.specs.Meaning.{engine}
+use Rattle.vax_script.specs.declared.request.Request.TheVariants.{ExamineMemory}
+use Rattle.vax_script.specs.declared.request.Line.TheVariants.{Request as Asks}
+use Rattle.vax_console.specs.Ends.{session_on}
+use Rattle.vax_console.proofs.Only.{reply_only}
+use Rattle.vax_console.proofs.Replying.{line_cut, replies_as}
+use Rattle.vax_console.proofs.Requested.{memory_goes}
+use Rattle.vax_console.proofs.requests.examine_memory.Goals as goal
+
+pub returns-in-Ok-clause-goes : goal.returns-in-Ok-clause-goes
+returns-in-Ok-clause-goes g c m means =
+    let cells : c.dump.new.cells ≡ memory_from m.memory c.args.addr c.args.count = c.in-Ok.ensures.bytes (At m) means ∙ ap (λ (n : ℕ). memory_from m.memory c.args.addr n) (length-take-le c.args.count _ c.requires.few) in
+    memory_goes c.reply_memory.result c.args.limits.now m c.args.addr c.args.count (engine c.args.machine.now) (engine c.dump.new.self) (g.F.PageFile.contents c.dump.new.file) (g.K.Sink.faults c.args.sink.now) (g.K.Sink.faults c.reply_memory.new.sink) (g.K.Sink.contents c.args.sink.now) (g.K.Sink.contents c.reply_memory.new.sink)
+    (ap (λ (z : Keeping). z.steps) c.dump.ensures.keeps) (c.dump.ensures.means (At m) means)
+    (replies_as c.reply_memory.result (g.K.Sink.faults c.args.sink.now) (g.K.Sink.faults c.reply_memory.new.sink) (g.K.Sink.contents c.args.sink.now) (g.K.Sink.contents c.reply_memory.new.sink) _ _ (ap (λ (z : List (Option ℕ)). memory_line c.args.addr z) cells) c.reply_memory.ensures)
+
+pub returns-in-Ok-clause-only : goal.returns-in-Ok-clause-only
+returns-in-Ok-clause-only g c = reply_only _ _ _ _ _ _ c.reply_memory.ensures
+
+pub returns-in-Err-clause-goes : goal.returns-in-Err-clause-goes
+returns-in-Err-clause-goes g c m means =
+    line_cut c.args.limits.now (session_on (engine c.args.machine.now) m) (Asks (ExamineMemory c.args.addr c.args.count)) (engine c.dump.new.self) (g.F.PageFile.contents c.dump.new.file) (g.K.Sink.contents c.args.sink.now)
+    (ap (λ (z : Keeping). z.steps) c.dump.ensures.keeps) (c.dump.ensures.means (At m) means)

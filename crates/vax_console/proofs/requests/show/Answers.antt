@@ -1,0 +1,23 @@
+use Rattle.std.proofs.Common.{◌≡◌, ◌∙◌, ◌++◌, ◌∷◌, [], List, ℕ, Option, ap, refl, sym, subst, true, false, length, slice_index}
+use Rattle.vax_cpu.specs.declared.cpu.Open.{Open}
+use Rattle.vax_flat.specs.declared.Ending.{Ending}
+use Rattle.vax_report.specs.Report.{report}
+use Rattle.vax_report.specs.declared.Last.{Last}
+use Rattle.vax_machine.specs.Meaning.{engine, units_of}
+use Rattle.vax_console.specs.Transcript.{last_of}
+use Rattle.vax_console.proofs.Only.{reply_only}
+use Rattle.vax_console.proofs.Replying.{replies_as}
+use Rattle.vax_console.proofs.Requested.{show_goes}
+use Rattle.vax_console.proofs.requests.show.Goals as goal
+
+pub returns-clause-goes : goal.returns-clause-goes
+returns-clause-goes g c m means =
+    let last : c.last_of.result ≡ last_of (engine c.args.machine.now).ended = c.last_of.ensures ∙ ap last_of c.ended.ensures in
+    let said : report (engine c.args.machine.now).cpu.core c.last_of.result (engine c.args.machine.now).steps (units_of (engine c.args.machine.now).cpu.latch) (engine c.args.machine.now).cpu.term.place [] ≡ report (engine c.args.machine.now).cpu.core (last_of (engine c.args.machine.now).ended) (engine c.args.machine.now).steps 0 (engine c.args.machine.now).cpu.term.place [] =
+    ap (λ (z : Last). report (engine c.args.machine.now).cpu.core z (engine c.args.machine.now).steps (units_of (engine c.args.machine.now).cpu.latch) (engine c.args.machine.now).cpu.term.place []) last
+    ∙ ap (λ (z : Option Open). report (engine c.args.machine.now).cpu.core (last_of (engine c.args.machine.now).ended) (engine c.args.machine.now).steps (units_of z) (engine c.args.machine.now).cpu.term.place []) c.requires.between.closed in
+    show_goes c.report.result c.args.limits.now m (engine c.args.machine.now) (g.F.PageFile.contents c.args.file.now) (g.K.Sink.faults c.args.sink.now) (g.K.Sink.faults c.report.new.sink) (g.K.Sink.contents c.args.sink.now) (g.K.Sink.contents c.report.new.sink) means
+    (replies_as c.report.result (g.K.Sink.faults c.args.sink.now) (g.K.Sink.faults c.report.new.sink) (g.K.Sink.contents c.args.sink.now) (g.K.Sink.contents c.report.new.sink) _ _ said c.report.ensures)
+
+pub returns-clause-only : goal.returns-clause-only
+returns-clause-only g c = reply_only _ _ _ _ _ _ c.report.ensures

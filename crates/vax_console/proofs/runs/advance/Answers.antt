@@ -1,0 +1,47 @@
+use Rattle.vax_flat.specs.Parts.{At}
+use Rattle.vax_machine.specs.Machine.{keeping}
+use Rattle.vax_machine.specs.Meaning.{engine}
+use Rattle.vax_machine.specs.declared.event.RunEnd.TheVariants as run_end
+use Rattle.vax_console.proofs.Only.{run_only}
+use Rattle.vax_console.proofs.Running.{advances_from, pins_none}
+use Rattle.vax_console.proofs.runs.advance.Goals as goal
+
+pub returns-in-Ended-clause-goes : goal.returns-in-Ended-clause-goes
+returns-in-Ended-clause-goes g c m means =
+    advances_from (run_end.Ended c.in-Ended.ending) c.args.limits.now c.args.count c.steps.result (keeping (engine c.args.machine.now)).areas c.args.schedule.now m (engine c.args.machine.now) (engine c.run.new.self) (g.F.PageFile.contents c.args.file.now) (g.F.PageFile.contents c.run.new.file) (g.K.Sink.contents c.args.sink.now) (g.K.Sink.contents c.run.new.sink) c.steps.ensures (λ t. c.in-Ended.ensures.between t c.requires.between)
+    (c.in-Ended.ensures.ends (At m) means (pins_none (engine c.args.machine.now) (At m) c.requires.between))
+
+pub returns-in-Ended-clause-only : goal.returns-in-Ended-clause-only
+returns-in-Ended-clause-only g c = run_only _ _ c.run.ensures.only
+
+pub returns-in-Steps-clause-goes : goal.returns-in-Steps-clause-goes
+returns-in-Steps-clause-goes g c m means =
+    advances_from run_end.Steps c.args.limits.now c.args.count c.steps.result (keeping (engine c.args.machine.now)).areas c.args.schedule.now m (engine c.args.machine.now) (engine c.run.new.self) (g.F.PageFile.contents c.args.file.now) (g.F.PageFile.contents c.run.new.file) (g.K.Sink.contents c.args.sink.now) (g.K.Sink.contents c.run.new.sink) c.steps.ensures (λ t. c.in-Steps.ensures.between t c.requires.between)
+    (c.in-Steps.ensures.ends (At m) means (pins_none (engine c.args.machine.now) (At m) c.requires.between))
+
+pub returns-in-Steps-clause-only : goal.returns-in-Steps-clause-only
+returns-in-Steps-clause-only g c = run_only _ _ c.run.ensures.only
+
+pub returns-in-Turns-clause-goes : goal.returns-in-Turns-clause-goes
+returns-in-Turns-clause-goes g c m means =
+    advances_from run_end.Turns c.args.limits.now c.args.count c.steps.result (keeping (engine c.args.machine.now)).areas c.args.schedule.now m (engine c.args.machine.now) (engine c.run.new.self) (g.F.PageFile.contents c.args.file.now) (g.F.PageFile.contents c.run.new.file) (g.K.Sink.contents c.args.sink.now) (g.K.Sink.contents c.run.new.sink) c.steps.ensures (λ t. c.in-Turns.ensures.between t c.requires.between)
+    (c.in-Turns.ensures.ends (At m) means (pins_none (engine c.args.machine.now) (At m) c.requires.between))
+
+pub returns-in-Turns-clause-only : goal.returns-in-Turns-clause-only
+returns-in-Turns-clause-only g c = run_only _ _ c.run.ensures.only
+
+pub returns-in-PageFault-clause-goes : goal.returns-in-PageFault-clause-goes
+returns-in-PageFault-clause-goes g c m means =
+    advances_from run_end.PageFault c.args.limits.now c.args.count c.steps.result (keeping (engine c.args.machine.now)).areas c.args.schedule.now m (engine c.args.machine.now) (engine c.run.new.self) (g.F.PageFile.contents c.args.file.now) (g.F.PageFile.contents c.run.new.file) (g.K.Sink.contents c.args.sink.now) (g.K.Sink.contents c.run.new.sink) c.steps.ensures (λ t. c.in-PageFault.ensures.between t c.requires.between)
+    (c.in-PageFault.ensures.ends (At m) means (pins_none (engine c.args.machine.now) (At m) c.requires.between))
+
+pub returns-in-PageFault-clause-only : goal.returns-in-PageFault-clause-only
+returns-in-PageFault-clause-only g c = run_only _ _ c.run.ensures.only
+
+pub returns-in-WriteFault-clause-goes : goal.returns-in-WriteFault-clause-goes
+returns-in-WriteFault-clause-goes g c m means =
+    advances_from run_end.WriteFault c.args.limits.now c.args.count c.steps.result (keeping (engine c.args.machine.now)).areas c.args.schedule.now m (engine c.args.machine.now) (engine c.run.new.self) (g.F.PageFile.contents c.args.file.now) (g.F.PageFile.contents c.run.new.file) (g.K.Sink.contents c.args.sink.now) (g.K.Sink.contents c.run.new.sink) c.steps.ensures (λ t. c.in-WriteFault.ensures.between t c.requires.between)
+    (c.in-WriteFault.ensures.ends (At m) means (pins_none (engine c.args.machine.now) (At m) c.requires.between))
+
+pub returns-in-WriteFault-clause-only : goal.returns-in-WriteFault-clause-only
+returns-in-WriteFault-clause-only g c = run_only _ _ c.run.ensures.only

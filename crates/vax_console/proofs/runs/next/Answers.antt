@@ -1,0 +1,55 @@
+use Rattle.std.proofs.Common.{◌≡◌, ◌<◌, ◌+◌, ◌-◌, ◌∙◌, ◌++◌, ◌∷◌, [], List, ℕ, Bool, Option, Result, Ok, Err, Some, None, ap, refl, sym, subst, arith, append_assoc, true, false, length, min, nat_lt, slice_index, is_some}
+use Rattle.vax_flat.specs.declared.Ending.{Ending}
+use Rattle.vax_flat.specs.Parts.{At}
+use Rattle.vax_flat.specs.Step.{Flat}
+use Rattle.vax_report.specs.Lines.{ending_line}
+use Rattle.vax_machine.specs.Meaning.{engine}
+use Rattle.vax_script.specs.declared.request.Request.TheVariants.{Next}
+use Rattle.vax_script.specs.declared.request.Line.TheVariants.{Request as Asks}
+use Rattle.vax_console.specs.Ends.{Advances, Goes, IsAt, session_on}
+use Rattle.vax_console.specs.Transcript.{Session, advanced, last_of, left, next_line, stop_line}
+use Rattle.vax_console.specs.declared.stopped.Stopped.{Stopped}
+use Rattle.vax_console.proofs.Only.{only_then, reply_only}
+use Rattle.vax_console.proofs.Requested.{same_core, same_ending}
+use Rattle.vax_console.proofs.Running.{err_same, none_of, next_goes, some_of, next_refused, next_stopped}
+use Rattle.vax_console.proofs.runs.next.Goals as goal
+
+pub returns-then-is_some-clause-goes : goal.returns-then-is_some-clause-goes
+returns-then-is_some-clause-goes g c m means =
+    let how = some_of c.ended.result (sym c.is_some.ensures ∙ c.if-is_some.true) in
+    let ended : m.ending ≡ Some how.0 = same_ending (engine c.args.machine.now) (g.F.PageFile.contents c.args.file.now) m means ∙ (sym c.ended.ensures ∙ how.1) in
+    next_refused c.reply.result c.args.limits.now m c.args.count how.0 (engine c.args.machine.now) (g.F.PageFile.contents c.args.file.now) (g.K.Sink.faults c.args.sink.now) (g.K.Sink.faults c.reply.new.sink) (g.K.Sink.contents c.args.sink.now) (g.K.Sink.contents c.reply.new.sink) means ended c.reply.ensures
+
+pub returns-then-is_some-clause-only : goal.returns-then-is_some-clause-only
+returns-then-is_some-clause-only g c = reply_only _ _ _ _ _ _ c.reply.ensures
+
+pub returns-in_err-ended-clause-goes : goal.returns-in_err-ended-clause-goes
+returns-in_err-ended-clause-goes g c m means =
+    let s = session_on (engine c.args.machine.now) m in
+    let e = c.in_err-ended.field-0.0 in
+    let count : c.min.result ≡ min c.args.count (left c.args.limits.now.steps s) = c.min.ensures ∙ ap (λ (n : ℕ). min c.args.count n) c.steps_left-left.ensures.left in
+    let gone = subst (λ (n : ℕ). Advances (Err e) c.args.limits.now n s (engine c.advance.new.machine) (g.F.PageFile.contents c.advance.new.file) (g.K.Sink.contents c.args.sink.now) (g.K.Sink.contents c.advance.new.sink)) count (c.in_err-ended.ensures.goes m means) in
+    subst (λ (z : Result (Unit {0}) Stopped). Goes z c.args.limits.now (session_on (engine c.args.machine.now) m) (Asks (Next c.args.count) ∷ []) (engine c.advance.new.machine) (g.F.PageFile.contents c.advance.new.file) (g.K.Sink.contents c.args.sink.now) (g.K.Sink.contents c.advance.new.sink)) (sym (err_same c.from_residual.result e c.from_residual.ensures.1))
+    (next_stopped e c.args.limits.now s c.args.count (engine c.advance.new.machine) (g.F.PageFile.contents c.advance.new.file) (g.K.Sink.contents c.args.sink.now) (g.K.Sink.contents c.advance.new.sink) gone)
+
+pub returns-clause-only : goal.returns-clause-only
+returns-clause-only g c = only_then _ _ _ c.advance.ensures.only (reply_only _ _ _ _ _ _ c.reply-2.ensures)
+
+pub advance-requires-clause-few_steps : goal.advance-requires-clause-few_steps
+advance-requires-clause-few_steps g c =
+    let few = c.min.ensures in
+    let within = c.steps_left-left.ensures.within in
+    omega (arith, few, within)
+
+pub returns-clause-goes : goal.returns-clause-goes
+returns-clause-goes g c m means =
+    let s = session_on (engine c.args.machine.now) m in
+    let count : c.min.result ≡ min c.args.count (left c.args.limits.now.steps s) = c.min.ensures ∙ ap (λ (n : ℕ). min c.args.count n) c.steps_left-left.ensures.left in
+    let a = subst (λ (n : ℕ). (c.in_ok-ended.ended ≡ (advanced n s).machine.ending) × IsAt m (advanced n s) [] (engine c.advance.new.machine) (g.F.PageFile.contents c.advance.new.file) (g.K.Sink.contents c.args.sink.now) (g.K.Sink.contents c.advance.new.sink)) count (c.in_ok-ended.ensures.goes m means) in
+    let t = advanced (min c.args.count (left c.args.limits.now.steps s)) s in
+    let going : m.ending ≡ None = same_ending (engine c.args.machine.now) (g.F.PageFile.contents c.args.file.now) m means ∙ (sym c.ended.ensures ∙ none_of c.ended.result (sym c.is_some.ensures ∙ c.if-is_some.false)) in
+    let same : session_on (engine c.advance.new.machine) t.machine ≡ t = ap (λ (n : ℕ). record { machine = t.machine; steps = n }) a.1.steps in
+    let said = c.next_line-text.ensures t.machine (same_core (engine c.advance.new.machine) (g.F.PageFile.contents c.advance.new.file) t.machine a.1.means) (sym a.0) in
+    let text : c.as_slice.result.now ≡ next_line (nat_lt (left c.args.limits.now.steps s) c.args.count) t =
+    c.as_slice.ensures ∙ (said ∙ (ap (λ (n : ℕ). next_line (nat_lt n c.args.count) (session_on (engine c.advance.new.machine) t.machine)) c.steps_left-left.ensures.left ∙ ap (λ (z : Session). next_line (nat_lt (left c.args.limits.now.steps s) c.args.count) z) same)) in
+    next_goes c.reply-2.result c.args.limits.now s c.args.count c.as_slice.result.now (engine c.advance.new.machine) (g.F.PageFile.contents c.advance.new.file) (g.K.Sink.faults c.advance.new.sink) (g.K.Sink.faults c.reply-2.new.sink) (g.K.Sink.contents c.args.sink.now) (g.K.Sink.contents c.advance.new.sink) (g.K.Sink.contents c.reply-2.new.sink) going a.1 (sym text) c.reply-2.ensures

@@ -1,0 +1,78 @@
+//! A console: examines, changes and runs a machine, as the lines of a script ask.
+//!
+//! Each line has one line of Report as its reply, but `SHOW`, whose reply is the report of the present state, and blank lines, which have none
+//! (specs/Transcript). What the program sends goes to Out. Nothing here takes memory.
+#![tactic(auto)]
+
+ghost use Rattle.std.specs.Prelude.{◌≡◌, ◌≢◌, ◌<◌, ◌≤◌, ◌^◌, ◌-◌};
+ghost use Rattle.vax_outside.specs.Faults.{Rose};
+ghost use Rattle.vax_flat.specs.Parts.{At};
+ghost use Rattle.vax_flat.specs.Step.{Flat};
+ghost use Rattle.vax_machine.specs.Console.{IsBetween};
+ghost use Rattle.vax_machine.specs.Machine.{Means};
+ghost use Rattle.vax_machine.specs.Meaning.{engine};
+ghost use Rattle.vax_script.specs.Requests.{readings};
+ghost use Rattle.vax_console.specs.Ends.{Ends, OnlyReplied, session_on};
+
+mod lines;
+mod requests;
+mod runs;
+mod stopped;
+#[cfg(test)]
+mod tests;
+
+use crate::lines::carry_out_all;
+use crate::stopped::Stopped;
+use vax_machine::{Limits, Machine};
+use vax_outside::{PageFile, Sink};
+use vax_sched::Schedule;
+
+/// How a session ended.
+#[derive(Clone, Copy, Debug, PartialEq, Eq)]
+pub enum SessionEnd {
+    /// Every line was carried out or refused.
+    Read,
+    /// The limit of turns was reached within a `NEXT` or `CONTINUE`.
+    Turns,
+    /// A call of the page file failed.
+    PageFault,
+    /// A write failed.
+    WriteFault,
+}
+
+/// Carries out the lines of a script ([`vax_script::read_line`]), one after the other, and replies to each on Report; what the program sends goes to Out.
+///
+/// The machine stands between two steps, with no page pinned, as it does at the start and behind a session that was read to its end. `NEXT` and
+/// `CONTINUE` run it under the schedule; `limits` are those of the whole session, and its evictions are never listed. A line that is refused changes
+/// nothing: `?COMMAND` where it has none of the forms, `?ADDRESS` where a byte to deposit lies in no area or in a page that no mode may write,
+/// and `?ENDED` for `NEXT` and `CONTINUE` once the machine has ended.
+///
+/// The session ends at the limit of turns, where a `NEXT` or `CONTINUE` has steps left, and at the first call of the page file that fails; the machine
+/// then stands where the turns that were made have led it, and its report isn't written here. After a write that failed, nothing more is written.
+pub fn session<F: PageFile, K: Sink>(
+    script: &[u8],
+    machine: &mut Machine,
+    limits: &Limits,
+    schedule: &Schedule,
+    file: &mut F,
+    sink: &mut K,
+) -> SessionEnd
+    requires few_turns { limits.now.turns < 2 ^ 64 - 2 }
+    requires between { IsBetween (engine machine.old) }
+    ensures ends { (m : Flat) → Means (engine machine.old) (F.contents file.old) (At m) → Ends result limits.now (session_on (engine machine.old) m) (readings script.now) (engine machine.new) (F.contents file.new) (K.contents sink.old) (K.contents sink.new) }
+    ensures between { result ≡ SessionEnd.Read → IsBetween (engine machine.new) }
+    ensures later { F.faults file.old ≤ F.faults file.new }
+    ensures sunk { K.faults sink.old ≤ K.faults sink.new }
+    ensures fault { result ≡ SessionEnd.PageFault → Rose (F.faults file.old) (F.faults file.new) }
+    ensures cause { result ≡ SessionEnd.WriteFault → Rose (K.faults sink.old) (K.faults sink.new) }
+    ensures unfailed { result ≢ SessionEnd.PageFault → result ≢ SessionEnd.WriteFault → F.faults file.new ≡ F.faults file.old }
+    ensures written { result ≢ SessionEnd.WriteFault → K.faults sink.new ≡ K.faults sink.old }
+    ensures only { OnlyReplied (K.contents sink.old) (K.contents sink.new) }
+{
+    match carry_out_all(script, machine, limits, schedule, file, sink) {
+        Ok(()) => SessionEnd::Read,
+        Err(Stopped::Turns) => SessionEnd::Turns,
+        Err(Stopped::PageFault) => SessionEnd::PageFault,
+        Err(Stopped::WriteFault) => SessionEnd::WriteFault,
+    }
+}

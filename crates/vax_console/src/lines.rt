@@ -1,0 +1,103 @@
+//! The lines of a script, one after the other.
+ghost use Rattle.std.specs.Prelude.{◌<◌, ◌^◌, ◌-◌, [], ◌∷◌, IsOk};
+ghost use Rattle.vax_flat.specs.Parts.{At};
+ghost use Rattle.vax_flat.specs.Step.{Flat};
+ghost use Rattle.vax_machine.specs.Console.{IsBetween};
+ghost use Rattle.vax_machine.specs.Machine.{Means};
+ghost use Rattle.vax_machine.specs.Meaning.{engine};
+ghost use Rattle.vax_script.specs.Requests.{IsProper, IsProperLine, readings};
+ghost use Rattle.vax_script.specs.declared.request.Line.TheVariants as line;
+ghost use Rattle.vax_console.specs.Ends.{Causes, Goes, OnlyReplied, session_on};
+
+use crate::requests::{
+    deposit_memory, deposit_register, examine_memory, examine_register, reply, show,
+};
+use crate::runs::{next, proceed};
+use crate::stopped::Stopped;
+use vax_machine::{Limits, Machine};
+use vax_outside::{PageFile, Sink};
+use vax_sched::Schedule;
+use vax_script::{Line, Request, next_line, read_line};
+
+/// Does what a request asks for, and replies.
+#[tactic(auto, unfolding(vax_script::specs::Requests::IsProper))]
+fn answer<F: PageFile, K: Sink>(
+    request: &Request,
+    machine: &mut Machine,
+    limits: &Limits,
+    schedule: &Schedule,
+    file: &mut F,
+    sink: &mut K,
+) -> Result<(), Stopped>
+    requires proper { IsProper request.now }
+    requires few_turns { limits.now.turns < 2 ^ 64 - 2 }
+    requires between { IsBetween (engine machine.old) }
+    ensures goes { (m : Flat) → Means (engine machine.old) (F.contents file.old) (At m) → Goes result limits.now (session_on (engine machine.old) m) (line.Request request.now ∷ []) (engine machine.new) (F.contents file.new) (K.contents sink.old) (K.contents sink.new) }
+    ensures between { IsOk result → IsBetween (engine machine.new) }
+    ensures causes { Causes result (F.faults file.old) (F.faults file.new) (K.faults sink.old) (K.faults sink.new) }
+    ensures only { OnlyReplied (K.contents sink.old) (K.contents sink.new) }
+{
+    match request {
+        Request::ExamineRegister(n) => examine_register(*n, machine, limits, file, sink),
+        Request::ExamineMemory { addr, count } => {
+            examine_memory(*addr, *count, machine, limits, file, sink)
+        }
+        Request::DepositRegister { register, value } => {
+            deposit_register(*register, *value, machine, limits, file, sink)
+        }
+        Request::DepositMemory { addr, bytes } => {
+            deposit_memory(*addr, bytes.as_slice(), machine, limits, file, sink)
+        }
+        Request::Next(count) => next(*count, machine, limits, schedule, file, sink),
+        Request::Continue => proceed(machine, limits, schedule, file, sink),
+        Request::Show => show(machine, limits, file, sink),
+    }
+}
+
+/// Carries out a line, or refuses it.
+fn carry_out<F: PageFile, K: Sink>(
+    line: &Line,
+    machine: &mut Machine,
+    limits: &Limits,
+    schedule: &Schedule,
+    file: &mut F,
+    sink: &mut K,
+) -> Result<(), Stopped>
+    requires proper { IsProperLine line.now }
+    requires few_turns { limits.now.turns < 2 ^ 64 - 2 }
+    requires between { IsBetween (engine machine.old) }
+    ensures goes { (m : Flat) → Means (engine machine.old) (F.contents file.old) (At m) → Goes result limits.now (session_on (engine machine.old) m) (line.now ∷ []) (engine machine.new) (F.contents file.new) (K.contents sink.old) (K.contents sink.new) }
+    ensures between { IsOk result → IsBetween (engine machine.new) }
+    ensures causes { Causes result (F.faults file.old) (F.faults file.new) (K.faults sink.old) (K.faults sink.new) }
+    ensures only { OnlyReplied (K.contents sink.old) (K.contents sink.new) }
+{
+    match line {
+        Line::Blank => Ok(()),
+        Line::Request(request) => answer(request, machine, limits, schedule, file, sink),
+        Line::Malformed => reply(b"?COMMAND\n", sink),
+    }
+}
+
+/// Carries out the lines of a script.
+pub(crate) fn carry_out_all<F: PageFile, K: Sink>(
+    script: &[u8],
+    machine: &mut Machine,
+    limits: &Limits,
+    schedule: &Schedule,
+    file: &mut F,
+    sink: &mut K,
+) -> Result<(), Stopped>
+    requires few_turns { limits.now.turns < 2 ^ 64 - 2 }
+    requires between { IsBetween (engine machine.old) }
+    ensures goes { (m : Flat) → Means (engine machine.old) (F.contents file.old) (At m) → Goes result limits.now (session_on (engine machine.old) m) (readings script.now) (engine machine.new) (F.contents file.new) (K.contents sink.old) (K.contents sink.new) }
+    ensures between { IsOk result → IsBetween (engine machine.new) }
+    ensures causes { Causes result (F.faults file.old) (F.faults file.new) (K.faults sink.old) (K.faults sink.new) }
+    ensures only { OnlyReplied (K.contents sink.old) (K.contents sink.new) }
+{
+    let mut rest = script;
+    while let Some((line, behind)) = next_line(rest) {
+        carry_out(&read_line(line), machine, limits, schedule, file, sink)?;
+        rest = behind;
+    }
+    Ok(())
+}
