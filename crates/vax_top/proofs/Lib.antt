@@ -1,3 +1,1 @@
 pub mod TopLaws
-pub mod LoadLaws
-pub mod RunLaws

@@ -1,5 +1,3 @@
-pub mod Status
-pub mod Ends
-pub mod Went
-pub mod Fresh
+pub mod Loaded
+pub mod LoadedView
 pub mod Top

@@ -1,162 +1,161 @@
 -- What a call of the program comes to.
-use Rattle.std.specs.Prelude.{◌≡◌, ◌⊎◌, ℕ, List, [], ◌∷◌, ◌++◌, Option, None, Some, IfSome, MatchOption, Result, Ok, Err, ⊤}
+use Rattle.std.specs.Prelude.{◌≡◌, ◌⊎◌, ℕ, List, [], ◌∷◌, ◌++◌, length, Option, None, Some, MatchOption, Result, Ok}
 use Rattle.std.specs.Option.{option_map_or}
 use Rattle.vax_outside.specs.Channels.{Channels, only}
-use Rattle.vax_outside.specs.Directory.{Directory, read_result}
-use Rattle.vax_outside.specs.declared.traits.FilesFault.{FilesFault}
-use Rattle.vax_outside.specs.declared.traits.FilesFault.TheVariants as faults
+use Rattle.vax_outside.specs.Directory.{Directory}
 use Rattle.vax_outside.specs.declared.traits.Chan.TheVariants as channel
-use Rattle.vax_words.specs.Words.{Text, Options, Said, bare, about, command_of}
-use Rattle.vax_source.specs.Program.{Assembles, Faults}
-use Rattle.vax_outside.specs.Blocks.{BlockFile}
-use Rattle.vax_bare.specs.Start.{areas, start_of}
-use Rattle.vax_sched.specs.Faults.{Denotes, IsFirstFault}
-use Rattle.vax_sched.specs.declared.rule.Rule.{Rule}
-use Rattle.vax_machine.specs.Paged.{fresh}
-use Rattle.vax_top.specs.Went.{Went, limits_of}
-use Rattle.vax_top.specs.Status.{refusal_growth}
-use Rattle.vax_top.specs.declared.status.Status.{Status}
-use Rattle.vax_top.specs.declared.status.Status.TheVariants.{Done, Usage, Missing, Large, Refused, Link, Schedule, Image, Turns, PageFault, ReadFault, WriteFault, NoMemory}
-
--- the most bytes of a file
-abbrev pub file_limit : ℕ
-file_limit = 4194304
-
--- the file of an option, if it is given
-abbrev pub given : Option Text → List Text
-given None = []
-given (Some name) = name ∷ []
+use Rattle.vax_words.specs.Words.{Text, Options, Said, bare, run, build, list, console, work, about, command_of}
+use Rattle.vax_words.specs.declared.command.Base as words_base
+use Rattle.vax_words.specs.declared.command.Base.TheVariants as words_bases
+use Rattle.vax_words.specs.declared.command.Format.{Format}
+use Rattle.vax_words.specs.declared.command.Format.TheVariants.{First, Second}
+use Rattle.vax_guest.specs.Executive.{executive_source}
+use Rattle.vax_guest.specs.Workload.{workload}
+use Rattle.vax_image.specs.File.{File, File2}
+use Rattle.vax_image.specs.declared.Base.{Base}
+use Rattle.vax_image.specs.declared.Base.TheVariants as bases
+use Rattle.vax_image.specs.declared.Image.{Image}
+use Rattle.vax_program.specs.Program.{Refusal}
+use Rattle.vax_listing.specs.Listing.{listing}
+use Rattle.vax_status.specs.Ends.{Ends}
+use Rattle.vax_top.specs.Loaded.{IsRefused, bare_loaded, image_from, system_text, user_loaded}
+use Rattle.vax_load.specs.Reading.{ReadEnds, Reads, Texts, of_options, texts_of}
+use Rattle.vax_run.specs.Loaded.{Loaded}
+use Rattle.vax_run.specs.Pages.{Outside}
+use Rattle.vax_run.specs.Running.{LacksMemory, RunsSo}
+use Rattle.vax_session.specs.Holding.{HeldSo}
+use Rattle.vax_status.specs.Status.{refusal_growth}
+use Rattle.vax_status.specs.declared.status.Status.{Status}
+use Rattle.vax_status.specs.declared.status.Status.TheVariants.{Done, NoMemory, Usage}
 
 -- the files that a command reads, in order
 abbrev pub reads_of : Said → List Text
-reads_of (bare name options) = name ∷ given options.input ++ given options.schedule
+reads_of (bare names options) = names ++ of_options options None
+reads_of (run names options) = names ++ of_options options None
+reads_of (build names linked format) = names
+reads_of (list names linked) = names
+reads_of (console names linked script options) = names ++ of_options options (Some script)
+reads_of (work seed size options) = of_options options None
 reads_of about = []
 
 -- the files that the words have read, in order
 abbrev pub reads : List Text → List Text
 reads words = option_map_or reads_of (command_of words) []
 
--- the bytes of a file and of those behind it, or the first name that can't be read, and why
-abbrev pub joined_reads : Text → Result Text FilesFault → Result (List Text) (Text × FilesFault) → Result (List Text) (Text × FilesFault)
-joined_reads name (Err fault) rest = Err (name, fault)
-joined_reads name (Ok bytes) (Ok rest) = Ok (bytes ∷ rest)
-joined_reads name (Ok bytes) (Err e) = Err e
+-- beside a page file of which nothing is told
+abbrev pub no_pages : Outside
+no_pages = record { before = None; after = None; sink_before = 0; sink_now = 0 }
 
-abbrev pub read_files : Directory → List Text → Result (List Text) (Text × FilesFault)
-read_files files [] = Ok []
-read_files files (name ∷ names) = joined_reads name (read_result files name file_limit) (read_files files names)
+-- files with a fault are refused before any call of the page file
+pub record IsTurnedAway {X : Type 0} (kept : Type 0) (loaded : Result X Refusal) (status : Status) (grown : Channels) : Type 0 where
+  pub refused : IsRefused loaded status
+  pub wrote : grown ≡ refusal_growth status
+  pub keeps : kept
 
--- reading these names gives this, where the files are told
-abbrev pub Reads : Option Directory → List Text → Result (List Text) (Text × FilesFault) → Type 0
-Reads contents names given = IfSome contents (λ files. read_files files names ≡ given)
+-- A run: any other program is run with its input under its schedule, unless this has a fault. `kept` says that the page file is as before,
+-- `failed` that one of its calls failed; `outside` is what it tells before and after, and how many writes failed.
+abbrev pub RunDoes : Type 0 → Type 0 → Outside → Result Loaded Refusal → Text → Text → Options → Status → Channels → Type 0
+RunDoes kept failed outside loaded input schedule options status grown =
+    IsTurnedAway kept loaded status grown ⊎ ((program : Loaded) × (loaded ≡ Ok program) × RunsSo kept failed outside program input schedule options status grown)
 
--- when reading these names ends the call; the first argument says that the files' count of faults rose
-abbrev pub ReadEnds : Type 0 → Option Directory → List Text → Status → Type 0
-ReadEnds rose contents names Done = ⊥
-ReadEnds rose contents names Usage = ⊥
-ReadEnds rose contents names (Missing name) = Reads contents names (Err (name, faults.Missing))
-ReadEnds rose contents names (Large name) = Reads contents names (Err (name, faults.Large))
-ReadEnds rose contents names (Refused file line kind) = ⊥
-ReadEnds rose contents names (Link kind name place) = ⊥
-ReadEnds rose contents names (Schedule line kind) = ⊥
-ReadEnds rose contents names (Image place kind) = ⊥
-ReadEnds rose contents names Turns = ⊥
-ReadEnds rose contents names PageFault = ⊥
-ReadEnds rose contents names ReadFault = rose
-ReadEnds rose contents names WriteFault = ⊥
-ReadEnds rose contents names NoMemory = ⊤
+-- a session: it is held on any other program, unless its schedule has a fault
+abbrev pub SessionDoes : Type 0 → Type 0 → Outside → Result Loaded Refusal → Texts → Options → Status → Channels → Type 0
+SessionDoes kept failed outside loaded texts options status grown =
+    IsTurnedAway kept loaded status grown ⊎ ((program : Loaded) × (loaded ≡ Ok program) × HeldSo kept failed outside.before program texts.input texts.schedule texts.script options status grown)
 
--- the first source has this fault
-pub record IsRefused (source : Text) (status : Status) : Type 0 where
-  pub line : ℕ
-  pub kind : ℕ
-  pub answer : status ≡ Refused 1 line kind
-  pub fault : Faults source line kind
+-- the bytes of an image in a version of the format
+abbrev pub IsFile : Format → Image → Text → Type 0
+IsFile First image bytes = File image bytes
+IsFile Second image bytes = File2 image bytes
 
--- the schedule of a program has this first fault
-pub record IsMisplanned (source schedule : Text) (status : Status) : Type 0 where
-  pub bytes : List ℕ
-  pub start : ℕ
-  pub program : Assembles source bytes start
-  pub line : ℕ
-  pub kind : ℕ
-  pub answer : status ≡ Schedule line kind
-  pub fault : IsFirstFault (areas bytes) schedule line kind
+-- the lines of its instructions
+abbrev pub IsListing : Image → Text → Type 0
+IsListing image text = text ≡ listing image.areas
 
--- A program was run with its input under a schedule, from its start on and with no page resident. `failed` says that a call of the page file
--- failed; `told` are the contents of the page file, where it tells them.
-pub record IsRun (failed : Type 0) (told : Option BlockFile) (source input schedule : Text) (options : Options) (status : Status) (grown : Channels) : Type 0 where
-  pub bytes : List ℕ
-  pub start : ℕ
-  pub program : Assembles source bytes start
-  pub rules : List Rule
-  pub planned : Denotes (areas bytes) schedule rules
-  pub went : Went failed told (limits_of options) (areas bytes) rules (fresh options.frames (start_of bytes start input)) status grown
+-- the image of a program was written to Out, so
+pub record IsWritten (built : Result Image Refusal) (Writes : Image → Text → Type 0) (status : Status) (grown : Channels) : Type 0 where
+  pub image : Image
+  pub is_built : built ≡ Ok image
+  pub text : Text
+  pub writes : Writes image text
+  pub answer : status ≡ Done
+  pub wrote : grown ≡ only channel.Out text
 
--- `bare`: a source or a schedule with a fault is refused before any call of the page file, and the program of another source is run
-abbrev pub BareDoes : Type 0 → Type 0 → Option BlockFile → Text → Text → Text → Options → Status → Channels → Type 0
-BareDoes kept failed told source input schedule options status grown =
-    ((IsRefused source status ⊎ IsMisplanned source schedule status) × (grown ≡ refusal_growth status) × kept)
-    ⊎ IsRun failed told source input schedule options status grown
-
--- memory was refused before the run
-abbrev pub LacksMemory : Type 0 → Status → Channels → Type 0
-LacksMemory kept status grown = (status ≡ NoMemory) × (grown ≡ refusal_growth NoMemory) × kept
+-- `build` and `list`: a program with a fault is refused, and the image of any other is written
+abbrev pub ImageDoes : Type 0 → Result Image Refusal → (Image → Text → Type 0) → Status → Channels → Type 0
+ImageDoes kept built Writes status grown = IsTurnedAway kept built status grown ⊎ (IsWritten built Writes status grown × kept)
 
 -- a text about the program was shown, or memory was refused before
 abbrev pub IsAbout : Status → Channels → Type 0
 IsAbout status grown = ((status ≡ NoMemory) × (grown ≡ refusal_growth NoMemory)) ⊎ ((text : Text) × (status ≡ Done) × (grown ≡ only channel.Out text))
 
--- `bare` went so, or memory was refused before the run
-abbrev pub IsBare : Type 0 → Type 0 → Option BlockFile → Text → Text → Text → Options → Status → Channels → Type 0
-IsBare kept failed told source input schedule options status grown =
-    LacksMemory kept status grown ⊎ BareDoes kept failed told source input schedule options status grown
+-- a run went so, or memory was refused before it
+abbrev pub IsRunOf : Type 0 → Type 0 → Outside → Result Loaded Refusal → Text → Text → Options → Status → Channels → Type 0
+IsRunOf kept failed outside loaded input schedule options status grown =
+    LacksMemory kept status grown ⊎ RunDoes kept failed outside loaded input schedule options status grown
 
--- the bytes of an option's file, none where it isn't given, and the files behind it
-abbrev pub first_of : Option Text → List Text → Text
-first_of None files = []
-first_of (Some name) [] = []
-first_of (Some name) (bytes ∷ files) = bytes
+-- a session went so, or memory was refused before it
+abbrev pub IsSessionOf : Type 0 → Type 0 → Outside → Result Loaded Refusal → Texts → Options → Status → Channels → Type 0
+IsSessionOf kept failed outside loaded texts options status grown = LacksMemory kept status grown ⊎ SessionDoes kept failed outside loaded texts options status grown
 
-abbrev pub behind : Option Text → List Text → List Text
-behind None files = files
-behind (Some name) [] = []
-behind (Some name) (bytes ∷ files) = files
+-- an image was written so, or memory was refused before
+abbrev pub IsWriting : Type 0 → Result Image Refusal → (Image → Text → Type 0) → Status → Channels → Type 0
+IsWriting kept built Writes status grown = LacksMemory kept status grown ⊎ ImageDoes kept built Writes status grown
 
--- the bytes of an option's file are these, where the files are told; none where it isn't given
-abbrev pub Has : Option Directory → Option Text → Text → Type 0
-Has contents None bytes = bytes ≡ []
-Has contents (Some name) bytes = Reads contents (name ∷ []) (Ok (bytes ∷ []))
+-- the texts of a run come to these programs, and it went so
+abbrev pub run_of : Type 0 → Type 0 → Outside → (Texts → Result Loaded Refusal) → Texts → Options → Status → Channels → Type 0
+run_of kept failed outside loaded texts options status grown = RunDoes kept failed outside (loaded texts) texts.input texts.schedule options status grown
 
--- the files of the options are these
-pub record HasBoth (contents : Option Directory) (options : Options) (input schedule : Text) : Type 0 where
-  pub files : List Text
-  pub read : Reads contents (given options.input ++ given options.schedule) (Ok files)
-  pub is_input : input ≡ first_of options.input files
-  pub is_schedule : schedule ≡ first_of options.schedule (behind options.input files)
+abbrev pub bare_programs : Texts → Result Loaded Refusal
+bare_programs texts = bare_loaded texts.programs
 
--- the files of a command are these
-pub record HasRead (contents : Option Directory) (said : Said) (source : Text) (options : Options) (input schedule : Text) : Type 0 where
-  pub files : List Text
-  pub read : Reads contents (reads_of said) (Ok (source ∷ files))
-  pub is_input : input ≡ first_of options.input files
-  pub is_schedule : schedule ≡ first_of options.schedule (behind options.input files)
+abbrev pub user_programs : Texts → Result Loaded Refusal
+user_programs texts = user_loaded texts.programs (system_text texts.system)
+
+-- a session's, under a system or alone on the machine
+abbrev pub session_loaded : words_base.Base → List Text → Option Text → Result Loaded Refusal
+session_loaded words_bases.User texts system = user_loaded texts (system_text system)
+session_loaded words_bases.Bare texts system = bare_loaded texts
+
+abbrev pub session_programs : words_base.Base → Texts → Result Loaded Refusal
+session_programs linked texts = session_loaded linked texts.programs texts.system
+
+abbrev pub work_programs : ℕ → ℕ → Texts → Result Loaded Refusal
+work_programs seed size texts = user_loaded (workload seed size ∷ []) executive_source
+
+-- the texts of a session come to these programs, and it went so
+abbrev pub session_of : Type 0 → Type 0 → Outside → (Texts → Result Loaded Refusal) → Texts → Options → Status → Channels → Type 0
+session_of kept failed outside loaded texts options status grown = SessionDoes kept failed outside (loaded texts) texts options status grown
+
+-- the base of a word
+abbrev pub base_for : words_base.Base → Base
+base_for words_bases.User = bases.User
+base_for words_bases.Bare = bases.Bare
 
 -- What a command does with its files: the table of commands. `kept` says that the page file is as before.
-abbrev pub Does : Type 0 → Type 0 → Option BlockFile → Said → List Text → Status → Channels → Type 0
-Does kept failed told (bare name options) [] status grown = ⊥
-Does kept failed told (bare name options) (source ∷ files) status grown =
-    BareDoes kept failed told source (first_of options.input files) (first_of options.schedule (behind options.input files)) options status grown
-Does kept failed told about files status grown = (text : Text) × (status ≡ Done) × (grown ≡ only channel.Out text) × kept
+abbrev pub Does : Type 0 → Type 0 → Outside → Said → List Text → Status → Channels → Type 0
+Does kept failed outside (bare names options) files status grown = run_of kept failed outside bare_programs (texts_of (length names) options None files) options status grown
+Does kept failed outside (run names options) files status grown = run_of kept failed outside user_programs (texts_of (length names) options None files) options status grown
+Does kept failed outside (work seed size options) files status grown = run_of kept failed outside (work_programs seed size) (texts_of 0 options None files) options status grown
+Does kept failed outside (build names linked format) files status grown = ImageDoes kept (image_from (base_for linked) files) (IsFile format) status grown
+Does kept failed outside (list names linked) files status grown = ImageDoes kept (image_from (base_for linked) files) IsListing status grown
+Does kept failed outside (console names linked script options) files status grown =
+    session_of kept failed outside (session_programs linked) (texts_of (length names) options (Some script) files) options status grown
+Does kept failed outside about files status grown = (text : Text) × (status ≡ Done) × (grown ≡ only channel.Out text) × kept
 
 -- the answer that a command is to give, and what it is to write
-abbrev pub CommandComes : Type 0 → Type 0 → Type 0 → Option Directory → Option BlockFile → Said → Status → Channels → Type 0
-CommandComes rose kept failed contents told said status grown =
+abbrev pub CommandComes : Type 0 → Type 0 → Type 0 → Option Directory → Outside → Said → Status → Channels → Type 0
+CommandComes rose kept failed contents outside said status grown =
     (ReadEnds rose contents (reads_of said) status × (grown ≡ refusal_growth status) × kept)
-    ⊎ ((files : List Text) × Reads contents (reads_of said) (Ok files) × Does kept failed told said files status grown)
+    ⊎ ((files : List Text) × Reads contents (reads_of said) (Ok files) × Does kept failed outside said files status grown)
+
+-- The answer that a command has, and how it came to it: the sink's count of faults before and now, what it tells before and now, and the answer.
+abbrev pub Carries : Type 0 → Type 0 → Type 0 → Option Directory → Outside → Said → ℕ → ℕ → Option Channels → Option Channels → Status → Type 0
+Carries rose kept failed contents outside said before now old new result =
+    (meant : Status) × (grown : Channels) × CommandComes rose kept failed contents outside said meant grown × Ends before now old new meant grown result
 
 -- The same for any words. `rose` says that a read of the files failed, `kept` that the page file is as before, and `failed` that one of its calls
 -- failed; then come what the files and the page file tell.
-abbrev pub Comes : Type 0 → Type 0 → Type 0 → Option Directory → Option BlockFile → List Text → Status → Channels → Type 0
-Comes rose kept failed contents told words status grown =
-    MatchOption (command_of words) ((status ≡ Usage) × (grown ≡ refusal_growth Usage) × kept) (λ said. CommandComes rose kept failed contents told said status grown)
+abbrev pub Comes : Type 0 → Type 0 → Type 0 → Option Directory → Outside → List Text → Status → Channels → Type 0
+Comes rose kept failed contents outside words status grown =
+    MatchOption (command_of words) ((status ≡ Usage) × (grown ≡ refusal_growth Usage) × kept) (λ said. CommandComes rose kept failed contents outside said status grown)

@@ -1,32 +1,23 @@
 //! The top call.
-ghost use Rattle.std.specs.Prelude.{◌≡◌, ◌≢◌, ◌⊎◌, ◌≤◌, ℕ, List, [], ◌∷◌, None, Some, Ok, Err, IfSome, IfOk, IfErr, IsErrOf};
+ghost use Rattle.std.specs.Prelude.{◌≡◌, ◌≢◌, ◌⊎◌, ℕ, List, None, Err, IfSome};
 ghost use Rattle.vax_outside.specs.Faults.{Rose};
 ghost use Rattle.vax_outside.specs.declared.traits.FilesFault.TheVariants as files_fault;
 ghost use Rattle.vax_outside.specs.Channels.{Channels, Grew, only};
-ghost use Rattle.vax_words.specs.Words.{command_of as said_of, bare};
-ghost use Rattle.vax_words.specs.Said.{texts};
-ghost use Rattle.vax_source.specs.Program.{Faults};
-ghost use Rattle.vax_top.specs.Status.{refusal, refusal_growth, IsBuilt};
-ghost use Rattle.vax_top.specs.Ends.{Ends};
-ghost use Rattle.vax_top.specs.Top.{Comes, IsAbout, Reads, ReadEnds, reads};
+ghost use Rattle.vax_outside.specs.declared.traits.Chan.TheVariants.{Report};
+ghost use Rattle.vax_words.specs.Said.{IsWithin, said, texts};
+ghost use Rattle.vax_words.specs.Words.{command_of};
+ghost use Rattle.vax_status.specs.Ends.{Ends};
+ghost use Rattle.vax_load.specs.Reading.{Reads};
+ghost use Rattle.vax_status.specs.Status.{refusal};
+ghost use Rattle.vax_run.specs.Pages.{outside_of};
+ghost use Rattle.vax_top.specs.Top.{Carries, Comes, IsAbout, reads};
 
-use crate::load::load_bare;
-use crate::refuse::refuse;
-use crate::run::run_bare;
-use crate::status::Status;
+use crate::commands::{build, list, run_bare, run_user, run_work, show};
+use crate::console::run_console;
 use std::alloc::Global;
-use vax_outside::{Chan, Failed, Files, PageFile, Sink, put_all};
+use vax_outside::{Files, PageFile, Sink};
+use vax_status::{Status, refuse};
 use vax_words::{Command, WordsError, command_of};
-
-/// Writes a text to Out.
-fn show<K: Sink>(text: &[u8], sink: &mut K) -> Status
-    ensures { Ends (K.faults sink.old) (K.faults sink.new) (K.contents sink.old) (K.contents sink.new) Status.Done (only Chan.Out text.now) result }
-{
-    match put_all(sink, Chan::Out, text) {
-        Ok(()) => Status::Done,
-        Err(Failed) => Status::WriteFault,
-    }
-}
 
 /// Writes the text about the program that the words ask for to Out.
 fn tell<K: Sink>(alloc: Global, words: &[String], sink: &mut K) -> Status
@@ -40,6 +31,80 @@ fn tell<K: Sink>(alloc: Global, words: &[String], sink: &mut K) -> Status
     }
 }
 
+/// Carries a command out.
+fn carry_out<S: Files, K: Sink, F: PageFile>(
+    alloc: Global,
+    words: &[String],
+    command: Command<'_>,
+    files: &mut S,
+    sink: &mut K,
+    pages: &mut F,
+) -> Status
+    requires within { IsWithin (said command) }
+    ensures carries { Carries (Rose (S.faults files.old) (S.faults files.new)) (pages.new ≡ pages.old) (Rose (F.faults pages.old) (F.faults pages.new)) (S.contents files.old) (outside_of (F.contents pages.old) (F.contents pages.new) (K.faults sink.old) (K.faults sink.new)) (said command.entry) (K.faults sink.old) (K.faults sink.new) (K.contents sink.old) (K.contents sink.new) result }
+    ensures read_failed { S.faults files.new ≢ S.faults files.old → (result ≡ Status.ReadFault) ⊎ (result ≡ Status.WriteFault) }
+    ensures page_failed { F.faults pages.new ≢ F.faults pages.old → (result ≡ Status.PageFault) ⊎ (result ≡ Status.WriteFault) }
+{
+    match command {
+        Command::Bare {
+            files: names,
+            options,
+        } => run_bare(alloc, names.as_slice(), &options, files, sink, pages),
+        Command::Run {
+            files: names,
+            options,
+        } => run_user(alloc, names.as_slice(), &options, files, sink, pages),
+        Command::Build {
+            files: names,
+            base,
+            format,
+        } => build(alloc, names.as_slice(), base, format, files, sink),
+        Command::Work {
+            seed,
+            size,
+            options,
+        } => run_work(alloc, seed, size, &options, files, sink, pages),
+        Command::About => tell(alloc, words, sink),
+        Command::List { files: names, base } => list(alloc, names.as_slice(), base, files, sink),
+        Command::Console {
+            files: names,
+            base,
+            script,
+            options,
+        } => run_console(
+            alloc,
+            names.as_slice(),
+            base,
+            script,
+            &options,
+            files,
+            sink,
+            pages,
+        ),
+    }
+}
+
+/// Reads the words, and carries out the command that they ask for.
+fn perform<S: Files, K: Sink, F: PageFile>(
+    alloc: Global,
+    words: &[String],
+    files: &mut S,
+    sink: &mut K,
+    pages: &mut F,
+) -> Status
+    ensures headline { (meant : Status) × (grown : Channels)
+        × Comes (Rose (S.faults files.old) (S.faults files.new)) (pages.new ≡ pages.old) (Rose (F.faults pages.old) (F.faults pages.new)) (S.contents files.old) (outside_of (F.contents pages.old) (F.contents pages.new) (K.faults sink.old) (K.faults sink.new)) (texts words.now) meant grown
+        × Ends (K.faults sink.old) (K.faults sink.new) (K.contents sink.old) (K.contents sink.new) meant grown result }
+    ensures read_failed { S.faults files.new ≢ S.faults files.old → (result ≡ Status.ReadFault) ⊎ (result ≡ Status.WriteFault) }
+    ensures page_failed { F.faults pages.new ≢ F.faults pages.old → (result ≡ Status.PageFault) ⊎ (result ≡ Status.WriteFault) }
+{
+    match command_of(alloc, words) {
+        Err(WordsError::Usage) => refuse(Status::Usage, sink),
+        Err(WordsError::NoMemory) => refuse(Status::NoMemory, sink),
+        Ok(command) => carry_out(alloc, words, command, files, sink, pages),
+    }
+}
+
 /// What the program does with its words.
 pub fn vax_main<S: Files, K: Sink, F: PageFile>(
     alloc: Global,
@@ -49,10 +114,10 @@ pub fn vax_main<S: Files, K: Sink, F: PageFile>(
     pages: &mut F,
 ) -> Status
     ensures headline { (meant : Status) × (grown : Channels)
-        × Comes (Rose (S.faults files.old) (S.faults files.new)) (pages.new ≡ pages.old) (Rose (F.faults pages.old) (F.faults pages.new)) (S.contents files.old) (F.contents pages.old) (texts words.now) meant grown
+        × Comes (Rose (S.faults files.old) (S.faults files.new)) (pages.new ≡ pages.old) (Rose (F.faults pages.old) (F.faults pages.new)) (S.contents files.old) (outside_of (F.contents pages.old) (F.contents pages.new) (K.faults sink.old) (K.faults sink.new)) (texts words.now) meant grown
         × Ends (K.faults sink.old) (K.faults sink.new) (K.contents sink.old) (K.contents sink.new) meant grown result }
-    ensures usage { result ≡ Status.Usage → said_of (texts words.now) ≡ None }
-    ensures not_plain { said_of (texts words.now) ≡ None → (result ≡ Status.Usage) ⊎ (result ≡ Status.WriteFault) }
+    ensures usage { result ≡ Status.Usage → command_of (texts words.now) ≡ None }
+    ensures not_plain { command_of (texts words.now) ≡ None → (result ≡ Status.Usage) ⊎ (result ≡ Status.WriteFault) }
     ensures missing { (name : List ℕ) → result ≡ Status.Missing name → Reads (S.contents files.old) (reads (texts words.now)) (Err (name, files_fault.Missing)) }
     ensures large { (name : List ℕ) → result ≡ Status.Large name → Reads (S.contents files.old) (reads (texts words.now)) (Err (name, files_fault.Large)) }
     ensures read { result ≡ Status.ReadFault → Rose (S.faults files.old) (S.faults files.new) }
@@ -61,16 +126,7 @@ pub fn vax_main<S: Files, K: Sink, F: PageFile>(
     ensures write { result ≡ Status.WriteFault → Rose (K.faults sink.old) (K.faults sink.new) }
     ensures read_failed { S.faults files.new ≢ S.faults files.old → (result ≡ Status.ReadFault) ⊎ (result ≡ Status.WriteFault) }
     ensures write_failed { K.faults sink.new ≢ K.faults sink.old → result ≡ Status.WriteFault }
-    ensures refused { IfSome (refusal result) (λ text. Grew (K.contents sink.old) (K.contents sink.new) (only Chan.Report text)) }
-    ensures built { IsBuilt result }
+    ensures refused { IfSome (refusal result) (λ text. Grew (K.contents sink.old) (K.contents sink.new) (only Report text)) }
 {
-    match command_of(alloc, words) {
-        Err(WordsError::Usage) => refuse(Status::Usage, sink),
-        Err(WordsError::NoMemory) => refuse(Status::NoMemory, sink),
-        Ok(Command::About) => tell(alloc, words, sink),
-        Ok(Command::Bare(bare)) => match load_bare(alloc, bare, files) {
-            Ok(loaded) => run_bare(alloc, loaded, bare.options, sink, pages),
-            Err(status) => refuse(status, sink),
-        },
-    }
+    perform(alloc, words, files, sink, pages)
 }

@@ -1,0 +1,2 @@
+pub mod SessionWent
+pub mod Holding

@@ -1,6 +1,0 @@
-pub mod TokenLaws
-pub mod CommaLaws
-pub mod ReadLaws
-pub mod ModuleLaws
-pub mod LineLaws
-pub mod NumberLaws

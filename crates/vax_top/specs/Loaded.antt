@@ -1,0 +1,53 @@
+-- The programs of a command: what its files come to.
+use Rattle.std.specs.Prelude.{◌≡◌, List, [], ◌∷◌, Option, Some, None, Result, Ok, Err}
+use Rattle.vax_guest.specs.Executive.{executive_source}
+use Rattle.vax_image.specs.declared.Base.{Base}
+use Rattle.vax_image.specs.declared.Base.TheVariants as base
+use Rattle.vax_image.specs.declared.Image.{Image}
+use Rattle.vax_program.specs.Program.{Parts, Refusal, Source, Link, InImage, parts_of, linked_of}
+use Rattle.vax_words.specs.Words.{Text}
+use Rattle.vax_run.specs.Loaded.{Loaded}
+use Rattle.vax_status.specs.declared.status.Status.{Status}
+use Rattle.vax_status.specs.declared.status.Status.TheVariants as status
+
+abbrev pub alone : Result Image Refusal → Result Loaded Refusal
+alone (Ok image) = Ok (record { system = image; user = None })
+alone (Err refusal) = Err refusal
+
+abbrev pub and_then : {X Y : Type 0} → Result X Refusal → (X → Result Y Refusal) → Result Y Refusal
+and_then (Ok x) next = next x
+and_then (Err refusal) next = Err refusal
+
+-- The image of a program's files, which are numbered from 1.
+abbrev pub image_from : Base → List Text → Result Image Refusal
+image_from base texts = and_then (parts_of base 1 texts) linked_of
+
+-- A program for the bare machine.
+abbrev pub bare_loaded : List Text → Result Loaded Refusal
+bare_loaded texts = alone (image_from base.Bare texts)
+
+-- A program in user mode and its system, whose file has number 0: both are assembled before either is linked.
+abbrev pub linked_over : Parts → Parts → Result Loaded Refusal
+linked_over user system =
+    and_then (linked_of user) (λ program. and_then (linked_of system) (λ below. Ok (record { system = below; user = Some program })))
+
+abbrev pub user_loaded : List Text → (system : Text) → Result Loaded Refusal
+user_loaded texts system =
+    and_then (parts_of base.User 1 texts) (λ user. and_then (parts_of base.Bare 0 (system ∷ [])) (λ below. linked_over user below))
+
+-- the source or the image of a system: the executive, where none is given
+abbrev pub system_text : Option Text → Text
+system_text None = executive_source
+system_text (Some text) = text
+
+-- how a refusal is answered
+abbrev pub refused_as : Refusal → Status
+refused_as (Source file line kind) = status.Refused file line kind
+refused_as (Link kind name address) = status.Link kind name address
+refused_as (InImage place kind) = status.Image place kind
+
+-- why files come to nothing
+pub record IsRefused {X : Type 0} (loaded : Result X Refusal) (status : Status) : Type 0 where
+  pub refusal : Refusal
+  pub found : loaded ≡ Err refusal
+  pub answer : status ≡ refused_as refusal

@@ -1,0 +1,19 @@
+-- What the code's programs mean.
+use Rattle.std.specs.Prelude.{◌≡◌, ◌⊎◌, Result, Ok, Err}
+use Rattle.vax_program.specs.Program as specs
+use Rattle.vax_program.specs.View.{refusal_seen}
+use Rattle.vax_program.specs.declared.types.ProgramError.{ProgramError}
+use Rattle.vax_program.specs.declared.types.ProgramError.TheVariants as errors
+use Rattle.vax_top.specs.Loaded.{IsRefused, refused_as}
+use Rattle.vax_status.specs.declared.status.Status.{Status}
+use Rattle.vax_status.specs.declared.status.Status.TheVariants.{NoMemory}
+
+-- the programs that are meant, or the answer to their refusal; memory may be refused at any time
+abbrev pub Loads : {X Y : Type 0} → (X → Y) → Result X Status → Result Y specs.Refusal → Type 0
+Loads seen (Ok x) loaded = loaded ≡ Ok (seen x)
+Loads seen (Err status) loaded = IsRefused loaded status ⊎ (status ≡ NoMemory)
+
+-- the answer to an error
+abbrev pub Answers : ProgramError → Status → Type 0
+Answers (errors.Refused refusal) status = status ≡ refused_as (refusal_seen refusal)
+Answers errors.NoMemory status = status ≡ NoMemory

@@ -1,0 +1,248 @@
+//! The commands: each reads its files, makes what they come to, and writes what is asked for, or refuses.
+ghost use Rattle.std.specs.Prelude.{◌≡◌, ◌≢◌, ◌⊎◌, ◌≤◌, ◌∷◌, [], IfOk, None, length};
+ghost use Rattle.vax_outside.specs.Faults.{Rose};
+ghost use Rattle.vax_outside.specs.Channels.{Channels, only};
+ghost use Rattle.vax_guest.specs.Workload.{workload};
+ghost use Rattle.vax_image.specs.Image.{IsImage};
+ghost use Rattle.vax_listing.specs.Listing.{listing};
+ghost use Rattle.vax_words.specs.Words.{bare, build, list, run, work};
+ghost use Rattle.vax_words.specs.Said.{AreWithin, names_of, options as said_options};
+ghost use Rattle.vax_status.specs.Ends.{Ends};
+ghost use Rattle.vax_run.specs.Pages.{outside_of};
+ghost use Rattle.vax_top.specs.Loaded.{system_text, user_loaded};
+ghost use Rattle.vax_load.specs.Reading.{file_limit};
+ghost use Rattle.vax_load.specs.ReadingView.{bytes_of, texts as texts_seen};
+ghost use Rattle.vax_top.specs.Top.{Carries, IsFile, IsRunOf, base_for, no_pages};
+
+use crate::programs::{alone, load_bare, load_image, load_user, system_files};
+use std::alloc::Global;
+use vax_guest::generate;
+use vax_image::{Image, write, write2};
+use vax_listing::write_listing;
+use vax_load::{Given, load_files, load_options, load_run};
+use vax_outside::{Chan, Failed, Files, PageFile, Sink, put_all};
+use vax_run::run_programs;
+use vax_space::NoMemory;
+use vax_status::{Status, refuse};
+use vax_words::{Base, Format, Options};
+
+/// Writes a text to Out.
+pub(crate) fn show<K: Sink>(text: &[u8], sink: &mut K) -> Status
+    ensures { Ends (K.faults sink.old) (K.faults sink.new) (K.contents sink.old) (K.contents sink.new) Status.Done (only Chan.Out text.now) result }
+{
+    match put_all(sink, Chan::Out, text) {
+        Ok(()) => Status::Done,
+        Err(Failed) => Status::WriteFault,
+    }
+}
+
+/// `bare`: runs a program in kernel mode.
+pub(crate) fn run_bare<S: Files, K: Sink, F: PageFile>(
+    alloc: Global,
+    names: &[&str],
+    options: &Options<'_>,
+    files: &mut S,
+    sink: &mut K,
+    pages: &mut F,
+) -> Status
+    requires some { 1 ≤ length names.now }
+    requires few { length names.now ≤ 8 }
+    requires within { AreWithin (said_options options.now) }
+    ensures carries { Carries (Rose (S.faults files.old) (S.faults files.new)) (pages.new ≡ pages.old) (Rose (F.faults pages.old) (F.faults pages.new)) (S.contents files.old) (outside_of (F.contents pages.old) (F.contents pages.new) (K.faults sink.old) (K.faults sink.new)) (bare (names_of names.now) (said_options options.now)) (K.faults sink.old) (K.faults sink.new) (K.contents sink.old) (K.contents sink.new) result }
+    ensures read_failed { S.faults files.new ≢ S.faults files.old → (result ≡ Status.ReadFault) ⊎ (result ≡ Status.WriteFault) }
+    ensures page_failed { F.faults pages.new ≢ F.faults pages.old → (result ≡ Status.PageFault) ⊎ (result ≡ Status.WriteFault) }
+{
+    let (texts, given) = match load_run(alloc, names, options, None, files) {
+        Ok(loaded) => loaded,
+        Err(status) => return refuse(status, sink),
+    };
+    let Given {
+        input,
+        schedule,
+        ..
+    } = given;
+    match load_bare(alloc, &texts) {
+        Ok(programs) => run_programs(alloc, &programs, input, &schedule, options, sink, pages),
+        Err(status) => refuse(status, sink),
+    }
+}
+
+/// Runs a program in user mode, of the texts of its files, under a system, and refuses where they come to none.
+fn run_over<K: Sink, F: PageFile>(
+    alloc: Global,
+    texts: &[Vec<u8>],
+    given: Given,
+    options: &Options<'_>,
+    sink: &mut K,
+    pages: &mut F,
+) -> Status
+    requires some { 1 ≤ length texts.now }
+    requires few { length texts.now ≤ 8 }
+    requires input { length given.input.items ≤ file_limit }
+    requires schedule { length given.schedule.items ≤ file_limit }
+    requires within { AreWithin (said_options options.now) }
+    ensures ran { (meant : Status) × (grown : Channels)
+        × IsRunOf (pages.new ≡ pages.old) (Rose (F.faults pages.old) (F.faults pages.new)) (outside_of (F.contents pages.old) (F.contents pages.new) (K.faults sink.old) (K.faults sink.new)) (user_loaded (texts_seen texts.now) (system_text (bytes_of given.system))) given.input.items given.schedule.items (said_options options.now) meant grown
+        × Ends (K.faults sink.old) (K.faults sink.new) (K.contents sink.old) (K.contents sink.new) meant grown result }
+    ensures failed { F.faults pages.new ≢ F.faults pages.old → (result ≡ Status.PageFault) ⊎ (result ≡ Status.WriteFault) }
+{
+    let Given {
+        system,
+        input,
+        schedule,
+        ..
+    } = given;
+    let Ok(system) = system_files(alloc, system) else {
+        return refuse(Status::NoMemory, sink);
+    };
+    match load_user(alloc, texts, &system) {
+        Ok(programs) => run_programs(alloc, &programs, input, &schedule, options, sink, pages),
+        Err(status) => refuse(status, sink),
+    }
+}
+
+/// `run`: runs a program in user mode, under the executive or another system.
+pub(crate) fn run_user<S: Files, K: Sink, F: PageFile>(
+    alloc: Global,
+    names: &[&str],
+    options: &Options<'_>,
+    files: &mut S,
+    sink: &mut K,
+    pages: &mut F,
+) -> Status
+    requires some { 1 ≤ length names.now }
+    requires few { length names.now ≤ 8 }
+    requires within { AreWithin (said_options options.now) }
+    ensures carries { Carries (Rose (S.faults files.old) (S.faults files.new)) (pages.new ≡ pages.old) (Rose (F.faults pages.old) (F.faults pages.new)) (S.contents files.old) (outside_of (F.contents pages.old) (F.contents pages.new) (K.faults sink.old) (K.faults sink.new)) (run (names_of names.now) (said_options options.now)) (K.faults sink.old) (K.faults sink.new) (K.contents sink.old) (K.contents sink.new) result }
+    ensures read_failed { S.faults files.new ≢ S.faults files.old → (result ≡ Status.ReadFault) ⊎ (result ≡ Status.WriteFault) }
+    ensures page_failed { F.faults pages.new ≢ F.faults pages.old → (result ≡ Status.PageFault) ⊎ (result ≡ Status.WriteFault) }
+{
+    match load_run(alloc, names, options, None, files) {
+        Ok((texts, given)) => run_over(alloc, &texts, given, options, sink, pages),
+        Err(status) => refuse(status, sink),
+    }
+}
+
+/// The source of a workload, as the one file of a program.
+fn workload_files(alloc: Global, seed: u32, size: u32) -> Result<Vec<Vec<u8>>, NoMemory>
+    requires some { 1 ≤ size }
+    requires few { size ≤ 5000 }
+    ensures { IfOk result (λ v. texts_seen v.items ≡ workload seed size ∷ []) }
+{
+    let text = generate(alloc, seed, size)?;
+    Ok(alone(alloc, text)?)
+}
+
+/// `work`: runs a workload in user mode, under the executive.
+pub(crate) fn run_work<S: Files, K: Sink, F: PageFile>(
+    alloc: Global,
+    seed: u32,
+    size: u32,
+    options: &Options<'_>,
+    files: &mut S,
+    sink: &mut K,
+    pages: &mut F,
+) -> Status
+    requires some { 1 ≤ size }
+    requires few { size ≤ 5000 }
+    requires within { AreWithin (said_options options.now) }
+    ensures carries { Carries (Rose (S.faults files.old) (S.faults files.new)) (pages.new ≡ pages.old) (Rose (F.faults pages.old) (F.faults pages.new)) (S.contents files.old) (outside_of (F.contents pages.old) (F.contents pages.new) (K.faults sink.old) (K.faults sink.new)) (work seed size (said_options options.now)) (K.faults sink.old) (K.faults sink.new) (K.contents sink.old) (K.contents sink.new) result }
+    ensures read_failed { S.faults files.new ≢ S.faults files.old → (result ≡ Status.ReadFault) ⊎ (result ≡ Status.WriteFault) }
+    ensures page_failed { F.faults pages.new ≢ F.faults pages.old → (result ≡ Status.PageFault) ⊎ (result ≡ Status.WriteFault) }
+{
+    let given = match load_options(alloc, options, None, files) {
+        Ok(given) => Given {
+            system: None,
+            input: given.input,
+            schedule: given.schedule,
+            script: given.script,
+        },
+        Err(status) => return refuse(status, sink),
+    };
+    match workload_files(alloc, seed, size) {
+        Ok(texts) => run_over(alloc, &texts, given, options, sink, pages),
+        Err(NoMemory) => refuse(Status::NoMemory, sink),
+    }
+}
+
+/// The base of a word.
+fn base_for(base: Base) -> vax_image::Base
+    ensures { result ≡ base_for base }
+{
+    match base {
+        Base::User => vax_image::Base::User,
+        Base::Bare => vax_image::Base::Bare,
+    }
+}
+
+/// The bytes of an image in a version of the format.
+fn image_bytes(alloc: Global, format: Format, image: &Image) -> Result<Vec<u8>, NoMemory>
+    requires { IsImage image.now }
+    ensures { IfOk result (λ bytes. IsFile format image.now bytes.items) }
+{
+    match format {
+        Format::First => write(alloc, image),
+        Format::Second => write2(alloc, image),
+    }
+}
+
+/// `build`: writes the image of a program to Out.
+pub(crate) fn build<S: Files, K: Sink>(
+    alloc: Global,
+    names: &[&str],
+    base: Base,
+    format: Format,
+    files: &mut S,
+    sink: &mut K,
+) -> Status
+    requires some { 1 ≤ length names.now }
+    requires few { length names.now ≤ 8 }
+    ensures carries { Carries (Rose (S.faults files.old) (S.faults files.new)) (Unit {0}) ⊥ (S.contents files.old) no_pages (build (names_of names.now) base format) (K.faults sink.old) (K.faults sink.new) (K.contents sink.old) (K.contents sink.new) result }
+    ensures read_failed { S.faults files.new ≢ S.faults files.old → (result ≡ Status.ReadFault) ⊎ (result ≡ Status.WriteFault) }
+{
+    let texts = match load_files(alloc, names, files) {
+        Ok(texts) => texts,
+        Err(status) => return refuse(status, sink),
+    };
+    let image = match load_image(alloc, base_for(base), &texts) {
+        Ok(image) => image,
+        Err(status) => return refuse(status, sink),
+    };
+    match image_bytes(alloc, format, &image) {
+        Ok(bytes) => show(&bytes, sink),
+        Err(NoMemory) => refuse(Status::NoMemory, sink),
+    }
+}
+
+/// Writes the instructions of an image to Out.
+fn show_listing<K: Sink>(image: &Image, sink: &mut K) -> Status
+    ensures { Ends (K.faults sink.old) (K.faults sink.new) (K.contents sink.old) (K.contents sink.new) Status.Done (only Chan.Out (listing image.now.areas)) result }
+{
+    match write_listing(image.areas.as_slice(), sink) {
+        Ok(()) => Status::Done,
+        Err(Failed) => Status::WriteFault,
+    }
+}
+
+/// `list`: writes the instructions of a program to Out.
+pub(crate) fn list<S: Files, K: Sink>(
+    alloc: Global,
+    names: &[&str],
+    base: Base,
+    files: &mut S,
+    sink: &mut K,
+) -> Status
+    requires some { 1 ≤ length names.now }
+    requires few { length names.now ≤ 8 }
+    ensures carries { Carries (Rose (S.faults files.old) (S.faults files.new)) (Unit {0}) ⊥ (S.contents files.old) no_pages (list (names_of names.now) base) (K.faults sink.old) (K.faults sink.new) (K.contents sink.old) (K.contents sink.new) result }
+    ensures read_failed { S.faults files.new ≢ S.faults files.old → (result ≡ Status.ReadFault) ⊎ (result ≡ Status.WriteFault) }
+{
+    let texts = match load_files(alloc, names, files) {
+        Ok(texts) => texts,
+        Err(status) => return refuse(status, sink),
+    };
+    match load_image(alloc, base_for(base), &texts) {
+        Ok(image) => show_listing(&image, sink),
+        Err(status) => refuse(status, sink),
+    }
+}

@@ -1,0 +1,87 @@
+//! The command `console`.
+ghost use Rattle.std.specs.Prelude.{◌≡◌, ◌≢◌, ◌⊎◌, ◌≤◌, IfOk, length};
+ghost use Rattle.vax_outside.specs.Faults.{Rose};
+ghost use Rattle.vax_words.specs.Words.{console};
+ghost use Rattle.vax_words.specs.Said.{AreWithin, names_of, options as said_options};
+ghost use Rattle.vax_load.specs.ReadingView.{bytes_of, texts as texts_seen};
+ghost use Rattle.vax_run.specs.Loaded.{AreSound, loaded_seen};
+ghost use Rattle.vax_run.specs.Pages.{outside_of};
+ghost use Rattle.vax_top.specs.Loaded.{system_text, user_loaded};
+ghost use Rattle.vax_top.specs.LoadedView.{Loads};
+ghost use Rattle.vax_top.specs.Top.{Carries, session_loaded};
+
+use crate::programs::{load_bare, load_user, system_files};
+use std::alloc::Global;
+use vax_load::{Given, load_run};
+use vax_outside::{Files, PageFile, Sink};
+use vax_run::Programs;
+use vax_session::hold_session;
+use vax_status::{Status, refuse};
+use vax_words::{Base, Options};
+
+/// A program in user mode and its system, if one is given.
+fn load_under(alloc: Global, texts: &[Vec<u8>], system: Option<Vec<u8>>) -> Result<Programs, Status>
+    requires some { 1 ≤ length texts.now }
+    requires few { length texts.now ≤ 8 }
+    ensures loads { Loads loaded_seen result (user_loaded (texts_seen texts.now) (system_text (bytes_of system))) }
+    ensures sound { IfOk result AreSound }
+{
+    let Ok(system) = system_files(alloc, system) else {
+        return Err(Status::NoMemory);
+    };
+    load_user(alloc, texts, &system)
+}
+
+/// The programs of a session: one in user mode under a system, or one for the bare machine.
+fn load_session(
+    alloc: Global,
+    base: Base,
+    texts: &[Vec<u8>],
+    system: Option<Vec<u8>>,
+) -> Result<Programs, Status>
+    requires some { 1 ≤ length texts.now }
+    requires few { length texts.now ≤ 8 }
+    ensures loads { Loads loaded_seen result (session_loaded base (texts_seen texts.now) (bytes_of system)) }
+    ensures sound { IfOk result AreSound }
+{
+    match base {
+        Base::User => load_under(alloc, texts, system),
+        Base::Bare => load_bare(alloc, texts),
+    }
+}
+
+/// `console`: holds a session on a program, as a script says.
+pub(crate) fn run_console<S: Files, K: Sink, F: PageFile>(
+    alloc: Global,
+    names: &[&str],
+    base: Base,
+    script: &str,
+    options: &Options<'_>,
+    files: &mut S,
+    sink: &mut K,
+    pages: &mut F,
+) -> Status
+    requires some { 1 ≤ length names.now }
+    requires few { length names.now ≤ 8 }
+    requires within { AreWithin (said_options options.now) }
+    ensures carries { Carries (Rose (S.faults files.old) (S.faults files.new)) (pages.new ≡ pages.old) (Rose (F.faults pages.old) (F.faults pages.new)) (S.contents files.old) (outside_of (F.contents pages.old) (F.contents pages.new) (K.faults sink.old) (K.faults sink.new)) (console (names_of names.now) base script.now (said_options options.now)) (K.faults sink.old) (K.faults sink.new) (K.contents sink.old) (K.contents sink.new) result }
+    ensures read_failed { S.faults files.new ≢ S.faults files.old → (result ≡ Status.ReadFault) ⊎ (result ≡ Status.WriteFault) }
+    ensures page_failed { F.faults pages.new ≢ F.faults pages.old → (result ≡ Status.PageFault) ⊎ (result ≡ Status.WriteFault) }
+{
+    let (texts, given) = match load_run(alloc, names, options, Some(script), files) {
+        Ok(loaded) => loaded,
+        Err(status) => return refuse(status, sink),
+    };
+    let Given {
+        system,
+        input,
+        schedule,
+        script,
+    } = given;
+    match load_session(alloc, base, &texts, system) {
+        Ok(programs) => hold_session(
+            alloc, &programs, input, &schedule, &script, options, sink, pages,
+        ),
+        Err(status) => refuse(status, sink),
+    }
+}
