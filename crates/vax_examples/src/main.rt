@@ -1,21 +1,52 @@
-//! Runs each example, and shows its report.
+//! Runs each example, and shows its output and its report.
 #![tactic(auto)]
 
 use std::alloc::{AllocError, Global};
 use vax_outside::{HostFiles, HostPages, HostSink};
 use vax_top::vax_main;
 
-/// The examples, in the order in which they are to be read: a title, and the words of the call.
-const EXAMPLES: [(&str, &[&str]); 6] = [
-    ("literals.mar", &["bare", "literals.mar"]),
-    ("registers.mar", &["bare", "registers.mar"]),
-    ("autoincrement.mar", &["bare", "autoincrement.mar"]),
-    ("overflow.mar", &["bare", "overflow.mar"]),
-    ("carry.mar", &["bare", "carry.mar"]),
-    (
-        "autoincrement.mar, with no page left before each third turn",
-        &["bare", "autoincrement.mar", "--schedule", "third-turns.txt"],
-    ),
+/// The words of each example, in the order in which they are to be read.
+const EXAMPLES: [&[&str]; 25] = [
+    &["bare", "literals.mar"],
+    &["bare", "registers.mar"],
+    &["bare", "autoincrement.mar"],
+    &["bare", "overflow.mar"],
+    &["bare", "carry.mar"],
+    &["bare", "autoincrement.mar", "--schedule", "third-turns.txt"],
+    &["bare", "autoincrement.mar", "--dump", "80000400:12"],
+    &["list", "autoincrement.mar", "--base", "bare"],
+    &[
+        "console",
+        "autoincrement.mar",
+        "--base",
+        "bare",
+        "--script",
+        "session.txt",
+    ],
+    &["run", "hello.mar"],
+    &["run", "capitals.mar", "--input", "verse.txt"],
+    &["run", "count.mar", "number.mar", "--input", "verse.txt"],
+    &["run", "sort.mar", "number.mar"],
+    &["run", "fibonacci.mar", "number.mar"],
+    &["run", "search.mar", "number.mar"],
+    &["run", "factorial.mar", "number.mar"],
+    &["run", "hanoi.mar"],
+    &["run", "queue.mar"],
+    &["run", "rot13.mar"],
+    &["run", "macros.mar", "number.mar"],
+    &["run", "large.mar", "number.mar"],
+    &[
+        "run",
+        "large.mar",
+        "number.mar",
+        "--frames",
+        "64",
+        "--schedule",
+        "thousandth-turns.txt",
+    ],
+    &["bare", "trap.mar"],
+    &["bare", "clock.mar"],
+    &["run", "hello.mar", "--system", "hexadecimal.mar"],
 ];
 
 /// Words as the program is given them.
@@ -29,8 +60,12 @@ fn owned(alloc: Global, words: &[&str]) -> Result<Vec<String>, AllocError> {
 
 fn main(rt: HostRuntime) -> anyhow::Result<()> {
     let alloc = rt.alloc();
-    for (title, words) in EXAMPLES {
-        println!(rt; "{title}")?;
+    for words in EXAMPLES {
+        print!(rt; "$ vax")?;
+        for word in words {
+            print!(rt; " {word}")?;
+        }
+        println!(rt)?;
         let words = owned(alloc, words)?;
         let mut files = HostFiles::new(rt);
         let mut sink = HostSink::new(rt.stdout(), rt.stdout(), rt);
