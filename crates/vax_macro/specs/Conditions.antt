@@ -219,9 +219,16 @@ abbrev pub comma_behind_two : ℕ → Option Taken → Result ℕ FaultKind
 comma_behind_two end None = Err faults.Form
 comma_behind_two end (Some t) = comma_behind end (taken (second_argument t.rest))
 
+-- Where the condition is at fault, its statement isn't left out: a byte of it where no token begins is a fault of the line
+-- too, and goes before the condition's.
+abbrev pub beside_bytes : Bool → Result Bool FaultKind → Result Bool FaultKind
+beside_bytes bad (Ok holds) = Ok holds
+beside_bytes true (Err kind) = Err faults.Token
+beside_bytes false (Err kind) = Err kind
+
 abbrev pub guarded_pieces : (List ℕ → Option Value) → List ℕ → Condition → ℕ → List Piece → Option ℕ → Result Guarded FaultKind
 guarded_pieces names text c at pieces None = Err (if has_bad pieces then faults.Token else faults.Count)
-guarded_pieces names text c at pieces (Some i) = guarded_by (condition_on names text c at (take i pieces)) (first_end (drop i pieces))
+guarded_pieces names text c at pieces (Some i) = guarded_by (beside_bytes (has_bad pieces) (condition_on names text c at (take i pieces))) (first_end (drop i pieces))
 
 -- the pieces that end by a place
 abbrev pub ends_by : ℕ → Piece → Bool

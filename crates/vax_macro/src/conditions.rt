@@ -480,11 +480,14 @@ fn guarded_pieces<N: Names>(
         };
         return Err(Refusal::Fault(kind));
     };
-    let holds = condition_on(alloc, names, text, condition, at, &pieces[..comma])?;
-    Ok(Guarded {
-        holds,
-        statement: pieces[comma].end as usize,
-    })
+    match condition_on(alloc, names, text, condition, at, &pieces[..comma]) {
+        Ok(holds) => Ok(Guarded {
+            holds,
+            statement: pieces[comma].end as usize,
+        }),
+        Err(Refusal::Fault(_)) if has_bad(pieces) => Err(Refusal::Fault(FaultKind::Token)),
+        Err(refusal) => Err(refusal),
+    }
 }
 
 /// How many pieces before end by a place.

@@ -70,7 +70,7 @@ fn expanded(alloc: Global, source: &str) -> Result<String, Fail> {
     Ok(out)
 }
 
-static ROWS: [(&str, &str); 71] = [
+static ROWS: [(&str, &str); 73] = [
     ("NOP ; x\nHALT", "NOP ; x|HALT|"),
     ("NO-  ; a comment\nP\n", "NOP|"),
     ("X = -\n 1 -\n+ 2\n", "X =  1 + 2|"),
@@ -179,6 +179,8 @@ static ROWS: [(&str, &str); 71] = [
     ),
     ("K: .IIF DF A, L: .REPT 1\nNOP\n.ENDR\n", "K:|L:|NOP|"),
     (".IIF EQ 1, \x01\n.IIF EQ 0 NOP\n", "!2,3"),
+    (".IIF EQ 1+, \x01\n", "!1,1"),
+    (".IIF EQ Z, .ASCII /a\n", "!1,1"),
     (".IIF B <x, NOP\n", "!1,4"),
     (".ENDC\n", "!1,8"),
     (".ENDM\n", "!1,8"),
