@@ -7,6 +7,7 @@ ghost use Rattle.vax_outside.specs.Blocks.{BlockFile};
 ghost use Rattle.vax_outside.specs.Faults.{Rose};
 ghost use Rattle.vax_pager.specs.Meaning.{pages};
 ghost use Rattle.vax_pager.specs.Paging.{Keeps, StandsWith};
+ghost use Rattle.vax_pager.specs.Poking.{OnlyRead};
 ghost use Rattle.vax_machine.specs.Console.{AreShown, IsPageOf, cell_in, memory_from};
 
 use crate::engine::Engine;
@@ -23,6 +24,7 @@ fn page_at<F: PageFile>(
     file: &mut F,
 ) -> Result<Option<[u8; 512]>, PageFault>
     ensures same { pages pager.new ≡ pages pager.old }
+    ensures reads { OnlyRead (F.contents file.old) (F.contents file.new) }
     ensures keeps { Keeps (pages pager.old) (F.contents file.old) (pages pager.new) (F.contents file.new) }
     ensures none { (is_other ≡ false → is_some at_hand.now ≡ is_some (area_of (pages pager.old).areas (page_of addr))) → IfOk result (λ r. is_some r ≡ is_some (area_of (pages pager.old).areas (page_of addr))) }
     ensures bytes { (memory : List Area) → StandsWith (pages pager.old) (F.contents file.old) memory → (is_other ≡ false → IfSome at_hand.now (IsPageOf memory (page_of addr))) → IfOk result (λ r. IfSome r (IsPageOf memory (page_of addr))) }
@@ -53,6 +55,7 @@ fn show<F: PageFile>(
 ) -> Result<(), PageFault>
     requires few { length cells.old < 2 ^ 32 }
     ensures same { pages pager.new ≡ pages pager.old }
+    ensures reads { OnlyRead (F.contents file.old) (F.contents file.new) }
     ensures keeps { Keeps (pages pager.old) (F.contents file.old) (pages pager.new) (F.contents file.new) }
     ensures len { length cells.new ≡ length cells.old }
     ensures none { OnOk result (AreShown (pages pager.old).areas addr cells.new) }
@@ -101,6 +104,7 @@ impl Engine {
         ensures cpu { self.new.cpu ≡ self.old.cpu }
         ensures keeps { keeping self.new ≡ keeping self.old }
         ensures same { pages self.new.pager ≡ pages self.old.pager }
+        ensures reads { OnlyRead (F.contents file.old) (F.contents file.new) }
         ensures means { KeepsPlace self.old (F.contents file.old) self.new (F.contents file.new) }
         ensures len { length cells.new ≡ length cells.old }
         ensures none { OnOk result (AreShown (keeping self.old).areas addr cells.new) }

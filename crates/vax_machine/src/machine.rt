@@ -33,6 +33,7 @@ impl Machine {
     ghost use Rattle.vax_flat.specs.Step.{Flat};
     ghost use Rattle.vax_pager.specs.Calls.{IsByte};
     ghost use Rattle.vax_pager.specs.Listing.{first};
+    ghost use Rattle.vax_pager.specs.Poking.{OnlyRead};
     ghost use Rattle.vax_machine.specs.Console.{AreShown, Deposits, IsBetween, StopsBetween, cpu_with_register, let_go, memory_from, with_register};
     ghost use Rattle.vax_machine.specs.Machine.{Applies, KeepsPlace, Means, Moves, Spends, keeping, residence};
     ghost use Rattle.vax_machine.specs.Meaning.{engine, memory_of, starts_at, units_of};
@@ -194,6 +195,7 @@ impl Machine {
         ensures cpu { (engine self.new).cpu ≡ (engine self.old).cpu }
         ensures keeps { keeping (engine self.new) ≡ keeping (engine self.old) }
         ensures same { memory_of self.new ≡ memory_of self.old }
+        ensures reads { OnlyRead (F.contents file.old) (F.contents file.new) }
         ensures means { KeepsPlace (engine self.old) (F.contents file.old) (engine self.new) (F.contents file.new) }
         ensures err { OnErr result (F.contents file.new ≡ F.contents file.old) }
         ensures later { F.faults file.old ≤ F.faults file.new }
@@ -218,6 +220,7 @@ impl Machine {
         ensures cpu { (engine self.new).cpu ≡ (engine self.old).cpu }
         ensures keeps { keeping (engine self.new) ≡ keeping (engine self.old) }
         ensures same { memory_of self.new ≡ memory_of self.old }
+        ensures reads { OnlyRead (F.contents file.old) (F.contents file.new) }
         ensures means { KeepsPlace (engine self.old) (F.contents file.old) (engine self.new) (F.contents file.new) }
         ensures later { F.faults file.old ≤ F.faults file.new }
         ensures cause { OnErr result (Rose (F.faults file.old) (F.faults file.new)) }

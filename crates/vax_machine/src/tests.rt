@@ -199,32 +199,48 @@ fn shows_and_changes(rt: HostRuntime) -> Result<(), Fail> {
     Ok(())
 }
 
-#[test]
-fn page_file_calls_fail(rt: HostRuntime) -> Result<(), Fail> {
-    let alloc = rt.alloc();
+/// A machine whose page 0 begins with two bytes 7 and has no frame, with a page file of which one later call fails.
+fn without_frame(
+    alloc: Global,
+    fail: vax_outside::Fail,
+) -> Result<(Machine, MemPages, bool), Fail> {
     let mut machine = machine_over(alloc, pages(alloc, 128, &[])?)?;
     let mut fails = Vec::new(alloc);
-    fails.push(vax_outside::Fail::Read(1))?;
-    fails.push(vax_outside::Fail::Read(3))?;
-    fails.push(vax_outside::Fail::Write(2))?;
+    fails.push(fail)?;
     let mut file = MemPages::new(alloc, 128, 300, fails)?;
-    assert_eq!(rt; change(&mut machine, 0, &[7, 7], &mut file), Ok(true));
-    assert_eq!(rt; machine.apply(Event::Evict(0), &mut file), Applied::Evicted);
-    assert!(rt; fill_frames(&mut machine, &mut file));
+    let changed = change(&mut machine, 0, &[7, 7], &mut file) == Ok(true);
+    let evicted = machine.apply(Event::Evict(0), &mut file) == Applied::Evicted;
+    let filled = fill_frames(&mut machine, &mut file);
+    Ok((machine, file, changed && evicted && filled))
+}
 
-    // The second page's block isn't written, so page 0 finds no frame.
-    assert_eq!(rt; change(&mut machine, 0, &[8, 8], &mut file), Err(PageFault));
+#[test]
+fn shows_nothing_where_a_read_fails(rt: HostRuntime) -> Result<(), Fail> {
+    let (mut machine, mut file, fine) = without_frame(rt.alloc(), vax_outside::Fail::Read(1))?;
+    assert!(rt; fine);
     let mut cells = [None; 2];
     assert_eq!(rt; machine.dump(0, &mut cells, &mut file), Err(PageFault));
     assert_eq!(rt; machine.dump(0, &mut cells, &mut file), Ok(()));
     assert_eq!(rt; cells, [Some(7), Some(7)]);
-    // Its own block isn't read.
+    Ok(())
+}
+
+/// A change of page 0 fails and changes nothing; it is made later.
+fn fails_once<R: Abort>(rt: &R, alloc: Global, fail: vax_outside::Fail) -> Result<(), Fail> {
+    let (mut machine, mut file, fine) = without_frame(alloc, fail)?;
+    assert!(rt; fine);
     assert_eq!(rt; change(&mut machine, 0, &[8, 8], &mut file), Err(PageFault));
     assert_eq!(rt; machine.peek(0, &mut file), Ok(Some(7)));
     assert_eq!(rt; change(&mut machine, 0, &[8, 8], &mut file), Ok(true));
     assert_eq!(rt; machine.peek(0, &mut file), Ok(Some(8)));
-    assert_eq!(rt; machine.spoiled(), 0);
     Ok(())
+}
+
+#[test]
+fn changes_nothing_where_a_call_fails(rt: HostRuntime) -> Result<(), Fail> {
+    // The page's own block isn't read, or that of the page that makes room isn't written.
+    fails_once(&rt, rt.alloc(), vax_outside::Fail::Read(1))?;
+    fails_once(&rt, rt.alloc(), vax_outside::Fail::Write(2))
 }
 
 #[test]

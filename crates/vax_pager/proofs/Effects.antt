@@ -12,6 +12,7 @@ use Rattle.vax_outside.specs.Blocks.{BlockFile, after_write, after_read, GivesBl
 use Rattle.vax_pager.specs.Listing.{is_listed, first_outside, first}
 use Rattle.vax_pager.specs.Paging.{Paging, home, content, is_clean, start_of, Backs, StandsWith, Keeps, ComesFrom}
 use Rattle.vax_pager.specs.Steps.{at, flushed, released, taken_back, brought, forgotten, removed}
+use Rattle.vax_pager.specs.Poking.{OnlyRead, without_reads}
 use Rattle.vax_pager.specs.Calls.{PeekedFrom, seen, after_flush, wrote_back, after_evict, read_for, Back, Empty, OfKept, OfVictim, source}
 use Rattle.vax_pager.proofs.Listing.{in_without}
 use Rattle.vax_pager.proofs.Standing.{stands_flushed, stands_released, stands_taken, stands_brought, stands_forgotten, stands_removed, home_flushed, home_forgotten, home_removed}
@@ -180,6 +181,18 @@ keeps_read : (p : ℕ) (s t : Paging) (file : Option BlockFile) → Keeps t file
 unfolding read_for
 keeps_read p s t None = elim (cases_Bool (s.blocked p)) [ inl b ↦ rw b (λ memory st. st) | inr b ↦ rw b (λ memory st. st) ]
 keeps_read p s t (Some file) = elim (cases_Bool (s.blocked p)) [ inl b ↦ rw b (λ memory st. read_stands t file memory st) | inr b ↦ rw b (λ memory st. st) ]
+
+-- a read writes nothing
+only_read : (p : ℕ) (s : Paging) (file : Option BlockFile) → OnlyRead file (read_for p s file)
+unfolding read_for
+only_read p s None = elim (cases_Bool (s.blocked p)) [ inl b ↦ rw b refl | inr b ↦ rw b refl ]
+only_read p s (Some file) = elim (cases_Bool (s.blocked p)) [ inl b ↦ rw b refl | inr b ↦ rw b refl ]
+
+pub reads_peeked : (p : ℕ) (s : Paging) (file after : Option BlockFile) → after ≡ read_for p s file → OnlyRead file after
+reads_peeked p s file after e = subst (λ (z : Option BlockFile). OnlyRead file z) (sym e) (only_read p s file)
+
+pub reads_unchanged : (file after : Option BlockFile) → after ≡ file → OnlyRead file after
+reads_unchanged file after e = ap without_reads e
 
 -- a page without a frame was looked at
 pub keeps_peeked : (p : ℕ) (s : Paging) (file after : Option BlockFile) → after ≡ read_for p s file → Keeps s file s after

@@ -1,5 +1,6 @@
 -- What bytes that are written from outside make of a pager.
 use Rattle.std.specs.Prelude.{ℕ, ◌≡◌, ◌+◌, ◌*◌, ◌<◌, ◌≤◌, ◌||◌, Bool, true, false, Option, Result, Ok, Err, List, [], ◌∷◌, ◌++◌, length, slice_index}
+use Rattle.std.specs.Option.{option_map}
 use Rattle.vax_space.specs.declared.Area.{Area}
 use Rattle.vax_space.specs.Reference.{page_of}
 use Rattle.vax_outside.specs.Blocks.{BlockFile}
@@ -13,6 +14,17 @@ use Rattle.vax_pager.specs.declared.calls.PageFault.{PageFault}
 -- the bytes of a page of each memory that the pager stands for with this file
 abbrev pub IsPage : Paging → Option BlockFile → ℕ → List ℕ → Type 0
 IsPage s file page bytes = (memory : List Area) → StandsWith s file memory → (k : ℕ) → k < 512 → slice_index bytes k ≡ byte_at memory (512 * page + k)
+
+-- what a page file tells, whatever was read of it
+abbrev pub unread : BlockFile → BlockFile
+unread file = record file { reads = 0 }
+
+abbrev pub without_reads : Option BlockFile → Option BlockFile
+without_reads contents = option_map unread contents
+
+-- blocks were read at most: they are as they were, and none was written
+abbrev pub OnlyRead : Option BlockFile → Option BlockFile → Type 0
+OnlyRead before after = without_reads after ≡ without_reads before
 
 -- what stays while pages come in and make room
 pub record StaysAlike (s t : Paging) : Type 0 where

@@ -18,6 +18,7 @@ impl Store {
     ghost use Rattle.vax_lists.specs.Lines.{frame_in};
     ghost use Rattle.vax_pager.specs.Listing.{is_listed};
     ghost use Rattle.vax_pager.specs.Paging.{ComesFrom, Keeps};
+    ghost use Rattle.vax_pager.specs.Poking.{OnlyRead};
     ghost use Rattle.vax_pager.specs.Steps.{brought, forgotten, removed};
     ghost use Rattle.vax_pager.specs.Calls.{OfVictim, after_flush, wrote_back, after_evict, read_for, source, victim_of, came, file_after, takes_modified, IsByte, IsLeft, PeekedFrom};
     ghost use Rattle.vax_pager.specs.Store.{IsSound, paging};
@@ -270,6 +271,7 @@ impl Store {
         ensures none { IfOk result (λ r. is_some r ≡ is_some (area_of (paging self.now).areas (page_of addr))) }
         ensures byte { IfOk result (λ r. IfSome r (IsByte (paging self.now) (F.contents file.old) addr)) }
         ensures from { IfOk result (λ r. IfSome r (PeekedFrom (paging self.now) (F.contents file.old) addr)) }
+        ensures reads { OnlyRead (F.contents file.old) (F.contents file.new) }
         ensures untouched { is_listed (page_of addr) (paging self.now).order ≡ true → file.new ≡ file.old }
         ensures kept { is_listed (page_of addr) (paging self.now).kept ≡ true → file.new ≡ file.old }
         ensures blockless { (paging self.now).blocked (page_of addr) ≡ false → file.new ≡ file.old }

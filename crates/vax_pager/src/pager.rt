@@ -41,7 +41,7 @@ impl Pager {
     ghost use Rattle.vax_pager.specs.Steps.{settled};
     ghost use Rattle.vax_pager.specs.Calls.{IsByte, IsLeft, IsPaging, PeekedFrom, after_evict, after_flush, came, file_after, fresh, source, takes_modified, victim_of, wrote_back};
     ghost use Rattle.vax_pager.specs.Meaning.{hits, pages};
-    ghost use Rattle.vax_pager.specs.Poking.{IsPage, Pokes};
+    ghost use Rattle.vax_pager.specs.Poking.{IsPage, OnlyRead, Pokes};
 
     /// A pager over a space, with so many frames, 64 to 32,768. No page is resident, and with any page file it stands
     /// for the memory at the start.
@@ -133,6 +133,7 @@ impl Pager {
         ensures byte { IfOk result (λ r. IfSome r (IsByte (pages self.old) (F.contents file.old) addr)) }
         ensures from { IfOk result (λ r. IfSome r (PeekedFrom (pages self.old) (F.contents file.old) addr)) }
         ensures same { pages self.new ≡ pages self.old }
+        ensures reads { OnlyRead (F.contents file.old) (F.contents file.new) }
         ensures keeps { Keeps (pages self.old) (F.contents file.old) (pages self.new) (F.contents file.new) }
         ensures untouched { is_listed (page_of addr) (pages self.old).order ≡ true → file.new ≡ file.old }
         ensures kept { is_listed (page_of addr) (pages self.old).kept ≡ true → file.new ≡ file.old }
@@ -155,6 +156,7 @@ impl Pager {
         ensures none { IfOk result (λ r. is_some r ≡ is_some (area_of (pages self.old).areas page)) }
         ensures bytes { IfOk result (λ r. IfSome r (IsPage (pages self.old) (F.contents file.old) page)) }
         ensures same { pages self.new ≡ pages self.old }
+        ensures reads { OnlyRead (F.contents file.old) (F.contents file.new) }
         ensures keeps { Keeps (pages self.old) (F.contents file.old) (pages self.new) (F.contents file.new) }
         ensures err { OnErr result (F.contents file.new ≡ F.contents file.old) }
         ensures later { F.faults file.old ≤ F.faults file.new }

@@ -17,7 +17,7 @@ impl Store {
     ghost use Rattle.vax_flat.specs.Outcome.{is_allowed};
     ghost use Rattle.vax_pager.specs.Listing.{is_listed};
     ghost use Rattle.vax_pager.specs.Paging.{Keeps};
-    ghost use Rattle.vax_pager.specs.Poking.{BringsIn, IsPage, Pokes, StaysAlike, WritesThere};
+    ghost use Rattle.vax_pager.specs.Poking.{BringsIn, IsPage, OnlyRead, Pokes, StaysAlike, WritesThere};
     ghost use Rattle.vax_pager.specs.Store.{IsSound, paging};
 
     /// The bytes of a page, resident or not.
@@ -29,6 +29,7 @@ impl Store {
         requires sound { IsSound 0 self.now }
         ensures none { IfOk result (λ r. is_some r ≡ is_some (area_of (paging self.now).areas page)) }
         ensures bytes { IfOk result (λ r. IfSome r (IsPage (paging self.now) (F.contents file.old) page)) }
+        ensures reads { OnlyRead (F.contents file.old) (F.contents file.new) }
         ensures err { OnErr result (F.contents file.new ≡ F.contents file.old) }
         ensures keeps { Keeps (paging self.now) (F.contents file.old) (paging self.now) (F.contents file.new) }
         ensures later { F.faults file.old ≤ F.faults file.new }

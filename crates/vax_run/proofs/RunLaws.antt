@@ -11,6 +11,7 @@ use Rattle.vax_flat.specs.Parts.{Place, At, Within, machine_at, units_done}
 use Rattle.vax_flat.specs.Step.{Flat}
 use Rattle.vax_cpu.specs.Attempt.{open_at}
 use Rattle.vax_pager.specs.Listing.{is_listed}
+use Rattle.vax_pager.specs.Poking.{OnlyRead, without_reads}
 use Rattle.vax_image.specs.Start.{Start, start_areas, start_core}
 use Rattle.vax_flat.specs.Start.{start_memory}
 use Rattle.vax_sched.specs.Due.{due}
@@ -116,10 +117,10 @@ Told failed outside limits areas rules b items old new result =
     (meant : Status) × (grown : Channels) × Went failed outside limits areas rules b items meant grown × Ends outside.sink_before outside.sink_now old new meant grown result
 
 -- memory may have been read behind a run
-ran_and_read : (areas : List Area) (b p : Paged) (items : List DumpItem) (file : BlockFile) (middle last : Option BlockFile) → FewTurns b p → Moved areas b p (Some file) middle → (items ≡ [] → last ≡ middle) → HasRun areas b p items file last
-ran_and_read areas b p items file middle last few moved unread =
+ran_and_read : (areas : List Area) (b p : Paged) (items : List DumpItem) (file : BlockFile) (middle last : Option BlockFile) → FewTurns b p → Moved areas b p (Some file) middle → OnlyRead middle last → (items ≡ [] → last ≡ middle) → HasRun areas b p items file last
+ran_and_read areas b p items file middle last few moved reads unread =
     let m = moved file refl in
-    record { few = few; between = m.0; moved = m.2; told = λ none. unread none ∙ m.1 }
+    record { few = few; between = m.0; moved = m.2; told = reads ∙ ap without_reads m.1; unread = λ none. unread none ∙ m.1 }
 
 -- what the machine did with whatever its page file told
 abbrev pub Did : Limits → List Area → List Rule → Engine → Option BlockFile → RunEnd → Engine → Option BlockFile → Option Channels → Option Channels → Type 0
@@ -145,7 +146,7 @@ module _ (failed : Type 0) (limits : Limits) (areas : List Area) (rules : List R
       subst (λ (g : Channels). Ends before now old new status g result) (outputs listed p why dumps grown is) (ends_after before mid now old between new status (output_of listed p) grown result wrote quiet ends)
 
   -- it stopped by itself, and the report was written
-  module _ (rose : Type 0) (up : rose → failed) (after last : Option BlockFile) (reads : items ≡ [] → last ≡ after) (end : RunEnd) (why : Why) (is : why_of end ≡ Some why) (status : Status) (grown : Channels) (out : OnlyWrote limits.listed old between) (quiet : mid ≡ before) (ends : Ends mid now between new status grown result) where
+  module _ (rose : Type 0) (up : rose → failed) (after last : Option BlockFile) (reads : OnlyRead after last) (unread : items ≡ [] → last ≡ after) (end : RunEnd) (why : Why) (is : why_of end ≡ Some why) (status : Status) (grown : Channels) (out : OnlyWrote limits.listed old between) (quiet : mid ≡ before) (ends : Ends mid now between new status grown result) where
     answer_is : IsReported rose n after (last_of why) (status_of why) items status grown → IsRunAnswer failed status
     answer_is (inl r) = subst (IsRunAnswer failed) (sym r.0) (answers failed why)
     answer_is (inr r) = subst (IsRunAnswer failed) (sym r.1) (up r.0)
@@ -159,7 +160,7 @@ module _ (failed : Type 0) (limits : Limits) (areas : List Area) (rules : List R
         d.2 ∙ (ap (only Report) (reported n after p (last_of why) d.0 w.tracks.steps w.tracks.means) ∙ ap (λ dumps. only Report (run_report p (last_of why) dumps)) shows) in (
           status,
           run_output limits.listed p (last_of why) (dumps_at p items),
-          inl (record { count = w.count; goes = w.goes; why = why; stopped = w.stopped ∙ is; answer = r.0; wrote = refl; blocks = inl (ran_and_read areas b p items file after last w.few w.moved reads) }),
+          inl (record { count = w.count; goes = w.goes; why = why; stopped = w.stopped ∙ is; answer = r.0; wrote = refl; blocks = inl (ran_and_read areas b p items file after last w.few w.moved reads unread) }),
           behind limits.listed p (last_of why) (dumps_at p items) status grown (wrote_out (Some file) p w.wrote) quiet text ends,
         )
     whole_by file w (inr r) =
@@ -167,7 +168,7 @@ module _ (failed : Type 0) (limits : Limits) (areas : List Area) (rules : List R
         let text : grown ≡ only Report (run_report p lasts.PageFault []) = r.2 ∙ ap (only Report) (reported n after p lasts.PageFault [] w.tracks.steps w.tracks.means) in (
           status,
           run_output limits.listed p lasts.PageFault [],
-          inr (up r.0, inl (record { count = w.count; goes = w.goes; why = why; stopped = w.stopped ∙ is; answer = r.1; wrote = refl; blocks = ran_and_read areas b p items file after last w.few w.moved reads })),
+          inr (up r.0, inl (record { count = w.count; goes = w.goes; why = why; stopped = w.stopped ∙ is; answer = r.1; wrote = refl; blocks = ran_and_read areas b p items file after last w.few w.moved reads unread })),
           behind limits.listed p lasts.PageFault [] status grown (wrote_out (Some file) p w.wrote) quiet text ends,
         )
 
@@ -176,9 +177,9 @@ module _ (failed : Type 0) (limits : Limits) (areas : List Area) (rules : List R
     stopped_by (Some file) did r =
         whole_by file (as_whole limits areas rules b (Some file) end why n after old between is (did (At start) (f.means file) (none_pinned m frames start f))) r
 
-  pub went_whole : (rose : Type 0) → (rose → failed) → (told after last : Option BlockFile) → (items ≡ [] → last ≡ after) → (end : RunEnd) (why : Why) → why_of end ≡ Some why → Did limits areas rules m told end n after old between → OnlyWrote limits.listed old between → mid ≡ before
+  pub went_whole : (rose : Type 0) → (rose → failed) → (told after last : Option BlockFile) → OnlyRead after last → (items ≡ [] → last ≡ after) → (end : RunEnd) (why : Why) → why_of end ≡ Some why → Did limits areas rules m told end n after old between → OnlyWrote limits.listed old between → mid ≡ before
       → (status : Status) × (grown : Channels) × IsReported rose n after (last_of why) (status_of why) items status grown × Ends mid now between new status grown result → Told failed (outside_of told last before now) limits areas rules (fresh frames start) items old new result
-  went_whole rose up told after last reads end why is did out quiet r = at_fresh told last (stopped_by rose up after last reads end why is r.0 r.1 out quiet r.3 told did r.2)
+  went_whole rose up told after last reads unread end why is did out quiet r = at_fresh told last (stopped_by rose up after last reads unread end why is r.0 r.1 out quiet r.3 told did r.2)
 
   cut_by : (told after : Option BlockFile) → failed → Did limits areas rules m told run_end.PageFault n after old between → OnlyWrote limits.listed old between → mid ≡ before → Ends mid now between new PageFault (only Report (machine_report n lasts.PageFault [])) result → Told failed (outside_of told after before now) limits areas rules b items old new result
   cut_by None after rose did out quiet ends =

@@ -2,6 +2,7 @@
 ghost use Rattle.std.specs.Prelude.{◌≡◌, ◌≤◌, ◌<◌, ◌^◌, [], IfOk, OnErr, OnOk, List, ℕ, length, map, vec_capacity, All};
 ghost use Rattle.vax_outside.specs.Faults.{Rose};
 ghost use Rattle.vax_machine.specs.Machine.{keeping};
+ghost use Rattle.vax_pager.specs.Poking.{OnlyRead};
 ghost use Rattle.vax_machine.specs.Meaning.{engine};
 ghost use Rattle.vax_words.specs.Said.{IsDump};
 ghost use Rattle.vax_run.specs.Fresh.{AreShown};
@@ -70,6 +71,7 @@ pub(crate) fn fill<F: PageFile>(
     pages: &mut F,
 ) -> Result<Vec<Dump>, PageFault>
     ensures shows { IfOk result (λ v. AreShown (engine machine.old) (F.contents pages.old) (items_of room.blanks.items) v.items) }
+    ensures reads { OnlyRead (F.contents pages.old) (F.contents pages.new) }
     ensures unread { items_of room.blanks.items ≡ [] → F.contents pages.new ≡ F.contents pages.old }
     ensures cpu { (engine machine.new).cpu ≡ (engine machine.old).cpu }
     ensures keeps { keeping (engine machine.new) ≡ keeping (engine machine.old) }

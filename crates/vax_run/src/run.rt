@@ -5,6 +5,7 @@ ghost use Rattle.vax_outside.specs.Faults.{Rose};
 ghost use Rattle.vax_outside.specs.declared.traits.Chan.TheVariants.{Report};
 ghost use Rattle.vax_flat.specs.Step.{Flat};
 ghost use Rattle.vax_image.specs.Start.{Start, start_areas};
+ghost use Rattle.vax_pager.specs.Poking.{OnlyRead};
 ghost use Rattle.vax_machine.specs.Meaning.{engine};
 ghost use Rattle.vax_machine.specs.Machine.{keeping};
 ghost use Rattle.vax_machine.specs.Paged.{fresh};
@@ -69,6 +70,7 @@ fn report_all<K: Sink, F: PageFile>(
     ensures reported { (status : Status) × (grown : Channels)
         × IsReported (Rose (F.faults pages.old) (F.faults pages.new)) (engine machine) (F.contents pages.old) last meant (items_of room.blanks.items) status grown
         × Ends (K.faults sink.old) (K.faults sink.new) (K.contents sink.old) (K.contents sink.new) status grown result }
+    ensures reads { OnlyRead (F.contents pages.old) (F.contents pages.new) }
     ensures unread { items_of room.blanks.items ≡ [] → F.contents pages.new ≡ F.contents pages.old }
     ensures later { F.faults pages.old ≤ F.faults pages.new }
     ensures failed { F.faults pages.new ≢ F.faults pages.old → (result ≡ Status.PageFault) ⊎ (result ≡ Status.WriteFault) }

@@ -15,6 +15,7 @@ pub loop-place-init : goal.loop-place-init
 loop-place-init g c = record {
   same = refl;
   keeps = λ memory st. st;
+  reads = refl;
   len = refl;
   none = none_shown _ _;
   bytes = λ memory st. none_from memory _;
@@ -47,6 +48,7 @@ loop-place-preserved g c =
     record {
       same = c.in_ok-page.ensures.same ∙ v.same;
       keeps = λ memory st. c.in_ok-page.ensures.keeps memory (v.keeps memory st);
+      reads = c.in_ok-page.ensures.reads ∙ v.reads;
       len = length-set c.loop-place.cells place c.cell.result ∙ v.len;
       none = shown_next s.areas c.args.addr place c.loop-place.cells c.cell.result low c.ranges.addr.fits (ap is_some c.cell.ensures ∙ (cell_there c.in_ok-page.page here ∙ there)) v.none;
       bytes = λ memory st.

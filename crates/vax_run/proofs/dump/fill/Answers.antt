@@ -27,6 +27,7 @@ blanks-preserved g c =
       cpu = c.in_ok-dump.ensures.cpu ∙ inv.cpu;
       keeps = c.in_ok-dump.ensures.keeps ∙ inv.keeps;
       stands = λ place means. c.in_ok-dump.ensures.means place (inv.stands place means);
+      reads = c.in_ok-dump.ensures.reads ∙ inv.reads;
       unread = λ none. absurd (not_none before rest blank split (inv.unread none).0);
       quiet = c.in_ok-dump.ensures.quiet ∙ inv.quiet;
     }

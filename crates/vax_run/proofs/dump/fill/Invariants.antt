@@ -1,5 +1,6 @@
 use Rattle.std.proofs.Common.{◌≡◌, ◌≤◌, [], ◌+◌, ◌++◌, All, length, map, vec_capacity, vec_len}
 use Rattle.vax_flat.specs.Parts.{Place, machine_at}
+use Rattle.vax_pager.specs.Poking.{OnlyRead}
 use Rattle.vax_machine.specs.Machine.{KeepsPlace, Means, keeping}
 use Rattle.vax_machine.specs.Meaning.{engine}
 use Rattle.vax_words.specs.Said.{IsDump}
@@ -16,6 +17,7 @@ invariant-blanks g l = record {
   cpu : (engine l.machine).cpu ≡ (engine l.fn.machine).cpu;
   keeps : keeping (engine l.machine) ≡ keeping (engine l.fn.machine);
   stands : KeepsPlace (engine l.fn.machine) (g.F.PageFile.contents l.fn.pages) (engine l.machine) (g.F.PageFile.contents l.pages);
+  reads : OnlyRead (g.F.PageFile.contents l.fn.pages) (g.F.PageFile.contents l.pages);
   unread : items_of l.fn.room.blanks.items ≡ [] → (l.blanks.items ≡ []) × (g.F.PageFile.contents l.pages ≡ g.F.PageFile.contents l.fn.pages);
   quiet : g.F.PageFile.faults l.pages ≡ g.F.PageFile.faults l.fn.pages;
 }

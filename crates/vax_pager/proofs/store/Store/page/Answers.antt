@@ -1,5 +1,5 @@
 use Rattle.std.proofs.Common.{rules, ◌∙◌}
-use Rattle.vax_pager.proofs.Effects.{keeps_peeked, keeps_unchanged}
+use Rattle.vax_pager.proofs.Effects.{keeps_peeked, keeps_unchanged, reads_peeked, reads_unchanged}
 use Rattle.vax_pager.proofs.Poking.{page_absent, page_kept, page_resident}
 use Rattle.vax_pager.proofs.Views.{get_same}
 use Rattle.vax_pager.proofs.store.Store.page.Goals as goal
@@ -18,3 +18,9 @@ returns-clause-keeps g c = keeps_peeked _ _ _ _ c.in_ok-bytes.ensures.read
 
 pub returns-in_err-bytes-clause-keeps : goal.returns-in_err-bytes-clause-keeps
 returns-in_err-bytes-clause-keeps g c = keeps_unchanged _ _ _ c.in_err-bytes.ensures.err
+
+pub returns-clause-reads : goal.returns-clause-reads
+returns-clause-reads g c = reads_peeked _ _ _ _ c.in_ok-bytes.ensures.read
+
+pub returns-in_err-bytes-clause-reads : goal.returns-in_err-bytes-clause-reads
+returns-in_err-bytes-clause-reads g c = reads_unchanged _ _ c.in_err-bytes.ensures.err

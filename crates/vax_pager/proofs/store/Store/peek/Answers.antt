@@ -2,7 +2,7 @@ use Rattle.std.proofs.Common.{rules}
 use Rattle.vax_space.specs.Reference.{page_of}
 use Rattle.vax_pager.specs.Listing.{is_listed}
 use Rattle.vax_pager.specs.Store.{paging}
-use Rattle.vax_pager.proofs.Effects.{either_true, first_true, neither, peek_absent, peek_kept, peek_resident, keeps_peeked, keeps_unchanged, peeked_frame, peeked_home}
+use Rattle.vax_pager.proofs.Effects.{either_true, first_true, neither, peek_absent, peek_kept, peek_resident, keeps_peeked, keeps_unchanged, reads_peeked, reads_unchanged, peeked_frame, peeked_home}
 use Rattle.vax_pager.proofs.store.Store.peek.Goals as goal
 
 pub returns-then-is_resident-clause-byte : goal.returns-then-is_resident-clause-byte
@@ -28,3 +28,9 @@ returns-clause-keeps g c = keeps_peeked _ _ _ _ c.in_ok-bytes.ensures.read
 
 pub returns-in_err-bytes-clause-keeps : goal.returns-in_err-bytes-clause-keeps
 returns-in_err-bytes-clause-keeps g c = keeps_unchanged _ _ _ c.in_err-bytes.ensures.err
+
+pub returns-clause-reads : goal.returns-clause-reads
+returns-clause-reads g c = reads_peeked _ _ _ _ c.in_ok-bytes.ensures.read
+
+pub returns-in_err-bytes-clause-reads : goal.returns-in_err-bytes-clause-reads
+returns-in_err-bytes-clause-reads g c = reads_unchanged _ _ c.in_err-bytes.ensures.err
