@@ -1,5 +1,5 @@
 -- A run of a session's machine makes the steps of the session.
-use Rattle.std.proofs.Common.{◌≡◌, ◌<◌, ◌≤◌, ◌⊎◌, ◌+◌, ◌-◌, ℕ, zero, suc, min, Bool, true, false, nat_le, List, [], ◌∷◌, ◌++◌, Option, Some, None, refl, sym, ap, subst, ◌∙◌, inl, inr, arith}
+use Rattle.std.proofs.Common.{◌≡◌, ◌<◌, ◌≤◌, ◌⊎◌, ◌+◌, ◌-◌, ℕ, zero, suc, Bool, true, false, nat_le, List, Option, Some, None, refl, sym, ap, subst, ◌∙◌, inl, inr, arith}
 use Rattle.std.proofs.lemmas.Bool.Decides.{nat_tests}
 use Rattle.vax_space.specs.declared.Area.{Area}
 use Rattle.vax_flat.specs.declared.Ending.{Ending}
@@ -9,7 +9,7 @@ use Rattle.vax_flat.specs.Step.{Flat, run, step, step_from}
 use Rattle.vax_sched.specs.Due.{due}
 use Rattle.vax_sched.specs.declared.rule.Rule.{Rule}
 use Rattle.vax_machine.specs.Events.{GoesOn}
-use Rattle.vax_machine.specs.Paged.{Paged, Why, all_evicted, all_named, attempted, attempted_by, marked, paged, steps_after, stop_by, stops, unless_ended}
+use Rattle.vax_machine.specs.Paged.{Paged, all_evicted, all_named, attempted, attempted_by, marked, paged, steps_after, stop_by, stops, unless_ended}
 use Rattle.vax_machine.specs.Residence.{is_resident}
 use Rattle.vax_machine.specs.Run.{Runs}
 use Rattle.vax_machine.specs.declared.event.Limits.{Limits}

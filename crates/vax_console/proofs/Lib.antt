@@ -5,3 +5,6 @@ pub mod Replying
 pub mod Requested
 pub mod Running
 pub mod Sessions
+pub mod Parting
+pub mod Spoiling
+pub mod Spending

@@ -6,13 +6,13 @@ use Rattle.vax_flat.specs.declared.Flow.TheVariants as flow
 use Rattle.vax_flat.specs.Accesses.{Leaf, Went, Found}
 use Rattle.vax_flat.specs.Outcome.{Outcome, Ends, Raised, outcome_of}
 use Rattle.vax_flat.specs.Parts.{Partway, Place, At, Within, Turn, Completes, Leaves, GoesBy, after_part, gone_back, left_by, machine_at, outcome_at, partway, turn, turn_from, units_after, units_done}
-use Rattle.vax_flat.specs.Step.{Flat, after_delivery, after_instruction, concluded, state_of, step, step_from, whole_delivery, whole_step, with_byte_sent}
-use Rattle.vax_machine.specs.Console.{with_bytes, with_register}
+use Rattle.vax_flat.specs.Step.{Flat, after_delivery, after_instruction, concluded, state_of, step_from, whole_delivery, whole_step, with_byte_sent}
+use Rattle.vax_machine.specs.Console.{with_bytes}
 use Rattle.vax_script.specs.declared.request.Request.{Request}
 use Rattle.vax_script.specs.declared.request.Request.TheVariants.{ExamineRegister, ExamineMemory, DepositRegister, DepositMemory, Next, Continue, Show}
 use Rattle.vax_script.specs.declared.request.Line.{Line}
 use Rattle.vax_script.specs.declared.request.Line.TheVariants.{Blank, Request as Asks, Malformed}
-use Rattle.vax_console.specs.Transcript.{Session, advanced, after_line, answered, left, may_deposit, session_after, step_by, stepped, with_machine}
+use Rattle.vax_console.specs.Transcript.{Session, advanced, after_line, answered, left, may_deposit, session_after, step_by, with_machine}
 
 -- a list and more behind it
 abbrev pub Further : List ℕ → List ℕ → Type 0

@@ -1,18 +1,14 @@
 -- One line, by what was done for it and what was written.
-use Rattle.std.proofs.Common.{◌≡◌, ◌≢◌, ◌<◌, ◌≤◌, ◌⊎◌, ◌+◌, ◌-◌, ℕ, zero, min, Bool, true, false, nat_lt, is_some, List, [], ◌∷◌, ◌++◌, append-nil, Option, Some, None, Result, Ok, Err, refl, sym, ap, subst, ◌∙◌, inl, inr, arith}
+use Rattle.std.proofs.Common.{◌≡◌, ℕ, List, [], ◌∷◌, ◌++◌, append-nil, Option, Result, Ok, Err, refl, sym, ap, subst, ◌∙◌, arith}
 use Rattle.vax_outside.specs.Blocks.{BlockFile}
 use Rattle.vax_outside.specs.Channels.{Channels, Grew, GrewByPrefix, append, nothing, only}
 use Rattle.vax_outside.specs.declared.traits.Chan.TheVariants.{Report}
 use Rattle.vax_outside.proofs.Growth.{append-nothing, channels_assoc, grew_more, grew_nothing, prefix_in}
-use Rattle.vax_flat.specs.declared.Ending.{Ending}
-use Rattle.vax_flat.specs.Parts.{Place, At, GoesBy, machine_at}
-use Rattle.vax_flat.specs.Step.{Flat}
+use Rattle.vax_flat.specs.Parts.{At}
 use Rattle.vax_machine.specs.Machine.{Means}
 use Rattle.vax_machine.specs.declared.engine.Engine.{Engine}
 use Rattle.vax_machine.specs.declared.event.Limits.{Limits}
-use Rattle.vax_script.specs.declared.request.Request.{Request}
 use Rattle.vax_script.specs.declared.request.Line.{Line}
-use Rattle.vax_script.specs.declared.request.Line.TheVariants.{Request as Asks}
 use Rattle.vax_console.specs.Transcript.{Session, advanced, after_line, line_reply, session_after, transcript}
 use Rattle.vax_console.specs.Ends.{Carries, Causes, Goes, IsAt, IsOnTheWay, IsOutOfTurns, IsPartOf, IsWithin, Replies, steps_in, writes}
 use Rattle.vax_console.specs.declared.stopped.Stopped.{Stopped}

@@ -1,12 +1,11 @@
 -- The requests that make no steps, by what the machine did.
-use Rattle.std.proofs.Common.{◌≡◌, ℕ, Bool, true, false, List, [], ◌∷◌, append-nil, codes, length, slice_index, Option, Some, None, Result, Ok, Err, refl, sym, ap, subst, ◌∙◌}
+use Rattle.std.proofs.Common.{◌≡◌, ℕ, Bool, true, false, List, [], ◌∷◌, append-nil, codes, length, slice_index, Option, Some, None, Result, Ok, refl, sym, ap, subst}
 use Rattle.vax_space.specs.declared.Area.{Area}
 use Rattle.vax_space.specs.declared.Access.TheVariants.{Write}
 use Rattle.vax_space.specs.Reference.{violation}
 use Rattle.vax_outside.specs.Blocks.{BlockFile}
 use Rattle.vax_outside.specs.Channels.{Channels}
 use Rattle.vax_outside.proofs.Growth.{grew_nothing}
-use Rattle.vax_flat.specs.declared.Ending.{Ending}
 use Rattle.vax_flat.specs.Outcome.{is_allowed}
 use Rattle.vax_flat.specs.Parts.{At}
 use Rattle.vax_flat.specs.Port.{layout}

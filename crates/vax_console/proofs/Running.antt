@@ -1,25 +1,25 @@
 -- The requests that make steps, by how the machine's run ended.
-use Rattle.std.proofs.Common.{◌≡◌, ◌<◌, ◌≤◌, ◌⊎◌, ◌+◌, ◌-◌, ◌||◌, ℕ, min, Bool, true, false, nat_le, nat_lt, is_some, if◌then◌else◌, List, [], ◌∷◌, ◌++◌, append_assoc, codes, Option, Some, None, Result, Ok, Err, refl, sym, ap, subst, ◌∙◌, inl, inr, arith}
+use Rattle.std.proofs.Common.{◌≡◌, ◌<◌, ◌≤◌, ◌+◌, ℕ, min, Bool, true, false, nat_le, nat_lt, is_some, List, [], ◌∷◌, ◌++◌, append_assoc, codes, Option, Some, None, Result, Ok, Err, refl, sym, ap, subst, ◌∙◌, arith}
 use Rattle.std.proofs.lemmas.Bool.Decides.{nat_tests}
 use Rattle.std.specs.Result.{IsErrAnd}
 use Rattle.vax_space.specs.declared.Area.{Area}
 use Rattle.vax_outside.specs.Blocks.{BlockFile}
 use Rattle.vax_outside.specs.Channels.{Channels, Grew, GrewByPrefix, append}
 use Rattle.vax_flat.specs.declared.Ending.{Ending}
-use Rattle.vax_flat.specs.Parts.{Partway, Place, At, Within, GoesBy, machine_at}
+use Rattle.vax_flat.specs.Parts.{Place, At, Within, GoesBy, machine_at}
 use Rattle.vax_flat.specs.Step.{Flat}
 use Rattle.vax_cpu.specs.Attempt.{open_at}
 use Rattle.vax_sched.specs.Due.{due}
 use Rattle.vax_sched.specs.declared.rule.Rule.{Rule}
-use Rattle.vax_report.specs.Lines.{ending_line, line}
+use Rattle.vax_report.specs.Lines.{line}
 use Rattle.vax_machine.specs.Console.{IsBetween, StopsBetween}
 use Rattle.vax_machine.specs.Machine.{Means, residence}
 use Rattle.vax_machine.specs.Touched.{PinsTouched}
 use Rattle.vax_pager.specs.Listing.{is_listed}
-use Rattle.vax_machine.specs.Paged.{Paged, Why, ByEnding, BySteps, ByTurns, all_evicted, paged, stop_by, stops}
+use Rattle.vax_machine.specs.Paged.{Paged, ByEnding, BySteps, ByTurns, all_evicted, paged, stop_by, stops}
 use Rattle.vax_machine.specs.Run as run_spec
 use Rattle.vax_machine.specs.Run.{IsCut, IsLost, IsWhole, Tracks, begun, origin}
-use Rattle.vax_machine.specs.Writing.{Wrote, WrotePart, lines_of, output_of}
+use Rattle.vax_machine.specs.Writing.{lines_of, output_of}
 use Rattle.vax_machine.specs.declared.engine.Engine.{Engine}
 use Rattle.vax_machine.specs.declared.event.Limits.{Limits}
 use Rattle.vax_machine.specs.declared.event.RunEnd.{RunEnd}
@@ -27,8 +27,8 @@ use Rattle.vax_machine.specs.declared.event.RunEnd.TheVariants as run_end
 use Rattle.vax_machine.proofs.Tracking.{many_evicted}
 use Rattle.vax_script.specs.declared.request.Request.TheVariants.{Next, Continue}
 use Rattle.vax_script.specs.declared.request.Line.TheVariants.{Request as Asks}
-use Rattle.vax_console.specs.Transcript.{Session, advanced, answered, at_line, last_of, left, next_line, reply, stop_line, unless_ended}
-use Rattle.vax_console.specs.Ends.{Advances, Goes, IsAt, IsOnTheWay, IsOutOfTurns, IsWithin, Replies, session_on, writes}
+use Rattle.vax_console.specs.Transcript.{Session, advanced, answered, left, next_line, reply, stop_line, unless_ended}
+use Rattle.vax_console.specs.Ends.{Advances, Goes, IsAt, IsOnTheWay, IsWithin, Replies, session_on, writes}
 use Rattle.vax_console.specs.declared.stopped.Stopped.{Stopped}
 use Rattle.vax_console.specs.declared.stopped.Stopped.TheVariants as stopped
 use Rattle.vax_console.proofs.Advancing.{Makes, advanced_ended, advanced_stays, is_below, run_makes}
@@ -52,7 +52,7 @@ unfolding is_listed
 pins_none m place b = record { touched = λ page h. let no : false ≡ true = sym (ap (is_listed page) b.unpinned) ∙ h in absurd (cc no) }
 
 -- a machine between two steps is at one
-place_between : (place : Place) → None ≡ open_at place → (x : Flat) × (place ≡ At x)
+pub place_between : (place : Place) → None ≡ open_at place → (x : Flat) × (place ≡ At x)
 place_between (At x) e = (x, refl)
 place_between (Within p) e = absurd (cc e)
 
@@ -114,13 +114,13 @@ at_as from s t m file old new e a = subst (λ (z : Session). IsAt from z [] m fi
 
 -- why it stopped
 
-by_ending : (how : Option Ending) (steps turns : Bool) (e : Ending) → stop_by how steps turns ≡ Some (ByEnding e) → how ≡ Some e
+pub by_ending : (how : Option Ending) (steps turns : Bool) (e : Ending) → stop_by how steps turns ≡ Some (ByEnding e) → how ≡ Some e
 by_ending (Some x) steps turns e h = let k : x ≡ e = cc in ap Some k
 by_ending None true turns e h = absurd (cc h)
 by_ending None false true e h = absurd (cc h)
 by_ending None false false e h = absurd (cc h)
 
-by_steps : (how : Option Ending) (steps turns : Bool) → stop_by how steps turns ≡ Some BySteps → (how ≡ None) × (steps ≡ true)
+pub by_steps : (how : Option Ending) (steps turns : Bool) → stop_by how steps turns ≡ Some BySteps → (how ≡ None) × (steps ≡ true)
 by_steps (Some x) steps turns h = absurd (cc h)
 by_steps None true turns h = (refl, refl)
 by_steps None false true h = absurd (cc h)
@@ -132,7 +132,7 @@ by_turns None true turns h = absurd (cc h)
 by_turns None false true h = (refl, refl, refl)
 by_turns None false false h = absurd (cc h)
 
-is_le : (a b : ℕ) → nat_le a b ≡ true → a ≤ b
+pub is_le : (a b : ℕ) → nat_le a b ≡ true → a ≤ b
 is_le a b h = grind (arith, nat_tests)
 
 -- what a run of so many steps comes to

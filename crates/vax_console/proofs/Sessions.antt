@@ -1,7 +1,7 @@
 -- Lines one after the other.
-use Rattle.std.proofs.Common.{◌≡◌, ◌<◌, ◌≤◌, ◌+◌, ℕ, List, [], ◌∷◌, ◌++◌, append-nil, append_assoc, map, Option, Some, None, Result, Ok, Err, refl, sym, ap, subst, ◌∙◌, arith}
+use Rattle.std.proofs.Common.{◌≡◌, ◌≤◌, ℕ, List, [], ◌∷◌, ◌++◌, append-nil, append_assoc, map, Option, Result, Ok, Err, refl, sym, ap, subst, ◌∙◌, arith}
 use Rattle.vax_outside.specs.Blocks.{BlockFile}
-use Rattle.vax_outside.specs.Channels.{Channels, Grew, GrewByPrefix, append, nothing}
+use Rattle.vax_outside.specs.Channels.{Channels, append, nothing}
 use Rattle.vax_outside.proofs.Growth.{append-nothing, grew_more, grew_nothing, prefix_in}
 use Rattle.vax_flat.specs.Parts.{Place, At}
 use Rattle.vax_flat.specs.Step.{Flat}
@@ -71,7 +71,7 @@ part_behind from s t first second m f a b c p q = record {
 
 -- lines behind lines that were carried out
 
-splits_behind : (front mid back all : List Line) → all ≡ mid ++ back → front ++ all ≡ (front ++ mid) ++ back
+pub splits_behind : (front mid back all : List Line) → all ≡ mid ++ back → front ++ all ≡ (front ++ mid) ++ back
 splits_behind front mid back all e = ap (λ (z : List Line). front ++ z) e ∙ sym (append_assoc front mid back)
 
 carried_behind : (limits : Limits) (s : Session) (front back : List Line) (m1 m2 : Engine) (f1 f2 : Option BlockFile) (a b c : Option Channels) → Carries limits s front m1 f1 a b → Carries limits (session_after limits.steps s front) back m2 f2 b c → Carries limits s (front ++ back) m2 f2 a c
@@ -138,7 +138,7 @@ then_goes r limits s front lines m1 m2 f1 f2 a b c p q =
 
 -- what stopped within some lines stopped within more
 
-steps_append : (limit : ℕ) (s : Session) (lines more : List Line) → steps_in limit s lines ≤ steps_in limit s (lines ++ more)
+pub steps_append : (limit : ℕ) (s : Session) (lines more : List Line) → steps_in limit s lines ≤ steps_in limit s (lines ++ more)
 steps_append limit s [] more = omega arith
 steps_append limit s (Blank ∷ lines) more = omega arith
 steps_append limit s (Asks r ∷ lines) more = omega arith
@@ -147,7 +147,7 @@ steps_append limit s (Malformed ∷ lines) more = omega arith
 way_further : (s : Session) (most further steps : ℕ) (place : Place) → most ≤ further → IsOnTheWay s most place steps → IsOnTheWay s further place steps
 way_further s most further steps place l w = record { count = w.count; few = let k = w.few in omega (arith, k, l); steps = w.steps; goes = w.goes }
 
-splits_further : (front back lines more : List Line) → lines ≡ front ++ back → lines ++ more ≡ front ++ (back ++ more)
+pub splits_further : (front back lines more : List Line) → lines ≡ front ++ back → lines ++ more ≡ front ++ (back ++ more)
 splits_further front back lines more e = ap (λ (z : List Line). z ++ more) e ∙ append_assoc front back more
 
 within_further : (limits : Limits) (from : Flat) (t : Session) (back more : List Line) (replies : List ℕ) (m : Engine) (f : Option BlockFile) (a b : Option Channels) → IsWithin from t (steps_in limits.steps t back) replies m f a b → IsWithin from t (steps_in limits.steps t (back ++ more)) replies m f a b

@@ -12,7 +12,8 @@ ghost use Rattle.vax_machine.specs.Console.{IsBetween};
 ghost use Rattle.vax_machine.specs.Machine.{Means};
 ghost use Rattle.vax_machine.specs.Meaning.{engine};
 ghost use Rattle.vax_script.specs.Requests.{readings};
-ghost use Rattle.vax_console.specs.Ends.{Ends, OnlyReplied, session_on};
+ghost use Rattle.vax_console.specs.Ends.{Ends, OnlyReplied, outcome_of, session_on};
+ghost use Rattle.vax_console.specs.Parts.{Spends};
 
 mod lines;
 mod requests;
@@ -49,6 +50,9 @@ pub enum SessionEnd {
 ///
 /// The session ends at the limit of turns, where a `NEXT` or `CONTINUE` has steps left, and at the first call of the page file that fails; the machine
 /// then stands where the turns that were made have led it, and its report isn't written here. After a write that failed, nothing more is written.
+///
+/// Few turns are made in vain: at most 41 for each part of the steps that were made, 40 for the part that is open where the session is cut off, and one for each
+/// eviction of a pinned page.
 pub fn session<F: PageFile, K: Sink>(
     script: &[u8],
     machine: &mut Machine,
@@ -60,6 +64,7 @@ pub fn session<F: PageFile, K: Sink>(
     requires few_turns { limits.now.turns < 2 ^ 64 - 2 }
     requires between { IsBetween (engine machine.old) }
     ensures ends { (m : Flat) → Means (engine machine.old) (F.contents file.old) (At m) → Ends result limits.now (session_on (engine machine.old) m) (readings script.now) (engine machine.new) (F.contents file.new) (K.contents sink.old) (K.contents sink.new) }
+    ensures few { (m : Flat) → Means (engine machine.old) (F.contents file.old) (At m) → Spends (outcome_of result) limits.now.steps schedule.now (session_on (engine machine.old) m) (readings script.now) (engine machine.old) (engine machine.new) (F.contents file.new) }
     ensures between { result ≡ SessionEnd.Read → IsBetween (engine machine.new) }
     ensures later { F.faults file.old ≤ F.faults file.new }
     ensures sunk { K.faults sink.old ≤ K.faults sink.new }

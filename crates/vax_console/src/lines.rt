@@ -8,6 +8,7 @@ ghost use Rattle.vax_machine.specs.Meaning.{engine};
 ghost use Rattle.vax_script.specs.Requests.{IsProper, IsProperLine, readings};
 ghost use Rattle.vax_script.specs.declared.request.Line.TheVariants as line;
 ghost use Rattle.vax_console.specs.Ends.{Causes, Goes, OnlyReplied, session_on};
+ghost use Rattle.vax_console.specs.Parts.{Spends};
 
 use crate::requests::{
     deposit_memory, deposit_register, examine_memory, examine_register, reply, show,
@@ -33,6 +34,7 @@ fn answer<F: PageFile, K: Sink>(
     requires few_turns { limits.now.turns < 2 ^ 64 - 2 }
     requires between { IsBetween (engine machine.old) }
     ensures goes { (m : Flat) → Means (engine machine.old) (F.contents file.old) (At m) → Goes result limits.now (session_on (engine machine.old) m) (line.Request request.now ∷ []) (engine machine.new) (F.contents file.new) (K.contents sink.old) (K.contents sink.new) }
+    ensures spends { (m : Flat) → Means (engine machine.old) (F.contents file.old) (At m) → Spends result limits.now.steps schedule.now (session_on (engine machine.old) m) (line.Request request.now ∷ []) (engine machine.old) (engine machine.new) (F.contents file.new) }
     ensures between { IsOk result → IsBetween (engine machine.new) }
     ensures causes { Causes result (F.faults file.old) (F.faults file.new) (K.faults sink.old) (K.faults sink.new) }
     ensures only { OnlyReplied (K.contents sink.old) (K.contents sink.new) }
@@ -67,6 +69,7 @@ fn carry_out<F: PageFile, K: Sink>(
     requires few_turns { limits.now.turns < 2 ^ 64 - 2 }
     requires between { IsBetween (engine machine.old) }
     ensures goes { (m : Flat) → Means (engine machine.old) (F.contents file.old) (At m) → Goes result limits.now (session_on (engine machine.old) m) (line.now ∷ []) (engine machine.new) (F.contents file.new) (K.contents sink.old) (K.contents sink.new) }
+    ensures spends { (m : Flat) → Means (engine machine.old) (F.contents file.old) (At m) → Spends result limits.now.steps schedule.now (session_on (engine machine.old) m) (line.now ∷ []) (engine machine.old) (engine machine.new) (F.contents file.new) }
     ensures between { IsOk result → IsBetween (engine machine.new) }
     ensures causes { Causes result (F.faults file.old) (F.faults file.new) (K.faults sink.old) (K.faults sink.new) }
     ensures only { OnlyReplied (K.contents sink.old) (K.contents sink.new) }
@@ -90,6 +93,7 @@ pub(crate) fn carry_out_all<F: PageFile, K: Sink>(
     requires few_turns { limits.now.turns < 2 ^ 64 - 2 }
     requires between { IsBetween (engine machine.old) }
     ensures goes { (m : Flat) → Means (engine machine.old) (F.contents file.old) (At m) → Goes result limits.now (session_on (engine machine.old) m) (readings script.now) (engine machine.new) (F.contents file.new) (K.contents sink.old) (K.contents sink.new) }
+    ensures spends { (m : Flat) → Means (engine machine.old) (F.contents file.old) (At m) → Spends result limits.now.steps schedule.now (session_on (engine machine.old) m) (readings script.now) (engine machine.old) (engine machine.new) (F.contents file.new) }
     ensures between { IsOk result → IsBetween (engine machine.new) }
     ensures causes { Causes result (F.faults file.old) (F.faults file.new) (K.faults sink.old) (K.faults sink.new) }
     ensures only { OnlyReplied (K.contents sink.old) (K.contents sink.new) }

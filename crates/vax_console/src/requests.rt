@@ -1,7 +1,8 @@
 //! The requests that make no steps.
-ghost use Rattle.std.specs.Prelude.{◌≡◌, ◌+◌, ◌<◌, ◌≤◌, ◌++◌, [], ◌∷◌, IsOk, length};
+ghost use Rattle.std.specs.Prelude.{◌≡◌, ◌+◌, ◌<◌, ◌≤◌, ◌++◌, List, [], ◌∷◌, IsOk, length};
 ghost use Rattle.vax_flat.specs.Parts.{At};
 ghost use Rattle.vax_flat.specs.Step.{Flat};
+ghost use Rattle.vax_sched.specs.declared.rule.Rule.{Rule};
 ghost use Rattle.vax_machine.specs.Console.{IsBetween};
 ghost use Rattle.vax_machine.specs.Machine.{Means};
 ghost use Rattle.vax_machine.specs.Meaning.{engine, units_of};
@@ -11,6 +12,7 @@ ghost use Rattle.vax_script.specs.declared.request.Request.TheVariants as reques
 ghost use Rattle.vax_script.specs.declared.request.Line.TheVariants as line;
 ghost use Rattle.vax_console.specs.Transcript.{last_of};
 ghost use Rattle.vax_console.specs.Ends.{Causes, Goes, OnlyReplied, Replies, session_on};
+ghost use Rattle.vax_console.specs.Parts.{Spends};
 
 use crate::stopped::Stopped;
 use vax_flat::Ending;
@@ -38,6 +40,7 @@ pub(crate) fn examine_register<F: PageFile, K: Sink>(
 ) -> Result<(), Stopped>
     requires { n < 16 }
     ensures goes { (m : Flat) → Means (engine machine.now) (F.contents file.now) (At m) → Goes result limits.now (session_on (engine machine.now) m) (line.Request (request.ExamineRegister n) ∷ []) (engine machine.now) (F.contents file.now) (K.contents sink.old) (K.contents sink.new) }
+    ensures spends { (rules : List Rule) → (m : Flat) → Means (engine machine.now) (F.contents file.now) (At m) → Spends result limits.now.steps rules (session_on (engine machine.now) m) (line.Request (request.ExamineRegister n) ∷ []) (engine machine.now) (engine machine.now) (F.contents file.now) }
     ensures causes { Causes result (F.faults file.now) (F.faults file.now) (K.faults sink.old) (K.faults sink.new) }
     ensures only { OnlyReplied (K.contents sink.old) (K.contents sink.new) }
 {
@@ -69,6 +72,7 @@ pub(crate) fn examine_memory<F: PageFile, K: Sink>(
     requires few { count ≤ 16 }
     requires between { IsBetween (engine machine.old) }
     ensures goes { (m : Flat) → Means (engine machine.old) (F.contents file.old) (At m) → Goes result limits.now (session_on (engine machine.old) m) (line.Request (request.ExamineMemory addr count) ∷ []) (engine machine.new) (F.contents file.new) (K.contents sink.old) (K.contents sink.new) }
+    ensures spends { (rules : List Rule) → (m : Flat) → Means (engine machine.old) (F.contents file.old) (At m) → Spends result limits.now.steps rules (session_on (engine machine.old) m) (line.Request (request.ExamineMemory addr count) ∷ []) (engine machine.old) (engine machine.new) (F.contents file.new) }
     ensures between { IsBetween (engine machine.new) }
     ensures causes { Causes result (F.faults file.old) (F.faults file.new) (K.faults sink.old) (K.faults sink.new) }
     ensures only { OnlyReplied (K.contents sink.old) (K.contents sink.new) }
@@ -93,6 +97,7 @@ pub(crate) fn deposit_register<F: PageFile, K: Sink>(
     requires number { n < 16 }
     requires between { IsBetween (engine machine.old) }
     ensures goes { (m : Flat) → Means (engine machine.old) (F.contents file.now) (At m) → Goes result limits.now (session_on (engine machine.old) m) (line.Request (request.DepositRegister n value) ∷ []) (engine machine.new) (F.contents file.now) (K.contents sink.old) (K.contents sink.new) }
+    ensures spends { (rules : List Rule) → (m : Flat) → Means (engine machine.old) (F.contents file.now) (At m) → Spends result limits.now.steps rules (session_on (engine machine.old) m) (line.Request (request.DepositRegister n value) ∷ []) (engine machine.old) (engine machine.new) (F.contents file.now) }
     ensures between { IsBetween (engine machine.new) }
     ensures causes { Causes result (F.faults file.now) (F.faults file.now) (K.faults sink.old) (K.faults sink.new) }
     ensures only { OnlyReplied (K.contents sink.old) (K.contents sink.new) }
@@ -114,6 +119,7 @@ pub(crate) fn deposit_memory<F: PageFile, K: Sink>(
     requires few { length bytes.now ≤ 64 }
     requires between { IsBetween (engine machine.old) }
     ensures goes { (m : Flat) → Means (engine machine.old) (F.contents file.old) (At m) → Goes result limits.now (session_on (engine machine.old) m) (line.Request (request.DepositMemory addr bytes.now) ∷ []) (engine machine.new) (F.contents file.new) (K.contents sink.old) (K.contents sink.new) }
+    ensures spends { (rules : List Rule) → (m : Flat) → Means (engine machine.old) (F.contents file.old) (At m) → Spends result limits.now.steps rules (session_on (engine machine.old) m) (line.Request (request.DepositMemory addr bytes.now) ∷ []) (engine machine.old) (engine machine.new) (F.contents file.new) }
     ensures between { IsBetween (engine machine.new) }
     ensures causes { Causes result (F.faults file.old) (F.faults file.new) (K.faults sink.old) (K.faults sink.new) }
     ensures only { OnlyReplied (K.contents sink.old) (K.contents sink.new) }
@@ -163,6 +169,7 @@ pub(crate) fn show<F: PageFile, K: Sink>(
 ) -> Result<(), Stopped>
     requires between { IsBetween (engine machine.now) }
     ensures goes { (m : Flat) → Means (engine machine.now) (F.contents file.now) (At m) → Goes result limits.now (session_on (engine machine.now) m) (line.Request request.Show ∷ []) (engine machine.now) (F.contents file.now) (K.contents sink.old) (K.contents sink.new) }
+    ensures spends { (rules : List Rule) → (m : Flat) → Means (engine machine.now) (F.contents file.now) (At m) → Spends result limits.now.steps rules (session_on (engine machine.now) m) (line.Request request.Show ∷ []) (engine machine.now) (engine machine.now) (F.contents file.now) }
     ensures causes { Causes result (F.faults file.now) (F.faults file.now) (K.faults sink.old) (K.faults sink.new) }
     ensures only { OnlyReplied (K.contents sink.old) (K.contents sink.new) }
 {

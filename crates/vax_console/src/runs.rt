@@ -10,6 +10,7 @@ ghost use Rattle.vax_script.specs.declared.request.Line.TheVariants as line;
 ghost use Rattle.vax_report.specs.Lines.{ending_line};
 ghost use Rattle.vax_console.specs.Transcript.{at_line, last_of, next_line};
 ghost use Rattle.vax_console.specs.Ends.{Advances, Causes, Goes, OnlyReplied, session_on};
+ghost use Rattle.vax_console.specs.Parts.{Spends, StepsSpend};
 
 use crate::requests::{last_of, reply};
 use crate::stopped::Stopped;
@@ -32,6 +33,7 @@ fn advance<F: PageFile, K: Sink>(
     requires few_turns { limits.now.turns < 2 ^ 64 - 2 }
     requires between { IsBetween (engine machine.old) }
     ensures goes { (m : Flat) → Means (engine machine.old) (F.contents file.old) (At m) → Advances result limits.now count (session_on (engine machine.old) m) (engine machine.new) (F.contents file.new) (K.contents sink.old) (K.contents sink.new) }
+    ensures spends { (m : Flat) → Means (engine machine.old) (F.contents file.old) (At m) → StepsSpend result count schedule.now (session_on (engine machine.old) m) (engine machine.old) (engine machine.new) (F.contents file.new) }
     ensures between { IsOk result → IsBetween (engine machine.new) }
     ensures causes { Causes result (F.faults file.old) (F.faults file.new) (K.faults sink.old) (K.faults sink.new) }
     ensures only { OnlyReplied (K.contents sink.old) (K.contents sink.new) }
@@ -104,6 +106,7 @@ pub(crate) fn next<F: PageFile, K: Sink>(
     requires few_turns { limits.now.turns < 2 ^ 64 - 2 }
     requires between { IsBetween (engine machine.old) }
     ensures goes { (m : Flat) → Means (engine machine.old) (F.contents file.old) (At m) → Goes result limits.now (session_on (engine machine.old) m) (line.Request (request.Next count) ∷ []) (engine machine.new) (F.contents file.new) (K.contents sink.old) (K.contents sink.new) }
+    ensures spends { (m : Flat) → Means (engine machine.old) (F.contents file.old) (At m) → Spends result limits.now.steps schedule.now (session_on (engine machine.old) m) (line.Request (request.Next count) ∷ []) (engine machine.old) (engine machine.new) (F.contents file.new) }
     ensures between { IsOk result → IsBetween (engine machine.new) }
     ensures causes { Causes result (F.faults file.old) (F.faults file.new) (K.faults sink.old) (K.faults sink.new) }
     ensures only { OnlyReplied (K.contents sink.old) (K.contents sink.new) }
@@ -128,6 +131,7 @@ pub(crate) fn proceed<F: PageFile, K: Sink>(
     requires few_turns { limits.now.turns < 2 ^ 64 - 2 }
     requires between { IsBetween (engine machine.old) }
     ensures goes { (m : Flat) → Means (engine machine.old) (F.contents file.old) (At m) → Goes result limits.now (session_on (engine machine.old) m) (line.Request request.Continue ∷ []) (engine machine.new) (F.contents file.new) (K.contents sink.old) (K.contents sink.new) }
+    ensures spends { (m : Flat) → Means (engine machine.old) (F.contents file.old) (At m) → Spends result limits.now.steps schedule.now (session_on (engine machine.old) m) (line.Request request.Continue ∷ []) (engine machine.old) (engine machine.new) (F.contents file.new) }
     ensures between { IsOk result → IsBetween (engine machine.new) }
     ensures causes { Causes result (F.faults file.old) (F.faults file.new) (K.faults sink.old) (K.faults sink.new) }
     ensures only { OnlyReplied (K.contents sink.old) (K.contents sink.new) }

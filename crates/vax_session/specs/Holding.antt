@@ -17,7 +17,7 @@ use Rattle.vax_session.specs.SessionWent.{SessionWent}
 pub record IsSession (failed : Type 0) (told : Option BlockFile) (program : Loaded) (input schedule script : Text) (options : Options) (status : Status) (grown : Channels) : Type 0 where
   pub rules : List Rule
   pub planned : Denotes (start_areas program.system program.user) schedule rules
-  pub went : SessionWent failed told options.steps (Start program.system program.user input) (readings script) status grown
+  pub went : SessionWent failed told options.steps options.turns rules (Start program.system program.user input) (readings script) status grown
 
 abbrev pub HeldSo : Type 0 → Type 0 → Option BlockFile → Loaded → Text → Text → Text → Options → Status → Channels → Type 0
 HeldSo kept failed told program input schedule script options status grown =

@@ -38,7 +38,7 @@ fn hold<K: Sink, F: PageFile>(
     requires few_turns { limits.now.turns < 2 ^ 64 - 2 }
     requires between { IsBetween (engine machine) }
     ensures went { (frames : ℕ) → (m : Flat) → IsFresh (engine machine) frames m → (meant : Status) × (grown : Channels)
-        × SessionWent (Rose (F.faults pages.old) (F.faults pages.new)) (F.contents pages.old) limits.now.steps m (readings script.now) meant grown
+        × SessionWent (Rose (F.faults pages.old) (F.faults pages.new)) (F.contents pages.old) limits.now.steps limits.now.turns schedule.now m (readings script.now) meant grown
         × Ends (K.faults sink.old) (K.faults sink.new) (K.contents sink.old) (K.contents sink.new) meant grown result }
     ensures failed { F.faults pages.new ≢ F.faults pages.old → (result ≡ Status.PageFault) ⊎ (result ≡ Status.WriteFault) }
 {
@@ -54,7 +54,8 @@ fn hold<K: Sink, F: PageFile>(
 /// Holds a session on programs with their input under a schedule, as a script says and as far as the options let them go.
 ///
 /// A schedule with a fault is refused before any call of the page file. The session writes the replies to Report and what the program sends to Out;
-/// where it breaks off, at the limit of turns or a failed call of the page file, the report of the machine's state comes behind.
+/// where it breaks off, at the limit of turns or a failed call of the page file, the report of the machine's state comes behind. Where no rule makes
+/// pages absent, the limit of turns breaks it off only if it is few for the parts of the steps that were made.
 pub fn hold_session<K: Sink, F: PageFile>(
     alloc: Global,
     programs: &Programs,

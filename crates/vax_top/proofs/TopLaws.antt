@@ -236,15 +236,15 @@ module _ (rose failed : Type 0) (contents : Option Directory) (names : List Text
   does_allowed kept outside loaded input schedule options status (inl r) = refused_allowed loaded status r.refused r.wrote
   does_allowed kept outside loaded input schedule options status (inr d) = runs_allowed kept outside d.0 input schedule options status d.2
 
-  session_allowed : (told : Option BlockFile) (limit : ℕ) (start : Flat) (lines : List Line) (status : Status) → SessionWent failed told limit start lines status grown → Allowed rose failed contents names grown status
-  session_allowed None limit start lines status h = run_allowed status h
-  session_allowed (Some file) limit start lines status (inl w) = subst (Allowed rose failed contents names grown) (sym w.answer) tt
-  session_allowed (Some file) limit start lines status (inr (inl w)) = subst (Allowed rose failed contents names grown) (sym w.answer) tt
-  session_allowed (Some file) limit start lines status (inr (inr w)) = subst (Allowed rose failed contents names grown) (sym w.1.answer) w.0
+  session_allowed : (told : Option BlockFile) (limit turns : ℕ) (rules : List Rule) (start : Flat) (lines : List Line) (status : Status) → SessionWent failed told limit turns rules start lines status grown → Allowed rose failed contents names grown status
+  session_allowed None limit turns rules start lines status h = run_allowed status h
+  session_allowed (Some file) limit turns rules start lines status (inl w) = subst (Allowed rose failed contents names grown) (sym w.answer) tt
+  session_allowed (Some file) limit turns rules start lines status (inr (inl w)) = subst (Allowed rose failed contents names grown) (sym w.answer) tt
+  session_allowed (Some file) limit turns rules start lines status (inr (inr w)) = subst (Allowed rose failed contents names grown) (sym w.1.answer) w.0
 
   held_allowed : (kept : Type 0) (told : Option BlockFile) (program : Loaded) (texts : Texts) (options : Options) (status : Status) → HeldSo kept failed told program texts.input texts.schedule texts.script options status grown → Allowed rose failed contents names grown status
   held_allowed kept told program texts options status (inl m) = planned_allowed _ texts.schedule status m.fault m.wrote
-  held_allowed kept told program texts options status (inr r) = session_allowed told _ _ _ status r.went
+  held_allowed kept told program texts options status (inr r) = session_allowed told _ _ _ _ _ status r.went
 
   console_allowed : (kept : Type 0) (outside : Outside) (loaded : Result Loaded Refusal) (texts : Texts) (options : Options) (status : Status) → SessionDoes kept failed outside loaded texts options status grown → Allowed rose failed contents names grown status
   console_allowed kept outside loaded texts options status (inl r) = refused_allowed loaded status r.refused r.wrote

@@ -1,8 +1,8 @@
-use Rattle.std.proofs.Common.{◌≡◌, ◌∙◌, ◌++◌, ◌∷◌, [], List, ℕ, Option, ap, refl, sym, subst, true, false, length, slice_index}
-use Rattle.vax_script.specs.declared.request.Line.{Line}
-use Rattle.vax_script.specs.declared.request.Line.TheVariants as line
-use Rattle.vax_console.specs.Ends.{Goes, session_on}
+use Rattle.std.proofs.Common.{refl}
 use Rattle.vax_machine.specs.Meaning.{engine}
+use Rattle.vax_script.specs.declared.request.Line.TheVariants as line
+use Rattle.vax_console.specs.Ends.{session_on}
+use Rattle.vax_console.proofs.Spending.{line_spends, none_same, simple_spends}
 use Rattle.vax_console.proofs.Only.{reply_only}
 use Rattle.vax_console.proofs.Requested.{blank_goes, malformed_goes}
 use Rattle.vax_console.proofs.lines.carry_out.Goals as goal
@@ -15,3 +15,9 @@ returns-in-Malformed-clause-goes g c m means = rw c.in-Malformed.is (malformed_g
 
 pub returns-in-Malformed-clause-only : goal.returns-in-Malformed-clause-only
 returns-in-Malformed-clause-only g c = reply_only _ _ _ _ _ _ c.reply.ensures
+
+pub returns-in-Blank-clause-spends : goal.returns-in-Blank-clause-spends
+returns-in-Blank-clause-spends g c m means = rw c.in-Blank.is (line_spends c.args.limits.now.steps c.args.schedule.now (session_on (engine c.args.machine.now) m) line.Blank (engine c.args.machine.now) (engine c.args.machine.now) refl (none_same (engine c.args.machine.now)))
+
+pub returns-in-Malformed-clause-spends : goal.returns-in-Malformed-clause-spends
+returns-in-Malformed-clause-spends g c m means = rw c.in-Malformed.is (simple_spends c.reply.result c.args.limits.now.steps c.args.schedule.now (session_on (engine c.args.machine.now) m) line.Malformed (engine c.args.machine.now) (engine c.args.machine.now) (g.F.PageFile.contents c.args.file.now) (g.K.Sink.faults c.args.sink.now) (g.K.Sink.faults c.reply.new.sink) (g.K.Sink.contents c.args.sink.now) (g.K.Sink.contents c.reply.new.sink) _ refl (none_same (engine c.args.machine.now)) c.reply.ensures)

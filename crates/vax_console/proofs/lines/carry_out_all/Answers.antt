@@ -1,16 +1,14 @@
-use Rattle.std.proofs.Common.{◌≡◌, ◌<◌, ◌+◌, ◌-◌, ◌∙◌, ◌++◌, ◌∷◌, [], List, ℕ, Bool, Option, Result, Ok, Err, Some, ap, refl, sym, subst, arith, append_assoc, true, false, length, min, nat_lt, slice_index, is_some}
-use Rattle.vax_flat.specs.Parts.{At}
-use Rattle.vax_flat.specs.Step.{Flat}
-use Rattle.vax_machine.specs.Machine.{Means}
+use Rattle.std.proofs.Common.{◌≡◌, ◌∙◌, ◌++◌, ◌∷◌, [], List, Result, Ok, Err, refl, sym, subst}
 use Rattle.vax_machine.specs.Meaning.{engine}
-use Rattle.vax_script.specs.Lines.{Text, lines}
-use Rattle.vax_script.specs.Requests.{line_of, readings}
+use Rattle.vax_script.specs.Requests.{readings}
 use Rattle.vax_script.specs.declared.request.Line.{Line}
-use Rattle.vax_console.specs.Ends.{Carries, Goes, session_on}
+use Rattle.vax_console.specs.Ends.{Goes, session_on}
+use Rattle.vax_console.specs.Parts.{Spends}
 use Rattle.vax_console.specs.declared.stopped.Stopped.{Stopped}
 use Rattle.vax_console.proofs.Only.{only_none, only_then}
 use Rattle.vax_console.proofs.Running.{err_same}
 use Rattle.vax_console.proofs.Sessions.{none_carried, one_read, stopped_further, then_goes}
+use Rattle.vax_console.proofs.Spending.{none_spent, spends_further, then_spends}
 use Rattle.vax_console.proofs.lines.carry_out_all.Goals as goal
 
 pub loop-line-init : goal.loop-line-init
@@ -19,7 +17,7 @@ loop-line-init g c = record {
   sunk = refl;
   between = c.requires.between;
   only = only_none (g.K.Sink.contents c.args.sink.now);
-  carried = ([], refl, λ m means. none_carried c.args.limits.now (session_on (engine c.args.machine.now) m) (engine c.args.machine.now) (g.F.PageFile.contents c.args.file.now) (g.K.Sink.contents c.args.sink.now) refl means);
+  carried = ([], refl, λ m means. (none_carried c.args.limits.now (session_on (engine c.args.machine.now) m) (engine c.args.machine.now) (g.F.PageFile.contents c.args.file.now) (g.K.Sink.contents c.args.sink.now) refl means, none_spent c.args.limits.now.steps c.args.schedule.now (session_on (engine c.args.machine.now) m) (engine c.args.machine.now)));
 }
 
 pub returns-in_err-carry_out-clause-goes : goal.returns-in_err-carry_out-clause-goes
@@ -27,7 +25,7 @@ returns-in_err-carry_out-clause-goes g c m means =
     let before = c.loop-line.invariant.carried in
     let e = c.in_err-carry_out.field-0.0 in
     let split : readings c.args.script.now ≡ (before.0 ++ c.read_line.result ∷ []) ++ readings c.in-Some.behind.now = one_read c.args.script.now c.loop-line.rest.now c.in-Some.line.now c.in-Some.behind.now before.0 c.read_line.result before.1 c.in-Some.ensures.lines c.read_line.ensures.says in
-    let here = then_goes (Err e) c.args.limits.now (session_on (engine c.args.machine.now) m) before.0 (c.read_line.result ∷ []) (engine c.loop-line.machine) (engine c.carry_out.new.machine) (g.F.PageFile.contents c.loop-line.file) (g.F.PageFile.contents c.carry_out.new.file) (g.K.Sink.contents c.args.sink.now) (g.K.Sink.contents c.loop-line.sink) (g.K.Sink.contents c.carry_out.new.sink) (before.2 m means) c.in_err-carry_out.ensures.goes in
+    let here = then_goes (Err e) c.args.limits.now (session_on (engine c.args.machine.now) m) before.0 (c.read_line.result ∷ []) (engine c.loop-line.machine) (engine c.carry_out.new.machine) (g.F.PageFile.contents c.loop-line.file) (g.F.PageFile.contents c.carry_out.new.file) (g.K.Sink.contents c.args.sink.now) (g.K.Sink.contents c.loop-line.sink) (g.K.Sink.contents c.carry_out.new.sink) (before.2 m means).0 c.in_err-carry_out.ensures.goes in
     let all = stopped_further e c.args.limits.now (session_on (engine c.args.machine.now) m) (before.0 ++ c.read_line.result ∷ []) (readings c.in-Some.behind.now) (engine c.carry_out.new.machine) (g.F.PageFile.contents c.carry_out.new.file) (g.K.Sink.contents c.args.sink.now) (g.K.Sink.contents c.carry_out.new.sink) here in
     subst (λ (z : Result (Unit {0}) Stopped). Goes z c.args.limits.now (session_on (engine c.args.machine.now) m) (readings c.args.script.now) (engine c.carry_out.new.machine) (g.F.PageFile.contents c.carry_out.new.file) (g.K.Sink.contents c.args.sink.now) (g.K.Sink.contents c.carry_out.new.sink)) (sym (err_same c.from_residual.result e c.from_residual.ensures.1))
     (subst (λ (z : List Line). Goes (Err e) c.args.limits.now (session_on (engine c.args.machine.now) m) z (engine c.carry_out.new.machine) (g.F.PageFile.contents c.carry_out.new.file) (g.K.Sink.contents c.args.sink.now) (g.K.Sink.contents c.carry_out.new.sink)) (sym split) all)
@@ -47,7 +45,19 @@ loop-line-preserved g c =
       carried = (
         before.0 ++ c.read_line.result ∷ [],
         split,
-        λ m means.
-            then_goes (Ok tt) c.args.limits.now (session_on (engine c.args.machine.now) m) before.0 (c.read_line.result ∷ []) (engine c.loop-line.machine) (engine c.carry_out.new.machine) (g.F.PageFile.contents c.loop-line.file) (g.F.PageFile.contents c.carry_out.new.file) (g.K.Sink.contents c.args.sink.now) (g.K.Sink.contents c.loop-line.sink) (g.K.Sink.contents c.carry_out.new.sink) (before.2 m means) c.in_ok-carry_out.ensures.goes,
+        λ m means. (
+          then_goes (Ok tt) c.args.limits.now (session_on (engine c.args.machine.now) m) before.0 (c.read_line.result ∷ []) (engine c.loop-line.machine) (engine c.carry_out.new.machine) (g.F.PageFile.contents c.loop-line.file) (g.F.PageFile.contents c.carry_out.new.file) (g.K.Sink.contents c.args.sink.now) (g.K.Sink.contents c.loop-line.sink) (g.K.Sink.contents c.carry_out.new.sink) (before.2 m means).0 c.in_ok-carry_out.ensures.goes,
+          then_spends (Ok tt) c.args.limits.now.steps c.args.schedule.now (session_on (engine c.args.machine.now) m) before.0 (c.read_line.result ∷ []) (engine c.args.machine.now) (engine c.loop-line.machine) (engine c.carry_out.new.machine) (g.F.PageFile.contents c.loop-line.file) (g.F.PageFile.contents c.carry_out.new.file) (before.2 m means).0.steps (before.2 m means).0.means (before.2 m means).1 c.in_ok-carry_out.ensures.spends,
+        ),
       );
     }
+
+pub returns-in_err-carry_out-clause-spends : goal.returns-in_err-carry_out-clause-spends
+returns-in_err-carry_out-clause-spends g c m means =
+    let before = c.loop-line.invariant.carried in
+    let e = c.in_err-carry_out.field-0.0 in
+    let split : readings c.args.script.now ≡ (before.0 ++ c.read_line.result ∷ []) ++ readings c.in-Some.behind.now = one_read c.args.script.now c.loop-line.rest.now c.in-Some.line.now c.in-Some.behind.now before.0 c.read_line.result before.1 c.in-Some.ensures.lines c.read_line.ensures.says in
+    let here = then_spends (Err e) c.args.limits.now.steps c.args.schedule.now (session_on (engine c.args.machine.now) m) before.0 (c.read_line.result ∷ []) (engine c.args.machine.now) (engine c.loop-line.machine) (engine c.carry_out.new.machine) (g.F.PageFile.contents c.loop-line.file) (g.F.PageFile.contents c.carry_out.new.file) (before.2 m means).0.steps (before.2 m means).0.means (before.2 m means).1 c.in_err-carry_out.ensures.spends in
+    let all = spends_further e c.args.limits.now.steps c.args.schedule.now (session_on (engine c.args.machine.now) m) (before.0 ++ c.read_line.result ∷ []) (readings c.in-Some.behind.now) (engine c.args.machine.now) (engine c.carry_out.new.machine) (g.F.PageFile.contents c.carry_out.new.file) here in
+    subst (λ (z : Result (Unit {0}) Stopped). Spends z c.args.limits.now.steps c.args.schedule.now (session_on (engine c.args.machine.now) m) (readings c.args.script.now) (engine c.args.machine.now) (engine c.carry_out.new.machine) (g.F.PageFile.contents c.carry_out.new.file)) (sym (err_same c.from_residual.result e c.from_residual.ensures.1))
+    (subst (λ (z : List Line). Spends {T = Unit {0}} (Err e) c.args.limits.now.steps c.args.schedule.now (session_on (engine c.args.machine.now) m) z (engine c.args.machine.now) (engine c.carry_out.new.machine) (g.F.PageFile.contents c.carry_out.new.file)) (sym split) all)

@@ -1,4 +1,4 @@
-use Rattle.std.proofs.Common.{◌≡◌, ◌<◌, ◌+◌, ◌-◌, ◌∙◌, ◌++◌, ◌∷◌, [], List, ℕ, Bool, Option, Result, Ok, Err, Some, ap, refl, sym, subst, arith, append_assoc, true, false, length, min, nat_lt, slice_index, is_some}
+use Rattle.std.proofs.Common.{◌≡◌, ◌∙◌, List, ℕ, Option, ap, refl}
 use Rattle.std.proofs.lemmas.List.{length-take-le}
 use Rattle.vax_report.specs.Lines.{memory_line}
 use Rattle.vax_flat.specs.Parts.{At}
@@ -8,6 +8,7 @@ use Rattle.vax_machine.specs.Meaning.{engine}
 use Rattle.vax_script.specs.declared.request.Request.TheVariants.{ExamineMemory}
 use Rattle.vax_script.specs.declared.request.Line.TheVariants.{Request as Asks}
 use Rattle.vax_console.specs.Ends.{session_on}
+use Rattle.vax_console.proofs.Spending.{cut_spends, none_kept, simple_spends}
 use Rattle.vax_console.proofs.Only.{reply_only}
 use Rattle.vax_console.proofs.Replying.{line_cut, replies_as}
 use Rattle.vax_console.proofs.Requested.{memory_goes}
@@ -27,3 +28,11 @@ pub returns-in-Err-clause-goes : goal.returns-in-Err-clause-goes
 returns-in-Err-clause-goes g c m means =
     line_cut c.args.limits.now (session_on (engine c.args.machine.now) m) (Asks (ExamineMemory c.args.addr c.args.count)) (engine c.dump.new.self) (g.F.PageFile.contents c.dump.new.file) (g.K.Sink.contents c.args.sink.now)
     (ap (λ (z : Keeping). z.steps) c.dump.ensures.keeps) (c.dump.ensures.means (At m) means)
+
+pub returns-in-Ok-clause-spends : goal.returns-in-Ok-clause-spends
+returns-in-Ok-clause-spends g c rules m means =
+    simple_spends c.reply_memory.result c.args.limits.now.steps rules (session_on (engine c.args.machine.now) m) (Asks (ExamineMemory c.args.addr c.args.count)) (engine c.args.machine.now) (engine c.dump.new.self) (g.F.PageFile.contents c.dump.new.file) (g.K.Sink.faults c.args.sink.now) (g.K.Sink.faults c.reply_memory.new.sink) (g.K.Sink.contents c.args.sink.now) (g.K.Sink.contents c.reply_memory.new.sink) _ refl (none_kept (engine c.args.machine.now) (engine c.dump.new.self) c.dump.ensures.keeps) c.reply_memory.ensures
+
+pub returns-in-Err-clause-spends : goal.returns-in-Err-clause-spends
+returns-in-Err-clause-spends g c rules m means =
+    cut_spends c.args.limits.now.steps rules (session_on (engine c.args.machine.now) m) (Asks (ExamineMemory c.args.addr c.args.count)) (engine c.args.machine.now) (engine c.dump.new.self) (g.F.PageFile.contents c.dump.new.file) refl (c.dump.ensures.means (At m) means) (none_kept (engine c.args.machine.now) (engine c.dump.new.self) c.dump.ensures.keeps)

@@ -1,7 +1,11 @@
-use Rattle.std.proofs.Common.{◌≡◌, ◌∙◌, ◌++◌, ◌∷◌, [], List, ℕ, ap, refl, sym, subst, true, false, length, slice_index}
+use Rattle.std.proofs.Common.{◌≡◌, ◌∙◌, ◌++◌, List, ℕ, ap, refl, slice_index}
 use Rattle.vax_report.specs.Lines.{register_line}
 use Rattle.vax_word.specs.declared.Core.{Core}
 use Rattle.vax_machine.specs.Meaning.{engine}
+use Rattle.vax_console.specs.Ends.{session_on}
+use Rattle.vax_script.specs.declared.request.Request.TheVariants.{ExamineRegister}
+use Rattle.vax_script.specs.declared.request.Line.TheVariants.{Request as Asks}
+use Rattle.vax_console.proofs.Spending.{none_same, simple_spends}
 use Rattle.vax_console.proofs.Only.{reply_only}
 use Rattle.vax_console.proofs.Replying.{replies_as}
 use Rattle.vax_console.proofs.Requested.{register_goes}
@@ -16,3 +20,7 @@ returns-clause-goes g c m means =
 
 pub returns-clause-only : goal.returns-clause-only
 returns-clause-only g c = reply_only _ _ _ _ _ _ c.reply.ensures
+
+pub returns-clause-spends : goal.returns-clause-spends
+returns-clause-spends g c rules m means =
+    simple_spends c.reply.result c.args.limits.now.steps rules (session_on (engine c.args.machine.now) m) (Asks (ExamineRegister c.args.n)) (engine c.args.machine.now) (engine c.args.machine.now) (g.F.PageFile.contents c.args.file.now) (g.K.Sink.faults c.args.sink.now) (g.K.Sink.faults c.reply.new.sink) (g.K.Sink.contents c.args.sink.now) (g.K.Sink.contents c.reply.new.sink) c.as_slice.result.now refl (none_same (engine c.args.machine.now)) c.reply.ensures

@@ -1,10 +1,13 @@
-use Rattle.std.proofs.Common.{◌≡◌, ◌∙◌, ◌++◌, ◌∷◌, [], List, ℕ, Option, ap, refl, sym, subst, true, false, length, slice_index}
+use Rattle.std.proofs.Common.{◌≡◌, ◌∙◌, [], Option, ap, refl}
 use Rattle.vax_cpu.specs.declared.cpu.Open.{Open}
-use Rattle.vax_flat.specs.declared.Ending.{Ending}
 use Rattle.vax_report.specs.Report.{report}
 use Rattle.vax_report.specs.declared.Last.{Last}
 use Rattle.vax_machine.specs.Meaning.{engine, units_of}
 use Rattle.vax_console.specs.Transcript.{last_of}
+use Rattle.vax_console.specs.Ends.{session_on}
+use Rattle.vax_script.specs.declared.request.Request.TheVariants.{Show}
+use Rattle.vax_script.specs.declared.request.Line.TheVariants.{Request as Asks}
+use Rattle.vax_console.proofs.Spending.{none_same, simple_spends}
 use Rattle.vax_console.proofs.Only.{reply_only}
 use Rattle.vax_console.proofs.Replying.{replies_as}
 use Rattle.vax_console.proofs.Requested.{show_goes}
@@ -21,3 +24,7 @@ returns-clause-goes g c m means =
 
 pub returns-clause-only : goal.returns-clause-only
 returns-clause-only g c = reply_only _ _ _ _ _ _ c.report.ensures
+
+pub returns-clause-spends : goal.returns-clause-spends
+returns-clause-spends g c rules m means =
+    simple_spends c.report.result c.args.limits.now.steps rules (session_on (engine c.args.machine.now) m) (Asks Show) (engine c.args.machine.now) (engine c.args.machine.now) (g.F.PageFile.contents c.args.file.now) (g.K.Sink.faults c.args.sink.now) (g.K.Sink.faults c.report.new.sink) (g.K.Sink.contents c.args.sink.now) (g.K.Sink.contents c.report.new.sink) _ refl (none_same (engine c.args.machine.now)) c.report.ensures

@@ -2,6 +2,7 @@ use Rattle.vax_flat.specs.Parts.{At}
 use Rattle.vax_machine.specs.Machine.{keeping}
 use Rattle.vax_machine.specs.Meaning.{engine}
 use Rattle.vax_machine.specs.declared.event.RunEnd.TheVariants as run_end
+use Rattle.vax_console.proofs.Spending.{steps_spend_from}
 use Rattle.vax_console.proofs.Only.{run_only}
 use Rattle.vax_console.proofs.Running.{advances_from, pins_none}
 use Rattle.vax_console.proofs.runs.advance.Goals as goal
@@ -45,3 +46,23 @@ returns-in-WriteFault-clause-goes g c m means =
 
 pub returns-in-WriteFault-clause-only : goal.returns-in-WriteFault-clause-only
 returns-in-WriteFault-clause-only g c = run_only _ _ c.run.ensures.only
+
+pub returns-in-Ended-clause-spends : goal.returns-in-Ended-clause-spends
+returns-in-Ended-clause-spends g c m means =
+    steps_spend_from (run_end.Ended c.in-Ended.ending) c.args.limits.now c.args.count c.steps.result (keeping (engine c.args.machine.now)).areas c.args.schedule.now m (engine c.args.machine.now) (engine c.run.new.self) (g.F.PageFile.contents c.args.file.now) (g.F.PageFile.contents c.run.new.file) (g.K.Sink.contents c.args.sink.now) (g.K.Sink.contents c.run.new.sink) c.steps.ensures (λ t. c.in-Ended.ensures.between t c.requires.between)
+    (c.in-Ended.ensures.ends (At m) means (pins_none (engine c.args.machine.now) (At m) c.requires.between))
+
+pub returns-in-Steps-clause-spends : goal.returns-in-Steps-clause-spends
+returns-in-Steps-clause-spends g c m means =
+    steps_spend_from run_end.Steps c.args.limits.now c.args.count c.steps.result (keeping (engine c.args.machine.now)).areas c.args.schedule.now m (engine c.args.machine.now) (engine c.run.new.self) (g.F.PageFile.contents c.args.file.now) (g.F.PageFile.contents c.run.new.file) (g.K.Sink.contents c.args.sink.now) (g.K.Sink.contents c.run.new.sink) c.steps.ensures (λ t. c.in-Steps.ensures.between t c.requires.between)
+    (c.in-Steps.ensures.ends (At m) means (pins_none (engine c.args.machine.now) (At m) c.requires.between))
+
+pub returns-in-Turns-clause-spends : goal.returns-in-Turns-clause-spends
+returns-in-Turns-clause-spends g c m means =
+    steps_spend_from run_end.Turns c.args.limits.now c.args.count c.steps.result (keeping (engine c.args.machine.now)).areas c.args.schedule.now m (engine c.args.machine.now) (engine c.run.new.self) (g.F.PageFile.contents c.args.file.now) (g.F.PageFile.contents c.run.new.file) (g.K.Sink.contents c.args.sink.now) (g.K.Sink.contents c.run.new.sink) c.steps.ensures (λ t. c.in-Turns.ensures.between t c.requires.between)
+    (c.in-Turns.ensures.ends (At m) means (pins_none (engine c.args.machine.now) (At m) c.requires.between))
+
+pub returns-in-PageFault-clause-spends : goal.returns-in-PageFault-clause-spends
+returns-in-PageFault-clause-spends g c m means =
+    steps_spend_from run_end.PageFault c.args.limits.now c.args.count c.steps.result (keeping (engine c.args.machine.now)).areas c.args.schedule.now m (engine c.args.machine.now) (engine c.run.new.self) (g.F.PageFile.contents c.args.file.now) (g.F.PageFile.contents c.run.new.file) (g.K.Sink.contents c.args.sink.now) (g.K.Sink.contents c.run.new.sink) c.steps.ensures (λ t. c.in-PageFault.ensures.between t c.requires.between)
+    (c.in-PageFault.ensures.ends (At m) means (pins_none (engine c.args.machine.now) (At m) c.requires.between))

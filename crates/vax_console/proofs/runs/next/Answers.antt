@@ -1,14 +1,12 @@
-use Rattle.std.proofs.Common.{◌≡◌, ◌<◌, ◌+◌, ◌-◌, ◌∙◌, ◌++◌, ◌∷◌, [], List, ℕ, Bool, Option, Result, Ok, Err, Some, None, ap, refl, sym, subst, arith, append_assoc, true, false, length, min, nat_lt, slice_index, is_some}
-use Rattle.vax_flat.specs.declared.Ending.{Ending}
-use Rattle.vax_flat.specs.Parts.{At}
-use Rattle.vax_flat.specs.Step.{Flat}
-use Rattle.vax_report.specs.Lines.{ending_line}
+use Rattle.std.proofs.Common.{◌≡◌, ◌∙◌, ◌∷◌, [], ℕ, Result, Err, Some, None, ap, sym, subst, arith, min, nat_lt}
 use Rattle.vax_machine.specs.Meaning.{engine}
 use Rattle.vax_script.specs.declared.request.Request.TheVariants.{Next}
 use Rattle.vax_script.specs.declared.request.Line.TheVariants.{Request as Asks}
 use Rattle.vax_console.specs.Ends.{Advances, Goes, IsAt, session_on}
-use Rattle.vax_console.specs.Transcript.{Session, advanced, last_of, left, next_line, stop_line}
+use Rattle.vax_console.specs.Transcript.{Session, advanced, left, next_line}
 use Rattle.vax_console.specs.declared.stopped.Stopped.{Stopped}
+use Rattle.vax_console.specs.Parts.{Spends}
+use Rattle.vax_console.proofs.Spending.{ended_spends, run_spends, stopped_spends}
 use Rattle.vax_console.proofs.Only.{only_then, reply_only}
 use Rattle.vax_console.proofs.Requested.{same_core, same_ending}
 use Rattle.vax_console.proofs.Running.{err_same, none_of, next_goes, some_of, next_refused, next_stopped}
@@ -53,3 +51,24 @@ returns-clause-goes g c m means =
     let text : c.as_slice.result.now ≡ next_line (nat_lt (left c.args.limits.now.steps s) c.args.count) t =
     c.as_slice.ensures ∙ (said ∙ (ap (λ (n : ℕ). next_line (nat_lt n c.args.count) (session_on (engine c.advance.new.machine) t.machine)) c.steps_left-left.ensures.left ∙ ap (λ (z : Session). next_line (nat_lt (left c.args.limits.now.steps s) c.args.count) z) same)) in
     next_goes c.reply-2.result c.args.limits.now s c.args.count c.as_slice.result.now (engine c.advance.new.machine) (g.F.PageFile.contents c.advance.new.file) (g.K.Sink.faults c.advance.new.sink) (g.K.Sink.faults c.reply-2.new.sink) (g.K.Sink.contents c.args.sink.now) (g.K.Sink.contents c.advance.new.sink) (g.K.Sink.contents c.reply-2.new.sink) going a.1 (sym text) c.reply-2.ensures
+
+pub returns-then-is_some-clause-spends : goal.returns-then-is_some-clause-spends
+returns-then-is_some-clause-spends g c m means =
+    let s = session_on (engine c.args.machine.now) m in
+    let how = some_of c.ended.result (sym c.is_some.ensures ∙ c.if-is_some.true) in
+    let ended : m.ending ≡ Some how.0 = same_ending (engine c.args.machine.now) (g.F.PageFile.contents c.args.file.now) m means ∙ (sym c.ended.ensures ∙ how.1) in
+    ended_spends c.reply.result c.args.limits.now.steps c.args.schedule.now s (Asks (Next c.args.count)) how.0 (engine c.args.machine.now) (g.F.PageFile.contents c.args.file.now) (g.K.Sink.faults c.args.sink.now) (g.K.Sink.faults c.reply.new.sink) (g.K.Sink.contents c.args.sink.now) (g.K.Sink.contents c.reply.new.sink) _ ended c.reply.ensures
+
+pub returns-in_err-ended-clause-spends : goal.returns-in_err-ended-clause-spends
+returns-in_err-ended-clause-spends g c m means =
+    let s = session_on (engine c.args.machine.now) m in
+    let e = c.in_err-ended.field-0.0 in
+    let count : c.min.result ≡ min c.args.count (left c.args.limits.now.steps s) = c.min.ensures ∙ ap (λ (n : ℕ). min c.args.count n) c.steps_left-left.ensures.left in
+    subst (λ (z : Result (Unit {0}) Stopped). Spends z c.args.limits.now.steps c.args.schedule.now s (Asks (Next c.args.count) ∷ []) (engine c.args.machine.now) (engine c.advance.new.machine) (g.F.PageFile.contents c.advance.new.file)) (sym (err_same c.from_residual.result e c.from_residual.ensures.1))
+    (stopped_spends e c.args.limits.now.steps c.args.schedule.now s (Asks (Next c.args.count)) c.min.result (engine c.args.machine.now) (engine c.advance.new.machine) (g.F.PageFile.contents c.advance.new.file) (sym count) (c.in_err-ended.ensures.spends m means))
+
+pub returns-clause-spends : goal.returns-clause-spends
+returns-clause-spends g c m means =
+    let s = session_on (engine c.args.machine.now) m in
+    let count : c.min.result ≡ min c.args.count (left c.args.limits.now.steps s) = c.min.ensures ∙ ap (λ (n : ℕ). min c.args.count n) c.steps_left-left.ensures.left in
+    run_spends c.reply-2.result c.args.limits.now.steps c.args.schedule.now s (Asks (Next c.args.count)) c.min.result (engine c.args.machine.now) (engine c.advance.new.machine) (g.F.PageFile.contents c.advance.new.file) (g.K.Sink.faults c.advance.new.sink) (g.K.Sink.faults c.reply-2.new.sink) (g.K.Sink.contents c.advance.new.sink) (g.K.Sink.contents c.reply-2.new.sink) _ (sym count) (c.in_ok-ended.ensures.spends m means) c.reply-2.ensures
