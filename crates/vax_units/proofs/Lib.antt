@@ -1,0 +1,14 @@
+pub mod Counting
+pub mod Searching
+pub mod Moving
+pub mod Comparing
+pub mod Matching
+pub mod Escaping
+pub mod Families
+pub mod Bounds
+pub mod Places
+pub mod Sums
+pub mod Resuming
+mod Worked
+pub mod Wholes
+pub mod Writing
