@@ -1,5 +1,5 @@
 -- From what a transaction followed to what an attempt came to.
-use Rattle.std.proofs.Common.{true, false, Result, add-one, ◌+◌, ◌≤◌, ◌≡◌, ℕ, Option, Some, None, Ok, Err, refl, sym, ap, subst, ◌∙◌, arith}
+use Rattle.std.proofs.Common.{true, false, Result, add-one, Bool, ◌+◌, ◌≤◌, ◌≡◌, ℕ, Option, Some, None, Ok, Err, refl, sym, ap, subst, ◌∙◌, arith}
 use Rattle.vax_word.specs.declared.Core.{Core}
 use Rattle.vax_word.specs.declared.Psl.{Psl}
 use Rattle.vax_flat.specs.declared.Cut.{Cut}
@@ -23,7 +23,7 @@ use Rattle.vax_undo.specs.Transaction.{bare, undone, IsReady, IsSame, Keeps, Kee
 use Rattle.vax_cpu.specs.declared.attempt.Tried.{Tried}
 use Rattle.vax_cpu.specs.declared.attempt.Tried.TheVariants as tried
 use Rattle.vax_x_str.specs.Ends.{ClosesIfDone}
-use Rattle.vax_cpu.specs.Tried.{IsFinal, IsTried, KeepsClosed, KeepsClosedLater, KeepsTime, LeadsBack, UnlessDone, is_done, marked_as, start_by}
+use Rattle.vax_cpu.specs.Tried.{IsFinal, IsTried, KeepsClosed, KeepsClosedLater, KeepsTime, LeadsBack, UnlessDone, came as how_came, marked_as, start_by}
 use Rattle.vax_cpu.specs.Attempt.{open_after}
 use Rattle.vax_cpu.specs.declared.cpu.Open.{Open}
 use Rattle.vax_cpu.specs.Batch.{Ran}
@@ -134,16 +134,11 @@ step_closed_later psl (tried.Ended e) closed other = absurd (other e refl)
 step_closed_later psl (tried.Event e) closed other = tt
 
 -- what was completed, and what wasn't
-pub done_of : (work : Result Flow CutShort) → is_done work ≡ true → work ≡ Ok flow.Done
-done_of (Ok flow.Done) h = refl
-done_of (Ok flow.Clocked) h = cc
-done_of (Ok (flow.Trap trap)) h = cc
-done_of (Ok (flow.More opcode units)) h = cc
-done_of (Ok (flow.Ended e)) h = cc
-done_of (Err short) h = cc
+pub came_done : (done : Bool) (other : Result Flow CutShort) → done ≡ true → how_came done other ≡ Ok flow.Done
+came_done done other is = ap (λ d. how_came d other) is
 
-pub not_done : (work : Result Flow CutShort) → is_done work ≡ false → work ≡ Ok flow.Done → ⊥
-not_done work h is = let no : true ≡ false = sym (ap is_done is) ∙ h in cc
+pub came_other : (done : Bool) (other : Result Flow CutShort) → done ≡ false → how_came done other ≡ other
+came_other done other is = ap (λ d. how_came d other) is
 
 pub unless : (work : Result Flow CutShort) (a b : Type 0) → (a → b) → UnlessDone work a → UnlessDone work b
 unless (Ok flow.Done) a b f holds = tt

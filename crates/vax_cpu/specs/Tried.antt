@@ -38,6 +38,11 @@ is_done (Ok (flow.More opcode units)) = false
 is_done (Ok (flow.Ended e)) = false
 is_done (Err short) = false
 
+-- how work went, by whether it was completed and what is said of it where it wasn't
+abbrev pub came : Bool → Result Flow CutShort → Result Flow CutShort
+came true other = Ok flow.Done
+came false other = other
+
 -- what holds of an instruction that wasn't completed
 abbrev pub UnlessDone : Result Flow CutShort → Type 0 → Type 0
 UnlessDone (Ok flow.Done) fact = Unit {0}

@@ -12,12 +12,12 @@ ghost use Rattle.vax_undo.specs.FirstPart.{NothingOpen};
 ghost use Rattle.vax_undo.specs.Rooms.{room_of_beginning, room_of_end, room_of_step, room_of_tick};
 ghost use Rattle.vax_undo.specs.Transaction.{bare, present, room, state_of, told, undone, with_state, IsReady, IsSame, Keeps, KeepsUnlessDone};
 ghost use Rattle.vax_x_str.specs.Ends.{ClosesIfDone};
-ghost use Rattle.vax_cpu.specs.Tried.{IsFinal, IsLast, IsTried, KeepsClosed, KeepsClosedLater, KeepsTime, LeadsBack, Made, UnlessDone, is_done, put_again, start_by, tree_of, with_registers};
+ghost use Rattle.vax_cpu.specs.Tried.{IsFinal, IsLast, IsTried, KeepsClosed, KeepsClosedLater, KeepsTime, LeadsBack, Made, UnlessDone, came, is_done, put_again, start_by, tree_of, with_registers};
 ghost use Rattle.vax_cpu.specs.Attempt.{open_after};
 ghost use Rattle.vax_cpu.specs.Batch.{Ran};
 
 use crate::cpu::Open;
-use crate::instruction::{execute, resume};
+use crate::instruction::{execute, noted, resume};
 use crate::interrupt::{requested, tick};
 use vax_flat::{Delivery, Ending, Exception};
 use vax_operand::{Cut, Flow};
@@ -40,32 +40,34 @@ pub(crate) enum Tried {
     Event(Exception),
 }
 
-/// Delivers an interrupt.
+/// Delivers an interrupt. It answers as [`noted`].
 #[cold]
-fn take_interrupt<P: Port>(txn: &mut Txn<P>, level: u8) -> Result<Flow, CutShort>
+fn take_interrupt<P: Port>(txn: &mut Txn<P>, level: u8, other: &mut Result<Flow, CutShort>) -> bool
     requires of_level { IsLevel level }
     requires room { room_of_beginning ≤ room txn.old }
-    ensures exact { Follows (λ next. interrupt level (present P.view txn.old).state (λ how s. next (flow_of_delivery how) s)) (present P.view txn.old) (told txn.new result) (present P.view txn.new) }
+    ensures exact { Follows (λ next. interrupt level (present P.view txn.old).state (λ how s. next (flow_of_delivery how) s)) (present P.view txn.old) (told txn.new (came result other.new)) (present P.view txn.new) }
     ensures keeps { Keeps P.view P.since room_of_beginning txn.old txn.new }
 {
-    let how = interrupt(txn, level)?;
-    Ok(flow_of(how))
+    match interrupt(txn, level) {
+        Ok(how) => noted(Ok(flow_of(how)), other),
+        Err(short) => noted(Err(short), other),
+    }
 }
 
-/// An interrupt above the priority, or the instruction at PC, of a string instruction its first part.
+/// An interrupt above the priority, or the instruction at PC, of a string instruction its first part. It answers as [`noted`].
 #[inline(always)]
 #[tactic(auto, using(vax_undo::proofs::Left::always), unfolding(vax_flat::specs::Parts::begun_part))]
-fn begin<P: Port>(txn: &mut Txn<P>) -> Result<Flow, CutShort>
+fn begin<P: Port>(txn: &mut Txn<P>, other: &mut Result<Flow, CutShort>) -> bool
     requires { room_of_beginning ≤ room txn.old }
-    ensures exact { Follows (begun_part (present P.view txn.old).state) (present P.view txn.old) (told txn.new result) (present P.view txn.new) }
-    ensures keeps { KeepsUnlessDone P.view P.since room_of_beginning result txn.old txn.new }
+    ensures exact { Follows (begun_part (present P.view txn.old).state) (present P.view txn.old) (told txn.new (came result other.new)) (present P.view txn.new) }
+    ensures keeps { KeepsUnlessDone P.view P.since room_of_beginning (came result other.new) txn.old txn.new }
     ensures same { IsSame P.since txn.old txn.new }
 {
     let level = requested(txn);
     if txn.psl().ipl() < level {
-        return take_interrupt(txn, level);
+        return take_interrupt(txn, level, other);
     }
-    execute(txn)
+    execute(txn, other)
 }
 
 /// What follows a delivery: the clock, where the handler is entered.
@@ -110,7 +112,8 @@ fn complete<P: Port>(txn: &mut Txn<P>)
 }
 
 /// What follows an instruction: a trap's delivery, and the clock.
-#[inline(always)]
+#[cold]
+#[inline(never)]
 #[tactic(auto, using(vax_undo::proofs::Left::always, vax_undo::proofs::Left::kept_through, vax_undo::proofs::Left::left_then, crate::proofs::Attempts::closes), unfolding(vax_flat::specs::Step::finished, vax_flat::specs::Step::delivered))]
 fn finish<P: Port>(txn: &mut Txn<P>, flow: Flow) -> Result<Flow, CutShort>
     requires { room_of_end ≤ room txn.old }
@@ -132,18 +135,25 @@ fn finish<P: Port>(txn: &mut Txn<P>, flow: Flow) -> Result<Flow, CutShort>
     }
 }
 
-/// A step up to its exception, if it raises one.
+/// A step up to its exception, if it raises one. It answers as [`noted`].
 #[inline(always)]
-#[tactic(auto, unfolding(vax_flat::specs::Parts::part))]
-fn work<P: Port>(txn: &mut Txn<P>) -> Result<Flow, CutShort>
+#[tactic(auto, using(vax_undo::proofs::Left::left_then), unfolding(vax_flat::specs::Parts::part, vax_flat::specs::Step::finished))]
+fn work<P: Port>(txn: &mut Txn<P>, other: &mut Result<Flow, CutShort>) -> bool
     requires { room_of_step ≤ room txn.old }
-    ensures exact { Follows (part (present P.view txn.old).state) (present P.view txn.old) (told txn.new result) (present P.view txn.new) }
-    ensures keeps { KeepsUnlessDone P.view P.since room_of_step result txn.old txn.new }
+    ensures exact { Follows (part (present P.view txn.old).state) (present P.view txn.old) (told txn.new (came result other.new)) (present P.view txn.new) }
+    ensures keeps { KeepsUnlessDone P.view P.since room_of_step (came result other.new) txn.old txn.new }
     ensures same { IsSame P.since txn.old txn.new }
-    ensures last { IsLast result }
+    ensures last { IsLast (came result other.new) }
+    ensures done { result ≡ is_done (came result other.new) }
 {
-    let flow = begin(txn)?;
-    finish(txn, flow)
+    if begin(txn, other) {
+        complete(txn);
+        return true;
+    }
+    match *other {
+        Ok(flow) => noted(finish(txn, flow), other),
+        Err(_) => false,
+    }
 }
 
 /// [`work`] as a call of its own, for the attempts outside the loop.
@@ -155,7 +165,12 @@ fn work_once<P: Port>(txn: &mut Txn<P>) -> Result<Flow, CutShort>
     ensures same { IsSame P.since txn.old txn.new }
     ensures last { IsLast result }
 {
-    work(txn)
+    let mut other = Ok(Flow::Done);
+    if work(txn, &mut other) {
+        Ok(Flow::Done)
+    } else {
+        other
+    }
 }
 
 /// A later part of the string instruction with this opcode.
@@ -184,14 +199,6 @@ fn work_delivery<P: Port>(txn: &mut Txn<P>, exception: Exception) -> Result<Flow
     ensures last { IsLast result }
 {
     deliver_and_tick(txn, exception)
-}
-
-/// Whether the work was completed.
-#[inline]
-fn is_done(work: Result<Flow, CutShort>) -> bool
-    ensures { result ≡ is_done work }
-{
-    matches!(work, Ok(Flow::Done))
 }
 
 /// Keeps a transaction whose work was completed, or a part of it, and undoes any other.
@@ -421,10 +428,11 @@ pub(crate) fn try_steps<P: Port>(
 {
     let mut txn = Txn::begin(core, term, port);
     let mut steps = 0;
+    let mut other = Ok(Flow::Done);
     while steps + 1 < most {
-        let done = work(&mut txn);
-        if !is_done(done) {
-            let last = conclude(txn, done);
+        let done = work(&mut txn, &mut other);
+        if !done {
+            let last = conclude(txn, other);
             return Several { steps, last };
         }
         match txn.renew() {

@@ -5,6 +5,7 @@ ghost use Rattle.vax_flat.specs.OverPort.{Follows};
 ghost use Rattle.vax_flat.specs.StringParts.{resumed};
 ghost use Rattle.vax_undo.specs.Rooms.{room_of_beginning, room_of_instruction};
 ghost use Rattle.vax_undo.specs.Transaction.{present, room, told, IsSame, KeepsUnlessDone};
+ghost use Rattle.vax_cpu.specs.Tried.{came, is_done};
 ghost use Rattle.vax_x_str.specs.Ends.{ClosesIfDone};
 
 use vax_flat::Exception;
@@ -12,52 +13,89 @@ use vax_isa::{Action, action};
 use vax_operand::{Cut, Flow, fetch};
 use vax_undo::{CutShort, Port, Txn};
 
-/// What the instruction does whose opcode PC is past; of a string instruction its first part.
+/// Whether work was completed. How else it went is left in `other`: a result of several pieces would go through memory at each step.
 #[inline(always)]
+pub(crate) fn noted(work: Result<Flow, CutShort>, other: &mut Result<Flow, CutShort>) -> bool
+    ensures came { came result other.new ≡ work }
+    ensures done { result ≡ is_done work }
+{
+    match work {
+        Ok(Flow::Done) => true,
+        _ => {
+            *other = work;
+            false
+        }
+    }
+}
+
+/// What an instruction does whose opcode PC is past; of a string instruction its first part. It answers as [`noted`].
+#[inline(never)]
 #[tactic(auto, using(vax_undo::proofs::Left::always, crate::proofs::Attempts::same_of), unfolding(vax_flat::specs::Instruction::acted_part))]
-fn act<P: Port>(txn: &mut Txn<P>, action: Action) -> Result<Flow, CutShort>
+fn act_any<P: Port>(txn: &mut Txn<P>, action: Action, other: &mut Result<Flow, CutShort>) -> bool
     requires { room_of_instruction ≤ room txn.old }
-    ensures exact { Follows (acted_part action (present P.view txn.old).state) (present P.view txn.old) (told txn.new result) (present P.view txn.new) }
-    ensures keeps { KeepsUnlessDone P.view P.since room_of_instruction result txn.old txn.new }
+    ensures exact { Follows (acted_part action (present P.view txn.old).state) (present P.view txn.old) (told txn.new (came result other.new)) (present P.view txn.new) }
+    ensures keeps { KeepsUnlessDone P.view P.since room_of_instruction (came result other.new) txn.old txn.new }
     ensures same { IsSame P.since txn.old txn.new }
 {
     match action {
-        Action::Integer(instruction) => vax_x_int::run(txn, instruction),
-        Action::Control(instruction) => vax_x_flow::run(txn, instruction),
-        Action::System(instruction) => vax_x_sys::run(txn, instruction),
-        Action::Call(instruction) => vax_x_call::run(txn, instruction),
-        Action::Queue(instruction) => vax_x_queue::run(txn, instruction),
-        Action::Field(instruction) => vax_x_field::run(txn, instruction),
-        Action::Text(text) => vax_x_str::start(txn, text),
+        Action::Integer(instruction) => noted(vax_x_int::run(txn, instruction), other),
+        Action::Control(instruction) => noted(vax_x_flow::run(txn, instruction), other),
+        Action::System(instruction) => noted(vax_x_sys::run(txn, instruction), other),
+        Action::Call(instruction) => noted(vax_x_call::run(txn, instruction), other),
+        Action::Queue(instruction) => noted(vax_x_queue::run(txn, instruction), other),
+        Action::Field(instruction) => noted(vax_x_field::run(txn, instruction), other),
+        Action::Text(text) => noted(vax_x_str::start(txn, text), other),
+    }
+}
+
+/// The same. The two commonest sorts stand in the loop over instructions; the others are one call.
+#[inline(always)]
+#[tactic(auto, using(vax_undo::proofs::Left::always, crate::proofs::Attempts::same_of), unfolding(vax_flat::specs::Instruction::acted_part))]
+fn act<P: Port>(txn: &mut Txn<P>, action: Action, other: &mut Result<Flow, CutShort>) -> bool
+    requires { room_of_instruction ≤ room txn.old }
+    ensures exact { Follows (acted_part action (present P.view txn.old).state) (present P.view txn.old) (told txn.new (came result other.new)) (present P.view txn.new) }
+    ensures keeps { KeepsUnlessDone P.view P.since room_of_instruction (came result other.new) txn.old txn.new }
+    ensures same { IsSame P.since txn.old txn.new }
+{
+    match action {
+        Action::Integer(instruction) => noted(vax_x_int::run(txn, instruction), other),
+        Action::Control(instruction) => noted(vax_x_flow::run(txn, instruction), other),
+        _ => act_any(txn, action, other),
     }
 }
 
 /// What an opcode does; one that the table hasn't is reserved.
 #[inline(always)]
 #[tactic(auto, using(vax_flat::proofs::Leaves::over_port_raises, vax_undo::proofs::Left::always), unfolding(vax_flat::specs::Instruction::acted_part_if))]
-fn act_if<P: Port>(txn: &mut Txn<P>, action: Option<Action>) -> Result<Flow, CutShort>
+fn act_if<P: Port>(
+    txn: &mut Txn<P>,
+    action: Option<Action>,
+    other: &mut Result<Flow, CutShort>,
+) -> bool
     requires { room_of_instruction ≤ room txn.old }
-    ensures exact { Follows (acted_part_if action (present P.view txn.old).state) (present P.view txn.old) (told txn.new result) (present P.view txn.new) }
-    ensures keeps { KeepsUnlessDone P.view P.since room_of_instruction result txn.old txn.new }
+    ensures exact { Follows (acted_part_if action (present P.view txn.old).state) (present P.view txn.old) (told txn.new (came result other.new)) (present P.view txn.new) }
+    ensures keeps { KeepsUnlessDone P.view P.since room_of_instruction (came result other.new) txn.old txn.new }
     ensures same { IsSame P.since txn.old txn.new }
 {
     match action {
-        Some(action) => act(txn, action),
-        None => Err(txn.cut(Cut::Event(Exception::Privileged))),
+        Some(action) => act(txn, action, other),
+        None => noted(Err(txn.cut(Cut::Event(Exception::Privileged))), other),
     }
 }
 
 /// The instruction at PC; of a string instruction its first part.
 #[inline(always)]
 #[tactic(auto, using(vax_undo::proofs::Left::behind), unfolding(vax_flat::specs::Instruction::first_part))]
-pub(crate) fn execute<P: Port>(txn: &mut Txn<P>) -> Result<Flow, CutShort>
+pub(crate) fn execute<P: Port>(txn: &mut Txn<P>, other: &mut Result<Flow, CutShort>) -> bool
     requires { room_of_beginning ≤ room txn.old }
-    ensures exact { Follows (first_part (present P.view txn.old).state) (present P.view txn.old) (told txn.new result) (present P.view txn.new) }
-    ensures keeps { KeepsUnlessDone P.view P.since room_of_beginning result txn.old txn.new }
+    ensures exact { Follows (first_part (present P.view txn.old).state) (present P.view txn.old) (told txn.new (came result other.new)) (present P.view txn.new) }
+    ensures keeps { KeepsUnlessDone P.view P.since room_of_beginning (came result other.new) txn.old txn.new }
     ensures same { IsSame P.since txn.old txn.new }
 {
-    let opcode = fetch(txn, 1)? as u8;
-    act_if(txn, action(opcode))
+    match fetch(txn, 1) {
+        Ok(opcode) => act_if(txn, action(opcode as u8), other),
+        Err(short) => noted(Err(short), other),
+    }
 }
 
 /// A later part of the string instruction with this opcode.

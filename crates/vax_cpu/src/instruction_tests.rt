@@ -6,7 +6,7 @@ use std::process::Abort;
 use std::test::Fail;
 use vax_flat::{Cut, Exception, Flow};
 use vax_space::{Area, Bytes, Space, Violation};
-use vax_undo::{CutShort, Plain, Term, Txn};
+use vax_undo::{Plain, Term, Txn};
 use vax_word::{Core, Psl};
 
 /// Where the bytes of a row's data begin; its code begins at 0.
@@ -110,7 +110,12 @@ fn left_by(alloc: Global, row: &Row) -> Result<Left, Fail> {
     };
     let mut term = Term::new(Vec::new(alloc));
     let mut txn = Txn::begin(&mut core, &mut term, &mut port);
-    let flow = execute(&mut txn).ok();
+    let mut other = Ok(Flow::Done);
+    let flow = if execute(&mut txn, &mut other) {
+        Some(Flow::Done)
+    } else {
+        other.ok()
+    };
     let _ = txn.commit();
     Ok((
         flow,
@@ -248,9 +253,11 @@ fn raised_by(alloc: Global, fault: &Fault) -> Result<Option<Cut>, Fail> {
     };
     let mut term = Term::new(Vec::new(alloc));
     let mut txn = Txn::begin(&mut core, &mut term, &mut port);
-    let why = match execute(&mut txn) {
-        Ok(_) => None,
-        Err(CutShort) => Some(txn.why()),
+    let mut other = Ok(Flow::Done);
+    let why = if execute(&mut txn, &mut other) || other.is_ok() {
+        None
+    } else {
+        Some(txn.why())
     };
     let _ = txn.commit();
     Ok(why)

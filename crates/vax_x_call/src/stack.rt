@@ -1,13 +1,30 @@
 //! Longwords and registers on the stack.
 ghost use Rattle.std.specs.Prelude.{◌≡◌, ◌<◌, ◌≤◌, ◌∷◌, []};
 ghost use Rattle.vax_flat.specs.Call.{frame, linked, named, pushed_below, pushed_one, restored, saved};
-ghost use Rattle.vax_flat.specs.OverPort.{Follows};
+ghost use Rattle.vax_flat.specs.Operand.{write_at};
+ghost use Rattle.vax_flat.specs.OverPort.{Follows, Performs};
 ghost use Rattle.vax_undo.specs.Transaction.{present, room, Keeps, told};
 ghost use Rattle.vax_word.specs.Status.{is_one};
 ghost use Rattle.vax_x_call.specs.Stack.{links_pushed, links_restored, restored_if, saved_if};
 
-use vax_operand::{read, write};
+use vax_flat::Cut;
+use vax_operand::read;
 use vax_undo::{CutShort, Port, Txn};
+
+/// Writes a longword. With the width known it takes three quarters of what [`vax_operand::write`] does.
+#[inline(never)]
+#[tactic(auto, unfolding(vax_flat::specs::OverPort::over_port, vax_flat::specs::Operand::write_at))]
+fn write_long<P: Port>(txn: &mut Txn<P>, addr: u32, value: u32) -> Result<(), CutShort>
+    requires { 1 ≤ room txn.old }
+    ensures exact { Performs (write_at addr 4 value (present P.view txn.old).state) (present P.view txn.old) (told txn.new result) (present P.view txn.new) }
+    ensures keeps { Keeps P.view P.since 1 txn.old txn.new }
+{
+    let mode = txn.psl().mode();
+    match txn.write(addr, 4, u64::from(value), mode) {
+        Ok(()) => Ok(()),
+        Err(stop) => Err(txn.cut(Cut::from(stop))),
+    }
+}
 
 /// Pushes a longword just below an address, and gives its address.
 #[inline(always)]
@@ -18,7 +35,7 @@ pub(crate) fn push_below<P: Port>(txn: &mut Txn<P>, value: u32, top: u32) -> Res
     ensures keeps { Keeps P.view P.since 1 txn.old txn.new }
 {
     let at = top.wrapping_sub(4);
-    write(txn, at, 4, u64::from(value))?;
+    write_long(txn, at, value)?;
     Ok(at)
 }
 
