@@ -179,7 +179,7 @@ impl Scope {
     /// Whether the definition that a name means comes back to itself, which is no local label. Asked behind an assignment
     /// of the name, it tells whether the definitions so far have a circle through this assignment.
     ///
-    /// Takes time with the definitions without a value that it rests on, and none where no expression has it in it.
+    /// Takes no time as long as none comes back to itself, and from then on time with those without a value that it rests on.
     pub fn is_endless(&self, alloc: Global, text: &[u8]) -> Result<bool, NoMemory>
         ensures { IfOk result (λ b. b ≡ endless text.now (scope_of self.now)) }
     {

@@ -11,7 +11,7 @@ any_more p q h [] e = e
 any_more p q h (x ∷ xs) e =
     ⊎_elim (λ here. or_left (q x) (list_any q xs) (h x here)) (λ more. or_right (q x) (list_any q xs) (any_more p q h xs more)) (or_cases (p x) (list_any p xs) e)
 
-any_at : (p : ℕ → Bool) (k : ℕ) (xs : List ℕ) → among k xs ≡ true → p k ≡ true → list_any p xs ≡ true
+pub any_at : (p : ℕ → Bool) (k : ℕ) (xs : List ℕ) → among k xs ≡ true → p k ≡ true → list_any p xs ≡ true
 any_at p k [] e h = e
 any_at p k (x ∷ xs) e h =
     ⊎_elim
@@ -19,7 +19,7 @@ any_at p k (x ∷ xs) e h =
     (λ more. or_right (p x) (list_any p xs) (any_at p k xs more h))
     (or_cases (nat_eq k x) (among k xs) e)
 
-any_found : (p : ℕ → Bool) (xs : List ℕ) → list_any p xs ≡ true → (k : ℕ) × (among k xs ≡ true) × (p k ≡ true)
+pub any_found : (p : ℕ → Bool) (xs : List ℕ) → list_any p xs ≡ true → (k : ℕ) × (among k xs ≡ true) × (p k ≡ true)
 any_found p [] e = absurd (false≢true e)
 any_found p (x ∷ xs) e =
     ⊎_elim

@@ -1,9 +1,8 @@
 -- Whether one of some names means a definition that is still to come, one name at a time.
-use Rattle.std.proofs.Common.{◌≡◌, ◌<◌, ◌≤◌, ◌+◌, ℕ, suc, add-one, Bool, true, false, List, [], ◌∷◌, length, map, drop, refl, sym, ap, ◌∙◌, drop-cons, arith}
+use Rattle.std.proofs.Common.{◌≡◌, ◌<◌, ◌≤◌, ◌+◌, ℕ, suc, add-one, Bool, true, false, List, ◌∷◌, length, map, drop, sym, ap, ◌∙◌, drop-cons}
 use Rattle.std.proofs.lemmas.List.{drop_all}
 use Rattle.std.specs.List.{list_any}
 use Rattle.std.specs.Prelude.{◌||◌, slice_index_or}
-use Rattle.vax_values.specs.ToCome.{names_to_come}
 use Rattle.vax_values.specs.Values.{Source, source_at, is_to_come}
 use Rattle.vax_values.specs.View.{meaning_of}
 use Rattle.vax_values.specs.declared.types.Meaning.{Meaning}

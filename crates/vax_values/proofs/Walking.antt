@@ -18,16 +18,16 @@ use Rattle.vax_values.proofs.Seen.{values_are}
 
 -- lists with one number more
 
-among_left : (k : ℕ) (xs ys : List ℕ) → among k xs ≡ true → among k (xs ++ ys) ≡ true
+pub among_left : (k : ℕ) (xs ys : List ℕ) → among k xs ≡ true → among k (xs ++ ys) ≡ true
 among_left k xs ys e = list_any-append (nat_eq k) xs ys ∙ or_left (among k xs) (among k ys) e
 
-among_last : (k x : ℕ) (xs : List ℕ) → k ≡ x → among k (xs ++ x ∷ []) ≡ true
+pub among_last : (k x : ℕ) (xs : List ℕ) → k ≡ x → among k (xs ++ x ∷ []) ≡ true
 among_last k x xs is = list_any-append (nat_eq k) xs (x ∷ []) ∙ or_right (among k xs) (nat_eq k x || false) (or_left (nat_eq k x) false (eq-eqb k x is))
 
-among_one : (k x : ℕ) → among k (x ∷ []) ≡ true → k ≡ x
+pub among_one : (k x : ℕ) → among k (x ∷ []) ≡ true → k ≡ x
 among_one k x e = ⊎_elim (eqb-true k x) (λ n. absurd (false≢true n)) (or_cases (nat_eq k x) false e)
 
-among_before : (k x : ℕ) (xs : List ℕ) → among k (xs ++ x ∷ []) ≡ true → (among k xs ≡ true) ⊎ (k ≡ x)
+pub among_before : (k x : ℕ) (xs : List ℕ) → among k (xs ++ x ∷ []) ≡ true → (among k xs ≡ true) ⊎ (k ≡ x)
 among_before k x xs e = ⊎_elim (λ l. inl l) (λ r. inr (among_one k x r)) (or_cases (among k xs) (among k (x ∷ [])) (sym (list_any-append (nat_eq k) xs (x ∷ [])) ∙ e))
 
 -- a list with one number more, wherever it stands
@@ -62,6 +62,7 @@ none_met before work d = record {
   begun = λ k e. inl e;
   longer = omega arith;
   counted = refl;
+  few = omega arith;
   distinct = d;
 }
 
@@ -69,6 +70,7 @@ pub first_met : (names before work after left more : List ℕ) (x : ℕ) → Met
     → Met (names ++ x ∷ []) before work more (left ++ x ∷ [])
 first_met names before work after left more x m adds long distinct =
     let behind : length (left ++ x ∷ []) ≡ length left + 1 = length-append left (x ∷ []) in
+    let named : length (names ++ x ∷ []) ≡ length names + 1 = length-append names (x ∷ []) in
     record {
       all = λ k e. ⊎_elim (λ old. adds_old x after more adds k (m.all k old)) (adds_new x after more adds k) (among_before k x names e);
       more = λ k e. adds_old x after more adds k (m.more k e);
@@ -85,6 +87,7 @@ first_met names before work after left more x m adds long distinct =
           (among_before k x left e);
       longer = omega (arith, long, m.longer);
       counted = omega (arith, long, behind, m.counted);
+      few = omega (arith, long, named, m.few);
       distinct = distinct;
     }
 
@@ -97,6 +100,7 @@ met_again names before work after left x m there = record {
   begun = m.begun;
   longer = m.longer;
   counted = m.counted;
+  few = let named : length (names ++ x ∷ []) ≡ length names + 1 = length-append names (x ∷ []) in omega (arith, named, m.few);
   distinct = m.distinct;
 }
 
@@ -189,7 +193,7 @@ each_watched waiting j k (m ∷ names) all e =
     (λ more. each_watched waiting j k names (λ i d h. all (suc i) d (omega (arith, h))) more)
     (or_cases (nat_eq k m.definition) (among k (map (λ (n : Meaning). n.definition) names)) e)
 
-source_watched : (waiting : List (List ℕ)) (j k : ℕ) (o : Option Value) (s : Source) → Watches waiting j s → among k (awaited_by o s) ≡ true → listed j (waiters waiting k) ≡ true
+pub source_watched : (waiting : List (List ℕ)) (j k : ℕ) (o : Option Value) (s : Source) → Watches waiting j s → among k (awaited_by o s) ≡ true → listed j (waiters waiting k) ≡ true
 source_watched waiting j k (Some v) s w e = absurd (false≢true e)
 source_watched waiting j k None ToCome w e = absurd (false≢true e)
 source_watched waiting j k None (Given v) w e = absurd (false≢true e)
@@ -199,13 +203,14 @@ awaited_watched : (sources : List Source) (values : List (Option Value)) (waitin
     → (j k : ℕ) → among k (awaited (known values) sources j) ≡ true → listed j (waiters waiting k) ≡ true
 awaited_watched sources values waiting s j k e = source_watched waiting j k (known values j) (source_at sources j) (s.watched j) e
 
+pub watched_within : (waiting : List (List ℕ)) (j k : ℕ) → listed j (waiters waiting k) ≡ true → k < length waiting
+watched_within waiting j k e =
+    ⊎_elim (λ l. l) (λ past. absurd (false≢true (sym (ap (listed j) (get_or-eq_default waiting [] past)) ∙ e))) (cases_lt k (length waiting))
+
 -- a definition for which another waits is there
 pub awaited_within : (sources : List Source) (values : List (Option Value)) (waiting : List (List ℕ)) → Settled sources values waiting
     → (j k : ℕ) → among k (awaited (known values) sources j) ≡ true → k < length waiting
-awaited_within sources values waiting s j k e =
-    ⊎_elim (λ l. l)
-    (λ past. absurd (false≢true (sym (ap (listed j) (get_or-eq_default waiting [] past)) ∙ awaited_watched sources values waiting s j k e)))
-    (cases_lt k (length waiting))
+awaited_within sources values waiting s j k e = watched_within waiting j k (awaited_watched sources values waiting s j k e)
 
 -- the rounds' values
 pub endless_is : (sources : List Source) (values : List (Option Value)) (waiting : List (List ℕ)) (i n : ℕ) → length values ≡ length sources → Settled sources values waiting → n ≡ length sources

@@ -1,6 +1,9 @@
 pub mod Certain
 pub mod Circles
+pub mod Climbs
 pub mod Definitions
+pub mod Order
+pub mod OrderProps
 pub mod SettledProps
 pub mod ToCome
 pub mod TokenProps

@@ -12,6 +12,7 @@ pub record Met (names before work after left : List ℕ) : Type 0 where
   pub begun : (k : ℕ) → among k left ≡ true → (among k work ≡ true) ⊎ (among k after ≡ true)
   pub longer : length before ≤ length after
   pub counted : length left + length before ≡ length work + length after
+  pub few : length after ≤ length before + length names
   pub distinct : IsDistinct nat_eq after
 
 -- Whatever is met, the first leads to in so many steps as there are met. What the first or one that is met waits for is met,

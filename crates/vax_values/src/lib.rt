@@ -10,6 +10,7 @@ mod board;
 mod circles;
 mod copies;
 mod definitions;
+mod order;
 #[cfg(test)]
 mod tests;
 mod types;

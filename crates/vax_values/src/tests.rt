@@ -1,5 +1,5 @@
 // Definitions that rest on later ones, and on themselves.
-ghost use Rattle.std.specs.Prelude.{◌≡◌, ◌≤◌, ◌<◌, ◌+◌, IfOk, length};
+ghost use Rattle.std.specs.Prelude.{◌≡◌, ◌≤◌, ◌<◌, ℕ, IfOk, length};
 ghost use Rattle.vax_values.specs.Definitions.{sources_of};
 ghost use Rattle.vax_values.specs.Values.{Means, Worked};
 ghost use Rattle.vax_values.specs.View.{written_of};
@@ -18,7 +18,7 @@ fn expression(
     definition: usize,
 ) -> Result<Expression, Fail>
     requires { length text.now ≤ 1024 }
-    ensures { IfOk result (λ e. Means (definition + 1) (Worked (written_of e))) }
+    ensures { IfOk result (λ e. (n : ℕ) → definition < n → Means n (Worked (written_of e))) }
 {
     let tokens = scan(alloc, text)?;
     let meaning = Meaning {
@@ -82,5 +82,34 @@ fn tells_a_circle_from_a_chain(rt: HostRuntime) -> Result<(), Fail> {
     definitions.write(alloc, 2, expression(alloc, b"A+1", b"A", 0)?)?;
     assert!(rt; definitions.is_endless(alloc, 2)?);
     assert!(rt; definitions.is_endless(alloc, 0)?);
+    Ok(())
+}
+
+#[test]
+fn tells_a_circle_where_many_wait(rt: HostRuntime) -> Result<(), Fail> {
+    let alloc = rt.alloc();
+    let mut definitions = Definitions::new(alloc);
+    definitions.open(alloc)?;
+    definitions.open(alloc)?;
+    definitions.open(alloc)?;
+    // B = A, and a hundred wait for C
+    definitions.write(alloc, 1, expression(alloc, b"A", b"A", 0)?)?;
+    for _ in 0..100 {
+        let number = definitions.open(alloc)?;
+        if definitions.count() > 2 {
+            definitions.write(alloc, number, expression(alloc, b"C", b"C", 2)?)?;
+        }
+    }
+    if definitions.count() > 2 {
+        definitions.write(alloc, 2, expression(alloc, b"B", b"B", 1)?)?;
+    }
+    assert!(rt; !definitions.is_endless(alloc, 2)?);
+    // A = C
+    if definitions.count() > 2 {
+        definitions.write(alloc, 0, expression(alloc, b"C", b"C", 2)?)?;
+    }
+    assert!(rt; definitions.is_endless(alloc, 0)?);
+    assert!(rt; definitions.is_endless(alloc, 2)?);
+    assert!(rt; !definitions.is_endless(alloc, 3)?);
     Ok(())
 }

@@ -4,6 +4,7 @@ use Rattle.vax_values.specs.Circles.{among, awaited}
 use Rattle.vax_values.specs.View.{source_of, sources_in, lists_in}
 use Rattle.vax_values.specs.Waiting.{known}
 use Rattle.vax_values.specs.Walks.{Met, Walked}
+use Rattle.vax_values.proofs.Ordering.{none_endless}
 use Rattle.vax_values.proofs.Walking.{unused_ends, walked_on, walk_ends, endless_is, met_within, awaited_within}
 use Rattle.vax_values.proofs.types.Board.is_endless.Goals as goal
 
@@ -45,3 +46,6 @@ returns c =
     ∙ walk_ends (awaited (known board.values.items) sources) definitions c.args.number c.work.met.keys c.work.work.items (omega (arith, c.in_default.ensures.cases.0, c.work.work.ok)) c.work.invariant
     ∙ endless_is sources board.values.items (lists_in board.waiting) c.args.number definitions (rw (length-map board.sources.items source_of) c.requires.values) c.requires.settled
     (rw (length-map board.sources.items source_of) c.requires.waiting)
+
+pub returns-then-is_some : goal.returns-then-is_some
+returns-then-is_some c = none_endless (sources_in c.args.self.now.sources) c.args.self.now.order c.args.number c.requires.ordered (sym c.is_some.ensures ∙ c.if-is_some.true)
