@@ -52,11 +52,7 @@ fn make_steps(cpu: &mut Cpu, port: &mut Plain, steps: u64) -> u64
 fn cpu_with(alloc: Global, core: Core) -> Cpu
     ensures { result.term.out ≡ None }
 {
-    Cpu {
-        core,
-        term: Term::new(Vec::new(alloc)),
-        latch: None,
-    }
+    Cpu::new(core, Term::new(Vec::new(alloc)))
 }
 
 /// The registers after a run over plain memory, and how many steps weren't made.

@@ -21,8 +21,9 @@ use crate::instruction::{execute, noted, resume};
 use crate::interrupt::{requested, tick};
 use vax_flat::{Delivery, Ending, Exception};
 use vax_operand::{Cut, Flow};
-use vax_undo::{CutShort, Port, Term, Txn};
+use vax_undo::{CutShort, Log, Port, Term, Txn};
 use vax_word::Core;
+use vax_x_str::Scratch;
 use vax_x_sys::{deliver, flow_of, interrupt};
 
 /// What an attempt at a step, or at the delivery of an exception, came to.
@@ -57,7 +58,11 @@ fn take_interrupt<P: Port>(txn: &mut Txn<P>, level: u8, other: &mut Result<Flow,
 /// An interrupt above the priority, or the instruction at PC, of a string instruction its first part. It answers as [`noted`].
 #[inline(always)]
 #[tactic(auto, using(vax_undo::proofs::Left::always), unfolding(vax_flat::specs::Parts::begun_part))]
-fn begin<P: Port>(txn: &mut Txn<P>, other: &mut Result<Flow, CutShort>) -> bool
+fn begin<P: Port>(
+    txn: &mut Txn<P>,
+    other: &mut Result<Flow, CutShort>,
+    scratch: &mut Scratch,
+) -> bool
     requires { room_of_beginning ≤ room txn.old }
     ensures exact { Follows (begun_part (present P.view txn.old).state) (present P.view txn.old) (told txn.new (came result other.new)) (present P.view txn.new) }
     ensures keeps { KeepsUnlessDone P.view P.since room_of_beginning (came result other.new) txn.old txn.new }
@@ -67,7 +72,7 @@ fn begin<P: Port>(txn: &mut Txn<P>, other: &mut Result<Flow, CutShort>) -> bool
     if txn.psl().ipl() < level {
         return take_interrupt(txn, level, other);
     }
-    execute(txn, other)
+    execute(txn, other, scratch)
 }
 
 /// What follows a delivery: the clock, where the handler is entered.
@@ -138,7 +143,11 @@ fn finish<P: Port>(txn: &mut Txn<P>, flow: Flow) -> Result<Flow, CutShort>
 /// A step up to its exception, if it raises one. It answers as [`noted`].
 #[inline(always)]
 #[tactic(auto, using(vax_undo::proofs::Left::left_then), unfolding(vax_flat::specs::Parts::part, vax_flat::specs::Step::finished))]
-fn work<P: Port>(txn: &mut Txn<P>, other: &mut Result<Flow, CutShort>) -> bool
+fn work<P: Port>(
+    txn: &mut Txn<P>,
+    other: &mut Result<Flow, CutShort>,
+    scratch: &mut Scratch,
+) -> bool
     requires { room_of_step ≤ room txn.old }
     ensures exact { Follows (part (present P.view txn.old).state) (present P.view txn.old) (told txn.new (came result other.new)) (present P.view txn.new) }
     ensures keeps { KeepsUnlessDone P.view P.since room_of_step (came result other.new) txn.old txn.new }
@@ -146,7 +155,7 @@ fn work<P: Port>(txn: &mut Txn<P>, other: &mut Result<Flow, CutShort>) -> bool
     ensures last { IsLast (came result other.new) }
     ensures done { result ≡ is_done (came result other.new) }
 {
-    if begin(txn, other) {
+    if begin(txn, other, scratch) {
         complete(txn);
         return true;
     }
@@ -158,7 +167,7 @@ fn work<P: Port>(txn: &mut Txn<P>, other: &mut Result<Flow, CutShort>) -> bool
 
 /// [`work`] as a call of its own, for the attempts outside the loop.
 #[inline(never)]
-fn work_once<P: Port>(txn: &mut Txn<P>) -> Result<Flow, CutShort>
+fn work_once<P: Port>(txn: &mut Txn<P>, scratch: &mut Scratch) -> Result<Flow, CutShort>
     requires { room_of_step ≤ room txn.old }
     ensures exact { Follows (part (present P.view txn.old).state) (present P.view txn.old) (told txn.new result) (present P.view txn.new) }
     ensures keeps { KeepsUnlessDone P.view P.since room_of_step result txn.old txn.new }
@@ -166,7 +175,7 @@ fn work_once<P: Port>(txn: &mut Txn<P>) -> Result<Flow, CutShort>
     ensures last { IsLast result }
 {
     let mut other = Ok(Flow::Done);
-    if work(txn, &mut other) {
+    if work(txn, &mut other, scratch) {
         Ok(Flow::Done)
     } else {
         other
@@ -176,7 +185,11 @@ fn work_once<P: Port>(txn: &mut Txn<P>) -> Result<Flow, CutShort>
 /// A later part of the string instruction with this opcode.
 #[cold]
 #[tactic(auto, unfolding(vax_flat::specs::Parts::later))]
-fn work_later<P: Port>(txn: &mut Txn<P>, opcode: u8) -> Result<Flow, CutShort>
+fn work_later<P: Port>(
+    txn: &mut Txn<P>,
+    opcode: u8,
+    scratch: &mut Scratch,
+) -> Result<Flow, CutShort>
     requires { room_of_step ≤ room txn.old }
     ensures exact { Follows (later opcode (present P.view txn.old).state) (present P.view txn.old) (told txn.new result) (present P.view txn.new) }
     ensures keeps { KeepsUnlessDone P.view P.since room_of_step result txn.old txn.new }
@@ -184,7 +197,7 @@ fn work_later<P: Port>(txn: &mut Txn<P>, opcode: u8) -> Result<Flow, CutShort>
     ensures last { IsLast result }
     ensures closed { ClosesIfDone result txn.new.core.now.psl }
 {
-    let flow = resume(txn, opcode)?;
+    let flow = resume(txn, opcode, scratch)?;
     finish(txn, flow)
 }
 
@@ -246,7 +259,13 @@ fn conclude<P: Port>(txn: Txn<P>, work: Result<Flow, CutShort>) -> Tried
 }
 
 /// Makes an attempt at a step, which is undone where it isn't completed.
-pub(crate) fn try_step<P: Port>(core: &mut Core, term: &mut Term, port: &mut P) -> Tried
+pub(crate) fn try_step<P: Port>(
+    core: &mut Core,
+    term: &mut Term,
+    port: &mut P,
+    log: &mut Log,
+    scratch: &mut Scratch,
+) -> Tried
     requires { term.old.out ≡ None }
     ensures tried { IsTried part_step (record { state = state_of core.old term.old; view = P.view port.old }) result (record { state = state_of core.new term.new; view = P.view port.new }) }
     ensures unsent { term.new.out ≡ None }
@@ -255,8 +274,8 @@ pub(crate) fn try_step<P: Port>(core: &mut Core, term: &mut Term, port: &mut P) 
     ensures closed { NothingOpen core.old.psl → KeepsClosed core.new.psl result }
     ensures since { (start : P) → P.since start port.old → P.since start port.new }
 {
-    let mut txn = Txn::begin(core, term, port);
-    let done = work_once(&mut txn);
+    let mut txn = Txn::begin(core, term, port, log);
+    let done = work_once(&mut txn, scratch);
     conclude(txn, done)
 }
 
@@ -266,6 +285,7 @@ fn try_delivery<P: Port>(
     core: &mut Core,
     term: &mut Term,
     port: &mut P,
+    log: &mut Log,
     exception: Exception,
 ) -> Tried
     requires { term.old.out ≡ None }
@@ -277,13 +297,20 @@ fn try_delivery<P: Port>(
     ensures closed { NothingOpen core.old.psl → KeepsClosed core.new.psl result }
     ensures since { (start : P) → P.since start port.old → P.since start port.new }
 {
-    let mut txn = Txn::begin(core, term, port);
+    let mut txn = Txn::begin(core, term, port, log);
     let done = work_delivery(&mut txn, exception);
     conclude(txn, done)
 }
 
 /// Makes an attempt at a later part of the string instruction with this opcode, which is undone where it isn't completed.
-fn try_later<P: Port>(core: &mut Core, term: &mut Term, port: &mut P, opcode: u8) -> Tried
+fn try_later<P: Port>(
+    core: &mut Core,
+    term: &mut Term,
+    port: &mut P,
+    opcode: u8,
+    log: &mut Log,
+    scratch: &mut Scratch,
+) -> Tried
     requires { term.old.out ≡ None }
     ensures tried { IsTried (later_step opcode) (record { state = state_of core.old term.old; view = P.view port.old }) result (record { state = state_of core.new term.new; view = P.view port.new }) }
     ensures unsent { term.new.out ≡ None }
@@ -292,14 +319,20 @@ fn try_later<P: Port>(core: &mut Core, term: &mut Term, port: &mut P, opcode: u8
     ensures closed { (sent : Option ℕ) → result ≡ Tried.Step sent → NothingOpen core.new.psl }
     ensures since { (start : P) → P.since start port.old → P.since start port.new }
 {
-    let mut txn = Txn::begin(core, term, port);
-    let done = work_later(&mut txn, opcode);
+    let mut txn = Txn::begin(core, term, port, log);
+    let done = work_later(&mut txn, opcode, scratch);
     conclude(txn, done)
 }
 
 /// Delivers the exception that an attempt at a step raised, if it raised one.
 #[inline]
-pub(crate) fn settle<P: Port>(core: &mut Core, term: &mut Term, port: &mut P, tried: Tried) -> Tried
+pub(crate) fn settle<P: Port>(
+    core: &mut Core,
+    term: &mut Term,
+    port: &mut P,
+    log: &mut Log,
+    tried: Tried,
+) -> Tried
     requires { term.old.out ≡ None }
     ensures kept { IsFinal tried → result ≡ tried }
     ensures quiet { IsFinal result }
@@ -311,7 +344,7 @@ pub(crate) fn settle<P: Port>(core: &mut Core, term: &mut Term, port: &mut P, tr
     ensures since { (start : P) → P.since start port.old → P.since start port.new }
 {
     match tried {
-        Tried::Event(exception) => try_delivery(core, term, port, exception),
+        Tried::Event(exception) => try_delivery(core, term, port, log, exception),
         _ => tried,
     }
 }
@@ -321,6 +354,7 @@ fn deliver_from<P: Port>(
     core: &mut Core,
     term: &mut Term,
     port: &mut P,
+    log: &mut Log,
     start: Core,
     exception: Exception,
 ) -> Tried
@@ -335,7 +369,7 @@ fn deliver_from<P: Port>(
 {
     let before = *core;
     *core = start;
-    let delivered = try_delivery(core, term, port, exception);
+    let delivered = try_delivery(core, term, port, log, exception);
     match delivered {
         Tried::Absent(_) => {
             *core = before;
@@ -351,6 +385,7 @@ fn settle_later<P: Port>(
     core: &mut Core,
     term: &mut Term,
     port: &mut P,
+    log: &mut Log,
     start: Core,
     tried: Tried,
 ) -> Tried
@@ -364,7 +399,7 @@ fn settle_later<P: Port>(
     ensures since { (start : P) → P.since start port.old → P.since start port.new }
 {
     match tried {
-        Tried::Event(exception) => deliver_from(core, term, port, start, exception),
+        Tried::Event(exception) => deliver_from(core, term, port, log, start, exception),
         Tried::Ended(_) => {
             *core = start;
             tried
@@ -379,6 +414,8 @@ pub(crate) fn try_once<P: Port>(
     term: &mut Term,
     port: &mut P,
     latch: Option<Open>,
+    log: &mut Log,
+    scratch: &mut Scratch,
 ) -> Tried
     requires { term.old.out ≡ None }
     ensures quiet { IsFinal result }
@@ -391,12 +428,12 @@ pub(crate) fn try_once<P: Port>(
 {
     match latch {
         None => {
-            let tried = try_step(core, term, port);
-            settle(core, term, port, tried)
+            let tried = try_step(core, term, port, log, scratch);
+            settle(core, term, port, log, tried)
         }
         Some(latched) => {
-            let tried = try_later(core, term, port, latched.opcode);
-            settle_later(core, term, port, latched.start, tried)
+            let tried = try_later(core, term, port, latched.opcode, log, scratch);
+            settle_later(core, term, port, log, latched.start, tried)
         }
     }
 }
@@ -414,6 +451,8 @@ pub(crate) fn try_steps<P: Port>(
     term: &mut Term,
     port: &mut P,
     most: u64,
+    log: &mut Log,
+    scratch: &mut Scratch,
 ) -> Several
     requires unsent { term.old.out ≡ None }
     requires some { 1 ≤ most }
@@ -426,11 +465,11 @@ pub(crate) fn try_steps<P: Port>(
     ensures closed { NothingOpen core.old.psl → KeepsClosed core.new.psl result.last }
     ensures since { (start : P) → P.since start port.old → P.since start port.new }
 {
-    let mut txn = Txn::begin(core, term, port);
+    let mut txn = Txn::begin(core, term, port, log);
     let mut steps = 0;
     let mut other = Ok(Flow::Done);
     while steps + 1 < most {
-        let done = work(&mut txn, &mut other);
+        let done = work(&mut txn, &mut other, scratch);
         if !done {
             let last = conclude(txn, other);
             return Several { steps, last };
@@ -446,7 +485,7 @@ pub(crate) fn try_steps<P: Port>(
             }
         }
     }
-    let done = work_once(&mut txn);
+    let done = work_once(&mut txn, scratch);
     let last = conclude(txn, done);
     Several { steps, last }
 }

@@ -8,8 +8,9 @@ ghost use Rattle.vax_cpu.specs.Tried.{IsFinal};
 
 use crate::attempt::{Tried, settle, try_once, try_steps};
 use vax_flat::Ending;
-use vax_undo::{Port, Term};
+use vax_undo::{Log, Port, Term};
 use vax_word::Core;
+use vax_x_str::Scratch;
 
 /// A string instruction that is open between two of its parts: its opcode, the registers at its start, and how many of its units are done.
 #[derive(Clone, Copy, Debug, PartialEq, Eq)]
@@ -46,6 +47,10 @@ pub struct Cpu {
     pub core: Core,
     pub term: Term,
     pub latch: Option<Open>,
+    /// What the attempts' transactions log, lent to one after the other.
+    log: Log,
+    /// What the parts of string instructions read into.
+    scratch: Scratch,
 }
 
 /// What is answered of an instruction with the delivery of its exception.
@@ -99,6 +104,21 @@ impl Cpu {
     ghost use Rattle.vax_flat.specs.Step.{run};
     ghost use Rattle.vax_cpu.specs.Batch.{AreAttempts, IsOneAttempt, Raises};
 
+    /// A processor with these registers and this console. No string instruction is open.
+    pub fn new(core: Core, term: Term) -> Cpu
+        ensures core { result.core ≡ core }
+        ensures term { result.term ≡ term }
+        ensures latch { result.latch ≡ None }
+    {
+        Cpu {
+            core,
+            term,
+            latch: None,
+            log: Log::new(),
+            scratch: Scratch::new(),
+        }
+    }
+
     /// Makes one attempt at the step at PC, or at the next part of the string instruction that is open. Nothing that was sent to the console
     /// is left.
     ///
@@ -117,7 +137,14 @@ impl Cpu {
         ensures closed { StartsClosed self.old → StartsClosed self.new }
         ensures since { (start : P) → P.since start port.old → P.since start port.new }
     {
-        let tried = try_once(&mut self.core, &mut self.term, port, self.latch);
+        let tried = try_once(
+            &mut self.core,
+            &mut self.term,
+            port,
+            self.latch,
+            &mut self.log,
+            &mut self.scratch,
+        );
         self.latch = open_after(self.latch, tried);
         answer_of(tried)
     }
@@ -146,8 +173,21 @@ impl Cpu {
             let last = self.attempt(port);
             return Batch { steps: 0, last };
         }
-        let several = try_steps(&mut self.core, &mut self.term, port, most);
-        let last = settle(&mut self.core, &mut self.term, port, several.last);
+        let several = try_steps(
+            &mut self.core,
+            &mut self.term,
+            port,
+            most,
+            &mut self.log,
+            &mut self.scratch,
+        );
+        let last = settle(
+            &mut self.core,
+            &mut self.term,
+            port,
+            &mut self.log,
+            several.last,
+        );
         self.latch = open_after(None, last);
         Batch {
             steps: several.steps,

@@ -179,11 +179,7 @@ fn exceptions_and_interrupts(rt: HostRuntime) -> Result<(), Fail> {
         };
         core.regs[14] = 0x8010_2000;
         core.regs[15] = 0x8000_0200;
-        let mut cpu = Cpu {
-            core,
-            term: Term::new(b"AB".to_vec(alloc)?),
-            latch: None,
-        };
+        let mut cpu = Cpu::new(core, Term::new(b"AB".to_vec(alloc)?));
         let batch = cpu.attempts(&mut port, 5000);
         let last = Attempt::Ended(row.ending);
         assert_eq!(rt;

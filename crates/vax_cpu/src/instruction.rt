@@ -12,6 +12,7 @@ use vax_flat::Exception;
 use vax_isa::{Action, action};
 use vax_operand::{Cut, Flow, fetch};
 use vax_undo::{CutShort, Port, Txn};
+use vax_x_str::Scratch;
 
 /// Whether work was completed. How else it went is left in `other`: a result of several pieces would go through memory at each step.
 #[inline(always)]
@@ -31,7 +32,12 @@ pub(crate) fn noted(work: Result<Flow, CutShort>, other: &mut Result<Flow, CutSh
 /// What an instruction does whose opcode PC is past; of a string instruction its first part. It answers as [`noted`].
 #[inline(never)]
 #[tactic(auto, using(vax_undo::proofs::Left::always, crate::proofs::Attempts::same_of), unfolding(vax_flat::specs::Instruction::acted_part))]
-fn act_any<P: Port>(txn: &mut Txn<P>, action: Action, other: &mut Result<Flow, CutShort>) -> bool
+fn act_any<P: Port>(
+    txn: &mut Txn<P>,
+    action: Action,
+    other: &mut Result<Flow, CutShort>,
+    scratch: &mut Scratch,
+) -> bool
     requires { room_of_instruction ≤ room txn.old }
     ensures exact { Follows (acted_part action (present P.view txn.old).state) (present P.view txn.old) (told txn.new (came result other.new)) (present P.view txn.new) }
     ensures keeps { KeepsUnlessDone P.view P.since room_of_instruction (came result other.new) txn.old txn.new }
@@ -44,14 +50,19 @@ fn act_any<P: Port>(txn: &mut Txn<P>, action: Action, other: &mut Result<Flow, C
         Action::Call(instruction) => noted(vax_x_call::run(txn, instruction), other),
         Action::Queue(instruction) => noted(vax_x_queue::run(txn, instruction), other),
         Action::Field(instruction) => noted(vax_x_field::run(txn, instruction), other),
-        Action::Text(text) => noted(vax_x_str::start(txn, text), other),
+        Action::Text(text) => noted(vax_x_str::start(txn, text, scratch), other),
     }
 }
 
 /// The same. The two commonest sorts stand in the loop over instructions; the others are one call.
 #[inline(always)]
 #[tactic(auto, using(vax_undo::proofs::Left::always, crate::proofs::Attempts::same_of), unfolding(vax_flat::specs::Instruction::acted_part))]
-fn act<P: Port>(txn: &mut Txn<P>, action: Action, other: &mut Result<Flow, CutShort>) -> bool
+fn act<P: Port>(
+    txn: &mut Txn<P>,
+    action: Action,
+    other: &mut Result<Flow, CutShort>,
+    scratch: &mut Scratch,
+) -> bool
     requires { room_of_instruction ≤ room txn.old }
     ensures exact { Follows (acted_part action (present P.view txn.old).state) (present P.view txn.old) (told txn.new (came result other.new)) (present P.view txn.new) }
     ensures keeps { KeepsUnlessDone P.view P.since room_of_instruction (came result other.new) txn.old txn.new }
@@ -60,7 +71,7 @@ fn act<P: Port>(txn: &mut Txn<P>, action: Action, other: &mut Result<Flow, CutSh
     match action {
         Action::Integer(instruction) => noted(vax_x_int::run(txn, instruction), other),
         Action::Control(instruction) => noted(vax_x_flow::run(txn, instruction), other),
-        _ => act_any(txn, action, other),
+        _ => act_any(txn, action, other, scratch),
     }
 }
 
@@ -71,6 +82,7 @@ fn act_if<P: Port>(
     txn: &mut Txn<P>,
     action: Option<Action>,
     other: &mut Result<Flow, CutShort>,
+    scratch: &mut Scratch,
 ) -> bool
     requires { room_of_instruction ≤ room txn.old }
     ensures exact { Follows (acted_part_if action (present P.view txn.old).state) (present P.view txn.old) (told txn.new (came result other.new)) (present P.view txn.new) }
@@ -78,7 +90,7 @@ fn act_if<P: Port>(
     ensures same { IsSame P.since txn.old txn.new }
 {
     match action {
-        Some(action) => act(txn, action, other),
+        Some(action) => act(txn, action, other, scratch),
         None => noted(Err(txn.cut(Cut::Event(Exception::Privileged))), other),
     }
 }
@@ -86,14 +98,18 @@ fn act_if<P: Port>(
 /// The instruction at PC; of a string instruction its first part.
 #[inline(always)]
 #[tactic(auto, using(vax_undo::proofs::Left::behind), unfolding(vax_flat::specs::Instruction::first_part))]
-pub(crate) fn execute<P: Port>(txn: &mut Txn<P>, other: &mut Result<Flow, CutShort>) -> bool
+pub(crate) fn execute<P: Port>(
+    txn: &mut Txn<P>,
+    other: &mut Result<Flow, CutShort>,
+    scratch: &mut Scratch,
+) -> bool
     requires { room_of_beginning ≤ room txn.old }
     ensures exact { Follows (first_part (present P.view txn.old).state) (present P.view txn.old) (told txn.new (came result other.new)) (present P.view txn.new) }
     ensures keeps { KeepsUnlessDone P.view P.since room_of_beginning (came result other.new) txn.old txn.new }
     ensures same { IsSame P.since txn.old txn.new }
 {
     match fetch(txn, 1) {
-        Ok(opcode) => act_if(txn, action(opcode as u8), other),
+        Ok(opcode) => act_if(txn, action(opcode as u8), other, scratch),
         Err(short) => noted(Err(short), other),
     }
 }
@@ -101,12 +117,16 @@ pub(crate) fn execute<P: Port>(txn: &mut Txn<P>, other: &mut Result<Flow, CutSho
 /// A later part of the string instruction with this opcode.
 #[inline]
 #[tactic(auto, using(vax_x_str::proofs::Left::with_more, crate::proofs::Attempts::same_of))]
-pub(crate) fn resume<P: Port>(txn: &mut Txn<P>, opcode: u8) -> Result<Flow, CutShort>
+pub(crate) fn resume<P: Port>(
+    txn: &mut Txn<P>,
+    opcode: u8,
+    scratch: &mut Scratch,
+) -> Result<Flow, CutShort>
     requires { room_of_beginning ≤ room txn.old }
     ensures exact { Follows (resumed opcode (present P.view txn.old).state) (present P.view txn.old) (told txn.new result) (present P.view txn.new) }
     ensures keeps { KeepsUnlessDone P.view P.since room_of_beginning result txn.old txn.new }
     ensures same { IsSame P.since txn.old txn.new }
     ensures closed { ClosesIfDone result txn.new.core.now.psl }
 {
-    vax_x_str::resume(txn, opcode)
+    vax_x_str::resume(txn, opcode, scratch)
 }

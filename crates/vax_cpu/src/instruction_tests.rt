@@ -6,8 +6,9 @@ use std::process::Abort;
 use std::test::Fail;
 use vax_flat::{Cut, Exception, Flow};
 use vax_space::{Area, Bytes, Space, Violation};
-use vax_undo::{Plain, Term, Txn};
+use vax_undo::{Log, Plain, Term, Txn};
 use vax_word::{Core, Psl};
+use vax_x_str::Scratch;
 
 /// Where the bytes of a row's data begin; its code begins at 0.
 const DATA: usize = 0x400;
@@ -109,9 +110,10 @@ fn left_by(alloc: Global, row: &Row) -> Result<Left, Fail> {
         clock: 0,
     };
     let mut term = Term::new(Vec::new(alloc));
-    let mut txn = Txn::begin(&mut core, &mut term, &mut port);
+    let mut log = Log::new();
+    let mut txn = Txn::begin(&mut core, &mut term, &mut port, &mut log);
     let mut other = Ok(Flow::Done);
-    let flow = if execute(&mut txn, &mut other) {
+    let flow = if execute(&mut txn, &mut other, &mut Scratch::new()) {
         Some(Flow::Done)
     } else {
         other.ok()
@@ -252,9 +254,10 @@ fn raised_by(alloc: Global, fault: &Fault) -> Result<Option<Cut>, Fail> {
         clock: 0,
     };
     let mut term = Term::new(Vec::new(alloc));
-    let mut txn = Txn::begin(&mut core, &mut term, &mut port);
+    let mut log = Log::new();
+    let mut txn = Txn::begin(&mut core, &mut term, &mut port, &mut log);
     let mut other = Ok(Flow::Done);
-    let why = if execute(&mut txn, &mut other) || other.is_ok() {
+    let why = if execute(&mut txn, &mut other, &mut Scratch::new()) || other.is_ok() {
         None
     } else {
         Some(txn.why())

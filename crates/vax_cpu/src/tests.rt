@@ -35,11 +35,7 @@ fn registers(pc: u32, psl: u32) -> Core {
 
 /// One attempt from these registers, and the registers after it.
 fn attempt(alloc: Global, port: &mut Plain, core: Core) -> (Attempt, Core) {
-    let mut cpu = Cpu {
-        core,
-        term: Term::new(Vec::new(alloc)),
-        latch: None,
-    };
+    let mut cpu = Cpu::new(core, Term::new(Vec::new(alloc)));
     let answer = cpu.attempt(port);
     (answer, cpu.core)
 }
@@ -142,11 +138,7 @@ fn a_batch_up_to_a_halt(rt: HostRuntime) -> Result<(), Fail> {
     let alloc = rt.alloc();
     // MOVL #5,R1; MOVL R1,R2; HALT
     let mut port = memory(alloc, &[0xD0, 0x05, 0x51, 0xD0, 0x51, 0x52, 0x00])?;
-    let mut cpu = Cpu {
-        core: registers(0, 0),
-        term: Term::new(Vec::new(alloc)),
-        latch: None,
-    };
+    let mut cpu = Cpu::new(registers(0, 0), Term::new(Vec::new(alloc)));
     // The interval clock is on, and runs out with the first step. Its interrupt waits at this priority.
     cpu.core.psl = Psl(0x1F_0000);
     cpu.core.iccs = 0x40;
@@ -186,11 +178,7 @@ fn a_move_in_two_parts(rt: HostRuntime) -> Result<(), Fail> {
     bytes[1111] = 4;
     let mut port = memory(alloc, &bytes)?;
     let start = registers(0, 0);
-    let mut cpu = Cpu {
-        core: start,
-        term: Term::new(Vec::new(alloc)),
-        latch: None,
-    };
+    let mut cpu = Cpu::new(start, Term::new(Vec::new(alloc)));
     assert_eq!(rt; cpu.attempt(&mut port), Attempt::Part);
     assert_eq!(rt;
         cpu.latch,
@@ -234,15 +222,12 @@ fn an_instruction_that_is_open(rt: HostRuntime) -> Result<(), Fail> {
         core.regs[1] = 0x200;
         core.regs[2] = 0x0001_0002;
         core.regs[3] = 0x300;
-        let mut cpu = Cpu {
-            core,
-            term: Term::new(Vec::new(alloc)),
-            latch: Some(Open {
-                opcode: 0x28,
-                start,
-                units: 1,
-            }),
-        };
+        let mut cpu = Cpu::new(core, Term::new(Vec::new(alloc)));
+        cpu.latch = Some(Open {
+            opcode: 0x28,
+            start,
+            units: 1,
+        });
         let answer = if batches {
             cpu.attempts(&mut port, 3).last
         } else {

@@ -4,11 +4,11 @@ use Rattle.vax_word.specs.declared.Core.{Core}
 use Rattle.vax_space.specs.declared.Area.{Area}
 use Rattle.vax_flat.specs.Parts.{At}
 use Rattle.vax_flat.specs.Step.{Flat}
+use Rattle.vax_cpu.specs.declared.cpu.Cpu.{Cpu}
 use Rattle.vax_cpu.specs.Attempt.{flat_of}
 use Rattle.vax_pager.specs.Calls as pager
 use Rattle.vax_pager.specs.Listing.{is_listed}
 use Rattle.vax_pager.specs.Paging.{Paging}
-use Rattle.vax_undo.specs.declared.term.Term.{Term}
 use Rattle.vax_machine.specs.Machine.{AreSound}
 use Rattle.vax_machine.specs.Meaning.{starts_at}
 use Rattle.vax_machine.specs.Paged.{fresh}
@@ -38,5 +38,5 @@ module _ (s : Paging) (areas : List Area) (frames : ℕ) (is : s ≡ pager.fresh
   pub fresh_begun : (start : Flat) → record { place = At start; steps = 0; parts = 0; turns = 0; residence = residence_of s; modified = λ page. is_listed page s.modified; evictions = [] } ≡ fresh frames start
   fresh_begun start = λ i. record { place = At start; steps = 0; parts = 0; turns = 0; residence = fresh_residence i; modified = fresh_modified i; evictions = [] }
 
-pub started : (core : Core) (memory : List Area) (term : Term) (input : List ℕ) → term.input.items ≡ input → term.place ≡ 0 → record (flat_of (record { core = core; term = term; latch = None }) memory []) { ending = None } ≡ starts_at core memory input
-started core memory term input a b i = record { core = core; memory = memory; input = a i; taken = b i; output = []; ending = None }
+pub started : (cpu : Cpu) (core : Core) (memory : List Area) (input : List ℕ) → cpu.core ≡ core → cpu.term.input.items ≡ input → cpu.term.place ≡ 0 → record (flat_of cpu memory []) { ending = None } ≡ starts_at core memory input
+started cpu core memory input k a b i = record { core = k i; memory = memory; input = a i; taken = b i; output = []; ending = None }

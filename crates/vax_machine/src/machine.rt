@@ -61,11 +61,7 @@ impl Machine {
         ensures between { IfOk result (λ m. IsBetween (engine m)) }
     {
         let pager = Pager::new(alloc, space, frames)?;
-        let cpu = Cpu {
-            core,
-            term: Term::new(input),
-            latch: None,
-        };
+        let cpu = Cpu::new(core, Term::new(input));
         Ok(Machine {
             engine: Engine {
                 pager,

@@ -9,7 +9,7 @@ use std::test::Fail;
 use vax_flat::Exception;
 use vax_isa::{Letter, OperandKind};
 use vax_space::{Area, Bytes, Space};
-use vax_undo::{Plain, Term, Txn};
+use vax_undo::{Log, Plain, Term, Txn};
 use vax_word::{Core, Psl};
 
 /// Whether a specifier byte is a reserved addressing mode for such an operand, where a zero follows it. With `indexed` it stands behind
@@ -74,7 +74,8 @@ fn operand_at(alloc: Global, port: &mut Plain, kind: OperandKind, pc: u32) -> Re
     };
     core.regs[15] = pc;
     let mut term = Term::new(Vec::new(alloc));
-    let mut txn = Txn::begin(&mut core, &mut term, port);
+    let mut log = Log::new();
+    let mut txn = Txn::begin(&mut core, &mut term, port, &mut log);
     let operand = match next(&mut txn, kind) {
         Ok(operand) => Ok(operand),
         Err(CutShort) => Err(txn.why()),

@@ -32,7 +32,7 @@ impl Store {
     ghost use Rattle.vax_outside.specs.Faults.{raised};
     ghost use Rattle.vax_flat.specs.Memory.{bytes_from, number};
     ghost use Rattle.vax_flat.specs.Port.{AreBytes, first_absent, loaded, loaded_by, stop, stop_of, stored, stored_run, unless_cut, with_number, with_run};
-    ghost use Rattle.vax_undo.specs.Answers.{err_of};
+    ghost use Rattle.vax_undo.specs.Answers.{err_of, replaced};
     ghost use Rattle.vax_undo.specs.Blocks.{low_bytes};
     ghost use Rattle.vax_pager.specs.Listing.{is_listed};
     ghost use Rattle.vax_pager.specs.Paging.{view_of};
@@ -217,10 +217,24 @@ impl Store {
         let Some(high) = self.frame_of(next / PAGE_BYTES) else {
             return Err(Stop::NotResident(next / PAGE_BYTES));
         };
-        Ok(number_of_parts(
+        Ok(self.number_in_two(low, high, addr, n))
+    }
+
+    /// The number that bytes at the end of one frame and at the start of another are.
+    fn number_in_two(&self, low: u32, high: u32, addr: u32, n: u32) -> u64
+        requires sound { IsSound 0 self.now }
+        requires few { n ≤ 8 }
+        requires apart { 512 < addr % 512 + n }
+        requires low { held self.now (page_of addr) ≡ Some low }
+        requires high { held self.now (page_of (byte_after addr (512 - addr % 512))) ≡ Some high }
+        ensures { result ≡ number (view_of (paging self.now)).byte addr n }
+    {
+        let first = PAGE_BYTES - addr % PAGE_BYTES;
+        let next = addr.wrapping_add(first);
+        number_of_parts(
             self.part(low, addr, first),
             self.part(high, next, n - first),
-        ))
+        )
     }
 
     /// Some bytes of a frame.
@@ -260,36 +274,39 @@ impl Store {
         }
     }
 
-    /// Writes the `n` bytes of a number, 1 to 8.
+    /// Writes the `n` bytes of a number, 1 to 8, and gives the number that they were.
     #[inline(always)]
-    pub(crate) fn write(&mut self, addr: u32, n: u32, value: u64, mode: u8) -> Result<(), Stop>
+    #[tactic(auto, using(crate::proofs::Views::are_bytes))]
+    pub(crate) fn write(&mut self, addr: u32, n: u32, value: u64, mode: u8) -> Result<u64, Stop>
         requires sound { IsSound 0 self.old }
         requires some { 1 ≤ n }
         requires few { n ≤ 8 }
         requires of_mode { mode ≤ 3 }
         ensures sound { IsSound 0 self.new }
-        ensures answer { err_of result ≡ stop (view_of (paging self.old)) addr n mode Access.Write }
+        ensures answer { result ≡ replaced (view_of (paging self.old)) addr n mode }
+        ensures bytes { AreBytes (view_of (paging self.old)).byte }
         ensures stored { view_of (paging self.new) ≡ stored (view_of (paging self.old)) addr n value mode }
         ensures listed { OnOk result ((paging self.new).modified ≡ touched (paging self.old).modified addr n) }
         ensures unpaged { OnErr result (paging self.new ≡ paging self.old) }
         ensures only { OnlyWritten (paging self.old) (paging self.new) }
     {
         if let Some(frame) = self.frame_at_once(addr, n, mode, Access::Write) {
+            let old = self.number_in(frame, addr, n);
             self.put_number(frame, addr, n, value);
-            return Ok(());
+            return Ok(old);
         }
         self.write_slowly(addr, n, value, mode)
     }
 
     /// The same by the space and the tables.
     #[cold]
-    fn write_slowly(&mut self, addr: u32, n: u32, value: u64, mode: u8) -> Result<(), Stop>
+    fn write_slowly(&mut self, addr: u32, n: u32, value: u64, mode: u8) -> Result<u64, Stop>
         requires sound { IsSound 0 self.old }
         requires some { 1 ≤ n }
         requires few { n ≤ 8 }
         requires of_mode { mode ≤ 3 }
         ensures sound { IsSound 0 self.new }
-        ensures answer { err_of result ≡ stop (view_of (paging self.old)) addr n mode Access.Write }
+        ensures answer { result ≡ replaced (view_of (paging self.old)) addr n mode }
         ensures stored { view_of (paging self.new) ≡ stored (view_of (paging self.old)) addr n value mode }
         ensures listed { OnOk result ((paging self.new).modified ≡ touched (paging self.old).modified addr n) }
         ensures unpaged { OnErr result (paging self.new ≡ paging self.old) }
@@ -303,23 +320,24 @@ impl Store {
         }
         match self.frame_of(addr / PAGE_BYTES) {
             Some(frame) => {
+                let old = self.number_in(frame, addr, n);
                 self.touch(addr / PAGE_BYTES, frame);
                 self.put_number(frame, addr, n, value);
-                Ok(())
+                Ok(old)
             }
             None => Err(Stop::NotResident(addr / PAGE_BYTES)),
         }
     }
 
-    /// Writes a number that goes on in the next page.
-    fn write_apart(&mut self, addr: u32, n: u32, value: u64) -> Result<(), Stop>
+    /// Writes a number that goes on in the next page, and gives the number that was there.
+    fn write_apart(&mut self, addr: u32, n: u32, value: u64) -> Result<u64, Stop>
         requires sound { IsSound 0 self.old }
         requires few { n ≤ 8 }
         requires apart { 512 < addr % 512 + n }
         requires low { is_some (block_of (paging self.old).areas (page_of addr)) ≡ true }
         requires high { is_some (block_of (paging self.old).areas (page_of (byte_after addr (512 - addr % 512)))) ≡ true }
         ensures sound { IsSound 0 self.new }
-        ensures answer { err_of result ≡ stop_of None (first_absent (view_of (paging self.old)).resident addr n) }
+        ensures answer { result ≡ loaded_by (stop_of None (first_absent (view_of (paging self.old)).resident addr n)) (number (view_of (paging self.old)).byte addr n) }
         ensures stored { view_of (paging self.new) ≡ unless_cut (stop_of None (first_absent (view_of (paging self.old)).resident addr n)) (view_of (paging self.old)) (with_number (view_of (paging self.old)) addr n value) }
         ensures listed { OnOk result ((paging self.new).modified ≡ touched (paging self.old).modified addr n) }
         ensures unpaged { OnErr result (paging self.new ≡ paging self.old) }
@@ -333,12 +351,13 @@ impl Store {
         let Some(high) = self.frame_of(next / PAGE_BYTES) else {
             return Err(Stop::NotResident(next / PAGE_BYTES));
         };
+        let old = self.number_in_two(low, high, addr, n);
         self.touch(addr / PAGE_BYTES, low);
         self.touch(next / PAGE_BYTES, high);
         let bytes = value.to_le_bytes();
         self.put_run(high, next, &bytes[first as usize..n as usize]);
         self.put_run(low, addr, &bytes[..first as usize]);
-        Ok(())
+        Ok(old)
     }
 
     /// Writes a run that lies within one page.

@@ -11,7 +11,7 @@ impl Port for Pager {
     ghost use Rattle.vax_space.specs.Reference.{page_of};
     ghost use Rattle.vax_flat.specs.Memory.{bytes_from};
     ghost use Rattle.vax_flat.specs.Port.{AreBytes, loaded, stop, stored, stored_run};
-    ghost use Rattle.vax_undo.specs.Answers.{err_of};
+    ghost use Rattle.vax_undo.specs.Answers.{err_of, replaced};
     ghost use Rattle.vax_pager.specs.Steps.{touched};
     ghost use Rattle.vax_pager.specs.Meaning.{hits, in_buffer, pages, since, view};
     ghost use Rattle.vax_pager.specs.declared.pager.Pager.{Pager};
@@ -42,12 +42,13 @@ impl Port for Pager {
     }
 
     #[inline(always)]
-    fn write(&mut self, addr: u32, n: u32, value: u64, mode: u8) -> Result<(), Stop>
+    fn write(&mut self, addr: u32, n: u32, value: u64, mode: u8) -> Result<u64, Stop>
         requires some { 1 ≤ n }
         requires few { n ≤ 8 }
         requires of_mode { mode ≤ 3 }
         requires fits { value < 256 ^ n }
-        ensures answer { err_of result ≡ stop (view self.old) addr n mode Access.Write }
+        ensures answer { result ≡ replaced (view self.old) addr n mode }
+        ensures bytes { AreBytes (view self.old).byte }
         ensures stored { view self.new ≡ stored (view self.old) addr n value mode }
         ensures since { (start : Pager) → since start self.old → since start self.new }
         ensures listed { OnOk result ((pages self.new).modified ≡ touched (pages self.old).modified addr n) }

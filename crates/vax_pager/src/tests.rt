@@ -123,7 +123,7 @@ fn read(pager: &mut Pager, addr: u32, n: u32) -> Answer {
     }
 }
 
-/// Writes a number of 1, 2 or 4 bytes in user mode.
+/// Writes a number of 1, 2 or 4 bytes in user mode. The answer is the number that was there.
 fn write(pager: &mut Pager, addr: u32, n: u32, value: u64) -> Answer {
     let fits = match n {
         1 => value < 0x100,
@@ -135,7 +135,7 @@ fn write(pager: &mut Pager, addr: u32, n: u32, value: u64) -> Answer {
         return Answer::Refused;
     }
     match pager.write(addr, n, value, USER) {
-        Ok(()) => Answer::Done,
+        Ok(old) => Answer::Value(old),
         Err(stop) => Answer::Stopped(stop),
     }
 }
@@ -214,7 +214,7 @@ fn changed_block(rt: HostRuntime) -> Result<(), Fail> {
         &mut pager,
         &mut file,
         &[
-            (Call::Write(5, 1, 0xA7), Answer::Done),
+            (Call::Write(5, 1, 0xA7), Answer::Value(0)),
             (Call::Blocks, Answer::Blocks(0, 0)),
             (Call::Serve(64), Answer::Page(Some(0))),
             (Call::Blocks, Answer::Blocks(1, 0)),
@@ -241,7 +241,7 @@ fn kept_frame(rt: HostRuntime) -> Result<(), Fail> {
         &mut file,
         &[
             (Call::Serve(7), Answer::Page(None)),
-            (Call::Write(0xE00, 1, 0x77), Answer::Done),
+            (Call::Write(0xE00, 1, 0x77), Answer::Value(0)),
             (Call::Evict(7), Answer::Is(true)),
             (Call::Blocks, Answer::Blocks(1, 0)),
             (Call::Kept, Answer::Value(1)),
@@ -303,7 +303,9 @@ fn reads_and_writes(rt: HostRuntime) -> Result<(), Fail> {
             ),
             (Call::NextFlush, Answer::Page(None)),
             (Call::Serve(1), Answer::Page(None)),
-            (Call::Write(0x1FE, 4, 0x4433_2211), Answer::Done),
+            (Call::Write(0x1FE, 4, 0x6655_2211), Answer::Value(0)),
+            (Call::Write(0x1FF, 2, 0x3322), Answer::Value(0x5522)),
+            (Call::Write(0x200, 2, 0x4433), Answer::Value(0x6633)),
             (Call::Read(0x1FE, 4), Answer::Value(0x4433_2211)),
             (Call::NextFlush, Answer::Page(Some(0))),
             (Call::Flush(0), Answer::Is(true)),
@@ -404,7 +406,7 @@ fn pokes(rt: HostRuntime) -> Result<(), Fail> {
     Ok(())
 }
 
-/// Writes to 70 pages three times. The answer tells how often a page had to be asked for again.
+/// Writes to 70 pages three times, each time where the last write's number is. The answer tells how often a page had to be asked for again.
 fn rounds(rt: &impl Abort, pager: &mut Pager, file: &mut MemPages) -> u64 {
     let mut faults = 0u64;
     for round in 0..3u32 {
@@ -421,7 +423,16 @@ fn rounds(rt: &impl Abort, pager: &mut Pager, file: &mut MemPages) -> u64 {
                 faults = faults.saturating_add(1);
             }
             let call = Call::Write(page * 512 + 8, 4, u64::from(page + 60 * round));
-            assert_eq!(rt; make_call(pager, file, call), Answer::Done, "page {page}");
+            let old = if round == 0 {
+                0
+            } else {
+                page + 60 * (round - 1)
+            };
+            assert_eq!(rt;
+                make_call(pager, file, call),
+                Answer::Value(u64::from(old)),
+                "page {page}"
+            );
         }
     }
     faults

@@ -27,7 +27,6 @@ put_back-core kept.Register e p = refl
 put_back-core kept.Stack e p = refl
 put_back-core kept.Requests e p = refl
 put_back-core kept.Timer e p = refl
-put_back-core kept.Clock e p = refl
 put_back-core kept.Taken e p = refl
 put_back-core kept.Sent e p = refl
 put_back-core kept.Bytes e p = refl
@@ -37,7 +36,6 @@ fits long areas resident marked kept.Register e a = a
 fits long areas resident marked kept.Stack e a = a
 fits long areas resident marked kept.Requests e a = a
 fits long areas resident marked kept.Timer e a = a
-fits long areas resident marked kept.Clock e a = a
 fits long areas resident marked kept.Taken e a = tt
 fits long areas resident marked kept.Sent e a = tt
 fits long areas resident marked kept.Bytes e a = tt
@@ -54,10 +52,10 @@ one_back core new log rest e start items is back = (
 )
 
 pub all_back : (core : Core) (log : List Entry) (start : Present) (o : Origin) → log ≡ [] → IsBackTo core log start →
-    record core { regs = slice_set core.regs 15 o.pc; psl = o.psl } ≡ (restart o start).state.core
+    record core { regs = slice_set core.regs 15 o.pc; psl = o.psl; clock = o.clock } ≡ (restart o start).state.core
 all_back core log start o empty back =
     let whole : back.0 ≡ start = ap (λ l. undo_all l back.0) (sym empty) ∙ back.2 in
-    ap (λ (c : Core). record c { regs = slice_set c.regs 15 o.pc; psl = o.psl }) (sym back.1 ∙ ap (λ (p : Present). p.state.core) whole)
+    ap (λ (c : Core). record c { regs = slice_set c.regs 15 o.pc; psl = o.psl; clock = o.clock }) (sym back.1 ∙ ap (λ (p : Present). p.state.core) whole)
 
 -- registers and console are put back alike whatever the port shows
 put_back-state : (k : Kept) (e : Entry) (p q : Present) → p.state ≡ q.state → (put_back k e p).state ≡ (put_back k e q).state
@@ -65,7 +63,6 @@ put_back-state kept.Register e p q h = ap (λ (s : State). (put_back kept.Regist
 put_back-state kept.Stack e p q h = ap (λ (s : State). (put_back kept.Stack e (record { state = s; view = p.view })).state) h
 put_back-state kept.Requests e p q h = ap (λ (s : State). (put_back kept.Requests e (record { state = s; view = p.view })).state) h
 put_back-state kept.Timer e p q h = ap (λ (s : State). (put_back kept.Timer e (record { state = s; view = p.view })).state) h
-put_back-state kept.Clock e p q h = ap (λ (s : State). (put_back kept.Clock e (record { state = s; view = p.view })).state) h
 put_back-state kept.Taken e p q h = ap (λ (s : State). (put_back kept.Taken e (record { state = s; view = p.view })).state) h
 put_back-state kept.Sent e p q h = ap (λ (s : State). (put_back kept.Sent e (record { state = s; view = p.view })).state) h
 put_back-state kept.Bytes e p q h = h
@@ -79,16 +76,16 @@ restart-state o p q h = ap (λ (s : State). (restart o (record { state = s; view
 
 -- a write that isn't logged
 pub left_open : {P : Type 0} (view : P → View) (along : P → P → Type 0) (old new : Transaction P) →
-    new.log.items ≡ old.log.items → new.origin ≡ old.origin → (present view new).state ≡ (present view old).state → IsSame along old new →
+    new.log.now.entries.items ≡ old.log.now.entries.items → new.origin ≡ old.origin → (present view new).state ≡ (present view old).state → IsSame along old new →
     (view new.port.now).areas ≡ (view old.port.now).areas → (view new.port.now).resident ≡ (view old.port.now).resident →
     ((page : ℕ) → (view old.port.now).marked page ≡ true → (view new.port.now).marked page ≡ true) → room old ≤ room new + 0 → IsLeftOpen view along 0 old new
 left_open view along old new items origin state same areas resident more enough = record {
-  state = ap (λ o. (restart o (undo_all new.log.items (bare (present view new)))).state) origin
+  state = ap (λ o. (restart o (undo_all new.log.now.entries.items (bare (present view new)))).state) origin
       ∙ (ap (λ log. (restart old.origin (undo_all log (bare (present view new)))).state) items
-      ∙ restart-state old.origin (undo_all old.log.items (bare (present view new))) (undo_all old.log.items (bare (present view old)))
-      (undo_all-state old.log.items (bare (present view new)) (bare (present view old)) state));
+      ∙ restart-state old.origin (undo_all old.log.now.entries.items (bare (present view new))) (undo_all old.log.now.entries.items (bare (present view old)))
+      (undo_all-state old.log.now.entries.items (bare (present view new)) (bare (present view old)) state));
   ready = λ ready. rw (items, areas, resident, same.input)
-      (all_marked (vec_len old.term.now.input) (view old.port.now).areas (view old.port.now).resident (view old.port.now).marked (view new.port.now).marked more old.log.items ready);
+      (all_marked (vec_len old.term.now.input) (view old.port.now).areas (view old.port.now).resident (view old.port.now).marked (view new.port.now).marked more old.log.now.entries.items ready);
   room = enough;
   same = same;
 }
@@ -101,7 +98,7 @@ stored_alike (Some s) view addr bytes = (refl, refl, λ page h. h)
 stored_alike None view addr bytes = (refl, refl, λ page h. marks_stay view.marked addr (length bytes) page h)
 
 pub run_left : {P : Type 0} (view : P → View) (along : P → P → Type 0) (old new : Transaction P) (addr : ℕ) (bytes : List ℕ) (mode : ℕ) →
-    new.log.items ≡ old.log.items → new.origin ≡ old.origin → present view new ≡ with_view (present view old) (stored_run (view old.port.now) addr bytes mode) → IsSame along old new →
+    new.log.now.entries.items ≡ old.log.now.entries.items → new.origin ≡ old.origin → present view new ≡ with_view (present view old) (stored_run (view old.port.now) addr bytes mode) → IsSame along old new →
     room old ≤ room new + 0 → IsLeftOpen view along 0 old new
 run_left view along old new addr bytes mode items origin is same enough =
     let v : view new.port.now ≡ stored_run (view old.port.now) addr bytes mode = ap (λ (p : Present). p.view) is in

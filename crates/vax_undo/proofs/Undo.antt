@@ -1,6 +1,5 @@
 -- What keeps a transaction.
-use Rattle.std.proofs.Common.{Bool, true, false, zero, suc, inl, inr, ◌≡◌, ℕ, ◌^◌, ◌<◌, Option, Some, None, Result, Ok, Err, List, [], ◌∷◌, ◌++◌, refl, ap, sym, subst, ◌∙◌, arith, length-append}
-use Rattle.std.proofs.lemmas.Bool.{cases_Bool}
+use Rattle.std.proofs.Common.{Bool, true, false, zero, suc, ◌≡◌, ℕ, ◌^◌, ◌<◌, Option, Some, None, Result, Ok, Err, List, [], ◌∷◌, ◌++◌, refl, ap, sym, subst, ◌∙◌, arith, length-append}
 use Rattle.std.proofs.lemmas.List.{set-get_or, set-set}
 use Rattle.std.proofs.Math.Path.{fun_ext}
 use Rattle.std.specs.Prelude.{slice_index, slice_set, IfOk, ◌||◌, vec_len}
@@ -8,11 +7,7 @@ use Rattle.vax_undo.specs.FirstPart.{first_part_done}
 use Rattle.vax_space.specs.declared.Access.TheVariants.{Read, Write}
 use Rattle.vax_space.specs.declared.Area.{Area}
 use Rattle.vax_space.specs.declared.Violation.{Violation}
-use Rattle.vax_space.specs.declared.Right.{Right}
-use Rattle.vax_space.specs.declared.Right.TheVariants.{Nothing, ReadOnly, ReadWrite}
-use Rattle.vax_space.specs.Protection.{permits, allows, right_of}
-use Rattle.vax_space.specs.Areas.{prot_of}
-use Rattle.vax_space.specs.Reference.{violation, violation_at, may_access, permitted, page_of, byte_after}
+use Rattle.vax_space.specs.Reference.{violation}
 use Rattle.vax_flat.specs.declared.Stop.{Stop}
 use Rattle.vax_flat.specs.Memory.{number}
 use Rattle.vax_flat.specs.Port.{View, AreBytes, put, first_absent, stop, stop_of, loaded, loaded_by, stored, with_number, with_number_back, is_in, marking, unmarked}
@@ -24,6 +19,7 @@ use Rattle.vax_undo.specs.declared.entry.Kept.{Kept}
 use Rattle.vax_undo.specs.declared.entry.Kept.TheVariants as kept
 use Rattle.vax_undo.specs.declared.txn.Txn.{Txn as Transaction}
 use Rattle.vax_undo.specs.declared.txn.Origin.{Origin}
+use Rattle.vax_undo.specs.Answers.{replaced}
 use Rattle.vax_undo.specs.Transaction.{bare, put_back, undo, undo_all, restart, with_state, Allows, AllowsAll, present, IsSame, Keeps}
 
 pub undo_all-append : (log : List Entry) (e : Entry) (p : Present) → undo_all (log ++ e ∷ []) p ≡ undo_all log (undo e p)
@@ -55,7 +51,6 @@ module _ (long : ℕ) (areas : List Area) (resident old new : ℕ → Bool) (mor
   allows_marked kept.Stack e a = a
   allows_marked kept.Requests e a = a
   allows_marked kept.Timer e a = a
-  allows_marked kept.Clock e a = a
   allows_marked kept.Taken e a = a
   allows_marked kept.Sent e a = a
   allows_marked kept.Bytes e a = (a.0, a.1, a.2, a.3, a.4, a.5, λ page h. more page (a.6 page h))
@@ -70,7 +65,6 @@ put_back-marked kept.Register e p = refl
 put_back-marked kept.Stack e p = refl
 put_back-marked kept.Requests e p = refl
 put_back-marked kept.Timer e p = refl
-put_back-marked kept.Clock e p = refl
 put_back-marked kept.Taken e p = refl
 put_back-marked kept.Sent e p = refl
 put_back-marked kept.Bytes e p = refl
@@ -80,23 +74,22 @@ put_back-bare kept.Register e p = refl
 put_back-bare kept.Stack e p = refl
 put_back-bare kept.Requests e p = refl
 put_back-bare kept.Timer e p = refl
-put_back-bare kept.Clock e p = refl
 put_back-bare kept.Taken e p = refl
 put_back-bare kept.Sent e p = refl
 put_back-bare kept.Bytes e p = refl
 
 -- one more entry, which undoes what was done but for the marks
 pub logged_marked : {P : Type 0} (view : P → View) (along : P → P → Type 0) (old new : Transaction P) (e : Entry) →
-    new.log.items ≡ old.log.items ++ e ∷ [] → new.origin ≡ old.origin → new.core.now.psl ≡ old.core.now.psl → IsSame along old new → undo e (bare (present view new)) ≡ bare (present view old) →
+    new.log.now.entries.items ≡ old.log.now.entries.items ++ e ∷ [] → new.origin ≡ old.origin → new.core.now.psl ≡ old.core.now.psl → IsSame along old new → undo e (bare (present view new)) ≡ bare (present view old) →
     (view new.port.now).areas ≡ (view old.port.now).areas → (view new.port.now).resident ≡ (view old.port.now).resident →
     ((page : ℕ) → (view old.port.now).marked page ≡ true → (view new.port.now).marked page ≡ true) →
     Allows (vec_len old.term.now.input) (view old.port.now).areas (view old.port.now).resident (view new.port.now).marked e.kept e → Keeps view along 1 old new
 logged_marked view along old new e items origin psl same back areas resident more one = record {
-  undone = ap (λ o. restart o (undo_all new.log.items (bare (present view new)))) origin
-      ∙ ap (restart old.origin) (ap (λ log. undo_all log (bare (present view new))) items ∙ (undo_all-append old.log.items e (bare (present view new)) ∙ ap (undo_all old.log.items) back));
+  undone = ap (λ o. restart o (undo_all new.log.now.entries.items (bare (present view new)))) origin
+      ∙ ap (restart old.origin) (ap (λ log. undo_all log (bare (present view new))) items ∙ (undo_all-append old.log.now.entries.items e (bare (present view new)) ∙ ap (undo_all old.log.now.entries.items) back));
   ready = λ ready. rw (items, same.input, areas, resident)
-      (allows_one_more (vec_len old.term.now.input) (view old.port.now).areas (view old.port.now).resident (view new.port.now).marked old.log.items e
-      (all_marked (vec_len old.term.now.input) (view old.port.now).areas (view old.port.now).resident (view old.port.now).marked (view new.port.now).marked more old.log.items ready) one);
+      (allows_one_more (vec_len old.term.now.input) (view old.port.now).areas (view old.port.now).resident (view new.port.now).marked old.log.now.entries.items e
+      (all_marked (vec_len old.term.now.input) (view old.port.now).areas (view old.port.now).resident (view old.port.now).marked (view new.port.now).marked more old.log.now.entries.items ready) one);
   room = rw items (simp length-append (omega arith));
   closed = let same : first_part_done new.core.now.psl ≡ first_part_done old.core.now.psl = ap first_part_done psl in omega (arith, same);
   same = same;
@@ -104,7 +97,7 @@ logged_marked view along old new e items origin psl same back areas resident mor
 
 -- one more entry, which undoes what was done
 pub logged : {P : Type 0} (view : P → View) (along : P → P → Type 0) (old new : Transaction P) (e : Entry) →
-    new.log.items ≡ old.log.items ++ e ∷ [] → new.origin ≡ old.origin → new.core.now.psl ≡ old.core.now.psl → IsSame along old new → undo e (present view new) ≡ present view old →
+    new.log.now.entries.items ≡ old.log.now.entries.items ++ e ∷ [] → new.origin ≡ old.origin → new.core.now.psl ≡ old.core.now.psl → IsSame along old new → undo e (present view new) ≡ present view old →
     (view new.port.now).areas ≡ (view old.port.now).areas → (view new.port.now).resident ≡ (view old.port.now).resident →
     Allows (vec_len old.term.now.input) (view old.port.now).areas (view old.port.now).resident (view old.port.now).marked e.kept e → Keeps view along 1 old new
 logged view along old new e items origin psl same back areas resident one =
@@ -125,14 +118,13 @@ abbrev with_registers : Present → List ℕ → Present
 with_registers p regs = with_state p (record p.state { core = record p.state.core { regs = regs } })
 
 restart_once : (o : Origin) (p : Present) → restart o p ≡ restart o (restart o p)
-restart_once o p = sym (ap (λ regs. with_state p (record p.state { core = record p.state.core { regs = regs; psl = o.psl } })) (set-set p.state.core.regs 15 o.pc o.pc))
+restart_once o p = sym (ap (λ regs. with_state p (record p.state { core = record p.state.core { regs = regs; psl = o.psl; clock = o.clock } })) (set-set p.state.core.regs 15 o.pc o.pc))
 
 put_back-restart : (k : Kept) (e : Entry) (o : Origin) (p : Present) → restart o (put_back k e p) ≡ restart o (put_back k e (restart o p))
-put_back-restart kept.Register e o p = ap (λ regs. with_state p (record p.state { core = record p.state.core { regs = regs; psl = o.psl } })) (sets_over p.state.core.regs e.number 15 e.old o.pc)
+put_back-restart kept.Register e o p = ap (λ regs. with_state p (record p.state { core = record p.state.core { regs = regs; psl = o.psl; clock = o.clock } })) (sets_over p.state.core.regs e.number 15 e.old o.pc)
 put_back-restart kept.Stack e o p = restart_once o (put_back kept.Stack e p)
 put_back-restart kept.Requests e o p = restart_once o (put_back kept.Requests e p)
 put_back-restart kept.Timer e o p = restart_once o (put_back kept.Timer e p)
-put_back-restart kept.Clock e o p = restart_once o (put_back kept.Clock e p)
 put_back-restart kept.Taken e o p = restart_once o (put_back kept.Taken e p)
 put_back-restart kept.Sent e o p = restart_once o (put_back kept.Sent e p)
 put_back-restart kept.Bytes e o p = restart_once o (put_back kept.Bytes e p)
@@ -143,16 +135,16 @@ undo_all-restart o (e ∷ es) p =
     put_back-restart e.kept e o (undo_all es p)
     ∙ (ap (λ q. restart o (undo e q)) (undo_all-restart o es p) ∙ sym (put_back-restart e.kept e o (undo_all es (restart o p))))
 
--- what is alike but for PC and the status longword is undone alike
+-- what is alike but for what a restart puts back is undone alike
 pub undone_alike : (o : Origin) (log : List Entry) (p q : Present) → restart o p ≡ restart o q → restart o (undo_all log p) ≡ restart o (undo_all log q)
 undone_alike o log p q h = undo_all-restart o log p ∙ (ap (λ r. restart o (undo_all log r)) h ∙ sym (undo_all-restart o log q))
 
 -- PC was set
 pub pc_set : (o : Origin) (p : Present) (v : ℕ) → restart o (with_state p (with_register p.state 15 v)) ≡ restart o p
-pc_set o p v = ap (λ regs. with_state p (record p.state { core = record p.state.core { regs = regs; psl = o.psl } })) (set-set p.state.core.regs 15 v o.pc)
+pc_set o p v = ap (λ regs. with_state p (record p.state { core = record p.state.core { regs = regs; psl = o.psl; clock = o.clock } })) (set-set p.state.core.regs 15 v o.pc)
 
 -- where a transaction begins, nothing is left to put back
-pub restart_here : (p : Present) → restart (record { pc = slice_index p.state.core.regs 15; psl = p.state.core.psl }) p ≡ p
+pub restart_here : (p : Present) → restart (record { pc = slice_index p.state.core.regs 15; psl = p.state.core.psl; clock = p.state.core.clock }) p ≡ p
 restart_here p = ap (with_registers p) (set-get_or p.state.core.regs 15 0)
 
 -- a value that was overwritten is put back
@@ -179,52 +171,22 @@ is_free view addr len mode h = stop_parts (violation view.areas addr len mode Wr
 pub not_stopped : (view : View) (addr len mode : ℕ) → violation view.areas addr len mode Write ≡ None → first_absent view.resident addr len ≡ None → None ≡ stop view addr len mode Write
 not_stopped view addr len mode v p = rw (v, p) refl
 
-permits_read : (right : Right) → permits right Write ≡ true → permits right Read ≡ true
-permits_read Nothing h = h
-permits_read ReadOnly h = refl
-permits_read ReadWrite h = refl
+-- what a write answers
+pub replaced_stop : (view : View) (addr len mode : ℕ) (s : Stop) → Err s ≡ replaced view addr len mode → Some s ≡ stop view addr len mode Write
+replaced_stop view addr len mode s h = sym (loaded_some (stop view addr len mode Write) (number view.byte addr len) s (sym h))
 
-permitted_read : (prot : Option ℕ) (mode : ℕ) → permitted prot mode Write ≡ true → permitted prot mode Read ≡ true
-unfolding allows
-permitted_read None mode h = h
-permitted_read (Some code) mode h = permits_read (right_of code mode) h
-
-accessible_too : (areas : List Area) (page mode : ℕ) → may_access areas page mode Write ≡ true → may_access areas page mode Read ≡ true
-unfolding may_access
-accessible_too areas page mode h = permitted_read (prot_of areas page) mode h
-
--- what may be written may be read
-writable_is_readable : (areas : List Area) (addr len mode : ℕ) → violation areas addr len mode Write ≡ None → violation areas addr len mode Read ≡ None
-unfolding violation
-writable_is_readable areas addr zero mode h = refl
-writable_is_readable areas addr (suc len) mode h =
-    elim (cases_Bool (may_access areas (page_of addr) mode Write)) [
-      | inl can ↦
-          let rest : violation areas (byte_after addr 1) len mode Write ≡ None = rw can at h in
-          rw (accessible_too areas (page_of addr) mode can) (writable_is_readable areas (byte_after addr 1) len mode rest)
-      | inr cannot ↦ let no : Some (violation_at areas addr Write) ≡ None = rw cannot at h in cc
-    ]
-
--- where a range may be written, a read of it is stopped where a write is
-stops_alike : (view : View) (addr len mode : ℕ) → violation view.areas addr len mode Write ≡ None → stop view addr len mode Write ≡ stop view addr len mode Read
-stops_alike view addr len mode h = rw (h, writable_is_readable view.areas addr len mode h) refl
-
--- where a write is allowed and the read before it was stopped
-pub stopped_read : (view : View) (addr len mode : ℕ) (s : Stop) → None ≡ violation view.areas addr len mode Write → Err s ≡ loaded view addr len mode → Some s ≡ stop view addr len mode Write
-stopped_read view addr len mode s h r =
-    sym (stops_alike view addr len mode (sym h) ∙ loaded_some (stop view addr len mode Read) (number view.byte addr len) s (sym r))
-
-pub stopped_store : (view : View) (addr len value mode : ℕ) (s : Stop) → Some s ≡ stop view addr len mode Write → stored view addr len value mode ≡ view
-stopped_store view addr len value mode s h = rw (← h) refl
+pub replaced_old : (view : View) (addr len old mode : ℕ) → Ok old ≡ replaced view addr len mode → (None ≡ stop view addr len mode Write) × (number view.byte addr len ≡ old)
+replaced_old view addr len old mode h =
+    let e = loaded_none (stop view addr len mode Write) (number view.byte addr len) old (sym h) in
+    (sym e.0, e.1)
 
 pub full_store : (view : View) (addr len value mode : ℕ) → None ≡ stop view addr len mode Write → stored view addr len value mode ≡ with_number view addr len value
 full_store view addr len value mode h = rw (← h) refl
 
 -- the bytes before a write are put back
-pub bytes_back : (view : View) (addr len value old mode : ℕ) → AreBytes view.byte → Ok old ≡ loaded view addr len mode → with_number_back (unmarked (with_number view addr len value)) addr len old ≡ unmarked view
-bytes_back view addr len value old mode bytes r =
-    let e = loaded_none (stop view addr len mode Read) (number view.byte addr len) old (sym r) in
-    rw (← e.1) (ap (λ (byte : ℕ → ℕ). unmarked (record view { byte = byte })) (put-put view.byte addr len value bytes))
+pub bytes_back : (view : View) (addr len value old : ℕ) → AreBytes view.byte → number view.byte addr len ≡ old → with_number_back (unmarked (with_number view addr len value)) addr len old ≡ unmarked view
+bytes_back view addr len value old bytes is =
+    rw (← is) (ap (λ (byte : ℕ → ℕ). unmarked (record view { byte = byte })) (put-put view.byte addr len value bytes))
 
 -- a write leaves the marks, and marks its range
 pub marks_stay : (marked : ℕ → Bool) (addr len page : ℕ) → marked page ≡ true → marking marked addr len page ≡ true
@@ -237,13 +199,11 @@ either false b h = h
 pub marks_range : (marked : ℕ → Bool) (addr len page : ℕ) → is_in addr len page ≡ true → marking marked addr len page ≡ true
 marks_range marked addr len page h = either (marked page) (is_in addr len page) h
 
-pub old_fits : (view : View) (addr len old mode : ℕ) → AreBytes view.byte → Ok old ≡ loaded view addr len mode → old < 256 ^ len
-old_fits view addr len old mode bytes r =
-    let e = loaded_none (stop view addr len mode Read) (number view.byte addr len) old (sym r) in
-    rw (← e.1) (number-below view.byte addr len bytes)
+pub old_fits : (view : View) (addr len old : ℕ) → AreBytes view.byte → number view.byte addr len ≡ old → old < 256 ^ len
+old_fits view addr len old bytes is = rw (← is) (number-below view.byte addr len bytes)
 
 pub loaded_fits : (view : View) (addr len mode : ℕ) (r : Result ℕ Stop) → AreBytes view.byte → r ≡ loaded view addr len mode → IfOk r (λ v. v < 256 ^ len)
-loaded_fits view addr len mode (Ok v) bytes e = old_fits view addr len v mode bytes e
+loaded_fits view addr len mode (Ok v) bytes e = old_fits view addr len v bytes (loaded_none (stop view addr len mode Read) (number view.byte addr len) v (sym e)).1
 loaded_fits view addr len mode (Err s) bytes e = tt
 
 -- one turn of unwinding
@@ -267,7 +227,6 @@ put_back-areas kept.Register e p = refl
 put_back-areas kept.Stack e p = refl
 put_back-areas kept.Requests e p = refl
 put_back-areas kept.Timer e p = refl
-put_back-areas kept.Clock e p = refl
 put_back-areas kept.Taken e p = refl
 put_back-areas kept.Sent e p = refl
 put_back-areas kept.Bytes e p = refl
@@ -277,7 +236,6 @@ put_back-resident kept.Register e p = refl
 put_back-resident kept.Stack e p = refl
 put_back-resident kept.Requests e p = refl
 put_back-resident kept.Timer e p = refl
-put_back-resident kept.Clock e p = refl
 put_back-resident kept.Taken e p = refl
 put_back-resident kept.Sent e p = refl
 put_back-resident kept.Bytes e p = refl

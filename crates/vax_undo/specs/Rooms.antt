@@ -7,11 +7,11 @@ room_of_delivery = 16
 
 -- the interval clock
 abbrev pub room_of_tick : ℕ
-room_of_tick = 2
+room_of_tick = 1
 
 -- what follows an instruction: a trap's delivery, and the clock
 abbrev pub room_of_end : ℕ
-room_of_end = 18
+room_of_end = 17
 
 -- an instruction of the system or one that transfers control, whose opcode PC is past: a change of mode reads an operand and is delivered
 abbrev pub room_of_transfer : ℕ
@@ -51,4 +51,4 @@ room_of_beginning = 67
 
 -- a step
 abbrev pub room_of_step : ℕ
-room_of_step = 85
+room_of_step = 84

@@ -13,7 +13,7 @@ use Rattle.vax_flat.specs.Port.{View, first_absent, is_in, unmarked, with_number
 use Rattle.vax_flat.specs.OverPort.{Present}
 use Rattle.vax_undo.specs.declared.entry.Entry.{Entry}
 use Rattle.vax_undo.specs.declared.entry.Kept.{Kept}
-use Rattle.vax_undo.specs.declared.entry.Kept.TheVariants.{Register, Stack, Requests, Timer, Clock, Taken, Sent, Bytes}
+use Rattle.vax_undo.specs.declared.entry.Kept.TheVariants.{Register, Stack, Requests, Timer, Taken, Sent, Bytes}
 use Rattle.vax_undo.specs.declared.term.Term.{Term}
 use Rattle.vax_undo.specs.declared.txn.CutShort.{CutShort}
 use Rattle.vax_undo.specs.declared.txn.Origin.{Origin}
@@ -54,7 +54,6 @@ put_back Register e p = with_state p (with_register p.state e.number e.old)
 put_back Stack e p = with_state p (with_stack p.state e.number e.old)
 put_back Requests e p = with_state p (with_requests p.state e.old)
 put_back Timer e p = with_state p (with_timer p.state e.old)
-put_back Clock e p = with_state p (with_clock p.state e.old)
 put_back Taken e p = with_state p (with_taken p.state e.old)
 put_back Sent e p = with_state p (with_sent p.state (sent_of e.old))
 put_back Bytes e p = with_view p (with_number_back p.view e.addr e.number e.old)
@@ -68,7 +67,6 @@ restored_by Register e core = record core { regs = slice_set core.regs e.number 
 restored_by Stack e core = record core { stacks = slice_set core.stacks e.number e.old }
 restored_by Requests e core = record core { sisr = e.old }
 restored_by Timer e core = record core { iccs = e.old }
-restored_by Clock e core = record core { clock = e.old }
 restored_by Taken e core = core
 restored_by Sent e core = core
 restored_by Bytes e core = core
@@ -79,7 +77,6 @@ FitsIn Register e = (e.number < 16) × (e.old < 2 ^ 32)
 FitsIn Stack e = (e.number < 5) × (e.old < 2 ^ 32)
 FitsIn Requests e = e.old < 2 ^ 16
 FitsIn Timer e = e.old < 2 ^ 8
-FitsIn Clock e = e.old < 2 ^ 16
 FitsIn Taken e = Unit {0}
 FitsIn Sent e = Unit {0}
 FitsIn Bytes e = Unit {0}
@@ -89,9 +86,9 @@ abbrev pub undo_all : List Entry → Present → Present
 undo_all [] p = p
 undo_all (e ∷ es) p = undo e (undo_all es p)
 
--- PC and the status longword, which aren't logged, are put back last
+-- PC, the status longword and the clock's count, which aren't logged, are put back last
 abbrev pub restart : Origin → Present → Present
-restart origin p = with_state p (with_psl (with_register p.state 15 origin.pc) origin.psl)
+restart origin p = with_state p (with_clock (with_psl (with_register p.state 15 origin.pc) origin.psl) origin.clock)
 
 -- what undoing an entry needs of the console's input, which is so long, of the areas, of the resident pages and of the marked ones: a place is
 -- put back where the input has it, and bytes where the mode may write, where the pages are there, and where the write that they undo has
@@ -101,7 +98,6 @@ Allows long areas resident marked Register e = (e.number < 16) × (e.old < 2 ^ 3
 Allows long areas resident marked Stack e = (e.number < 5) × (e.old < 2 ^ 32)
 Allows long areas resident marked Requests e = e.old < 2 ^ 16
 Allows long areas resident marked Timer e = e.old < 2 ^ 8
-Allows long areas resident marked Clock e = e.old < 2 ^ 16
 Allows long areas resident marked Taken e = e.old ≤ long
 Allows long areas resident marked Sent e = Unit {0}
 Allows long areas resident marked Bytes e =
@@ -125,15 +121,15 @@ module _ {P : Type 0} where
 
   -- what comes out when the log is undone, but for the marks
   abbrev pub undone : (P → View) → Transaction P → Present
-  undone view t = restart t.origin (undo_all t.log.items (bare (present view t)))
+  undone view t = restart t.origin (undo_all t.log.now.entries.items (bare (present view t)))
 
   -- how many more entries the log takes
   abbrev pub room : Transaction P → ℕ
-  room t = 96 - length t.log.items
+  room t = 96 - length t.log.now.entries.items
 
   -- the log can be undone
   abbrev pub IsReady : (P → View) → Transaction P → Type 0
-  IsReady view t = AllowsAll (vec_len t.term.now.input) (view t.port.now).areas (view t.port.now).resident (view t.port.now).marked t.log.items
+  IsReady view t = AllowsAll (vec_len t.term.now.input) (view t.port.now).areas (view t.port.now).resident (view t.port.now).marked t.log.now.entries.items
 
   -- the transaction is over the same registers, console and port, the console's input is as it was, and the interval clock has counted fewer
   -- than a thousand steps
@@ -148,7 +144,7 @@ module _ {P : Type 0} where
   -- A call leaves the transaction so that undoing its log gives what it gave before, and used at most so many entries. It leaves no instruction
   -- open.
   pub record Keeps (view : P → View) (along : P → P → Type 0) (count : ℕ) (old new : Transaction P) : Type 0 where
-    pub undone : restart new.origin (undo_all new.log.items (bare (present view new))) ≡ restart old.origin (undo_all old.log.items (bare (present view old)))
+    pub undone : restart new.origin (undo_all new.log.now.entries.items (bare (present view new))) ≡ restart old.origin (undo_all old.log.now.entries.items (bare (present view old)))
     pub ready : IsReady view old → IsReady view new
     pub room : room old ≤ room new + count
     pub closed : first_part_done new.core.now.psl ≤ first_part_done old.core.now.psl

@@ -8,7 +8,6 @@ pub(crate) enum Kept {
     Stack,
     Requests,
     Timer,
-    Clock,
     Taken,
     Sent,
     Bytes,

@@ -6,12 +6,14 @@
 
 mod block;
 mod entry;
+mod log;
 mod plain;
 mod port;
 mod term;
 mod txn;
 
 pub use crate::block::{number_of, number_of_parts, put_number};
+pub use crate::log::Log;
 pub use crate::plain::Plain;
 pub use crate::port::Port;
 pub use crate::term::Term;

@@ -96,7 +96,7 @@ impl Plain {
     ghost use Rattle.vax_flat.specs.Port.{StandsFor, first_absent, loaded, loaded_by, stop, stop_of, stored, unless_cut, with_run, with_number};
     ghost use Rattle.vax_flat.specs.Start.{start_memory};
     ghost use Rattle.vax_space.specs.Areas.{area_of};
-    ghost use Rattle.vax_undo.specs.Answers.{err_of};
+    ghost use Rattle.vax_undo.specs.Answers.{err_of, replaced};
     ghost use Rattle.vax_undo.specs.Blocks.{owner_of};
     ghost use Rattle.vax_undo.specs.Plain.{view_of, with_page};
 
@@ -142,18 +142,22 @@ impl Plain {
         block.bytes[place..place + from.len()].copy_from_slice(from);
     }
 
-    /// Writes a number within a page that is resident.
+    /// Writes a number within a page that is resident, and gives the number that was there.
     #[inline(always)]
-    fn put_value(&mut self, owner: u32, addr: u32, n: u32, value: u64)
+    fn put_value(&mut self, owner: u32, addr: u32, n: u32, value: u64) -> u64
         requires owner { owner_of self.old.owners.items (page_of addr) ≡ Some owner }
         requires some { 1 ≤ n }
         requires few { n ≤ 8 }
         requires one_page { addr % 512 + n ≤ 512 }
-        ensures { view_of self.new ≡ with_number (view_of self.old) addr n value }
+        ensures old { result ≡ number (view_of self.old).byte addr n }
+        ensures stored { view_of self.new ≡ with_number (view_of self.old) addr n value }
     {
         let block = &mut self.blocks[owner as usize];
         let place = (addr - block.start) as usize;
-        put_number(&mut block.bytes[place..place + n as usize], value);
+        let bytes = &mut block.bytes[place..place + n as usize];
+        let old = number_of(bytes);
+        put_number(bytes, value);
+        old
     }
 
     /// Reads a number that goes on in the next page.
@@ -174,12 +178,12 @@ impl Plain {
         Ok(number_of_parts(low, high))
     }
 
-    /// Writes a number that goes on in the next page: nothing where either page is absent.
+    /// Writes a number that goes on in the next page, and gives the number that was there: nothing is written where either page is absent.
     #[cold]
-    fn write_apart(&mut self, addr: u32, n: u32, value: u64) -> Result<(), Stop>
+    fn write_apart(&mut self, addr: u32, n: u32, value: u64) -> Result<u64, Stop>
         requires few { n ≤ 8 }
         requires apart { 512 < addr % 512 + n }
-        ensures answer { err_of result ≡ stop_of None (first_absent (view_of self.old).resident addr n) }
+        ensures answer { result ≡ loaded_by (stop_of None (first_absent (view_of self.old).resident addr n)) (number (view_of self.old).byte addr n) }
         ensures stored { view_of self.new ≡ unless_cut (stop_of None (first_absent (view_of self.old).resident addr n)) (view_of self.old) (with_number (view_of self.old) addr n value) }
     {
         let first = PAGE_BYTES - addr % PAGE_BYTES;
@@ -190,10 +194,11 @@ impl Plain {
         let Some(high) = self.owner(next / PAGE_BYTES) else {
             return Err(Stop::NotResident(next / PAGE_BYTES));
         };
+        let old = self.read_apart(addr, n)?;
         let bytes = value.to_le_bytes();
         self.put(high, next, &bytes[first as usize..n as usize]);
         self.put(low, addr, &bytes[..first as usize]);
-        Ok(())
+        Ok(old)
     }
 
     /// Reads any number: one that may not be read, lies in an absent page or goes on in the next page.
@@ -220,11 +225,11 @@ impl Plain {
     /// Writes any number: one that may not be written, lies in an absent page or goes on in the next page.
     #[cold]
     #[inline(never)]
-    fn write_slowly(&mut self, addr: u32, n: u32, value: u64, mode: u8) -> Result<(), Stop>
+    fn write_slowly(&mut self, addr: u32, n: u32, value: u64, mode: u8) -> Result<u64, Stop>
         requires some { 1 ≤ n }
         requires few { n ≤ 8 }
         requires of_mode { mode ≤ 3 }
-        ensures answer { err_of result ≡ stop (view_of self.old) addr n mode Access.Write }
+        ensures answer { result ≡ replaced (view_of self.old) addr n mode }
         ensures stored { view_of self.new ≡ stored (view_of self.old) addr n value mode }
     {
         if let Err(violation) = self.space.check(addr, n, mode, Access::Write) {
@@ -234,10 +239,7 @@ impl Plain {
             return self.write_apart(addr, n, value);
         }
         match self.owner(addr / PAGE_BYTES) {
-            Some(owner) => {
-                self.put_value(owner, addr, n, value);
-                Ok(())
-            }
+            Some(owner) => Ok(self.put_value(owner, addr, n, value)),
             None => Err(Stop::NotResident(addr / PAGE_BYTES)),
         }
     }
@@ -317,15 +319,14 @@ impl Port for Plain {
     }
 
     #[inline(always)]
-    fn write(&mut self, addr: u32, n: u32, value: u64, mode: u8) -> Result<(), Stop> {
+    fn write(&mut self, addr: u32, n: u32, value: u64, mode: u8) -> Result<u64, Stop> {
         if self.space.is_free_page(addr, n, mode, Access::Write) {
             if let Some(owner) = self.owner(addr / PAGE_BYTES) {
-                self.put_value(owner, addr, n, value);
-                return Ok(());
+                return Ok(self.put_value(owner, addr, n, value));
             }
         }
         match self.write_slowly(addr, n, value, mode) {
-            Ok(()) => Ok(()),
+            Ok(old) => Ok(old),
             Err(stop) => Err(stop),
         }
     }

@@ -3,7 +3,7 @@ ghost use Rattle.std.specs.Prelude.{◌≡◌, ℕ, ◌+◌, ◌%◌, ◌^◌, �
 ghost use Rattle.vax_space.specs.Reference.{violation};
 ghost use Rattle.vax_flat.specs.Memory.{bytes_from};
 ghost use Rattle.vax_flat.specs.Port.{View, AreBytes, stop, loaded, stored, stored_run};
-ghost use Rattle.vax_undo.specs.Answers.{err_of};
+ghost use Rattle.vax_undo.specs.Answers.{err_of, replaced};
 
 use vax_flat::Stop;
 use vax_space::{Access, Violation};
@@ -37,13 +37,14 @@ pub trait Port {
         ensures bytes { AreBytes (view self.old).byte }
         ensures since { (start : Self) → since start self.old → since start self.new };
 
-    /// Writes the `n` bytes of a number, 1 to 8.
-    fn write(&mut self, addr: u32, n: u32, value: u64, mode: u8) -> Result<(), Stop>
+    /// Writes the `n` bytes of a number, 1 to 8, and gives the number that they were.
+    fn write(&mut self, addr: u32, n: u32, value: u64, mode: u8) -> Result<u64, Stop>
         requires some { 1 ≤ n }
         requires few { n ≤ 8 }
         requires of_mode { mode ≤ 3 }
         requires fits { value < 256 ^ n }
-        ensures answer { err_of result ≡ stop (view self.old) addr n mode Access.Write }
+        ensures answer { result ≡ replaced (view self.old) addr n mode }
+        ensures bytes { AreBytes (view self.old).byte }
         ensures stored { view self.new ≡ stored (view self.old) addr n value mode }
         ensures since { (start : Self) → since start self.old → since start self.new };
 

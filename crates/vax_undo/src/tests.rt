@@ -1,5 +1,5 @@
 use crate::entry::Entry;
-use crate::{Plain, Port, Stop, Term, Txn};
+use crate::{Log, Plain, Port, Stop, Term, Txn};
 use std::alloc::{AllocError, Global};
 use std::mem::size_of;
 use std::test::Fail;
@@ -74,7 +74,8 @@ fn numbers_in_memory(rt: HostRuntime) -> Result<(), Fail> {
         (0x241, 8, 0x1817_1615_1413_1211),
         (0x261, 5, 0x25_2423_2221),
     ] {
-        assert_eq!(rt; memory.write(addr, n, value, USER), Ok(()), "at {addr:X}");
+        let old = memory.read(addr, n, USER);
+        assert_eq!(rt; memory.write(addr, n, value, USER), old, "at {addr:X}");
         assert_eq!(rt; memory.read(addr, n, USER), Ok(value), "at {addr:X}");
     }
     assert_eq!(rt; memory.byte(0x3FF), Some(0xF5));
@@ -133,7 +134,8 @@ fn changes_are_kept(rt: HostRuntime) -> Result<(), Fail> {
     let mut core = core();
     let mut term = Term::new(b"hi".to_vec(rt.alloc())?);
     let mut memory = memory(rt.alloc())?;
-    let mut txn = Txn::begin(&mut core, &mut term, &mut memory);
+    let mut log = Log::new();
+    let mut txn = Txn::begin(&mut core, &mut term, &mut memory, &mut log);
     txn.emit(b'!');
     txn.set_reg(3, 70);
     txn.set_psl(Psl(8));
@@ -173,7 +175,8 @@ fn a_part_is_kept(rt: HostRuntime) -> Result<(), Fail> {
     let mut core = core();
     let mut term = Term::new(Vec::new(rt.alloc()));
     let mut memory = memory(rt.alloc())?;
-    let mut txn = Txn::begin(&mut core, &mut term, &mut memory);
+    let mut log = Log::new();
+    let mut txn = Txn::begin(&mut core, &mut term, &mut memory, &mut log);
     txn.set_reg(3, 70);
     txn.set_reg(3, 71);
     txn.set_reg(15, 72);
@@ -197,7 +200,8 @@ fn input_is_taken(rt: HostRuntime) -> Result<(), Fail> {
     let mut core = core();
     let mut term = Term::new(b"h".to_vec(rt.alloc())?);
     let mut memory = memory(rt.alloc())?;
-    let mut txn = Txn::begin(&mut core, &mut term, &mut memory);
+    let mut log = Log::new();
+    let mut txn = Txn::begin(&mut core, &mut term, &mut memory, &mut log);
     let first = txn.take();
     let second = txn.take();
     assert_eq!(rt; (first, second), (Some(b'h'), None));
@@ -212,7 +216,8 @@ fn changes_are_undone(rt: HostRuntime) -> Result<(), Fail> {
     let mut core = core();
     let mut term = Term::new(b"hi".to_vec(rt.alloc())?);
     let mut memory = memory(rt.alloc())?;
-    let mut txn = Txn::begin(&mut core, &mut term, &mut memory);
+    let mut log = Log::new();
+    let mut txn = Txn::begin(&mut core, &mut term, &mut memory, &mut log);
     txn.emit(b'!');
     txn.set_reg(3, 70);
     txn.set_reg(3, 71);

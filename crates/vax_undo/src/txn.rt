@@ -3,9 +3,9 @@ ghost use Rattle.std.specs.Prelude.{◌≡◌, ℕ, ◌+◌, ◌%◌, ◌^◌, �
 ghost use Rattle.vax_undo.specs.Answers.{err_of};
 
 use crate::entry::{Entry, Kept};
+use crate::log::Log;
 use crate::port::Port;
 use crate::term::Term;
-use arrayvec::ArrayVec;
 use vax_flat::{Cut, Stop};
 use vax_space::{Access, Violation};
 use vax_word::{Core, Psl};
@@ -21,17 +21,19 @@ pub struct Txn<'a, P: Port> {
     core: &'a mut Core,
     term: &'a mut Term,
     port: &'a mut P,
-    log: ArrayVec<Entry, 96>,
+    log: &'a mut Log,
     origin: Origin,
     /// What cut the work short, if something did.
     why: Cut,
 }
 
-/// PC and the status longword as they were at the start. Every instruction changes both, so they are kept here and not in the log.
+/// PC, the status longword and the interval clock's count as they were at the start. Every instruction changes them, the count where the clock
+/// is on, so they are kept here and not in the log.
 #[derive(Clone, Copy)]
 pub(crate) struct Origin {
     pub(crate) pc: u32,
     pub(crate) psl: Psl,
+    pub(crate) clock: u16,
 }
 
 ghost use Rattle.vax_undo.specs.declared.txn.Origin.{Origin};
@@ -39,11 +41,12 @@ ghost use Rattle.vax_undo.specs.Transaction.{sent_of};
 
 #[inline(always)]
 fn origin_of(core: &Core) -> Origin
-    ensures { result ≡ record { pc = slice_index core.now.regs 15; psl = core.now.psl } }
+    ensures { result ≡ record { pc = slice_index core.now.regs 15; psl = core.now.psl; clock = core.now.clock } }
 {
     Origin {
         pc: register_of(core, 15),
         psl: core.psl,
+        clock: core.clock,
     }
 }
 
@@ -95,14 +98,6 @@ fn input_is_left(term: &Term) -> bool
     (term.place as usize) < term.input.len()
 }
 
-/// Takes a log back to empty. It has one or two entries as a rule, so nothing is filled.
-#[inline(always)]
-fn forget(log: &mut ArrayVec<Entry, 96>)
-    ensures { log.new.items ≡ [] }
-{
-    while log.pop().is_some() {}
-}
-
 ghost use Rattle.vax_undo.specs.Transaction.{state_of, undo, Allows};
 
 /// Puts the old value of an entry back.
@@ -119,7 +114,6 @@ fn put_back<P: Port>(entry: Entry, core: &mut Core, term: &mut Term, port: &mut 
         Kept::Stack => core.stacks[entry.number as usize] = entry.old as u32,
         Kept::Requests => core.sisr = entry.old as u16,
         Kept::Timer => core.iccs = entry.old as u8,
-        Kept::Clock => core.clock = entry.old as u16,
         Kept::Taken => term.place = entry.old as u32,
         Kept::Sent => term.out = sent_of(entry.old),
         Kept::Bytes => {
@@ -140,7 +134,6 @@ fn restore(entry: Entry, core: &mut Core)
         Kept::Stack => core.stacks[entry.number as usize] = entry.old as u32,
         Kept::Requests => core.sisr = entry.old as u16,
         Kept::Timer => core.iccs = entry.old as u8,
-        Kept::Clock => core.clock = entry.old as u16,
         Kept::Taken | Kept::Sent | Kept::Bytes => {}
     }
 }
@@ -153,9 +146,14 @@ impl<'a, P: Port> Txn<'a, P> {
     ghost use Rattle.vax_flat.specs.Port.{loaded, stored, stored_run, stop, unmarked};
     ghost use Rattle.vax_undo.specs.Transaction.{bare, state_of, present, undone, room, IsLeft, IsLeftOpen, IsReady, IsSame, Keeps, with_state, with_view, next_byte, after_take};
 
-    /// Begins a transaction, at which nothing is sent to the console yet.
+    /// Begins a transaction, at which nothing is sent to the console yet. What the log held is forgotten.
     #[inline]
-    pub fn begin(core: &'a mut Core, term: &'a mut Term, port: &'a mut P) -> Txn<'a, P>
+    pub fn begin(
+        core: &'a mut Core,
+        term: &'a mut Term,
+        port: &'a mut P,
+        log: &'a mut Log,
+    ) -> Txn<'a, P>
         requires { term.old.out ≡ None }
         ensures core { result.core.ghost_name ≡ core.entry.ghost_name }
         ensures term { result.term.ghost_name ≡ term.entry.ghost_name }
@@ -168,11 +166,12 @@ impl<'a, P: Port> Txn<'a, P> {
         ensures ready { IsReady P.view result }
     {
         let origin = origin_of(core);
+        log.forget();
         Txn {
             core,
             term,
             port,
-            log: ArrayVec::new(),
+            log,
             origin,
             why: Cut::Absent(0),
         }
@@ -231,7 +230,9 @@ impl<'a, P: Port> Txn<'a, P> {
         }
         let old = register_of(self.core, n);
         self.core.regs[n as usize] = v;
-        self.log.push(Entry::of(Kept::Register, n, old as u64));
+        self.log
+            .entries
+            .push(Entry::of(Kept::Register, n, old as u64));
     }
 
     /// The processor status longword.
@@ -281,7 +282,7 @@ impl<'a, P: Port> Txn<'a, P> {
         ensures keeps { Keeps P.view P.since 1 self.old self.new }
     {
         let old = stack_of(self.core, i);
-        self.log.push(Entry::of(Kept::Stack, i, old as u64));
+        self.log.entries.push(Entry::of(Kept::Stack, i, old as u64));
         self.core.stacks[i as usize] = v;
     }
 
@@ -300,6 +301,7 @@ impl<'a, P: Port> Txn<'a, P> {
         ensures keeps { Keeps P.view P.since 1 self.old self.new }
     {
         self.log
+            .entries
             .push(Entry::of(Kept::Requests, 0, self.core.sisr as u64));
         self.core.sisr = v;
     }
@@ -319,12 +321,13 @@ impl<'a, P: Port> Txn<'a, P> {
         ensures keeps { Keeps P.view P.since 1 self.old self.new }
     {
         self.log
+            .entries
             .push(Entry::of(Kept::Timer, 0, self.core.iccs as u64));
         self.core.iccs = v;
     }
 
     /// The steps that the interval clock has counted.
-    #[inline]
+    #[inline(always)]
     pub fn clock(&self) -> u16
         ensures { result ≡ (present P.view self.now).state.core.clock }
     {
@@ -332,15 +335,12 @@ impl<'a, P: Port> Txn<'a, P> {
     }
 
     /// Sets what the interval clock has counted, at most 999: at the thousandth step it begins anew.
-    #[inline]
+    #[inline(always)]
     pub fn set_clock(&mut self, v: u16)
-        requires of_clock { v ≤ 999 }
-        requires room { 1 ≤ room self.old }
+        requires { v ≤ 999 }
         ensures present { present P.view self.new ≡ with_state (present P.view self.old) (with_clock (present P.view self.old).state v) }
-        ensures keeps { Keeps P.view P.since 1 self.old self.new }
+        ensures keeps { Keeps P.view P.since 0 self.old self.new }
     {
-        self.log
-            .push(Entry::of(Kept::Clock, 0, self.core.clock as u64));
         self.core.clock = v;
     }
 
@@ -359,7 +359,9 @@ impl<'a, P: Port> Txn<'a, P> {
         }
         let byte = term.input[place as usize];
         term.place = place + 1;
-        self.log.push(Entry::of(Kept::Taken, 0, place as u64));
+        self.log
+            .entries
+            .push(Entry::of(Kept::Taken, 0, place as u64));
         Some(byte)
     }
 
@@ -379,7 +381,7 @@ impl<'a, P: Port> Txn<'a, P> {
         ensures keeps { Keeps P.view P.since 1 self.old self.new }
     {
         let old = sent_number(self.term.out);
-        self.log.push(Entry::of(Kept::Sent, 0, old));
+        self.log.entries.push(Entry::of(Kept::Sent, 0, old));
         self.term.out = Some(byte);
     }
 
@@ -419,19 +421,9 @@ impl<'a, P: Port> Txn<'a, P> {
         ensures present { present P.view self.new ≡ with_view (present P.view self.old) (stored (present P.view self.old).view addr n value mode) }
         ensures keeps { Keeps P.view P.since 1 self.old self.new }
     {
-        let old = match self.port.read(addr, n, mode) {
-            Ok(old) => old,
-            Err(stop) => {
-                // A range that may not be written is told before a page that is absent.
-                if let Err(violation) = self.port.check(addr, n, mode, Access::Write) {
-                    return Err(Stop::Violated(violation));
-                }
-                return Err(stop);
-            }
-        };
         match self.port.write(addr, n, value, mode) {
-            Ok(()) => {
-                self.log.push(Entry {
+            Ok(old) => {
+                self.log.entries.push(Entry {
                     old,
                     addr,
                     number: n as u8,
@@ -489,7 +481,7 @@ impl<'a, P: Port> Txn<'a, P> {
         ensures closed { first_part_done self.new.core.now.psl ≤ first_part_done self.old.core.now.psl }
         ensures same { IsSame P.since self.old self.new }
     {
-        forget(&mut self.log);
+        self.log.forget();
         self.origin = origin_of(self.core);
         let sent = self.term.out;
         self.term.out = None;
@@ -532,16 +524,17 @@ impl<'a, P: Port> Txn<'a, P> {
             core,
             term,
             port: _,
-            mut log,
+            log,
             origin,
             why: _,
         } = self;
         let mut start = *core;
-        while let Some(last) = log.pop() {
+        while let Some(last) = log.entries.pop() {
             restore(last, &mut start);
         }
         start.regs[15] = origin.pc;
         start.psl = origin.psl;
+        start.clock = origin.clock;
         term.out = None;
         start
     }
@@ -559,14 +552,15 @@ impl<'a, P: Port> Txn<'a, P> {
             core,
             term,
             port,
-            mut log,
+            log,
             origin,
             why: _,
         } = self;
-        while let Some(entry) = log.pop() {
+        while let Some(entry) = log.entries.pop() {
             put_back(entry, core, term, port);
         }
         core.regs[15] = origin.pc;
         core.psl = origin.psl;
+        core.clock = origin.clock;
     }
 }

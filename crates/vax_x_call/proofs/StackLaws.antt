@@ -1,6 +1,6 @@
 -- Lists of registers, pushed and popped one after the other.
-use Rattle.std.proofs.Common.{◌≡◌, ℕ, zero, suc, ◌+◌, ◌-◌, ◌<◌, ◌≤◌, Bool, true, false, cond, Result, Ok, Err, List, [], ◌∷◌, ◌++◌, length, map, refl, ap, sym, subst, ◌∙◌, append_assoc, append-nil, add-one, arith}
-use Rattle.std.specs.Prelude.{reverse}
+use Rattle.std.proofs.Common.{◌≡◌, ℕ, zero, suc, ◌+◌, ◌-◌, ◌/◌, ◌%◌, ◌<◌, ◌≤◌, Bool, true, false, cond, Result, Ok, Err, List, [], ◌∷◌, ◌++◌, length, map, refl, ap, sym, subst, ◌∙◌, append_assoc, append-nil, add-one, arith}
+use Rattle.std.specs.Prelude.{reverse, ◌==◌}
 use Rattle.std.specs.List.{filter, range_with_len}
 use Rattle.std.proofs.Math.Path.{fun_ext}
 use Rattle.std.proofs.lemmas.List.{map-id, map-append, reverse-append}
@@ -27,6 +27,58 @@ named_more count mask =
     ∙ ap (filter p) (sym (map-id (range_with_len 0 (count + 1))))
     ∙ filter_of_map_range_with_len_more p (λ x. x) 0 count count (omega arith)
     ∙ ap (λ xs. filter p xs ++ cond (p count) (count ∷ []) []) (map-id (range_with_len 0 count))
+
+-- a register that isn't named
+unnamed : (count mask : ℕ) → is_one mask count ≡ false → named (suc count) mask ≡ named count mask
+unnamed count mask h = named_more count mask ∙ (ap (λ b. named count mask ++ cond b (count ∷ []) []) h ∙ append-nil (named count mask))
+
+zero_bit : (x : ℕ) → x ≡ 0 → (x == 1) ≡ false
+zero_bit x h = rw h refl
+
+-- so many registers from a number on aren't named
+none_from : (low mask more : ℕ) → ((k : ℕ) → k < more → is_one mask (low + k) ≡ false) → named low mask ≡ named (low + more) mask
+none_from low mask zero bits = let e : low ≡ low + 0 = omega arith in ap (λ k. named k mask) e
+none_from low mask (suc more) bits =
+    let e : suc (low + more) ≡ low + suc more = omega arith in
+    none_from low mask more (λ k b. bits k (omega arith))
+    ∙ sym (unnamed (low + more) mask (bits more (omega arith)))
+    ∙ ap (λ k. named k mask) e
+
+-- no register from R8 on is named
+pub none_from_8 : (count mask : ℕ) → 8 < count → count ≤ 15 → mask / 256 % 128 ≡ 0 → named 8 mask ≡ named count mask
+none_from_8 count mask low high h =
+    let e : 8 + (count - 8) ≡ count = omega arith in
+    subst (λ k. named 8 mask ≡ named k mask) e (none_from 8 mask (count - 8) (λ k b. bit k (omega arith)))
+  where
+    bit : (k : ℕ) → k < 7 → is_one mask (8 + k) ≡ false
+    bit zero b = zero_bit _ (omega (arith, h))
+    bit (suc zero) b = zero_bit _ (omega (arith, h))
+    bit (suc (suc zero)) b = zero_bit _ (omega (arith, h))
+    bit (suc (suc (suc zero))) b = zero_bit _ (omega (arith, h))
+    bit (suc (suc (suc (suc zero)))) b = zero_bit _ (omega (arith, h))
+    bit (suc (suc (suc (suc (suc zero))))) b = zero_bit _ (omega (arith, h))
+    bit (suc (suc (suc (suc (suc (suc zero)))))) b = zero_bit _ (omega (arith, h))
+    bit (suc (suc (suc (suc (suc (suc (suc k))))))) b = absurd (omega arith)
+
+-- no register from R4 on is named
+pub none_from_4 : (count mask : ℕ) → 4 < count → count ≤ 15 → mask / 16 % 2048 ≡ 0 → named 4 mask ≡ named count mask
+none_from_4 count mask low high h =
+    let e : 4 + (count - 4) ≡ count = omega arith in
+    subst (λ k. named 4 mask ≡ named k mask) e (none_from 4 mask (count - 4) (λ k b. bit k (omega arith)))
+  where
+    bit : (k : ℕ) → k < 11 → is_one mask (4 + k) ≡ false
+    bit zero b = zero_bit _ (omega (arith, h))
+    bit (suc zero) b = zero_bit _ (omega (arith, h))
+    bit (suc (suc zero)) b = zero_bit _ (omega (arith, h))
+    bit (suc (suc (suc zero))) b = zero_bit _ (omega (arith, h))
+    bit (suc (suc (suc (suc zero)))) b = zero_bit _ (omega (arith, h))
+    bit (suc (suc (suc (suc (suc zero))))) b = zero_bit _ (omega (arith, h))
+    bit (suc (suc (suc (suc (suc (suc zero)))))) b = zero_bit _ (omega (arith, h))
+    bit (suc (suc (suc (suc (suc (suc (suc zero))))))) b = zero_bit _ (omega (arith, h))
+    bit (suc (suc (suc (suc (suc (suc (suc (suc zero)))))))) b = zero_bit _ (omega (arith, h))
+    bit (suc (suc (suc (suc (suc (suc (suc (suc (suc zero))))))))) b = zero_bit _ (omega (arith, h))
+    bit (suc (suc (suc (suc (suc (suc (suc (suc (suc (suc zero)))))))))) b = zero_bit _ (omega (arith, h))
+    bit (suc (suc (suc (suc (suc (suc (suc (suc (suc (suc (suc k))))))))))) b = absurd (omega arith)
 
 -- the register just below a number is pushed before the others, if it is named
 pub saved_more : (count mask top : ℕ) (s : State) (next : ℕ → State → Accesses Leaf) → saved (named (suc count) mask) top s next ≡ saved_if (is_one mask count) count top s (λ top t. saved (named count mask) top t next)

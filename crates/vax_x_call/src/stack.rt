@@ -83,6 +83,22 @@ fn restore_if<P: Port>(txn: &mut Txn<P>, mask: u32, n: u8, from: u32) -> Result<
     }
 }
 
+/// A number from which on, up to another, a mask names no register. Few registers are named as a rule, and those are low ones.
+#[inline(always)]
+fn end_of_named(mask: u32, count: u8) -> u8
+    requires { count ≤ 15 }
+    ensures named { named result mask ≡ named count mask }
+    ensures within { result ≤ count }
+{
+    if count > 4 && mask / 0x10 % 0x800 == 0 {
+        4
+    } else if count > 8 && mask / 0x100 % 0x80 == 0 {
+        8
+    } else {
+        count
+    }
+}
+
 /// Pushes the registers below a number that a mask names, from the highest down, the first just below an address. Gives the address of
 /// the last.
 pub(crate) fn save<P: Port>(
@@ -97,7 +113,7 @@ pub(crate) fn save<P: Port>(
     ensures keeps { Keeps P.view P.since count txn.old txn.new }
 {
     let mut at = top;
-    let mut n = count;
+    let mut n = end_of_named(mask, count);
     while n > 0 {
         n -= 1;
         at = save_if(txn, mask, n, at)?;
@@ -118,8 +134,9 @@ pub(crate) fn restore<P: Port>(
     ensures keeps { Keeps P.view P.since count txn.old txn.new }
 {
     let mut at = from;
+    let end = end_of_named(mask, count);
     let mut n = 0;
-    while n < count {
+    while n < end {
         at = restore_if(txn, mask, n, at)?;
         n += 1;
     }

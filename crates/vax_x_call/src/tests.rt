@@ -4,7 +4,7 @@ use std::alloc::Global;
 use std::test::Fail;
 use vax_flat::{Cut, Exception};
 use vax_space::{Area, Bytes, Space, Violation};
-use vax_undo::{Plain, Term};
+use vax_undo::{Log, Plain, Term};
 use vax_word::{Core, Psl};
 
 /// Where the instruction's first operand lies.
@@ -66,7 +66,8 @@ fn registers(sp: u32, word: u32) -> Core {
 /// How an instruction went.
 fn went(alloc: Global, port: &mut Plain, core: &mut Core, instruction: Call) -> Result<Flow, Cut> {
     let mut term = Term::new(Vec::new(alloc));
-    let mut txn = Txn::begin(core, &mut term, port);
+    let mut log = Log::new();
+    let mut txn = Txn::begin(core, &mut term, port, &mut log);
     let done = match run(&mut txn, instruction) {
         Ok(flow) => Ok(flow),
         Err(CutShort) => Err(txn.why()),

@@ -4,7 +4,7 @@ use std::alloc::Global;
 use std::test::Fail;
 use vax_isa::{Action, action};
 use vax_space::{Area, Bytes, Space};
-use vax_undo::{Plain, Term};
+use vax_undo::{Log, Plain, Term};
 use vax_word::{Core, Psl};
 
 /// Where the instruction's opcode lies: the beginning of the second page of the system region.
@@ -31,7 +31,8 @@ fn after(alloc: Global, code: &[u8]) -> Result<(Option<Flow>, u32, Psl), Fail> {
     };
     core.regs[15] = START + 1;
     let mut term = Term::new(Vec::new(alloc));
-    let mut txn = Txn::begin(&mut core, &mut term, &mut port);
+    let mut log = Log::new();
+    let mut txn = Txn::begin(&mut core, &mut term, &mut port, &mut log);
     let flow = match code.first().and_then(|opcode| action(*opcode)) {
         Some(Action::Control(instruction)) => run(&mut txn, instruction).ok(),
         _ => None,

@@ -1,5 +1,5 @@
 -- How a part ends that has written.
-use Rattle.std.proofs.Common.{ℕ, ◌≡◌, ◌+◌, ◌≤◌, Result, Ok, Err, ◌∙◌, arith}
+use Rattle.std.proofs.Common.{ℕ, ◌+◌, ◌≤◌, Result, Ok, Err, ◌∙◌, arith}
 use Rattle.vax_flat.specs.declared.Flow.{Flow}
 use Rattle.vax_flat.specs.declared.Flow.TheVariants as flow
 use Rattle.vax_flat.specs.Port.{View}

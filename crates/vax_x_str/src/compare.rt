@@ -263,7 +263,12 @@ fn compare_run<P: Port>(
 
 /// A part of a comparison.
 #[tactic(auto, using(vax_undo::proofs::Left::always), unfolding(vax_flat::specs::StringCompare::compare_part))]
-pub(crate) fn compare_part<P: Port>(txn: &mut Txn<P>, p: &Progress) -> Result<Flow, CutShort>
+pub(crate) fn compare_part<P: Port>(
+    txn: &mut Txn<P>,
+    p: &Progress,
+    first: &mut [u8; 512],
+    second: &mut [u8; 512],
+) -> Result<Flow, CutShort>
     requires room { 8 ≤ room txn.old }
     ensures exact { Follows (comparison.compare_part p.now (present P.view txn.old).state) (present P.view txn.old) (told txn.new result) (present P.view txn.new) }
     ensures keeps { KeepsUnlessDone P.view P.since 8 result txn.old txn.new }
@@ -272,7 +277,5 @@ pub(crate) fn compare_part<P: Port>(txn: &mut Txn<P>, p: &Progress) -> Result<Fl
         return be_equal(txn, first_rest(p), second_rest(p));
     }
     let count = compare_room(p) as usize;
-    let mut first = [0; 512];
-    let mut second = [0; 512];
     compare_run(txn, p, &mut first[..count], &mut second[..count])
 }

@@ -174,6 +174,7 @@ fn escape_run<P: Port>(
     p: &Progress,
     space: u16,
     buffer: &mut [u8],
+    table: &mut [u8; 256],
 ) -> Result<Flow, CutShort>
     requires some { 1 ≤ length buffer.old }
     requires few { length buffer.old ≤ 512 }
@@ -183,14 +184,18 @@ fn escape_run<P: Port>(
     ensures keeps { KeepsUnlessDone P.view P.since 41 result txn.old txn.new }
 {
     read_span(txn, p.addr1.wrapping_add(u32::from(p.done)), buffer)?;
-    let mut table = [0; 256];
-    read_span(txn, p.table, &mut table)?;
-    end_escape(txn, p, space, buffer, &table)
+    read_span(txn, p.table, table)?;
+    end_escape(txn, p, space, buffer, table)
 }
 
 /// A part of MOVTUC.
 #[tactic(auto, using(vax_undo::proofs::Left::always), unfolding(vax_flat::specs::StringEscape::escape_part))]
-pub(crate) fn escape_part<P: Port>(txn: &mut Txn<P>, p: &Progress) -> Result<Flow, CutShort>
+pub(crate) fn escape_part<P: Port>(
+    txn: &mut Txn<P>,
+    p: &Progress,
+    buffer: &mut [u8; 512],
+    table: &mut [u8; 256],
+) -> Result<Flow, CutShort>
     requires done { p.now.done ≤ moving.moved_count p.now }
     requires room { 41 ≤ room txn.old }
     ensures exact { Follows (escaping.escape_part p.now (present P.view txn.old).state) (present P.view txn.old) (told txn.new result) (present P.view txn.new) }
@@ -200,18 +205,23 @@ pub(crate) fn escape_part<P: Port>(txn: &mut Txn<P>, p: &Progress) -> Result<Flo
     if p.done == whole {
         return Ok(finish_escape(txn, p, whole, false));
     }
-    let mut buffer = [0; 512];
     escape_run(
         txn,
         p,
         escape_room(p),
         &mut buffer[..source_room(p) as usize],
+        table,
     )
 }
 
 /// The first part of MOVTUC, with its checks.
 #[tactic(auto, using(vax_undo::proofs::Left::always, vax_undo::proofs::Left::behind, vax_flat::proofs::Leaves::over_port_raises), unfolding(vax_flat::specs::StringEscape::escape_start))]
-pub(crate) fn start_escape<P: Port>(txn: &mut Txn<P>, p: &Progress) -> Result<Flow, CutShort>
+pub(crate) fn start_escape<P: Port>(
+    txn: &mut Txn<P>,
+    p: &Progress,
+    buffer: &mut [u8; 512],
+    table: &mut [u8; 256],
+) -> Result<Flow, CutShort>
     requires done { p.now.done ≤ moving.moved_count p.now }
     requires room { 41 ≤ room txn.old }
     ensures exact { Follows (escaping.escape_start p.now (present P.view txn.old).state) (present P.view txn.old) (told txn.new result) (present P.view txn.new) }
@@ -221,5 +231,5 @@ pub(crate) fn start_escape<P: Port>(txn: &mut Txn<P>, p: &Progress) -> Result<Fl
         return Err(txn.cut(Cut::Event(Exception::Operand)));
     }
     check_move(txn, true, p, moved_count(p))?;
-    escape_part(txn, p)
+    escape_part(txn, p, buffer, table)
 }

@@ -12,6 +12,7 @@ use crate::operands::{
     equal_operands, filled_operands, match_operands, scan_operands, search_operands,
     translated_operands,
 };
+use crate::scratch::Scratch;
 use crate::search::{scan_part, search_part};
 use vax_flat::Flow;
 use vax_isa::Text;
@@ -19,90 +20,120 @@ use vax_undo::{CutShort, Port, Txn};
 
 /// LOCC and SKPC.
 #[tactic(auto, using(vax_undo::proofs::Left::always, vax_undo::proofs::Left::behind), unfolding(vax_flat::specs::StringParts::first_search))]
-fn start_search<P: Port>(txn: &mut Txn<P>, op: u8, equal: bool) -> Result<Flow, CutShort>
+fn start_search<P: Port>(
+    txn: &mut Txn<P>,
+    op: u8,
+    equal: bool,
+    scratch: &mut Scratch,
+) -> Result<Flow, CutShort>
     requires { 21 ≤ room txn.old }
     ensures exact { Follows (parts.first_search op equal (present P.view txn.old).state) (present P.view txn.old) (told txn.new result) (present P.view txn.new) }
     ensures keeps { KeepsUnlessDone P.view P.since 21 result txn.old txn.new }
 {
     let p = search_operands(txn, op)?;
-    search_part(txn, equal, &p)
+    search_part(txn, equal, &p, &mut scratch.first)
 }
 
 /// SCANC and SPANC.
 #[tactic(auto, using(vax_undo::proofs::Left::always, vax_undo::proofs::Left::behind), unfolding(vax_flat::specs::StringParts::first_scan))]
-fn start_scan<P: Port>(txn: &mut Txn<P>, op: u8, some: bool) -> Result<Flow, CutShort>
+fn start_scan<P: Port>(
+    txn: &mut Txn<P>,
+    op: u8,
+    some: bool,
+    scratch: &mut Scratch,
+) -> Result<Flow, CutShort>
     requires { 25 ≤ room txn.old }
     ensures exact { Follows (parts.first_scan op some (present P.view txn.old).state) (present P.view txn.old) (told txn.new result) (present P.view txn.new) }
     ensures keeps { KeepsUnlessDone P.view P.since 25 result txn.old txn.new }
 {
     let p = scan_operands(txn, op)?;
-    scan_part(txn, some, &p)
+    scan_part(txn, some, &p, &mut scratch.first, &mut scratch.table)
 }
 
 /// CMPC3.
 #[tactic(auto, using(vax_undo::proofs::Left::always, vax_undo::proofs::Left::behind), unfolding(vax_flat::specs::StringParts::first_compare))]
-fn start_compare<P: Port>(txn: &mut Txn<P>, op: u8) -> Result<Flow, CutShort>
+fn start_compare<P: Port>(txn: &mut Txn<P>, op: u8, scratch: &mut Scratch) -> Result<Flow, CutShort>
     requires { 21 ≤ room txn.old }
     ensures exact { Follows (parts.first_compare op (present P.view txn.old).state) (present P.view txn.old) (told txn.new result) (present P.view txn.new) }
     ensures keeps { KeepsUnlessDone P.view P.since 21 result txn.old txn.new }
 {
     let p = equal_operands(txn, op)?;
-    compare_part(txn, &p)
+    compare_part(txn, &p, &mut scratch.first, &mut scratch.second)
 }
 
 /// CMPC5.
 #[tactic(auto, using(vax_undo::proofs::Left::always, vax_undo::proofs::Left::behind), unfolding(vax_flat::specs::StringParts::first_compare_filled))]
-fn start_compare_filled<P: Port>(txn: &mut Txn<P>, op: u8) -> Result<Flow, CutShort>
+fn start_compare_filled<P: Port>(
+    txn: &mut Txn<P>,
+    op: u8,
+    scratch: &mut Scratch,
+) -> Result<Flow, CutShort>
     requires { 29 ≤ room txn.old }
     ensures exact { Follows (parts.first_compare_filled op (present P.view txn.old).state) (present P.view txn.old) (told txn.new result) (present P.view txn.new) }
     ensures keeps { KeepsUnlessDone P.view P.since 29 result txn.old txn.new }
 {
     let p = filled_operands(txn, op)?;
-    compare_part(txn, &p)
+    compare_part(txn, &p, &mut scratch.first, &mut scratch.second)
 }
 
 /// MOVC3.
 #[tactic(auto, using(vax_undo::proofs::Left::always, vax_undo::proofs::Left::behind), unfolding(vax_flat::specs::StringParts::first_move))]
-fn start_move_equal<P: Port>(txn: &mut Txn<P>, op: u8) -> Result<Flow, CutShort>
+fn start_move_equal<P: Port>(
+    txn: &mut Txn<P>,
+    op: u8,
+    scratch: &mut Scratch,
+) -> Result<Flow, CutShort>
     requires { 54 ≤ room txn.old }
     ensures exact { Follows (parts.first_move op (present P.view txn.old).state) (present P.view txn.old) (told txn.new result) (present P.view txn.new) }
     ensures keeps { KeepsUnlessDone P.view P.since 54 result txn.old txn.new }
 {
     let p = equal_operands(txn, op)?;
-    start_move(txn, false, &p)
+    start_move(txn, false, &p, &mut scratch.first, &mut scratch.table)
 }
 
 /// MOVC5.
 #[tactic(auto, using(vax_undo::proofs::Left::always, vax_undo::proofs::Left::behind), unfolding(vax_flat::specs::StringParts::first_move_filled))]
-fn start_move_filled<P: Port>(txn: &mut Txn<P>, op: u8) -> Result<Flow, CutShort>
+fn start_move_filled<P: Port>(
+    txn: &mut Txn<P>,
+    op: u8,
+    scratch: &mut Scratch,
+) -> Result<Flow, CutShort>
     requires { 62 ≤ room txn.old }
     ensures exact { Follows (parts.first_move_filled op (present P.view txn.old).state) (present P.view txn.old) (told txn.new result) (present P.view txn.new) }
     ensures keeps { KeepsUnlessDone P.view P.since 62 result txn.old txn.new }
 {
     let p = filled_operands(txn, op)?;
-    start_move(txn, false, &p)
+    start_move(txn, false, &p, &mut scratch.first, &mut scratch.table)
 }
 
 /// MOVTC.
 #[tactic(auto, using(vax_undo::proofs::Left::always, vax_undo::proofs::Left::behind), unfolding(vax_flat::specs::StringParts::first_move_translated))]
-fn start_move_translated<P: Port>(txn: &mut Txn<P>, op: u8) -> Result<Flow, CutShort>
+fn start_move_translated<P: Port>(
+    txn: &mut Txn<P>,
+    op: u8,
+    scratch: &mut Scratch,
+) -> Result<Flow, CutShort>
     requires { 66 ≤ room txn.old }
     ensures exact { Follows (parts.first_move_translated op (present P.view txn.old).state) (present P.view txn.old) (told txn.new result) (present P.view txn.new) }
     ensures keeps { KeepsUnlessDone P.view P.since 66 result txn.old txn.new }
 {
     let p = translated_operands(txn, op)?;
-    start_move(txn, true, &p)
+    start_move(txn, true, &p, &mut scratch.first, &mut scratch.table)
 }
 
 /// MOVTUC.
 #[tactic(auto, using(vax_undo::proofs::Left::always, vax_undo::proofs::Left::behind), unfolding(vax_flat::specs::StringParts::first_escape))]
-fn start_move_escaped<P: Port>(txn: &mut Txn<P>, op: u8) -> Result<Flow, CutShort>
+fn start_move_escaped<P: Port>(
+    txn: &mut Txn<P>,
+    op: u8,
+    scratch: &mut Scratch,
+) -> Result<Flow, CutShort>
     requires { 66 ≤ room txn.old }
     ensures exact { Follows (parts.first_escape op (present P.view txn.old).state) (present P.view txn.old) (told txn.new result) (present P.view txn.new) }
     ensures keeps { KeepsUnlessDone P.view P.since 66 result txn.old txn.new }
 {
     let p = translated_operands(txn, op)?;
-    start_escape(txn, &p)
+    start_escape(txn, &p, &mut scratch.first, &mut scratch.table)
 }
 
 /// MATCHC.
@@ -125,22 +156,22 @@ fn start_match<P: Port>(txn: &mut Txn<P>, op: u8) -> Result<Flow, CutShort>
 ///
 /// [`resume`]: crate::resume
 #[tactic(auto, using(crate::proofs::Left::with_more), unfolding(vax_flat::specs::StringParts::text_part))]
-pub fn start<P: Port>(txn: &mut Txn<P>, text: Text) -> Result<Flow, CutShort>
+pub fn start<P: Port>(txn: &mut Txn<P>, text: Text, scratch: &mut Scratch) -> Result<Flow, CutShort>
     requires { 66 ≤ room txn.old }
     ensures exact { Follows (parts.text_part text (present P.view txn.old).state) (present P.view txn.old) (told txn.new result) (present P.view txn.new) }
     ensures keeps { KeepsUnlessDone P.view P.since 66 result txn.old txn.new }
 {
     match text {
-        Text::Move => start_move_equal(txn, 0x28),
-        Text::MoveFilled => start_move_filled(txn, 0x2C),
-        Text::MoveTranslated => start_move_translated(txn, 0x2E),
-        Text::MoveTranslatedUntil => start_move_escaped(txn, 0x2F),
-        Text::Compare => start_compare(txn, 0x29),
-        Text::CompareFilled => start_compare_filled(txn, 0x2D),
-        Text::Locate => start_search(txn, 0x3A, true),
-        Text::Skip => start_search(txn, 0x3B, false),
-        Text::Scan => start_scan(txn, 0x2A, true),
-        Text::Span => start_scan(txn, 0x2B, false),
+        Text::Move => start_move_equal(txn, 0x28, scratch),
+        Text::MoveFilled => start_move_filled(txn, 0x2C, scratch),
+        Text::MoveTranslated => start_move_translated(txn, 0x2E, scratch),
+        Text::MoveTranslatedUntil => start_move_escaped(txn, 0x2F, scratch),
+        Text::Compare => start_compare(txn, 0x29, scratch),
+        Text::CompareFilled => start_compare_filled(txn, 0x2D, scratch),
+        Text::Locate => start_search(txn, 0x3A, true, scratch),
+        Text::Skip => start_search(txn, 0x3B, false, scratch),
+        Text::Scan => start_scan(txn, 0x2A, true, scratch),
+        Text::Span => start_scan(txn, 0x2B, false, scratch),
         Text::Match => start_match(txn, 0x39),
     }
 }

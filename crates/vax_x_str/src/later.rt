@@ -12,6 +12,7 @@ ghost use Rattle.vax_undo.specs.Transaction.{present, room, told, KeepsUnlessDon
 ghost use Rattle.vax_x_str.specs.Ends.{ClosesIfDone};
 
 use crate::registers::continue_from;
+use crate::scratch::Scratch;
 use crate::{compare, escape, matching, moves, search};
 use vax_flat::Flow;
 use vax_strpart::Progress;
@@ -30,31 +31,45 @@ fn done_within(most: u16, p: Progress) -> Progress
 
 /// LOCC and SKPC.
 #[tactic(auto, using(vax_undo::proofs::Left::behind, crate::proofs::Left::closes))]
-fn resume_search<P: Port>(txn: &mut Txn<P>, op: u8, equal: bool) -> Result<Flow, CutShort>
+fn resume_search<P: Port>(
+    txn: &mut Txn<P>,
+    op: u8,
+    equal: bool,
+    scratch: &mut Scratch,
+) -> Result<Flow, CutShort>
     requires { 10 ≤ room txn.old }
     ensures exact { Follows (from_registers op (search_part equal) (present P.view txn.old).state) (present P.view txn.old) (told txn.new result) (present P.view txn.new) }
     ensures closed { ClosesIfDone result txn.new.core.now.psl }
     ensures keeps { KeepsUnlessDone P.view P.since 10 result txn.old txn.new }
 {
     let p = continue_from(txn, op);
-    search::search_part(txn, equal, &p)
+    search::search_part(txn, equal, &p, &mut scratch.first)
 }
 
 /// SCANC and SPANC.
 #[tactic(auto, using(vax_undo::proofs::Left::behind, crate::proofs::Left::closes))]
-fn resume_scan<P: Port>(txn: &mut Txn<P>, op: u8, some: bool) -> Result<Flow, CutShort>
+fn resume_scan<P: Port>(
+    txn: &mut Txn<P>,
+    op: u8,
+    some: bool,
+    scratch: &mut Scratch,
+) -> Result<Flow, CutShort>
     requires { 10 ≤ room txn.old }
     ensures exact { Follows (from_registers op (scan_part some) (present P.view txn.old).state) (present P.view txn.old) (told txn.new result) (present P.view txn.new) }
     ensures closed { ClosesIfDone result txn.new.core.now.psl }
     ensures keeps { KeepsUnlessDone P.view P.since 10 result txn.old txn.new }
 {
     let p = continue_from(txn, op);
-    search::scan_part(txn, some, &p)
+    search::scan_part(txn, some, &p, &mut scratch.first, &mut scratch.table)
 }
 
 /// CMPC3 and CMPC5.
 #[tactic(auto, using(vax_undo::proofs::Left::behind, crate::proofs::Left::closes))]
-fn resume_compare<P: Port>(txn: &mut Txn<P>, op: u8) -> Result<Flow, CutShort>
+fn resume_compare<P: Port>(
+    txn: &mut Txn<P>,
+    op: u8,
+    scratch: &mut Scratch,
+) -> Result<Flow, CutShort>
     requires { 10 ≤ room txn.old }
     ensures exact { Follows (from_registers op (λ p s next. compare_part (done_within (pairs_of p) p) s next) (present P.view txn.old).state) (present P.view txn.old) (told txn.new result) (present P.view txn.new) }
     ensures closed { ClosesIfDone result txn.new.core.now.psl }
@@ -62,7 +77,12 @@ fn resume_compare<P: Port>(txn: &mut Txn<P>, op: u8) -> Result<Flow, CutShort>
 {
     let p = continue_from(txn, op);
     let most = p.len1.max(p.len2);
-    compare::compare_part(txn, &done_within(most, p))
+    compare::compare_part(
+        txn,
+        &done_within(most, p),
+        &mut scratch.first,
+        &mut scratch.second,
+    )
 }
 
 /// MATCHC.
@@ -79,26 +99,42 @@ fn resume_match<P: Port>(txn: &mut Txn<P>, op: u8) -> Result<Flow, CutShort>
 
 /// MOVC3, MOVC5 and MOVTC.
 #[tactic(auto, using(vax_undo::proofs::Left::behind, crate::proofs::Left::closes))]
-fn resume_move<P: Port>(txn: &mut Txn<P>, op: u8, by_table: bool) -> Result<Flow, CutShort>
+fn resume_move<P: Port>(
+    txn: &mut Txn<P>,
+    op: u8,
+    by_table: bool,
+    scratch: &mut Scratch,
+) -> Result<Flow, CutShort>
     requires { 43 ≤ room txn.old }
     ensures exact { Follows (from_registers op (λ p s next. move_part by_table (done_within p.len2 p) s next) (present P.view txn.old).state) (present P.view txn.old) (told txn.new result) (present P.view txn.new) }
     ensures closed { ClosesIfDone result txn.new.core.now.psl }
     ensures keeps { KeepsUnlessDone P.view P.since 43 result txn.old txn.new }
 {
     let p = continue_from(txn, op);
-    moves::move_part(txn, by_table, &done_within(p.len2, p))
+    moves::move_part(
+        txn,
+        by_table,
+        &done_within(p.len2, p),
+        &mut scratch.first,
+        &mut scratch.table,
+    )
 }
 
 /// MOVTUC.
 #[tactic(auto, using(vax_undo::proofs::Left::behind, crate::proofs::Left::closes))]
-fn resume_escape<P: Port>(txn: &mut Txn<P>, op: u8) -> Result<Flow, CutShort>
+fn resume_escape<P: Port>(txn: &mut Txn<P>, op: u8, scratch: &mut Scratch) -> Result<Flow, CutShort>
     requires { 43 ≤ room txn.old }
     ensures exact { Follows (from_registers op (λ p s next. escape_part (done_within (moved_count p) p) s next) (present P.view txn.old).state) (present P.view txn.old) (told txn.new result) (present P.view txn.new) }
     ensures closed { ClosesIfDone result txn.new.core.now.psl }
     ensures keeps { KeepsUnlessDone P.view P.since 43 result txn.old txn.new }
 {
     let p = continue_from(txn, op);
-    escape::escape_part(txn, &done_within(moves::moved_count(&p), p))
+    escape::escape_part(
+        txn,
+        &done_within(moves::moved_count(&p), p),
+        &mut scratch.first,
+        &mut scratch.table,
+    )
 }
 
 /// A later part of the string instruction with this opcode, by R0 to R5, which say what remains of it, and by PC, which is at the
@@ -107,21 +143,25 @@ fn resume_escape<P: Port>(txn: &mut Txn<P>, op: u8) -> Result<Flow, CutShort>
 /// Answers `Done` where the instruction is completed, with PC behind it, and `More` where something remains, which R0 to R5 then hold. The
 /// work is cut short by the first page that is missing, or by a violation at the part's first unit.
 #[tactic(auto, using(crate::proofs::Left::with_more), unfolding(vax_flat::specs::StringParts::resumed))]
-pub fn resume<P: Port>(txn: &mut Txn<P>, opcode: u8) -> Result<Flow, CutShort>
+pub fn resume<P: Port>(
+    txn: &mut Txn<P>,
+    opcode: u8,
+    scratch: &mut Scratch,
+) -> Result<Flow, CutShort>
     requires { 43 ≤ room txn.old }
     ensures exact { Follows (resumed opcode (present P.view txn.old).state) (present P.view txn.old) (told txn.new result) (present P.view txn.new) }
     ensures closed { ClosesIfDone result txn.new.core.now.psl }
     ensures keeps { KeepsUnlessDone P.view P.since 43 result txn.old txn.new }
 {
     match opcode {
-        0x28 | 0x2C => resume_move(txn, opcode, false),
-        0x2E => resume_move(txn, opcode, true),
-        0x2F => resume_escape(txn, opcode),
-        0x3A => resume_search(txn, opcode, true),
-        0x3B => resume_search(txn, opcode, false),
-        0x2A => resume_scan(txn, opcode, true),
-        0x2B => resume_scan(txn, opcode, false),
+        0x28 | 0x2C => resume_move(txn, opcode, false, scratch),
+        0x2E => resume_move(txn, opcode, true, scratch),
+        0x2F => resume_escape(txn, opcode, scratch),
+        0x3A => resume_search(txn, opcode, true, scratch),
+        0x3B => resume_search(txn, opcode, false, scratch),
+        0x2A => resume_scan(txn, opcode, true, scratch),
+        0x2B => resume_scan(txn, opcode, false, scratch),
         0x39 => resume_match(txn, opcode),
-        _ => resume_compare(txn, opcode),
+        _ => resume_compare(txn, opcode, scratch),
     }
 }

@@ -13,9 +13,11 @@ mod moves;
 mod operands;
 mod registers;
 mod run;
+mod scratch;
 mod search;
 #[cfg(test)]
 mod tests;
 
 pub use crate::first::start;
 pub use crate::later::resume;
+pub use crate::scratch::Scratch;

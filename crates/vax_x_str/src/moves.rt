@@ -180,6 +180,7 @@ fn apply_table<P: Port>(
     by_table: bool,
     p: &Progress,
     bytes: &mut [u8],
+    table: &mut [u8; 256],
 ) -> Result<(), CutShort>
     ensures exact { (next : List ℕ → State → Accesses Leaf) → over_port (moving.table_applied by_table p.now bytes.old (present P.view txn.old).state next) (present P.view txn.old).view ≡ goes_on (told txn.new result) (present P.view txn.new).view.marked (λ _. over_port (next bytes.new (present P.view txn.new).state) (present P.view txn.new).view) }
     ensures length { length bytes.new ≡ length bytes.old }
@@ -187,9 +188,8 @@ fn apply_table<P: Port>(
     ensures keeps { Keeps P.view P.since 0 txn.old txn.new }
 {
     if by_table {
-        let mut table = [0; 256];
-        read_span(txn, p.table, &mut table)?;
-        translate(bytes, &table);
+        read_span(txn, p.table, table)?;
+        translate(bytes, table);
     }
     Ok(())
 }
@@ -201,6 +201,7 @@ fn move_run<P: Port>(
     by_table: bool,
     p: &Progress,
     buffer: &mut [u8],
+    table: &mut [u8; 256],
 ) -> Result<Flow, CutShort>
     requires some { 1 ≤ length buffer.old }
     requires few { length buffer.old ≤ 512 }
@@ -213,7 +214,7 @@ fn move_run<P: Port>(
     let count = buffer.len() as u16;
     let first = u32::from(lowest(p, count));
     read_span(txn, p.addr1.wrapping_add(first), buffer)?;
-    apply_table(txn, by_table, p, buffer)?;
+    apply_table(txn, by_table, p, buffer, table)?;
     write_span(txn, p.addr2.wrapping_add(first), buffer)?;
     Ok(end_move(txn, by_table, p, count))
 }
@@ -260,6 +261,8 @@ pub(crate) fn move_part<P: Port>(
     txn: &mut Txn<P>,
     by_table: bool,
     p: &Progress,
+    buffer: &mut [u8; 512],
+    table: &mut [u8; 256],
 ) -> Result<Flow, CutShort>
     requires done { p.now.done ≤ p.now.len2 }
     requires room { 41 ≤ room txn.old }
@@ -269,9 +272,14 @@ pub(crate) fn move_part<P: Port>(
     if p.done == p.len2 {
         return Ok(finish_move(txn, by_table, p));
     }
-    let mut buffer = [0; 512];
     if p.done < moved_count(p) {
-        move_run(txn, by_table, p, &mut buffer[..move_room(p) as usize])
+        move_run(
+            txn,
+            by_table,
+            p,
+            &mut buffer[..move_room(p) as usize],
+            table,
+        )
     } else {
         fill_run(txn, by_table, p, &mut buffer[..fill_room(p) as usize])
     }
@@ -283,6 +291,8 @@ pub(crate) fn start_move<P: Port>(
     txn: &mut Txn<P>,
     by_table: bool,
     p: &Progress,
+    buffer: &mut [u8; 512],
+    table: &mut [u8; 256],
 ) -> Result<Flow, CutShort>
     requires done { p.now.done ≤ p.now.len2 }
     requires room { 41 ≤ room txn.old }
@@ -293,5 +303,5 @@ pub(crate) fn start_move<P: Port>(
         return Err(txn.cut(Cut::Event(Exception::Operand)));
     }
     check_move(txn, by_table, p, p.len2)?;
-    move_part(txn, by_table, p)
+    move_part(txn, by_table, p, buffer, table)
 }

@@ -134,6 +134,7 @@ pub(crate) fn search_part<P: Port>(
     txn: &mut Txn<P>,
     equal: bool,
     p: &Progress,
+    buffer: &mut [u8; 512],
 ) -> Result<Flow, CutShort>
     requires { 8 ≤ room txn.old }
     ensures exact { Follows (search.search_part equal p.now (present P.view txn.old).state) (present P.view txn.old) (told txn.new result) (present P.view txn.new) }
@@ -142,7 +143,6 @@ pub(crate) fn search_part<P: Port>(
     if p.len1 == 0 {
         return locate_at(txn, 0, p.addr1);
     }
-    let mut buffer = [0; 512];
     search_run(txn, equal, p, &mut buffer[..search_room(p) as usize])
 }
 
@@ -326,6 +326,7 @@ fn scan_run<P: Port>(
     some: bool,
     p: &Progress,
     buffer: &mut [u8],
+    entries: &mut [u8; 256],
 ) -> Result<Flow, CutShort>
     requires any { 1 ≤ length buffer.old }
     requires rest { length buffer.old ≤ p.now.len1 }
@@ -335,8 +336,7 @@ fn scan_run<P: Port>(
     ensures keeps { KeepsUnlessDone P.view P.since 8 result txn.old txn.new }
 {
     read_run(txn, p.addr1, buffer)?;
-    let mut entries = [0; 256];
-    let (from, to) = read_table(txn, p.table, &mut entries)?;
+    let (from, to) = read_table(txn, p.table, entries)?;
     check(
         txn,
         p.table.wrapping_add(u32::from(buffer[0])),
@@ -348,7 +348,7 @@ fn scan_run<P: Port>(
         let entry = read(txn, p.table.wrapping_add(u32::from(buffer[0])), 1)?;
         return end_own(txn, some, p, entry as u8, &buffer[..1]);
     }
-    end_scan(txn, some, p, &entries, &buffer[..known])
+    end_scan(txn, some, p, entries, &buffer[..known])
 }
 
 /// A part of SCANC or SPANC.
@@ -357,6 +357,8 @@ pub(crate) fn scan_part<P: Port>(
     txn: &mut Txn<P>,
     some: bool,
     p: &Progress,
+    buffer: &mut [u8; 512],
+    entries: &mut [u8; 256],
 ) -> Result<Flow, CutShort>
     requires { 8 ≤ room txn.old }
     ensures exact { Follows (search.scan_part some p.now (present P.view txn.old).state) (present P.view txn.old) (told txn.new result) (present P.view txn.new) }
@@ -365,6 +367,11 @@ pub(crate) fn scan_part<P: Port>(
     if p.len1 == 0 {
         return scan_at(txn, p.table, 0, p.addr1);
     }
-    let mut buffer = [0; 512];
-    scan_run(txn, some, p, &mut buffer[..search_room(p) as usize])
+    scan_run(
+        txn,
+        some,
+        p,
+        &mut buffer[..search_room(p) as usize],
+        entries,
+    )
 }

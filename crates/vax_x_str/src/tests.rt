@@ -5,7 +5,7 @@ use std::test::Fail;
 use vax_flat::{Cut, Exception, Flow};
 use vax_isa::Text;
 use vax_space::{Area, Bytes, Space, Violation};
-use vax_undo::{CutShort, Plain, Term, Txn};
+use vax_undo::{CutShort, Log, Plain, Term, Txn};
 use vax_word::{Core, Psl};
 
 /// Where the instruction lies.
@@ -74,10 +74,12 @@ enum Part {
 /// Makes a part, and undoes what was cut short.
 fn made(alloc: Global, port: &mut Plain, core: &mut Core, part: Part) -> Result<Flow, Cut> {
     let mut term = Term::new(Vec::new(alloc));
-    let mut txn = Txn::begin(core, &mut term, port);
+    let mut log = Log::new();
+    let mut txn = Txn::begin(core, &mut term, port, &mut log);
+    let mut scratch = Scratch::default();
     let result = match part {
-        Part::First(text) => start(&mut txn, text),
-        Part::Later(opcode) => resume(&mut txn, opcode),
+        Part::First(text) => start(&mut txn, text, &mut scratch),
+        Part::Later(opcode) => resume(&mut txn, opcode, &mut scratch),
     };
     match result {
         Ok(flow) => {

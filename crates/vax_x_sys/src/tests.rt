@@ -5,7 +5,7 @@ use std::test::Fail;
 use vax_flat::{Cut, Delivery, Exception, Trap};
 use vax_isa::AccessMode;
 use vax_space::{Area, Bytes, Space};
-use vax_undo::{Plain, Term};
+use vax_undo::{Log, Plain, Term};
 use vax_word::{Core, Psl};
 
 /// A page at 80000000, for kernel mode alone, and a page at 80000200 with this protection.
@@ -55,7 +55,8 @@ fn went(
     instruction: System,
 ) -> Result<Flow, Cut> {
     let mut term = Term::new(Vec::new(alloc));
-    let mut txn = Txn::begin(core, &mut term, port);
+    let mut log = Log::new();
+    let mut txn = Txn::begin(core, &mut term, port, &mut log);
     let done = match run(&mut txn, instruction) {
         Ok(flow) => Ok(flow),
         Err(CutShort) => Err(txn.why()),
@@ -203,7 +204,8 @@ fn an_arithmetic_trap_and_an_interrupt(rt: HostRuntime) -> Result<(), Fail> {
     let mut port = memory(alloc, &vectors, 4, &[])?;
     let mut core = registers(0x8000_0204, 0x8000_0300, 2);
     let mut term = Term::new(Vec::new(alloc));
-    let mut txn = Txn::begin(&mut core, &mut term, &mut port);
+    let mut log = Log::new();
+    let mut txn = Txn::begin(&mut core, &mut term, &mut port, &mut log);
     let trap = deliver(&mut txn, Exception::Arithmetic(Trap::IntegerDivide)).ok();
     // level 3, on the interrupt stack
     let level = interrupt(&mut txn, 3).ok();

@@ -10,7 +10,8 @@ loop-n-init g c =
     let p = present g.P.Port.view c.args.txn.now in
     record {
       few = omega arith;
-      follows = λ next. ap (λ ns. over_port (restored ns c.args.from p.state next) p.view) (named_all c.args.mask c.args.count);
+      within = c.end_of_named-end.ensures.within;
+      follows = λ next. ap (λ ns. over_port (restored ns c.args.from p.state next) p.view) (sym c.end_of_named-end.ensures.named ∙ named_all c.args.mask c.end_of_named-end.result);
       keeps = keeps_all g.P.Port.view g.P.Port.since _ _;
     }
 
@@ -18,8 +19,8 @@ pub returns-in_err-at-clause-exact : goal.returns-in_err-at-clause-exact
 returns-in_err-at-clause-exact g c = λ next.
     let p = present g.P.Port.view c.loop-n.txn in
     c.loop-n.invariant.follows next
-    ∙ ap (λ tree. over_port tree p.view) (rest_step c.args.mask c.loop-n.n c.args.count c.loop-n.at p.state next (omega arith))
-    ∙ c.in_err-at.ensures.exact (λ addr t. restored (rest c.args.mask (c.loop-n.n + 1) c.args.count) addr t next)
+    ∙ ap (λ tree. over_port tree p.view) (rest_step c.args.mask c.loop-n.n c.end_of_named-end.result c.loop-n.at p.state next (omega arith))
+    ∙ c.in_err-at.ensures.exact (λ addr t. restored (rest c.args.mask (c.loop-n.n + 1) c.end_of_named-end.result) addr t next)
     ∙ sym (stopped c.restore_if.new.txn c.from_residual.result _ _ c.from_residual.ensures.0)
 
 pub returns-in_err-at-clause-keeps : goal.returns-in_err-at-clause-keeps
@@ -31,17 +32,18 @@ loop-n-preserved g c =
     let p = present g.P.Port.view c.loop-n.txn in
     record {
       few = omega arith;
+      within = c.loop-n.invariant.within;
       follows = λ next.
           c.loop-n.invariant.follows next
-          ∙ ap (λ tree. over_port tree p.view) (rest_step c.args.mask c.loop-n.n c.args.count c.loop-n.at p.state next (omega arith))
-          ∙ c.in_ok-at.ensures.exact (λ addr t. restored (rest c.args.mask (c.loop-n.n + 1) c.args.count) addr t next);
+          ∙ ap (λ tree. over_port tree p.view) (rest_step c.args.mask c.loop-n.n c.end_of_named-end.result c.loop-n.at p.state next (omega arith))
+          ∙ c.in_ok-at.ensures.exact (λ addr t. restored (rest c.args.mask (c.loop-n.n + 1) c.end_of_named-end.result) addr t next);
       keeps = keeps_more g.P.Port.view g.P.Port.since c.loop-n.n 1 _ _ c.loop-n.txn _ (omega arith) c.loop-n.invariant.keeps c.in_ok-at.ensures.keeps;
     }
 
 pub returns-clause-exact : goal.returns-clause-exact
 returns-clause-exact g c = λ next.
     let p = present g.P.Port.view c.loop-n.txn in
-    c.loop-n.invariant.follows next ∙ ap (λ tree. over_port tree p.view) (rest_none c.args.mask c.loop-n.n c.args.count c.loop-n.at p.state next (omega arith))
+    c.loop-n.invariant.follows next ∙ ap (λ tree. over_port tree p.view) (rest_none c.args.mask c.loop-n.n c.end_of_named-end.result c.loop-n.at p.state next (omega arith))
 
 pub returns-clause-keeps : goal.returns-clause-keeps
 returns-clause-keeps g c =

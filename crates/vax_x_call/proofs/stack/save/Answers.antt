@@ -1,4 +1,4 @@
-use Rattle.std.proofs.Common.{◌-◌, ◌∙◌, ap, sym, refl, arith}
+use Rattle.std.proofs.Common.{◌-◌, ◌∙◌, ap, sym, arith}
 use Rattle.vax_flat.specs.Call.{named, saved}
 use Rattle.vax_flat.specs.OverPort.{over_port}
 use Rattle.vax_undo.specs.Transaction.{present}
@@ -6,7 +6,13 @@ use Rattle.vax_x_call.proofs.StackLaws.{saved_step, saved_none, stopped, keeps_m
 use Rattle.vax_x_call.proofs.stack.save.Goals as goal
 
 pub loop-n-init : goal.loop-n-init
-loop-n-init g c = record { few = omega arith; follows = λ next. refl; keeps = keeps_all g.P.Port.view g.P.Port.since _ _ }
+loop-n-init g c =
+    let p = present g.P.Port.view c.args.txn.now in
+    record {
+      few = omega arith;
+      follows = λ next. ap (λ ns. over_port (saved ns c.args.top p.state next) p.view) (sym c.end_of_named-n.ensures.named);
+      keeps = keeps_all g.P.Port.view g.P.Port.since _ _;
+    }
 
 pub returns-in_err-at-clause-exact : goal.returns-in_err-at-clause-exact
 returns-in_err-at-clause-exact g c = λ next.

@@ -1,9 +1,8 @@
-use Rattle.std.proofs.Common.{◌+◌, ◌-◌, ◌∙◌, ap, sym, refl, inl, inr, arith}
-use Rattle.std.proofs.lemmas.Bool.Decides.{nat_tests}
+use Rattle.std.proofs.Common.{◌+◌, ◌-◌, ◌∙◌, ap, sym, refl, arith}
 use Rattle.vax_flat.specs.OverPort.{over_port}
 use Rattle.vax_flat.specs.StringMatch.{match_on}
 use Rattle.vax_undo.specs.Transaction.{present}
-use Rattle.vax_undo.proofs.Left.{behind, kept_through}
+use Rattle.vax_undo.proofs.Left.{kept_through}
 use Rattle.vax_x_str.proofs.MatchUnits.{keeps_all, match_step, none_left, none_near, stopped}
 use Rattle.vax_x_str.proofs.matching.match_within.Goals as goal
 use Rattle.vax_x_str.proofs.matching.match_within.Goals.{then-loop-units-test+else-has_unit, else-loop-units-test}

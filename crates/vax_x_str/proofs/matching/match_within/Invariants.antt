@@ -1,4 +1,4 @@
-use Rattle.std.proofs.Common.{ℕ, ◌≡◌, ◌-◌, ◌≤◌}
+use Rattle.std.proofs.Common.{◌≡◌, ◌-◌, ◌≤◌}
 use Rattle.vax_flat.specs.declared.Flow.{Flow}
 use Rattle.vax_flat.specs.State.{State}
 use Rattle.vax_flat.specs.Accesses.{Accesses, Leaf}

@@ -15,7 +15,7 @@ returns-clause-attempted g c = λ place at st.
     let old = c.args.self.now in
     let view = g.P.Port.view c.args.port.now in
     let after = g.P.Port.view c.try_once-tried.new.port in
-    let cpu : Cpu = record { core = c.try_once-tried.new.core; term = c.try_once-tried.new.term; latch = c.open_after-self.result } in
+    let cpu : Cpu = record { core = c.try_once-tried.new.core; term = c.try_once-tried.new.term; latch = c.open_after-self.result; log = _; scratch = c.try_once-tried.new.scratch } in
     let new : Present = record { state = state_of c.try_once-tried.new.core c.try_once-tried.new.term; view = after } in
     subst (λ (o : Option Attempt). IfSome o (λ a. Attempted view place a cpu after)) c.answer_of.ensures
     (attempted view place st (running_there old view place at) cpu after (input_there old view place at ∙ ap (λ v. v.items) (sym c.try_once-tried.ensures.input)) c.try_once-tried.result
@@ -27,7 +27,7 @@ returns-clause-before g c =
     let old = c.args.self.now in
     let view = g.P.Port.view c.args.port.now in
     let after = g.P.Port.view c.try_once-tried.new.port in
-    let cpu : Cpu = record { core = c.try_once-tried.new.core; term = c.try_once-tried.new.term; latch = c.open_after-self.result } in
+    let cpu : Cpu = record { core = c.try_once-tried.new.core; term = c.try_once-tried.new.term; latch = c.open_after-self.result; log = _; scratch = c.try_once-tried.new.scratch } in
     subst (λ (o : Option Attempt). IfSome o (λ a. IsAsBefore a old view cpu after)) c.answer_of.ensures
     (as_before old cpu view after (ap (λ v. v.items) c.try_once-tried.ensures.input) c.try_once-tried.result
     (unmoved (start_by old.latch old.core) _ _ (tree_of old.latch) c.try_once-tried.result c.try_once-tried.ensures.made))

@@ -14,7 +14,7 @@ pub returns-clause-steps : goal.returns-clause-steps
 returns-clause-steps g c = λ closed memory output st.
     let view = g.P.Port.view c.args.port.now in
     let m = flat_of c.args.self.now memory output in
-    let cpu : Cpu = record { core = c.settle-last.new.core; term = c.settle-last.new.term; latch = c.open_after-self.result } in
+    let cpu : Cpu = record { core = c.settle-last.new.core; term = c.settle-last.new.term; latch = c.open_after-self.result; log = _; scratch = c.try_steps-several.new.scratch } in
     let after = g.P.Port.view c.settle-last.new.port in
     let ran = c.try_steps-several.ensures.ran in
     let r = reaches view m c.try_steps-several.result.steps _ ran.0 (at_start c.args.self.now.core c.args.self.now.term view m refl c.requires.unsent refl refl refl st) refl ran.1 in

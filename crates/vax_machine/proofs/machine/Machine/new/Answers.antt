@@ -1,20 +1,21 @@
-use Rattle.std.proofs.Common.{ap, refl}
+use Rattle.std.proofs.Common.{ap, ◌∙◌}
 use Rattle.vax_flat.specs.Start.{start_memory}
 use Rattle.vax_pager.specs.Meaning.{pages}
+use Rattle.vax_undo.specs.declared.term.Term.{Term}
 use Rattle.vax_machine.specs.Meaning.{starts_at}
 use Rattle.vax_machine.proofs.Beginning.{fresh_areas, fresh_begun, fresh_pins, fresh_sound, started}
 use Rattle.vax_machine.proofs.machine.Machine.new.Goals as goal
 
 pub invariant_of-result : goal.invariant_of-result
 invariant_of-result c = record {
-  sound = record { pages = fresh_sound (pages c.in_ok-pager.pager) c.args.space c.args.frames c.in_ok-pager.ensures.pages c.requires.some; unsent = c.new-2.ensures.out };
+  sound = record { pages = fresh_sound (pages c.in_ok-pager.pager) c.args.space c.args.frames c.in_ok-pager.ensures.pages c.requires.some; unsent = ap (λ (t : Term). t.out) c.new-cpu.ensures.term ∙ c.new-2.ensures.out };
 }
 
 pub returns-clause-start : goal.returns-clause-start
 returns-clause-start c = λ file. record {
   processor = record {
-    open_one = refl;
-    machine = started c.args.core (start_memory c.args.space) c.new-2.result c.args.input.items (ap (λ v. v.items) c.new-2.ensures.input) c.new-2.ensures.place;
+    open_one = c.new-cpu.ensures.latch;
+    machine = started c.new-cpu.result c.args.core (start_memory c.args.space) c.args.input.items c.new-cpu.ensures.core (ap (λ (t : Term). t.input.items) c.new-cpu.ensures.term ∙ ap (λ v. v.items) c.new-2.ensures.input) (ap (λ (t : Term). t.place) c.new-cpu.ensures.term ∙ c.new-2.ensures.place);
   };
   memory = c.in_ok-pager.ensures.stands file;
 }
@@ -27,4 +28,4 @@ pub returns-clause-kept : goal.returns-clause-kept
 returns-clause-kept c = fresh_areas (pages c.in_ok-pager.pager) c.args.space c.args.frames c.in_ok-pager.ensures.pages
 
 pub returns-clause-between : goal.returns-clause-between
-returns-clause-between c = record { closed = refl; unpinned = fresh_pins (pages c.in_ok-pager.pager) c.args.space c.args.frames c.in_ok-pager.ensures.pages }
+returns-clause-between c = record { closed = c.new-cpu.ensures.latch; unpinned = fresh_pins (pages c.in_ok-pager.pager) c.args.space c.args.frames c.in_ok-pager.ensures.pages }

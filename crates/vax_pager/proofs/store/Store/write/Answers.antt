@@ -1,7 +1,8 @@
-use Rattle.std.proofs.Common.{Option, ◌≡◌, length, arith, refl, sym, ap, ◌∙◌}
+use Rattle.std.proofs.Common.{Ok, Option, ◌≡◌, length, arith, refl, sym, ap, ◌∙◌}
 use Rattle.vax_space.specs.Reference.{page_of}
 use Rattle.vax_flat.specs.declared.Stop.{Stop}
-use Rattle.vax_flat.specs.Port.{unless_cut, with_number, with_run}
+use Rattle.vax_flat.specs.Memory.{number}
+use Rattle.vax_flat.specs.Port.{loaded_by, unless_cut, with_number, with_run}
 use Rattle.vax_undo.specs.Blocks.{low_bytes}
 use Rattle.vax_undo.proofs.Numbers.{low-length}
 use Rattle.vax_pager.specs.Paging.{Paging, view_of}
@@ -11,7 +12,10 @@ use Rattle.vax_pager.proofs.Writes.{filled_listed, filled_only, filled_view, fra
 use Rattle.vax_pager.proofs.store.Store.write.Goals as goal
 
 pub returns-in-Some-clause-answer : goal.returns-in-Some-clause-answer
-returns-in-Some-clause-answer c = sym (c.in-Some.ensures.free refl)
+returns-in-Some-clause-answer c =
+    let view = view_of (paging c.args.self.now) in
+    ap (λ x. Ok x) (c.number_in-old.ensures ∙ ap (λ (z : Paging). number (view_of z).byte c.args.addr c.args.n) c.in-Some.ensures.paging)
+    ∙ sym (ap (λ (s : Option Stop). loaded_by s (number view.byte c.args.addr c.args.n)) (c.in-Some.ensures.free refl))
 
 pub returns-in-Some-clause-stored : goal.returns-in-Some-clause-stored
 returns-in-Some-clause-stored c =

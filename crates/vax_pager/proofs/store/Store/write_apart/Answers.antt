@@ -1,6 +1,7 @@
-use Rattle.std.proofs.Common.{length, arith, ℕ, ◌-◌, ◌%◌, None, Option, take, drop, sym, ap, ◌∙◌, refl}
+use Rattle.std.proofs.Common.{length, arith, ℕ, ◌-◌, ◌%◌, None, Ok, Option, take, drop, sym, ap, ◌∙◌, refl}
 use Rattle.vax_space.specs.Reference.{byte_after}
-use Rattle.vax_flat.specs.Port.{stop_of, unless_cut, with_number, put_run}
+use Rattle.vax_flat.specs.Memory.{number}
+use Rattle.vax_flat.specs.Port.{loaded_by, stop_of, unless_cut, with_number, put_run}
 use Rattle.vax_pager.specs.Paging.{view_of}
 use Rattle.vax_pager.specs.Store.{paging}
 use Rattle.vax_space.specs.Reference.{page_of}
@@ -18,7 +19,7 @@ returns-in_default-clause-answer c =
     let first : ℕ = 512 - c.args.addr % 512 in
     let next : ℕ = byte_after c.args.addr first in
     let h : IsApart c.args.addr c.args.n first next = (refl, refl, c.requires.apart, c.requires.few, c.ranges.addr.fits) in
-    sym (ap (stop_of None) (apart_low c.args.addr c.args.n first next view.resident h (sym c.in_default.ensures.resident)))
+    sym (ap (λ (p : Option ℕ). loaded_by (stop_of None p) (number view.byte c.args.addr c.args.n)) (apart_low c.args.addr c.args.n first next view.resident h (sym c.in_default.ensures.resident)))
 
 pub returns-in_default-clause-stored : goal.returns-in_default-clause-stored
 returns-in_default-clause-stored c =
@@ -34,7 +35,7 @@ returns-in_default-frame_of-clause-answer c =
     let first : ℕ = 512 - c.args.addr % 512 in
     let next : ℕ = byte_after c.args.addr first in
     let h : IsApart c.args.addr c.args.n first next = (refl, refl, c.requires.apart, c.requires.few, c.ranges.addr.fits) in
-    sym (ap (stop_of None) (apart_high c.args.addr c.args.n first next view.resident h (sym c.in-Some.ensures.resident) (sym (c.in_default-frame_of.ensures.resident ∙ resident_same _ _ _ c.in-Some.ensures.paging))))
+    sym (ap (λ (p : Option ℕ). loaded_by (stop_of None p) (number view.byte c.args.addr c.args.n)) (apart_high c.args.addr c.args.n first next view.resident h (sym c.in-Some.ensures.resident) (sym (c.in_default-frame_of.ensures.resident ∙ resident_same _ _ _ c.in-Some.ensures.paging))))
 
 pub returns-in_default-frame_of-clause-stored : goal.returns-in_default-frame_of-clause-stored
 returns-in_default-frame_of-clause-stored c =
@@ -71,7 +72,8 @@ returns c =
     let none = apart_none c.args.addr c.args.n first next view.resident h low_here high_here in
     record {
       sound = c.put_run-2.ensures.sound;
-      answer = sym (ap (stop_of None) none);
+      answer = ap (λ x. Ok x) (c.number_in_two-old.ensures ∙ ap (λ (z : Paging). number (view_of z).byte c.args.addr c.args.n) e)
+          ∙ sym (ap (λ (p : Option ℕ). loaded_by (stop_of None p) (number view.byte c.args.addr c.args.n)) none);
       stored = view_of_apart s _ _ _ _ c.args.addr c.args.n first next low high c.args.value h k sizes.0 sizes.1 bytes
           ∙ sym (ap (λ (p : Option ℕ). unless_cut (stop_of None p) view (with_number view c.args.addr c.args.n c.args.value)) none);
       listed = modified_apart s _ _ _ _ c.args.addr c.args.n first next low high h k;
@@ -106,3 +108,6 @@ put_run-requires-clause-held c = ap (λ (g : ℕ → Option ℕ). g (page_of (by
 
 pub put_run-requires-2-clause-held : goal.put_run-requires-2-clause-held
 put_run-requires-2-clause-held c = ap (λ (g : ℕ → Option ℕ). g (page_of c.args.addr)) (c.put_run.ensures.held ∙ c.touch-2.ensures.held ∙ c.touch.ensures.held ∙ c.in-Some-frame_of.ensures.frames) ∙ c.in-Some.ensures.held
+
+pub number_in_two-old-requires-clause-low : goal.number_in_two-old-requires-clause-low
+number_in_two-old-requires-clause-low c = ap (λ (g : ℕ → Option ℕ). g (page_of c.args.addr)) c.in-Some-frame_of.ensures.frames ∙ c.in-Some.ensures.held

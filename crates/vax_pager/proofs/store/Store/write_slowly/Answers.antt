@@ -1,8 +1,9 @@
-use Rattle.std.proofs.Common.{Option, ◌≡◌, ◌-◌, ◌%◌, length, arith, sym, ap, ◌∙◌}
+use Rattle.std.proofs.Common.{Ok, Option, ◌≡◌, ◌-◌, ◌%◌, length, arith, sym, ap, ◌∙◌}
 use Rattle.vax_space.specs.declared.Access.TheVariants.{Write}
 use Rattle.vax_space.specs.Reference.{page_of}
 use Rattle.vax_flat.specs.declared.Stop.{Stop}
-use Rattle.vax_flat.specs.Port.{unless_cut, with_number}
+use Rattle.vax_flat.specs.Memory.{number}
+use Rattle.vax_flat.specs.Port.{loaded_by, unless_cut, with_number}
 use Rattle.vax_undo.specs.Blocks.{low_bytes}
 use Rattle.vax_undo.proofs.Accesses.{fine, gone}
 use Rattle.vax_undo.proofs.Numbers.{low-length}
@@ -17,7 +18,10 @@ pub touch-requires-clause-writable : goal.touch-requires-clause-writable
 touch-requires-clause-writable c = rw c.in-Some.ensures.paging (writable_at _ c.args.addr c.args.n c.args.mode c.ranges.addr.fits c.requires.some c.in_default.ensures)
 
 pub returns-in-Some-clause-answer : goal.returns-in-Some-clause-answer
-returns-in-Some-clause-answer c = sym (fine (view_of (paging c.args.self.now)) c.args.addr c.args.n c.args.mode Write c.in_default.ensures c.ranges.addr.fits c.if-addr-n-gt-PAGE_BYTES.false (sym c.in-Some.ensures.resident))
+returns-in-Some-clause-answer c =
+    let view = view_of (paging c.args.self.now) in
+    ap (λ x. Ok x) (c.number_in-old.ensures ∙ ap (λ (z : Paging). number (view_of z).byte c.args.addr c.args.n) c.in-Some.ensures.paging)
+    ∙ sym (ap (λ (s : Option Stop). loaded_by s (number view.byte c.args.addr c.args.n)) (fine (view_of (paging c.args.self.now)) c.args.addr c.args.n c.args.mode Write c.in_default.ensures c.ranges.addr.fits c.if-addr-n-gt-PAGE_BYTES.false (sym c.in-Some.ensures.resident)))
 
 pub returns-in-Some-clause-stored : goal.returns-in-Some-clause-stored
 returns-in-Some-clause-stored c =
@@ -39,7 +43,9 @@ returns-in-Some-clause-only c =
     written_only (paging c.args.self.now) _ _ (page_of c.args.addr) _ e c.put_number.ensures.paging (sym c.in-Some.ensures.resident)
 
 pub returns-in-None-clause-answer : goal.returns-in-None-clause-answer
-returns-in-None-clause-answer c = sym (gone (view_of (paging c.args.self.now)) c.args.addr c.args.n c.args.mode Write c.in_default.ensures c.requires.some (sym c.in-None.ensures.resident))
+returns-in-None-clause-answer c =
+    let view = view_of (paging c.args.self.now) in
+    sym (ap (λ (s : Option Stop). loaded_by s (number view.byte c.args.addr c.args.n)) (gone view c.args.addr c.args.n c.args.mode Write c.in_default.ensures c.requires.some (sym c.in-None.ensures.resident)))
 
 pub returns-in-None-clause-stored : goal.returns-in-None-clause-stored
 returns-in-None-clause-stored c = ap (λ (z : Paging). view_of z) c.in-None.ensures.paging ∙ sym (ap (λ (s : Option Stop). unless_cut s (view_of (paging c.args.self.now)) (with_number (view_of (paging c.args.self.now)) c.args.addr c.args.n c.args.value)) (gone (view_of (paging c.args.self.now)) c.args.addr c.args.n c.args.mode Write c.in_default.ensures c.requires.some (sym c.in-None.ensures.resident)))

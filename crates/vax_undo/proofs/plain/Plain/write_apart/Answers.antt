@@ -1,7 +1,8 @@
 use Rattle.std.proofs.Common.{ℕ, ◌-◌, ◌%◌, None, Option, take, drop, sym, ap, ◌∙◌, refl}
 use Rattle.std.specs.Prelude.{is_some}
 use Rattle.vax_space.specs.Reference.{byte_after}
-use Rattle.vax_flat.specs.Port.{View, stop_of, unless_cut, with_number, with_run, put_run}
+use Rattle.vax_flat.specs.Memory.{number}
+use Rattle.vax_flat.specs.Port.{View, stop_of, loaded_by, unless_cut, with_number, with_run, put_run}
 use Rattle.vax_undo.specs.Plain.{view_of}
 use Rattle.vax_undo.proofs.Accesses.{IsApart, apart_low, apart_high, apart_none, apart_put}
 use Rattle.vax_undo.proofs.plain.Plain.write_apart.Goals as goal
@@ -12,7 +13,7 @@ returns-in_default-clause-answer c =
     let first : ℕ = 512 - c.args.addr % 512 in
     let next : ℕ = byte_after c.args.addr first in
     let h : IsApart c.args.addr c.args.n first next = (refl, refl, c.requires.apart, c.requires.few, c.ranges.addr.fits) in
-    sym (ap (stop_of None) (apart_low c.args.addr c.args.n first next view.resident h (sym (ap is_some c.in_default.ensures))))
+    sym (ap (λ (p : Option ℕ). loaded_by (stop_of None p) (number view.byte c.args.addr c.args.n)) (apart_low c.args.addr c.args.n first next view.resident h (sym (ap is_some c.in_default.ensures))))
 
 pub returns-in_default-clause-stored : goal.returns-in_default-clause-stored
 returns-in_default-clause-stored c =
@@ -28,7 +29,7 @@ returns-in_default-owner-clause-answer c =
     let first : ℕ = 512 - c.args.addr % 512 in
     let next : ℕ = byte_after c.args.addr first in
     let h : IsApart c.args.addr c.args.n first next = (refl, refl, c.requires.apart, c.requires.few, c.ranges.addr.fits) in
-    sym (ap (stop_of None) (apart_high c.args.addr c.args.n first next view.resident h (sym (ap is_some c.in-Some.ensures)) (sym (ap is_some c.in_default-owner.ensures))))
+    sym (ap (λ (p : Option ℕ). loaded_by (stop_of None p) (number view.byte c.args.addr c.args.n)) (apart_high c.args.addr c.args.n first next view.resident h (sym (ap is_some c.in-Some.ensures)) (sym (ap is_some c.in_default-owner.ensures))))
 
 pub returns-in_default-owner-clause-stored : goal.returns-in_default-owner-clause-stored
 returns-in_default-owner-clause-stored c =
@@ -37,14 +38,6 @@ returns-in_default-owner-clause-stored c =
     let next : ℕ = byte_after c.args.addr first in
     let h : IsApart c.args.addr c.args.n first next = (refl, refl, c.requires.apart, c.requires.few, c.ranges.addr.fits) in
     sym (ap (λ (p : Option ℕ). unless_cut (stop_of None p) view (with_number view c.args.addr c.args.n c.args.value)) (apart_high c.args.addr c.args.n first next view.resident h (sym (ap is_some c.in-Some.ensures)) (sym (ap is_some c.in_default-owner.ensures))))
-
-pub returns-clause-answer : goal.returns-clause-answer
-returns-clause-answer c =
-    let view = view_of c.args.self.now in
-    let first : ℕ = 512 - c.args.addr % 512 in
-    let next : ℕ = byte_after c.args.addr first in
-    let h : IsApart c.args.addr c.args.n first next = (refl, refl, c.requires.apart, c.requires.few, c.ranges.addr.fits) in
-    sym (ap (stop_of None) (apart_none c.args.addr c.args.n first next view.resident h (sym (ap is_some c.in-Some.ensures)) (sym (ap is_some c.in-Some-owner.ensures))))
 
 pub returns-clause-stored : goal.returns-clause-stored
 returns-clause-stored c =

@@ -23,7 +23,7 @@ loop-last-preserved g c =
 
 pub returns-clause-start : goal.returns-clause-start
 returns-clause-start g c =
-    all_back c.loop-last.start c.loop-last.log.items (undo_all c.args.self.log.items (bare (present g.P.Port.view c.args.self))) c.args.self.origin (search rules) c.loop-last.invariant.back
+    all_back c.loop-last.start c.loop-last.log.entries.items (undo_all c.args.self.log.now.entries.items (bare (present g.P.Port.view c.args.self))) c.args.self.origin (search rules) c.loop-last.invariant.back
 
 pub returns-clause-term : goal.returns-clause-term
 returns-clause-term g c = same_console c.args.self.term.now.input c.args.self.term.now.place None _ _ _ _

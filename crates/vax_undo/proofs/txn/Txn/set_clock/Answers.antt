@@ -1,10 +1,12 @@
-use Rattle.std.proofs.Common.{rules, refl}
-use Rattle.vax_undo.specs.declared.entry.Kept.TheVariants as kept
-use Rattle.vax_undo.proofs.Undo.{logged}
+use Rattle.std.proofs.Common.{arith, refl}
+use Rattle.vax_undo.proofs.Undo.{undone_alike}
 use Rattle.vax_undo.proofs.txn.Txn.set_clock.Goals as goal
 
 pub returns-clause-keeps : goal.returns-clause-keeps
-returns-clause-keeps g c =
-    logged g.P.Port.view g.P.Port.since c.args.self.now _ (record { old = c.args.self.now.core.now.clock; addr = 0; number = 0; mode = 0; kept = kept.Clock; spare = 0 })
-    (rw c.of.ensures at c.push.ensures.items) refl refl (record { core = refl; term = refl; port = refl; input = refl; clock = λ h. c.requires.of_clock; since = λ start h. h })
-    (refl) refl refl (search rules)
+returns-clause-keeps g c = record {
+  undone = undone_alike c.args.self.now.origin c.args.self.now.log.now.entries.items _ _ refl;
+  ready = λ ready. ready;
+  room = omega arith;
+  closed = omega arith;
+  same = record { core = refl; term = refl; port = refl; input = refl; clock = λ h. c.requires; since = λ start h. h };
+}

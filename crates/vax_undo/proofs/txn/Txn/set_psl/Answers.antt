@@ -4,7 +4,7 @@ use Rattle.vax_undo.proofs.txn.Txn.set_psl.Goals as goal
 
 pub returns-clause-keeps : goal.returns-clause-keeps
 returns-clause-keeps g c = record {
-  undone = undone_alike c.args.self.now.origin c.args.self.now.log.items _ _ refl;
+  undone = undone_alike c.args.self.now.origin c.args.self.now.log.now.entries.items _ _ refl;
   ready = λ ready. ready;
   room = omega arith;
   closed = c.requires.closed;

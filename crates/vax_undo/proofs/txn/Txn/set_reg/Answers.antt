@@ -12,7 +12,7 @@ returns-clause-keeps g c =
 
 pub returns-then-n-eq15-clause-keeps : goal.returns-then-n-eq15-clause-keeps
 returns-then-n-eq15-clause-keeps g c = record {
-  undone = undone_alike c.args.self.now.origin c.args.self.now.log.items _ _ (pc_set c.args.self.now.origin (bare (present g.P.Port.view c.args.self.now)) c.args.v);
+  undone = undone_alike c.args.self.now.origin c.args.self.now.log.now.entries.items _ _ (pc_set c.args.self.now.origin (bare (present g.P.Port.view c.args.self.now)) c.args.v);
   ready = λ ready. ready;
   room = omega arith;
   closed = omega arith;

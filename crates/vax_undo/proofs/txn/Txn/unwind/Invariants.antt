@@ -5,12 +5,12 @@ use Rattle.vax_undo.proofs.txn.Txn.unwind.Given as goal
 -- what is left of the log, undone from here, gives what the whole log gives from the start
 abbrev pub invariant-loop-entry : goal.invariant-loop-entry
 invariant-loop-entry g l = record {
-  undone : undo_all l.log.items (bare (record { state = state_of l.core l.term; view = g.P.Port.view l.port })) ≡ undo_all l.fn.self.log.items (bare (present g.P.Port.view l.fn.self));
-  ready : AllowsAll (vec_len l.fn.self.term.now.input) (g.P.Port.view l.port).areas (g.P.Port.view l.port).resident (g.P.Port.view l.port).marked l.log.items;
+  undone : undo_all l.log.entries.items (bare (record { state = state_of l.core l.term; view = g.P.Port.view l.port })) ≡ undo_all l.fn.self.log.now.entries.items (bare (present g.P.Port.view l.fn.self));
+  ready : AllowsAll (vec_len l.fn.self.term.now.input) (g.P.Port.view l.port).areas (g.P.Port.view l.port).resident (g.P.Port.view l.port).marked l.log.entries.items;
   marks : (g.P.Port.view l.port).marked ≡ (g.P.Port.view l.fn.self.port.now).marked;
   input : l.term.input ≡ l.fn.self.term.now.input;
   since : (start : _) → g.P.Port.since start l.fn.self.port.now → g.P.Port.since start l.port;
 }
 
 abbrev pub decreases-loop-entry : goal.decreases-loop-entry
-decreases-loop-entry g l = length l.log.items
+decreases-loop-entry g l = length l.log.entries.items
