@@ -297,8 +297,10 @@ module _ (Q : List ℕ → ℕ → Accesses Leaf → Type 0) (c : IsClosed Q) wh
     escape_adds p s =
         let few = source_few p in
         either Q c ws _ (p.done == moved_count p) _ _ (λ all. all_more _ (escaped_adds p _ _ s))
-        (λ part. one_more _ (span_adds ws (suc (suc n)) _ (source_room p) s _ few (λ bytes l.
-        span_adds ws (suc n) p.table 256 s _ (omega arith) (λ table h. escape_end_adds p _ bytes table s (omega arith)))))
+        (λ part. span_adds ws (suc (suc (suc n))) _ 1 s _ (omega arith) (λ first l.
+        span_adds ws (suc (suc n)) p.table 256 s _ (omega arith) (λ table h.
+        either Q c ws _ (is_escape table p.byte (slice_index first 0)) _ _ (λ stop. c.fewer ws (suc n) _ (c.fewer ws n _ (escaped_adds p _ _ s))) (λ on.
+        span_adds ws (suc n) _ (source_room p) s _ few (λ bytes l. escape_end_adds p _ bytes table s (omega arith))))))
 
     escape_start_adds : (p : Progress) (s : State) → Q ws (suc (suc (suc (suc n)))) (escape_start p s next)
     unfolding escape_start

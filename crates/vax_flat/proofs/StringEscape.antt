@@ -5,7 +5,7 @@ use Rattle.std.specs.List.{position_or_len}
 use Rattle.std.proofs.lemmas.Bool.{cases_Bool, cases_lt, eqb-true, eq-eqb, ne_eqb, cases_eq}
 use Rattle.std.proofs.lemmas.Bool.Decides.{nat_tests}
 use Rattle.std.proofs.lemmas.List.{length-map, map-append, take-append-drop, length-take-le}
-use Rattle.std.proofs.lemmas.List.Sums.{prefix_len-le-length}
+use Rattle.std.proofs.lemmas.List.Sums.{prefix_len-le-length, position_or_len_is}
 use Rattle.std.proofs.lemmas.List.Folds.{prefix_len-append}
 use Rattle.std.proofs.Math.Seq.{take-append-add}
 use Rattle.vax_space.specs.declared.Access.TheVariants.{Read, Write}
@@ -79,6 +79,11 @@ module _ (p : Progress) where
 
   pub before-append : (m : List Area) (xs ys : List ℕ) → before m (xs ++ ys) ≡ (if before m xs == length xs then length xs + before m ys else before m xs)
   before-append m xs ys = prefix_len-append (λ x. not (is_escape (table_in m) p.byte x)) xs ys
+
+run_begins : (byte : ℕ → ℕ) (addr len : ℕ) → 0 < len → slice_index (bytes_from byte addr len) 0 ≡ byte addr
+unfolding bytes_from
+run_begins byte addr zero h = absurd (omega arith)
+run_begins byte addr (suc len) h = refl
 
 no_ahead : (m : List Area) (addr : ℕ) → bytes_from (byte_at m) addr 0 ≡ []
 unfolding bytes_from
@@ -292,13 +297,39 @@ module _ (p : Progress) (s : State) (m : List Area) (next : Flow → State → A
   abbrev found : ℕ
   found = before p m here
 
-  part_read : 0 < left → outcome_of (escape_run p count room s next) m ≡ outcome_of (escape_end p room here (table_in p m) s next) m
-  unfolding escape_run
-  part_read some =
+  -- whether the part's first byte escapes
+  abbrev at_once : Bool
+  at_once = is_escape (table_in p m) p.byte (byte_at m (plus p.addr1 p.done))
+
+  source_allowed : (i : ℕ) → p.done + i < n → may_access m (page_of (plus (plus p.addr1 p.done) i)) (mode s) Read ≡ true
+  source_allowed i h =
+      let a1 = is.addr1 in
+      let e : plus (plus p.addr1 p.done) i ≡ plus p.addr1 (p.done + i) = omega arith in
+      ap (λ a. may_access m (page_of a) (mode s) Read) e ∙ allowed_at m p.addr1 n (p.done + i) (mode s) Read a1 h checked.source
+
+  first_read : 0 < left → outcome_of (escape_run p count room s next) m ≡ outcome_of (if at_once then escaped p p.done true s next else read_span (plus p.addr1 p.done) count s (λ bytes t. escape_end p room bytes (table_in p m) t next)) m
+  unfolding escape_run bytes_from
+  first_read some =
+      let a1 = is.addr1 in
+      span_is (plus p.addr1 p.done) 1 s m _ (omega arith) (λ i h. source_allowed i (omega arith))
+      ∙ span_is p.table 256 s m _ is.table (λ i h. allowed_at m p.table 256 i (mode s) Read is.table h (checked.table (omega arith)))
+
+  -- where it doesn't, the part goes on
+  part_read : 0 < left → at_once ≡ false → outcome_of (escape_run p count room s next) m ≡ outcome_of (escape_end p room here (table_in p m) s next) m
+  part_read some on =
       let r = rooms some in
       let a1 = is.addr1 in
-      span_is (plus p.addr1 p.done) count s m _ (omega arith) (λ i h. let e : plus (plus p.addr1 p.done) i ≡ plus p.addr1 (p.done + i) = omega arith in ap (λ a. may_access m (page_of a) (mode s) Read) e ∙ allowed_at m p.addr1 n (p.done + i) (mode s) Read a1 (omega arith) checked.source)
-      ∙ span_is p.table 256 s m _ is.table (λ i h. allowed_at m p.table 256 i (mode s) Read is.table h (checked.table (omega arith)))
+      first_read some ∙ rw on (span_is (plus p.addr1 p.done) count s m _ (omega arith) (λ i h. source_allowed i (omega arith)))
+
+  -- where it does, it is all of the part
+  part_stopped : 0 < left → at_once ≡ true → outcome_of (escape_run p count room s next) m ≡ outcome_of (escaped p p.done true s next) m
+  part_stopped some stop = first_read some ∙ rw stop refl
+
+  none_before : 0 < left → at_once ≡ true → found ≡ 0
+  none_before some stop = position_or_len_is (is_escape (table_in p m) p.byte) here 0 0 (omega arith) (λ k h. absurd (omega arith)) (λ h. ap (is_escape (table_in p m) p.byte) (run_begins (byte_at m) (plus p.addr1 p.done) count (let r = rooms some in omega arith)) ∙ stop)
+
+  none_moved : memory_on 0 ≡ m
+  none_moved = ap (λ xs. written_run m (plus p.addr2 p.done) (translated (table_in p m) xs)) (no_ahead m (plus p.addr1 p.done)) ∙ nothing_written m (plus p.addr2 p.done)
 
   -- so many bytes are written
   part_written : (j : ℕ) (k : State → Accesses Leaf) → 0 < left → j ≤ count → outcome_of (written_some (plus p.addr2 p.done) (translated (table_in p m) (take j here)) s k) m ≡ outcome_of (k s) (memory_on j)
@@ -381,14 +412,27 @@ module _ (p : Progress) (s : State) (m : List Area) (next : Flow → State → A
     ]
   ]
 
+  -- where the first byte escapes, nothing more is moved
+  whole_stopped : 0 < left → at_once ≡ true → whole ≡ outcome_of (escaped p p.done true s next) m
+  whole_stopped some stop =
+      let r = rooms some in
+      let z = none_before some stop in
+      let sum : p.done + 0 ≡ p.done = omega arith in
+      whole_found some (omega arith)
+      ∙ (ap (λ k. outcome_of (escaped p (p.done + k) true s next) (memory_on k)) z
+      ∙ (ap (λ k. outcome_of (escaped p k true s next) (memory_on 0)) sum
+      ∙ ap (outcome_of (escaped p p.done true s next)) none_moved))
+
   pub escape_agrees : whole ≡ and_rest rest (outcome_of (escape_part p s next) m)
   unfolding escape_part
   escape_agrees = elim (cases_eq p.done n) [
     | inl all ↦
         let clear : IsClear 0 = ap (before p m) (no_ahead m (plus p.addr1 p.done)) in
-        let none_moved : memory_on 0 ≡ m = ap (λ xs. written_run m (plus p.addr2 p.done) (translated (table_in p m) xs)) (no_ahead m (plus p.addr1 p.done)) ∙ nothing_written m (plus p.addr2 p.done) in
         rw (eq-eqb p.done n all) (whole_end 0 (omega arith) clear ∙ (ap (outcome_of (escaped p n false s next)) none_moved ∙ sym (rest_of_whole rest _ (done n false m))))
-    | inr part ↦ rw (ne_eqb p.done n part) (agrees_some (omega arith) ∙ ap (and_rest rest) (sym (part_read (omega arith))))
+    | inr part ↦ rw (ne_eqb p.done n part) (elim (cases_Bool at_once) [
+      | inl stop ↦ whole_stopped (omega arith) stop ∙ (sym (rest_of_whole rest _ (done p.done true m)) ∙ ap (and_rest rest) (sym (part_stopped (omega arith) stop)))
+      | inr on ↦ agrees_some (omega arith) ∙ ap (and_rest rest) (sym (part_read (omega arith) on))
+    ])
   ]
 
   -- how a part goes: it completes the move, or writes so many bytes and then ends
@@ -426,9 +470,12 @@ module _ (p : Progress) (s : State) (m : List Area) (next : Flow → State → A
   unfolding escape_part
   part_goes = elim (cases_eq p.done n) [
     | inl all ↦ AllDone (rw (eq-eqb p.done n all) refl)
-    | inr part ↦
-        let w = wrote_some (omega arith) in
-        Wrote w.0 (plus p.addr2 p.done) (p.done + found) w.1 (moved w.0) w.2 w.3 (rw (ne_eqb p.done n part) (part_read (omega arith) ∙ w.4))
+    | inr part ↦ elim (cases_Bool at_once) [
+      | inl stop ↦ Wrote 0 (plus p.addr2 p.done) p.done true (moved 0) (λ e. absurd (cc)) (omega arith) (rw (ne_eqb p.done n part) (part_stopped (omega arith) stop ∙ ap (outcome_of (escaped p p.done true s next)) (sym none_moved)))
+      | inr on ↦
+          let w = wrote_some (omega arith) in
+          Wrote w.0 (plus p.addr2 p.done) (p.done + found) w.1 (moved w.0) w.2 w.3 (rw (ne_eqb p.done n part) (part_read (omega arith) on ∙ w.4))
+    ]
   ]
 
   -- what was checked stays so

@@ -1,6 +1,6 @@
 -- MOVTUC: a string is moved by a table up to a byte that escapes
 -- (VAX MACRO and Instruction Set Reference Manual, character string instructions).
-use Rattle.std.specs.Prelude.{None, ◌<◌, ◌≡◌, ℕ, ◌+◌, ◌-◌, ◌/◌, Bool, true, false, not, ◌==◌, ◌&&◌, ◌||◌, nat_le, nat_lt, min, if◌then◌else◌, List, [], ◌∷◌, length, take}
+use Rattle.std.specs.Prelude.{None, ◌<◌, ◌≡◌, ℕ, ◌+◌, ◌-◌, ◌/◌, Bool, true, false, not, ◌==◌, ◌&&◌, ◌||◌, nat_le, nat_lt, min, if◌then◌else◌, List, [], ◌∷◌, length, slice_index, take}
 use Rattle.std.specs.List.{position_or_len}
 use Rattle.vax_word.specs.declared.Size.TheVariants.{W}
 use Rattle.vax_word.specs.Arithmetic.{compared}
@@ -79,11 +79,15 @@ escape_end p room bytes table s next =
     written_some (plus p.addr2 p.done) (translated table (take (min count room) bytes)) s (λ s.
     escape_close p count room (length bytes) s next)
 
+-- A part that reads at most so many bytes, and has this room in the destination. Where its first byte escapes, it is all that the part reads of the
+-- source: what follows may lie in the destination's page, which then no byte of the part needs.
 unfoldable pub escape_run : Progress → ℕ → ℕ → State → (Flow → State → Accesses Leaf) → Accesses Leaf
 escape_run p count room s next =
-    read_span (plus p.addr1 p.done) count s (λ bytes s.
+    read_span (plus p.addr1 p.done) 1 s (λ first s.
     read_span p.table 256 s (λ table s.
-    escape_end p room bytes table s next))
+    if is_escape table p.byte (slice_index first 0) then escaped p p.done true s next
+    else read_span (plus p.addr1 p.done) count s (λ bytes s.
+    escape_end p room bytes table s next)))
 
 unfoldable pub escape_part : Progress → State → (Flow → State → Accesses Leaf) → Accesses Leaf
 escape_part p s next =

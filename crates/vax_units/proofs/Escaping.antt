@@ -1,5 +1,5 @@
 -- A part of a move up to an escape counts right.
-use Rattle.std.proofs.Common.{◌≡◌, ℕ, ◌+◌, ◌-◌, ◌/◌, ◌^◌, ◌<◌, ◌≤◌, ◌⊎◌, min, Bool, true, false, not, ◌&&◌, ◌||◌, ◌==◌, nat_lt, List, [], ◌∷◌, ◌++◌, length, take, suc, zero, refl, sym, ap, subst, ◌∙◌, inl, inr, arith}
+use Rattle.std.proofs.Common.{◌≡◌, ℕ, ◌+◌, ◌-◌, ◌/◌, ◌^◌, ◌<◌, ◌≤◌, ◌⊎◌, min, Bool, true, false, not, ◌&&◌, ◌||◌, ◌==◌, nat_lt, List, [], ◌∷◌, ◌++◌, length, slice_index, take, suc, zero, refl, sym, ap, subst, ◌∙◌, inl, inr, arith}
 use Rattle.std.specs.Prelude.{nat_le}
 use Rattle.std.specs.List.{position_or_len}
 use Rattle.std.proofs.lemmas.Bool.{cases_lt, cases_eq}
@@ -179,5 +179,7 @@ module _ (p : Progress) (s : State) (m : List Area) (next : Flow → State → A
       if_right escape_units p.op total s (p.done == n) _ _ m (λ all. none_right escape_units p.op total s _ (done n false m))
       (λ part.
       let left : p.done < n = grind (arith, nat_tests) in
-      span_right escape_units p.op total s _ (source_room p) _ m (omega arith)
-      (span_right escape_units p.op total s p.table 256 _ m at (end_right left)))
+      span_right escape_units p.op total s _ 1 _ m (omega arith)
+      (span_right escape_units p.op total s p.table 256 _ m at
+      (if_right escape_units p.op total s (is_escape (table_in m) p.byte (slice_index (ahead_in m p.done 1) 0)) _ _ m (λ stop. none_right escape_units p.op total s _ (done p.done true m))
+      (λ on. span_right escape_units p.op total s _ (source_room p) _ m (omega arith) (end_right left)))))

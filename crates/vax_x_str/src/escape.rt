@@ -167,7 +167,8 @@ fn end_escape<P: Port>(
     Ok(close_escape(txn, p, count as u16, space, len as u16))
 }
 
-/// A part that reads as many bytes as the buffer has, and has room to move so many.
+/// A part that reads at most as many bytes as the buffer has, and has room to move so many. Where its first byte escapes, it reads none behind it:
+/// these may lie in the destination's page, which then no byte of the part needs.
 #[tactic(auto, using(vax_undo::proofs::Left::behind), unfolding(vax_flat::specs::StringEscape::escape_run))]
 fn escape_run<P: Port>(
     txn: &mut Txn<P>,
@@ -183,8 +184,14 @@ fn escape_run<P: Port>(
     ensures exact { Follows (escaping.escape_run p.now (length buffer.old) space (present P.view txn.old).state) (present P.view txn.old) (told txn.new result) (present P.view txn.new) }
     ensures keeps { KeepsUnlessDone P.view P.since 41 result txn.old txn.new }
 {
-    read_span(txn, p.addr1.wrapping_add(u32::from(p.done)), buffer)?;
+    let source = p.addr1.wrapping_add(u32::from(p.done));
+    let mut first = [0];
+    read_span(txn, source, &mut first)?;
     read_span(txn, p.table, table)?;
+    if table[first[0] as usize] == p.byte {
+        return Ok(finish_escape(txn, p, p.done, true));
+    }
+    read_span(txn, source, buffer)?;
     end_escape(txn, p, space, buffer, table)
 }
 
