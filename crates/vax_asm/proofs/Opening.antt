@@ -1,25 +1,27 @@
 -- A walk by single steps is one by the statements that they open.
-use Rattle.std.proofs.Common.{◌≡◌, ◌<◌, ℕ, zero, suc, List, Option, Some, None, refl, sym, ap, ◌∙◌}
+use Rattle.std.proofs.Common.{◌≡◌, ◌<◌, ℕ, zero, suc, List, [], Option, Some, None, refl, sym, ap, ◌∙◌}
 use Rattle.vax_macro.specs.Expansion.{Stepped, Steps, Says, Faults, Ends, behind as opens_behind, opened, step}
 use Rattle.vax_macro.specs.Rest.{Rest, started, work}
-use Rattle.vax_pass.specs.Standing.{Standing, at_start}
 use Rattle.vax_fill.specs.declared.types.Fault.{Fault}
-use Rattle.vax_asm.specs.Walk.{assembled, names_in, onward, resumed, walked}
+use Rattle.vax_pass.specs.Fixups.{Assignment}
+use Rattle.vax_pass.specs.Standing.{Standing, at_start}
+use Rattle.vax_asm.specs.Walk.{Assembly, assembled, names_in, onward, resumed, walked}
 
-by_step : (left : ℕ) (s : Standing) (met : Option Fault) (p : Stepped)
-    → ((rest : Rest) → walked left rest s met ≡ resumed (opened left (names_in s) rest) s met)
-    → onward p s met (walked left) ≡ resumed (opens_behind left p (λ after. opened left (names_in s) after)) s met
-by_step left s met (Steps rest) h = h rest
-by_step left s met (Says st rest) h = refl
-by_step left s met (Faults line place kind) h = refl
-by_step left s met (Ends begin) h = refl
+by_step : (left : ℕ) (a : Assembly) (met : Option Fault) (p : Stepped)
+    → ((rest : Rest) → walked left rest a met ≡ resumed (opened left (names_in a.standing) rest) a met)
+    → onward p a met (walked left) ≡ resumed (opens_behind left p (λ after. opened left (names_in a.standing) after)) a met
+by_step left a met (Steps rest) h = h rest
+by_step left a met (Says st rest) h = refl
+by_step left a met (Faults line place kind) h = refl
+by_step left a met (Ends begin) h = refl
 
-pub walked_opened : (left : ℕ) (rest : Rest) (s : Standing) (met : Option Fault) → walked left rest s met ≡ resumed (opened left (names_in s) rest) s met
+pub walked_opened : (left : ℕ) (rest : Rest) (a : Assembly) (met : Option Fault) → walked left rest a met ≡ resumed (opened left (names_in a.standing) rest) a met
 unfolding walked opened
-walked_opened zero rest s met = refl
-walked_opened (suc left) rest s met = by_step left s met (step (names_in s) rest) (λ r. walked_opened left r s met)
+walked_opened zero rest a met = refl
+walked_opened (suc left) rest a met = by_step left a met (step (names_in a.standing) rest) (λ r. walked_opened left r a met)
 
 -- how a walk begins
-pub started_walk : (source : List ℕ) (rest : Rest) (s : Standing) → rest ≡ started source → s ≡ at_start → walked (suc (work rest)) rest s None ≡ assembled source
+pub started_walk : (source : List ℕ) (rest : Rest) (s : Standing) (assignments : List Assignment) → rest ≡ started source → s ≡ at_start → assignments ≡ []
+    → walked (suc (work rest)) rest (record { standing = s; assignments = assignments }) None ≡ assembled source
 unfolding assembled
-started_walk source rest s a b = rw (a, b) refl
+started_walk source rest s assignments e f g = rw (e, f, g) refl

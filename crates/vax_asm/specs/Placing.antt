@@ -14,8 +14,9 @@ use Rattle.vax_lex.specs.declared.token.TokenKind.{TokenKind}
 use Rattle.vax_lex.specs.declared.token.TokenKind.TheVariants.{Number}
 use Rattle.vax_macro.specs.declared.error.FaultKind.{FaultKind}
 use Rattle.vax_macro.specs.declared.error.FaultKind.TheVariants as fault
-use Rattle.vax_naming.specs.Naming.{label_stated, assignment_stated, section_stated, entry_stated, names_stated, end_stated}
+use Rattle.vax_naming.specs.Naming.{Assigned, label_stated, assignment_stated, section_stated, entry_stated, names_stated, end_stated}
 use Rattle.vax_pass.specs.Faults.{first_of}
+use Rattle.vax_pass.specs.Fixups.{Assignment as Waiting}
 use Rattle.vax_pass.specs.Standing.{Standing}
 use Rattle.vax_pass.specs.declared.types.Origin.{Origin}
 use Rattle.vax_statement.specs.Directives.{directive_of}
@@ -90,41 +91,53 @@ operated_by None origin line name tokens s = instructed (instruction_named name)
 abbrev pub operation_stated : Origin → List ℕ → (name : List ℕ) → List Token → Standing → Result Standing FaultKind
 operation_stated origin line name tokens s = operated_by (directive_named name) origin line name tokens s
 
--- what stands behind the label
-unfoldable pub body_stated : Origin → List ℕ → What → Standing → Result Standing FaultKind
-body_stated origin line Nothing s = Ok s
+-- What stands behind the label, and the assignment that it is, if that has no value yet.
+abbrev pub no_assignment : Result Standing FaultKind → Assigned
+no_assignment r = record { result = r; waiting = None }
+
+unfoldable pub body_stated : Origin → List ℕ → What → Standing → Assigned
+body_stated origin line Nothing s = no_assignment (Ok s)
 body_stated origin line (Assignment name global tokens) s = assignment_stated origin line name global tokens s
-body_stated origin line (Operation name tokens) s = operation_stated origin line (token_text line name) tokens s
-body_stated origin line Malformed s = Err fault.Form
+body_stated origin line (Operation name tokens) s = no_assignment (operation_stated origin line (token_text line name) tokens s)
+body_stated origin line Malformed s = no_assignment (Err fault.Form)
 
 -- ---- Statements
 
 -- What comes of a statement: what stands behind it; a fault of a label that stands alone, behind which its line may go on; or another fault,
--- with which the line ends.
+-- with which the line ends. A statement that is an assignment without a value yet is told, whether it has a fault or not.
 pub data Placed : Type 0 where
-  Stands : Standing → Placed
+  Stands : Standing → Option Waiting → Placed
   FaultyLabel : FaultKind → Placed
-  Faulty : FaultKind → Placed
+  Faulty : FaultKind → Option Waiting → Placed
 
-abbrev pub placed_by : Result Standing FaultKind → Placed
-placed_by (Ok s) = Stands s
-placed_by (Err kind) = Faulty kind
+-- the assignment that a statement is
+abbrev pub waiting_in : Placed → Option Waiting
+waiting_in (Stands s waiting) = waiting
+waiting_in (FaultyLabel kind) = None
+waiting_in (Faulty kind waiting) = waiting
 
-abbrev pub also : FaultKind → Result Standing FaultKind → Placed
-also kind (Ok s) = Faulty kind
-also kind (Err other) = Faulty (first_of kind other)
+abbrev pub placed_by : Result Standing FaultKind → Option Waiting → Placed
+placed_by (Ok s) waiting = Stands s waiting
+placed_by (Err kind) waiting = Faulty kind waiting
+
+abbrev pub alone : Assigned → Placed
+alone a = placed_by a.result a.waiting
+
+abbrev pub also : FaultKind → Result Standing FaultKind → Option Waiting → Placed
+also kind (Ok s) waiting = Faulty kind waiting
+also kind (Err other) waiting = Faulty (first_of kind other) waiting
 
 -- Behind a faulty label the rest is tried from what stood before.
-abbrev pub beside : FaultKind → What → Result Standing FaultKind → Placed
+abbrev pub beside : FaultKind → What → Assigned → Placed
 beside kind Nothing rest = FaultyLabel kind
-beside kind what rest = also kind rest
+beside kind what rest = also kind rest.result rest.waiting
 
 abbrev pub behind_label : Origin → List ℕ → What → (before : Standing) → Result Standing FaultKind → Placed
-behind_label origin line what s (Ok t) = placed_by (body_stated origin line what t)
+behind_label origin line what s (Ok t) = alone (body_stated origin line what t)
 behind_label origin line what s (Err kind) = beside kind what (body_stated origin line what s)
 
 abbrev pub stated_by : Origin → List ℕ → Option Label → What → Standing → Placed
-stated_by origin line None what s = placed_by (body_stated origin line what s)
+stated_by origin line None what s = alone (body_stated origin line what s)
 stated_by origin line (Some label) what s = behind_label origin line what s (label_stated line label s)
 
 unfoldable pub stated : Origin → List ℕ → Parsed → Standing → Placed
@@ -141,9 +154,9 @@ is_listing line _ = false
 
 -- a number above 64 bits is out of range
 abbrev pub with_range : Placed → Placed
-with_range (Stands s) = Faulty fault.Range
-with_range (FaultyLabel kind) = Faulty (first_of kind fault.Range)
-with_range (Faulty kind) = Faulty (first_of kind fault.Range)
+with_range (Stands s waiting) = Faulty fault.Range waiting
+with_range (FaultyLabel kind) = Faulty (first_of kind fault.Range) None
+with_range (Faulty kind waiting) = Faulty (first_of kind fault.Range) waiting
 
 abbrev pub if_wide : Bool → Placed → Placed
 if_wide true p = with_range p
@@ -152,7 +165,7 @@ if_wide false p = p
 abbrev pub placed_as : Origin → List ℕ → List Piece → Parsed → Standing → Placed
 placed_as origin line pieces p s =
     if is_listing line p.what then stated origin line p s
-    else (if list_any is_bad pieces then Faulty fault.Token else if_wide (list_any is_wide pieces) (stated origin line p s))
+    else (if list_any is_bad pieces then Faulty fault.Token None else if_wide (list_any is_wide pieces) (stated origin line p s))
 
 unfoldable pub placed : Origin → List ℕ → Standing → Placed
 placed origin line s = let pieces = pieces_of line in placed_as origin line pieces (parsed (map token_of pieces)) s

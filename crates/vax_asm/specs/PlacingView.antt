@@ -1,12 +1,16 @@
 -- What a statement's code answers.
-use Rattle.std.specs.Prelude.{◌≡◌}
+use Rattle.std.specs.Prelude.{◌≡◌, List}
 use Rattle.vax_asm.specs.Placing as specs
+use Rattle.vax_asm.specs.Placing.{waiting_in}
 use Rattle.vax_asm.specs.declared.placing.Placed.{Placed}
 use Rattle.vax_asm.specs.declared.placing.Placed.TheVariants.{Stands, FaultyLabel, Faulty}
+use Rattle.vax_naming.specs.Naming.{with_waiting}
+use Rattle.vax_pass.specs.Fixups.{Assignment}
 use Rattle.vax_pass.specs.Standing.{Standing}
 
--- what stands behind the statement, or its fault; behind a faulty label all is as before
-abbrev pub IsPlaced : Placed → (before after : Standing) → specs.Placed → Type 0
-IsPlaced Stands before after p = p ≡ specs.Stands after
-IsPlaced (FaultyLabel kind) before after p = (p ≡ specs.FaultyLabel kind) × (after ≡ before)
-IsPlaced (Faulty kind) before after p = p ≡ specs.Faulty kind
+-- What stands behind the statement, or its fault; behind a faulty label all is as before. The assignments that wait are those before, and the one
+-- that the statement is.
+abbrev pub IsPlaced : Placed → (before after : Standing) → (assignments more : List Assignment) → specs.Placed → Type 0
+IsPlaced Stands before after assignments more p = (p ≡ specs.Stands after (waiting_in p)) × (more ≡ with_waiting (waiting_in p) assignments)
+IsPlaced (FaultyLabel kind) before after assignments more p = (p ≡ specs.FaultyLabel kind) × (after ≡ before) × (more ≡ assignments)
+IsPlaced (Faulty kind) before after assignments more p = (p ≡ specs.Faulty kind (waiting_in p)) × (more ≡ with_waiting (waiting_in p) assignments)

@@ -1,19 +1,11 @@
 // Faults that are met while a source is read.
 
 ghost use Rattle.std.specs.Prelude.{◌≡◌};
-ghost use Rattle.vax_asm.specs.Walk.{least, of_another};
-ghost use Rattle.vax_pass.specs.Faults.{first_of};
+ghost use Rattle.vax_asm.specs.Walk.{behind_circle, least, of_another};
 
 use vax_fill::Fault;
 use vax_macro::FaultKind;
-use vax_pass::Origin;
-
-/// Of two faults the first in the order of the kinds.
-pub(crate) fn first_of(a: FaultKind, b: FaultKind) -> FaultKind
-    ensures { result ≡ first_of a b }
-{
-    if b.code() < a.code() { b } else { a }
-}
+use vax_pass::{Origin, first_of};
 
 /// The fault that counts of one that was met before and a new one.
 pub(crate) fn least(met: Option<Fault>, origin: Origin, kind: FaultKind) -> Fault
@@ -47,5 +39,27 @@ pub(crate) fn of_another(met: Option<Fault>, origin: Origin) -> Option<Fault>
             }
         }
         None => None,
+    }
+}
+
+/// The fault that ends the walk, where this is met and an assignment may make its name come back to itself.
+pub(crate) fn behind_circle(circle: Option<Origin>, fault: Fault) -> Fault
+    ensures { result ≡ behind_circle circle fault }
+{
+    match circle {
+        None => fault,
+        Some(origin) => {
+            if fault.origin.place == origin.place {
+                Fault {
+                    kind: first_of(fault.kind, FaultKind::Form),
+                    ..fault
+                }
+            } else {
+                Fault {
+                    origin,
+                    kind: FaultKind::Form,
+                }
+            }
+        }
     }
 }

@@ -1,16 +1,17 @@
 // One statement.
 
 ghost use Rattle.std.specs.Prelude.{◌≡◌, ◌≤◌, ◌<◌, ◌^◌, ◌-◌, ℕ, List, All, IfOk, length, map};
-ghost use Rattle.vax_asm.specs.Placing.{Placed as Meant, placed, placed_as, placed_by, beside, body_stated, directed, operation_stated, instructed, stated, is_listing, instruction_named, token_of, with_range};
+ghost use Rattle.vax_asm.specs.Placing.{Placed as Meant, alone, placed, placed_as, beside, body_stated, directed, operation_stated, instructed, stated, is_listing, instruction_named, token_of, with_range};
 ghost use Rattle.vax_asm.specs.Sound.{IsSound, IsSoundWhat};
 ghost use Rattle.vax_pass.specs.Standing.{Standing as Before};
 ghost use Rattle.vax_statement.specs.Within.{Within, WhatWithin};
 ghost use Rattle.vax_asm.specs.PlacingView.{IsPlaced};
 ghost use Rattle.vax_lex.specs.Tokens.{IsTokenOf, pieces_of};
-ghost use Rattle.vax_pass.specs.View.{standing_of, Stands};
+ghost use Rattle.vax_naming.specs.View.{Waits};
+ghost use Rattle.vax_pass.specs.Fixups.{Assignment as Waiting};
+ghost use Rattle.vax_pass.specs.View.{assignment_of, standing_of, Stands};
 ghost use Rattle.vax_statement.specs.Reading.{body_seen, parsed, statement_seen};
 
-use crate::met::first_of;
 use crate::tokens::{directive, has_bad, has_wide, instruction, tokens_of};
 use std::alloc::Global;
 use std::rc::Rc;
@@ -18,7 +19,7 @@ use vax_data::{TextForm, addresses, align, data, even, space, text};
 use vax_lex::{Piece, Token, pieces};
 use vax_macro::FaultKind;
 use vax_naming::{assignment, end, entry, label, names, section};
-use vax_pass::{Origin, Refused, Standing};
+use vax_pass::{Assignment, Origin, Refused, Standing, first_of};
 use vax_space::NoMemory;
 use vax_statement::{Body, Directive, Statement, read_statement, text_of};
 
@@ -111,6 +112,7 @@ fn operate(
 #[tactic(auto, unfolding(crate::specs::Placing::body_stated))]
 fn state_body(
     standing: &mut Standing,
+    assignments: &mut Vec<Assignment>,
     alloc: Global,
     origin: Origin,
     line: &Rc<Vec<u8>>,
@@ -118,7 +120,8 @@ fn state_body(
 ) -> Result<(), Refused>
     requires within { WhatWithin line.now.value.items (body_seen body) }
     requires sound { IsSoundWhat (2 ^ 32 - 1) (body_seen body) }
-    ensures { Stands result (standing_of standing.new) (body_stated origin line.now.value.items (body_seen body.entry) (standing_of standing.old)) }
+    ensures stands { Stands result (standing_of standing.new) (body_stated origin line.now.value.items (body_seen body.entry) (standing_of standing.old)).result }
+    ensures waits { Waits result (map assignment_of assignments.old.items) (map assignment_of assignments.new.items) (body_stated origin line.now.value.items (body_seen body.entry) (standing_of standing.old)).waiting }
 {
     match body {
         Body::Nothing => Ok(()),
@@ -126,7 +129,16 @@ fn state_body(
             name,
             global,
             expression,
-        } => assignment(standing, alloc, origin, line, name, global, expression),
+        } => assignment(
+            standing,
+            assignments,
+            alloc,
+            origin,
+            line,
+            name,
+            global,
+            expression,
+        ),
         Body::Operation { name, operands } => {
             operate(standing, alloc, origin, line, text_of(line, name), operands)
         }
@@ -137,6 +149,7 @@ fn state_body(
 /// A statement without a label, or behind one that stands.
 fn state_rest(
     standing: &mut Standing,
+    assignments: &mut Vec<Assignment>,
     alloc: Global,
     origin: Origin,
     line: &Rc<Vec<u8>>,
@@ -144,9 +157,9 @@ fn state_rest(
 ) -> Result<Placed, NoMemory>
     requires within { WhatWithin line.now.value.items (body_seen body) }
     requires sound { IsSoundWhat (2 ^ 32 - 1) (body_seen body) }
-    ensures { IfOk result (λ p. IsPlaced p (standing_of standing.old) (standing_of standing.new) (placed_by (body_stated origin line.now.value.items (body_seen body.entry) (standing_of standing.old)))) }
+    ensures { IfOk result (λ p. IsPlaced p (standing_of standing.old) (standing_of standing.new) (map assignment_of assignments.old.items) (map assignment_of assignments.new.items) (alone (body_stated origin line.now.value.items (body_seen body.entry) (standing_of standing.old)))) }
 {
-    match state_body(standing, alloc, origin, line, body) {
+    match state_body(standing, assignments, alloc, origin, line, body) {
         Ok(()) => Ok(Placed::Stands),
         Err(Refused::Fault(kind)) => Ok(Placed::Faulty(kind)),
         Err(Refused::NoMemory) => Err(NoMemory),
@@ -156,6 +169,7 @@ fn state_rest(
 /// Behind a faulty label the rest is tried from what stood before, for a fault that goes before the label's.
 fn state_beside(
     standing: &mut Standing,
+    assignments: &mut Vec<Assignment>,
     alloc: Global,
     origin: Origin,
     line: &Rc<Vec<u8>>,
@@ -164,12 +178,12 @@ fn state_beside(
 ) -> Result<Placed, NoMemory>
     requires within { WhatWithin line.now.value.items (body_seen body) }
     requires sound { IsSoundWhat (2 ^ 32 - 1) (body_seen body) }
-    ensures { IfOk result (λ p. IsPlaced p (standing_of standing.old) (standing_of standing.new) (beside kind (body_seen body.entry) (body_stated origin line.now.value.items (body_seen body.entry) (standing_of standing.old)))) }
+    ensures { IfOk result (λ p. IsPlaced p (standing_of standing.old) (standing_of standing.new) (map assignment_of assignments.old.items) (map assignment_of assignments.new.items) (beside kind (body_seen body.entry) (body_stated origin line.now.value.items (body_seen body.entry) (standing_of standing.old)))) }
 {
     if let Body::Nothing = body {
         return Ok(Placed::FaultyLabel(kind));
     }
-    match state_body(standing, alloc, origin, line, body) {
+    match state_body(standing, assignments, alloc, origin, line, body) {
         Ok(()) => Ok(Placed::Faulty(kind)),
         Err(Refused::Fault(other)) => Ok(Placed::Faulty(first_of(kind, other))),
         Err(Refused::NoMemory) => Err(NoMemory),
@@ -180,6 +194,7 @@ fn state_beside(
 #[tactic(auto, unfolding(crate::specs::Placing::stated))]
 fn state(
     standing: &mut Standing,
+    assignments: &mut Vec<Assignment>,
     alloc: Global,
     origin: Origin,
     line: &Rc<Vec<u8>>,
@@ -187,16 +202,22 @@ fn state(
 ) -> Result<Placed, NoMemory>
     requires within { Within line.now.value.items (statement_seen statement) }
     requires sound { IsSound (2 ^ 32 - 1) (statement_seen statement) }
-    ensures { IfOk result (λ p. IsPlaced p (standing_of standing.old) (standing_of standing.new) (stated origin line.now.value.items (statement_seen statement.entry) (standing_of standing.old))) }
+    ensures { IfOk result (λ p. IsPlaced p (standing_of standing.old) (standing_of standing.new) (map assignment_of assignments.old.items) (map assignment_of assignments.new.items) (stated origin line.now.value.items (statement_seen statement.entry) (standing_of standing.old))) }
 {
     let Some(found) = statement.label else {
-        return state_rest(standing, alloc, origin, line, statement.body);
+        return state_rest(standing, assignments, alloc, origin, line, statement.body);
     };
     match label(standing, alloc, line, found) {
-        Ok(()) => state_rest(standing, alloc, origin, line, statement.body),
-        Err(Refused::Fault(kind)) => {
-            state_beside(standing, alloc, origin, line, statement.body, kind)
-        }
+        Ok(()) => state_rest(standing, assignments, alloc, origin, line, statement.body),
+        Err(Refused::Fault(kind)) => state_beside(
+            standing,
+            assignments,
+            alloc,
+            origin,
+            line,
+            statement.body,
+            kind,
+        ),
         Err(Refused::NoMemory) => Err(NoMemory),
     }
 }
@@ -216,8 +237,9 @@ fn is_listing(line: &[u8], body: Body<'_>) -> bool
 }
 
 /// A number above 64 bits is out of range.
+#[tactic(auto, using(crate::proofs::Statements::range_stands, crate::proofs::Statements::range_label, crate::proofs::Statements::range_faulty))]
 fn with_range(placed: Placed) -> Placed
-    ensures { (before : Before) (after : Before) (p : Meant) → IsPlaced placed before after p → IsPlaced result before after (with_range p) }
+    ensures { (before : Before) (after : Before) (assignments : List Waiting) (more : List Waiting) (p : Meant) → IsPlaced placed before after assignments more p → IsPlaced result before after assignments more (with_range p) }
 {
     match placed {
         Placed::Stands => Placed::Faulty(FaultKind::Range),
@@ -230,6 +252,7 @@ fn with_range(placed: Placed) -> Placed
 /// Carries out the statement that the tokens of a line are.
 fn carry_out(
     standing: &mut Standing,
+    assignments: &mut Vec<Assignment>,
     alloc: Global,
     origin: Origin,
     line: &Rc<Vec<u8>>,
@@ -238,15 +261,15 @@ fn carry_out(
 ) -> Result<Placed, NoMemory>
     requires within { Within line.now.value.items (statement_seen statement) }
     requires sound { IsSound (2 ^ 32 - 1) (statement_seen statement) }
-    ensures { IfOk result (λ p. IsPlaced p (standing_of standing.old) (standing_of standing.new) (placed_as origin line.now.value.items found.now (statement_seen statement.entry) (standing_of standing.old))) }
+    ensures { IfOk result (λ p. IsPlaced p (standing_of standing.old) (standing_of standing.new) (map assignment_of assignments.old.items) (map assignment_of assignments.new.items) (placed_as origin line.now.value.items found.now (statement_seen statement.entry) (standing_of standing.old))) }
 {
     if is_listing(line, statement.body) {
-        return state(standing, alloc, origin, line, statement);
+        return state(standing, assignments, alloc, origin, line, statement);
     }
     if has_bad(found) {
         return Ok(Placed::Faulty(FaultKind::Token));
     }
-    let placed = state(standing, alloc, origin, line, statement)?;
+    let placed = state(standing, assignments, alloc, origin, line, statement)?;
     if has_wide(found) {
         return Ok(with_range(placed));
     }
@@ -283,12 +306,13 @@ fn statement_of<'a>(tokens: &'a [Token]) -> Statement<'a>
 #[tactic(auto, unfolding(crate::specs::Placing::placed))]
 pub(crate) fn place(
     standing: &mut Standing,
+    assignments: &mut Vec<Assignment>,
     alloc: Global,
     origin: Origin,
     text: Vec<u8>,
 ) -> Result<Placed, NoMemory>
     requires { length text.items ≤ 1024 }
-    ensures { IfOk result (λ p. IsPlaced p (standing_of standing.old) (standing_of standing.new) (placed origin text.items (standing_of standing.old))) }
+    ensures { IfOk result (λ p. IsPlaced p (standing_of standing.old) (standing_of standing.new) (map assignment_of assignments.old.items) (map assignment_of assignments.new.items) (placed origin text.items (standing_of standing.old))) }
 {
     let (found, tokens) = read(alloc, &text)?;
     let Ok(line) = Rc::new(alloc, text) else {
@@ -296,6 +320,7 @@ pub(crate) fn place(
     };
     carry_out(
         standing,
+        assignments,
         alloc,
         origin,
         &line,

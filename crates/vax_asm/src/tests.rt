@@ -78,7 +78,7 @@ fn tells_the_first_fault(rt: HostRuntime) -> Result<(), Fail> {
     assert_eq!(rt; fault_of(alloc, skip), (0, 0));
     let far = b".MACRO SKIP N,?L\nBRB L\n.BLKB N\nL:\n.ENDM\nBEGIN: SKIP 128\n.END BEGIN\n";
     assert_eq!(rt; fault_of(alloc, far), (6, 7));
-    let rows: [(&[u8], (u32, u8)); 19] = [
+    let rows: [(&[u8], (u32, u8)); 24] = [
         (b"NOP\n?\n\x01\n", (2, 4)),
         (b"NOP\n\x01\n", (2, 1)),
         (b"FROB R1\n", (1, 2)),
@@ -96,6 +96,11 @@ fn tells_the_first_fault(rt: HostRuntime) -> Result<(), Fail> {
         (b"X=Y\nY=X\nFROB R1\n", (2, 4)),
         (b"FROB R1\nX=Y\nY=X\n", (1, 2)),
         (b"X=Y\nY=Z\nW=Y\nZ=W\nZ=1\n", (4, 4)),
+        (b"X=Y\nY=X\n.REPT X\n.ENDR\n", (2, 4)),
+        (b"X=X/0\n", (1, 4)),
+        (b"A: NOP\nA: X=X\n", (2, 2)),
+        (b"X=X+18446744073709551616\n", (1, 4)),
+        (b"A: NOP\nX=X\nA:\n", (2, 4)),
         (b".BLKB 1048577\n", (1, 11)),
         (b".LONG X\nX=5/Y\nY=0\n", (2, 7)),
     ];

@@ -1,8 +1,8 @@
 // A source from its first statement to its last.
 
-ghost use Rattle.std.specs.Prelude.{◌≡◌, ◌≤◌, ◌<◌, ℕ, IfOk, None, length, option_map};
-ghost use Rattle.vax_asm.specs.View.{Answers, Says};
-ghost use Rattle.vax_asm.specs.Walk.{assembled, ended, resumed};
+ghost use Rattle.std.specs.Prelude.{◌≡◌, ◌≤◌, ◌<◌, ℕ, Err, IfOk, None, length, map, option_map};
+ghost use Rattle.vax_asm.specs.View.{assembly_of, Answers, Says};
+ghost use Rattle.vax_asm.specs.Walk.{assembled, ended, resumed, stopped, unless_circle};
 ghost use Rattle.vax_fill.specs.Modules.{filled_in};
 ghost use Rattle.vax_fill.specs.View.{Fills};
 ghost use Rattle.vax_macro.specs.Expanders.{rest_of, error_of, unclosed_of, read_of, FaultIs};
@@ -10,36 +10,56 @@ ghost use Rattle.vax_macro.specs.Expansion.{Opened};
 ghost use Rattle.vax_macro.specs.Rest.{started};
 ghost use Rattle.vax_macro.specs.View.{opening_of};
 ghost use Rattle.vax_module.specs.Formed.{Formed};
-ghost use Rattle.vax_pass.specs.View.{standing_of};
+ghost use Rattle.vax_pass.specs.Circles.{first_circle};
+ghost use Rattle.vax_pass.specs.View.{assignment_of, standing_of};
 
 use crate::error::AsmError;
-use crate::met::{least, of_another};
+use crate::met::{behind_circle, least, of_another};
 use crate::placing::{Placed, place};
 use std::alloc::Global;
 use vax_fill::{Fault, FillError, fill_in};
 use vax_macro::{Begin, Expander, FaultKind, Line, MacroError};
 use vax_module::Module;
-use vax_pass::{Origin, Standing};
+use vax_pass::{Assignment, Origin, Standing, first_circle};
 use vax_scope::KnownNames;
+use vax_space::NoMemory;
 
-/// What stands behind the statements so far, and the fault that was met in the line that is being read.
+/// What the statements so far leave, and the fault that was met in the line that is being read.
 #[derive(Drop)]
 struct Walk {
     standing: Standing,
+    /// The assignments that have no value yet, in order.
+    assignments: Vec<Assignment>,
     met: Option<Fault>,
 }
 
 impl Walk {
+    /// The fault that ends the walk where this one is met.
+    fn stopped(&self, alloc: Global, fault: Fault) -> FillError
+        ensures { Fills (Err result) (stopped (map assignment_of self.now.assignments.items) fault) }
+    {
+        match first_circle(alloc, &self.assignments) {
+            Ok(circle) => FillError::Fault(behind_circle(circle, fault)),
+            Err(NoMemory) => FillError::NoMemory,
+        }
+    }
+
     /// Carries out the statement of a text.
-    #[tactic(auto, unfolding(crate::specs::Walk::said))]
+    #[tactic(auto, using(crate::proofs::Statements::behind_stands, crate::proofs::Statements::behind_faulty, crate::proofs::Statements::behind_label), unfolding(crate::specs::Walk::said))]
     fn say(&mut self, alloc: Global, origin: Origin, text: Vec<u8>) -> Result<(), FillError>
         requires { length text.items ≤ 1024 }
-        ensures { Says result origin text.items (standing_of self.old.standing) (standing_of self.new.standing) self.old.met self.new.met }
+        ensures { Says result origin text.items (assembly_of self.old.standing self.old.assignments) (assembly_of self.new.standing self.new.assignments) self.old.met self.new.met }
     {
         if let Some(met) = of_another(self.met, origin) {
-            return Err(FillError::Fault(met));
+            return Err(self.stopped(alloc, met));
         }
-        let Ok(placed) = place(&mut self.standing, alloc, origin, text) else {
+        let Ok(placed) = place(
+            &mut self.standing,
+            &mut self.assignments,
+            alloc,
+            origin,
+            text,
+        ) else {
             return Err(FillError::NoMemory);
         };
         match placed {
@@ -48,18 +68,36 @@ impl Walk {
                 self.met = Some(least(self.met, origin, kind));
                 Ok(())
             }
-            Placed::Faulty(kind) => Err(FillError::Fault(least(self.met, origin, kind))),
+            Placed::Faulty(kind) => {
+                let fault = least(self.met, origin, kind);
+                Err(self.stopped(alloc, fault))
+            }
+        }
+    }
+
+    /// The module of all that was read, unless an assignment makes its name come back to itself.
+    fn fill(self, alloc: Global, begin: Option<Begin>) -> Result<Module, FillError>
+        ensures module { Fills result (unless_circle (first_circle (map assignment_of self.assignments.items)) (filled_in (standing_of self.standing) (map assignment_of self.assignments.items) (option_map opening_of begin))) }
+        ensures formed { IfOk result Formed }
+    {
+        match first_circle(alloc, &self.assignments) {
+            Ok(None) => fill_in(alloc, self.standing, &self.assignments, begin),
+            Ok(Some(origin)) => Err(FillError::Fault(Fault {
+                origin,
+                kind: FaultKind::Form,
+            })),
+            Err(NoMemory) => Err(FillError::NoMemory),
         }
     }
 
     /// The module, once the source is read to its end.
     fn end(self, alloc: Global, begin: Option<Begin>) -> Result<Module, FillError>
-        ensures module { Fills result (ended (standing_of self.standing) self.met (option_map opening_of begin)) }
+        ensures module { Fills result (ended (assembly_of self.standing self.assignments) self.met (option_map opening_of begin)) }
         ensures formed { IfOk result Formed }
     {
         match self.met {
-            Some(met) => Err(FillError::Fault(met)),
-            None => fill_in(alloc, self.standing, begin),
+            Some(met) => Err(self.stopped(alloc, met)),
+            None => self.fill(alloc, begin),
         }
     }
 
@@ -71,14 +109,15 @@ impl Walk {
         line: u32,
         kind: FaultKind,
     ) -> Result<Module, FillError>
-        ensures module { (o : Opened) → FaultIs (unclosed_of expander.now) (read_of expander.now) line kind o → Fills result (resumed o (standing_of self.standing) self.met) }
+        ensures module { (o : Opened) → FaultIs (unclosed_of expander.now) (read_of expander.now) line kind o → Fills result (resumed o (assembly_of self.standing self.assignments) self.met) }
         ensures formed { IfOk result Formed }
     {
         match expander.unclosed() {
             Some(begin) => self.end(alloc, Some(begin)),
             None => {
                 let place = expander.lines_read();
-                Err(FillError::Fault(least(self.met, Origin { line, place }, kind)))
+                let fault = least(self.met, Origin { line, place }, kind);
+                Err(self.stopped(alloc, fault))
             }
         }
     }
@@ -98,6 +137,7 @@ fn module_of(alloc: Global, source: &[u8]) -> Result<Module, FillError>
     };
     let mut walk = Walk {
         standing,
+        assignments: Vec::new(alloc),
         met: None,
     };
     'statements: loop {

@@ -22,7 +22,7 @@ use Rattle.vax_module.specs.declared.Section.{Section}
 use Rattle.vax_module.specs.declared.Symbol.{Symbol}
 use Rattle.vax_names.specs.Names.{Name}
 use Rattle.vax_pass.specs.Contents.{IsSound}
-use Rattle.vax_pass.specs.Fixups.{Fixup, Transfer}
+use Rattle.vax_pass.specs.Fixups.{Assignment, Fixup, Transfer}
 use Rattle.vax_pass.specs.Standing.{Standing}
 use Rattle.vax_pass.specs.declared.types.Content.{Content}
 use Rattle.vax_pass.specs.declared.types.Content.TheVariants as content
@@ -309,14 +309,14 @@ told_module : (o : Option Fault) (m n : Module) → unless_faulty o m ≡ Ok n �
 told_module None m n e = cc
 told_module (Some f) m n e = cc
 
-filled_is : (s : Standing) (begin : Option Opening) (m : Module) → filled_in s begin ≡ Ok m → module_in s ≡ m
+filled_is : (s : Standing) (assigned : List Assignment) (begin : Option Opening) (m : Module) → filled_in s assigned begin ≡ Ok m → module_in s ≡ m
 unfolding filled_in
-filled_is s begin m e = told_module (first_of (faults (known_in s) s.sections.all s.assignments begin)) (module_in s) m e
+filled_is s assigned begin m e = told_module (first_of (faults (known_in s) s.sections.all assigned begin)) (module_in s) m e
 
 -- the module that statements leave is formed
-pub filled_formed : (s : Standing) (begin : Option Opening) (m : Module) → All IsSoundSection s.sections.all → filled_in s begin ≡ Ok m → Formed m
-filled_formed s begin m sound e = subst Formed (filled_is s begin m e) (module_formed s sound)
+pub filled_formed : (s : Standing) (assigned : List Assignment) (begin : Option Opening) (m : Module) → All IsSoundSection s.sections.all → filled_in s assigned begin ≡ Ok m → Formed m
+filled_formed s assigned begin m sound e = subst Formed (filled_is s assigned begin m e) (module_formed s sound)
 
 -- and its relocations stand in the order of section and place
-pub filled_ordered : (s : Standing) (begin : Option Opening) (m : Module) → All IsSoundSection s.sections.all → filled_in s begin ≡ Ok m → AllPairs Precedes m.relocs
-filled_ordered s begin m sound e = subst (λ (n : Module). AllPairs Precedes n.relocs) (filled_is s begin m e) (laid_layered (known_in s) 0 s.sections.all sound).ordered
+pub filled_ordered : (s : Standing) (assigned : List Assignment) (begin : Option Opening) (m : Module) → All IsSoundSection s.sections.all → filled_in s assigned begin ≡ Ok m → AllPairs Precedes m.relocs
+filled_ordered s assigned begin m sound e = subst (λ (n : Module). AllPairs Precedes n.relocs) (filled_is s assigned begin m e) (laid_layered (known_in s) 0 s.sections.all sound).ordered

@@ -52,65 +52,64 @@ known_is s sources sections externals e f g = cc
 
 -- ---- the module or the fault
 
-pub fault_told : (s : Standing) (begin : Option Opening) (k : Known) (f : Fault) → k ≡ known_in s → first_of (faults k s.sections.all s.assignments begin) ≡ Some f → filled_in s begin ≡ Err f
+pub fault_told : (s : Standing) (assigned : List Assignment) (begin : Option Opening) (k : Known) (f : Fault) → k ≡ known_in s → first_of (faults k s.sections.all assigned begin) ≡ Some f → filled_in s assigned begin ≡ Err f
 unfolding filled_in
-fault_told s begin k f e h =
+fault_told s assigned begin k f e h =
     let names = s.scope.names.all in
     let m = λ (j : Known). module_of j (laid j 0 s.sections.all) names (external_names names) s.transfer in
-    ap (λ (j : Known). unless_faulty (first_of (faults j s.sections.all s.assignments begin)) (m j)) (sym e) ∙ ap (λ (o : Option Fault). unless_faulty o (m k)) h
+    ap (λ (j : Known). unless_faulty (first_of (faults j s.sections.all assigned begin)) (m j)) (sym e) ∙ ap (λ (o : Option Fault). unless_faulty o (m k)) h
 
-pub module_told : (s : Standing) (begin : Option Opening) (k : Known) (m : Module) → k ≡ known_in s → first_of (faults k s.sections.all s.assignments begin) ≡ None
+pub module_told : (s : Standing) (assigned : List Assignment) (begin : Option Opening) (k : Known) (m : Module) → k ≡ known_in s → first_of (faults k s.sections.all assigned begin) ≡ None
     → m ≡ module_of k (laid k 0 s.sections.all) s.scope.names.all (external_names s.scope.names.all) s.transfer
-    → filled_in s begin ≡ Ok m
+    → filled_in s assigned begin ≡ Ok m
 unfolding filled_in
-module_told s begin k m e h g =
+module_told s assigned begin k m e h g =
     let names = s.scope.names.all in
     let made = λ (j : Known). module_of j (laid j 0 s.sections.all) names (external_names names) s.transfer in
-    ap (λ (j : Known). unless_faulty (first_of (faults j s.sections.all s.assignments begin)) (made j)) (sym e)
+    ap (λ (j : Known). unless_faulty (first_of (faults j s.sections.all assigned begin)) (made j)) (sym e)
     ∙ ap (λ (o : Option Fault). unless_faulty o (made k)) h
     ∙ ap (λ (n : Module). let told : Result Module Fault = Ok n in told) (sym g)
 
--- What the code has found once the source is read: the definitions, the sections, the names, the externals and the assignments.
-pub record IsFound (s : Standing) (definitions : List Source) (m n : ℕ) (sections : List (Section Fixed)) (externals : List (List ℕ)) (assigned : List Assignment) : Type 0 where
+-- What the code has found once the source is read: the definitions, the sections, the names and the externals.
+pub record IsFound (s : Standing) (definitions : List Source) (m n : ℕ) (sections : List (Section Fixed)) (externals : List (List ℕ)) : Type 0 where
   pub sources : definitions ≡ (closed s.scope).sources
   pub seen : sections ≡ s.sections.all
   pub count : m ≡ length sections
   pub texts : externals ≡ external_names s.scope.names.all
   pub named : n ≡ length externals
-  pub assignments : assigned ≡ s.assignments
 
 abbrev pub known_from : List Source → ℕ → ℕ → Known
 known_from sources count named = record { sources = sources; sections = count; externals = named }
 
-known_found : (s : Standing) (sources : List Source) (count named : ℕ) (seen : List (Section Fixed)) (texts : List (List ℕ)) (assignments : List Assignment)
-    → IsFound s sources count named seen texts assignments → known_from sources count named ≡ known_in s
-known_found s sources count named seen texts assignments f = known_is s sources count named f.sources (f.count ∙ ap length f.seen) (f.named ∙ ap length f.texts)
+known_found : (s : Standing) (sources : List Source) (count named : ℕ) (seen : List (Section Fixed)) (texts : List (List ℕ))
+    → IsFound s sources count named seen texts → known_from sources count named ≡ known_in s
+known_found s sources count named seen texts f = known_is s sources count named f.sources (f.count ∙ ap length f.seen) (f.named ∙ ap length f.texts)
 
-faults_found : (s : Standing) (begin : Option Opening) (sources : List Source) (count named : ℕ) (seen : List (Section Fixed)) (texts : List (List ℕ)) (assignments : List Assignment)
-    → IsFound s sources count named seen texts assignments
-    → first_of (faults (known_from sources count named) s.sections.all s.assignments begin) ≡ first_of (faults (known_from sources count named) seen assignments begin)
-faults_found s begin sources count named seen texts assignments f =
+faults_found : (s : Standing) (assigned : List Assignment) (begin : Option Opening) (sources : List Source) (count named : ℕ) (seen : List (Section Fixed)) (texts : List (List ℕ))
+    → IsFound s sources count named seen texts
+    → first_of (faults (known_from sources count named) s.sections.all assigned begin) ≡ first_of (faults (known_from sources count named) seen assigned begin)
+faults_found s assigned begin sources count named seen texts f =
     let k = known_from sources count named in
-    ap (λ (l : List (Section Fixed)). first_of (faults k l s.assignments begin)) (sym f.seen) ∙ ap (λ (l : List Assignment). first_of (faults k seen l begin)) (sym f.assignments)
+    ap (λ (l : List (Section Fixed)). first_of (faults k l assigned begin)) (sym f.seen)
 
-pub error_found : (s : Standing) (begin : Option Opening) (sources : List Source) (count named : ℕ) (seen : List (Section Fixed)) (texts : List (List ℕ)) (assignments : List Assignment) (e : FillError)
-    → IsFound s sources count named seen texts assignments
-    → Lays (Err e) (laid (known_from sources count named) 0 seen) (first_of (faults (known_from sources count named) seen assignments begin))
-    → Fills (Err e) (filled_in s begin)
-error_found s begin sources count named seen texts assignments (errors.Fault x) f h =
-    fault_told s begin (known_from sources count named) x (known_found s sources count named seen texts assignments f)
-    (faults_found s begin sources count named seen texts assignments f ∙ h)
-error_found s begin sources count named seen texts assignments errors.NoMemory f h = tt
+pub error_found : (s : Standing) (assigned : List Assignment) (begin : Option Opening) (sources : List Source) (count named : ℕ) (seen : List (Section Fixed)) (texts : List (List ℕ)) (e : FillError)
+    → IsFound s sources count named seen texts
+    → Lays (Err e) (laid (known_from sources count named) 0 seen) (first_of (faults (known_from sources count named) seen assigned begin))
+    → Fills (Err e) (filled_in s assigned begin)
+error_found s assigned begin sources count named seen texts (errors.Fault x) f h =
+    fault_told s assigned begin (known_from sources count named) x (known_found s sources count named seen texts f)
+    (faults_found s assigned begin sources count named seen texts f ∙ h)
+error_found s assigned begin sources count named seen texts errors.NoMemory f h = tt
 
-pub module_found : (s : Standing) (begin : Option Opening) (sources : List Source) (count named : ℕ) (seen : List (Section Fixed)) (names : List Name) (texts : List (List ℕ)) (assignments : List Assignment) (m : Module)
-    → IsFound s sources count named seen texts assignments → names ≡ s.scope.names.all
-    → first_of (faults (known_from sources count named) seen assignments begin) ≡ None
+pub module_found : (s : Standing) (assigned : List Assignment) (begin : Option Opening) (sources : List Source) (count named : ℕ) (seen : List (Section Fixed)) (names : List Name) (texts : List (List ℕ)) (m : Module)
+    → IsFound s sources count named seen texts → names ≡ s.scope.names.all
+    → first_of (faults (known_from sources count named) seen assigned begin) ≡ None
     → m ≡ module_of (known_from sources count named) (laid (known_from sources count named) 0 seen) names texts s.transfer
-    → filled_in s begin ≡ Ok m
-module_found s begin sources count named seen names texts assignments m f n h made =
+    → filled_in s assigned begin ≡ Ok m
+module_found s assigned begin sources count named seen names texts m f n h made =
     let k = known_from sources count named in
-    module_told s begin k m (known_found s sources count named seen texts assignments f)
-    (faults_found s begin sources count named seen texts assignments f ∙ h)
+    module_told s assigned begin k m (known_found s sources count named seen texts f)
+    (faults_found s assigned begin sources count named seen texts f ∙ h)
     (made
     ∙ ap (λ (l : List (Section Fixed)). module_of k (laid k 0 l) names texts s.transfer) f.seen
     ∙ ap (λ (l : List Name). module_of k (laid k 0 s.sections.all) l texts s.transfer) n

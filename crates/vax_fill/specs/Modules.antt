@@ -57,8 +57,8 @@ unless_faulty None m = Ok m
 unless_faulty (Some f) m = Err f
 
 -- the module, or the fault that goes before all others
-unfoldable pub filled_in : Standing → Option Opening → Result Module Fault
-filled_in s begin =
+unfoldable pub filled_in : Standing → List Assignment → Option Opening → Result Module Fault
+filled_in s assignments begin =
     let k = known_in s in
     let names = s.scope.names.all in
-    unless_faulty (first_of (faults k s.sections.all s.assignments begin)) (module_of k (laid k 0 s.sections.all) names (external_names names) s.transfer)
+    unless_faulty (first_of (faults k s.sections.all assignments begin)) (module_of k (laid k 0 s.sections.all) names (external_names names) s.transfer)

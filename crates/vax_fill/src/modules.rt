@@ -182,16 +182,17 @@ fn lay(
     })
 }
 
-/// The module of a source, once its statements have left this and all of it is read. `unclosed` is the first begin without its
-/// end.
+/// The module of a source, once its statements have left this and all of it is read. `assignments` are those that had no value
+/// where they stood, in order, of which none makes its name come back to itself; `unclosed` is the first begin without its end.
 ///
 /// [`FillError::Fault`] with the first fault that the whole source decides, [`FillError::NoMemory`] where memory is refused.
 pub fn fill_in(
     alloc: Global,
     standing: Standing,
+    assignments: &[Assignment],
     unclosed: Option<Begin>,
 ) -> Result<Module, FillError>
-    ensures module { Fills result (filled_in (standing_of standing) (option_map opening_of unclosed)) }
+    ensures module { Fills result (filled_in (standing_of standing) (map assignment_of assignments.now) (option_map opening_of unclosed)) }
     // The linker may join it to others.
     ensures formed { IfOk result Formed }
     // Its relocations stand in the order of section and place.
@@ -200,7 +201,6 @@ pub fn fill_in(
     let Standing {
         scope,
         layout,
-        assignments,
         transfer,
     } = standing;
     let mut scope = scope;
@@ -213,7 +213,7 @@ pub fn fill_in(
         sections: sections.len(),
         externals: externals.len(),
     };
-    let laid = match lay(alloc, known, sections, &assignments, unclosed) {
+    let laid = match lay(alloc, known, sections, assignments, unclosed) {
         Ok(laid) => laid,
         Err(error) => return Err(error),
     };

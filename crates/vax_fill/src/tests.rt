@@ -141,7 +141,7 @@ fn fills_branches_and_addresses(rt: HostRuntime) -> Result<(), Fail> {
     let mut standing = branch_to_m(rt.alloc())?;
     put_longs(&mut standing, rt.alloc(), 3, 2, b"M")?;
     standing.put(2, Piece::Zeros(2))?;
-    let module = fill_in(rt.alloc(), standing, None)?;
+    let module = fill_in(rt.alloc(), standing, &[], None)?;
     let sections = module.sections.as_slice();
     assert_eq!(rt; sections.len(), 1);
     // the branch goes from place 2 to place 3
@@ -183,7 +183,7 @@ fn put_operands(standing: &mut Standing, alloc: Global) -> Result<(), Fail> {
 fn links_operands(rt: HostRuntime) -> Result<(), Fail> {
     let mut standing = branch_to_m(rt.alloc())?;
     put_operands(&mut standing, rt.alloc())?;
-    let module = fill_in(rt.alloc(), standing, None)?;
+    let module = fill_in(rt.alloc(), standing, &[], None)?;
     let sections = module.sections.as_slice();
     assert_eq!(rt; sections.len(), 2);
     let bytes = [0xEF, 0, 0, 0, 0, 0xA2, 0, 0xC3, 0, 0];
@@ -211,7 +211,7 @@ fn with_names(alloc: Global) -> Result<Module, Fail> {
         name: b"X".to_vec(alloc)?,
         definition,
     });
-    Ok(fill_in(alloc, standing, None)?)
+    Ok(fill_in(alloc, standing, &[], None)?)
 }
 
 #[test]
@@ -232,25 +232,26 @@ fn tells_names(rt: HostRuntime) -> Result<(), Fail> {
     Ok(())
 }
 
-/// `Z = 1$` on the third line, and `.LONG Z` on the fourth, with no label `1$`.
-fn put_undefined(standing: &mut Standing, alloc: Global) -> Result<(), Fail> {
+/// `Z = 1$` on the third line, and `.LONG Z` on the fourth, with no label `1$`. The assignment.
+fn put_undefined(standing: &mut Standing, alloc: Global) -> Result<Assignment, Fail> {
     let first = told(standing, alloc, b"1$")?;
-    standing.scope.assign(alloc, b"Z", first.expression)?;
+    let definition = standing.scope.assign(alloc, b"Z", first.expression)?;
     let second = told(standing, alloc, b"1$")?;
-    standing.assignments.push(Assignment {
+    put_longs(standing, alloc, 4, 1, b"Z")?;
+    Ok(Assignment {
         origin: Origin { line: 3, place: 3 },
+        definition,
         expression: second.expression,
-    })?;
-    put_longs(standing, alloc, 4, 1, b"Z")
+    })
 }
 
 /// The fault of a source with these lines behind `.LONG X` on its second, and X a number.
 fn fault_of(alloc: Global, x: i64, unclosed: Option<Begin>) -> Result<Option<FillError>, Fail> {
     let mut standing = Standing::new(alloc)?;
     put_longs(&mut standing, alloc, 2, 1, b"X")?;
-    put_undefined(&mut standing, alloc)?;
+    let undefined = put_undefined(&mut standing, alloc)?;
     standing.scope.label(alloc, b"X", Value::Absolute(x))?;
-    Ok(fill_in(alloc, standing, unclosed).err())
+    Ok(fill_in(alloc, standing, &[undefined], unclosed).err())
 }
 
 fn fault(line: u32, kind: FaultKind) -> Option<FillError> {

@@ -5,8 +5,7 @@ use Rattle.vax_names.specs.declared.types.Duplicate.{Duplicate}
 use Rattle.vax_naming.specs.Naming.{assigned_by}
 use Rattle.vax_pass.specs.Faults.{lowest}
 use Rattle.vax_pass.specs.Progress.{after_change, done, done_by, joined}
-use Rattle.vax_pass.specs.Standing.{Standing, Told, with_scope}
-use Rattle.vax_pass.specs.declared.types.Origin.{Origin}
+use Rattle.vax_pass.specs.Standing.{Standing, with_scope}
 use Rattle.vax_scope.specs.Scope.{Scope}
 
 either : (f : Option FaultKind) (kind : FaultKind) (s t : Standing) → done_by (lowest f (Some kind)) t ≡ done_by (lowest f (Some kind)) s
@@ -16,6 +15,6 @@ either None kind s t = refl
 pub part_fails : (f : Option FaultKind) (kind : FaultKind) (s t : Standing) (r : Result Standing FaultKind) → r ≡ Err kind → done_by (lowest f (Some kind)) t ≡ done (joined f (after_change s r))
 part_fails f kind s t r h = either f kind s t ∙ ap (λ (x : Result Standing FaultKind). done (joined f (after_change s x))) (sym h)
 
-pub scope_left : (origin : Origin) (global : Bool) (name : List ℕ) (t : Told) (x : Scope) (s : Standing) (r : Result Scope Duplicate) → assigned_by origin global name t (with_scope x s) r ≡ assigned_by origin global name t s r
-scope_left origin global name t x s (Ok scope) = refl
-scope_left origin global name t x s (Err e) = refl
+pub scope_left : (global : Bool) (name : List ℕ) (x : Scope) (s : Standing) (r : Result Scope Duplicate) → assigned_by global name (with_scope x s) r ≡ assigned_by global name s r
+scope_left global name x s (Ok scope) = refl
+scope_left global name x s (Err e) = refl

@@ -16,12 +16,11 @@ use Rattle.vax_lex.specs.declared.value.ExprError.TheVariants as errors
 use Rattle.vax_macro.specs.declared.error.FaultKind.{FaultKind}
 use Rattle.vax_macro.specs.declared.error.FaultKind.TheVariants as fault
 use Rattle.vax_names.specs.declared.types.Duplicate.{Duplicate}
-use Rattle.vax_pass.specs.Fixups.{Fixup}
+use Rattle.vax_pass.specs.Fixups.{Assignment, Fixup}
 use Rattle.vax_pass.specs.Progress.{Site, site_of, Progress, after_change, joined, done}
 use Rattle.vax_pass.specs.Standing.{Standing, Told, told, here_in, with_scope}
 use Rattle.vax_pass.specs.declared.types.Origin.{Origin}
-use Rattle.vax_scope.specs.Circles.{endless}
-use Rattle.vax_scope.specs.Scope.{Scope, entry, definition_at, is_local, labelled, labelled_locally, assigned, begun_block, made_global}
+use Rattle.vax_scope.specs.Scope.{Scope, entry, definition_at, definition_of, is_local, labelled, labelled_locally, assigned, begun_block, made_global}
 use Rattle.vax_statement.specs.Directives.{attribute_of}
 use Rattle.vax_statement.specs.Items.{name_alone, whole}
 use Rattle.vax_statement.specs.Parts.{parts}
@@ -93,31 +92,49 @@ abbrev pub waiting : Result Value ExprError → Written → Option Written
 waiting (Ok v) w = None
 waiting (Err e) w = Some w
 
-abbrev pub with_waiting : Origin → Option Written → Standing → Standing
-with_waiting origin (Some w) s = record s { assignments = s.assignments ++ record { origin = origin; written = w } ∷ [] }
-with_waiting origin None s = s
+abbrev pub waiting_as : Origin → ℕ → Option Written → Option Assignment
+waiting_as origin definition (Some w) = Some (record { origin = origin; definition = definition; written = w })
+waiting_as origin definition None = None
 
--- An assignment that makes its name come back to itself has no form.
-abbrev pub assigned_by : Origin → Bool → List ℕ → Told → Standing → Result Scope Duplicate → Result Standing FaultKind
-assigned_by origin global name t s (Ok scope) =
-    let after = shared global name scope in
-    if endless name after then Err fault.Form else Ok (with_waiting origin (waiting t.value t.written) (with_scope after s))
-assigned_by origin global name t s (Err e) = Err fault.Duplicate
+abbrev pub assigned_by : Bool → List ℕ → Standing → Result Scope Duplicate → Result Standing FaultKind
+assigned_by global name s (Ok scope) = Ok (with_scope (shared global name scope) s)
+assigned_by global name s (Err e) = Err fault.Duplicate
+
+abbrev pub waiting_by : Origin → List ℕ → Told → Result Scope Duplicate → Option Assignment
+waiting_by origin name t (Ok scope) = waiting_as origin (definition_of name scope) (waiting t.value t.written)
+waiting_by origin name t (Err e) = None
+
+-- What an assignment leaves, or its fault; and the assignment itself, where it has no value yet.
+pub record Assigned : Type 0 where
+  pub result : Result Standing FaultKind
+  pub waiting : Option Assignment
+
+abbrev pub not_assigned : FaultKind → Assigned
+not_assigned kind = record { result = Err kind; waiting = None }
 
 -- The name appears before what is assigned, which may use `.` and the name's definition before.
-abbrev pub name_assigned : Site → Bool → List ℕ → List Token → Standing → Result Standing FaultKind
+abbrev pub name_assigned : Site → Bool → List ℕ → List Token → Standing → Assigned
 name_assigned site global name tokens s =
     let t = told site.here (symbols_of site.line tokens) (entry name s.scope).scope in
-    done (joined (fault_of t.settled) (after_change s (assigned_by site.origin global name t s (assigned name t.written t.scope))))
+    let r = assigned name t.written t.scope in
+    record {
+      result = done (joined (fault_of t.settled) (after_change s (assigned_by global name s r)));
+      waiting = waiting_by site.origin name t r;
+    }
 
-abbrev pub named_assignment : Site → Bool → List ℕ → List Token → Standing → Result Standing FaultKind
+abbrev pub named_assignment : Site → Bool → List ℕ → List Token → Standing → Assigned
 named_assignment site global name tokens s =
-    if is_place name then Err fault.UnknownOperator
-    else (if is_local name then Err fault.Form else name_assigned site global name tokens s)
+    if is_place name then not_assigned fault.UnknownOperator
+    else (if is_local name then not_assigned fault.Form else name_assigned site global name tokens s)
 
--- `name = e` and, for other modules, `name == e`
-unfoldable pub assignment_stated : Origin → List ℕ → Token → Bool → List Token → Standing → Result Standing FaultKind
+-- `name = e` and, for other modules, `name == e`. Whether a name comes back to itself is told of all assignments together.
+unfoldable pub assignment_stated : Origin → List ℕ → Token → Bool → List Token → Standing → Assigned
 assignment_stated origin line name global tokens s = named_assignment (site_of origin line s) global (name_in line name) tokens s
+
+-- the assignments that have no value yet, with one more
+abbrev pub with_waiting : Option Assignment → List Assignment → List Assignment
+with_waiting (Some a) assignments = assignments ++ a ∷ []
+with_waiting None assignments = assignments
 
 -- The attributes of a section: none is said twice differently.
 abbrev pub with_align : ℕ → Attributes → Option ℕ → Option Attributes

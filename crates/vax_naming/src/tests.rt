@@ -7,7 +7,7 @@ use std::rc::Rc;
 use std::test::Fail;
 use vax_layout::Piece;
 use vax_lex::{TokenKind, Value, scan};
-use vax_pass::{Content, FaultKind, Filling, Origin, Refused, Standing};
+use vax_pass::{Assignment, Content, FaultKind, Filling, Origin, Refused, Standing, first_circle};
 use vax_statement::Label;
 use vax_word::Size;
 
@@ -40,9 +40,10 @@ fn fault(kind: FaultKind) -> Result<(), Refused> {
 }
 
 /// A statement is carried out. Its name, if it begins with one, is the first token, and `=` or `==` stands behind it.
-fn stated(
+fn stated_behind(
     alloc: Global,
     standing: &mut Standing,
+    assignments: &mut Vec<Assignment>,
     kind: Kind,
     text: &[u8],
 ) -> Result<Result<(), Refused>, Fail>
@@ -66,7 +67,16 @@ fn stated(
                 return Ok(Err(Refused::NoMemory));
             }
             let expression = &operands[marks..];
-            assignment(standing, alloc, ORIGIN, &line, name, global, expression)
+            assignment(
+                standing,
+                assignments,
+                alloc,
+                ORIGIN,
+                &line,
+                name,
+                global,
+                expression,
+            )
         }
         Kind::Section => section(standing, alloc, &line, operands),
         Kind::Entry => entry(standing, alloc, ORIGIN, &line, operands),
@@ -74,6 +84,19 @@ fn stated(
         Kind::End => end(standing, alloc, &line, operands),
     };
     Ok(done)
+}
+
+/// The same, whatever waits for later statements.
+fn stated(
+    alloc: Global,
+    standing: &mut Standing,
+    kind: Kind,
+    text: &[u8],
+) -> Result<Result<(), Refused>, Fail>
+    requires { length text.now ≤ 1024 }
+{
+    let mut assignments = Vec::new(alloc);
+    stated_behind(alloc, standing, &mut assignments, kind, text)
 }
 
 /// What a statement gives alone.
@@ -153,11 +176,16 @@ fn assignments_may_wait_for_later_ones(rt: HostRuntime) -> Result<(), Fail> {
     let mut standing = Standing::new(alloc)?;
     let here = standing.here()?;
     let global = Kind::Assignment { global: true };
-    assert_eq!(rt; stated(alloc, &mut standing, global, b"X == Y+1")?, Ok(()));
-    assert_eq!(rt; standing.assignments.len(), 1);
+    let mut later = Vec::new(alloc);
+    let done = stated_behind(alloc, &mut standing, &mut later, global, b"X == Y+1")?;
+    assert_eq!(rt; done, Ok(()));
+    assert_eq!(rt; later.len(), 1);
+    let x = standing.scope.appear(alloc, b"X")?;
+    assert_eq!(rt; later[0].definition, x);
     assert!(rt; first_is_global(&standing));
     assert_eq!(rt; standing.scope.known(b"X", here), None);
-    assert_eq!(rt; stated(alloc, &mut standing, ASSIGNMENT, b"Y = 4")?, Ok(()));
+    let done = stated_behind(alloc, &mut standing, &mut later, ASSIGNMENT, b"Y = 4")?;
+    assert_eq!(rt; done, Ok(()));
     assert_eq!(rt; standing.scope.known(b"X", here), Some(Value::Absolute(5)));
     assert_eq!(rt;
         stated(alloc, &mut standing, ASSIGNMENT, b"X = X*2")?,
@@ -166,7 +194,7 @@ fn assignments_may_wait_for_later_ones(rt: HostRuntime) -> Result<(), Fail> {
     assert_eq!(rt; standing.scope.known(b"X", here), Some(Value::Absolute(10)));
     assert_eq!(rt; stated(alloc, &mut standing, ASSIGNMENT, b"Z = .")?, Ok(()));
     assert_eq!(rt; standing.scope.known(b"Z", here), place(0, 0));
-    assert_eq!(rt; standing.assignments.len(), 1);
+    assert_eq!(rt; later.len(), 1);
     Ok(())
 }
 
@@ -180,10 +208,6 @@ fn tells_the_faults_of_assignments(rt: HostRuntime) -> Result<(), Fail> {
         fault(FaultKind::Form)
     );
     assert_eq!(rt; alone(alloc, ASSIGNMENT, b"X =")?, fault(FaultKind::Form));
-    assert_eq!(rt;
-        alone(alloc, ASSIGNMENT, b"X = X+1")?,
-        fault(FaultKind::Form)
-    );
     assert_eq!(rt;
         alone(alloc, ASSIGNMENT, b"X = 1/0")?,
         fault(FaultKind::Range)
@@ -200,16 +224,19 @@ fn tells_the_faults_of_assignments(rt: HostRuntime) -> Result<(), Fail> {
 }
 
 #[test]
-fn a_circle_is_refused_where_it_closes(rt: HostRuntime) -> Result<(), Fail> {
+fn a_circle_is_found_where_it_closes(rt: HostRuntime) -> Result<(), Fail> {
     let alloc = rt.alloc();
     let mut standing = Standing::new(alloc)?;
-    assert_eq!(rt; stated(alloc, &mut standing, ASSIGNMENT, b"X = Y")?, Ok(()));
-    assert_eq!(rt;
-        stated(alloc, &mut standing, ASSIGNMENT, b"Y = Z-Z")?,
-        Ok(())
-    );
-    let closed = stated(alloc, &mut standing, ASSIGNMENT, b"Z = X")?;
-    assert_eq!(rt; closed, fault(FaultKind::Form));
+    let mut later = Vec::new(alloc);
+    let done = stated_behind(alloc, &mut standing, &mut later, ASSIGNMENT, b"X = Y")?;
+    assert_eq!(rt; done, Ok(()));
+    let done = stated_behind(alloc, &mut standing, &mut later, ASSIGNMENT, b"Y = Z-Z")?;
+    assert_eq!(rt; done, Ok(()));
+    assert_eq!(rt; first_circle(alloc, &later)?, None);
+    let done = stated_behind(alloc, &mut standing, &mut later, ASSIGNMENT, b"Z = X")?;
+    assert_eq!(rt; done, Ok(()));
+    assert_eq!(rt; later.len(), 3);
+    assert_eq!(rt; first_circle(alloc, &later)?, Some(ORIGIN));
     Ok(())
 }
 

@@ -22,9 +22,10 @@ abbrev pub filling_by : Result Value ExprError → Written → Filling
 filling_by (Ok v) w = Known v
 filling_by (Err e) w = Later w
 
--- an assignment that has no value where it stands: the statement that it comes from, and what is assigned
+-- an assignment that has no value where it stands: the statement that it comes from, the definition that it is, and what is assigned
 pub record Assignment : Type 0 where
   pub origin : Origin
+  pub definition : ℕ
   pub written : Written
 
 -- the name at which the program begins, and the definition that it means where it stands

@@ -1,3 +1,4 @@
+pub mod Circles
 pub mod Contents
 pub mod Faults
 pub mod Fixups

@@ -10,21 +10,19 @@ use Rattle.vax_lex.specs.declared.value.ExprError.{ExprError}
 use Rattle.vax_lex.specs.declared.value.ExprError.TheVariants as errors
 use Rattle.vax_macro.specs.declared.error.FaultKind.{FaultKind}
 use Rattle.vax_macro.specs.declared.error.FaultKind.TheVariants as fault
-use Rattle.vax_pass.specs.Fixups.{Fixup, Assignment, Transfer}
+use Rattle.vax_pass.specs.Fixups.{Fixup, Transfer}
 use Rattle.vax_scope.specs.Scope.{Scope, nothing, bound}
 use Rattle.vax_values.specs.Certain.{certain}
 use Rattle.vax_values.specs.Values.{Written, worth, value_of}
 
--- The names and their definitions; the sections; the assignments that had no value where they stood, in order; and
--- where the program begins, if `.END` has said so.
+-- The names and their definitions; the sections; and where the program begins, if `.END` has said so.
 pub record Standing : Type 0 where
   pub scope : Scope
   pub sections : Sections Fixup
-  pub assignments : List Assignment
   pub transfer : Option Transfer
 
 abbrev pub at_start : Standing
-at_start = record { scope = nothing; sections = at_first; assignments = []; transfer = None }
+at_start = record { scope = nothing; sections = at_first; transfer = None }
 
 -- where the next statement stands
 abbrev pub here_in : {F : Type 0} → Sections F → Value

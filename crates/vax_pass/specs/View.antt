@@ -43,7 +43,7 @@ abbrev pub sections_in : Layout Fixup → Sections specs.Fixup
 sections_in l = sections_seen (sections_of l)
 
 abbrev pub assignment_of : Assignment → specs.Assignment
-assignment_of a = record { origin = a.origin; written = written_of a.expression }
+assignment_of a = record { origin = a.origin; definition = a.definition; written = written_of a.expression }
 
 abbrev pub transfer_of : Transfer → specs.Transfer
 transfer_of t = record { name = t.name.items; definition = t.definition }
@@ -52,7 +52,6 @@ abbrev pub standing_of : Standing → standing.Standing
 standing_of s = record {
   scope = scope_of s.scope;
   sections = sections_in s.layout;
-  assignments = map assignment_of s.assignments.items;
   transfer = option_map transfer_of s.transfer;
 }
 

@@ -7,7 +7,8 @@ use vax_encode::{Field, FieldFault, Filled, fill};
 use vax_lex::{ExprError, Value};
 use vax_macro::FaultKind;
 
-fn first_of(a: FaultKind, b: FaultKind) -> FaultKind
+/// Of two faults the first in the order of the kinds.
+pub fn first_of(a: FaultKind, b: FaultKind) -> FaultKind
     ensures { result ≡ first_of a b }
 {
     if b.code() < a.code() { b } else { a }

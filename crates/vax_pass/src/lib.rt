@@ -5,6 +5,7 @@
 //! out part by part, and of the faults of its parts [`lowest`] is the one that counts.
 #![tactic(auto)]
 
+mod circles;
 mod faults;
 mod site;
 mod standing;
@@ -12,7 +13,8 @@ mod standing;
 mod tests;
 mod types;
 
-pub use faults::{fault_of_value, lowest, number_of, unless_place};
+pub use circles::first_circle;
+pub use faults::{fault_of_value, first_of, lowest, number_of, unless_place};
 pub use site::{Site, add, counted, filling_of, site_of};
 pub use types::{Assignment, Content, Filling, Fixup, Origin, Refused, Standing, Told, Transfer};
 pub use vax_macro::FaultKind;

@@ -48,7 +48,6 @@ impl Standing {
         Ok(Standing {
             scope: Scope::new(alloc),
             layout,
-            assignments: Vec::new(alloc),
             transfer: None,
         })
     }

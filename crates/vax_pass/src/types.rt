@@ -56,6 +56,8 @@ pub struct Fixup {
 #[derive(Drop)]
 pub struct Assignment {
     pub origin: Origin,
+    /// The number of the definition that it is.
+    pub definition: usize,
     pub expression: Expression,
 }
 
@@ -73,8 +75,6 @@ pub struct Standing {
     pub scope: Scope,
     /// The sections.
     pub layout: Layout<Fixup>,
-    /// The assignments that had no value where they stood, in order.
-    pub assignments: Vec<Assignment>,
     /// Where the program begins, once `.END` says so.
     pub transfer: Option<Transfer>,
 }

@@ -14,7 +14,7 @@ use Rattle.vax_layout.specs.Layout.{Bytes, Field, Part, Section as Building, Zer
 use Rattle.vax_macro.specs.Rest.{Opening}
 use Rattle.vax_module.specs.declared.Module.{Module}
 use Rattle.vax_module.specs.declared.Section.{Section}
-use Rattle.vax_pass.specs.Fixups.{Fixup}
+use Rattle.vax_pass.specs.Fixups.{Assignment, Fixup}
 use Rattle.vax_pass.specs.Standing.{Standing}
 use Rattle.vax_pass.specs.declared.types.Content.{Content}
 use Rattle.vax_pass.specs.declared.types.Content.TheVariants as content
@@ -84,24 +84,24 @@ faulty_is : (o : Option Fault) (m n : Module) → unless_faulty o m ≡ Ok n →
 faulty_is None m n e = cc
 faulty_is (Some f) m n e = cc
 
-sections_are : (s : Standing) (begin : Option Opening) (m : Module) → filled_in s begin ≡ Ok m → (laid (known_in s) 0 s.sections.all).sections ≡ m.sections
+sections_are : (s : Standing) (assigned : List Assignment) (begin : Option Opening) (m : Module) → filled_in s assigned begin ≡ Ok m → (laid (known_in s) 0 s.sections.all).sections ≡ m.sections
 unfolding filled_in
-sections_are s begin m e =
+sections_are s assigned begin m e =
     let k : Known = known_in s in
-    ap (λ (n : Module). n.sections) (faulty_is (first_of (faults k s.sections.all s.assignments begin)) (module_of k (laid k 0 s.sections.all) s.scope.names.all (external_names s.scope.names.all) s.transfer) m e)
+    ap (λ (n : Module). n.sections) (faulty_is (first_of (faults k s.sections.all assigned begin)) (module_of k (laid k 0 s.sections.all) s.scope.names.all (external_names s.scope.names.all) s.transfer) m e)
 
-pub sizes_are : (s : Standing) (begin : Option Opening) (m : Module) → AreCounted s.sections → filled_in s begin ≡ Ok m → map (λ (x : Section). length x.bytes) m.sections ≡ map (λ x. x.size) s.sections.all
-sizes_are s begin m h e =
-    ap (map (λ (x : Section). length x.bytes)) (sym (sections_are s begin m e)) ∙ laid_sizes (known_in s) 0 s.sections.all h.sections
+pub sizes_are : (s : Standing) (assigned : List Assignment) (begin : Option Opening) (m : Module) → AreCounted s.sections → filled_in s assigned begin ≡ Ok m → map (λ (x : Section). length x.bytes) m.sections ≡ map (λ x. x.size) s.sections.all
+sizes_are s assigned begin m h e =
+    ap (map (λ (x : Section). length x.bytes)) (sym (sections_are s assigned begin m e)) ∙ laid_sizes (known_in s) 0 s.sections.all h.sections
 
-pub lies_behind : (s t : Standing) (begin : Option Opening) (m : Module) (i : ℕ) (section : Section) → AreCounted s.sections → Keeps s.sections t.sections → filled_in t begin ≡ Ok m → i < length s.sections.all
+pub lies_behind : (s t : Standing) (assigned : List Assignment) (begin : Option Opening) (m : Module) (i : ℕ) (section : Section) → AreCounted s.sections → Keeps s.sections t.sections → filled_in t assigned begin ≡ Ok m → i < length s.sections.all
     → slice_get m.sections i ≡ Some section → LiesBehind i (section_at i s.sections).size s t section
-lies_behind s t begin m i section h keeps e less found =
+lies_behind s t assigned begin m i section h keeps e less found =
     let k : Known = known_in t in
     let kept = keeps.parts i less in
     let starts = outputs_begin k i 0 (section_at i s.sections).parts kept.0 in
     let bytes : section.bytes ≡ (outputs k i 0 (section_at i t.sections).parts).bytes =
-    laid_at k 0 i i t.sections.all section (omega arith) (omega (arith, less, keeps.all)) (ap (λ (l : List Section). slice_get l i) (sections_are t begin m e) ∙ found) in
+    laid_at k 0 i i t.sections.all section (omega arith) (omega (arith, less, keeps.all)) (ap (λ (l : List Section). slice_get l i) (sections_are t assigned begin m e) ∙ found) in
     record {
       more = starts.0;
       bytes = bytes ∙ ap (λ (l : List (Part Fixup)). (outputs k i 0 l).bytes) kept.1 ∙ starts.1;

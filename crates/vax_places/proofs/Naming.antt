@@ -9,12 +9,11 @@ use Rattle.vax_lex.specs.declared.token.Token.{Token}
 use Rattle.vax_macro.specs.declared.error.FaultKind.{FaultKind}
 use Rattle.vax_macro.specs.declared.error.FaultKind.TheVariants as fault
 use Rattle.vax_names.specs.declared.types.Duplicate.{Duplicate}
-use Rattle.vax_naming.specs.Naming.{assigned_by, assignment_stated, attributes_from, begins, begins_at, chosen, defined, end_by, end_stated, entry_named, entry_stated, fault_of, is_place, label_stated, local_stated, name_assigned, name_in, name_of, named, names_from, names_stated, nothing_said, section_by, section_chosen, section_stated, shared, symbol_stated, two_alone, waiting, with_waiting}
+use Rattle.vax_naming.specs.Naming.{assigned_by, assignment_stated, attributes_from, begins, begins_at, chosen, defined, end_by, end_stated, entry_named, entry_stated, fault_of, is_place, label_stated, local_stated, name_assigned, name_in, name_of, named, names_from, names_stated, not_assigned, nothing_said, section_by, section_chosen, section_stated, shared, symbol_stated, two_alone}
 use Rattle.vax_pass.specs.Fixups.{Fixup}
 use Rattle.vax_pass.specs.Progress.{Progress, Site, after_change, joined, site_of}
 use Rattle.vax_pass.specs.Standing.{Standing, Told, here_in, told, with_scope}
 use Rattle.vax_pass.specs.declared.types.Origin.{Origin}
-use Rattle.vax_scope.specs.Circles.{endless}
 use Rattle.vax_scope.specs.Scope.{Scope, assigned, begun_block, entry, is_local, labelled, labelled_locally}
 use Rattle.vax_statement.specs.Items.{whole}
 use Rattle.vax_statement.specs.Parts.{parts}
@@ -60,33 +59,24 @@ label_goes line label s t c e =
 
 -- ---- assignments
 
-waiting_goes : (origin : Origin) (o : Option Written) (s t u : Standing) → IsCounted s → u.sections ≡ s.sections → (let r : Result Standing FaultKind = Ok (with_waiting origin o u) in r) ≡ Ok t → Goes s t
-waiting_goes origin (Some w) s t u c same e = same_goes s t (with_waiting origin (Some w) u) c same e
-waiting_goes origin None s t u c same e = same_goes s t u c same e
+assigned_goes : (global : Bool) (name : List ℕ) (s t : Standing) (r : Result Scope Duplicate) → IsCounted s → assigned_by global name s r ≡ Ok t → Goes s t
+assigned_goes global name s t (Ok scope) c e = same_goes s t (with_scope (shared global name scope) s) c refl e
+assigned_goes global name s t (Err x) c e = cc
 
-endless_goes : (circle : Bool) (origin : Origin) (o : Option Written) (after : Scope) (s t : Standing) → IsCounted s → (if circle then Err fault.Form else Ok (with_waiting origin o (with_scope after s))) ≡ Ok t → Goes s t
-endless_goes true origin o after s t c e = cc
-endless_goes false origin o after s t c e = waiting_goes origin o s t (with_scope after s) c refl e
-
-assigned_goes : (origin : Origin) (global : Bool) (name : List ℕ) (w : Told) (s t : Standing) (r : Result Scope Duplicate) → IsCounted s → assigned_by origin global name w s r ≡ Ok t → Goes s t
-assigned_goes origin global name w s t (Ok scope) c e =
-    endless_goes (endless name (shared global name scope)) origin (waiting w.value w.written) (shared global name scope) s t c e
-assigned_goes origin global name w s t (Err x) c e = cc
-
-name_goes : (site : Site) (global : Bool) (name : List ℕ) (tokens : List Token) (s t : Standing) → IsCounted s → name_assigned site global name tokens s ≡ Ok t → Goes s t
+name_goes : (site : Site) (global : Bool) (name : List ℕ) (tokens : List Token) (s t : Standing) → IsCounted s → (name_assigned site global name tokens s).result ≡ Ok t → Goes s t
 name_goes site global name tokens s t c e =
     let w : Told = told site.here (symbols_of site.line tokens) (entry name s.scope).scope in
-    let r : Result Standing FaultKind = assigned_by site.origin global name w s (assigned name w.written w.scope) in
+    let r : Result Standing FaultKind = assigned_by global name s (assigned name w.written w.scope) in
     done_goes s t (joined (fault_of w.settled) (after_change s r))
-    (after_change_goes s r c (λ u made. assigned_goes site.origin global name w s u (assigned name w.written w.scope) c made)) e
+    (after_change_goes s r c (λ u made. assigned_goes global name s u (assigned name w.written w.scope) c made)) e
 
 assignment_by : (place local : Bool) (site : Site) (global : Bool) (name : List ℕ) (tokens : List Token) (s t : Standing) → IsCounted s
-    → (if place then Err fault.UnknownOperator else (if local then Err fault.Form else name_assigned site global name tokens s)) ≡ Ok t → Goes s t
+    → (if place then not_assigned fault.UnknownOperator else (if local then not_assigned fault.Form else name_assigned site global name tokens s)).result ≡ Ok t → Goes s t
 assignment_by true local site global name tokens s t c e = cc
 assignment_by false true site global name tokens s t c e = cc
 assignment_by false false site global name tokens s t c e = name_goes site global name tokens s t c e
 
-pub assignment_goes : (origin : Origin) (line : List ℕ) (name : Token) (global : Bool) (tokens : List Token) (s t : Standing) → IsCounted s → assignment_stated origin line name global tokens s ≡ Ok t → Goes s t
+pub assignment_goes : (origin : Origin) (line : List ℕ) (name : Token) (global : Bool) (tokens : List Token) (s t : Standing) → IsCounted s → (assignment_stated origin line name global tokens s).result ≡ Ok t → Goes s t
 unfolding assignment_stated
 assignment_goes origin line name global tokens s t c e =
     let n : List ℕ = name_in line name in
@@ -96,7 +86,7 @@ assignment_goes origin line name global tokens s t c e =
 
 chosen_goes : (s t : Standing) (r : Result (Sections Fixup) Refusal) → ((u : Sections Fixup) → r ≡ Ok u → Step s.sections u) → chosen s r ≡ Ok t → Goes s t
 chosen_goes s t (Ok u) h e =
-    let made : record { scope = begun_block s.scope; sections = u; assignments = s.assignments; transfer = s.transfer } ≡ t = cc in
+    let made : record { scope = begun_block s.scope; sections = u; transfer = s.transfer } ≡ t = cc in
     subst (λ (x : Standing). Goes s x) made (h u refl)
 chosen_goes s t (Err refusal) h e = cc
 

@@ -11,7 +11,8 @@ use Rattle.vax_lex.specs.declared.token.Piece.{Piece}
 use Rattle.vax_lex.specs.declared.token.Token.{Token}
 use Rattle.vax_macro.specs.declared.error.FaultKind.{FaultKind}
 use Rattle.vax_macro.specs.declared.error.FaultKind.TheVariants as fault
-use Rattle.vax_naming.specs.Naming.{label_stated}
+use Rattle.vax_naming.specs.Naming.{Assigned, label_stated}
+use Rattle.vax_pass.specs.Fixups.{Assignment as Waiting}
 use Rattle.vax_pass.specs.Standing.{Standing}
 use Rattle.vax_pass.specs.declared.types.Origin.{Origin}
 use Rattle.vax_statement.specs.Reading.{Parsed, What, Nothing, Assignment, Operation, Malformed, parsed}
@@ -47,7 +48,7 @@ operated_goes : (o : Option Directive) (origin : Origin) (line name : List ℕ) 
 operated_goes (Some d) origin line name tokens s t c e = directed_goes d origin line tokens s t c e
 operated_goes None origin line name tokens s t c e = instructed_goes (instruction_named name) origin line tokens s t c e
 
-body_goes : (origin : Origin) (line : List ℕ) (what : What) (s t : Standing) → IsCounted s → body_stated origin line what s ≡ Ok t → Goes s t
+body_goes : (origin : Origin) (line : List ℕ) (what : What) (s t : Standing) → IsCounted s → (body_stated origin line what s).result ≡ Ok t → Goes s t
 unfolding body_stated
 body_goes origin line Nothing s t c e = same_goes s t s c refl e
 body_goes origin line (Assignment name global tokens) s t c e = assignment_goes origin line name global tokens s t c e
@@ -55,54 +56,57 @@ body_goes origin line (Operation name tokens) s t c e = operated_goes (directive
 body_goes origin line Malformed s t c e = cc
 
 -- a statement that stands
-placed_is : (r : Result Standing FaultKind) (t : Standing) → placed_by r ≡ Stands t → r ≡ Ok t
-placed_is (Ok u) t e = cc
-placed_is (Err kind) t e = cc
+placed_is : (r : Result Standing FaultKind) (w waiting : Option Waiting) (t : Standing) → placed_by r w ≡ Stands t waiting → r ≡ Ok t
+placed_is (Ok u) w waiting t e = cc
+placed_is (Err kind) w waiting t e = cc
 
-also_none : (kind : FaultKind) (r : Result Standing FaultKind) (t : Standing) → also kind r ≡ Stands t → ⊥
-also_none kind (Ok u) t e = cc
-also_none kind (Err other) t e = cc
+also_none : (kind : FaultKind) (r : Result Standing FaultKind) (w waiting : Option Waiting) (t : Standing) → also kind r w ≡ Stands t waiting → ⊥
+also_none kind (Ok u) w waiting t e = cc
+also_none kind (Err other) w waiting t e = cc
 
-beside_none : (kind : FaultKind) (what : What) (r : Result Standing FaultKind) (t : Standing) → beside kind what r ≡ Stands t → ⊥
-beside_none kind Nothing r t e = cc
-beside_none kind (Assignment name global tokens) r t e = also_none kind r t e
-beside_none kind (Operation name tokens) r t e = also_none kind r t e
-beside_none kind Malformed r t e = also_none kind r t e
+beside_none : (kind : FaultKind) (what : What) (rest : Assigned) (t : Standing) (waiting : Option Waiting) → beside kind what rest ≡ Stands t waiting → ⊥
+beside_none kind Nothing rest t waiting e = cc
+beside_none kind (Assignment name global tokens) rest t waiting e = also_none kind rest.result rest.waiting waiting t e
+beside_none kind (Operation name tokens) rest t waiting e = also_none kind rest.result rest.waiting waiting t e
+beside_none kind Malformed rest t waiting e = also_none kind rest.result rest.waiting waiting t e
 
-behind_goes : (origin : Origin) (line : List ℕ) (what : What) (s t : Standing) (r : Result Standing FaultKind) → ((u : Standing) → r ≡ Ok u → Goes s u) → behind_label origin line what s r ≡ Stands t → Goes s t
-behind_goes origin line what s t (Ok u) h e =
+behind_goes : (origin : Origin) (line : List ℕ) (what : What) (s t : Standing) (waiting : Option Waiting) (r : Result Standing FaultKind) → ((u : Standing) → r ≡ Ok u → Goes s u) → behind_label origin line what s r ≡ Stands t waiting → Goes s t
+behind_goes origin line what s t waiting (Ok u) h e =
     let first : Goes s u = h u refl in
-    step_then s.sections u.sections t.sections first (body_goes origin line what u t first.counted (placed_is (body_stated origin line what u) t e))
-behind_goes origin line what s t (Err kind) h e = absurd (beside_none kind what (body_stated origin line what s) t e)
+    let body : Assigned = body_stated origin line what u in
+    step_then s.sections u.sections t.sections first (body_goes origin line what u t first.counted (placed_is body.result body.waiting waiting t e))
+behind_goes origin line what s t waiting (Err kind) h e = absurd (beside_none kind what (body_stated origin line what s) t waiting e)
 
-stated_goes_by : (origin : Origin) (line : List ℕ) (label : Option Label) (what : What) (s t : Standing) → IsCounted s → stated_by origin line label what s ≡ Stands t → Goes s t
-stated_goes_by origin line None what s t c e = body_goes origin line what s t c (placed_is (body_stated origin line what s) t e)
-stated_goes_by origin line (Some label) what s t c e = behind_goes origin line what s t (label_stated line label s) (λ u made. label_goes line label s u c made) e
+stated_goes_by : (origin : Origin) (line : List ℕ) (label : Option Label) (what : What) (s t : Standing) (waiting : Option Waiting) → IsCounted s → stated_by origin line label what s ≡ Stands t waiting → Goes s t
+stated_goes_by origin line None what s t waiting c e =
+    let body : Assigned = body_stated origin line what s in
+    body_goes origin line what s t c (placed_is body.result body.waiting waiting t e)
+stated_goes_by origin line (Some label) what s t waiting c e = behind_goes origin line what s t waiting (label_stated line label s) (λ u made. label_goes line label s u c made) e
 
-stated_goes : (origin : Origin) (line : List ℕ) (p : Parsed) (s t : Standing) → IsCounted s → stated origin line p s ≡ Stands t → Goes s t
+stated_goes : (origin : Origin) (line : List ℕ) (p : Parsed) (s t : Standing) (waiting : Option Waiting) → IsCounted s → stated origin line p s ≡ Stands t waiting → Goes s t
 unfolding stated
-stated_goes origin line p s t c e = stated_goes_by origin line p.label p.what s t c e
+stated_goes origin line p s t waiting c e = stated_goes_by origin line p.label p.what s t waiting c e
 
-range_none : (p : Placed) (t : Standing) → with_range p ≡ Stands t → ⊥
-range_none (Stands s) t e = cc
-range_none (FaultyLabel kind) t e = cc
-range_none (Faulty kind) t e = cc
+range_none : (p : Placed) (t : Standing) (waiting : Option Waiting) → with_range p ≡ Stands t waiting → ⊥
+range_none (Stands s w) t waiting e = cc
+range_none (FaultyLabel kind) t waiting e = cc
+range_none (Faulty kind w) t waiting e = cc
 
-wide_is : (b : Bool) (p : Placed) (t : Standing) → if_wide b p ≡ Stands t → p ≡ Stands t
-wide_is true p t e = absurd (range_none p t e)
-wide_is false p t e = e
+wide_is : (b : Bool) (p : Placed) (t : Standing) (waiting : Option Waiting) → if_wide b p ≡ Stands t waiting → p ≡ Stands t waiting
+wide_is true p t waiting e = absurd (range_none p t waiting e)
+wide_is false p t waiting e = e
 
-bad_is : (b : Bool) (p : Placed) (t : Standing) → (if b then Faulty fault.Token else p) ≡ Stands t → p ≡ Stands t
-bad_is true p t e = cc
-bad_is false p t e = e
+bad_is : (b : Bool) (p : Placed) (t : Standing) (waiting : Option Waiting) → (if b then Faulty fault.Token None else p) ≡ Stands t waiting → p ≡ Stands t waiting
+bad_is true p t waiting e = cc
+bad_is false p t waiting e = e
 
-listing_is : (b bad wide : Bool) (p : Placed) (t : Standing) → (if b then p else (if bad then Faulty fault.Token else if_wide wide p)) ≡ Stands t → p ≡ Stands t
-listing_is true bad wide p t e = e
-listing_is false bad wide p t e = wide_is wide p t (bad_is bad (if_wide wide p) t e)
+listing_is : (b bad wide : Bool) (p : Placed) (t : Standing) (waiting : Option Waiting) → (if b then p else (if bad then Faulty fault.Token None else if_wide wide p)) ≡ Stands t waiting → p ≡ Stands t waiting
+listing_is true bad wide p t waiting e = e
+listing_is false bad wide p t waiting e = wide_is wide p t waiting (bad_is bad (if_wide wide p) t waiting e)
 
-pub statement_goes : (origin : Origin) (line : List ℕ) (s t : Standing) → IsCounted s → placed origin line s ≡ Stands t → Goes s t
+pub statement_goes : (origin : Origin) (line : List ℕ) (s t : Standing) (waiting : Option Waiting) → IsCounted s → placed origin line s ≡ Stands t waiting → Goes s t
 unfolding placed
-statement_goes origin line s t c e =
+statement_goes origin line s t waiting c e =
     let pieces : List Piece = pieces_of line in
     let p : Parsed = parsed (map token_of pieces) in
-    stated_goes origin line p s t c (listing_is (is_listing line p.what) (list_any is_bad pieces) (list_any is_wide pieces) (stated origin line p s) t e)
+    stated_goes origin line p s t waiting c (listing_is (is_listing line p.what) (list_any is_bad pieces) (list_any is_wide pieces) (stated origin line p s) t waiting e)

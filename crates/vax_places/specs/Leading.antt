@@ -2,12 +2,15 @@
 -- format").
 use Rattle.std.specs.Prelude.{◌≡◌, ℕ, List, [], ◌∷◌, ◌++◌, length, map, Option, Ok}
 use Rattle.vax_asm.specs.Placing.{Stands, placed}
+use Rattle.vax_asm.specs.Walk.{Assembly, nothing}
 use Rattle.vax_fill.specs.Laid.{outputs}
 use Rattle.vax_fill.specs.Modules.{filled_in, known_in}
 use Rattle.vax_macro.specs.Rest.{Opening}
 use Rattle.vax_module.specs.declared.Module.{Module}
 use Rattle.vax_module.specs.declared.Section.{Section}
-use Rattle.vax_pass.specs.Standing.{Standing, at_start}
+use Rattle.vax_naming.specs.Naming.{with_waiting}
+use Rattle.vax_pass.specs.Fixups.{Assignment}
+use Rattle.vax_pass.specs.Standing.{Standing}
 use Rattle.vax_pass.specs.declared.types.Origin.{Origin}
 use Rattle.vax_places.specs.Counted.{section_at}
 
@@ -15,19 +18,23 @@ pub record Line : Type 0 where
   pub origin : Origin
   pub text : List ℕ
 
--- these statements, none of which has a fault, lead from what stands to this
-abbrev pub Leads : Standing → List Line → Standing → Type 0
-Leads s [] t = s ≡ t
-Leads s (l ∷ lines) t = (u : Standing) × (placed l.origin l.text s ≡ Stands u) × Leads u lines t
+-- what a statement leaves, behind which this stands
+abbrev pub with_statement : Standing → Option Assignment → Assembly → Assembly
+with_statement t waiting a = record { standing = t; assignments = with_waiting waiting a.assignments }
+
+-- these statements, none of which has a fault, lead from what was left before to this
+abbrev pub Leads : Assembly → List Line → Assembly → Type 0
+Leads a [] b = a ≡ b
+Leads a (l ∷ lines) b = (t : Standing) × (waiting : Option Assignment) × (placed l.origin l.text a.standing ≡ Stands t waiting) × Leads (with_statement t waiting a) lines b
 
 -- Statements lead to the module. Each of its sections has as many bytes as they have counted.
 pub record IsStated (m : Module) : Type 0 where
   pub lines : List Line
-  pub behind : Standing
+  pub behind : Assembly
   pub begin : Option Opening
-  pub leads : Leads at_start lines behind
-  pub filled : filled_in behind begin ≡ Ok m
-  pub sizes : map (λ (s : Section). length s.bytes) m.sections ≡ map (λ s. s.size) behind.sections.all
+  pub leads : Leads nothing lines behind
+  pub filled : filled_in behind.standing behind.assignments begin ≡ Ok m
+  pub sizes : map (λ (s : Section). length s.bytes) m.sections ≡ map (λ s. s.size) behind.standing.sections.all
 
 -- Where statements have led to a place of a section, the module's bytes begin there that the statements behind have put there: before them
 -- are so many as the place says, those of what stood there already.

@@ -1,5 +1,6 @@
 pub mod Closing
 pub mod Binding
+pub mod Naming
 pub mod Range
 pub mod Seen
 pub mod Spelling

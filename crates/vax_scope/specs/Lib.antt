@@ -1,4 +1,3 @@
-pub mod Circles
 pub mod Kept
 pub mod Known
 pub mod PlaceView

@@ -42,6 +42,14 @@ entry text s = entry_by text s (s.names.numbers text)
 abbrev pub definition_at : Entry → ℕ
 definition_at e = (table.name_at e.scope.names.all e.number).definition
 
+-- the definition that a name means; 0 where there is no such name
+abbrev pub definition_by : Scope → Option ℕ → ℕ
+definition_by s (Some i) = (table.name_at s.names.all i).definition
+definition_by s None = 0
+
+abbrev pub definition_of : List ℕ → Scope → ℕ
+definition_of text s = definition_by s (s.names.numbers text)
+
 -- A local label begins with a digit.
 abbrev pub is_local : List ℕ → Bool
 is_local [] = false

@@ -18,8 +18,8 @@ abbrev pub bound_in : Vec Meaning → Tables → Bound
 bound_in m t = record { names = map meaning_of m.items; scope = scope_in t }
 
 -- what an assignment leaves, or that it is a second one; memory may be refused at any time
-abbrev pub Defines : Result Unit LabelError → Scope → Result Scope Duplicate → Type 0
-Defines (Ok done) after r = r ≡ Ok after
+abbrev pub Defines : {X : Type 0} → Result X LabelError → Scope → Result Scope Duplicate → Type 0
+Defines (Ok x) after r = r ≡ Ok after
 Defines (Err errors.Duplicate) after r = r ≡ Err (record {})
 Defines (Err errors.NoMemory) after r = Unit {0}
 

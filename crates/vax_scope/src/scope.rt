@@ -27,10 +27,9 @@ impl Scope {
     ghost use Rattle.vax_lex.specs.Grammar.{symbols_of, spelling, Expression as Tree};
     ghost use Rattle.vax_lex.specs.Tokens.{IsTokenOf};
     ghost use Rattle.vax_names.specs.View.{name_of};
-    ghost use Rattle.vax_scope.specs.Circles.{endless};
     ghost use Rattle.vax_scope.specs.Kept.{scope_of};
     ghost use Rattle.vax_scope.specs.Known.{known};
-    ghost use Rattle.vax_scope.specs.Scope.{nothing, entry, definition_at, bound, labelled, assigned, labelled_locally, begun_block, made_global, external_names, closed};
+    ghost use Rattle.vax_scope.specs.Scope.{nothing, entry, definition_at, definition_of, bound, labelled, assigned, labelled_locally, begun_block, made_global, external_names, closed};
     ghost use Rattle.vax_scope.specs.Used.{names_of};
     ghost use Rattle.vax_scope.specs.View.{Defines, Labels, texts_of};
     ghost use Rattle.vax_values.specs.Certain.{certain};
@@ -157,7 +156,7 @@ impl Scope {
     }
 
     /// An assignment defines a name: by the value of the expression where it has one, else by the expression, whose
-    /// names may be defined later.
+    /// names may be defined later. It tells the number of the definition that the name means from here on.
     ///
     /// [`LabelError::Duplicate`] where the name is a label, [`LabelError::NoMemory`] where memory is refused.
     pub fn assign(
@@ -165,25 +164,16 @@ impl Scope {
         alloc: Global,
         text: &[u8],
         expression: Expression,
-    ) -> Result<(), LabelError>
+    ) -> Result<usize, LabelError>
         requires { Means (length (scope_of self.old).sources) (Worked (written_of expression)) }
-        ensures { Defines result (scope_of self.new) (assigned text.now (written_of expression) (scope_of self.old)) }
+        ensures scope { Defines result (scope_of self.new) (assigned text.now (written_of expression) (scope_of self.old)) }
+        ensures definition { IfOk result (λ d. d ≡ definition_of text.now (scope_of self.new)) }
     {
         let Scope { tables, .. } = mem::replace(self, Scope::new(alloc));
         let mut tables = tables;
-        tables.assign(alloc, text, expression)?;
+        let definition = tables.assign(alloc, text, expression)?;
         *self = Scope { tables };
-        Ok(())
-    }
-
-    /// Whether the definition that a name means comes back to itself, which is no local label. Asked behind an assignment
-    /// of the name, it tells whether the definitions so far have a circle through this assignment.
-    ///
-    /// Takes no time as long as none comes back to itself, and from then on time with those without a value that it rests on.
-    pub fn is_endless(&self, alloc: Global, text: &[u8]) -> Result<bool, NoMemory>
-        ensures { IfOk result (λ b. b ≡ endless text.now (scope_of self.now)) }
-    {
-        self.tables.is_endless(alloc, text)
+        Ok(definition)
     }
 
     /// A local label is defined in its block.

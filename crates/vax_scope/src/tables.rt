@@ -112,10 +112,9 @@ fn close_all(
 
 impl Tables {
     ghost use Rattle.vax_names.specs.Names.{name_at};
-    ghost use Rattle.vax_scope.specs.Circles.{endless};
     ghost use Rattle.vax_scope.specs.Known.{known};
     ghost use Rattle.vax_scope.specs.PlaceView.{place_of};
-    ghost use Rattle.vax_scope.specs.Scope.{nothing, entry, mean, mean_here, mean_local, bind, bind_all, bound, labelled, assigned, kept, labelled_locally, opened_if_fresh, made_global, closed};
+    ghost use Rattle.vax_scope.specs.Scope.{nothing, entry, definition_of, mean, mean_here, mean_local, bind, bind_all, bound, labelled, assigned, kept, labelled_locally, opened_if_fresh, made_global, closed};
     ghost use Rattle.vax_scope.specs.Used.{used_by};
     ghost use Rattle.vax_scope.specs.View.{scope_in, bound_in, Defines, Labels};
     ghost use Rattle.vax_values.specs.Values.{Means, Worked};
@@ -319,16 +318,17 @@ impl Tables {
         Ok(())
     }
 
-    /// An assignment defines a name.
+    /// An assignment defines a name. It tells which definition the name then means.
     #[tactic(auto, using(crate::proofs::Seen::within_changed, crate::proofs::Seen::means_more))]
     pub(crate) fn assign(
         &mut self,
         alloc: Global,
         text: &[u8],
         expression: Expression,
-    ) -> Result<(), LabelError>
+    ) -> Result<usize, LabelError>
         requires { Means (length (scope_in self.old).sources) (Worked (written_of expression)) }
-        ensures { Defines result (scope_in self.new) (assigned text.now (written_of expression) (scope_in self.old)) }
+        ensures scope { Defines result (scope_in self.new) (assigned text.now (written_of expression) (scope_in self.old)) }
+        ensures definition { IfOk result (λ d. d ≡ definition_of text.now (scope_in self.new)) }
     {
         let Ok(number) = self.entry(alloc, text) else {
             return Err(LabelError::NoMemory);
@@ -345,19 +345,7 @@ impl Tables {
         let Ok(()) = self.keep(alloc, definition, value, expression) else {
             return Err(LabelError::NoMemory);
         };
-        Ok(())
-    }
-
-    /// Whether the definition that a name means comes back to itself.
-    pub(crate) fn is_endless(&self, alloc: Global, text: &[u8]) -> Result<bool, NoMemory>
-        ensures { IfOk result (λ b. b ≡ endless text.now (scope_in self.now)) }
-    {
-        match self.names.number(text) {
-            Some(number) => self
-                .definitions
-                .is_endless(alloc, self.definition_of(number)),
-            None => Ok(false),
-        }
+        Ok(definition)
     }
 
     /// A local label is defined.

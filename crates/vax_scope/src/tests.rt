@@ -68,20 +68,26 @@ fn a_use_before_any_definition_means_the_first(rt: HostRuntime) -> Result<(), Fa
 }
 
 #[test]
-fn an_assignment_may_close_a_circle(rt: HostRuntime) -> Result<(), Fail> {
+fn an_assignment_tells_what_its_name_then_means(rt: HostRuntime) -> Result<(), Fail> {
     let alloc = rt.alloc();
     let mut scope = Scope::new(alloc);
+    let first = scope.appear(alloc, b"X")?;
     let later = stands(alloc, &mut scope, b"Y")?;
-    scope.assign(alloc, b"X", later)?;
-    assert!(rt; !scope.is_endless(alloc, b"X")?);
-    let back = stands(alloc, &mut scope, b"X-X")?;
-    scope.assign(alloc, b"Y", back)?;
-    assert!(rt; scope.is_endless(alloc, b"Y")?);
-    // A use before any definition means the first.
-    scope.appear(alloc, b"Z")?;
-    let itself = stands(alloc, &mut scope, b"Z+1")?;
-    scope.assign(alloc, b"Z", itself)?;
-    assert!(rt; scope.is_endless(alloc, b"Z")?);
+    // The first assignment is the definition that earlier uses mean, and a second one is another.
+    assert_eq!(rt; scope.assign(alloc, b"X", later)?, first);
+    assert_eq!(rt; scope.value(first), None);
+    let two = stands(alloc, &mut scope, b"2")?;
+    let second = scope.assign(alloc, b"X", two)?;
+    assert!(rt; second != first);
+    assert_eq!(rt; scope.appear(alloc, b"X")?, second);
+    assert_eq!(rt; scope.value(second), Some(Value::Absolute(2)));
+    assert_eq!(rt; scope.value(first), None);
+    scope.label(alloc, b"L", HERE)?;
+    let three = stands(alloc, &mut scope, b"3")?;
+    assert_eq!(rt;
+        scope.assign(alloc, b"L", three),
+        Err(LabelError::Duplicate)
+    );
     Ok(())
 }
 

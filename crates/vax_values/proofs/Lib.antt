@@ -1,10 +1,6 @@
-pub mod Climbing
 pub mod Copying
 pub mod Keeping
-pub mod Leading
 pub mod Open
-pub mod Ordering
 pub mod Rounds
 pub mod Seen
 pub mod Stepping
-pub mod Walking

@@ -42,7 +42,7 @@ true_or_false : (b : Bool) → (b ≡ true) ⊎ (b ≡ false)
 true_or_false true = inl refl
 true_or_false false = inr refl
 
-pub same_or_apart : (j i : ℕ) → (j ≡ i) ⊎ (j ≢ i)
+same_or_apart : (j i : ℕ) → (j ≡ i) ⊎ (j ≢ i)
 same_or_apart j i = ⊎_elim (λ y. inl y.1) (λ n. inr n.1) (eqb_tells j i)
 
 is_itself : (i : ℕ) → (i == i) ≡ true
@@ -243,7 +243,7 @@ weight_less (Some x ∷ values) (w ∷ waiting) (suc i) v h n = weight_less valu
 weight_less (None ∷ values) (w ∷ waiting) (suc i) v h n = omega (arith, weight_less values waiting i v (omega (arith, h)) n)
 
 -- one definition more that is to come
-pub default_behind : {X : Type 0} (xs : List X) (i : ℕ) (d : X) → slice_index_or (xs ++ d ∷ []) i d ≡ slice_index_or xs i d
+default_behind : {X : Type 0} (xs : List X) (i : ℕ) (d : X) → slice_index_or (xs ++ d ∷ []) i d ≡ slice_index_or xs i d
 default_behind [] zero d = refl
 default_behind [] (suc i) d = refl
 default_behind (x ∷ xs) zero d = refl

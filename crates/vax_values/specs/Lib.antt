@@ -1,13 +1,8 @@
 pub mod Certain
-pub mod Circles
-pub mod Climbs
 pub mod Definitions
-pub mod Order
-pub mod OrderProps
 pub mod SettledProps
 pub mod ToCome
 pub mod TokenProps
 pub mod Values
 pub mod View
 pub mod Waiting
-pub mod Walks

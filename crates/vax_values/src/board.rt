@@ -7,10 +7,9 @@ ghost use Rattle.vax_values.specs.Values.{named, worth, source_at, value_under, 
 ghost use Rattle.vax_values.specs.View.{meaning_of, written_of, source_of, sources_in, lists_in};
 ghost use Rattle.vax_values.specs.Waiting.{known, listed, waiters, Watches, Settled, Standing, Grown, weight};
 ghost use Rattle.vax_values.specs.Values.{Means, expression_in, is_to_come};
-ghost use Rattle.vax_values.specs.Order.{AreOrdered};
 ghost use Rattle.vax_values.specs.ToCome.{names_to_come};
 
-use crate::types::{Board, Expression, Meaning, Order, Source};
+use crate::types::{Board, Expression, Meaning, Source};
 use std::alloc::Global;
 use vax_lex::{ExprError, Names, Value, certain_fault, evaluate};
 use vax_space::NoMemory;
@@ -66,16 +65,6 @@ fn add_all(work: &mut Vec<usize>, more: &[usize]) -> Result<(), NoMemory>
     work.extend_from_slice(more).map_err(|_| NoMemory)
 }
 
-/// The expression that a definition is, if it is one.
-pub(crate) fn expression_at<'a>(sources: &'a [Source], number: usize) -> Option<&'a Expression>
-    ensures { option_map (λ e. written_of e.now) result ≡ expression_in (source_at (map source_of sources.now) number) }
-{
-    match sources.get(number) {
-        Some(Source::Worked(expression)) => Some(expression),
-        _ => None,
-    }
-}
-
 /// One more definition waits for another.
 fn add_waiting(waiting: &mut Vec<Vec<usize>>, other: usize, number: usize) -> Result<(), NoMemory>
     requires { other < length waiting.old.items }
@@ -125,13 +114,11 @@ impl Board {
         ensures sources { sources_in result.sources ≡ [] }
         ensures values { result.values.items ≡ [] }
         ensures waiting { lists_in result.waiting ≡ [] }
-        ensures ordered { AreOrdered [] result.order }
     {
         Board {
             sources: Vec::new(alloc),
             values: Vec::new(alloc),
             waiting: Vec::new(alloc),
-            order: Some(Order::new(alloc)),
         }
     }
 
@@ -176,7 +163,10 @@ impl Board {
     pub(crate) fn expression(&self, number: usize) -> Option<&Expression>
         ensures { option_map (λ e. written_of e.now) result ≡ expression_in (source_at (sources_in self.now.sources) number) }
     {
-        expression_at(&self.sources, number)
+        match self.sources.get(number) {
+            Some(Source::Worked(expression)) => Some(expression),
+            _ => None,
+        }
     }
 
     /// The value of an expression by the values so far.
@@ -225,7 +215,6 @@ impl Board {
         ensures sources { self.new.sources ≡ self.old.sources }
         ensures waiting { self.new.waiting ≡ self.old.waiting }
         ensures values { length self.new.values.items ≡ length self.old.values.items }
-        ensures order { self.new.order ≡ self.old.order }
     {
         if number >= self.sources.len() {
             return Ok(());
@@ -251,7 +240,6 @@ impl Board {
         ensures sources { self.new.sources ≡ self.old.sources }
         ensures waiting { self.new.waiting ≡ self.old.waiting }
         ensures values { length self.new.values.items ≡ length self.old.values.items }
-        ensures order { self.new.order ≡ self.old.order }
     {
         let mut work = Vec::new(alloc);
         add_all(&mut work, &[first])?;
@@ -274,17 +262,14 @@ impl Board {
         requires within { number < length self.old.sources.items }
         requires first { source_at (sources_in self.old.sources) number ≡ to_come }
         requires means { Means (length self.old.sources.items) (source_of source) }
-        requires ordered { AreOrdered (sources_in self.old.sources) self.old.order }
         ensures settled { OnOk result (Settled (sources_in self.new.sources) self.new.values.items (lists_in self.new.waiting)) }
         ensures sources { OnOk result (sources_in self.new.sources ≡ slice_set (sources_in self.old.sources) number (source_of source)) }
         ensures values { OnOk result (length self.new.values.items ≡ length self.new.sources.items) }
         ensures waiting { OnOk result (length self.new.waiting.items ≡ length self.new.sources.items) }
-        ensures ordered { OnOk result (AreOrdered (sources_in self.new.sources) self.new.order) }
     {
         wait(&mut self.waiting, &source, number)?;
         self.sources[number] = source;
         self.settle(alloc, number)?;
-        self.arrange(alloc, number)?;
         Ok(())
     }
 
@@ -293,17 +278,14 @@ impl Board {
         requires settled { Settled (sources_in self.old.sources) self.old.values.items (lists_in self.old.waiting) }
         requires values { length self.old.values.items ≡ length self.old.sources.items }
         requires waiting { length self.old.waiting.items ≡ length self.old.sources.items }
-        requires ordered { AreOrdered (sources_in self.old.sources) self.old.order }
         ensures settled { OnOk result (Settled (sources_in self.new.sources) self.new.values.items (lists_in self.new.waiting)) }
         ensures sources { OnOk result (sources_in self.new.sources ≡ sources_in self.old.sources ++ to_come ∷ []) }
         ensures values { OnOk result (length self.new.values.items ≡ length self.new.sources.items) }
         ensures waiting { OnOk result (length self.new.waiting.items ≡ length self.new.sources.items) }
-        ensures ordered { OnOk result (AreOrdered (sources_in self.new.sources) self.new.order) }
     {
         add_last(&mut self.sources, Source::ToCome)?;
         add_last(&mut self.values, None)?;
         add_last(&mut self.waiting, Vec::new(alloc))?;
-        self.add_level(alloc)?;
         Ok(())
     }
 }

@@ -4,8 +4,6 @@ ghost use Rattle.std.specs.Prelude.{◌≡◌, length};
 ghost use Rattle.vax_values.specs.View.{sources_in, lists_in};
 ghost use Rattle.vax_values.specs.Waiting.{Settled};
 ghost use Rattle.vax_values.specs.SettledProps.{settled_prop};
-ghost use Rattle.vax_values.specs.Order.{AreOrdered};
-ghost use Rattle.vax_values.specs.OrderProps.{ordered_prop};
 
 use crate::types::{Board, Expression, Source};
 use std::alloc::Global;
@@ -15,21 +13,18 @@ use vax_space::NoMemory;
 
 /// Definitions by their numbers, and what each is worth.
 ///
-/// A call that adds one takes time with the expressions that wait for it, and a bounded time with those that it rests on and
-/// those that rest on it, to keep them in order. Where memory is refused, no definitions are left.
+/// A call that adds one takes time with the expressions that wait for it. Where memory is refused, no definitions are left.
 #[derive(Drop)]
 pub struct Definitions {
     board: Board,
     ghost settled: { Settled (sources_in board.sources) board.values.items (lists_in board.waiting) } by { settled_prop (sources_in board.sources) board.values.items (lists_in board.waiting) },
     ghost values: { length board.values.items ≡ length board.sources.items },
     ghost waiting: { length board.waiting.items ≡ length board.sources.items },
-    ghost ordered: { AreOrdered (sources_in board.sources) board.order } by { ordered_prop (sources_in board.sources) board.order },
 }
 
 impl Definitions {
     ghost use Rattle.std.specs.Prelude.{◌<◌, ◌++◌, ◌∷◌, [], IfOk, OnOk, option_map};
     ghost use Rattle.vax_values.specs.Certain.{certain};
-    ghost use Rattle.vax_values.specs.Circles.{endless};
     ghost use Rattle.vax_values.specs.Definitions.{sources_of};
     ghost use Rattle.vax_values.specs.Values.{Given as given, Worked as worked, Means, expression_in, source_at, with_source, ToCome as to_come, value_of, worth};
     ghost use Rattle.vax_values.specs.ToCome.{names_to_come};
@@ -130,16 +125,6 @@ impl Definitions {
         ensures { result ≡ names_to_come (sources_of self.now) (written_of expression.now) }
     {
         self.board.names_to_come(expression)
-    }
-
-    /// Whether a definition comes back to itself: whether its expression has it in it, or has definitions without a value
-    /// in it that come back to it.
-    ///
-    /// Takes no time as long as none comes back to itself, and from then on time with those without a value that it rests on.
-    pub fn is_endless(&self, alloc: Global, number: usize) -> Result<bool, NoMemory>
-        ensures { IfOk result (λ b. b ≡ endless (sources_of self.now) number) }
-    {
-        self.board.is_endless(alloc, number)
     }
 
     /// The expression that a definition is, if it is one.

@@ -7,10 +7,8 @@
 #![tactic(auto)]
 
 mod board;
-mod circles;
 mod copies;
 mod definitions;
-mod order;
 #[cfg(test)]
 mod tests;
 mod types;

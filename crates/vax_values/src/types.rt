@@ -40,6 +40,13 @@ impl Expression {
             names,
         }
     }
+
+    /// The names in it, with what they mean.
+    pub fn names(&self) -> &[Meaning]
+        ensures { map meaning_of result.now ≡ (written_of self.now).names }
+    {
+        &self.names
+    }
 }
 
 /// A definition.
@@ -50,21 +57,10 @@ pub(crate) enum Source {
     Worked(Expression),
 }
 
-/// Levels of definitions: none has one of a lower level in its expression. Beside each stand those of its own level that
-/// have it in theirs. `names` is how many names all expressions have.
-#[derive(Drop)]
-pub(crate) struct Order {
-    pub(crate) levels: Vec<usize>,
-    pub(crate) beside: Vec<Vec<usize>>,
-    pub(crate) names: usize,
-}
-
-/// Definitions, their values so far, and for each the definitions that have it in their expressions. Their order, as long
-/// as none comes back to itself.
+/// Definitions, their values so far, and for each the definitions that have it in their expressions.
 #[derive(Drop)]
 pub(crate) struct Board {
     pub(crate) sources: Vec<Source>,
     pub(crate) values: Vec<Option<Value>>,
     pub(crate) waiting: Vec<Vec<usize>>,
-    pub(crate) order: Option<Order>,
 }

@@ -5,6 +5,6 @@ use Rattle.vax_places.proofs.statements_are_counted.Goals as goal
 pub returns : goal.returns
 returns c = record {
   start = start_counted;
-  counted = λ origin text s t counted placed. (statement_goes origin text s t counted placed).counted;
-  keeps = λ origin text s t counted placed. (statement_goes origin text s t counted placed).keeps;
+  counted = λ origin text s t waiting counted placed. (statement_goes origin text s t waiting counted placed).counted;
+  keeps = λ origin text s t waiting counted placed. (statement_goes origin text s t waiting counted placed).keeps;
 }

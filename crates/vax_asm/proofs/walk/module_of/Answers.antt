@@ -1,7 +1,7 @@
-use Rattle.std.proofs.Common.{suc, arith}
+use Rattle.std.proofs.Common.{suc, map, ap, arith}
 use Rattle.vax_macro.specs.Expanders.{rest_of}
 use Rattle.vax_macro.specs.Rest.{work}
-use Rattle.vax_pass.specs.View.{standing_of}
+use Rattle.vax_pass.specs.View.{assignment_of, standing_of}
 use Rattle.vax_asm.proofs.Opening.{started_walk}
 use Rattle.vax_asm.proofs.walk.module_of.Goals as goal
 
@@ -9,6 +9,6 @@ pub statements-init : goal.statements-init
 statements-init c =
     let rest = rest_of c.in-Ok.expander in
     record {
-      walks = (suc (work rest), omega arith, started_walk c.args.source.now rest (standing_of c.in-Ok-new.standing) c.in-Ok.ensures.rest c.in-Ok-new.ensures);
+      walks = (suc (work rest), omega arith, started_walk c.args.source.now rest (standing_of c.in-Ok-new.standing) (map assignment_of c.new-3.result.items) c.in-Ok.ensures.rest c.in-Ok-new.ensures (ap (map assignment_of) c.new-3.ensures.items));
       quiet = c.in-Ok.ensures.error;
     }

@@ -2,12 +2,12 @@ use Rattle.std.proofs.Common.{◌≡◌, ◌<◌, ℕ, None}
 use Rattle.vax_asm.specs.Walk.{assembled, walked}
 use Rattle.vax_macro.specs.Expanders.{error_of, rest_of}
 use Rattle.vax_macro.specs.Rest.{work}
-use Rattle.vax_pass.specs.View.{standing_of}
+use Rattle.vax_asm.specs.View.{assembly_of}
 use Rattle.vax_asm.proofs.walk.module_of.Given as goal
 
 abbrev pub invariant-statements : goal.invariant-statements
 invariant-statements l = record {
-  walks : (left : ℕ) × (work (rest_of l.expander) < left) × (walked left (rest_of l.expander) (standing_of l.walk.standing) l.walk.met ≡ assembled l.source);
+  walks : (left : ℕ) × (work (rest_of l.expander) < left) × (walked left (rest_of l.expander) (assembly_of l.walk.standing l.walk.assignments) l.walk.met ≡ assembled l.source);
   quiet : error_of l.expander ≡ None;
 }
 

@@ -18,18 +18,17 @@ returns-in-Err-clause-module c =
     let sections = c.sections-sections.result.now in
     let seen = map section_seen (map section_of sections) in
     let texts = c.in-Ok.externals in
-    let assignments = map assignment_of c.deref.result.now in
+    let assigned = map assignment_of c.args.assignments.now in
     let sources = (scope_of c.close.new.self).sources in
     let counted : c.len.result ≡ length texts.items = search rules in
-    let found : IsFound s sources (length sections) c.len.result seen (texts_of texts) assignments = record {
+    let found : IsFound s sources (length sections) c.len.result seen (texts_of texts) = record {
       sources = ap (λ (x : Scope). x.sources) c.in-Ok.ensures.scope;
       seen = ap (map section_seen) c.sections-sections.ensures;
       count = seen_count sections;
       texts = c.in-Ok.ensures.externals;
       named = counted ∙ texts_count texts.items;
-      assignments = ap (map assignment_of) c.deref.ensures.value;
     } in
-    error_found s (option_map opening_of c.args.unclosed) sources (length sections) c.len.result seen (texts_of texts) assignments c.in-Err.error found c.in-Err.ensures
+    error_found s assigned (option_map opening_of c.args.unclosed) sources (length sections) c.len.result seen (texts_of texts) c.in-Err.error found c.in-Err.ensures
 
 pub returns-clause-module : goal.returns-clause-module
 returns-clause-module c =
@@ -38,28 +37,27 @@ returns-clause-module c =
     let seen = map section_seen (map section_of sections) in
     let names = map name_of c.names.result.now in
     let texts = c.in-Ok.externals in
-    let assignments = map assignment_of c.deref.result.now in
+    let assigned = map assignment_of c.args.assignments.now in
     let sources = (scope_of c.close.new.self).sources in
     let counted : c.len.result ≡ length texts.items = search rules in
-    let found : IsFound s sources (length sections) c.len.result seen (texts_of texts) assignments = record {
+    let found : IsFound s sources (length sections) c.len.result seen (texts_of texts) = record {
       sources = ap (λ (x : Scope). x.sources) c.in-Ok.ensures.scope;
       seen = ap (map section_seen) c.sections-sections.ensures;
       count = seen_count sections;
       texts = c.in-Ok.ensures.externals;
       named = counted ∙ texts_count texts.items;
-      assignments = ap (map assignment_of) c.deref.ensures.value;
     } in
     let laid_so = c.in-Ok-lay.ensures in
-    module_found s (option_map opening_of c.args.unclosed) sources (length sections) c.len.result seen names (texts_of texts) assignments c.in-Ok-module.module found
+    module_found s assigned (option_map opening_of c.args.unclosed) sources (length sections) c.len.result seen names (texts_of texts) c.in-Ok-module.module found
     (c.names.ensures ∙ ap (λ (x : Scope). x.names.all) c.in-Ok.ensures.scope) laid_so.2
     (c.in-Ok-module.ensures (laid (known_from sources (length sections) c.len.result) 0 seen) laid_so.0 laid_so.1)
 
 pub returns-clause-formed : goal.returns-clause-formed
 returns-clause-formed c =
     let s = standing_of c.args.standing in
-    filled_formed s (option_map opening_of c.args.unclosed) c.in-Ok-module.module (sections_sound c.args.standing.layout.sections.items) (returns-clause-module c)
+    filled_formed s (map assignment_of c.args.assignments.now) (option_map opening_of c.args.unclosed) c.in-Ok-module.module (sections_sound c.args.standing.layout.sections.items) (returns-clause-module c)
 
 pub returns-clause-ordered : goal.returns-clause-ordered
 returns-clause-ordered c =
     let s = standing_of c.args.standing in
-    filled_ordered s (option_map opening_of c.args.unclosed) c.in-Ok-module.module (sections_sound c.args.standing.layout.sections.items) (returns-clause-module c)
+    filled_ordered s (map assignment_of c.args.assignments.now) (option_map opening_of c.args.unclosed) c.in-Ok-module.module (sections_sound c.args.standing.layout.sections.items) (returns-clause-module c)

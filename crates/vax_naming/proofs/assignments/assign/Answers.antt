@@ -11,8 +11,8 @@ use Rattle.vax_scope.specs.Scope.{assigned, entry}
 use Rattle.vax_naming.proofs.Ending.{part_fails, scope_left}
 use Rattle.vax_naming.proofs.assignments.assign.Goals as goal
 
-pub returns-in-Err-Fault : goal.returns-in-Err-Fault
-returns-in-Err-Fault c =
+pub returns-in-Err-Fault-clause-result : goal.returns-in-Err-Fault-clause-result
+returns-in-Err-Fault-clause-result c =
     let site = site_seen c.args.site in
     let name = c.args.name.now in
     let kind = c.in-Err-Fault.kind in
@@ -21,14 +21,14 @@ returns-in-Err-Fault c =
     let symbols = symbols_of site.line c.args.tokens.now in
     let is_told : told_of c.in_ok-told.told (scope_of c.tell.new.self.scope) ≡ told site.here symbols (entry name before.scope).scope =
     c.in_ok-told.ensures.told ∙ ap (told site.here symbols) c.in_ok-appear.ensures.scope in
-    let ends : Told → Standing → Result Standing FaultKind = λ t s. assigned_by site.origin c.args.global name t s (assigned name t.written t.scope) in
+    let ends : Told → Standing → Result Standing FaultKind = λ t s. assigned_by c.args.global name s (assigned name t.written t.scope) in
     let t = told site.here symbols (entry name before.scope).scope in
     let refused : Refused → Type 0 = λ e. Stands (Err e) after (ends (told_of c.in_ok-told.told (scope_of c.tell.new.self.scope)) (standing_of c.tell.new.self)) in
     let fails : ends t before ≡ Err kind =
-    sym (scope_left site.origin c.args.global name t (scope_of c.tell.new.self.scope) before (assigned name t.written t.scope))
+    sym (scope_left c.args.global name (scope_of c.tell.new.self.scope) before (assigned name t.written t.scope))
     ∙ ap (λ (x : Told). ends x (with_scope (scope_of c.tell.new.self.scope) before)) (sym is_told)
     ∙ ap (ends (told_of c.in_ok-told.told (scope_of c.tell.new.self.scope))) (sym c.in_ok-told.ensures.same)
-    ∙ subst refused c.in-Err-Fault.field-0-is c.in-Err-Fault.ensures in
+    ∙ subst refused c.in-Err-Fault.field-0-is c.in-Err-Fault.ensures.stands in
     let fault : c.fault_of-fault.result ≡ fault_of t.settled = c.fault_of-fault.ensures ∙ ap (λ (x : Told). fault_of x.settled) is_told in
     ap (λ (o : Option FaultKind). done_by o after) c.lowest.ensures
     ∙ part_fails c.fault_of-fault.result kind before after (ends t before) fails

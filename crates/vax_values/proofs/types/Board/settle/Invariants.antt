@@ -9,7 +9,6 @@ invariant-work l = record {
   sources : l.self.sources ≡ l.fn.self.sources;
   waiting : l.self.waiting ≡ l.fn.self.waiting;
   values : length l.self.values.items ≡ length l.fn.self.values.items;
-  order : l.self.order ≡ l.fn.self.order;
 }
 
 abbrev pub decreases-work : goal.decreases-work

@@ -1,0 +1,54 @@
+-- How a walk goes on behind a statement.
+use Rattle.std.proofs.Common.{◌≡◌, List, Option, Some, None, Result, refl, ap, ◌∙◌}
+use Rattle.vax_asm.specs.Placing.{Placed, Stands, FaultyLabel, Faulty, waiting_in, with_range}
+use Rattle.vax_asm.specs.PlacingView.{IsPlaced}
+use Rattle.vax_asm.specs.Walk.{Assembly, Next, behind, least, stopped}
+use Rattle.vax_asm.specs.declared.placing.Placed.TheVariants as code
+use Rattle.vax_fill.specs.declared.types.Fault.{Fault}
+use Rattle.vax_macro.specs.declared.error.FaultKind.{FaultKind}
+use Rattle.vax_macro.specs.declared.error.FaultKind.TheVariants as fault
+use Rattle.vax_naming.specs.Naming.{with_waiting}
+use Rattle.vax_pass.specs.Faults.{first_of}
+use Rattle.vax_pass.specs.Fixups.{Assignment}
+use Rattle.vax_pass.specs.Standing.{Standing}
+use Rattle.vax_pass.specs.declared.types.Origin.{Origin}
+
+abbrev kind_in : FaultKind → Placed → FaultKind
+kind_in other (Stands s waiting) = other
+kind_in other (FaultyLabel kind) = kind
+kind_in other (Faulty kind waiting) = kind
+
+abbrev standing_in : Standing → Placed → Standing
+standing_in other (Stands s waiting) = s
+standing_in other (FaultyLabel kind) = other
+standing_in other (Faulty kind waiting) = other
+
+pub behind_stands : (p : Placed) (origin : Origin) (a : Assembly) (met : Option Fault) (next : Next) (after : Standing) (more : List Assignment) → p ≡ Stands after (waiting_in p) → more ≡ with_waiting (waiting_in p) a.assignments
+    → behind p origin a met next ≡ next (record { standing = after; assignments = more }) met
+behind_stands (Stands s waiting) origin a met next after more e f = rw (f, ap (standing_in after) e) refl
+behind_stands (FaultyLabel kind) origin a met next after more e f = cc
+behind_stands (Faulty kind waiting) origin a met next after more e f = cc
+
+pub behind_faulty : (p : Placed) (origin : Origin) (a : Assembly) (met : Option Fault) (next : Next) (kind : FaultKind) (more : List Assignment) → p ≡ Faulty kind (waiting_in p) → more ≡ with_waiting (waiting_in p) a.assignments
+    → behind p origin a met next ≡ stopped more (least met origin kind)
+behind_faulty (Stands s waiting) origin a met next kind more e f = cc
+behind_faulty (FaultyLabel other) origin a met next kind more e f = cc
+behind_faulty (Faulty other waiting) origin a met next kind more e f = rw (f, ap (kind_in kind) e) refl
+
+pub behind_label : (p : Placed) (origin : Origin) (a : Assembly) (met : Option Fault) (next : Next) (kind : FaultKind) → p ≡ FaultyLabel kind → behind p origin a met next ≡ next a (Some (least met origin kind))
+behind_label p origin a met next kind e = rw e refl
+
+pub range_stands : (before after : Standing) (assignments more : List Assignment) (p : Placed) → IsPlaced code.Stands before after assignments more p → IsPlaced (code.Faulty fault.Range) before after assignments more (with_range p)
+range_stands before after assignments more (Stands s waiting) h = (refl, h.1)
+range_stands before after assignments more (FaultyLabel kind) h = cc
+range_stands before after assignments more (Faulty kind waiting) h = cc
+
+pub range_label : (before after : Standing) (assignments more : List Assignment) (kind : FaultKind) (p : Placed) → IsPlaced (code.FaultyLabel kind) before after assignments more p → IsPlaced (code.Faulty (first_of kind fault.Range)) before after assignments more (with_range p)
+range_label before after assignments more kind (Stands s waiting) h = cc
+range_label before after assignments more kind (FaultyLabel other) h = (ap (λ (k : FaultKind). Faulty (first_of k fault.Range) None) (ap (kind_in kind) h.0), h.2)
+range_label before after assignments more kind (Faulty other waiting) h = cc
+
+pub range_faulty : (before after : Standing) (assignments more : List Assignment) (kind : FaultKind) (p : Placed) → IsPlaced (code.Faulty kind) before after assignments more p → IsPlaced (code.Faulty (first_of kind fault.Range)) before after assignments more (with_range p)
+range_faulty before after assignments more kind (Stands s waiting) h = cc
+range_faulty before after assignments more kind (FaultyLabel other) h = cc
+range_faulty before after assignments more kind (Faulty other waiting) h = (ap (λ (k : FaultKind). Faulty (first_of k fault.Range) waiting) (ap (kind_in kind) h.0), h.1)

@@ -1,0 +1,5 @@
+pub mod Circles
+pub mod Heights
+pub mod Places
+pub mod View
+pub mod Walks
