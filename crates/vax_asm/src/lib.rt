@@ -7,8 +7,6 @@
 mod error;
 mod met;
 mod placing;
-#[cfg(test)]
-mod tests;
 mod tokens;
 mod walk;
 

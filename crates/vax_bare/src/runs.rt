@@ -13,7 +13,7 @@ use vax_outside::{Chan, Failed, Sink, put_all};
 use vax_undo::Port;
 
 /// How a run stopped: its ending, or none at the limit of steps; and the number of steps, of which the one that ended it is the last.
-#[derive(Clone, Copy, Debug, PartialEq, Eq)]
+#[derive(Clone, Copy, PartialEq, Eq)]
 pub struct Stopped {
     pub ending: Option<Ending>,
     pub steps: u64,

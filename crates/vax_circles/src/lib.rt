@@ -9,8 +9,6 @@ mod circles;
 mod heights;
 mod places;
 mod steps;
-#[cfg(test)]
-mod tests;
 mod walk;
 
 pub use circles::{comes_back, first_circle};

@@ -19,8 +19,6 @@ mod lines;
 mod requests;
 mod runs;
 mod stopped;
-#[cfg(test)]
-mod tests;
 
 use crate::lines::carry_out_all;
 use crate::stopped::Stopped;
@@ -29,7 +27,7 @@ use vax_outside::{PageFile, Sink};
 use vax_sched::Schedule;
 
 /// How a session ended.
-#[derive(Clone, Copy, Debug, PartialEq, Eq)]
+#[derive(Clone, Copy, PartialEq, Eq)]
 pub enum SessionEnd {
     /// Every line was carried out or refused.
     Read,

@@ -1,7 +1,7 @@
 //! Why a session ends before its script does.
 
 /// Why a line wasn't carried out.
-#[derive(Clone, Copy, Debug, PartialEq, Eq)]
+#[derive(Clone, Copy, PartialEq, Eq)]
 pub(crate) enum Stopped {
     /// The limit of turns was reached.
     Turns,

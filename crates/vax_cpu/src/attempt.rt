@@ -27,7 +27,7 @@ use vax_x_str::Scratch;
 use vax_x_sys::{deliver, flow_of, interrupt};
 
 /// What an attempt at a step, or at the delivery of an exception, came to.
-#[derive(Clone, Copy, Debug, PartialEq, Eq)]
+#[derive(Clone, Copy, PartialEq, Eq)]
 pub(crate) enum Tried {
     /// It was completed, and sent this byte.
     Step(Option<u8>),
@@ -439,7 +439,7 @@ pub(crate) fn try_once<P: Port>(
 }
 
 /// Steps that were completed with no byte sent, and what the attempt after them came to.
-#[derive(Clone, Copy, Debug, PartialEq, Eq)]
+#[derive(Clone, Copy, PartialEq, Eq)]
 pub(crate) struct Several {
     pub(crate) steps: u64,
     pub(crate) last: Tried,

@@ -13,7 +13,7 @@ use vax_word::Core;
 use vax_x_str::Scratch;
 
 /// A string instruction that is open between two of its parts: its opcode, the registers at its start, and how many of its units are done.
-#[derive(Clone, Copy, Debug, PartialEq, Eq)]
+#[derive(Clone, Copy, PartialEq, Eq)]
 pub struct Open {
     pub opcode: u8,
     pub start: Core,
@@ -21,7 +21,7 @@ pub struct Open {
 }
 
 /// What an attempt came to.
-#[derive(Clone, Copy, Debug, PartialEq, Eq)]
+#[derive(Clone, Copy, PartialEq, Eq)]
 pub enum Attempt {
     /// One whole instruction, or the delivery of its exception or of an interrupt, was completed; it sent this byte to the console.
     Step(Option<u8>),
@@ -35,7 +35,7 @@ pub enum Attempt {
 }
 
 /// What a batch of attempts came to: how many steps were completed with no byte sent, and what the attempt after them came to.
-#[derive(Clone, Copy, Debug, PartialEq, Eq)]
+#[derive(Clone, Copy, PartialEq, Eq)]
 pub struct Batch {
     pub steps: u64,
     pub last: Attempt,

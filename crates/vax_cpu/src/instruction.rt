@@ -98,7 +98,7 @@ fn act_if<P: Port>(
 /// The instruction at PC; of a string instruction its first part.
 #[inline(always)]
 #[tactic(auto, using(vax_undo::proofs::Left::behind), unfolding(vax_flat::specs::Instruction::first_part))]
-pub(crate) fn execute<P: Port>(
+pub fn execute<P: Port>(
     txn: &mut Txn<P>,
     other: &mut Result<Flow, CutShort>,
     scratch: &mut Scratch,

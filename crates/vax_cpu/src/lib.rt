@@ -3,13 +3,8 @@
 
 mod attempt;
 mod cpu;
-#[cfg(test)]
-mod exception_tests;
 mod instruction;
-#[cfg(test)]
-mod instruction_tests;
 mod interrupt;
-#[cfg(test)]
-mod tests;
 
 pub use crate::cpu::{Attempt, Batch, Cpu, Open};
+pub use crate::instruction::execute;

@@ -8,8 +8,6 @@
 
 mod boundary;
 mod items;
-#[cfg(test)]
-mod tests;
 mod texts;
 
 pub use boundary::{align, even, space};

@@ -20,7 +20,7 @@ use vax_statement::{Piece, pieces, text_of};
 use vax_word::Size;
 
 /// What a directive of text adds to its pieces.
-#[derive(Clone, Copy, Debug, PartialEq, Eq)]
+#[derive(Clone, Copy, PartialEq, Eq)]
 pub enum TextForm {
     /// `.ASCII`: nothing.
     Plain,

@@ -14,8 +14,6 @@ ghost use Rattle.vax_disasm.specs.Denoted.{Denotes, ReadsStatements};
 
 mod reading;
 mod specifier;
-#[cfg(test)]
-mod tests;
 mod text;
 
 use crate::reading::read_operand;
@@ -24,7 +22,7 @@ use arrayvec::ArrayString;
 use vax_isa::{OperandKind, by_code};
 
 /// An instruction: how many bytes it has, and its text.
-#[derive(Clone, Copy, Debug, PartialEq)]
+#[derive(Clone, Copy, PartialEq)]
 pub struct Decoded {
     pub length: u8,
     pub text: ArrayString<160>,

@@ -14,7 +14,7 @@ use vax_module::RelocKind;
 use vax_word::Size;
 
 /// What a field holds.
-#[derive(Clone, Copy, Debug, PartialEq, Eq)]
+#[derive(Clone, Copy, PartialEq, Eq)]
 pub struct Filled {
     /// The number; a displacement as a signed number of 32 bits. It is 0 where the linker fills the field in.
     pub number: u64,

@@ -7,8 +7,6 @@
 mod bytes;
 mod filling;
 mod operand;
-#[cfg(test)]
-mod tests;
 
 pub use bytes::{write_number, write_operand};
 pub use filling::{FieldFault, Filled, fill};

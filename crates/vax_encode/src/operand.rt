@@ -10,7 +10,7 @@ use vax_word::Size;
 
 /// A place in memory, by registers and without the value that a displacement or an address has. Registers are numbered
 /// from 0 to 15.
-#[derive(Clone, Copy, Debug, PartialEq, Eq)]
+#[derive(Clone, Copy, PartialEq, Eq)]
 pub enum Base {
     /// `(Rn)`.
     Deferred(u8),
@@ -33,7 +33,7 @@ pub enum Base {
 }
 
 /// An operand without its value.
-#[derive(Clone, Copy, Debug, PartialEq, Eq)]
+#[derive(Clone, Copy, PartialEq, Eq)]
 pub enum Operand {
     /// `S^#e`.
     Literal,
@@ -50,7 +50,7 @@ pub enum Operand {
 }
 
 /// What holds the value of an operand or of an item of data.
-#[derive(Clone, Copy, Debug, PartialEq, Eq)]
+#[derive(Clone, Copy, PartialEq, Eq)]
 pub enum Field {
     /// Six bits, a number from 0 to 63.
     Literal,

@@ -10,8 +10,6 @@ mod faults;
 mod fields;
 mod laying;
 mod modules;
-#[cfg(test)]
-mod tests;
 mod types;
 
 pub use faults::earlier;

@@ -38,14 +38,14 @@ impl From<NoMemory> for FillError {
 }
 
 /// What the linker fills in.
-#[derive(Clone, Copy, Debug, PartialEq, Eq)]
+#[derive(Clone, Copy, PartialEq, Eq)]
 pub(crate) struct Link {
     pub(crate) kind: RelocKind,
     pub(crate) target: Value,
 }
 
 /// What a field holds: a number, and what the linker fills in, if it does.
-#[derive(Clone, Copy, Debug, PartialEq, Eq)]
+#[derive(Clone, Copy, PartialEq, Eq)]
 pub(crate) struct Held {
     pub(crate) number: u64,
     pub(crate) link: Option<Link>,

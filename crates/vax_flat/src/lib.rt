@@ -21,7 +21,7 @@ pub use crate::string_laws::{
 use vax_space::Violation;
 
 /// What interrupts an instruction (VAX Architecture Reference Manual, exceptions and interrupts).
-#[derive(Clone, Copy, Debug, PartialEq, Eq)]
+#[derive(Clone, Copy, PartialEq, Eq)]
 pub enum Exception {
     /// A reserved or privileged instruction, vector 10 hexadecimal.
     Privileged,
@@ -40,7 +40,7 @@ pub enum Exception {
 }
 
 /// An arithmetic trap, which follows a completed instruction (VAX Architecture Reference Manual, arithmetic exceptions).
-#[derive(Clone, Copy, Debug, PartialEq, Eq)]
+#[derive(Clone, Copy, PartialEq, Eq)]
 pub enum Trap {
     /// The result doesn't fit, and integer overflow traps are enabled.
     IntegerOverflow,
@@ -68,7 +68,7 @@ impl Trap {
 }
 
 /// How a run ends.
-#[derive(Clone, Copy, Debug, PartialEq, Eq)]
+#[derive(Clone, Copy, PartialEq, Eq)]
 pub enum Ending {
     /// HALT in kernel mode.
     Halt,
@@ -84,7 +84,7 @@ pub enum Ending {
 
 /// The form of an operand specifier, as its first byte has it: the mode in bits 7:4, a register in bits 3:0
 /// (VAX Architecture Reference Manual, operand specifier addressing mode formats).
-#[derive(Clone, Copy, Debug, PartialEq, Eq)]
+#[derive(Clone, Copy, PartialEq, Eq)]
 pub enum Form {
     /// `S^#`: the six bits of a literal.
     Literal(u8),
@@ -107,7 +107,7 @@ pub enum Form {
 }
 
 /// Where an operand is, or what it is.
-#[derive(Clone, Copy, Debug, PartialEq, Eq)]
+#[derive(Clone, Copy, PartialEq, Eq)]
 pub enum Operand {
     /// The value of an operand that is read.
     Value(u64),
@@ -122,7 +122,7 @@ pub enum Operand {
 }
 
 /// What holds a field of bits (VAX Architecture Reference Manual, variable-length bit field data type).
-#[derive(Clone, Copy, Debug, PartialEq, Eq)]
+#[derive(Clone, Copy, PartialEq, Eq)]
 pub struct Holder {
     /// The bytes of memory in which the field lies, or the register, or that and the next.
     pub place: Operand,
@@ -133,14 +133,14 @@ pub struct Holder {
 }
 
 /// What is left of a string, and its address.
-#[derive(Clone, Copy, Debug, PartialEq, Eq)]
+#[derive(Clone, Copy, PartialEq, Eq)]
 pub struct Rest {
     pub len: u16,
     pub addr: u32,
 }
 
 /// How an instruction went.
-#[derive(Clone, Copy, Debug, PartialEq, Eq)]
+#[derive(Clone, Copy, PartialEq, Eq)]
 pub enum Flow {
     /// It was completed.
     Done,
@@ -155,7 +155,7 @@ pub enum Flow {
 }
 
 /// How the delivery of an exception, of a change of mode or of an interrupt went.
-#[derive(Clone, Copy, Debug, PartialEq, Eq)]
+#[derive(Clone, Copy, PartialEq, Eq)]
 pub enum Delivery {
     /// Control is at the handler.
     Entered,
@@ -164,7 +164,7 @@ pub enum Delivery {
 }
 
 /// Why a port can't use a range.
-#[derive(Clone, Copy, Debug, PartialEq, Eq)]
+#[derive(Clone, Copy, PartialEq, Eq)]
 pub enum Stop {
     /// The range is allowed, and this page is the lowest of it that is absent.
     NotResident(u32),
@@ -173,7 +173,7 @@ pub enum Stop {
 }
 
 /// What cuts an instruction short.
-#[derive(Clone, Copy, Debug, PartialEq, Eq)]
+#[derive(Clone, Copy, PartialEq, Eq)]
 pub enum Cut {
     /// This page is needed and absent.
     Absent(u32),

@@ -7,6 +7,3 @@ mod workload;
 
 pub use services::executive;
 pub use workload::generate;
-
-#[cfg(test)]
-mod tests;

@@ -19,9 +19,6 @@ use thiserror::Error;
 use vax_space::Area;
 pub use writing::{write, write2};
 
-#[cfg(test)]
-mod tests;
-
 /// The first four bytes aren't `VAXI`.
 pub const MAGIC: u8 = 1;
 /// The version is neither 1 nor 2.
@@ -49,7 +46,7 @@ pub const TEXT: u8 = 12;
 pub const NO_TEXT: u32 = 0xFFFF_FFFF;
 
 /// Where a program is linked to.
-#[derive(Clone, Copy, PartialEq, Eq, Debug)]
+#[derive(Clone, Copy, PartialEq, Eq)]
 pub enum Base {
     /// System space, pages 400000 to 4007FF (hexadecimal), to run in kernel mode.
     Bare,
@@ -96,7 +93,7 @@ impl Base {
 }
 
 /// A list of areas. Contracts see the list itself.
-#[derive(Debug, Drop)]
+#[derive(Drop)]
 pub struct Areas {
     items: Vec<Area>,
 }
@@ -128,7 +125,7 @@ impl Areas {
 }
 
 /// A linked program.
-#[derive(Debug, Drop)]
+#[derive(Drop)]
 pub struct Image {
     pub base: Base,
     /// The address at which it begins.

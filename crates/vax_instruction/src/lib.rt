@@ -6,7 +6,5 @@
 
 mod placing;
 mod statement;
-#[cfg(test)]
-mod tests;
 
 pub use statement::instruction;

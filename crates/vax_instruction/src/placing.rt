@@ -14,7 +14,7 @@ use vax_lex::{ExprError, Token, Value};
 use vax_statement::{Mode, Written, operand, sized};
 
 /// How an operand is addressed, and what is known of its expression where it stands; 0 where it has none.
-#[derive(Clone, Copy, Debug, PartialEq, Eq)]
+#[derive(Clone, Copy, PartialEq, Eq)]
 pub(crate) struct Addressed {
     pub(crate) mode: Mode,
     /// The register of its index, `[Rx]`.

@@ -4,7 +4,7 @@ ghost use Rattle.std.specs.Prelude.{◌≡◌};
 use vax_word::Size;
 
 /// The size of an integer that is at most a longword.
-#[derive(Clone, Copy, Debug, PartialEq, Eq)]
+#[derive(Clone, Copy, PartialEq, Eq)]
 pub enum Narrow {
     B,
     W,
@@ -27,7 +27,7 @@ impl From<Narrow> for Size {
 }
 
 /// What makes a result of one operand.
-#[derive(Clone, Copy, Debug, PartialEq, Eq)]
+#[derive(Clone, Copy, PartialEq, Eq)]
 pub enum Unary {
     /// MOV: the operand itself.
     Move,
@@ -42,7 +42,7 @@ pub enum Unary {
 }
 
 /// What makes a result of two operands.
-#[derive(Clone, Copy, Debug, PartialEq, Eq)]
+#[derive(Clone, Copy, PartialEq, Eq)]
 pub enum Binary {
     /// ADD, INC.
     Add,
@@ -65,7 +65,7 @@ pub enum Binary {
 }
 
 /// Moves, conversions, arithmetic, logic, shifts, and addresses.
-#[derive(Clone, Copy, Debug, PartialEq, Eq)]
+#[derive(Clone, Copy, PartialEq, Eq)]
 pub enum Integer {
     /// MOV, MCOM, MNEG, MOVZ, CVT: source, destination.
     Unary {
@@ -115,7 +115,7 @@ pub enum Integer {
 }
 
 /// What the condition codes must be for a branch.
-#[derive(Clone, Copy, Debug, PartialEq, Eq)]
+#[derive(Clone, Copy, PartialEq, Eq)]
 pub enum Condition {
     /// BRB, BRW.
     Always,
@@ -146,7 +146,7 @@ pub enum Condition {
 }
 
 /// How signed longwords compare for a loop to go on.
-#[derive(Clone, Copy, Debug, PartialEq, Eq)]
+#[derive(Clone, Copy, PartialEq, Eq)]
 pub enum Relation {
     /// AOBLSS.
     Less,
@@ -159,7 +159,7 @@ pub enum Relation {
 }
 
 /// Branches, jumps, loops, and calls of subroutines.
-#[derive(Clone, Copy, Debug, PartialEq, Eq)]
+#[derive(Clone, Copy, PartialEq, Eq)]
 pub enum Control {
     /// BRB, BRW, and the branches on the condition codes: displacement of this size.
     Branch { condition: Condition, size: Narrow },
@@ -184,7 +184,7 @@ pub enum Control {
 }
 
 /// The access modes, from the most privileged on (VAX Architecture Reference Manual, process structure).
-#[derive(Clone, Copy, Debug, PartialEq, Eq)]
+#[derive(Clone, Copy, PartialEq, Eq)]
 pub enum AccessMode {
     Kernel,
     Executive,
@@ -210,7 +210,7 @@ impl AccessMode {
 }
 
 /// Fields of bits.
-#[derive(Clone, Copy, Debug, PartialEq, Eq)]
+#[derive(Clone, Copy, PartialEq, Eq)]
 pub enum Field {
     /// EXTV, EXTZV: position, size, base, destination.
     Extract { signed: bool },
@@ -226,7 +226,7 @@ pub enum Field {
 }
 
 /// Calls of procedures, and the registers that they save.
-#[derive(Clone, Copy, Debug, PartialEq, Eq)]
+#[derive(Clone, Copy, PartialEq, Eq)]
 pub enum Call {
     /// CALLG: argument list, procedure.
     WithList,
@@ -241,7 +241,7 @@ pub enum Call {
 }
 
 /// Queues, and the aligned sum.
-#[derive(Clone, Copy, Debug, PartialEq, Eq)]
+#[derive(Clone, Copy, PartialEq, Eq)]
 pub enum Queue {
     /// INSQUE: entry, predecessor.
     Insert,
@@ -252,7 +252,7 @@ pub enum Queue {
 }
 
 /// Access modes, exceptions, and the registers of the processor.
-#[derive(Clone, Copy, Debug, PartialEq, Eq)]
+#[derive(Clone, Copy, PartialEq, Eq)]
 pub enum System {
     /// HALT.
     Halt,
@@ -281,7 +281,7 @@ pub enum System {
 }
 
 /// Strings of characters.
-#[derive(Clone, Copy, Debug, PartialEq, Eq)]
+#[derive(Clone, Copy, PartialEq, Eq)]
 pub enum Text {
     /// MOVC3: length, source, destination.
     Move,
@@ -308,7 +308,7 @@ pub enum Text {
 }
 
 /// What an instruction does with its operands.
-#[derive(Clone, Copy, Debug, PartialEq, Eq)]
+#[derive(Clone, Copy, PartialEq, Eq)]
 pub enum Action {
     Integer(Integer),
     Control(Control),

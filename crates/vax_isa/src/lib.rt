@@ -9,8 +9,6 @@ ghost use Rattle.vax_isa.specs.Rows.{action_of, plain, row_of, with_opcode, with
 
 mod actions;
 mod table;
-#[cfg(test)]
-mod tests;
 
 pub use crate::actions::{
     AccessMode, Action, Binary, Call, Condition, Control, Field, Integer, Narrow, Queue, Relation,
@@ -18,7 +16,7 @@ pub use crate::actions::{
 };
 
 /// What an instruction does with an operand (VAX MACRO and Instruction Set Reference Manual, operand specifier notation).
-#[derive(Clone, Copy, Debug, PartialEq, Eq)]
+#[derive(Clone, Copy, PartialEq, Eq)]
 pub enum Letter {
     /// `r`: its value is read.
     Read,
@@ -35,7 +33,7 @@ pub enum Letter {
 }
 
 /// The kind of an operand: what is done with it, and its width of 1, 2, 4 or 8 bytes. A field's width is 1.
-#[derive(Clone, Copy, Debug, PartialEq, Eq)]
+#[derive(Clone, Copy, PartialEq, Eq)]
 pub struct OperandKind {
     pub letter: Letter,
     pub width: u8,
@@ -43,7 +41,7 @@ pub struct OperandKind {
 
 /// An instruction: its opcode, its name, and its operands, of which there are `count`. What stands in `operands` from there
 /// on is a `Read` of width 0 (VAX MACRO and Instruction Set Reference Manual, instruction summary).
-#[derive(Clone, Copy, Debug, PartialEq)]
+#[derive(Clone, Copy, PartialEq)]
 pub struct Row {
     pub code: u8,
     pub name: &'static str,

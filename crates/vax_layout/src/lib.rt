@@ -3,8 +3,6 @@
 #![tactic(auto)]
 
 mod layout;
-#[cfg(test)]
-mod tests;
 mod types;
 
 pub use types::{Attributes, Building, Layout, Piece, Refusal};

@@ -15,7 +15,7 @@ pub enum Piece<F> {
 }
 
 /// What a `.PSECT` says: the power of two to align to, and whether the section may be written.
-#[derive(Clone, Copy, Debug, PartialEq, Eq)]
+#[derive(Clone, Copy, PartialEq, Eq)]
 pub struct Attributes {
     pub align: Option<u8>,
     pub write: Option<bool>,

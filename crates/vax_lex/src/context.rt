@@ -9,7 +9,7 @@ use crate::character::{is_delimiter, spells};
 use crate::token::TokenKind;
 
 /// What an operator is to the scanner.
-#[derive(Clone, Copy, Debug, PartialEq, Eq)]
+#[derive(Clone, Copy, PartialEq, Eq)]
 pub(crate) enum Operator {
     /// `.ASCII`, `.ASCIC` or `.ASCIZ`, whose operands are pieces of text.
     Text,
@@ -20,7 +20,7 @@ pub(crate) enum Operator {
 }
 
 /// The part of a statement that is due.
-#[derive(Clone, Copy, Debug, PartialEq, Eq)]
+#[derive(Clone, Copy, PartialEq, Eq)]
 pub(crate) enum Place {
     /// The statement itself: its label or its operator.
     Statement,
@@ -52,7 +52,7 @@ pub(crate) enum Place {
 }
 
 /// What stands right before a place of the line, as far as it matters there.
-#[derive(Clone, Copy, Debug, PartialEq, Eq)]
+#[derive(Clone, Copy, PartialEq, Eq)]
 pub(crate) enum Before {
     /// Nothing of this.
     Other,
@@ -67,7 +67,7 @@ pub(crate) enum Before {
 }
 
 /// Where in its statement a place of the line is, and what stands before it.
-#[derive(Clone, Copy, Debug, PartialEq, Eq)]
+#[derive(Clone, Copy, PartialEq, Eq)]
 pub(crate) struct Context {
     pub(crate) place: Place,
     pub(crate) before: Before,

@@ -23,7 +23,7 @@ pub(crate) fn stray_kind(byte: u8) -> TokenKind
 }
 
 /// What stands at the head of what is left of a line.
-#[derive(Clone, Copy, Debug, PartialEq, Eq)]
+#[derive(Clone, Copy, PartialEq, Eq)]
 pub(crate) enum Head {
     /// A blank.
     Blank,

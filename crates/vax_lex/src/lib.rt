@@ -13,8 +13,6 @@ mod expression;
 mod head;
 mod line;
 mod name;
-#[cfg(test)]
-mod tests;
 mod token;
 mod value;
 mod words;

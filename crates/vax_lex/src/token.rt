@@ -1,7 +1,7 @@
 // What a line is cut into.
 
 /// What a token is.
-#[derive(Clone, Copy, Debug, PartialEq, Eq)]
+#[derive(Clone, Copy, PartialEq, Eq)]
 pub enum TokenKind {
     /// A name of 1 to 31 letters, digits, `_`, `$` and `.`, or a local label such as `10$`.
     Name,
@@ -14,7 +14,7 @@ pub enum TokenKind {
 }
 
 /// A token, and the bytes of the line that it takes: from `start` up to `end`, which is past its last.
-#[derive(Clone, Copy, Debug, PartialEq, Eq)]
+#[derive(Clone, Copy, PartialEq, Eq)]
 pub struct Token {
     pub kind: TokenKind,
     pub start: u32,
@@ -22,7 +22,7 @@ pub struct Token {
 }
 
 /// What a piece of a line is.
-#[derive(Clone, Copy, Debug, PartialEq, Eq)]
+#[derive(Clone, Copy, PartialEq, Eq)]
 pub enum PieceKind {
     Token(TokenKind),
     /// A number above 64 bits.
@@ -32,7 +32,7 @@ pub enum PieceKind {
 }
 
 /// A piece of a line, and the bytes that it takes: from `start` up to `end`, which is past its last.
-#[derive(Clone, Copy, Debug, PartialEq, Eq)]
+#[derive(Clone, Copy, PartialEq, Eq)]
 pub struct Piece {
     pub kind: PieceKind,
     pub start: u32,
@@ -40,7 +40,7 @@ pub struct Piece {
 }
 
 /// Some bytes of a text: from `start` up to `end`, which is past the last.
-#[derive(Clone, Copy, Debug, PartialEq, Eq)]
+#[derive(Clone, Copy, PartialEq, Eq)]
 pub struct Span {
     pub start: u32,
     pub end: u32,

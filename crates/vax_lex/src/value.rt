@@ -8,7 +8,7 @@ ghost use Rattle.vax_lex.specs.declared.value.Value.{Value};
 use crate::character::is_word;
 
 /// The value of an expression or a name. Offsets and absolute values are 64-bit and wrap.
-#[derive(Clone, Copy, Debug, PartialEq, Eq)]
+#[derive(Clone, Copy, PartialEq, Eq)]
 pub enum Value {
     /// A number.
     Absolute(i64),
@@ -47,7 +47,7 @@ pub trait Names {
 pub(crate) type Outcome = Result<Value, ExprError>;
 
 /// The operators that stand between two terms.
-#[derive(Clone, Copy, Debug, PartialEq, Eq)]
+#[derive(Clone, Copy, PartialEq, Eq)]
 pub(crate) enum Binary {
     Add,
     Subtract,

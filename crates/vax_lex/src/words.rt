@@ -14,7 +14,7 @@ use crate::token::{Span, TokenKind};
 use std::alloc::{AllocError, Global};
 
 /// A word of a text: its length, whether it is a name, and the context behind it.
-#[derive(Clone, Copy, Debug)]
+#[derive(Clone, Copy)]
 pub(crate) struct Word {
     pub(crate) length: usize,
     pub(crate) is_name: bool,

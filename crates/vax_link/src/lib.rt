@@ -19,9 +19,6 @@ use std::alloc::{AllocError, AllocFailed};
 use thiserror::Error;
 use vax_space::Bytes;
 
-#[cfg(test)]
-mod tests;
-
 /// Why modules have no image. Of several causes the first in this order is told.
 #[derive(Debug, Drop, Error)]
 pub enum LinkError {

@@ -10,9 +10,6 @@ ghost use Rattle.vax_disasm.specs.Listed.{listed};
 ghost use Rattle.vax_listing.specs.Listing.{area_lines, length_of, line, listing, text_of};
 ghost use Rattle.vax_listing.specs.Writing.{IsBetween};
 
-#[cfg(test)]
-mod tests;
-
 use arrayvec::ArrayVec;
 use vax_disasm::decode;
 use vax_outside::{Chan, Failed, Sink, Text, put_all};

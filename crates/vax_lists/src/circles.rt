@@ -7,7 +7,7 @@ use std::marker::Model;
 use vax_space::NoMemory;
 
 /// For each frame and for the end of each list, the one after it and the one before it.
-#[derive(Debug, Drop)]
+#[derive(Drop)]
 struct Links {
     next: Vec<u16>,
     before: Vec<u16>,
@@ -51,7 +51,7 @@ impl Links {
 
 /// Frames below a limit in two lists, each frame once and in one of them. Only `new` takes memory, 4 bytes a frame, and
 /// only `is_among_last` looks at more than two of them.
-#[derive(Debug, Drop)]
+#[derive(Drop)]
 pub(crate) struct Circles {
     /// Two circles, through `limit` and through `limit + 1`.
     links: Links,

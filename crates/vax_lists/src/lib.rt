@@ -3,7 +3,5 @@
 
 mod circles;
 mod lists;
-#[cfg(test)]
-mod tests;
 
 pub use crate::lists::{Lists, Placed};

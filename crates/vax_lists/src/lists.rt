@@ -11,7 +11,7 @@ use vax_outside::{Failed, PageFile};
 use vax_space::NoMemory;
 
 /// A page, and the frame that it is in.
-#[derive(Clone, Copy, PartialEq, Eq, Debug)]
+#[derive(Clone, Copy, PartialEq, Eq)]
 pub struct Placed {
     pub page: u32,
     pub frame: u32,
@@ -20,7 +20,7 @@ pub struct Placed {
 /// The resident pages in order of service, the pages whose frames are kept after they were evicted in order of eviction,
 /// and the pages that are modified in order of their first write. A page has one frame in all of them. Each call names a
 /// page with its frame, so that nothing is searched. Only `new` takes memory, 12 bytes a frame.
-#[derive(Debug, Drop)]
+#[derive(Drop)]
 pub struct Lists {
     /// The frames of the resident pages, and those of the kept pages.
     held: Circles,

@@ -2,7 +2,7 @@
 use vax_flat::Ending;
 
 /// What may happen to a machine.
-#[derive(Clone, Copy, Debug, PartialEq, Eq)]
+#[derive(Clone, Copy, PartialEq, Eq)]
 pub enum Event {
     /// The processor makes one attempt at a step, or at the next part of the string instruction that is open.
     Attempt,
@@ -15,7 +15,7 @@ pub enum Event {
 }
 
 /// What an event came to.
-#[derive(Clone, Copy, Debug, PartialEq, Eq)]
+#[derive(Clone, Copy, PartialEq, Eq)]
 pub enum Applied {
     /// A step was completed; it sent this byte to the console.
     Stepped(Option<u8>),
@@ -38,7 +38,7 @@ pub enum Applied {
 }
 
 /// How far a run may go: up to so many steps and so many attempts in all; and whether it lists its evictions.
-#[derive(Clone, Copy, Debug, PartialEq, Eq)]
+#[derive(Clone, Copy, PartialEq, Eq)]
 pub struct Limits {
     pub steps: u64,
     pub turns: u64,
@@ -47,7 +47,7 @@ pub struct Limits {
 }
 
 /// Why turns of a run were cut short.
-#[derive(Clone, Copy, Debug, PartialEq, Eq)]
+#[derive(Clone, Copy, PartialEq, Eq)]
 pub(crate) enum Fault {
     /// A call of the page file failed.
     Page,
@@ -56,7 +56,7 @@ pub(crate) enum Fault {
 }
 
 /// How a run stopped.
-#[derive(Clone, Copy, Debug, PartialEq, Eq)]
+#[derive(Clone, Copy, PartialEq, Eq)]
 pub enum RunEnd {
     /// A step ended it.
     Ended(Ending),

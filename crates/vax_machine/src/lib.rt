@@ -8,8 +8,6 @@ mod held;
 mod laws;
 mod machine;
 mod run;
-#[cfg(test)]
-mod tests;
 
 pub use crate::event::{Applied, Event, Limits, RunEnd};
 pub use crate::laws::{

@@ -45,7 +45,7 @@ impl Keywords for AnyName {
 }
 
 /// An argument: the keyword before it, if there is one, and its text, if it has one.
-#[derive(Debug, Drop)]
+#[derive(Drop)]
 pub(crate) struct Argument {
     pub(crate) keyword: Option<Vec<u8>>,
     pub(crate) text: Option<Vec<u8>>,

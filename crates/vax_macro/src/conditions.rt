@@ -21,7 +21,7 @@ use vax_lex::{
 };
 
 /// How a number is compared with 0.
-#[derive(Clone, Copy, Debug, PartialEq, Eq)]
+#[derive(Clone, Copy, PartialEq, Eq)]
 pub(crate) enum Comparison {
     Equal,
     NotEqual,
@@ -32,7 +32,7 @@ pub(crate) enum Comparison {
 }
 
 /// What a condition is on.
-#[derive(Clone, Copy, Debug, PartialEq, Eq)]
+#[derive(Clone, Copy, PartialEq, Eq)]
 pub(crate) enum Condition {
     Compares(Comparison),
     /// A name that is defined, or not.
@@ -44,14 +44,14 @@ pub(crate) enum Condition {
 }
 
 /// Whether a condition holds, and where the statement behind it begins.
-#[derive(Clone, Copy, Debug)]
+#[derive(Clone, Copy)]
 pub(crate) struct Guarded {
     pub(crate) holds: bool,
     pub(crate) statement: usize,
 }
 
 /// Why there is no answer: the line has a fault, or memory was refused.
-#[derive(Clone, Copy, Debug)]
+#[derive(Clone, Copy)]
 pub(crate) enum Refusal {
     Fault(FaultKind),
     NoMemory,

@@ -14,7 +14,7 @@ use vax_lex::{Names, pieces};
 
 /// A statement: the number of its line in the source, or of the outermost call, and its text of at most 1,024 bytes,
 /// continuations joined.
-#[derive(Debug, Drop)]
+#[derive(Drop)]
 pub struct Line {
     pub number: u32,
     pub text: Vec<u8>,

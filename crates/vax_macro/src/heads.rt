@@ -10,7 +10,7 @@ use crate::names::part;
 use vax_lex::{Piece, PieceKind, TokenKind, spells};
 
 /// A directive of the expander.
-#[derive(Clone, Copy, Debug, PartialEq, Eq)]
+#[derive(Clone, Copy, PartialEq, Eq)]
 pub(crate) enum Word {
     Macro,
     EndMacro,
@@ -30,7 +30,7 @@ pub(crate) enum Word {
 
 /// What the expander sees of a line: where its label ends (0 for none), its operator, and where among the pieces the
 /// operands begin.
-#[derive(Clone, Copy, Debug)]
+#[derive(Clone, Copy)]
 pub(crate) struct Head {
     pub(crate) label_end: usize,
     pub(crate) operator: Option<Piece>,

@@ -20,8 +20,6 @@ mod state;
 mod state_types;
 mod template_types;
 mod templates;
-#[cfg(test)]
-mod tests;
 
 pub use error::{FaultKind, MacroError, NoMemory};
 pub use expander::{Expander, Line};

@@ -39,7 +39,7 @@ pub(crate) struct Reading {
 }
 
 /// What comes of a line put behind others.
-#[derive(Clone, Copy, Debug)]
+#[derive(Clone, Copy)]
 pub(crate) enum Joined {
     Whole,
     /// It is continued.

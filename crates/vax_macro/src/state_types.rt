@@ -9,7 +9,7 @@ use std::collections::{BTreeMap, VecDeque};
 use std::rc::Rc;
 
 /// Where a condition, a macro or a repeat begins: the number of its line, and how many lines were read with it.
-#[derive(Clone, Copy, Debug, PartialEq, Eq)]
+#[derive(Clone, Copy, PartialEq, Eq)]
 pub struct Begin {
     pub number: u32,
     pub place: u32,
@@ -42,7 +42,7 @@ pub(crate) struct Pending {
 }
 
 /// An open condition: whether the text around it is read, whether it holds, and whether the text here would be read.
-#[derive(Clone, Copy, Debug)]
+#[derive(Clone, Copy)]
 pub(crate) struct OpenCondition {
     pub(crate) begin: Begin,
     pub(crate) outer: bool,
@@ -62,7 +62,7 @@ pub(crate) struct State {
 }
 
 /// What a line did.
-#[derive(Clone, Copy, Debug)]
+#[derive(Clone, Copy)]
 pub(crate) enum Done {
     /// It changed what is left to open.
     Goes,

@@ -18,7 +18,7 @@ pub(crate) struct Formals {
 }
 
 /// A formal argument's name in a line, and which formal argument it is.
-#[derive(Clone, Copy, Debug)]
+#[derive(Clone, Copy)]
 pub(crate) struct Slot {
     pub(crate) start: u32,
     pub(crate) end: u32,

@@ -4,7 +4,7 @@ ghost use Rattle.std.specs.Prelude.{◌≡◌};
 use std::marker::Model;
 
 /// A list. Contracts see the list itself.
-#[derive(Debug, Drop)]
+#[derive(Drop)]
 pub struct Items<T> {
     items: Vec<T>,
 }

@@ -7,15 +7,13 @@ ghost use Rattle.std.specs.Prelude.{◌≡◌};
 ghost use Rattle.vax_module.specs.Formed.{width_of};
 
 mod items;
-#[cfg(test)]
-mod tests;
 
 pub use crate::items::Items;
 pub use vax_lex::Value;
 pub use vax_space::Bytes;
 
 /// A part of a module that is laid out as one run of bytes.
-#[derive(Debug, Drop)]
+#[derive(Drop)]
 pub struct Section {
     /// Its name in capitals. The section with the empty name stands first in a module.
     pub name: Bytes,
@@ -28,7 +26,7 @@ pub struct Section {
 }
 
 /// A name and what it stands for.
-#[derive(Debug, Drop)]
+#[derive(Drop)]
 pub struct Symbol {
     /// The name in capitals.
     pub name: Bytes,
@@ -36,7 +34,7 @@ pub struct Symbol {
 }
 
 /// A field that the linker fills in, by its width and by what it holds.
-#[derive(Clone, Copy, Debug, PartialEq, Eq)]
+#[derive(Clone, Copy, PartialEq, Eq)]
 pub enum RelocKind {
     /// A signed byte with the target's value: a displacement from a register.
     Byte,
@@ -66,7 +64,7 @@ impl RelocKind {
 }
 
 /// A field of a section that the linker fills in.
-#[derive(Clone, Copy, Debug, PartialEq, Eq)]
+#[derive(Clone, Copy, PartialEq, Eq)]
 pub struct Reloc {
     /// The number of its section in the module's list.
     pub section: u32,
@@ -77,7 +75,7 @@ pub struct Reloc {
 }
 
 /// An assembled source. A section's number is its place in `sections`, an external's index its place in `externals`.
-#[derive(Debug, Drop)]
+#[derive(Drop)]
 pub struct Module {
     /// The section with the empty name, and the others in the order in which their names first appear.
     pub sections: Items<Section>,

@@ -7,8 +7,6 @@
 #![tactic(auto)]
 
 mod table;
-#[cfg(test)]
-mod tests;
 mod types;
 
 pub use types::{DefinedBy, Duplicate, LabelError, Local, Name, NameTable};

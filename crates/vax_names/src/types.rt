@@ -8,7 +8,7 @@ use std::collections::BTreeMap;
 use thiserror::Error;
 
 /// What has defined a name so far.
-#[derive(Clone, Copy, Debug, PartialEq, Eq)]
+#[derive(Clone, Copy, PartialEq, Eq)]
 pub enum DefinedBy {
     Nothing,
     Label,
@@ -16,7 +16,7 @@ pub enum DefinedBy {
 }
 
 /// A name that appeared.
-#[derive(Debug, Drop)]
+#[derive(Drop)]
 pub struct Name {
     /// In capitals.
     pub text: Vec<u8>,
@@ -28,7 +28,7 @@ pub struct Name {
 }
 
 /// A local label of the block.
-#[derive(Clone, Copy, Debug, PartialEq, Eq)]
+#[derive(Clone, Copy, PartialEq, Eq)]
 pub struct Local {
     /// The number of its definition.
     pub definition: usize,

@@ -10,8 +10,6 @@ mod entries;
 mod labels;
 mod operands;
 mod sections;
-#[cfg(test)]
-mod tests;
 
 pub use assignments::assignment;
 pub use entries::{end, entry, names};

@@ -9,8 +9,6 @@ mod access;
 mod memory;
 mod results;
 mod specifier;
-#[cfg(test)]
-mod tests;
 
 pub use crate::access::{next_address, next_modified, next_place, next_target, next_value, store};
 pub use crate::memory::{check, fetch, is_allowed, read, read_in, write, write_in};

@@ -4,7 +4,7 @@ ghost use Rattle.std.specs.List.{list_any};
 ghost use Rattle.vax_outside.specs.Fails.{names_read, names_write};
 
 /// A call that is to fail, by its number from 1.
-#[derive(Clone, Copy, Debug, PartialEq, Eq)]
+#[derive(Clone, Copy, PartialEq, Eq)]
 pub enum Fail {
     /// Among all calls of the object.
     Call(u64),

@@ -8,13 +8,9 @@
 mod fails;
 mod faults;
 mod host;
-#[cfg(test)]
-mod host_tests;
 mod mem_files;
 mod mem_pages;
 mod mem_sink;
-#[cfg(test)]
-mod mem_tests;
 mod put;
 mod text;
 mod traits;

@@ -8,7 +8,7 @@ ghost use Rattle.vax_outside.specs.Faults.{Rose};
 use std::alloc::Global;
 
 /// Why a file gave no bytes.
-#[derive(Clone, Copy, Debug, PartialEq, Eq)]
+#[derive(Clone, Copy, PartialEq, Eq)]
 pub enum FilesFault {
     /// There is no file of this name.
     Missing,
@@ -21,7 +21,7 @@ pub enum FilesFault {
 }
 
 /// A call to the outside failed.
-#[derive(Clone, Copy, Debug, PartialEq, Eq)]
+#[derive(Clone, Copy, PartialEq, Eq)]
 pub struct Failed;
 
 /// Files by name.
@@ -43,7 +43,7 @@ pub trait Files {
 }
 
 /// The output channels: the guest's output, the report, and the record of evicted pages.
-#[derive(Clone, Copy, Debug, PartialEq, Eq)]
+#[derive(Clone, Copy, PartialEq, Eq)]
 pub enum Chan {
     Out,
     Report,

@@ -9,7 +9,7 @@ use vax_outside::PageFile;
 use vax_space::{PAGE_BYTES, PAGES};
 
 /// A call of the page file failed.
-#[derive(Clone, Copy, Debug, PartialEq, Eq)]
+#[derive(Clone, Copy, PartialEq, Eq)]
 pub struct PageFault;
 
 impl Store {

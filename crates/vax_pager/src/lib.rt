@@ -10,8 +10,6 @@ mod pager;
 mod poke;
 mod port;
 mod store;
-#[cfg(test)]
-mod tests;
 
 pub use crate::calls::PageFault;
 pub use crate::pager::{Counts, Pager};

@@ -8,7 +8,7 @@ use std::marker::Model;
 use vax_space::{NoMemory, PAGES};
 
 /// For each number below `PAGES` whether it is marked. Takes a bit for each, 8,704 bytes.
-#[derive(Debug, Drop)]
+#[derive(Drop)]
 pub(crate) struct Marks {
     words: Vec<u64>,
 }

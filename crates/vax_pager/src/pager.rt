@@ -12,7 +12,7 @@ use vax_space::{Access, NoMemory, Space};
 
 /// How many pages came in, were made absent (those whose frame was taken among them), and were written to their blocks.
 /// Each count stands still at its last value.
-#[derive(Clone, Copy, PartialEq, Eq, Debug)]
+#[derive(Clone, Copy, PartialEq, Eq)]
 pub struct Counts {
     pub served: u64,
     pub evicted: u64,
@@ -24,7 +24,7 @@ pub struct Counts {
 ///
 /// It stands, with a page file, for the memory of which each page's bytes are those in its frame, where it is resident,
 /// else those in its block, where one was written in this run, else those at the start. Only `new` takes memory.
-#[derive(Debug, Drop)]
+#[derive(Drop)]
 pub struct Pager {
     pub(crate) store: Store,
     ghost sound: { IsSound 0 store },

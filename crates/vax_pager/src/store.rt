@@ -41,7 +41,7 @@ fn zeros(alloc: Global, count: u32) -> Result<Vec<[u8; 512]>, NoMemory>
 }
 
 /// The parts of a pager.
-#[derive(Debug, Drop)]
+#[derive(Drop)]
 pub(crate) struct Store {
     pub(crate) space: Space,
     pub(crate) tables: Tables,

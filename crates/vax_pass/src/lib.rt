@@ -9,8 +9,6 @@ mod circles;
 mod faults;
 mod site;
 mod standing;
-#[cfg(test)]
-mod tests;
 mod types;
 
 pub use circles::first_circle;

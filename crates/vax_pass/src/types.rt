@@ -14,7 +14,7 @@ use vax_values::Expression;
 use vax_word::Size;
 
 /// What a value is filled into.
-#[derive(Clone, Copy, Debug, PartialEq, Eq)]
+#[derive(Clone, Copy, PartialEq, Eq)]
 pub enum Content {
     /// An item of data of this size, so many times.
     Data { size: Size, count: u32 },
@@ -32,7 +32,7 @@ pub enum Filling {
 }
 
 /// The statement that something comes from: the number of its line, and how many lines were read up to it.
-#[derive(Clone, Copy, Debug, PartialEq, Eq)]
+#[derive(Debug, Clone, Copy, PartialEq, Eq)]
 pub struct Origin {
     pub line: u32,
     pub place: u32,
@@ -62,7 +62,7 @@ pub struct Assignment {
 }
 
 /// The name at which the program begins, in capitals, and the number of the definition that it means where it stands.
-#[derive(Debug, Drop)]
+#[derive(Drop)]
 pub struct Transfer {
     pub name: Vec<u8>,
     pub definition: usize,

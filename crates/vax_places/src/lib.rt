@@ -15,9 +15,6 @@ ghost use Rattle.vax_pass.specs.declared.types.Origin.{Origin};
 ghost use Rattle.vax_places.specs.Counted.{AreCounted, Keeps, section_at};
 ghost use Rattle.vax_places.specs.Leading.{IsStated, Leads, LiesBehind, Line};
 
-#[cfg(test)]
-mod tests;
-
 /// A statement adds parts to sections one behind another, and counts their bytes: before it and behind it each section's size is the number
 /// of bytes of its parts, and each part that is filled in later knows where it begins. What was there before stays.
 pub fn statements_are_counted()

@@ -6,8 +6,6 @@
 
 mod linking;
 mod parts;
-#[cfg(test)]
-mod tests;
 mod types;
 
 pub use linking::link_parts;

@@ -7,8 +7,6 @@
 ghost use Rattle.std.specs.Prelude.{◌≡◌};
 
 mod lines;
-#[cfg(test)]
-mod tests;
 mod write;
 
 pub use lines::{push_ending, push_memory, push_register};
@@ -17,7 +15,7 @@ use vax_flat::Ending;
 pub use write::write_report;
 
 /// Why a run stopped.
-#[derive(Clone, Copy, Debug, PartialEq, Eq)]
+#[derive(Clone, Copy, PartialEq, Eq)]
 pub enum Last {
     /// The machine ended.
     Ending(Ending),
@@ -30,7 +28,7 @@ pub enum Last {
 }
 
 /// Bytes of memory, None where no area has the byte. Contracts see the list itself.
-#[derive(Debug, Drop)]
+#[derive(Drop)]
 pub struct DumpBytes {
     items: Vec<Option<u8>>,
 }
@@ -61,7 +59,7 @@ impl DumpBytes {
 }
 
 /// Memory that the report shows: the bytes from an address on.
-#[derive(Debug, Drop)]
+#[derive(Drop)]
 pub struct Dump {
     pub addr: u32,
     pub bytes: DumpBytes,

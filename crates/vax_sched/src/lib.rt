@@ -11,8 +11,6 @@ mod print;
 mod reader;
 mod rule;
 mod schedule;
-#[cfg(test)]
-mod tests;
 mod words;
 
 pub use print::push_at;

@@ -17,7 +17,7 @@ const MOST_TURNS: u64 = 1_000_000_000_000_000;
 const MOST_EACH: u64 = 1_000_000_000;
 
 /// What a line says.
-#[derive(Clone, Copy, Debug)]
+#[derive(Clone, Copy)]
 pub(crate) enum Line {
     Silent,
     Rule(Rule),

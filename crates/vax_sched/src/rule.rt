@@ -1,7 +1,7 @@
 //! What a line of a schedule says.
 
 /// What is made absent.
-#[derive(Clone, Copy, PartialEq, Eq, Debug)]
+#[derive(Clone, Copy, PartialEq, Eq)]
 pub enum Target {
     /// The page with this number: an address shifted right by 9.
     Page(u32),
@@ -10,7 +10,7 @@ pub enum Target {
 }
 
 /// `at T PAGE`: a page is made absent before the attempt of one turn.
-#[derive(Clone, Copy, Debug)]
+#[derive(Clone, Copy)]
 pub struct Fixed {
     /// The turn, from 1 to 10^15.
     pub turn: u64,
@@ -19,7 +19,7 @@ pub struct Fixed {
 }
 
 /// `each N PAGE` or `each N all`: the same before each turn that a number divides.
-#[derive(Clone, Copy, Debug)]
+#[derive(Clone, Copy)]
 pub struct Repeated {
     /// The number, from 1 to 10^9.
     pub turns: u64,
@@ -28,7 +28,7 @@ pub struct Repeated {
 }
 
 /// A line of a schedule.
-#[derive(Clone, Copy, Debug)]
+#[derive(Clone, Copy)]
 pub enum Rule {
     At(Fixed),
     Each(Repeated),

@@ -18,7 +18,7 @@ use std::marker::Model;
 use vax_space::{NoMemory, Space};
 
 /// A schedule. Contracts see the list of its lines.
-#[derive(Debug, Drop)]
+#[derive(Drop)]
 pub struct Schedule {
     rules: Vec<Rule>,
     /// The `at` lines, whose turns ascend.

@@ -9,8 +9,6 @@ mod known;
 mod place;
 mod scope;
 mod tables;
-#[cfg(test)]
-mod tests;
 
 pub use known::KnownNames;
 pub use place::uses_place;

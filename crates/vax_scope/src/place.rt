@@ -13,7 +13,7 @@ ghost use Rattle.vax_scope.specs.Used.{behind, behind_mark, behind_name, used_by
 use vax_lex::{CanonicalName, Token, TokenKind};
 
 /// Where a token stands: where a name is a term, behind `^`, or in a register mask.
-#[derive(Clone, Copy, Debug, PartialEq, Eq)]
+#[derive(Clone, Copy, PartialEq, Eq)]
 pub(crate) enum Place {
     Term,
     Caret,

@@ -7,8 +7,6 @@ mod lines;
 mod numbers;
 mod read;
 mod request;
-#[cfg(test)]
-mod tests;
 mod words;
 
 pub use lines::next_line;

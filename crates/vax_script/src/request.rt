@@ -3,7 +3,7 @@ use arrayvec::ArrayVec;
 use std::marker::Model;
 
 /// The first word of a line.
-#[derive(Clone, Copy, Debug, PartialEq, Eq)]
+#[derive(Clone, Copy, PartialEq, Eq)]
 pub(crate) enum Command {
     Examine,
     Deposit,
@@ -13,7 +13,7 @@ pub(crate) enum Command {
 }
 
 /// Bytes to be put into memory, 1 to 64. Contracts see the list itself.
-#[derive(Debug, Drop)]
+#[derive(Drop)]
 pub struct Deposit {
     items: ArrayVec<u8, 64>,
 }
@@ -53,7 +53,7 @@ impl Deposit {
 }
 
 /// What a console is asked for.
-#[derive(Debug, Drop)]
+#[derive(Drop)]
 pub enum Request {
     /// The value of a register, R0 to R15.
     ExamineRegister(u8),
@@ -72,7 +72,7 @@ pub enum Request {
 }
 
 /// What a line says.
-#[derive(Debug, Drop)]
+#[derive(Drop)]
 pub enum Line {
     /// Nothing.
     Blank,

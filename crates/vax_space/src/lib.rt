@@ -37,14 +37,14 @@ impl From<AllocError> for NoMemory {
 }
 
 /// What a reference wants of the bytes that it touches.
-#[derive(Clone, Copy, PartialEq, Eq, Debug)]
+#[derive(Clone, Copy, PartialEq, Eq)]
 pub enum Access {
     Read,
     Write,
 }
 
 /// What one mode may do to a page.
-#[derive(Clone, Copy, PartialEq, Eq, Debug)]
+#[derive(Clone, Copy, PartialEq, Eq)]
 pub enum Right {
     Nothing,
     ReadOnly,
@@ -106,7 +106,7 @@ pub fn allows(prot: u8, mode: u8, access: Access) -> bool
 ///
 /// `addr` is the first byte of the range that may not be used so. `length` tells that its page lies past the length of
 /// its region, and `write` that the reference was to write.
-#[derive(Clone, Copy, PartialEq, Eq, Debug)]
+#[derive(Clone, Copy, PartialEq, Eq)]
 pub struct Violation {
     pub addr: u32,
     pub length: bool,
@@ -144,7 +144,7 @@ impl Bytes {
 }
 
 /// A run of pages with one protection code. Its bytes past `bytes` are 0 at the start.
-#[derive(Debug, Drop)]
+#[derive(Drop)]
 pub struct Area {
     /// The number of its first page.
     pub first: u32,
@@ -200,7 +200,7 @@ impl From<NoMemory> for SpaceError {
 }
 
 /// The areas of a guest's memory, in ascending order. Contracts see the list of the areas.
-#[derive(Debug, Drop)]
+#[derive(Drop)]
 pub struct Space {
     areas: Vec<Area>,
     /// The protection code of each page that an area may have, and 1 for a page in no area.
@@ -399,6 +399,3 @@ impl Space {
         pages::area_of(&self.areas, page)
     }
 }
-
-#[cfg(test)]
-mod tests;

@@ -8,7 +8,7 @@ use vax_word::Size;
 
 /// What a directive does (VAX MACRO and Instruction Set Reference Manual, "VAX MACRO assembler directives"). The directives of
 /// macros, repeats and conditions are not among them.
-#[derive(Clone, Copy, Debug, PartialEq, Eq)]
+#[derive(Clone, Copy, PartialEq, Eq)]
 pub enum Directive {
     /// `.PSECT name,attributes`.
     Section,
@@ -111,7 +111,7 @@ pub fn directive_named(name: &str) -> Option<Directive>
 }
 
 /// What an attribute says of a section.
-#[derive(Clone, Copy, Debug, PartialEq, Eq)]
+#[derive(Clone, Copy, PartialEq, Eq)]
 pub enum Attribute {
     /// `BYTE`, `WORD`, `LONG`, `QUAD`, `PAGE`: the power of two that it is aligned to.
     Align(u8),

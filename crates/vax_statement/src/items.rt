@@ -11,14 +11,14 @@ use std::alloc::{AllocError, Global};
 use vax_lex::Token;
 
 /// An item of data: `e`, or `e[n]`, which is e so many times.
-#[derive(Clone, Copy, Debug)]
+#[derive(Clone, Copy)]
 pub struct Item<'a> {
     pub expression: &'a [Token],
     pub count: Option<&'a [Token]>,
 }
 
 /// A piece of text.
-#[derive(Clone, Copy, Debug)]
+#[derive(Clone, Copy)]
 pub enum Piece<'a> {
     /// Characters between two delimiters.
     Characters(Token),

@@ -13,8 +13,6 @@ mod operators;
 mod reading;
 mod registers;
 mod sizes;
-#[cfg(test)]
-mod tests;
 mod tokens;
 
 pub use directives::{Attribute, Directive, attribute_named, directive_named};

@@ -10,7 +10,7 @@ use vax_isa::Narrow;
 use vax_lex::Token;
 
 /// The form in which an operand is written. Registers are numbered from 0 to 15.
-#[derive(Clone, Copy, Debug, PartialEq, Eq)]
+#[derive(Clone, Copy, PartialEq, Eq)]
 pub enum Mode {
     /// `#e`.
     Constant,
@@ -46,7 +46,7 @@ pub enum Mode {
 }
 
 /// An operand as it is written.
-#[derive(Clone, Copy, Debug)]
+#[derive(Clone, Copy)]
 pub struct Written<'a> {
     pub mode: Mode,
     /// The tokens of `e`; none where the mode has no `e`.

@@ -9,7 +9,7 @@ use crate::tokens::{begins_with, is_mark, is_name_token};
 use vax_lex::Token;
 
 /// The name before `:`.
-#[derive(Clone, Copy, Debug, PartialEq, Eq)]
+#[derive(Clone, Copy, PartialEq, Eq)]
 pub struct Label {
     pub name: Token,
     /// Whether `::` makes it a name for other modules.
@@ -17,7 +17,7 @@ pub struct Label {
 }
 
 /// What a statement is, behind its label.
-#[derive(Clone, Copy, Debug)]
+#[derive(Clone, Copy)]
 pub enum Body<'a> {
     Nothing,
     /// `name = e`, and with `==` for other modules.
@@ -36,7 +36,7 @@ pub enum Body<'a> {
 }
 
 /// A statement.
-#[derive(Clone, Copy, Debug)]
+#[derive(Clone, Copy)]
 pub struct Statement<'a> {
     pub label: Option<Label>,
     pub body: Body<'a>,

@@ -5,7 +5,7 @@ use crate::name::Name;
 use vax_space::Bytes;
 
 /// The answer of the program.
-#[derive(Debug, Drop)]
+#[derive(Drop)]
 pub enum Status {
     /// The command was carried out.
     Done,

@@ -8,8 +8,6 @@ mod kernels;
 mod lanes;
 mod marks;
 mod packing;
-#[cfg(test)]
-mod tests;
 
 pub use kernels::{compare, locate, scan, skip, span, translate, translate_until};
 pub use packing::{Layout, Progress, pack, unpack};

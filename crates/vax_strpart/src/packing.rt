@@ -3,7 +3,7 @@ ghost use Rattle.std.specs.Prelude.{◌≡◌};
 ghost use Rattle.vax_strpart.specs.Packing.{IsProper, layout_of, packed, unpacked};
 
 /// How far a string instruction has come. A field that the instruction doesn't need is 0.
-#[derive(Clone, Copy, PartialEq, Eq, Debug)]
+#[derive(Clone, Copy, PartialEq, Eq)]
 pub struct Progress {
     /// The opcode.
     pub op: u8,
@@ -26,7 +26,7 @@ pub struct Progress {
 }
 
 /// Which registers hold what.
-#[derive(Clone, Copy, PartialEq, Eq, Debug)]
+#[derive(Clone, Copy, PartialEq, Eq)]
 pub enum Layout {
     /// MOVC3 and MOVC5.
     Moves,

@@ -18,7 +18,7 @@ use std::alloc::Global;
 use vax_space::{NoMemory, Space};
 
 /// What the page tables say of a page.
-#[derive(Clone, Copy, PartialEq, Eq, Debug)]
+#[derive(Clone, Copy, PartialEq, Eq)]
 pub enum Walk {
     /// It is in a frame. `modified` is its entry's modify bit.
     Resident {
@@ -37,7 +37,7 @@ pub enum Walk {
 }
 
 /// The page tables of a space.
-#[derive(Debug, Drop)]
+#[derive(Drop)]
 pub struct Tables {
     memory: Memory,
     ghost sound: { IsSound memory },
@@ -141,6 +141,3 @@ impl Tables {
         self.memory.put(page, place, entry);
     }
 }
-
-#[cfg(test)]
-mod tests;

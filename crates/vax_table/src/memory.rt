@@ -14,7 +14,7 @@ use vax_space::{NoMemory, Space};
 
 /// The system page table, at physical address 01000000, then the pages of P0's table that are needed for its length,
 /// and then those of P1's.
-#[derive(Debug, Drop)]
+#[derive(Drop)]
 pub struct Memory {
     pub bytes: Vec<u8>,
     /// P0's length register: the page after the last that has an entry.

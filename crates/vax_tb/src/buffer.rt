@@ -12,7 +12,7 @@ use vax_table::{Tables, Walk};
 const ENTRIES: usize = 128;
 
 /// What an entry says of its page beside the frame.
-#[derive(Clone, Copy, PartialEq, Eq, Debug)]
+#[derive(Clone, Copy, PartialEq, Eq)]
 pub(crate) enum Said {
     /// The entry is of no page.
     Nothing,
@@ -22,7 +22,7 @@ pub(crate) enum Said {
 }
 
 /// An entry. It has 16 bytes.
-#[derive(Clone, Copy, Debug)]
+#[derive(Clone, Copy)]
 pub(crate) struct Entry {
     pub(crate) page: u32,
     pub(crate) frame: u32,
@@ -32,7 +32,7 @@ pub(crate) struct Entry {
 }
 
 /// Page table entries by the low seven bits of their pages, at most 128.
-#[derive(Debug, Drop)]
+#[derive(Drop)]
 pub struct Buffer {
     entries: [Entry; 128],
     hits: u64,

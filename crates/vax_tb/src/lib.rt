@@ -3,7 +3,5 @@
 #![tactic(auto)]
 
 mod buffer;
-#[cfg(test)]
-mod tests;
 
 pub use crate::buffer::Buffer;

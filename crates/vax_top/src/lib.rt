@@ -4,8 +4,6 @@
 mod commands;
 mod console;
 mod programs;
-#[cfg(test)]
-mod tests;
 mod top;
 
 pub use top::vax_main;

@@ -7,7 +7,7 @@ use std::alloc::Global;
 use vax_space::{Area, NoMemory, PAGE_BYTES};
 
 /// The bytes of an area.
-#[derive(Debug, Drop)]
+#[derive(Drop)]
 pub(crate) struct Block {
     /// The address of the first.
     pub(crate) start: u32,

@@ -2,7 +2,7 @@
 ghost use Rattle.std.specs.Prelude.{◌≡◌};
 
 /// What an entry puts back.
-#[derive(Clone, Copy, Debug, PartialEq, Eq)]
+#[derive(Clone, Copy, PartialEq, Eq)]
 pub(crate) enum Kept {
     Register,
     Stack,
@@ -14,7 +14,7 @@ pub(crate) enum Kept {
 }
 
 /// An old value, and where it was. It has 16 bytes without holes, and is all zero by default, so that a log is made by one fill.
-#[derive(Clone, Copy, Debug, PartialEq, Eq)]
+#[derive(Clone, Copy, PartialEq, Eq)]
 pub(crate) struct Entry {
     pub(crate) old: u64,
     /// The address of bytes.
@@ -26,6 +26,8 @@ pub(crate) struct Entry {
     pub(crate) kept: Kept,
     pub(crate) spare: u8,
 }
+
+const _: () = prove!(std::mem::size_of::<Entry>() == 16);
 
 impl Default for Entry {
     #[inline]

@@ -19,6 +19,3 @@ pub use crate::port::Port;
 pub use crate::term::Term;
 pub use crate::txn::{CutShort, Txn};
 pub use vax_flat::{Cut, Stop};
-
-#[cfg(test)]
-mod tests;

@@ -6,7 +6,7 @@ use arrayvec::ArrayVec;
 
 /// Room for the old values that a transaction logs. It is made once and lent to one transaction after the other, so that none has to clear it;
 /// what it holds between two of them means nothing.
-#[derive(Debug, Drop)]
+#[derive(Drop)]
 pub struct Log {
     pub(crate) entries: ArrayVec<Entry, 96>,
 }

@@ -14,7 +14,7 @@ use vax_space::{Access, Area, NoMemory, PAGE_BYTES, Space, Violation};
 const PAGES: usize = 69_632;
 
 /// Memory of which any pages may be absent. Each area has its bytes in one piece, so that an access within a page is one of the host's.
-#[derive(Debug, Drop)]
+#[derive(Drop)]
 pub struct Plain {
     space: Space,
     /// The bytes of each area.

@@ -11,7 +11,7 @@ use vax_space::{Access, Violation};
 use vax_word::{Core, Psl};
 
 /// The work was cut short. The transaction says by what ([`Txn::why`]), so that a result that isn't cut short stays small.
-#[derive(Clone, Copy, Debug, PartialEq, Eq)]
+#[derive(Clone, Copy, PartialEq, Eq)]
 pub struct CutShort;
 
 /// Work on the registers, the console and a port, with a log of the old values of all that it changed.

@@ -9,8 +9,6 @@
 mod board;
 mod copies;
 mod definitions;
-#[cfg(test)]
-mod tests;
 mod types;
 
 pub use definitions::Definitions;

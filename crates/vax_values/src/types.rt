@@ -9,7 +9,7 @@ use std::rc::Rc;
 use vax_lex::{Token, Value};
 
 /// What a name means in an expression: the definition with this number.
-#[derive(Debug, Drop)]
+#[derive(Drop)]
 pub struct Meaning {
     /// The name as it is kept: in capitals, and a local label without zeros before its number.
     pub name: Vec<u8>,
@@ -18,7 +18,7 @@ pub struct Meaning {
 
 /// An expression: tokens of a text, which other expressions share, and what the names in it mean. A name that isn't
 /// among them means nothing.
-#[derive(Debug, Drop)]
+#[derive(Drop)]
 pub struct Expression {
     pub(crate) text: Rc<Vec<u8>>,
     pub(crate) tokens: Vec<Token>,

@@ -229,6 +229,3 @@ pub fn ediv(divr: u32, divd: u64) -> (u32, u32, Codes)
     let (quotient, codes) = result(Size::L, low(Size::L, divd), true, false);
     (quotient as u32, 0, codes)
 }
-
-#[cfg(test)]
-mod tests;

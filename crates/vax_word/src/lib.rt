@@ -14,7 +14,7 @@ pub use arithmetic::{
 
 /// The size of an operand: byte, word, longword or quadword, which have 8, 16, 32 and 64 bits
 /// (VAX Architecture Reference Manual, data types).
-#[derive(Clone, Copy, Debug, PartialEq, Eq)]
+#[derive(Clone, Copy, PartialEq, Eq)]
 pub enum Size {
     B,
     W,
@@ -43,7 +43,7 @@ impl Size {
 
 /// The condition codes (VAX Architecture Reference Manual, processor status word): negative, zero,
 /// overflow and carry.
-#[derive(Clone, Copy, Debug, PartialEq, Eq)]
+#[derive(Clone, Copy, PartialEq, Eq)]
 pub struct Codes {
     pub n: bool,
     pub z: bool,
@@ -70,7 +70,7 @@ impl Codes {
 /// The processor status longword (VAX Architecture Reference Manual, processor status longword): C
 /// in bit 0, V 1, Z 2, N 3, T 4, IV 5, FU 6, DV 7, the interrupt priority level in 20:16, the
 /// previous access mode in 23:22, the current access mode in 25:24, IS 26, FPD 27, TP 30, CM 31.
-#[derive(Clone, Copy, Debug, PartialEq, Eq)]
+#[derive(Clone, Copy, PartialEq, Eq)]
 pub struct Psl(pub u32);
 
 impl Psl {
@@ -133,7 +133,7 @@ impl Psl {
 }
 
 /// The processor's registers.
-#[derive(Clone, Copy, Debug, PartialEq, Eq)]
+#[derive(Clone, Copy, PartialEq, Eq)]
 pub struct Core {
     /// R0 to R15, of which R12 is AP, R13 FP, R14 SP and R15 PC.
     pub regs: [u32; 16],
@@ -148,87 +148,4 @@ pub struct Core {
     pub iccs: u8,
     /// How far the interval clock has counted.
     pub clock: u16,
-}
-
-#[cfg(test)]
-mod tests {
-    use super::*;
-
-    #[test]
-    fn operand_bytes(rt: HostRuntime) {
-        assert_eq!(rt; Size::B.bytes(), 1);
-        assert_eq!(rt; Size::W.bytes(), 2);
-        assert_eq!(rt; Size::L.bytes(), 4);
-        assert_eq!(rt; Size::Q.bytes(), 8);
-    }
-
-    #[test]
-    fn status_fields(rt: HostRuntime) {
-        let psl = Psl(0x0194_0005);
-        assert_eq!(rt; psl.mode(), 1);
-        assert_eq!(rt; psl.prev(), 2);
-        assert_eq!(rt; psl.ipl(), 0x14);
-        assert_eq!(rt;
-            psl.codes(),
-            Codes {
-                n: false,
-                z: true,
-                v: false,
-                c: true
-            }
-        );
-        assert_eq!(rt; Psl(0x0300_0000).mode(), 3);
-        assert_eq!(rt; Psl(0x00C0_0000).prev(), 3);
-        assert_eq!(rt; Psl(0x001F_0000).ipl(), 31);
-        assert_eq!(rt;
-            Psl(0xFCE0_FFF0).codes(),
-            Codes {
-                n: false,
-                z: false,
-                v: false,
-                c: false
-            }
-        );
-    }
-
-    #[test]
-    fn codes_are_replaced(rt: HostRuntime) {
-        let negative = Codes {
-            n: true,
-            z: false,
-            v: true,
-            c: false,
-        };
-        assert_eq!(rt; Psl(0xFFFF_FFFF).with_codes(negative), Psl(0xFFFF_FFFA));
-        let carry = Codes {
-            n: false,
-            z: false,
-            v: false,
-            c: true,
-        };
-        assert_eq!(rt; Psl(0x03C0_00EA).with_codes(carry), Psl(0x03C0_00E1));
-        let zero = Codes {
-            n: false,
-            z: true,
-            v: false,
-            c: false,
-        };
-        assert_eq!(rt; Psl(0).with_codes(zero), Psl(4));
-    }
-
-    #[test]
-    fn cores_are_compared(rt: HostRuntime) {
-        let start = Core {
-            regs: [0; 16],
-            psl: Psl(0),
-            stacks: [0; 5],
-            sisr: 0,
-            iccs: 0,
-            clock: 0,
-        };
-        let mut other = start;
-        assert_eq!(rt; other, start);
-        other.regs[15] = 0x200;
-        assert_ne!(rt; other, start);
-    }
 }

@@ -8,7 +8,7 @@ pub type Names<'a> = ArrayVec<&'a str, 8>;
 pub type Dumps = ArrayVec<DumpItem, 16>;
 
 /// What the words ask for.
-#[derive(Debug, PartialEq, Eq, Drop)]
+#[derive(PartialEq, Eq, Drop)]
 pub enum Command<'a> {
     /// `bare FILE..`: run a program in kernel mode.
     Bare {
@@ -52,7 +52,7 @@ pub enum Command<'a> {
 }
 
 /// What a run is given beside its program. A command leaves the options that it doesn't take as no word says them.
-#[derive(Debug, PartialEq, Eq, Drop)]
+#[derive(PartialEq, Eq, Drop)]
 pub struct Options<'a> {
     /// `--input NAME`: the file of the console's input; none where there is no input.
     pub input: Option<&'a str>,
@@ -73,7 +73,7 @@ pub struct Options<'a> {
 }
 
 /// Bytes of memory from an address on: `AAAAAAAA:N`.
-#[derive(Clone, Copy, Debug, Default, PartialEq, Eq)]
+#[derive(Clone, Copy, Default, PartialEq, Eq)]
 pub struct DumpItem {
     pub address: u32,
     /// How many bytes, 1 to 4,096.
@@ -81,7 +81,7 @@ pub struct DumpItem {
 }
 
 /// What a program is linked for: `--base user` or `--base bare`; user where no word says it.
-#[derive(Clone, Copy, Debug, PartialEq, Eq)]
+#[derive(Clone, Copy, PartialEq, Eq)]
 pub enum Base {
     /// User mode, under a system.
     User,
@@ -90,7 +90,7 @@ pub enum Base {
 }
 
 /// The version of an image's format: `--format 1` or `--format 2`; 1 where no word says it.
-#[derive(Clone, Copy, Debug, PartialEq, Eq)]
+#[derive(Clone, Copy, PartialEq, Eq)]
 pub enum Format {
     First,
     Second,

@@ -13,7 +13,7 @@ use arrayvec::ArrayVec;
 pub(crate) type Items<'a> = ArrayVec<Item<'a>, 21>;
 
 /// A name, or an option with its value.
-#[derive(Clone, Copy, Debug)]
+#[derive(Clone, Copy)]
 pub(crate) enum Item<'a> {
     Name(&'a str),
     Setting(Key, &'a str),
@@ -26,7 +26,7 @@ impl Default for Item<'_> {
 }
 
 /// What a word says: an item, or the option whose value the next word is.
-#[derive(Clone, Copy, Debug)]
+#[derive(Clone, Copy)]
 enum Reading<'a> {
     Whole(Item<'a>),
     Opened(Key),

@@ -12,8 +12,6 @@ mod number;
 mod plain;
 mod read;
 mod table;
-#[cfg(test)]
-mod tests;
 mod values;
 
 pub use command::{Base, Command, DumpItem, Dumps, Format, Names, Options};

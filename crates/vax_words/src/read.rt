@@ -12,7 +12,7 @@ use clap::error::ErrorKind;
 use std::alloc::Global;
 
 /// Why the words have no command.
-#[derive(Clone, Copy, Debug, PartialEq, Eq)]
+#[derive(Clone, Copy, PartialEq, Eq)]
 pub enum WordsError {
     /// The words aren't plain words of the table of commands.
     Usage,

@@ -3,7 +3,7 @@ ghost use Rattle.std.specs.Prelude.{◌≡◌};
 ghost use Rattle.vax_words.specs.Table.{is_same, key_name, key_of, keys_of, takes_files, verb_name, verb_of, verbs};
 
 /// A command.
-#[derive(Clone, Copy, Debug, PartialEq, Eq)]
+#[derive(Clone, Copy, PartialEq, Eq)]
 pub(crate) enum Verb {
     Bare,
     Run,
@@ -14,7 +14,7 @@ pub(crate) enum Verb {
 }
 
 /// An option.
-#[derive(Clone, Copy, Debug, PartialEq, Eq)]
+#[derive(Clone, Copy, PartialEq, Eq)]
 pub(crate) enum Key {
     Input,
     System,

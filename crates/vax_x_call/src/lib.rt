@@ -7,8 +7,6 @@
 
 mod shapes;
 mod stack;
-#[cfg(test)]
-mod tests;
 
 ghost use Rattle.std.specs.Prelude.{◌≡◌, ◌≤◌};
 ghost use Rattle.vax_flat.specs.Call.{performed};

@@ -8,8 +8,6 @@
 mod bits;
 mod fields;
 mod shapes;
-#[cfg(test)]
-mod tests;
 
 ghost use Rattle.std.specs.Prelude.{◌≡◌, ◌≤◌};
 ghost use Rattle.vax_flat.specs.Field.{performed};

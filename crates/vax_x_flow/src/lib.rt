@@ -5,8 +5,6 @@
 
 mod conditions;
 mod shapes;
-#[cfg(test)]
-mod tests;
 
 ghost use Rattle.std.specs.Prelude.{◌≡◌, ◌≤◌};
 ghost use Rattle.vax_flat.specs.Control.{performed};

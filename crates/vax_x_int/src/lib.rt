@@ -6,8 +6,6 @@
 
 mod results;
 mod shapes;
-#[cfg(test)]
-mod tests;
 
 ghost use Rattle.std.specs.Prelude.{◌≡◌, ◌≤◌};
 ghost use Rattle.vax_flat.specs.Integer.{performed};

@@ -4,8 +4,6 @@
 #![tactic(auto)]
 
 mod shapes;
-#[cfg(test)]
-mod tests;
 
 ghost use Rattle.std.specs.Prelude.{◌≡◌, ◌≤◌};
 ghost use Rattle.vax_flat.specs.Queue.{performed};

@@ -15,8 +15,6 @@ mod registers;
 mod run;
 mod scratch;
 mod search;
-#[cfg(test)]
-mod tests;
 
 pub use crate::first::start;
 pub use crate::later::resume;

@@ -10,8 +10,6 @@ mod probes;
 mod registers;
 mod shapes;
 mod stacks;
-#[cfg(test)]
-mod tests;
 
 ghost use Rattle.std.specs.Prelude.{◌≡◌, ◌≤◌};
 ghost use Rattle.vax_flat.specs.System.{performed};
