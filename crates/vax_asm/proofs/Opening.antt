@@ -2,9 +2,9 @@
 use Rattle.std.proofs.Common.{◌≡◌, ◌<◌, ℕ, zero, suc, List, [], Option, Some, None, refl, sym, ap, ◌∙◌}
 use Rattle.vax_macro.specs.Expansion.{Stepped, Steps, Says, Faults, Ends, behind as opens_behind, opened, step}
 use Rattle.vax_macro.specs.Rest.{Rest, started, work}
-use Rattle.vax_fill.specs.declared.types.Fault.{Fault}
-use Rattle.vax_pass.specs.Fixups.{Assignment}
-use Rattle.vax_pass.specs.Standing.{Standing, at_start}
+use Rattle.vax_asm_second.specs.declared.types.Fault.{Fault}
+use Rattle.vax_asm_first.specs.Fixups.{Assignment}
+use Rattle.vax_asm_first.specs.Standing.{Standing, at_start}
 use Rattle.vax_asm.specs.Walk.{Assembly, assembled, names_in, onward, resumed, walked}
 
 by_step : (left : ℕ) (a : Assembly) (met : Option Fault) (p : Stepped)

@@ -3,8 +3,8 @@ use Rattle.std.proofs.Common.{◌≡◌, ◌≤◌, ℕ, Bool, true, false, cond
 use Rattle.std.specs.Prelude.{◌&&◌}
 use Rattle.std.proofs.lemmas.List.{length-drop}
 use Rattle.vax_lex.specs.declared.token.Token.{Token}
-use Rattle.vax_statement.specs.Reading.{Headed, Parsed, What, Nothing, Assignment, Operation, Malformed, assignment_or, behind_label, behind_marks, doubled, headed, operation, parsed}
-use Rattle.vax_statement.specs.Tokens.{is_mark, is_name_token}
+use Rattle.vax_asm_statement.specs.Reading.{Headed, Parsed, What, Nothing, Assignment, Operation, Malformed, assignment_or, behind_label, behind_marks, doubled, headed, operation, parsed}
+use Rattle.vax_asm_statement.specs.Tokens.{is_mark, is_name_token}
 use Rattle.vax_asm.specs.Sound.{IsSound, IsSoundWhat}
 
 -- a name, and so many tokens behind it at most

@@ -4,14 +4,14 @@ use Rattle.vax_asm.specs.Placing.{Placed, Stands, FaultyLabel, Faulty, waiting_i
 use Rattle.vax_asm.specs.PlacingView.{IsPlaced}
 use Rattle.vax_asm.specs.Walk.{Assembly, Next, behind, least, stopped}
 use Rattle.vax_asm.specs.declared.placing.Placed.TheVariants as code
-use Rattle.vax_fill.specs.declared.types.Fault.{Fault}
+use Rattle.vax_asm_second.specs.declared.types.Fault.{Fault}
 use Rattle.vax_macro.specs.declared.error.FaultKind.{FaultKind}
 use Rattle.vax_macro.specs.declared.error.FaultKind.TheVariants as fault
-use Rattle.vax_naming.specs.Naming.{with_waiting}
-use Rattle.vax_pass.specs.Faults.{first_of}
-use Rattle.vax_pass.specs.Fixups.{Assignment}
-use Rattle.vax_pass.specs.Standing.{Standing}
-use Rattle.vax_pass.specs.declared.types.Origin.{Origin}
+use Rattle.vax_asm_labels.specs.Naming.{with_waiting}
+use Rattle.vax_asm_first.specs.Faults.{first_of}
+use Rattle.vax_asm_first.specs.Fixups.{Assignment}
+use Rattle.vax_asm_first.specs.Standing.{Standing}
+use Rattle.vax_asm_first.specs.declared.types.Origin.{Origin}
 
 abbrev kind_in : FaultKind → Placed → FaultKind
 kind_in other (Stands s waiting) = other

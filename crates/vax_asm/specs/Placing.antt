@@ -1,8 +1,8 @@
 -- What a statement does (VAX MACRO and Instruction Set Reference Manual, "VAX MACRO source statement format").
 use Rattle.std.specs.Prelude.{ℕ, ◌^◌, ◌-◌, Bool, true, false, ◌==◌, nat_lt, if◌then◌else◌, List, [], ◌∷◌, map, Option, Some, None, Result, Ok, Err}
 use Rattle.std.specs.List.{list_all, list_any}
-use Rattle.vax_data.specs.Data.{Plain, Counted_first, Zero_last, data_stated, addresses_stated, text_stated, space_stated, align_stated, even_stated}
-use Rattle.vax_instruction.specs.Stating.{instruction_stated}
+use Rattle.vax_asm_data.specs.Data.{Plain, Counted_first, Zero_last, data_stated, addresses_stated, text_stated, space_stated, align_stated, even_stated}
+use Rattle.vax_asm_instruction.specs.Stating.{instruction_stated}
 use Rattle.vax_isa.specs.Instructions.{Instruction}
 use Rattle.vax_isa.specs.Rows.{row_of, with_name}
 use Rattle.vax_lex.specs.Tokens.{pieces_of, token_text}
@@ -14,16 +14,16 @@ use Rattle.vax_lex.specs.declared.token.TokenKind.{TokenKind}
 use Rattle.vax_lex.specs.declared.token.TokenKind.TheVariants.{Number}
 use Rattle.vax_macro.specs.declared.error.FaultKind.{FaultKind}
 use Rattle.vax_macro.specs.declared.error.FaultKind.TheVariants as fault
-use Rattle.vax_naming.specs.Naming.{Assigned, label_stated, assignment_stated, section_stated, entry_stated, names_stated, end_stated}
-use Rattle.vax_pass.specs.Faults.{first_of}
-use Rattle.vax_pass.specs.Fixups.{Assignment as Waiting}
-use Rattle.vax_pass.specs.Standing.{Standing}
-use Rattle.vax_pass.specs.declared.types.Origin.{Origin}
-use Rattle.vax_statement.specs.Directives.{directive_of}
-use Rattle.vax_statement.specs.Reading.{Parsed, What, Nothing, Assignment, Operation, Malformed, parsed}
-use Rattle.vax_statement.specs.declared.directives.Directive.{Directive}
-use Rattle.vax_statement.specs.declared.directives.Directive.TheVariants as directive
-use Rattle.vax_statement.specs.declared.reading.Label.{Label}
+use Rattle.vax_asm_labels.specs.Naming.{Assigned, label_stated, assignment_stated, section_stated, entry_stated, names_stated, end_stated}
+use Rattle.vax_asm_first.specs.Faults.{first_of}
+use Rattle.vax_asm_first.specs.Fixups.{Assignment as Waiting}
+use Rattle.vax_asm_first.specs.Standing.{Standing}
+use Rattle.vax_asm_first.specs.declared.types.Origin.{Origin}
+use Rattle.vax_asm_statement.specs.Directives.{directive_of}
+use Rattle.vax_asm_statement.specs.Reading.{Parsed, What, Nothing, Assignment, Operation, Malformed, parsed}
+use Rattle.vax_asm_statement.specs.declared.directives.Directive.{Directive}
+use Rattle.vax_asm_statement.specs.declared.directives.Directive.TheVariants as directive
+use Rattle.vax_asm_statement.specs.declared.reading.Label.{Label}
 
 -- ---- What a line is cut into
 

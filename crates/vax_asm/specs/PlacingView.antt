@@ -4,9 +4,9 @@ use Rattle.vax_asm.specs.Placing as specs
 use Rattle.vax_asm.specs.Placing.{waiting_in}
 use Rattle.vax_asm.specs.declared.placing.Placed.{Placed}
 use Rattle.vax_asm.specs.declared.placing.Placed.TheVariants.{Stands, FaultyLabel, Faulty}
-use Rattle.vax_naming.specs.Naming.{with_waiting}
-use Rattle.vax_pass.specs.Fixups.{Assignment}
-use Rattle.vax_pass.specs.Standing.{Standing}
+use Rattle.vax_asm_labels.specs.Naming.{with_waiting}
+use Rattle.vax_asm_first.specs.Fixups.{Assignment}
+use Rattle.vax_asm_first.specs.Standing.{Standing}
 
 -- What stands behind the statement, or its fault; behind a faulty label all is as before. The assignments that wait are those before, and the one
 -- that the statement is.

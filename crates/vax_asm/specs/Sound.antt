@@ -1,7 +1,7 @@
 -- What is so of the parts of every statement.
 use Rattle.std.specs.Prelude.{◌≡◌, ◌≤◌, ℕ, true, IfSome, length}
-use Rattle.vax_statement.specs.Reading.{What, Nothing, Assignment, Operation, Malformed, Parsed}
-use Rattle.vax_statement.specs.Tokens.{is_name_token}
+use Rattle.vax_asm_statement.specs.Reading.{What, Nothing, Assignment, Operation, Malformed, Parsed}
+use Rattle.vax_asm_statement.specs.Tokens.{is_name_token}
 
 -- what is assigned to is a name, and so many tokens stand behind it at most
 abbrev pub IsSoundWhat : ℕ → What → Type 0

@@ -4,14 +4,14 @@ use Rattle.std.specs.Prelude.{◌≡◌, ℕ, List, map, Option, Result, Ok, Err
 use Rattle.vax_asm.specs.Walk.{Assembly, Next, said}
 use Rattle.vax_asm.specs.declared.error.AsmError.{AsmError}
 use Rattle.vax_asm.specs.declared.error.AsmError.TheVariants as errors
-use Rattle.vax_fill.specs.declared.types.Fault.{Fault}
-use Rattle.vax_fill.specs.declared.types.FillError.{FillError}
-use Rattle.vax_fill.specs.declared.types.FillError.TheVariants as fill_errors
+use Rattle.vax_asm_second.specs.declared.types.Fault.{Fault}
+use Rattle.vax_asm_second.specs.declared.types.FillError.{FillError}
+use Rattle.vax_asm_second.specs.declared.types.FillError.TheVariants as fill_errors
 use Rattle.vax_module.specs.declared.Module.{Module}
-use Rattle.vax_pass.specs.View.{assignment_of, standing_of}
-use Rattle.vax_pass.specs.declared.types.Assignment.{Assignment}
-use Rattle.vax_pass.specs.declared.types.Origin.{Origin}
-use Rattle.vax_pass.specs.declared.types.Standing.{Standing}
+use Rattle.vax_asm_first.specs.View.{assignment_of, standing_of}
+use Rattle.vax_asm_first.specs.declared.types.Assignment.{Assignment}
+use Rattle.vax_asm_first.specs.declared.types.Origin.{Origin}
+use Rattle.vax_asm_first.specs.declared.types.Standing.{Standing}
 
 -- The module or the fault that is meant; memory may be refused at any time.
 abbrev pub Answers : Result Module AsmError → Result Module Fault → Type 0

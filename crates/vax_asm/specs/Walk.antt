@@ -7,15 +7,15 @@ use Rattle.vax_macro.specs.Rest.{Opening, Rest, started, work}
 use Rattle.vax_macro.specs.declared.error.FaultKind.{FaultKind}
 use Rattle.vax_macro.specs.declared.error.FaultKind.TheVariants as fault
 use Rattle.vax_module.specs.declared.Module.{Module}
-use Rattle.vax_naming.specs.Naming.{with_waiting}
-use Rattle.vax_pass.specs.Circles.{first_circle}
-use Rattle.vax_pass.specs.Faults.{first_of}
-use Rattle.vax_pass.specs.Fixups.{Assignment}
-use Rattle.vax_pass.specs.Standing.{Standing, at_start, here_in}
-use Rattle.vax_scope.specs.Known.{known}
-use Rattle.vax_fill.specs.Modules.{filled_in}
-use Rattle.vax_fill.specs.declared.types.Fault.{Fault}
-use Rattle.vax_pass.specs.declared.types.Origin.{Origin}
+use Rattle.vax_asm_labels.specs.Naming.{with_waiting}
+use Rattle.vax_asm_first.specs.Circles.{first_circle}
+use Rattle.vax_asm_first.specs.Faults.{first_of}
+use Rattle.vax_asm_first.specs.Fixups.{Assignment}
+use Rattle.vax_asm_first.specs.Standing.{Standing, at_start, here_in}
+use Rattle.vax_asm_scope.specs.Known.{known}
+use Rattle.vax_asm_second.specs.Modules.{filled_in}
+use Rattle.vax_asm_second.specs.declared.types.Fault.{Fault}
+use Rattle.vax_asm_first.specs.declared.types.Origin.{Origin}
 use Rattle.vax_asm.specs.Placing.{Placed, Stands, FaultyLabel, Faulty, placed}
 
 -- A fault that is met behind another one: of one line the first in the order of the kinds counts, else the one that was met before.

@@ -3,9 +3,9 @@
 ghost use Rattle.std.specs.Prelude.{◌≡◌};
 ghost use Rattle.vax_asm.specs.Walk.{behind_circle, least, of_another};
 
-use vax_fill::Fault;
+use vax_asm_first::{Origin, first_of};
+use vax_asm_second::Fault;
 use vax_macro::FaultKind;
-use vax_pass::{Origin, first_of};
 
 /// The fault that counts of one that was met before and a new one.
 pub(crate) fn least(met: Option<Fault>, origin: Origin, kind: FaultKind) -> Fault

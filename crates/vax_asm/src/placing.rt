@@ -3,25 +3,25 @@
 ghost use Rattle.std.specs.Prelude.{◌≡◌, ◌≤◌, ◌<◌, ◌^◌, ◌-◌, ℕ, List, All, IfOk, length, map};
 ghost use Rattle.vax_asm.specs.Placing.{Placed as Meant, alone, placed, placed_as, beside, body_stated, directed, operation_stated, instructed, stated, is_listing, instruction_named, token_of, with_range};
 ghost use Rattle.vax_asm.specs.Sound.{IsSound, IsSoundWhat};
-ghost use Rattle.vax_pass.specs.Standing.{Standing as Before};
-ghost use Rattle.vax_statement.specs.Within.{Within, WhatWithin};
+ghost use Rattle.vax_asm_first.specs.Standing.{Standing as Before};
+ghost use Rattle.vax_asm_statement.specs.Within.{Within, WhatWithin};
 ghost use Rattle.vax_asm.specs.PlacingView.{IsPlaced};
 ghost use Rattle.vax_lex.specs.Tokens.{IsTokenOf, pieces_of};
-ghost use Rattle.vax_naming.specs.View.{Waits};
-ghost use Rattle.vax_pass.specs.Fixups.{Assignment as Waiting};
-ghost use Rattle.vax_pass.specs.View.{assignment_of, standing_of, Stands};
-ghost use Rattle.vax_statement.specs.Reading.{body_seen, parsed, statement_seen};
+ghost use Rattle.vax_asm_labels.specs.View.{Waits};
+ghost use Rattle.vax_asm_first.specs.Fixups.{Assignment as Waiting};
+ghost use Rattle.vax_asm_first.specs.View.{assignment_of, standing_of, Stands};
+ghost use Rattle.vax_asm_statement.specs.Reading.{body_seen, parsed, statement_seen};
 
 use crate::tokens::{directive, has_bad, has_wide, instruction, tokens_of};
 use std::alloc::Global;
 use std::rc::Rc;
-use vax_data::{TextForm, addresses, align, data, even, space, text};
+use vax_asm_data::{TextForm, addresses, align, data, even, space, text};
+use vax_asm_first::{Assignment, Origin, Refused, Standing, first_of};
+use vax_asm_labels::{assignment, end, entry, label, names, section};
+use vax_asm_statement::{Body, Directive, Statement, read_statement, text_of};
 use vax_lex::{Piece, Token, pieces};
 use vax_macro::FaultKind;
-use vax_naming::{assignment, end, entry, label, names, section};
-use vax_pass::{Assignment, Origin, Refused, Standing, first_of};
 use vax_space::NoMemory;
-use vax_statement::{Body, Directive, Statement, read_statement, text_of};
 
 /// What comes of a statement.
 pub(crate) enum Placed {
@@ -84,7 +84,9 @@ fn instruct(
     ensures { Stands result (standing_of standing.new) (instructed (instruction_named name.now) origin line.now.value.items operands.now (standing_of standing.old)) }
 {
     match instruction(name) {
-        Some(row) => vax_instruction::instruction(standing, alloc, origin, line, &row, operands),
+        Some(row) => vax_asm_instruction::instruction(
+            standing, alloc, origin, line, &row, operands,
+        ),
         None => Err(Refused::Fault(FaultKind::UnknownOperator)),
     }
 }

@@ -6,10 +6,10 @@ ghost use Rattle.vax_asm.specs.Placing.{directive_named as named_directive, inst
 ghost use Rattle.vax_isa.specs.Rows.{IsFormed, plain, row_of};
 
 use std::alloc::Global;
+use vax_asm_statement::{Directive, directive_named};
 use vax_isa::{Row, by_name};
 use vax_lex::{Piece, PieceKind, Token, TokenKind};
 use vax_space::NoMemory;
-use vax_statement::{Directive, directive_named};
 
 /// A number above 64 bits stands for the greatest, and a byte where no token begins for a number.
 fn kind_of(kind: PieceKind) -> TokenKind

@@ -3,25 +3,25 @@
 ghost use Rattle.std.specs.Prelude.{◌≡◌, ◌≤◌, ◌<◌, ℕ, Err, IfOk, None, length, map, option_map};
 ghost use Rattle.vax_asm.specs.View.{assembly_of, Answers, Says};
 ghost use Rattle.vax_asm.specs.Walk.{assembled, ended, resumed, stopped, unless_circle};
-ghost use Rattle.vax_fill.specs.Modules.{filled_in};
-ghost use Rattle.vax_fill.specs.View.{Fills};
+ghost use Rattle.vax_asm_second.specs.Modules.{filled_in};
+ghost use Rattle.vax_asm_second.specs.View.{Fills};
 ghost use Rattle.vax_macro.specs.Expanders.{rest_of, error_of, unclosed_of, read_of, FaultIs};
 ghost use Rattle.vax_macro.specs.Expansion.{Opened};
 ghost use Rattle.vax_macro.specs.Rest.{started};
 ghost use Rattle.vax_macro.specs.View.{opening_of};
 ghost use Rattle.vax_module.specs.Formed.{Formed};
-ghost use Rattle.vax_pass.specs.Circles.{first_circle};
-ghost use Rattle.vax_pass.specs.View.{assignment_of, standing_of};
+ghost use Rattle.vax_asm_first.specs.Circles.{first_circle};
+ghost use Rattle.vax_asm_first.specs.View.{assignment_of, standing_of};
 
 use crate::error::AsmError;
 use crate::met::{behind_circle, least, of_another};
 use crate::placing::{Placed, place};
 use std::alloc::Global;
-use vax_fill::{Fault, FillError, fill_in};
+use vax_asm_first::{Assignment, Origin, Standing, first_circle};
+use vax_asm_scope::KnownNames;
+use vax_asm_second::{Fault, FillError, fill_in};
 use vax_macro::{Begin, Expander, FaultKind, Line, MacroError};
 use vax_module::Module;
-use vax_pass::{Assignment, Origin, Standing, first_circle};
-use vax_scope::KnownNames;
 use vax_space::NoMemory;
 
 /// What the statements so far leave, and the fault that was met in the line that is being read.

@@ -9,8 +9,8 @@ use Rattle.vax_lex.specs.declared.token.Token.{Token}
 use Rattle.vax_lex.specs.declared.value.Value.{Value}
 use Rattle.vax_flat.specs.Operand.{plus}
 use Rattle.vax_flat.specs.Grammar.{Place, Deferred, Decrement, Increment, IncrementDeferred, Absolute, Displaced, DisplacedDeferred, Specifier, Literal, Register, Immediate, InMemory, Indexed, BranchBy}
-use Rattle.vax_statement.specs.declared.modes.Mode.TheVariants as mode
-use Rattle.vax_statement.specs.Modes.{operand_of, unindexed, direct_form, register_form}
+use Rattle.vax_asm_statement.specs.declared.modes.Mode.TheVariants as mode
+use Rattle.vax_asm_statement.specs.Modes.{operand_of, unindexed, direct_form, register_form}
 use Rattle.vax_disasm.specs.Denoted.{operand_denoted}
 use Rattle.vax_disasm.proofs.Words.{Word, tokens_at, behind, AreThere, tokens-append}
 use Rattle.vax_disasm.proofs.Spoken.{sign, register, letter, hexadecimal, place_words, specifier_words}
@@ -19,8 +19,8 @@ use Rattle.vax_disasm.proofs.Moded.{narrow_of, PlaceValue, PlaceReads, number_va
 use Rattle.vax_disasm.proofs.Operands.{place_reads, in_memory, place_apart, index_words, indexed}
 use Rattle.vax_disasm.proofs.Readings.{PlaceMay, May}
 use Rattle.vax_disasm.proofs.Meant.{Valued, narrowly, narrow_wide, branch_narrowly, place_denoted, indexed_denoted, literal_denoted, register_denoted, immediate_denoted, branch_denoted}
-use Rattle.vax_encode.specs.Operands.{branch_size}
-use Rattle.vax_encode.specs.Bytes.{low_bytes, bytes_of}
+use Rattle.vax_asm_encode.specs.Operands.{branch_size}
+use Rattle.vax_asm_encode.specs.Bytes.{low_bytes, bytes_of}
 
 place_fits : (p : Place) → PlaceMay p → PlaceFits p
 place_fits (Deferred n) h = omega arith

@@ -22,9 +22,9 @@ use Rattle.vax_lex.specs.declared.value.Value.{Value}
 use Rattle.vax_lex.proofs.Lines.{steps}
 use Rattle.vax_lex.proofs.Heads.{head_fits}
 use Rattle.vax_flat.specs.Grammar.{Specifier, Reading, Reads, Reserved, Sequence, End, ReservedHere, Next, read_operand, read_operands, followed, total, IsUnreserved}
-use Rattle.vax_encode.specs.Bytes.{bytes_of}
-use Rattle.vax_statement.specs.Parts.{parts}
-use Rattle.vax_statement.specs.Reading.{Operation, parsed}
+use Rattle.vax_asm_encode.specs.Bytes.{bytes_of}
+use Rattle.vax_asm_statement.specs.Parts.{parts}
+use Rattle.vax_asm_statement.specs.Reading.{Operation, parsed}
 use Rattle.vax_disasm.specs.Text.{operands_text, specifier_text, instruction_text}
 use Rattle.vax_disasm.specs.Denoted.{denoted, operands_denoted, operand_denoted, Denotes}
 use Rattle.vax_disasm.specs.Listed.{Listing, listed, IsDecoded}

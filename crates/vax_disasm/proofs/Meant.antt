@@ -18,17 +18,17 @@ use Rattle.vax_lex.specs.declared.value.Value.TheVariants as value
 use Rattle.vax_lex.specs.declared.value.ExprError.{ExprError}
 use Rattle.vax_flat.specs.Operand.{extended, plus, reaches_pc, is_no_base, is_result}
 use Rattle.vax_flat.specs.Grammar.{Place, Deferred, Decrement, Increment, IncrementDeferred, Absolute, Displaced, DisplacedDeferred, Specifier, Literal, Register, Immediate, InMemory, Indexed, BranchBy, is_read, takes_register}
-use Rattle.vax_encode.specs.declared.operand.Base.{Base}
-use Rattle.vax_encode.specs.declared.operand.Base.TheVariants as base
-use Rattle.vax_encode.specs.declared.operand.Operand.{Operand}
-use Rattle.vax_encode.specs.declared.operand.Operand.TheVariants as operand
-use Rattle.vax_encode.specs.Operands.{width_of, data_size, branch_size, field_of, base_field, base_stands, takes_index, may_stand, takes_branch, place_of, specifier_of}
-use Rattle.vax_encode.specs.Fields.{filled, half, displacement, distance, reached, outright, number}
-use Rattle.vax_encode.specs.Bytes.{bytes_of}
-use Rattle.vax_statement.specs.Modes as modes
-use Rattle.vax_statement.specs.Modes.{operand_of}
-use Rattle.vax_statement.specs.Sizes.{sized}
-use Rattle.vax_statement.specs.declared.modes.Mode.TheVariants as mode
+use Rattle.vax_asm_encode.specs.declared.operand.Base.{Base}
+use Rattle.vax_asm_encode.specs.declared.operand.Base.TheVariants as base
+use Rattle.vax_asm_encode.specs.declared.operand.Operand.{Operand}
+use Rattle.vax_asm_encode.specs.declared.operand.Operand.TheVariants as operand
+use Rattle.vax_asm_encode.specs.Operands.{width_of, data_size, branch_size, field_of, base_field, base_stands, takes_index, may_stand, takes_branch, place_of, specifier_of}
+use Rattle.vax_asm_encode.specs.Fields.{filled, half, displacement, distance, reached, outright, number}
+use Rattle.vax_asm_encode.specs.Bytes.{bytes_of}
+use Rattle.vax_asm_statement.specs.Modes as modes
+use Rattle.vax_asm_statement.specs.Modes.{operand_of}
+use Rattle.vax_asm_statement.specs.Sizes.{sized}
+use Rattle.vax_asm_statement.specs.declared.modes.Mode.TheVariants as mode
 use Rattle.vax_disasm.specs.Seen.{IsDisplacement}
 use Rattle.vax_disasm.specs.Denoted.{settled, number_in, field_at, behind_specifier, branch, value_of, operand_denoted}
 use Rattle.vax_disasm.proofs.Readings.{IsExtended, base_form, PlaceMay}

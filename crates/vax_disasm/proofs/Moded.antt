@@ -15,10 +15,10 @@ use Rattle.vax_lex.specs.declared.value.Value.TheVariants as value
 use Rattle.vax_lex.specs.declared.token.Token.{Token}
 use Rattle.vax_lex.specs.declared.token.TokenKind.TheVariants.{Number}
 use Rattle.vax_flat.specs.Grammar.{Place, Deferred, Decrement, Increment, IncrementDeferred, Absolute, Displaced, DisplacedDeferred}
-use Rattle.vax_statement.specs.declared.modes.Mode.{Mode}
-use Rattle.vax_statement.specs.declared.modes.Mode.TheVariants as mode
-use Rattle.vax_statement.specs.Registers.{register_of}
-use Rattle.vax_statement.specs.Modes.{enclosed_last, unindexed, direct_form, register_form, deferred_form}
+use Rattle.vax_asm_statement.specs.declared.modes.Mode.{Mode}
+use Rattle.vax_asm_statement.specs.declared.modes.Mode.TheVariants as mode
+use Rattle.vax_asm_statement.specs.Registers.{register_of}
+use Rattle.vax_asm_statement.specs.Modes.{enclosed_last, unindexed, direct_form, register_form, deferred_form}
 use Rattle.vax_disasm.specs.Text.{register_name}
 use Rattle.vax_disasm.proofs.Words.{Word, word, tokens_at, AreThere}
 use Rattle.vax_disasm.proofs.Registers.{IsRegister, register_is}

@@ -4,7 +4,7 @@ use Rattle.std.specs.Fmt.{digits}
 use Rattle.std.specs.List.{list_all}
 use Rattle.vax_lex.specs.Characters.{is_name_character}
 use Rattle.vax_lex.specs.Statements.{is_size_letter}
-use Rattle.vax_statement.specs.Registers.{register_of}
+use Rattle.vax_asm_statement.specs.Registers.{register_of}
 use Rattle.vax_disasm.specs.Text.{register_name}
 use Rattle.vax_disasm.proofs.Heads.{BeginsName}
 

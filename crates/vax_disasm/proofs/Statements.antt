@@ -19,18 +19,18 @@ use Rattle.vax_lex.specs.declared.value.Value.{Value}
 use Rattle.vax_lex.specs.declared.value.Value.TheVariants as value
 use Rattle.vax_lex.specs.declared.value.ExprError.{ExprError}
 use Rattle.vax_flat.specs.Grammar.{Specifier, Reads, Sequence, End, ReservedHere, Next, read_operand, read_operands, followed, total, IsUnreserved}
-use Rattle.vax_encode.specs.declared.operand.Operand.{Operand}
-use Rattle.vax_encode.specs.declared.operand.Field.{Field}
-use Rattle.vax_encode.specs.declared.operand.Field.TheVariants as field
-use Rattle.vax_encode.specs.Operands.{width_of, field_of, may_stand, takes_branch, specifier_of}
-use Rattle.vax_encode.specs.Fields.{filled, literal, number, displacement, half, reached, outright, relative, relocated, relative_reloc, distance, address}
-use Rattle.vax_encode.specs.Bytes.{Holds, HoldsIn, IsReadBack, operand_bytes}
-use Rattle.vax_encode.proofs.Extending.{extends_low, extends_high}
-use Rattle.vax_encode.proofs.Standing.{reads_back}
-use Rattle.vax_statement.specs.Modes as modes
-use Rattle.vax_statement.specs.Sizes.{sized}
-use Rattle.vax_statement.specs.Parts.{parts}
-use Rattle.vax_statement.specs.Reading.{What, Nothing, Assignment, Operation, Malformed, parsed}
+use Rattle.vax_asm_encode.specs.declared.operand.Operand.{Operand}
+use Rattle.vax_asm_encode.specs.declared.operand.Field.{Field}
+use Rattle.vax_asm_encode.specs.declared.operand.Field.TheVariants as field
+use Rattle.vax_asm_encode.specs.Operands.{width_of, field_of, may_stand, takes_branch, specifier_of}
+use Rattle.vax_asm_encode.specs.Fields.{filled, literal, number, displacement, half, reached, outright, relative, relocated, relative_reloc, distance, address}
+use Rattle.vax_asm_encode.specs.Bytes.{Holds, HoldsIn, IsReadBack, operand_bytes}
+use Rattle.vax_asm_encode.proofs.Extending.{extends_low, extends_high}
+use Rattle.vax_asm_encode.proofs.Standing.{reads_back}
+use Rattle.vax_asm_statement.specs.Modes as modes
+use Rattle.vax_asm_statement.specs.Sizes.{sized}
+use Rattle.vax_asm_statement.specs.Parts.{parts}
+use Rattle.vax_asm_statement.specs.Reading.{What, Nothing, Assignment, Operation, Malformed, parsed}
 use Rattle.vax_disasm.specs.Listed.{Listing, is_unreserved, listing, listed}
 use Rattle.vax_disasm.specs.Seen.{decoded_seen}
 use Rattle.vax_disasm.specs.declared.Decoded.{Decoded}

@@ -10,8 +10,8 @@ use Rattle.vax_lex.specs.declared.token.TokenKind.{TokenKind}
 use Rattle.vax_lex.specs.declared.token.TokenKind.TheVariants.{Name, Number, Mark, Text}
 use Rattle.vax_flat.specs.Operand.{plus}
 use Rattle.vax_flat.specs.Grammar.{Place, Deferred, Decrement, Increment, IncrementDeferred, Absolute, Displaced, DisplacedDeferred, Specifier, Literal, Register, Immediate, InMemory, Indexed, BranchBy, Sequence, End, ReservedHere, Next}
-use Rattle.vax_statement.specs.Tokens.{is_mark_kind}
-use Rattle.vax_statement.specs.Parts.{parts, split_from}
+use Rattle.vax_asm_statement.specs.Tokens.{is_mark_kind}
+use Rattle.vax_asm_statement.specs.Parts.{parts, split_from}
 use Rattle.vax_disasm.specs.Text.{operands_text, specifier_text}
 use Rattle.vax_disasm.proofs.Words.{Word, written, token_at, tokens_at, behind, Scans, next_word, tokens-append, written-append}
 use Rattle.vax_disasm.proofs.Heads.{operand_context, sign_head, behind_sign}

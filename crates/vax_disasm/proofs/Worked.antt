@@ -7,10 +7,10 @@ use Rattle.vax_lex.specs.Characters.{number_after}
 use Rattle.vax_lex.specs.Tokens.{pieces_of, pieces_from, head_of, plain, numeral, based, quoted}
 use Rattle.vax_lex.specs.Expressions.{value_at, term_in, joined_in}
 use Rattle.vax_lex.specs.declared.value.Value.{Value}
-use Rattle.vax_encode.specs.Fields.{filled}
-use Rattle.vax_encode.specs.Bytes.{low_bytes, bytes_of}
-use Rattle.vax_statement.specs.Reading.{parsed}
-use Rattle.vax_statement.specs.Modes.{operand_of, unindexed, direct_form, register_form, deferred_form}
+use Rattle.vax_asm_encode.specs.Fields.{filled}
+use Rattle.vax_asm_encode.specs.Bytes.{low_bytes, bytes_of}
+use Rattle.vax_asm_statement.specs.Reading.{parsed}
+use Rattle.vax_asm_statement.specs.Modes.{operand_of, unindexed, direct_form, register_form, deferred_form}
 use Rattle.vax_disasm.specs.Denoted.{denoted, operands_denoted, operand_denoted}
 
 no_names : List ℕ → Option Value

@@ -12,24 +12,24 @@ use Rattle.vax_lex.specs.declared.token.LexError.{LexError}
 use Rattle.vax_lex.specs.declared.value.Value.{Value}
 use Rattle.vax_lex.specs.declared.value.Value.TheVariants as value
 use Rattle.vax_lex.specs.declared.value.ExprError.{ExprError}
-use Rattle.vax_encode.specs.declared.operand.Operand.{Operand}
-use Rattle.vax_encode.specs.declared.operand.Operand.TheVariants as operand
-use Rattle.vax_encode.specs.declared.operand.Field.{Field}
-use Rattle.vax_encode.specs.declared.operand.Field.TheVariants as field
-use Rattle.vax_encode.specs.declared.filling.Filled.{Filled}
-use Rattle.vax_encode.specs.declared.filling.FieldFault.{FieldFault}
+use Rattle.vax_asm_encode.specs.declared.operand.Operand.{Operand}
+use Rattle.vax_asm_encode.specs.declared.operand.Operand.TheVariants as operand
+use Rattle.vax_asm_encode.specs.declared.operand.Field.{Field}
+use Rattle.vax_asm_encode.specs.declared.operand.Field.TheVariants as field
+use Rattle.vax_asm_encode.specs.declared.filling.Filled.{Filled}
+use Rattle.vax_asm_encode.specs.declared.filling.FieldFault.{FieldFault}
 use Rattle.vax_module.specs.declared.RelocKind.{RelocKind}
-use Rattle.vax_encode.specs.Operands.{field_of, may_stand, takes_branch}
-use Rattle.vax_encode.specs.Fields.{filled, distance}
-use Rattle.vax_encode.specs.Bytes.{operand_bytes}
-use Rattle.vax_statement.specs.declared.modes.Mode.{Mode}
-use Rattle.vax_statement.specs.declared.modes.Mode.TheVariants as mode
-use Rattle.vax_statement.specs.Modes.{operand_of}
-use Rattle.vax_statement.specs.Modes as modes
-use Rattle.vax_statement.specs.Sizes.{sized}
-use Rattle.vax_statement.specs.Parts.{parts}
+use Rattle.vax_asm_encode.specs.Operands.{field_of, may_stand, takes_branch}
+use Rattle.vax_asm_encode.specs.Fields.{filled, distance}
+use Rattle.vax_asm_encode.specs.Bytes.{operand_bytes}
+use Rattle.vax_asm_statement.specs.declared.modes.Mode.{Mode}
+use Rattle.vax_asm_statement.specs.declared.modes.Mode.TheVariants as mode
+use Rattle.vax_asm_statement.specs.Modes.{operand_of}
+use Rattle.vax_asm_statement.specs.Modes as modes
+use Rattle.vax_asm_statement.specs.Sizes.{sized}
+use Rattle.vax_asm_statement.specs.Parts.{parts}
 use Rattle.vax_disasm.specs.Listed.{Listing}
-use Rattle.vax_statement.specs.Reading.{What, Nothing, Assignment, Operation, Malformed, parsed}
+use Rattle.vax_asm_statement.specs.Reading.{What, Nothing, Assignment, Operation, Malformed, parsed}
 
 -- A field that holds the distance to a place takes a number for the address of one. The places of the section 0 are counted from the
 -- instruction's address.

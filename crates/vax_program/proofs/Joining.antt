@@ -3,7 +3,7 @@ use Rattle.std.proofs.Common.{◌≡◌, ◌<◌, ◌+◌, ℕ, suc, add-one, Bo
 use Rattle.std.specs.Prelude.{Vec, Result, Ok, Err, slice_index_or}
 use Rattle.std.specs.Global.{Global}
 use Rattle.vax_asm.specs.Walk.{assembled}
-use Rattle.vax_fill.specs.declared.types.Fault.{Fault}
+use Rattle.vax_asm_second.specs.declared.types.Fault.{Fault}
 use Rattle.vax_module.specs.declared.Module.{Module}
 use Rattle.vax_program.specs.Program.{Refusal, InImage, and_others, is_image, modules_of}
 use Rattle.vax_program.specs.View.{Answers, refusal_seen, texts}

@@ -2,7 +2,7 @@
 use Rattle.std.specs.Prelude.{ℕ, suc, List, [], ◌∷◌, Result, Ok, Err, Bool, true, false, codes, take, if◌then◌else◌}
 use Rattle.std.specs.Str.{bytes_eq}
 use Rattle.vax_asm.specs.Walk.{assembled}
-use Rattle.vax_fill.specs.declared.types.Fault.{Fault}
+use Rattle.vax_asm_second.specs.declared.types.Fault.{Fault}
 use Rattle.vax_image.specs.Reading.{image_of}
 use Rattle.vax_image.specs.declared.Base.{Base}
 use Rattle.vax_image.specs.declared.Base.TheVariants.{Bare, User}

@@ -13,25 +13,25 @@ use Rattle.vax_image.specs.declared.Image.{Image}
 use Rattle.vax_machine.specs.Paged.{Paged, Why, ByEnding, BySteps, ByTurns}
 use Rattle.vax_machine.specs.declared.event.Limits.{Limits}
 use Rattle.vax_program.specs.Program.{Refusal, Source, Link as FromLinker, InImage}
-use Rattle.vax_words.specs.Words.{Text, Options, Said, bare, run, build, list, console, work, about, command_of}
-use Rattle.vax_words.specs.declared.command.Base as words_base
-use Rattle.vax_words.specs.declared.command.DumpItem.{DumpItem}
-use Rattle.vax_words.specs.declared.command.Format.{Format}
-use Rattle.vax_status.specs.Ends.{Ends}
-use Rattle.vax_run.specs.Loaded.{Loaded}
-use Rattle.vax_run.specs.Running.{IsFaulty, IsRunning, LacksMemory, RunsSo}
+use Rattle.vax_cli.specs.Words.{Text, Options, Said, bare, run, build, list, console, work, about, command_of}
+use Rattle.vax_cli.specs.declared.command.Base as words_base
+use Rattle.vax_cli.specs.declared.command.DumpItem.{DumpItem}
+use Rattle.vax_cli.specs.declared.command.Format.{Format}
+use Rattle.vax_command.specs.Ends.{Ends}
+use Rattle.vax_command.specs.Loaded.{Loaded}
+use Rattle.vax_command.specs.Running.{IsFaulty, IsRunning, LacksMemory, RunsSo}
 use Rattle.vax_top.specs.Loaded.{IsRefused, image_from, refused_as}
-use Rattle.vax_load.specs.Reading.{HasTexts, ReadEnds, Reads, Texts, of_options, texts_of}
-use Rattle.vax_status.specs.Status.{refusal, refusal_growth}
+use Rattle.vax_command.specs.Reading.{HasTexts, ReadEnds, Reads, Texts, of_options, texts_of}
+use Rattle.vax_command.specs.Status.{refusal, refusal_growth}
 use Rattle.vax_top.specs.Top.{Carries, Comes, CommandComes, Does, ImageDoes, IsAbout, IsFile, IsListing, IsRunOf, IsSessionOf, IsWriting, RunDoes, SessionDoes, base_for, no_pages, reads, reads_of, run_of, session_of, session_programs}
-use Rattle.vax_run.specs.Went.{IsCut, IsRunAnswer, IsUnread, WentFrom, status_of}
-use Rattle.vax_status.specs.declared.status.Status.{Status}
-use Rattle.vax_status.specs.declared.status.Status.TheVariants.{Done, Usage, Missing, Large, Refused, Link, Schedule, Image as BadImage, Turns, PageFault, ReadFault, WriteFault, NoMemory}
-use Rattle.vax_load.proofs.LoadLaws.{reads_none}
-use Rattle.vax_run.specs.Pages.{Outside}
-use Rattle.vax_session.proofs.SessionLaws.{Held}
-use Rattle.vax_session.specs.Holding.{HeldSo, IsHolding}
-use Rattle.vax_session.specs.SessionWent.{SessionWent}
+use Rattle.vax_command.specs.Went.{IsCut, IsRunAnswer, IsUnread, WentFrom, status_of}
+use Rattle.vax_command.specs.declared.status.Status.{Status}
+use Rattle.vax_command.specs.declared.status.Status.TheVariants.{Done, Usage, Missing, Large, Refused, Link, Schedule, Image as BadImage, Turns, PageFault, ReadFault, WriteFault, NoMemory}
+use Rattle.vax_command.proofs.LoadLaws.{reads_none}
+use Rattle.vax_command.specs.Pages.{Outside}
+use Rattle.vax_command.proofs.SessionLaws.{Held}
+use Rattle.vax_command.specs.Holding.{HeldSo, IsHolding}
+use Rattle.vax_command.specs.SessionWent.{SessionWent}
 use Rattle.vax_flat.specs.Step.{Flat}
 use Rattle.vax_script.specs.declared.request.Line.{Line}
 

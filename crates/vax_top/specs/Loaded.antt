@@ -5,10 +5,10 @@ use Rattle.vax_image.specs.declared.Base.{Base}
 use Rattle.vax_image.specs.declared.Base.TheVariants as base
 use Rattle.vax_image.specs.declared.Image.{Image}
 use Rattle.vax_program.specs.Program.{Parts, Refusal, Source, Link, InImage, parts_of, linked_of}
-use Rattle.vax_words.specs.Words.{Text}
-use Rattle.vax_run.specs.Loaded.{Loaded}
-use Rattle.vax_status.specs.declared.status.Status.{Status}
-use Rattle.vax_status.specs.declared.status.Status.TheVariants as status
+use Rattle.vax_cli.specs.Words.{Text}
+use Rattle.vax_command.specs.Loaded.{Loaded}
+use Rattle.vax_command.specs.declared.status.Status.{Status}
+use Rattle.vax_command.specs.declared.status.Status.TheVariants as status
 
 abbrev pub alone : Result Image Refusal → Result Loaded Refusal
 alone (Ok image) = Ok (record { system = image; user = None })

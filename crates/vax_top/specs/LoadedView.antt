@@ -5,8 +5,8 @@ use Rattle.vax_program.specs.View.{refusal_seen}
 use Rattle.vax_program.specs.declared.types.ProgramError.{ProgramError}
 use Rattle.vax_program.specs.declared.types.ProgramError.TheVariants as errors
 use Rattle.vax_top.specs.Loaded.{IsRefused, refused_as}
-use Rattle.vax_status.specs.declared.status.Status.{Status}
-use Rattle.vax_status.specs.declared.status.Status.TheVariants.{NoMemory}
+use Rattle.vax_command.specs.declared.status.Status.{Status}
+use Rattle.vax_command.specs.declared.status.Status.TheVariants.{NoMemory}
 
 -- the programs that are meant, or the answer to their refusal; memory may be refused at any time
 abbrev pub Loads : {X Y : Type 0} → (X → Y) → Result X Status → Result Y specs.Refusal → Type 0

@@ -4,11 +4,11 @@ use Rattle.std.specs.Option.{option_map_or}
 use Rattle.vax_outside.specs.Channels.{Channels, only}
 use Rattle.vax_outside.specs.Directory.{Directory}
 use Rattle.vax_outside.specs.declared.traits.Chan.TheVariants as channel
-use Rattle.vax_words.specs.Words.{Text, Options, Said, bare, run, build, list, console, work, about, command_of}
-use Rattle.vax_words.specs.declared.command.Base as words_base
-use Rattle.vax_words.specs.declared.command.Base.TheVariants as words_bases
-use Rattle.vax_words.specs.declared.command.Format.{Format}
-use Rattle.vax_words.specs.declared.command.Format.TheVariants.{First, Second}
+use Rattle.vax_cli.specs.Words.{Text, Options, Said, bare, run, build, list, console, work, about, command_of}
+use Rattle.vax_cli.specs.declared.command.Base as words_base
+use Rattle.vax_cli.specs.declared.command.Base.TheVariants as words_bases
+use Rattle.vax_cli.specs.declared.command.Format.{Format}
+use Rattle.vax_cli.specs.declared.command.Format.TheVariants.{First, Second}
 use Rattle.vax_guest.specs.Executive.{executive_source}
 use Rattle.vax_guest.specs.Workload.{workload}
 use Rattle.vax_image.specs.File.{File, File2}
@@ -17,16 +17,16 @@ use Rattle.vax_image.specs.declared.Base.TheVariants as bases
 use Rattle.vax_image.specs.declared.Image.{Image}
 use Rattle.vax_program.specs.Program.{Refusal}
 use Rattle.vax_listing.specs.Listing.{listing}
-use Rattle.vax_status.specs.Ends.{Ends}
+use Rattle.vax_command.specs.Ends.{Ends}
 use Rattle.vax_top.specs.Loaded.{IsRefused, bare_loaded, image_from, system_text, user_loaded}
-use Rattle.vax_load.specs.Reading.{ReadEnds, Reads, Texts, of_options, texts_of}
-use Rattle.vax_run.specs.Loaded.{Loaded}
-use Rattle.vax_run.specs.Pages.{Outside}
-use Rattle.vax_run.specs.Running.{LacksMemory, RunsSo}
-use Rattle.vax_session.specs.Holding.{HeldSo}
-use Rattle.vax_status.specs.Status.{refusal_growth}
-use Rattle.vax_status.specs.declared.status.Status.{Status}
-use Rattle.vax_status.specs.declared.status.Status.TheVariants.{Done, NoMemory, Usage}
+use Rattle.vax_command.specs.Reading.{ReadEnds, Reads, Texts, of_options, texts_of}
+use Rattle.vax_command.specs.Loaded.{Loaded}
+use Rattle.vax_command.specs.Pages.{Outside}
+use Rattle.vax_command.specs.Running.{LacksMemory, RunsSo}
+use Rattle.vax_command.specs.Holding.{HeldSo}
+use Rattle.vax_command.specs.Status.{refusal_growth}
+use Rattle.vax_command.specs.declared.status.Status.{Status}
+use Rattle.vax_command.specs.declared.status.Status.TheVariants.{Done, NoMemory, Usage}
 
 -- the files that a command reads, in order
 abbrev pub reads_of : Said → List Text

@@ -5,26 +5,24 @@ ghost use Rattle.vax_outside.specs.Channels.{Channels, only};
 ghost use Rattle.vax_guest.specs.Workload.{workload};
 ghost use Rattle.vax_image.specs.Image.{IsImage};
 ghost use Rattle.vax_listing.specs.Listing.{listing};
-ghost use Rattle.vax_words.specs.Words.{bare, build, list, run, work};
-ghost use Rattle.vax_words.specs.Said.{AreWithin, names_of, options as said_options};
-ghost use Rattle.vax_status.specs.Ends.{Ends};
-ghost use Rattle.vax_run.specs.Pages.{outside_of};
+ghost use Rattle.vax_cli.specs.Words.{bare, build, list, run, work};
+ghost use Rattle.vax_cli.specs.Said.{AreWithin, names_of, options as said_options};
+ghost use Rattle.vax_command.specs.Ends.{Ends};
+ghost use Rattle.vax_command.specs.Pages.{outside_of};
 ghost use Rattle.vax_top.specs.Loaded.{system_text, user_loaded};
-ghost use Rattle.vax_load.specs.Reading.{file_limit};
-ghost use Rattle.vax_load.specs.ReadingView.{bytes_of, texts as texts_seen};
+ghost use Rattle.vax_command.specs.Reading.{file_limit};
+ghost use Rattle.vax_command.specs.ReadingView.{bytes_of, texts as texts_seen};
 ghost use Rattle.vax_top.specs.Top.{Carries, IsFile, IsRunOf, base_for, no_pages};
 
 use crate::programs::{alone, load_bare, load_image, load_user, system_files};
 use std::alloc::Global;
+use vax_cli::{Base, Format, Options};
+use vax_command::{Given, Status, load_files, load_options, load_run, refuse, run_programs};
 use vax_guest::generate;
 use vax_image::{Image, write, write2};
 use vax_listing::write_listing;
-use vax_load::{Given, load_files, load_options, load_run};
 use vax_outside::{Chan, Failed, Files, PageFile, Sink, put_all};
-use vax_run::run_programs;
 use vax_space::NoMemory;
-use vax_status::{Status, refuse};
-use vax_words::{Base, Format, Options};
 
 /// Writes a text to Out.
 pub(crate) fn show<K: Sink>(text: &[u8], sink: &mut K) -> Status

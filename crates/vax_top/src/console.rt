@@ -1,23 +1,20 @@
 //! The command `console`.
 ghost use Rattle.std.specs.Prelude.{◌≡◌, ◌≢◌, ◌⊎◌, ◌≤◌, IfOk, length};
 ghost use Rattle.vax_outside.specs.Faults.{Rose};
-ghost use Rattle.vax_words.specs.Words.{console};
-ghost use Rattle.vax_words.specs.Said.{AreWithin, names_of, options as said_options};
-ghost use Rattle.vax_load.specs.ReadingView.{bytes_of, texts as texts_seen};
-ghost use Rattle.vax_run.specs.Loaded.{AreSound, loaded_seen};
-ghost use Rattle.vax_run.specs.Pages.{outside_of};
+ghost use Rattle.vax_cli.specs.Words.{console};
+ghost use Rattle.vax_cli.specs.Said.{AreWithin, names_of, options as said_options};
+ghost use Rattle.vax_command.specs.ReadingView.{bytes_of, texts as texts_seen};
+ghost use Rattle.vax_command.specs.Loaded.{AreSound, loaded_seen};
+ghost use Rattle.vax_command.specs.Pages.{outside_of};
 ghost use Rattle.vax_top.specs.Loaded.{system_text, user_loaded};
 ghost use Rattle.vax_top.specs.LoadedView.{Loads};
 ghost use Rattle.vax_top.specs.Top.{Carries, session_loaded};
 
 use crate::programs::{load_bare, load_user, system_files};
 use std::alloc::Global;
-use vax_load::{Given, load_run};
+use vax_cli::{Base, Options};
+use vax_command::{Given, Programs, Status, hold_session, load_run, refuse};
 use vax_outside::{Files, PageFile, Sink};
-use vax_run::Programs;
-use vax_session::hold_session;
-use vax_status::{Status, refuse};
-use vax_words::{Base, Options};
 
 /// A program in user mode and its system, if one is given.
 fn load_under(alloc: Global, texts: &[Vec<u8>], system: Option<Vec<u8>>) -> Result<Programs, Status>

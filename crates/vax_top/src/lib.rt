@@ -7,4 +7,4 @@ mod programs;
 mod top;
 
 pub use top::vax_main;
-pub use vax_status::{Name, Status};
+pub use vax_command::{Name, Status};

@@ -4,16 +4,15 @@ ghost use Rattle.vax_image.specs.Image.{IsImage};
 ghost use Rattle.vax_image.specs.declared.Base.TheVariants as base;
 ghost use Rattle.vax_program.specs.View.{IsSound, base_of, parts_seen};
 ghost use Rattle.vax_top.specs.Loaded.{bare_loaded, image_from, linked_over, system_text, user_loaded};
-ghost use Rattle.vax_run.specs.Loaded.{AreSound, loaded_seen};
+ghost use Rattle.vax_command.specs.Loaded.{AreSound, loaded_seen};
 ghost use Rattle.vax_top.specs.LoadedView.{Answers, Loads};
-ghost use Rattle.vax_load.specs.ReadingView.{bytes_of, texts};
+ghost use Rattle.vax_command.specs.ReadingView.{bytes_of, texts};
 
 use std::alloc::{AllocError, Global};
+use vax_command::{Programs, Status};
 use vax_guest::executive;
 use vax_image::{Base, Image};
 use vax_program::{Parts, ProgramError, Refusal, link_parts, read_parts};
-use vax_run::Programs;
-use vax_status::Status;
 
 /// The answer to an error.
 fn answer_to(error: ProgramError) -> Status

@@ -4,20 +4,20 @@ ghost use Rattle.vax_outside.specs.Faults.{Rose};
 ghost use Rattle.vax_outside.specs.declared.traits.FilesFault.TheVariants as files_fault;
 ghost use Rattle.vax_outside.specs.Channels.{Channels, Grew, only};
 ghost use Rattle.vax_outside.specs.declared.traits.Chan.TheVariants.{Report};
-ghost use Rattle.vax_words.specs.Said.{IsWithin, said, texts};
-ghost use Rattle.vax_words.specs.Words.{command_of};
-ghost use Rattle.vax_status.specs.Ends.{Ends};
-ghost use Rattle.vax_load.specs.Reading.{Reads};
-ghost use Rattle.vax_status.specs.Status.{refusal};
-ghost use Rattle.vax_run.specs.Pages.{outside_of};
+ghost use Rattle.vax_cli.specs.Said.{IsWithin, said, texts};
+ghost use Rattle.vax_cli.specs.Words.{command_of};
+ghost use Rattle.vax_command.specs.Ends.{Ends};
+ghost use Rattle.vax_command.specs.Reading.{Reads};
+ghost use Rattle.vax_command.specs.Status.{refusal};
+ghost use Rattle.vax_command.specs.Pages.{outside_of};
 ghost use Rattle.vax_top.specs.Top.{Carries, Comes, IsAbout, reads};
 
 use crate::commands::{build, list, run_bare, run_user, run_work, show};
 use crate::console::run_console;
 use std::alloc::Global;
+use vax_cli::{Command, WordsError, command_of};
+use vax_command::{Status, refuse};
 use vax_outside::{Files, PageFile, Sink};
-use vax_status::{Status, refuse};
-use vax_words::{Command, WordsError, command_of};
 
 /// Writes the text about the program that the words ask for to Out.
 fn tell<K: Sink>(alloc: Global, words: &[String], sink: &mut K) -> Status
@@ -25,7 +25,7 @@ fn tell<K: Sink>(alloc: Global, words: &[String], sink: &mut K) -> Status
         × IsAbout meant grown
         × Ends (K.faults sink.old) (K.faults sink.new) (K.contents sink.old) (K.contents sink.new) meant grown result }
 {
-    match vax_words::about(alloc, words) {
+    match vax_cli::about(alloc, words) {
         Ok(text) => show(text.as_bytes(), sink),
         Err(_) => refuse(Status::NoMemory, sink),
     }

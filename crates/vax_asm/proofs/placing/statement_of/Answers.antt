@@ -1,6 +1,6 @@
 use Rattle.std.proofs.Common.{sym, subst}
-use Rattle.vax_statement.specs.Reading.{Parsed, statement_seen}
-use Rattle.vax_statement.specs.Within.{Within}
+use Rattle.vax_asm_statement.specs.Reading.{Parsed, statement_seen}
+use Rattle.vax_asm_statement.specs.Within.{Within}
 use Rattle.vax_asm.proofs.Parsing.{statement_sound}
 use Rattle.vax_asm.proofs.placing.statement_of.Goals as goal
 

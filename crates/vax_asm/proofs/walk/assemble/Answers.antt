@@ -1,8 +1,8 @@
 use Rattle.std.proofs.Common.{subst}
 use Rattle.std.specs.Prelude.{Err}
 use Rattle.vax_asm.specs.Walk.{assembled}
-use Rattle.vax_fill.specs.View.{Fills}
-use Rattle.vax_fill.specs.declared.types.FillError.{FillError}
+use Rattle.vax_asm_second.specs.View.{Fills}
+use Rattle.vax_asm_second.specs.declared.types.FillError.{FillError}
 use Rattle.vax_asm.proofs.walk.assemble.Goals as goal
 
 pub returns-in-Err-Fault-clause-module : goal.returns-in-Err-Fault-clause-module

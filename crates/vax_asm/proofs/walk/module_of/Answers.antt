@@ -1,7 +1,7 @@
 use Rattle.std.proofs.Common.{suc, map, ap, arith}
 use Rattle.vax_macro.specs.Expanders.{rest_of}
 use Rattle.vax_macro.specs.Rest.{work}
-use Rattle.vax_pass.specs.View.{assignment_of, standing_of}
+use Rattle.vax_asm_first.specs.View.{assignment_of, standing_of}
 use Rattle.vax_asm.proofs.Opening.{started_walk}
 use Rattle.vax_asm.proofs.walk.module_of.Goals as goal
 

@@ -1,10 +1,10 @@
 use Rattle.std.proofs.Common.{◌≡◌, None, ap, refl, subst, sym, ◌∙◌}
 use Rattle.vax_outside.specs.Faults.{Rose}
-use Rattle.vax_words.specs.Said.{names_of, options as said_options}
-use Rattle.vax_words.specs.Words.{Text, bare}
-use Rattle.vax_load.specs.ReadingView.{given_seen, texts}
-use Rattle.vax_run.specs.Loaded.{loaded_seen}
-use Rattle.vax_run.specs.Pages.{outside_of}
+use Rattle.vax_cli.specs.Said.{names_of, options as said_options}
+use Rattle.vax_cli.specs.Words.{Text, bare}
+use Rattle.vax_command.specs.ReadingView.{given_seen, texts}
+use Rattle.vax_command.specs.Loaded.{loaded_seen}
+use Rattle.vax_command.specs.Pages.{outside_of}
 use Rattle.vax_top.specs.Loaded.{bare_loaded}
 use Rattle.vax_top.specs.Top.{bare_programs}
 use Rattle.vax_top.proofs.TopLaws.{RanAs, files_ran, run_carries}

@@ -1,10 +1,10 @@
 use Rattle.std.proofs.Common.{◌≡◌, ap, ◌∙◌, refl, subst}
 use Rattle.vax_outside.specs.Faults.{Rose}
-use Rattle.vax_words.specs.Said.{options as said_options}
-use Rattle.vax_load.specs.ReadingView.{bytes_of, texts}
-use Rattle.vax_words.specs.Words.{Text}
-use Rattle.vax_run.specs.Loaded.{loaded_seen}
-use Rattle.vax_run.specs.Pages.{outside_of}
+use Rattle.vax_cli.specs.Said.{options as said_options}
+use Rattle.vax_command.specs.ReadingView.{bytes_of, texts}
+use Rattle.vax_cli.specs.Words.{Text}
+use Rattle.vax_command.specs.Loaded.{loaded_seen}
+use Rattle.vax_command.specs.Pages.{outside_of}
 use Rattle.vax_top.specs.Loaded.{system_text, user_loaded}
 use Rattle.vax_top.proofs.TopLaws.{RanAs, files_ran, files_refused}
 use Rattle.vax_top.proofs.commands.run_over.Goals as goal

@@ -1,10 +1,10 @@
 use Rattle.std.proofs.Common.{◌≡◌, [], None, List, refl, subst, ap, ◌∙◌}
 use Rattle.vax_outside.specs.Faults.{Rose}
-use Rattle.vax_words.specs.Said.{options as said_options}
-use Rattle.vax_words.specs.Words.{Text, work}
+use Rattle.vax_cli.specs.Said.{options as said_options}
+use Rattle.vax_cli.specs.Words.{Text, work}
 use Rattle.vax_guest.specs.Executive.{executive_source}
-use Rattle.vax_load.specs.ReadingView.{given_seen, texts}
-use Rattle.vax_run.specs.Pages.{outside_of}
+use Rattle.vax_command.specs.ReadingView.{given_seen, texts}
+use Rattle.vax_command.specs.Pages.{outside_of}
 use Rattle.vax_top.specs.Loaded.{user_loaded}
 use Rattle.vax_top.specs.Top.{work_programs}
 use Rattle.vax_top.proofs.TopLaws.{RanOf, run_carries}

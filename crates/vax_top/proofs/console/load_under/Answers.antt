@@ -1,5 +1,5 @@
 use Rattle.std.proofs.Common.{ap, ◌∙◌}
-use Rattle.vax_load.specs.ReadingView.{bytes_of, texts}
+use Rattle.vax_command.specs.ReadingView.{bytes_of, texts}
 use Rattle.vax_top.specs.Loaded.{system_text}
 use Rattle.vax_top.proofs.console.load_under.Goals as goal
 

@@ -1,11 +1,11 @@
 use Rattle.std.proofs.Common.{◌≡◌, ap, subst, sym, ◌∙◌}
 use Rattle.vax_outside.specs.Faults.{Rose}
-use Rattle.vax_words.specs.Said.{names_of, options as said_options}
-use Rattle.vax_words.specs.Words.{Text}
-use Rattle.vax_load.specs.ReadingView.{bytes_of, given_seen, texts}
-use Rattle.vax_run.specs.Loaded.{loaded_seen}
-use Rattle.vax_run.specs.Pages.{outside_of}
-use Rattle.vax_session.proofs.SessionLaws.{Held}
+use Rattle.vax_cli.specs.Said.{names_of, options as said_options}
+use Rattle.vax_cli.specs.Words.{Text}
+use Rattle.vax_command.specs.ReadingView.{bytes_of, given_seen, texts}
+use Rattle.vax_command.specs.Loaded.{loaded_seen}
+use Rattle.vax_command.specs.Pages.{outside_of}
+use Rattle.vax_command.proofs.SessionLaws.{Held}
 use Rattle.vax_top.specs.Top.{session_loaded, session_programs}
 use Rattle.vax_top.proofs.TopLaws.{session_carries, session_held}
 use Rattle.vax_top.proofs.console.run_console.Goals as goal

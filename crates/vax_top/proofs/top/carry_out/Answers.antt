@@ -1,8 +1,8 @@
 use Rattle.std.proofs.Common.{◌≡◌, ap, subst, sym, ◌∙◌}
 use Rattle.vax_outside.specs.Faults.{Rose}
-use Rattle.vax_words.specs.Said.{names_of, options as said_options, said}
-use Rattle.vax_words.specs.Words.{Said, bare, console, run}
-use Rattle.vax_run.specs.Pages.{outside_of}
+use Rattle.vax_cli.specs.Said.{names_of, options as said_options, said}
+use Rattle.vax_cli.specs.Words.{Said, bare, console, run}
+use Rattle.vax_command.specs.Pages.{outside_of}
 use Rattle.vax_top.specs.Top.{Carries}
 use Rattle.vax_top.proofs.top.carry_out.Goals as goal
 

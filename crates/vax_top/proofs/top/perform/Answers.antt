@@ -1,8 +1,8 @@
 use Rattle.std.proofs.Common.{◌≡◌, refl}
 use Rattle.vax_outside.specs.Faults.{Rose}
-use Rattle.vax_words.specs.Said.{texts}
-use Rattle.vax_words.specs.Words.{command_of}
-use Rattle.vax_run.specs.Pages.{outside_of}
+use Rattle.vax_cli.specs.Said.{texts}
+use Rattle.vax_cli.specs.Words.{command_of}
+use Rattle.vax_command.specs.Pages.{outside_of}
 use Rattle.vax_top.proofs.TopLaws.{plain_words, words_unread}
 use Rattle.vax_top.proofs.top.perform.Goals as goal
 

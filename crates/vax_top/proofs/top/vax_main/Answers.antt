@@ -1,7 +1,7 @@
 use Rattle.std.proofs.Common.{◌≡◌}
 use Rattle.vax_outside.specs.Faults.{Rose}
-use Rattle.vax_words.specs.Said.{texts}
-use Rattle.vax_run.specs.Pages.{outside_of}
+use Rattle.vax_cli.specs.Said.{texts}
+use Rattle.vax_command.specs.Pages.{outside_of}
 use Rattle.vax_top.proofs.TopLaws.{large, missing, not_plain, page_fault, read_fault, refused, usage, write_failed, write_fault}
 use Rattle.vax_top.proofs.top.vax_main.Goals as goal
 

@@ -1,0 +1,51 @@
+-- More than a module can have.
+use Rattle.std.proofs.Common.{◌≡◌, ◌<◌, ◌≤◌, ◌+◌, ◌*◌, ℕ, Bool, true, false, Some, Result, Ok, Err, refl, ap, arith}
+use Rattle.std.proofs.lemmas.Bool.{lt-ltb}
+use Rattle.std.specs.Prelude.{◌^◌, ◌||◌, if◌then◌else◌}
+use Rattle.vax_asm_data.specs.Data.{fixed, room}
+use Rattle.vax_asm_sections.specs.Layout.{Part, Zeros, Field, Sections, current_of, with_part, put, module_limit}
+use Rattle.vax_asm_sections.specs.declared.types.Refusal.{Refusal}
+use Rattle.vax_asm_sections.specs.declared.types.Refusal.TheVariants.{TooLong}
+use Rattle.vax_macro.specs.declared.error.FaultKind.TheVariants as fault
+use Rattle.vax_asm_first.specs.Fixups.{Fixup, Filling}
+use Rattle.vax_asm_first.specs.Progress.{Site, after_change}
+use Rattle.vax_asm_first.specs.Standing.{Standing, with_sections}
+use Rattle.vax_asm_first.specs.declared.types.Content.TheVariants.{Data}
+use Rattle.vax_word.specs.Arithmetic.{bytes_of}
+use Rattle.vax_word.specs.declared.Size.{Size}
+use Rattle.vax_word.specs.declared.Size.TheVariants.{B, W, L, Q}
+
+at_least : (size : Size) (n : ℕ) → n ≤ bytes_of size * n
+at_least B n = omega arith
+at_least W n = omega arith
+at_least L n = omega arith
+at_least Q n = omega arith
+
+or_second : (a b : Bool) → b ≡ true → (a || b) ≡ true
+or_second true b e = refl
+or_second false b e = e
+
+too_long : {F : Type 0} (n : ℕ) (part : Part F) (s : Sections F) → 16777216 < n → put n part s ≡ Err TooLong
+unfolding put
+too_long n part s h =
+    ap (λ (b : Bool). if◌then◌else◌ {A = Result (Sections _) Refusal} b (Err TooLong) (Ok (with_part n part s)))
+    (or_second _ _ (lt-ltb module_limit (s.total + n) (omega (arith, h))))
+
+pub items_too_many : (size : Size) (site : Site) (n : ℕ) (filling : Filling) (s : Standing) → 16777216 < n → fixed size site n filling s ≡ record { fault = Some fault.Large; standing = s }
+items_too_many size site n filling s h =
+    ap (λ (r : Result (Sections Fixup) Refusal). after_change s (with_sections s r))
+    (too_long (bytes_of size * n) (Field (record { origin = site.origin; at = (current_of s.sections).size; content = Data size n; filling = filling })) s.sections (omega (arith, h, at_least size n)))
+
+pub room_too_large : (size : Size) (s : Standing) (n : ℕ) → 16777216 < n → room size s (Ok n) ≡ Err fault.Large
+room_too_large size s n h =
+    ap (λ (r : Result (Sections Fixup) Refusal). with_sections s r)
+    (too_long (bytes_of size * n) (Zeros (bytes_of size * n)) s.sections (omega (arith, h, at_least size n)))
+
+product_fits : (size : Size) (n : ℕ) → n ≤ 16777216 → bytes_of size * n < 2 ^ 32
+product_fits B n h = omega (arith, h)
+product_fits W n h = omega (arith, h)
+product_fits L n h = omega (arith, h)
+product_fits Q n h = omega (arith, h)
+
+pub bytes_fit : (size : Size) (b n : ℕ) → b ≡ bytes_of size → n ≤ 16777216 → b * n < 2 ^ 32
+bytes_fit size b n is h = rw is (product_fits size n h)

@@ -1,0 +1,196 @@
+-- The directives of data (VAX MACRO and Instruction Set Reference Manual, "VAX MACRO assembler directives": `.BYTE` to
+-- `.QUAD`, `.ADDRESS`, `.ASCII` to `.ASCIZ`, `.BLKB` to `.BLKQ`, `.ALIGN`, `.EVEN`).
+use Rattle.std.specs.Prelude.{ℕ, ◌+◌, ◌-◌, ◌*◌, Bool, true, false, nat_lt, nat_le, if◌then◌else◌, List, [], ◌∷◌, length, map, take, drop, Option, Some, None, Result, Ok, Err, codes}
+use Rattle.vax_asm_encode.specs.declared.operand.Field.TheVariants.{Number}
+use Rattle.vax_asm_sections.specs.Layout.{Zeros, Bytes, Field, current_of, put, aligned}
+use Rattle.vax_lex.specs.Characters.{spells}
+use Rattle.vax_lex.specs.Grammar.{symbols_of}
+use Rattle.vax_lex.specs.Tokens.{token_text}
+use Rattle.vax_lex.specs.declared.token.Token.{Token}
+use Rattle.vax_macro.specs.declared.error.FaultKind.{FaultKind}
+use Rattle.vax_macro.specs.declared.error.FaultKind.TheVariants as fault
+use Rattle.vax_asm_first.specs.Faults.{lowest, fault_of_value, unless_place, number_of}
+use Rattle.vax_asm_first.specs.Fixups.{Filling, filling_by}
+use Rattle.vax_asm_first.specs.Progress.{Site, Progress, begun, joined, done, added, Counted, counted, site_of}
+use Rattle.vax_asm_first.specs.Standing.{Standing, told, with_scope, with_sections}
+use Rattle.vax_asm_first.specs.declared.types.Content.TheVariants.{Data}
+use Rattle.vax_asm_first.specs.declared.types.Origin.{Origin}
+use Rattle.vax_asm_scope.specs.Scope.{Scope}
+use Rattle.vax_asm_scope.specs.Used.{uses_place}
+use Rattle.vax_asm_statement.specs.Items.{Item, item_of, whole, name_alone, Piece, Characters, Value as ByteValue, pieces_of}
+use Rattle.vax_asm_statement.specs.Parts.{parts}
+use Rattle.vax_word.specs.Arithmetic.{bytes_of}
+use Rattle.vax_word.specs.declared.Size.{Size}
+use Rattle.vax_word.specs.declared.Size.TheVariants as size
+
+-- An item of data: an expression that a field of this size holds, so many times.
+abbrev pub fixed : Size → Site → ℕ → Filling → Standing → Progress
+fixed size site n filling s =
+    added (bytes_of size * n) (Field (record { origin = site.origin; at = (current_of s.sections).size; content = Data size n; filling = filling })) s
+
+abbrev pub placed_item : Size → Site → Option FaultKind → Result ℕ FaultKind → Filling → Standing → Progress
+placed_item size site None (Ok n) filling s = fixed size site n filling s
+placed_item size site (Some kind) (Ok n) filling s = record { fault = Some kind; standing = s }
+placed_item size site before (Err kind) filling s = record { fault = lowest before (Some kind); standing = s }
+
+abbrev pub item_stated : Size → Site → Item → Standing → Progress
+item_stated size site item s =
+    let symbols = symbols_of site.line item.expression in
+    let t = told site.here symbols s.scope in
+    let c = counted site item.count t.scope in
+    placed_item size site (unless_place (uses_place symbols) (fault_of_value (Number size) 0 0 t.settled)) c.number (filling_by t.value t.written) (with_scope c.scope s)
+
+abbrev pub items_stated : Size → Site → List Item → Progress → Progress
+items_stated size site [] p = p
+items_stated size site (item ∷ items) p = items_stated size site items (joined p.fault (item_stated size site item p.standing))
+
+-- an operand as an item: written once, or as often as its count says
+abbrev pub item_as : Bool → List Token → Item
+item_as true tokens = whole tokens
+item_as false tokens = item_of tokens
+
+-- there is at least one operand
+abbrev pub unless_none : List Token → Result Standing FaultKind → Result Standing FaultKind
+unless_none [] r = Err fault.Count
+unless_none (t ∷ tokens) r = r
+
+-- `.BYTE`, `.WORD`, `.LONG`, `.QUAD`
+unfoldable pub data_stated : Size → Origin → List ℕ → List Token → Standing → Result Standing FaultKind
+data_stated size origin line tokens s =
+    unless_none tokens (done (items_stated size (site_of origin line s) (map item_of (parts tokens)) (begun s)))
+
+-- `.ADDRESS`: longwords, each written once
+unfoldable pub addresses_stated : Origin → List ℕ → List Token → Standing → Result Standing FaultKind
+addresses_stated origin line tokens s =
+    unless_none tokens (done (items_stated size.L (site_of origin line s) (map whole (parts tokens)) (begun s)))
+
+-- the characters between two delimiters
+abbrev pub characters_of : List ℕ → Token → List ℕ
+characters_of line t = let text = token_text line t in take (length text - 2) (drop 1 text)
+
+-- a piece of text
+abbrev pub piece_stated : Site → Piece → Standing → Progress
+piece_stated site (Characters t) s = added (length (characters_of site.line t)) (Bytes (characters_of site.line t)) s
+piece_stated site (ByteValue tokens) s = item_stated size.B site (whole tokens) s
+
+abbrev pub pieces_stated : Site → List Piece → Progress → Progress
+pieces_stated site [] p = p
+pieces_stated site (piece ∷ pieces) p = pieces_stated site pieces (joined p.fault (piece_stated site piece p.standing))
+
+-- how many bytes pieces have
+abbrev pub piece_length : List ℕ → Piece → ℕ
+piece_length line (Characters t) = length (characters_of line t)
+piece_length line (ByteValue tokens) = 1
+
+abbrev pub pieces_length : List ℕ → List Piece → ℕ
+pieces_length line [] = 0
+pieces_length line (piece ∷ pieces) = piece_length line piece + pieces_length line pieces
+
+-- `.ASCII`: the pieces alone; `.ASCIC`: their count first, in a byte; `.ASCIZ`: a zero byte last
+pub data Ending : Type 0 where
+  Plain : Ending
+  Counted_first : Ending
+  Zero_last : Ending
+
+-- a count that a byte holds
+abbrev pub count_byte : ℕ → Option ℕ
+count_byte n = if nat_lt n 256 then Some n else None
+
+abbrev pub count_stated : Option ℕ → Standing → Progress
+count_stated (Some n) s = added 1 (Bytes (n ∷ [])) s
+count_stated None s = record { fault = Some fault.Range; standing = s }
+
+abbrev pub before_pieces : Ending → ℕ → Standing → Progress
+before_pieces Plain n s = begun s
+before_pieces Counted_first n s = count_stated (count_byte n) s
+before_pieces Zero_last n s = begun s
+
+abbrev pub behind_pieces : Ending → Progress → Progress
+behind_pieces Plain p = p
+behind_pieces Counted_first p = p
+behind_pieces Zero_last p = joined p.fault (added 1 (Zeros 1) p.standing)
+
+abbrev pub text_parts : Ending → Site → List Piece → Standing → Progress
+text_parts ending site pieces s =
+    behind_pieces ending (pieces_stated site pieces (before_pieces ending (pieces_length site.line pieces) s))
+
+abbrev pub text_by : Ending → Site → Standing → Option (List Piece) → Result Standing FaultKind
+text_by ending site s None = Err fault.Form
+text_by ending site s (Some pieces) = done (text_parts ending site pieces s)
+
+unfoldable pub text_stated : Ending → Origin → List ℕ → List Token → Standing → Result Standing FaultKind
+text_stated ending origin line tokens s = unless_none tokens (text_by ending (site_of origin line s) s (pieces_of tokens))
+
+-- `.BLKB`, `.BLKW`, `.BLKL`, `.BLKQ`: zero bytes for so many of this size
+abbrev pub room : Size → Standing → Result ℕ FaultKind → Result Standing FaultKind
+room size s (Ok n) = with_sections s (put (bytes_of size * n) (Zeros (bytes_of size * n)) s.sections)
+room size s (Err kind) = Err kind
+
+abbrev pub room_by : Size → Site → Option (List Token) → Standing → Result Standing FaultKind
+room_by size site count s =
+    let c = counted site count s.scope in
+    room size (with_scope c.scope s) c.number
+
+-- at most one operand
+abbrev pub at_most_one : List (List Token) → (Option (List Token) → Result Standing FaultKind) → Result Standing FaultKind
+at_most_one [] stated = stated None
+at_most_one (one ∷ []) stated = stated (Some one)
+at_most_one (one ∷ two ∷ more) stated = Err fault.Count
+
+unfoldable pub space_stated : Size → Origin → List ℕ → List Token → Standing → Result Standing FaultKind
+space_stated size origin line tokens s =
+    at_most_one (parts tokens) (λ count. room_by size (site_of origin line s) count s)
+
+-- `.ALIGN`: the name of a boundary, else a power of two from 0 to 9
+abbrev pub boundary_of : List ℕ → Option ℕ
+boundary_of name =
+    if spells (codes "BYTE") name then Some 0
+    else (if spells (codes "WORD") name then Some 1
+    else (if spells (codes "LONG") name then Some 2
+    else (if spells (codes "QUAD") name then Some 3
+    else (if spells (codes "PAGE") name then Some 9
+    else None))))
+
+abbrev pub boundary_by : List ℕ → Option Token → Option ℕ
+boundary_by line (Some t) = boundary_of (token_text line t)
+boundary_by line None = None
+
+abbrev pub boundary_named : List ℕ → List Token → Option ℕ
+boundary_named line tokens = boundary_by line (name_alone line tokens)
+
+abbrev pub power : Result ℕ FaultKind → Result ℕ FaultKind
+power (Ok n) = if nat_le n 9 then Ok n else Err fault.Range
+power (Err kind) = Err kind
+
+abbrev pub unless_here : Bool → Result ℕ FaultKind → Result ℕ FaultKind
+unless_here true r = Err fault.Form
+unless_here false r = r
+
+abbrev pub boundary : Site → List Token → Option ℕ → Scope → Counted
+boundary site tokens (Some k) s = record { number = Ok k; scope = s }
+boundary site tokens None s =
+    let symbols = symbols_of site.line tokens in
+    let t = told site.here symbols s in
+    record { number = unless_here (uses_place symbols) (power (number_of t.value)); scope = t.scope }
+
+abbrev pub align_to : Standing → Result ℕ FaultKind → Result Standing FaultKind
+align_to s (Ok k) = with_sections s (aligned k s.sections)
+align_to s (Err kind) = Err kind
+
+abbrev pub align_by : Site → List Token → Standing → Result Standing FaultKind
+align_by site tokens s =
+    let c = boundary site tokens (boundary_named site.line tokens) s.scope in
+    align_to (with_scope c.scope s) c.number
+
+abbrev pub one_alone : List (List Token) → (List Token → Result Standing FaultKind) → Result Standing FaultKind
+one_alone [] stated = Err fault.Count
+one_alone (one ∷ []) stated = stated one
+one_alone (one ∷ two ∷ more) stated = Err fault.Count
+
+unfoldable pub align_stated : Origin → List ℕ → List Token → Standing → Result Standing FaultKind
+align_stated origin line tokens s = one_alone (parts tokens) (λ one. align_by (site_of origin line s) one s)
+
+-- `.EVEN`: a multiple of two; it has no operands
+unfoldable pub even_stated : List Token → Standing → Result Standing FaultKind
+even_stated [] s = with_sections s (aligned 1 s.sections)
+even_stated (t ∷ tokens) s = Err fault.Count

@@ -1,0 +1,186 @@
+// Room and boundaries.
+
+ghost use Rattle.std.specs.Prelude.{◌≡◌, ◌≤◌, ◌<◌, ◌^◌, All, IfOk, IfSome, OnOk, Ok, length};
+ghost use Rattle.vax_asm_data.specs.Data.{align_stated, boundary, boundary_named, boundary_of, even_stated, power, room, space_stated, unless_here};
+ghost use Rattle.vax_lex.specs.Tokens.{IsTokenOf};
+ghost use Rattle.vax_asm_first.specs.Standing.{with_scope};
+ghost use Rattle.vax_asm_first.specs.View.{counted_of, site_seen, standing_of, Stands};
+ghost use Rattle.vax_asm_scope.specs.Kept.{scope_of};
+
+use std::alloc::Global;
+use std::rc::Rc;
+use vax_asm_first::{FaultKind, Origin, Refused, Site, Standing, counted, number_of, site_of};
+use vax_asm_scope::uses_place;
+use vax_asm_sections::Piece;
+use vax_asm_statement::{name_alone, parts, text_of};
+use vax_lex::{Token, spells};
+use vax_space::NoMemory;
+use vax_word::Size;
+
+/// More bytes than this can't be in a module.
+const MOST_BYTES: u64 = 16_777_216;
+
+/// Room for so many of this size.
+#[tactic(auto, using(crate::proofs::Limits::room_too_large, crate::proofs::Limits::bytes_fit))]
+fn make_room(standing: &mut Standing, size: Size, count: u64) -> Result<(), Refused>
+    ensures { Stands result (standing_of standing.new) (room size (standing_of standing.old) (Ok count)) }
+{
+    if count > MOST_BYTES {
+        return Err(Refused::Fault(FaultKind::Large));
+    }
+    let bytes = size.bytes() * count as u32;
+    standing.put(bytes, Piece::Zeros(bytes))
+}
+
+/// `.BLKB`, `.BLKW`, `.BLKL` and `.BLKQ`: zero bytes for so many of this size, or for one where no count is written.
+///
+/// [`Refused::Fault`]: `Count` where there are two counts or more, else the first that holds of `Form` where the count is no
+/// number, `Undefined` where it isn't known, `Range` where it is negative, `Large` where the section or the module would be
+/// too long. [`Refused::NoMemory`] where memory is refused. Nothing of use is left then.
+#[tactic(auto, unfolding(crate::specs::Data::space_stated))]
+pub fn space(
+    standing: &mut Standing,
+    alloc: Global,
+    origin: Origin,
+    line: &Rc<Vec<u8>>,
+    size: Size,
+    operands: &[Token],
+) -> Result<(), Refused>
+    requires tokens { All (IsTokenOf line.now.value.items) operands.now }
+    requires few { length operands.now < 2 ^ 32 }
+    ensures { Stands result (standing_of standing.new) (space_stated size origin line.now.value.items operands.now (standing_of standing.old)) }
+{
+    let Ok(found) = parts(alloc, operands) else {
+        return Err(Refused::NoMemory);
+    };
+    let count = match found.as_slice() {
+        [] => None,
+        [one] => Some(*one),
+        _ => return Err(Refused::Fault(FaultKind::Count)),
+    };
+    let Ok(site) = site_of(origin, line, standing) else {
+        return Err(Refused::NoMemory);
+    };
+    match counted(standing, alloc, site, count) {
+        Ok(Ok(count)) => make_room(standing, size, count),
+        Ok(Err(kind)) => Err(Refused::Fault(kind)),
+        Err(NoMemory) => Err(Refused::NoMemory),
+    }
+}
+
+/// The power of two that a boundary's name means.
+fn boundary_of(name: &[u8]) -> Option<u8>
+    ensures value { result ≡ boundary_of name.now }
+    ensures few { IfSome result (λ k. k ≤ 9) }
+{
+    if spells(b"BYTE", name) {
+        Some(0)
+    } else if spells(b"WORD", name) {
+        Some(1)
+    } else if spells(b"LONG", name) {
+        Some(2)
+    } else if spells(b"QUAD", name) {
+        Some(3)
+    } else if spells(b"PAGE", name) {
+        Some(9)
+    } else {
+        None
+    }
+}
+
+/// The power of two of the boundary whose name an operand is.
+fn boundary_named(line: &[u8], tokens: &[Token]) -> Option<u8>
+    requires { All (IsTokenOf line.now) tokens.now }
+    ensures value { result ≡ boundary_named line.now tokens.now }
+    ensures few { IfSome result (λ k. k ≤ 9) }
+{
+    let name = name_alone(line, tokens)?;
+    boundary_of(text_of(line, name))
+}
+
+/// A power of two from 0 to 9.
+fn power(number: Result<u64, FaultKind>) -> Result<u8, FaultKind>
+    ensures value { result ≡ power number }
+    ensures few { IfOk result (λ k. k ≤ 9) }
+{
+    match number {
+        Ok(number) if number <= 9 => Ok(number as u8),
+        Ok(_) => Err(FaultKind::Range),
+        Err(kind) => Err(kind),
+    }
+}
+
+fn unless_here(here: bool, number: Result<u8, FaultKind>) -> Result<u8, FaultKind>
+    requires few { IfOk number (λ k. k ≤ 9) }
+    ensures value { result ≡ unless_here here number }
+    ensures few { IfOk result (λ k. k ≤ 9) }
+{
+    if here { Err(FaultKind::Form) } else { number }
+}
+
+/// The boundary that an operand is.
+fn boundary(
+    standing: &mut Standing,
+    alloc: Global,
+    site: Site<'_>,
+    tokens: &[Token],
+) -> Result<Result<u8, FaultKind>, NoMemory>
+    requires { All (IsTokenOf site.line.now.value.items) tokens.now }
+    ensures number { IfOk result (λ n. counted_of n (scope_of standing.new.scope) ≡ boundary (site_seen site.entry) tokens.now (boundary_named site.entry.line.now.value.items tokens.now) (scope_of standing.old.scope)) }
+    ensures few { IfOk result (λ n. IfOk n (λ k. k ≤ 9)) }
+    ensures same { OnOk result (standing_of standing.new ≡ with_scope (scope_of standing.new.scope) (standing_of standing.old)) }
+{
+    if let Some(power) = boundary_named(site.line, tokens) {
+        return Ok(Ok(power));
+    }
+    let here = uses_place(site.line, tokens);
+    let told = standing.tell(alloc, site.line, tokens, site.here)?;
+    Ok(unless_here(here, power(number_of(told.value))))
+}
+
+/// `.ALIGN`: zero bytes up to a multiple of a power of two, to which the section is aligned at least. The operand is `BYTE`,
+/// `WORD`, `LONG`, `QUAD` or `PAGE`, else a number from 0 to 9.
+///
+/// [`Refused::Fault`]: `Count` where there is no operand or a second one, else the first that holds of `Form` where it is no
+/// number or uses `.`, `Undefined` where it isn't known, `Range` where it is below 0 or above 9, `Large` where the section or
+/// the module would be too long. [`Refused::NoMemory`] where memory is refused. Nothing of use is left then.
+#[tactic(auto, unfolding(crate::specs::Data::align_stated))]
+pub fn align(
+    standing: &mut Standing,
+    alloc: Global,
+    origin: Origin,
+    line: &Rc<Vec<u8>>,
+    operands: &[Token],
+) -> Result<(), Refused>
+    requires tokens { All (IsTokenOf line.now.value.items) operands.now }
+    requires few { length operands.now < 2 ^ 32 }
+    ensures { Stands result (standing_of standing.new) (align_stated origin line.now.value.items operands.now (standing_of standing.old)) }
+{
+    let Ok(found) = parts(alloc, operands) else {
+        return Err(Refused::NoMemory);
+    };
+    let [operand] = found.as_slice() else {
+        return Err(Refused::Fault(FaultKind::Count));
+    };
+    let Ok(site) = site_of(origin, line, standing) else {
+        return Err(Refused::NoMemory);
+    };
+    match boundary(standing, alloc, site, operand) {
+        Ok(Ok(power)) => standing.align(power),
+        Ok(Err(kind)) => Err(Refused::Fault(kind)),
+        Err(NoMemory) => Err(Refused::NoMemory),
+    }
+}
+
+/// `.EVEN`: zero bytes up to a multiple of two, to which the section is aligned at least. It has no operand.
+///
+/// [`Refused`] as for [`align`].
+#[tactic(auto, unfolding(crate::specs::Data::even_stated))]
+pub fn even(standing: &mut Standing, operands: &[Token]) -> Result<(), Refused>
+    ensures { Stands result (standing_of standing.new) (even_stated operands.now (standing_of standing.old)) }
+{
+    if !operands.is_empty() {
+        return Err(Refused::Fault(FaultKind::Count));
+    }
+    standing.align(1)
+}

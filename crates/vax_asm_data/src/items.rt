@@ -1,0 +1,220 @@
+// Items of data.
+
+ghost use Rattle.std.specs.Prelude.{◌≡◌, ◌<◌, ◌^◌, ℕ, List, All, IfOk, length, map};
+ghost use Rattle.vax_asm_data.specs.Data.{fixed, item_as, item_stated, items_stated, data_stated, addresses_stated};
+ghost use Rattle.vax_lex.specs.Tokens.{IsTokenOf};
+ghost use Rattle.vax_asm_first.specs.Progress.{begun, site_of};
+ghost use Rattle.vax_asm_first.specs.View.{filling_of, progress_of, site_seen, standing_of, Stands};
+ghost use Rattle.vax_asm_statement.specs.Items.{item_seen, whole};
+ghost use Rattle.vax_asm_statement.specs.Parts.{parts};
+ghost use Rattle.vax_asm_statement.specs.Within.{ItemWithin};
+
+use std::alloc::Global;
+use std::rc::Rc;
+use vax_asm_encode::Field;
+use vax_asm_first::{
+    Content, FaultKind, Filling, Fixup, Origin, Refused, Site, Standing, add, counted,
+    fault_of_value, filling_of, lowest, site_of, unless_place,
+};
+use vax_asm_scope::uses_place;
+use vax_asm_sections::Piece;
+use vax_asm_statement::{Item, parts, read_item};
+use vax_lex::Token;
+use vax_space::NoMemory;
+use vax_word::Size;
+
+/// More items than this have more bytes than a module can have.
+const MOST_ITEMS: u64 = 16_777_216;
+
+/// An item without a fault.
+#[tactic(auto, using(crate::proofs::Limits::items_too_many, crate::proofs::Limits::bytes_fit))]
+fn fix(
+    standing: &mut Standing,
+    site: Site<'_>,
+    size: Size,
+    count: u64,
+    filling: Filling,
+) -> Result<Option<FaultKind>, NoMemory>
+    ensures { IfOk result (λ f. progress_of f standing.new ≡ fixed size (site_seen site.entry) count (filling_of filling) (standing_of standing.old)) }
+{
+    if count > MOST_ITEMS {
+        return Ok(Some(FaultKind::Large));
+    }
+    let count = count as u32;
+    let fixup = Fixup {
+        origin: site.origin,
+        at: standing.section_size(),
+        content: Content::Data { size, count },
+        filling,
+    };
+    add(standing, size.bytes() * count, Piece::Field(fixup))
+}
+
+/// One item: an expression that a field of this size holds, so many times. Its fault, if it has one.
+fn state_item(
+    standing: &mut Standing,
+    alloc: Global,
+    site: Site<'_>,
+    size: Size,
+    item: Item<'_>,
+) -> Result<Option<FaultKind>, NoMemory>
+    requires { ItemWithin site.line.now.value.items (item_seen item) }
+    ensures { IfOk result (λ f. progress_of f standing.new ≡ item_stated size (site_seen site.entry) (item_seen item.entry) (standing_of standing.old)) }
+{
+    let here = uses_place(site.line, item.expression);
+    let told = standing.tell(alloc, site.line, item.expression, site.here)?;
+    let fault = unless_place(
+        here,
+        fault_of_value(Field::Number(size), 0, 0, told.settled),
+    );
+    let count = counted(standing, alloc, site, item.count)?;
+    let count = match count {
+        Ok(count) => count,
+        Err(kind) => return Ok(lowest(fault, Some(kind))),
+    };
+    if fault.is_some() {
+        return Ok(fault);
+    }
+    fix(standing, site, size, count, filling_of(told))
+}
+
+/// The item that an operand is: `e[n]` too, or `e` alone.
+fn read_as<'a>(once: bool, part: &'a [Token]) -> Item<'a>
+    ensures item { item_seen result ≡ item_as once part.now }
+    // It is made of these tokens.
+    ensures within { (line : List ℕ) → All (IsTokenOf line) part.now → ItemWithin line (item_seen result) }
+{
+    if once {
+        Item {
+            expression: part,
+            count: None,
+        }
+    } else {
+        read_item(part)
+    }
+}
+
+/// The item that a part of a statement is. Its fault, if it has one.
+fn state_part(
+    standing: &mut Standing,
+    alloc: Global,
+    site: Site<'_>,
+    size: Size,
+    once: bool,
+    part: &[Token],
+) -> Result<Option<FaultKind>, NoMemory>
+    requires { All (IsTokenOf site.line.now.value.items) part.now }
+    ensures { IfOk result (λ f. progress_of f standing.new ≡ item_stated size (site_seen site.entry) (item_as once part.now) (standing_of standing.old)) }
+{
+    let item = read_as(once, part);
+    state_item(standing, alloc, site, size, item)
+}
+
+/// An item that is written once, as a part of a statement. Its fault, if it has one.
+pub fn item(
+    standing: &mut Standing,
+    alloc: Global,
+    site: Site<'_>,
+    size: Size,
+    tokens: &[Token],
+) -> Result<Option<FaultKind>, NoMemory>
+    requires { All (IsTokenOf site.line.now.value.items) tokens.now }
+    ensures { IfOk result (λ f. progress_of f standing.new ≡ item_stated size (site_seen site.entry) (whole tokens.now) (standing_of standing.old)) }
+{
+    state_part(standing, alloc, site, size, true, tokens)
+}
+
+/// The items that operands are. The fault that counts, if one has any.
+#[tactic(auto, using(crate::proofs::Folding::item_step))]
+fn state_items(
+    standing: &mut Standing,
+    alloc: Global,
+    site: Site<'_>,
+    size: Size,
+    once: bool,
+    operands: &[Token],
+) -> Result<Option<FaultKind>, NoMemory>
+    requires tokens { All (IsTokenOf site.line.now.value.items) operands.now }
+    requires few { length operands.now < 2 ^ 32 }
+    ensures { IfOk result (λ f. progress_of f standing.new ≡ items_stated size (site_seen site.entry) (map (item_as once) (parts operands.now)) (begun (standing_of standing.old))) }
+{
+    let list = parts(alloc, operands).map_err(|_| NoMemory)?;
+    let mut fault = None;
+    for part in &list {
+        let found = state_part(standing, alloc, site, size, once, part)?;
+        fault = lowest(fault, found);
+    }
+    Ok(fault)
+}
+
+/// The items of a directive.
+fn state(
+    standing: &mut Standing,
+    alloc: Global,
+    origin: Origin,
+    line: &Rc<Vec<u8>>,
+    size: Size,
+    once: bool,
+    operands: &[Token],
+) -> Result<Option<FaultKind>, NoMemory>
+    requires tokens { All (IsTokenOf line.now.value.items) operands.now }
+    requires few { length operands.now < 2 ^ 32 }
+    ensures { IfOk result (λ f. progress_of f standing.new ≡ items_stated size (site_of origin line.now.value.items (standing_of standing.old)) (map (item_as once) (parts operands.now)) (begun (standing_of standing.old))) }
+{
+    let site = site_of(origin, line, standing)?;
+    state_items(standing, alloc, site, size, once, operands)
+}
+
+/// `.BYTE`, `.WORD`, `.LONG` and `.QUAD`: items of this size, `e` or `e[n]`.
+///
+/// [`Refused::Fault`] with the fault that counts: `Count` where there are no items, `Form` where an item is no expression,
+/// uses `.` or is a relocatable one that isn't of a longword, or where a count is no number, `Undefined` where a count isn't
+/// known, `Range` where a value doesn't fit or a count is negative, `Large` where the section or the module would be too long.
+/// [`Refused::NoMemory`] where memory is refused. Nothing of use is left then.
+#[tactic(auto, unfolding(crate::specs::Data::data_stated))]
+pub fn data(
+    standing: &mut Standing,
+    alloc: Global,
+    origin: Origin,
+    line: &Rc<Vec<u8>>,
+    size: Size,
+    operands: &[Token],
+) -> Result<(), Refused>
+    requires tokens { All (IsTokenOf line.now.value.items) operands.now }
+    requires few { length operands.now < 2 ^ 32 }
+    ensures { Stands result (standing_of standing.new) (data_stated size origin line.now.value.items operands.now (standing_of standing.old)) }
+{
+    if operands.is_empty() {
+        return Err(Refused::Fault(FaultKind::Count));
+    }
+    match state(standing, alloc, origin, line, size, false, operands) {
+        Ok(None) => Ok(()),
+        Ok(Some(kind)) => Err(Refused::Fault(kind)),
+        Err(NoMemory) => Err(Refused::NoMemory),
+    }
+}
+
+/// `.ADDRESS`: longwords, each written once.
+///
+/// [`Refused`] as for [`data`].
+#[tactic(auto, unfolding(crate::specs::Data::addresses_stated))]
+pub fn addresses(
+    standing: &mut Standing,
+    alloc: Global,
+    origin: Origin,
+    line: &Rc<Vec<u8>>,
+    operands: &[Token],
+) -> Result<(), Refused>
+    requires tokens { All (IsTokenOf line.now.value.items) operands.now }
+    requires few { length operands.now < 2 ^ 32 }
+    ensures { Stands result (standing_of standing.new) (addresses_stated origin line.now.value.items operands.now (standing_of standing.old)) }
+{
+    if operands.is_empty() {
+        return Err(Refused::Fault(FaultKind::Count));
+    }
+    match state(standing, alloc, origin, line, Size::L, true, operands) {
+        Ok(None) => Ok(()),
+        Ok(Some(kind)) => Err(Refused::Fault(kind)),
+        Err(NoMemory) => Err(Refused::NoMemory),
+    }
+}

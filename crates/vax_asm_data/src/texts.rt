@@ -1,0 +1,209 @@
+// Text.
+
+ghost use Rattle.std.specs.Prelude.{◌≡◌, ◌<◌, ◌^◌, All, IfOk, length, map};
+ghost use Rattle.vax_asm_data.specs.Data.{before_pieces, behind_pieces, characters_of, count_byte, count_stated, piece_length, piece_stated, pieces_length, pieces_stated, text_parts, text_stated};
+ghost use Rattle.vax_asm_data.specs.View.{ending_of};
+ghost use Rattle.vax_lex.specs.Tokens.{IsTokenOf};
+ghost use Rattle.vax_asm_first.specs.Progress.{site_of};
+ghost use Rattle.vax_asm_first.specs.View.{progress_of, site_seen, standing_of, Stands};
+ghost use Rattle.vax_asm_statement.specs.Items.{piece_seen};
+ghost use Rattle.vax_asm_statement.specs.Within.{PieceWithin};
+
+use crate::items::item;
+use std::alloc::Global;
+use std::rc::Rc;
+use vax_asm_first::{FaultKind, Origin, Refused, Site, Standing, add, lowest, site_of};
+use vax_asm_sections::Piece as Part;
+use vax_asm_statement::{Piece, pieces, text_of};
+use vax_lex::Token;
+use vax_space::NoMemory;
+use vax_word::Size;
+
+/// What a directive of text adds to its pieces.
+#[derive(Clone, Copy, PartialEq, Eq)]
+pub enum TextForm {
+    /// `.ASCII`: nothing.
+    Plain,
+    /// `.ASCIC`: their count of bytes first, in a byte.
+    CountFirst,
+    /// `.ASCIZ`: a zero byte last.
+    ZeroLast,
+}
+
+/// The characters between two delimiters.
+fn characters_of(line: &[u8], token: Token) -> &[u8]
+    requires { IsTokenOf line.now token }
+    ensures { result.now ≡ characters_of line.now token }
+{
+    let text = text_of(line, token);
+    let end = text.len().saturating_sub(1).max(1);
+    &text[1..end]
+}
+
+/// How many bytes a piece has.
+fn piece_length(line: &[u8], piece: Piece<'_>) -> usize
+    requires { PieceWithin line.now (piece_seen piece) }
+    ensures { result ≡ piece_length line.now (piece_seen piece.entry) }
+{
+    match piece {
+        Piece::Characters(token) => characters_of(line, token).len(),
+        Piece::Value(_) => 1,
+    }
+}
+
+/// How many bytes pieces have. None where a byte can't hold that.
+#[tactic(auto, using(crate::proofs::Folding::length_step))]
+fn count_of(line: &[u8], pieces: &[Piece<'_>]) -> Option<u8>
+    requires { All (PieceWithin line.now) (map piece_seen pieces.now) }
+    ensures { result ≡ count_byte (pieces_length line.now (map piece_seen pieces.now)) }
+{
+    let mut count = 0;
+    for piece in pieces {
+        let length = piece_length(line, *piece);
+        if length > 255 - count {
+            return None;
+        }
+        count += length;
+    }
+    Some(count as u8)
+}
+
+/// A piece of text. Its fault, if it has one.
+fn state_piece(
+    standing: &mut Standing,
+    alloc: Global,
+    site: Site<'_>,
+    piece: Piece<'_>,
+) -> Result<Option<FaultKind>, NoMemory>
+    requires { PieceWithin site.line.now.value.items (piece_seen piece) }
+    ensures { IfOk result (λ f. progress_of f standing.new ≡ piece_stated (site_seen site.entry) (piece_seen piece.entry) (standing_of standing.old)) }
+{
+    match piece {
+        Piece::Characters(token) => {
+            let characters = characters_of(site.line, token);
+            let size = u32::try_from(characters.len()).map_err(|_| NoMemory)?;
+            let bytes = characters.to_vec(alloc).map_err(|_| NoMemory)?;
+            add(standing, size, Part::Bytes(bytes))
+        }
+        Piece::Value(tokens) => item(standing, alloc, site, Size::B, tokens),
+    }
+}
+
+/// Pieces of text behind a part with this fault. The fault that counts, if one has any.
+#[tactic(auto, using(crate::proofs::Folding::piece_step))]
+fn state_pieces(
+    standing: &mut Standing,
+    alloc: Global,
+    site: Site<'_>,
+    before: Option<FaultKind>,
+    pieces: &[Piece<'_>],
+) -> Result<Option<FaultKind>, NoMemory>
+    requires { All (PieceWithin site.line.now.value.items) (map piece_seen pieces.now) }
+    ensures { IfOk result (λ f. progress_of f standing.new ≡ pieces_stated (site_seen site.entry) (map piece_seen pieces.now) (progress_of before standing.old)) }
+{
+    let mut fault = before;
+    for piece in pieces {
+        let found = state_piece(standing, alloc, site, *piece)?;
+        fault = lowest(fault, found);
+    }
+    Ok(fault)
+}
+
+/// The count of the pieces' bytes, in a byte.
+fn state_count(
+    standing: &mut Standing,
+    alloc: Global,
+    count: Option<u8>,
+) -> Result<Option<FaultKind>, NoMemory>
+    ensures { IfOk result (λ f. progress_of f standing.new ≡ count_stated count (standing_of standing.old)) }
+{
+    let Some(count) = count else {
+        return Ok(Some(FaultKind::Range));
+    };
+    let byte = vec![in alloc; count].map_err(|_| NoMemory)?;
+    add(standing, 1, Part::Bytes(byte))
+}
+
+/// What stands before the pieces.
+fn state_front(
+    standing: &mut Standing,
+    alloc: Global,
+    form: TextForm,
+    line: &[u8],
+    pieces: &[Piece<'_>],
+) -> Result<Option<FaultKind>, NoMemory>
+    requires { All (PieceWithin line.now) (map piece_seen pieces.now) }
+    ensures { IfOk result (λ f. progress_of f standing.new ≡ before_pieces (ending_of form) (pieces_length line.now (map piece_seen pieces.now)) (standing_of standing.old)) }
+{
+    match form {
+        TextForm::Plain | TextForm::ZeroLast => Ok(None),
+        TextForm::CountFirst => state_count(standing, alloc, count_of(line, pieces)),
+    }
+}
+
+/// What stands behind the pieces, which have this fault.
+fn state_end(
+    standing: &mut Standing,
+    form: TextForm,
+    fault: Option<FaultKind>,
+) -> Result<Option<FaultKind>, NoMemory>
+    ensures { IfOk result (λ f. progress_of f standing.new ≡ behind_pieces (ending_of form) (progress_of fault standing.old)) }
+{
+    match form {
+        TextForm::Plain | TextForm::CountFirst => Ok(fault),
+        TextForm::ZeroLast => Ok(lowest(fault, add(standing, 1, Part::Zeros(1))?)),
+    }
+}
+
+/// The pieces of a directive, with what it adds to them.
+fn state_text(
+    standing: &mut Standing,
+    alloc: Global,
+    origin: Origin,
+    line: &Rc<Vec<u8>>,
+    form: TextForm,
+    pieces: &[Piece<'_>],
+) -> Result<Option<FaultKind>, NoMemory>
+    requires { All (PieceWithin line.now.value.items) (map piece_seen pieces.now) }
+    ensures { IfOk result (λ f. progress_of f standing.new ≡ text_parts (ending_of form) (site_of origin line.now.value.items (standing_of standing.old)) (map piece_seen pieces.now) (standing_of standing.old)) }
+{
+    let site = site_of(origin, line, standing)?;
+    let front = state_front(standing, alloc, form, line, pieces)?;
+    let fault = state_pieces(standing, alloc, site, front, pieces)?;
+    state_end(standing, form, fault)
+}
+
+/// `.ASCII`, `.ASCIC` and `.ASCIZ`: pieces `/characters/` and `<e>`.
+///
+/// [`Refused::Fault`] with the fault that counts: `Count` where there are no pieces, `Form` where something is no piece, or a
+/// value is no absolute expression or uses `.`, `Range` where a value doesn't fit a byte or the bytes are too many for their
+/// count, `Large` where the section or the module would be too long. [`Refused::NoMemory`] where memory is refused. Nothing of
+/// use is left then.
+#[tactic(auto, unfolding(crate::specs::Data::text_stated))]
+pub fn text(
+    standing: &mut Standing,
+    alloc: Global,
+    origin: Origin,
+    line: &Rc<Vec<u8>>,
+    form: TextForm,
+    operands: &[Token],
+) -> Result<(), Refused>
+    requires tokens { All (IsTokenOf line.now.value.items) operands.now }
+    requires few { length operands.now < 2 ^ 32 }
+    ensures { Stands result (standing_of standing.new) (text_stated (ending_of form) origin line.now.value.items operands.now (standing_of standing.old)) }
+{
+    if operands.is_empty() {
+        return Err(Refused::Fault(FaultKind::Count));
+    }
+    let Ok(found) = pieces(alloc, operands) else {
+        return Err(Refused::NoMemory);
+    };
+    let Some(found) = found else {
+        return Err(Refused::Fault(FaultKind::Form));
+    };
+    match state_text(standing, alloc, origin, line, form, &found) {
+        Ok(None) => Ok(()),
+        Ok(Some(kind)) => Err(Refused::Fault(kind)),
+        Err(NoMemory) => Err(Refused::NoMemory),
+    }
+}

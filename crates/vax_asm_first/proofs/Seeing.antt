@@ -1,0 +1,92 @@
+-- Sections with what the code keeps in them change as their meanings do.
+use Rattle.std.proofs.Common.{◌≡◌, ◌<◌, ◌+◌, ℕ, Bool, true, false, List, [], ◌∷◌, length, map, Result, Ok, Err, refl, sym, ap, ◌∙◌}
+use Rattle.std.proofs.lemmas.List.{get_or-map, map-append, map-set, length-set, length-map}
+use Rattle.std.specs.Prelude.{if◌then◌else◌, slice_set, ◌^◌}
+use Rattle.vax_asm_sections.specs.Layout.{Part, Zeros, Section, Sections, unnamed, current_of, longer, exceeds, with_part, put, gap, raised, with_raised, raise, aligned}
+use Rattle.vax_asm_sections.specs.declared.types.Refusal.{Refusal}
+use Rattle.vax_asm_sections.specs.declared.types.Refusal.TheVariants.{TooLong}
+use Rattle.vax_asm_sections.specs.View.{section_of, sections_of}
+use Rattle.vax_asm_sections.specs.declared.types.Layout.{Layout}
+use Rattle.vax_macro.specs.declared.error.FaultKind.TheVariants as fault
+use Rattle.vax_asm_first.specs.Standing.{Standing, with_sections}
+use Rattle.vax_asm_first.specs.View.{part_seen, section_seen, sections_seen, sections_in}
+use Rattle.vax_asm_first.specs.Fixups as specs
+use Rattle.vax_asm_first.specs.declared.types.Fixup.{Fixup}
+
+abbrev seen : Result (Sections Fixup) Refusal → Result (Sections specs.Fixup) Refusal
+seen (Ok s) = Ok (sections_seen s)
+seen (Err r) = Err r
+
+current_seen : (s : Sections Fixup) → s.current < length s.all → current_of (sections_seen s) ≡ section_seen (current_of s)
+current_seen s h = get_or-map section_seen s.all s.current unnamed unnamed h
+
+longer_seen : (n : ℕ) (part : Part Fixup) (s : Section Fixup) → section_seen (longer n part s) ≡ longer n (part_seen part) (section_seen s)
+longer_seen n part s = ap (λ (l : List (Part specs.Fixup)). record { name = s.name; declared = s.declared; write = s.write; align = s.align; size = s.size + n; parts = l }) (map-append part_seen s.parts (part ∷ []))
+
+part_added : (n : ℕ) (part : Part Fixup) (s : Sections Fixup) → s.current < length s.all → sections_seen (with_part n part s) ≡ with_part n (part_seen part) (sections_seen s)
+part_added n part s h =
+    ap (λ (l : List (Section specs.Fixup)). record { all = l; current = s.current; total = s.total + n })
+    (map-set section_seen s.all s.current (longer n part (current_of s))
+    ∙ ap (λ (x : Section specs.Fixup). slice_set (map section_seen s.all) s.current x)
+    (longer_seen n part (current_of s) ∙ ap (λ (x : Section specs.Fixup). longer n (part_seen part) x) (sym (current_seen s h))))
+
+either_seen : (b : Bool) (s : Sections Fixup) (t : Sections specs.Fixup) → sections_seen s ≡ t → seen (if b then Err TooLong else Ok s) ≡ (if b then Err TooLong else Ok t)
+either_seen true s t e = refl
+either_seen false s t e = ap (λ (x : Sections specs.Fixup). Ok x) e
+
+put_both : (n : ℕ) (part : Part Fixup) (s : Sections Fixup) → s.current < length s.all → seen (put n part s) ≡ put n (part_seen part) (sections_seen s)
+unfolding put
+put_both n part s h =
+    let t = with_part n (part_seen part) (sections_seen s) in
+    either_seen (exceeds (current_of s).size s.total n) (with_part n part s) t (part_added n part s h)
+    ∙ ap (λ (x : Section specs.Fixup). if◌then◌else◌ {A = Result (Sections specs.Fixup) Refusal} (exceeds x.size s.total n) (Err TooLong) (Ok t)) (sym (current_seen s h))
+
+raised_seen : (k : ℕ) (s : Sections Fixup) → s.current < length s.all → sections_seen (with_raised k s) ≡ with_raised k (sections_seen s)
+raised_seen k s h =
+    ap (λ (l : List (Section specs.Fixup)). record { all = l; current = s.current; total = s.total })
+    (map-set section_seen s.all s.current (raised k (current_of s))
+    ∙ ap (λ (x : Section specs.Fixup). slice_set (map section_seen s.all) s.current (raised k x)) (sym (current_seen s h)))
+
+either_raised : (b : Bool) (k : ℕ) (s : Sections Fixup) (t : Sections specs.Fixup) → s.current < length s.all → sections_seen s ≡ t → seen (raise k (if b then Err TooLong else Ok s)) ≡ raise k (if b then Err TooLong else Ok t)
+either_raised true k s t h e = refl
+either_raised false k s t h e = ap (λ (x : Sections specs.Fixup). Ok x) (raised_seen k s h ∙ ap (with_raised k) e)
+
+-- an alignment where the current section is this one
+abbrev aligned_from : ℕ → Section specs.Fixup → Sections specs.Fixup → Result (Sections specs.Fixup) Refusal
+aligned_from k x s =
+    let n = gap x.size (2 ^ k) in
+    raise k (if exceeds x.size s.total n then Err TooLong else Ok (with_part n (Zeros n) s))
+
+aligned_both : (k : ℕ) (s : Sections Fixup) → s.current < length s.all → seen (aligned k s) ≡ aligned k (sections_seen s)
+unfolding put aligned
+aligned_both k s h =
+    let n = gap (current_of s).size (2 ^ k) in
+    let t = with_part n (Zeros n) (sections_seen s) in
+    let within : s.current < length (slice_set s.all s.current (longer n (Zeros n) (current_of s))) = rw (length-set s.all s.current (longer n (Zeros n) (current_of s))) h in
+    either_raised (exceeds (current_of s).size s.total n) k (with_part n (Zeros n) s) t within (part_added n (Zeros n) s h)
+    ∙ ap (λ (x : Section specs.Fixup). aligned_from k x (sections_seen s)) (sym (current_seen s h))
+
+within : (l : Layout Fixup) → (sections_of l).current < length (sections_of l).all
+within l = rw (length-map l.sections.items section_of) l.in_range
+
+pub size_seen : (l : Layout Fixup) → (current_of (sections_in l)).size ≡ (current_of (sections_of l)).size
+size_seen l = ap (λ (x : Section specs.Fixup). x.size) (current_seen (sections_of l) (within l))
+
+-- what stands with these sections
+abbrev with : Standing → Sections specs.Fixup → Standing
+with s sections = record s { sections = sections }
+
+pub put_stands : (n : ℕ) (part : Part Fixup) (s : Standing) (l m : Layout Fixup) → put n part (sections_of l) ≡ Ok (sections_of m)
+    → with_sections s (put n (part_seen part) (sections_in l)) ≡ Ok (with s (sections_in m))
+put_stands n part s l m e = ap (with_sections s) (sym (put_both n part (sections_of l) (within l)) ∙ ap seen e)
+
+pub put_fails : (n : ℕ) (part : Part Fixup) (s : Standing) (l : Layout Fixup) (r : Refusal) → put n part (sections_of l) ≡ Err r
+    → with_sections s (put n (part_seen part) (sections_in l)) ≡ Err fault.Large
+put_fails n part s l r e = ap (with_sections s) (sym (put_both n part (sections_of l) (within l)) ∙ ap seen e)
+
+pub align_stands : (k : ℕ) (s : Standing) (l m : Layout Fixup) → aligned k (sections_of l) ≡ Ok (sections_of m)
+    → with_sections s (aligned k (sections_in l)) ≡ Ok (with s (sections_in m))
+align_stands k s l m e = ap (with_sections s) (sym (aligned_both k (sections_of l) (within l)) ∙ ap seen e)
+
+pub align_fails : (k : ℕ) (s : Standing) (l : Layout Fixup) (r : Refusal) → aligned k (sections_of l) ≡ Err r → with_sections s (aligned k (sections_in l)) ≡ Err fault.Large
+align_fails k s l r e = ap (with_sections s) (sym (aligned_both k (sections_of l) (within l)) ∙ ap seen e)

@@ -1,0 +1,65 @@
+-- What the statements so far leave, and what an expression is where it stands (VAX MACRO and Instruction Set Reference
+-- Manual, "Terms and expressions" and "Location counter").
+use Rattle.std.specs.Prelude.{pos, List, [], Option, Some, None, Result, Ok, Err}
+use Rattle.vax_asm_sections.specs.Layout.{Sections, current_of, at_first}
+use Rattle.vax_asm_sections.specs.declared.types.Refusal.{Refusal}
+use Rattle.vax_lex.specs.Grammar.{Symbol}
+use Rattle.vax_lex.specs.declared.value.Value.{Value}
+use Rattle.vax_lex.specs.declared.value.Value.TheVariants as value
+use Rattle.vax_lex.specs.declared.value.ExprError.{ExprError}
+use Rattle.vax_lex.specs.declared.value.ExprError.TheVariants as errors
+use Rattle.vax_macro.specs.declared.error.FaultKind.{FaultKind}
+use Rattle.vax_macro.specs.declared.error.FaultKind.TheVariants as fault
+use Rattle.vax_asm_first.specs.Fixups.{Fixup, Transfer}
+use Rattle.vax_asm_scope.specs.Scope.{Scope, nothing, bound}
+use Rattle.vax_asm_values.specs.Certain.{certain}
+use Rattle.vax_asm_values.specs.Values.{Written, worth, value_of}
+
+-- The names and their definitions; the sections; and where the program begins, if `.END` has said so.
+pub record Standing : Type 0 where
+  pub scope : Scope
+  pub sections : Sections Fixup
+  pub transfer : Option Transfer
+
+abbrev pub at_start : Standing
+at_start = record { scope = nothing; sections = at_first; transfer = None }
+
+-- where the next statement stands
+abbrev pub here_in : {F : Type 0} → Sections F → Value
+here_in s = value.Section s.current (pos (current_of s).size)
+
+-- In place of a value that isn't known yet stands the fault that the expression has whatever comes later, if it has one.
+abbrev pub unless_certain : Option ExprError → Result Value ExprError → Result Value ExprError
+unless_certain fault (Ok v) = Ok v
+unless_certain fault (Err errors.Form) = Err errors.Form
+unless_certain (Some e) (Err errors.Unknown) = Err e
+unless_certain None (Err errors.Unknown) = Err errors.Unknown
+unless_certain fault (Err errors.Range) = Err errors.Range
+
+-- An expression where it stands: its symbols with what the names in them mean, its value by what stands before it, and
+-- what is settled of that whatever comes later.
+pub record Told : Type 0 where
+  pub written : Written
+  pub value : Result Value ExprError
+  pub settled : Result Value ExprError
+  pub scope : Scope
+
+abbrev pub written_here : Value → List Symbol → Scope → Written
+written_here here symbols s = record { symbols = symbols; names = (bound here symbols s).names }
+
+abbrev pub told : Value → List Symbol → Scope → Told
+told here symbols s = record {
+  written = written_here here symbols s;
+  value = worth (value_of (bound here symbols s).scope.sources) (written_here here symbols s);
+  settled = unless_certain (certain (value_of (bound here symbols s).scope.sources) (written_here here symbols s)) (worth (value_of (bound here symbols s).scope.sources) (written_here here symbols s));
+  scope = (bound here symbols s).scope;
+}
+
+-- the names after a change
+abbrev pub with_scope : Scope → Standing → Standing
+with_scope scope s = record s { scope = scope }
+
+-- the sections after a change; a section or a module that would be too long is a fault
+abbrev pub with_sections : Standing → Result (Sections Fixup) Refusal → Result Standing FaultKind
+with_sections s (Ok sections) = Ok (record s { sections = sections })
+with_sections s (Err refusal) = Err fault.Large

@@ -1,0 +1,100 @@
+// What the first pass keeps.
+
+ghost use Rattle.std.specs.Prelude.{◌+◌, ◌<◌, ◌^◌};
+ghost use Rattle.vax_asm_first.specs.Contents.{IsSound, sound_prop};
+
+use thiserror::Error;
+use vax_asm_encode::Operand;
+use vax_asm_scope::Scope;
+use vax_asm_sections::Layout;
+use vax_asm_values::Expression;
+use vax_isa::OperandKind;
+use vax_lex::{ExprError, Value};
+use vax_macro::FaultKind;
+use vax_word::Size;
+
+/// What a value is filled into.
+#[derive(Clone, Copy, PartialEq, Eq)]
+pub enum Content {
+    /// An item of data of this size, so many times.
+    Data { size: Size, count: u32 },
+    /// An operand of this kind.
+    Operand { kind: OperandKind, operand: Operand },
+}
+
+/// What it is filled with.
+#[derive(Drop)]
+pub enum Filling {
+    /// A value that is known where it stands.
+    Known(Value),
+    /// An expression whose names have their values later.
+    Later(Expression),
+}
+
+/// The statement that something comes from: the number of its line, and how many lines were read up to it.
+#[derive(Debug, Clone, Copy, PartialEq, Eq)]
+pub struct Origin {
+    pub line: u32,
+    pub place: u32,
+}
+
+/// A part of a section that a value is filled into once all names are known.
+#[derive(Drop)]
+pub struct Fixup {
+    pub origin: Origin,
+    /// The place of its first byte in its section.
+    pub at: u32,
+    pub content: Content,
+    pub filling: Filling,
+    // An operand may stand where it stands.
+    pub ghost sound: { IsSound content } by { sound_prop content },
+    // Past its field there are more addresses.
+    pub ghost near: { at + 6 < 2 ^ 32 },
+}
+
+/// An assignment that has no value where it stands, with what is assigned.
+#[derive(Drop)]
+pub struct Assignment {
+    pub origin: Origin,
+    /// The number of the definition that it is.
+    pub definition: usize,
+    pub expression: Expression,
+}
+
+/// The name at which the program begins, in capitals, and the number of the definition that it means where it stands.
+#[derive(Drop)]
+pub struct Transfer {
+    pub name: Vec<u8>,
+    pub definition: usize,
+}
+
+/// What the statements so far leave.
+#[derive(Drop)]
+pub struct Standing {
+    /// The names and their definitions.
+    pub scope: Scope,
+    /// The sections.
+    pub layout: Layout<Fixup>,
+    /// Where the program begins, once `.END` says so.
+    pub transfer: Option<Transfer>,
+}
+
+/// An expression where it stands.
+#[derive(Drop)]
+pub struct Told {
+    pub expression: Expression,
+    /// Its value by what stands before it.
+    pub value: Result<Value, ExprError>,
+    /// The same, with the fault that it has whatever comes later in place of a value that isn't known yet.
+    pub settled: Result<Value, ExprError>,
+}
+
+/// Why a statement can't be carried out.
+#[derive(Clone, Copy, Debug, PartialEq, Eq, Error)]
+pub enum Refused {
+    /// Of the faults that it and what stands before it decide, the first in the order of the kinds.
+    #[error("{0}")]
+    Fault(FaultKind),
+    #[error("out of memory")]
+    NoMemory,
+}

@@ -1,0 +1,23 @@
+use Rattle.std.proofs.Common.{◌≡◌, List, map, ap, ◌∙◌, arith}
+use Rattle.std.specs.Borrow.{Bor}
+use Rattle.vax_lex.specs.declared.token.Token.{Token}
+use Rattle.vax_asm_first.specs.Progress.{Site}
+use Rattle.vax_asm_statement.specs.Parts.{parts}
+use Rattle.vax_asm_labels.proofs.Parts.{part_on}
+use Rattle.vax_asm_labels.proofs.entries.entry.Goals as goal
+
+pub name_of-requires : goal.name_of-requires
+name_of-requires c =
+    let now : Bor (List Token) → List Token = λ s. s.now in
+    let line = c.args.line.now.value.items in
+    let same : c.deref-2.result.now ≡ line = cc in
+    part_on c.deref-2.result.now line (parts c.args.operands.now) c.as_slice.result.now 0 _ same
+    (ap (map now) c.as_slice.ensures.value ∙ c.in-Ok.ensures.parts) (c.in-Ok.ensures.within line c.requires.tokens) (omega arith)
+
+pub enter-requires : goal.enter-requires
+enter-requires c =
+    let now : Bor (List Token) → List Token = λ s. s.now in
+    let line = c.args.line.now.value.items in
+    let same : c.in-Ok-site_of.site.line.now.value.items ≡ line = ap (λ (s : Site). s.line) c.in-Ok-site_of.ensures in
+    part_on c.in-Ok-site_of.site.line.now.value.items line (parts c.args.operands.now) c.as_slice.result.now 1 _ same
+    (ap (map now) c.as_slice.ensures.value ∙ c.in-Ok.ensures.parts) (c.in-Ok.ensures.within line c.requires.tokens) (omega arith)

@@ -1,0 +1,245 @@
+-- The statements that define names, choose sections and say where a program begins (VAX MACRO and Instruction Set Reference
+-- Manual, "Label field", "Direct assignment statement", `.PSECT`, `.ENTRY`, `.GLOBAL`, `.EXTERNAL` and `.END`).
+use Rattle.std.specs.Prelude.{ℕ, Bool, true, false, ◌==◌, not, if◌then◌else◌, List, [], ◌∷◌, ◌++◌, Option, Some, None, Result, Ok, Err, codes}
+use Rattle.std.specs.Str.{bytes_eq}
+use Rattle.vax_asm_data.specs.Data.{item_stated, unless_none}
+use Rattle.vax_asm_sections.specs.Layout.{Sections, selected}
+use Rattle.vax_asm_sections.specs.declared.types.Attributes.{Attributes}
+use Rattle.vax_asm_sections.specs.declared.types.Refusal.{Refusal}
+use Rattle.vax_lex.specs.Characters.{canonical_name}
+use Rattle.vax_lex.specs.Grammar.{symbols_of}
+use Rattle.vax_lex.specs.Tokens.{token_text}
+use Rattle.vax_lex.specs.declared.token.Token.{Token}
+use Rattle.vax_lex.specs.declared.value.Value.{Value}
+use Rattle.vax_lex.specs.declared.value.ExprError.{ExprError}
+use Rattle.vax_lex.specs.declared.value.ExprError.TheVariants as errors
+use Rattle.vax_macro.specs.declared.error.FaultKind.{FaultKind}
+use Rattle.vax_macro.specs.declared.error.FaultKind.TheVariants as fault
+use Rattle.vax_asm_names.specs.declared.types.Duplicate.{Duplicate}
+use Rattle.vax_asm_first.specs.Fixups.{Assignment, Fixup}
+use Rattle.vax_asm_first.specs.Progress.{Site, site_of, Progress, after_change, joined, done}
+use Rattle.vax_asm_first.specs.Standing.{Standing, Told, told, here_in, with_scope}
+use Rattle.vax_asm_first.specs.declared.types.Origin.{Origin}
+use Rattle.vax_asm_scope.specs.Scope.{Scope, entry, definition_at, definition_of, is_local, labelled, labelled_locally, assigned, begun_block, made_global}
+use Rattle.vax_asm_statement.specs.Directives.{attribute_of}
+use Rattle.vax_asm_statement.specs.Items.{name_alone, whole}
+use Rattle.vax_asm_statement.specs.Parts.{parts}
+use Rattle.vax_asm_statement.specs.declared.directives.Attribute.{Attribute}
+use Rattle.vax_asm_statement.specs.declared.directives.Attribute.TheVariants.{Align, Write, Ignored}
+use Rattle.vax_asm_statement.specs.declared.reading.Label.{Label}
+use Rattle.vax_asm_values.specs.Values.{Written}
+use Rattle.vax_word.specs.declared.Size.TheVariants as size
+
+-- the name that a token is, as it is kept
+abbrev pub name_in : List ℕ → Token → List ℕ
+name_in line t = canonical_name (token_text line t)
+
+-- `.` is the place of the statement
+abbrev pub is_place : List ℕ → Bool
+is_place name = bytes_eq name (codes ".")
+
+-- the name that an operand is; a local label and `.` are none
+abbrev pub unless_dot : List ℕ → Option (List ℕ)
+unless_dot name = if is_place name then None else Some name
+
+abbrev pub name_by : List ℕ → Option Token → Option (List ℕ)
+name_by line (Some t) = unless_dot (name_in line t)
+name_by line None = None
+
+abbrev pub name_of : List ℕ → List Token → Option (List ℕ)
+name_of line tokens = name_by line (name_alone line tokens)
+
+-- a definition is there, or is a second one
+abbrev pub defined : Standing → Result Scope Duplicate → Result Standing FaultKind
+defined s (Ok scope) = Ok (with_scope scope s)
+defined s (Err e) = Err fault.Duplicate
+
+-- a name that other modules may use, if it is said to be one
+abbrev pub shared : Bool → List ℕ → Scope → Scope
+shared true name s = made_global name s
+shared false name s = s
+
+-- A label that isn't local has the value of the place where it stands, and begins a block of local labels.
+abbrev pub begins : Bool → List ℕ → Result Scope Duplicate → Result Scope Duplicate
+begins global name (Ok s) = Ok (begun_block (shared global name s))
+begins global name (Err e) = Err e
+
+abbrev pub symbol_stated : Bool → List ℕ → Standing → Result Standing FaultKind
+symbol_stated global name s = defined s (begins global name (labelled name (here_in s.sections) s.scope))
+
+-- A local label has that value in its block, and is none for other modules.
+abbrev pub local_stated : Bool → List ℕ → Standing → Result Standing FaultKind
+local_stated true name s = Err fault.Form
+local_stated false name s = defined s (labelled_locally name (here_in s.sections) s.scope)
+
+abbrev pub named_label : Bool → List ℕ → Standing → Result Standing FaultKind
+named_label global name s =
+    if is_place name then Err fault.Form
+    else (if is_local name then local_stated global name s else symbol_stated global name s)
+
+-- `name:` and, for other modules, `name::`
+unfoldable pub label_stated : List ℕ → Label → Standing → Result Standing FaultKind
+label_stated line label s = named_label label.global (name_in line label.name) s
+
+-- What is assigned may have its value later.
+abbrev pub fault_of : Result Value ExprError → Option FaultKind
+fault_of (Ok v) = None
+fault_of (Err errors.Form) = Some fault.Form
+fault_of (Err errors.Unknown) = None
+fault_of (Err errors.Range) = Some fault.Range
+
+abbrev pub waiting : Result Value ExprError → Written → Option Written
+waiting (Ok v) w = None
+waiting (Err e) w = Some w
+
+abbrev pub waiting_as : Origin → ℕ → Option Written → Option Assignment
+waiting_as origin definition (Some w) = Some (record { origin = origin; definition = definition; written = w })
+waiting_as origin definition None = None
+
+abbrev pub assigned_by : Bool → List ℕ → Standing → Result Scope Duplicate → Result Standing FaultKind
+assigned_by global name s (Ok scope) = Ok (with_scope (shared global name scope) s)
+assigned_by global name s (Err e) = Err fault.Duplicate
+
+abbrev pub waiting_by : Origin → List ℕ → Told → Result Scope Duplicate → Option Assignment
+waiting_by origin name t (Ok scope) = waiting_as origin (definition_of name scope) (waiting t.value t.written)
+waiting_by origin name t (Err e) = None
+
+-- What an assignment leaves, or its fault; and the assignment itself, where it has no value yet.
+pub record Assigned : Type 0 where
+  pub result : Result Standing FaultKind
+  pub waiting : Option Assignment
+
+abbrev pub not_assigned : FaultKind → Assigned
+not_assigned kind = record { result = Err kind; waiting = None }
+
+-- The name appears before what is assigned, which may use `.` and the name's definition before.
+abbrev pub name_assigned : Site → Bool → List ℕ → List Token → Standing → Assigned
+name_assigned site global name tokens s =
+    let t = told site.here (symbols_of site.line tokens) (entry name s.scope).scope in
+    let r = assigned name t.written t.scope in
+    record {
+      result = done (joined (fault_of t.settled) (after_change s (assigned_by global name s r)));
+      waiting = waiting_by site.origin name t r;
+    }
+
+abbrev pub named_assignment : Site → Bool → List ℕ → List Token → Standing → Assigned
+named_assignment site global name tokens s =
+    if is_place name then not_assigned fault.UnknownOperator
+    else (if is_local name then not_assigned fault.Form else name_assigned site global name tokens s)
+
+-- `name = e` and, for other modules, `name == e`. Whether a name comes back to itself is told of all assignments together.
+unfoldable pub assignment_stated : Origin → List ℕ → Token → Bool → List Token → Standing → Assigned
+assignment_stated origin line name global tokens s = named_assignment (site_of origin line s) global (name_in line name) tokens s
+
+-- the assignments that have no value yet, with one more
+abbrev pub with_waiting : Option Assignment → List Assignment → List Assignment
+with_waiting (Some a) assignments = assignments ++ a ∷ []
+with_waiting None assignments = assignments
+
+-- The attributes of a section: none is said twice differently.
+abbrev pub with_align : ℕ → Attributes → Option ℕ → Option Attributes
+with_align k a (Some before) = if k == before then Some a else None
+with_align k a None = Some (record a { align = Some k })
+
+abbrev pub same : Bool → Bool → Bool
+same true b = b
+same false b = not b
+
+abbrev pub with_write : Bool → Attributes → Option Bool → Option Attributes
+with_write w a (Some before) = if same w before then Some a else None
+with_write w a None = Some (record a { write = Some w })
+
+abbrev pub with_attribute : Option Attribute → Option Attributes → Option Attributes
+with_attribute (Some (Align k)) (Some a) = with_align k a a.align
+with_attribute (Some (Write w)) (Some a) = with_write w a a.write
+with_attribute (Some Ignored) (Some a) = Some a
+with_attribute (Some x) None = None
+with_attribute None found = None
+
+abbrev pub attribute_by : List ℕ → Option Token → Option Attribute
+attribute_by line (Some t) = attribute_of (token_text line t)
+attribute_by line None = None
+
+-- the attribute that an operand is
+abbrev pub attribute_at : List ℕ → List Token → Option Attribute
+attribute_at line tokens = attribute_by line (name_alone line tokens)
+
+abbrev pub attributes_from : List ℕ → List (List Token) → Option Attributes → Option Attributes
+attributes_from line [] found = found
+attributes_from line (part ∷ parts) found = attributes_from line parts (with_attribute (attribute_at line part) found)
+
+abbrev pub nothing_said : Attributes
+nothing_said = record { align = None; write = None }
+
+-- a section is chosen; a block of local labels begins
+abbrev pub chosen : Standing → Result (Sections Fixup) Refusal → Result Standing FaultKind
+chosen s (Ok sections) = Ok (record s { scope = begun_block s.scope; sections = sections })
+chosen s (Err refusal) = Err fault.Form
+
+abbrev pub section_chosen : Option (List ℕ) → Option Attributes → Standing → Result Standing FaultKind
+section_chosen (Some name) (Some attributes) s = chosen s (selected name attributes s.sections)
+section_chosen (Some name) None s = Err fault.Form
+section_chosen None attributes s = Err fault.Form
+
+abbrev pub section_by : List ℕ → List (List Token) → Standing → Result Standing FaultKind
+section_by line [] s = Err fault.Count
+section_by line (name ∷ attributes) s = section_chosen (name_of line name) (attributes_from line attributes (Some nothing_said)) s
+
+-- `.PSECT`
+unfoldable pub section_stated : List ℕ → List Token → Standing → Result Standing FaultKind
+section_stated line tokens s = section_by line (parts tokens) s
+
+-- `.ENTRY`: a label for other modules, and a word that holds the mask
+abbrev pub entry_by : Site → List Token → Progress → Result Standing FaultKind
+entry_by site mask p = done (joined p.fault (item_stated size.W site (whole mask) p.standing))
+
+abbrev pub entry_named : Site → Option (List ℕ) → List Token → Standing → Result Standing FaultKind
+entry_named site (Some name) mask s = entry_by site mask (after_change s (symbol_stated true name s))
+entry_named site None mask s = Err fault.Form
+
+abbrev pub two_alone : List (List Token) → (List Token → List Token → Result Standing FaultKind) → Result Standing FaultKind
+two_alone [] stated = Err fault.Count
+two_alone (one ∷ []) stated = Err fault.Count
+two_alone (one ∷ two ∷ []) stated = stated one two
+two_alone (one ∷ two ∷ three ∷ more) stated = Err fault.Count
+
+unfoldable pub entry_stated : Origin → List ℕ → List Token → Standing → Result Standing FaultKind
+entry_stated origin line tokens s =
+    two_alone (parts tokens) (λ name mask. entry_named (site_of origin line s) (name_of line name) mask s)
+
+-- names that appear, for other modules or from them
+abbrev pub appears : Bool → List ℕ → Scope → Scope
+appears true name s = made_global name s
+appears false name s = (entry name s).scope
+
+abbrev pub with_name : Bool → Option (List ℕ) → Option Scope → Option Scope
+with_name global (Some name) (Some s) = Some (appears global name s)
+with_name global (Some name) None = None
+with_name global None found = None
+
+abbrev pub names_from : Bool → List ℕ → List (List Token) → Option Scope → Option Scope
+names_from global line [] found = found
+names_from global line (part ∷ parts) found = names_from global line parts (with_name global (name_of line part) found)
+
+abbrev pub named : Standing → Option Scope → Result Standing FaultKind
+named s (Some scope) = Ok (with_scope scope s)
+named s None = Err fault.Form
+
+-- `.GLOBAL` and `.EXTERNAL`
+unfoldable pub names_stated : Bool → List ℕ → List Token → Standing → Result Standing FaultKind
+names_stated global line tokens s = unless_none tokens (named s (names_from global line (parts tokens) (Some s.scope)))
+
+-- `.END`, with the name at which the program begins
+abbrev pub begins_at : Option (List ℕ) → Standing → Result Standing FaultKind
+begins_at (Some name) s =
+    let e = entry name s.scope in
+    Ok (record s { scope = e.scope; transfer = Some (record { name = name; definition = definition_at e }) })
+begins_at None s = Err fault.Form
+
+abbrev pub end_by : List ℕ → List (List Token) → Standing → Result Standing FaultKind
+end_by line [] s = Ok s
+end_by line (name ∷ []) s = begins_at (name_of line name) s
+end_by line (name ∷ more ∷ others) s = Err fault.Count
+
+unfoldable pub end_stated : List ℕ → List Token → Standing → Result Standing FaultKind
+end_stated line tokens s = end_by line (parts tokens) s

@@ -1,0 +1,114 @@
+// Labels.
+
+ghost use Rattle.std.specs.Prelude.{◌≡◌, OnOk, true};
+ghost use Rattle.vax_lex.specs.Tokens.{IsTokenOf};
+ghost use Rattle.vax_asm_labels.specs.Naming.{label_stated, local_stated, named_label, shared, symbol_stated};
+ghost use Rattle.vax_asm_first.specs.View.{standing_of, Changes};
+ghost use Rattle.vax_asm_scope.specs.Kept.{scope_of};
+ghost use Rattle.vax_asm_statement.specs.Tokens.{is_name_token};
+
+use crate::operands::{is_place, kept};
+use std::alloc::Global;
+use vax_asm_first::{FaultKind, Refused, Standing};
+use vax_asm_scope::{LabelError, Scope};
+use vax_asm_statement::{Label, is_local};
+use vax_space::NoMemory;
+
+/// Other modules may use a name, if it is said that they may.
+pub(crate) fn share(
+    scope: &mut Scope,
+    alloc: Global,
+    global: bool,
+    name: &[u8],
+) -> Result<(), NoMemory>
+    ensures { OnOk result (scope_of scope.new ≡ shared global name.now (scope_of scope.old)) }
+{
+    if global {
+        scope.make_global(alloc, name)?;
+    }
+    Ok(())
+}
+
+/// A label that isn't local: it begins a block of local labels. After a fault all is as before.
+pub(crate) fn define(
+    standing: &mut Standing,
+    alloc: Global,
+    global: bool,
+    name: &[u8],
+) -> Result<(), Refused>
+    ensures { Changes result (standing_of standing.old) (standing_of standing.new) (symbol_stated global name.now (standing_of standing.old)) }
+{
+    let Ok(here) = standing.here() else {
+        return Err(Refused::NoMemory);
+    };
+    match standing.scope.label(alloc, name, here) {
+        Ok(()) => {}
+        Err(LabelError::Duplicate) => return Err(Refused::Fault(FaultKind::Duplicate)),
+        Err(LabelError::NoMemory) => return Err(Refused::NoMemory),
+    }
+    let Ok(()) = share(&mut standing.scope, alloc, global, name) else {
+        return Err(Refused::NoMemory);
+    };
+    standing.scope.begin_block(alloc);
+    Ok(())
+}
+
+/// A local label. After a fault all is as before.
+fn define_local(
+    standing: &mut Standing,
+    alloc: Global,
+    global: bool,
+    name: &[u8],
+) -> Result<(), Refused>
+    ensures { Changes result (standing_of standing.old) (standing_of standing.new) (local_stated global name.now (standing_of standing.old)) }
+{
+    if global {
+        return Err(Refused::Fault(FaultKind::Form));
+    }
+    let Ok(here) = standing.here() else {
+        return Err(Refused::NoMemory);
+    };
+    match standing.scope.label_local(alloc, name, here) {
+        Ok(()) => Ok(()),
+        Err(LabelError::Duplicate) => Err(Refused::Fault(FaultKind::Duplicate)),
+        Err(LabelError::NoMemory) => Err(Refused::NoMemory),
+    }
+}
+
+fn define_named(
+    standing: &mut Standing,
+    alloc: Global,
+    global: bool,
+    name: &[u8],
+) -> Result<(), Refused>
+    ensures { Changes result (standing_of standing.old) (standing_of standing.new) (named_label global name.now (standing_of standing.old)) }
+{
+    if is_place(name) {
+        return Err(Refused::Fault(FaultKind::Form));
+    }
+    if is_local(name) {
+        return define_local(standing, alloc, global, name);
+    }
+    define(standing, alloc, global, name)
+}
+
+/// `name:`, and `name::` for other modules: the name has the value of the place where it stands. A local label has it in its
+/// block; every other label begins a block.
+///
+/// [`Refused::Fault`]: `Form` where the name is `.`, or a local label is to be one for other modules; `Duplicate` where the
+/// name is defined already, a local label in its block. All is as before then. [`Refused::NoMemory`] where memory is refused;
+/// nothing of use is left then.
+#[tactic(auto, unfolding(crate::specs::Naming::label_stated))]
+pub fn label(
+    standing: &mut Standing,
+    alloc: Global,
+    line: &[u8],
+    label: Label,
+) -> Result<(), Refused>
+    requires within { IsTokenOf line.now label.name }
+    requires name { is_name_token label.name ≡ true }
+    ensures { Changes result (standing_of standing.old) (standing_of standing.new) (label_stated line.now label (standing_of standing.old)) }
+{
+    let name = kept(line, label.name);
+    define_named(standing, alloc, label.global, name.as_bytes())
+}

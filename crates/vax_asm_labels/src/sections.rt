@@ -1,0 +1,146 @@
+// Sections.
+
+ghost use Rattle.std.specs.Prelude.{◌≡◌, ◌<◌, ◌^◌, All, IfSome, Some, length, map, option_map};
+ghost use Rattle.vax_lex.specs.KeptNames.{kept_name};
+ghost use Rattle.vax_lex.specs.Tokens.{IsTokenOf};
+ghost use Rattle.vax_asm_labels.specs.Naming.{attribute_at, attributes_from, nothing_said, same, section_by, section_chosen, section_stated, with_align, with_attribute, with_write};
+ghost use Rattle.vax_asm_labels.specs.Within.{Within};
+ghost use Rattle.vax_asm_first.specs.View.{standing_of, Stands};
+ghost use Rattle.vax_asm_statement.specs.Directives.{attribute_of};
+ghost use Rattle.vax_asm_statement.specs.Parts.{parts};
+
+use crate::operands::name_of;
+use std::alloc::Global;
+use std::str;
+use vax_asm_first::{FaultKind, Refused, Standing};
+use vax_asm_sections::{Attributes, Refusal};
+use vax_asm_statement::{Attribute, attribute_named, name_alone, parts, text_of};
+use vax_lex::{CanonicalName, Token};
+
+/// The attribute with this name.
+#[tactic(auto, using(crate::proofs::Attributes::unnamed))]
+fn attribute_of(name: &[u8]) -> Option<Attribute>
+    ensures { result ≡ attribute_of name.now }
+{
+    match str::from_utf8(name) {
+        Ok(name) => attribute_named(name),
+        Err(_) => None,
+    }
+}
+
+/// The attribute that an operand is.
+fn attribute_at(line: &[u8], tokens: &[Token]) -> Option<Attribute>
+    requires { All (IsTokenOf line.now) tokens.now }
+    ensures { result ≡ attribute_at line.now tokens.now }
+{
+    let token = name_alone(line, tokens)?;
+    attribute_of(text_of(line, token))
+}
+
+fn with_align(align: u8, said: Attributes) -> Option<Attributes>
+    ensures { result ≡ with_align align said said.align }
+{
+    match said.align {
+        Some(before) if before != align => None,
+        Some(_) => Some(said),
+        None => Some(Attributes {
+            align: Some(align),
+            write: said.write,
+        }),
+    }
+}
+
+fn with_write(write: bool, said: Attributes) -> Option<Attributes>
+    ensures { result ≡ with_write write said said.write }
+{
+    match said.write {
+        Some(before) if before != write => None,
+        Some(_) => Some(said),
+        None => Some(Attributes {
+            align: said.align,
+            write: Some(write),
+        }),
+    }
+}
+
+/// One more attribute; none where it is no attribute, or another one was said before.
+fn with_attribute(attribute: Option<Attribute>, said: Option<Attributes>) -> Option<Attributes>
+    ensures { result ≡ with_attribute attribute said }
+{
+    let attribute = attribute?;
+    let said = said?;
+    match attribute {
+        Attribute::Align(align) => with_align(align, said),
+        Attribute::Write(write) => with_write(write, said),
+        Attribute::Ignored => Some(said),
+    }
+}
+
+/// The attributes that operands are.
+#[tactic(auto, using(crate::proofs::Attributes::attribute_step))]
+fn attributes_of(line: &[u8], operands: &[&[Token]]) -> Option<Attributes>
+    requires { All (λ o. All (IsTokenOf line.now) o.now) operands.now }
+    ensures { result ≡ attributes_from line.now (map (λ o. o.now) operands.now) (Some nothing_said) }
+{
+    let mut said = Some(Attributes {
+        align: None,
+        write: None,
+    });
+    for operand in operands {
+        said = with_attribute(attribute_at(line, operand), said);
+    }
+    said
+}
+
+/// Chooses a section.
+#[tactic(auto, using(crate::proofs::Selecting::select_stands, crate::proofs::Selecting::select_fails))]
+fn choose(
+    standing: &mut Standing,
+    alloc: Global,
+    name: Option<CanonicalName>,
+    attributes: Option<Attributes>,
+) -> Result<(), Refused>
+    requires { IfSome attributes Within }
+    ensures { Stands result (standing_of standing.new) (section_chosen (option_map kept_name name) attributes (standing_of standing.old)) }
+{
+    let Some(name) = name else {
+        return Err(Refused::Fault(FaultKind::Form));
+    };
+    let Some(attributes) = attributes else {
+        return Err(Refused::Fault(FaultKind::Form));
+    };
+    match standing.layout.select(alloc, name.as_bytes(), attributes) {
+        Ok(()) => {}
+        Err(Refusal::NoMemory) => return Err(Refused::NoMemory),
+        Err(Refusal::Conflict | Refusal::TooLong) => return Err(Refused::Fault(FaultKind::Form)),
+    }
+    standing.scope.begin_block(alloc);
+    Ok(())
+}
+
+/// `.PSECT name,attributes`: the section with this name is chosen, which begins if there is none. A block of local labels
+/// begins.
+///
+/// [`Refused::Fault`]: `Count` where there are no operands, `Form` where the first is no name, another is no attribute, two
+/// say otherwise, or the section's first `.PSECT` said otherwise. [`Refused::NoMemory`] where memory is refused. Nothing of
+/// use is left then.
+#[tactic(auto, using(crate::proofs::Attributes::said_within), unfolding(crate::specs::Naming::section_stated))]
+pub fn section(
+    standing: &mut Standing,
+    alloc: Global,
+    line: &[u8],
+    operands: &[Token],
+) -> Result<(), Refused>
+    requires tokens { All (IsTokenOf line.now) operands.now }
+    requires few { length operands.now < 2 ^ 32 }
+    ensures { Stands result (standing_of standing.new) (section_stated line.now operands.now (standing_of standing.old)) }
+{
+    let Ok(found) = parts(alloc, operands) else {
+        return Err(Refused::NoMemory);
+    };
+    let [name, attributes @ ..] = found.as_slice() else {
+        return Err(Refused::Fault(FaultKind::Count));
+    };
+    let attributes = attributes_of(line, attributes);
+    choose(standing, alloc, name_of(line, name), attributes)
+}

@@ -1,0 +1,194 @@
+-- Directives of data.
+use Rattle.std.proofs.Common.{◌≡◌, ◌*◌, ℕ, List, [], ◌∷◌, length, map, Option, Some, None, Result, Ok, Err, refl, ap, subst, ◌∙◌}
+use Rattle.std.proofs.Math.Nat.{mul_comm}
+use Rattle.vax_asm_data.specs.Data.{Ending, Plain, Counted_first, Zero_last, addresses_stated, align_by, align_stated, align_to, at_most_one, before_pieces, behind_pieces, boundary, boundary_named, characters_of, count_byte, count_stated, data_stated, even_stated, fixed, item_stated, items_stated, one_alone, piece_stated, pieces_length, pieces_stated, placed_item, room, room_by, space_stated, text_by, text_parts, text_stated, unless_none}
+use Rattle.vax_asm_second.proofs.Fitting.{data_length}
+use Rattle.vax_asm_sections.specs.Layout.{Bytes, Field, Part, Sections, Zeros, aligned, current_of, put}
+use Rattle.vax_asm_sections.specs.declared.types.Refusal.{Refusal}
+use Rattle.vax_lex.specs.declared.token.Token.{Token}
+use Rattle.vax_lex.specs.Grammar.{symbols_of}
+use Rattle.vax_macro.specs.declared.error.FaultKind.{FaultKind}
+use Rattle.vax_asm_encode.specs.declared.operand.Field.TheVariants.{Number}
+use Rattle.vax_asm_first.specs.Faults.{fault_of_value, unless_place}
+use Rattle.vax_asm_first.specs.Fixups.{Filling, Fixup, filling_by}
+use Rattle.vax_asm_first.specs.Progress.{Progress, Site, added, after_change, begun, counted, done, done_by, joined, site_of}
+use Rattle.vax_asm_first.specs.Standing.{Standing, told, with_scope, with_sections}
+use Rattle.vax_asm_first.specs.declared.types.Content.TheVariants.{Data}
+use Rattle.vax_asm_first.specs.declared.types.Origin.{Origin}
+use Rattle.vax_asm_scope.specs.Used.{uses_place}
+use Rattle.vax_asm_statement.specs.Items.{Item, Piece, Characters, Value as ByteValue, item_of, pieces_of, whole}
+use Rattle.vax_asm_statement.specs.Parts.{parts}
+use Rattle.vax_word.specs.Arithmetic.{bytes_of}
+use Rattle.vax_word.specs.declared.Size.{Size}
+use Rattle.vax_word.specs.declared.Size.TheVariants as size
+use Rattle.vax_asm_laws.specs.Counted.{AreCounted, BeginsAt, part_length}
+use Rattle.vax_asm_laws.proofs.Counting.{Step, align_step, put_step, step_same, step_then}
+
+-- from what stands, whose sections are counted, to this
+abbrev pub Goes : Standing → Standing → Type 0
+Goes s t = Step s.sections t.sections
+
+abbrev pub IsCounted : Standing → Type 0
+IsCounted s = AreCounted s.sections
+
+pub with_sections_goes : (s t : Standing) (r : Result (Sections Fixup) Refusal) → ((u : Sections Fixup) → r ≡ Ok u → Step s.sections u) → with_sections s r ≡ Ok t → Goes s t
+with_sections_goes s t (Ok u) h e =
+    let same : u ≡ t.sections = ap (λ (x : Standing). x.sections) (let all : record { scope = s.scope; sections = u; transfer = s.transfer } ≡ t = cc in all) in
+    subst (λ (x : Sections Fixup). Step s.sections x) same (h u refl)
+with_sections_goes s t (Err refusal) h e = cc
+
+pub after_change_goes : (s : Standing) (r : Result Standing FaultKind) → IsCounted s → ((t : Standing) → r ≡ Ok t → Goes s t) → Goes s (after_change s r).standing
+after_change_goes s (Ok t) c h = h t refl
+after_change_goes s (Err kind) c h = step_same s.sections c
+
+pub added_goes : (n : ℕ) (p : Part Fixup) (s : Standing) → IsCounted s → part_length p ≡ n → BeginsAt (current_of s.sections).size p → Goes s (added n p s).standing
+added_goes n p s c e b =
+    after_change_goes s (with_sections s (put n p s.sections)) c
+    (λ t made. with_sections_goes s t (put n p s.sections) (λ u made. put_step n p s.sections u c e b made) made)
+
+done_is : (f : Option FaultKind) (s t : Standing) → done_by f s ≡ Ok t → s ≡ t
+done_is None s t e = cc
+done_is (Some kind) s t e = cc
+
+-- a progress without a fault
+pub done_goes : (s t : Standing) (p : Progress) → Goes s p.standing → done p ≡ Ok t → Goes s t
+done_goes s t p h e = subst (λ (x : Standing). Goes s x) (done_is p.fault p.standing t e) h
+
+-- ---- items
+
+fixed_goes : (k : Size) (site : Site) (n : ℕ) (filling : Filling) (s : Standing) → IsCounted s → Goes s (fixed k site n filling s).standing
+fixed_goes k site n filling s c =
+    added_goes (bytes_of k * n) (Field (record { origin = site.origin; at = (current_of s.sections).size; content = Data k n; filling = filling })) s c (data_length k n 0 ∙ mul_comm n (bytes_of k)) refl
+
+placed_goes : (k : Size) (site : Site) (f : Option FaultKind) (n : Result ℕ FaultKind) (filling : Filling) (s : Standing) → IsCounted s → Goes s (placed_item k site f n filling s).standing
+placed_goes k site None (Ok n) filling s c = fixed_goes k site n filling s c
+placed_goes k site (Some kind) (Ok n) filling s c = step_same s.sections c
+placed_goes k site None (Err kind) filling s c = step_same s.sections c
+placed_goes k site (Some other) (Err kind) filling s c = step_same s.sections c
+
+pub item_goes : (k : Size) (site : Site) (item : Item) (s : Standing) → IsCounted s → Goes s (item_stated k site item s).standing
+item_goes k site item s c =
+    let symbols = symbols_of site.line item.expression in
+    let t = told site.here symbols s.scope in
+    let n = counted site item.count t.scope in
+    placed_goes k site (unless_place (uses_place symbols) (fault_of_value (Number k) 0 0 t.settled)) n.number (filling_by t.value t.written) (with_scope n.scope s) c
+
+items_go : (k : Size) (site : Site) (items : List Item) (p : Progress) → IsCounted p.standing → Goes p.standing (items_stated k site items p).standing
+items_go k site [] p c = step_same p.standing.sections c
+items_go k site (item ∷ items) p c =
+    let one : Progress = item_stated k site item p.standing in
+    let first : Goes p.standing one.standing = item_goes k site item p.standing c in
+    step_then p.standing.sections one.standing.sections (items_stated k site items (joined p.fault one)).standing.sections first
+    (items_go k site items (joined p.fault one) first.counted)
+
+unless_none_is : (tokens : List Token) (r : Result Standing FaultKind) (t : Standing) → unless_none tokens r ≡ Ok t → r ≡ Ok t
+unless_none_is [] r t e = cc
+unless_none_is (x ∷ tokens) r t e = e
+
+pub unless_none_goes : (tokens : List Token) (r : Result Standing FaultKind) (s t : Standing) → (r ≡ Ok t → Goes s t) → unless_none tokens r ≡ Ok t → Goes s t
+unless_none_goes tokens r s t h e = h (unless_none_is tokens r t e)
+
+pub data_goes : (k : Size) (origin : Origin) (line : List ℕ) (tokens : List Token) (s t : Standing) → IsCounted s → data_stated k origin line tokens s ≡ Ok t → Goes s t
+unfolding data_stated
+data_goes k origin line tokens s t c e =
+    let p : Progress = items_stated k (site_of origin line s) (map item_of (parts tokens)) (begun s) in
+    unless_none_goes tokens (done p) s t (done_goes s t p (items_go k (site_of origin line s) (map item_of (parts tokens)) (begun s) c)) e
+
+pub addresses_go : (origin : Origin) (line : List ℕ) (tokens : List Token) (s t : Standing) → IsCounted s → addresses_stated origin line tokens s ≡ Ok t → Goes s t
+unfolding addresses_stated
+addresses_go origin line tokens s t c e =
+    let p : Progress = items_stated size.L (site_of origin line s) (map whole (parts tokens)) (begun s) in
+    unless_none_goes tokens (done p) s t (done_goes s t p (items_go size.L (site_of origin line s) (map whole (parts tokens)) (begun s) c)) e
+
+-- ---- texts
+
+piece_goes : (site : Site) (piece : Piece) (s : Standing) → IsCounted s → Goes s (piece_stated site piece s).standing
+piece_goes site (Characters x) s c = added_goes (length (characters_of site.line x)) (Bytes (characters_of site.line x)) s c refl tt
+piece_goes site (ByteValue tokens) s c = item_goes size.B site (whole tokens) s c
+
+pieces_go : (site : Site) (pieces : List Piece) (p : Progress) → IsCounted p.standing → Goes p.standing (pieces_stated site pieces p).standing
+pieces_go site [] p c = step_same p.standing.sections c
+pieces_go site (piece ∷ pieces) p c =
+    let one : Progress = piece_stated site piece p.standing in
+    let first : Goes p.standing one.standing = piece_goes site piece p.standing c in
+    step_then p.standing.sections one.standing.sections (pieces_stated site pieces (joined p.fault one)).standing.sections first
+    (pieces_go site pieces (joined p.fault one) first.counted)
+
+count_goes : (o : Option ℕ) (s : Standing) → IsCounted s → Goes s (count_stated o s).standing
+count_goes (Some n) s c = added_goes 1 (Bytes (n ∷ [])) s c refl tt
+count_goes None s c = step_same s.sections c
+
+before_goes : (ending : Ending) (n : ℕ) (s : Standing) → IsCounted s → Goes s (before_pieces ending n s).standing
+before_goes Plain n s c = step_same s.sections c
+before_goes Counted_first n s c = count_goes (count_byte n) s c
+before_goes Zero_last n s c = step_same s.sections c
+
+behind_goes : (ending : Ending) (p : Progress) → IsCounted p.standing → Goes p.standing (behind_pieces ending p).standing
+behind_goes Plain p c = step_same p.standing.sections c
+behind_goes Counted_first p c = step_same p.standing.sections c
+behind_goes Zero_last p c = added_goes 1 (Zeros 1) p.standing c refl tt
+
+text_parts_go : (ending : Ending) (site : Site) (pieces : List Piece) (s : Standing) → IsCounted s → Goes s (text_parts ending site pieces s).standing
+text_parts_go ending site pieces s c =
+    let first : Progress = before_pieces ending (pieces_length site.line pieces) s in
+    let second : Progress = pieces_stated site pieces first in
+    let a : Goes s first.standing = before_goes ending (pieces_length site.line pieces) s c in
+    let b : Goes first.standing second.standing = pieces_go site pieces first a.counted in
+    step_then s.sections second.standing.sections (behind_pieces ending second).standing.sections
+    (step_then s.sections first.standing.sections second.standing.sections a b)
+    (behind_goes ending second b.counted)
+
+text_by_goes : (ending : Ending) (site : Site) (s t : Standing) (o : Option (List Piece)) → IsCounted s → text_by ending site s o ≡ Ok t → Goes s t
+text_by_goes ending site s t None c e = cc
+text_by_goes ending site s t (Some pieces) c e = done_goes s t (text_parts ending site pieces s) (text_parts_go ending site pieces s c) e
+
+pub text_goes : (ending : Ending) (origin : Origin) (line : List ℕ) (tokens : List Token) (s t : Standing) → IsCounted s → text_stated ending origin line tokens s ≡ Ok t → Goes s t
+unfolding text_stated
+text_goes ending origin line tokens s t c e =
+    unless_none_goes tokens (text_by ending (site_of origin line s) s (pieces_of tokens)) s t (text_by_goes ending (site_of origin line s) s t (pieces_of tokens) c) e
+
+-- ---- room and boundaries
+
+room_goes : (k : Size) (s t : Standing) (n : Result ℕ FaultKind) → IsCounted s → room k s n ≡ Ok t → Goes s t
+room_goes k s t (Ok n) c e =
+    with_sections_goes s t (put (bytes_of k * n) (Zeros (bytes_of k * n)) s.sections) (λ u made. put_step (bytes_of k * n) (Zeros (bytes_of k * n)) s.sections u c refl tt made) e
+room_goes k s t (Err kind) c e = cc
+
+room_by_goes : (k : Size) (site : Site) (count : Option (List Token)) (s t : Standing) → IsCounted s → room_by k site count s ≡ Ok t → Goes s t
+room_by_goes k site count s t c e =
+    let n = counted site count s.scope in
+    room_goes k (with_scope n.scope s) t n.number c e
+
+at_most_goes : (found : List (List Token)) (stated : Option (List Token) → Result Standing FaultKind) (s t : Standing) → ((o : Option (List Token)) → stated o ≡ Ok t → Goes s t) → at_most_one found stated ≡ Ok t → Goes s t
+at_most_goes [] stated s t h e = h None e
+at_most_goes (one ∷ []) stated s t h e = h (Some one) e
+at_most_goes (one ∷ two ∷ more) stated s t h e = cc
+
+pub space_goes : (k : Size) (origin : Origin) (line : List ℕ) (tokens : List Token) (s t : Standing) → IsCounted s → space_stated k origin line tokens s ≡ Ok t → Goes s t
+unfolding space_stated
+space_goes k origin line tokens s t c e =
+    at_most_goes (parts tokens) (λ count. room_by k (site_of origin line s) count s) s t (λ o made. room_by_goes k (site_of origin line s) o s t c made) e
+
+align_to_goes : (s t : Standing) (n : Result ℕ FaultKind) → IsCounted s → align_to s n ≡ Ok t → Goes s t
+align_to_goes s t (Ok k) c e = with_sections_goes s t (aligned k s.sections) (λ u made. align_step k s.sections u c made) e
+align_to_goes s t (Err kind) c e = cc
+
+align_by_goes : (site : Site) (tokens : List Token) (s t : Standing) → IsCounted s → align_by site tokens s ≡ Ok t → Goes s t
+align_by_goes site tokens s t c e =
+    let n = boundary site tokens (boundary_named site.line tokens) s.scope in
+    align_to_goes (with_scope n.scope s) t n.number c e
+
+one_goes : (found : List (List Token)) (stated : List Token → Result Standing FaultKind) (s t : Standing) → ((o : List Token) → stated o ≡ Ok t → Goes s t) → one_alone found stated ≡ Ok t → Goes s t
+one_goes [] stated s t h e = cc
+one_goes (one ∷ []) stated s t h e = h one e
+one_goes (one ∷ two ∷ more) stated s t h e = cc
+
+pub align_goes : (origin : Origin) (line : List ℕ) (tokens : List Token) (s t : Standing) → IsCounted s → align_stated origin line tokens s ≡ Ok t → Goes s t
+unfolding align_stated
+align_goes origin line tokens s t c e =
+    one_goes (parts tokens) (λ one. align_by (site_of origin line s) one s) s t (λ o made. align_by_goes (site_of origin line s) o s t c made) e
+
+pub even_goes : (tokens : List Token) (s t : Standing) → IsCounted s → even_stated tokens s ≡ Ok t → Goes s t
+unfolding even_stated
+even_goes [] s t c e = with_sections_goes s t (aligned 1 s.sections) (λ u made. align_step 1 s.sections u c made) e
+even_goes (x ∷ tokens) s t c e = cc

@@ -1,0 +1,149 @@
+-- Names, sections, entries and the end.
+use Rattle.std.proofs.Common.{◌≡◌, ℕ, Bool, true, false, List, [], ◌∷◌, Option, Some, None, Result, Ok, Err, refl, sym, ap, subst, ◌∙◌}
+use Rattle.std.specs.Prelude.{if◌then◌else◌}
+use Rattle.vax_asm_sections.specs.Layout.{Sections, selected}
+use Rattle.vax_asm_sections.specs.declared.types.Attributes.{Attributes}
+use Rattle.vax_asm_sections.specs.declared.types.Refusal.{Refusal}
+use Rattle.vax_lex.specs.Grammar.{symbols_of}
+use Rattle.vax_lex.specs.declared.token.Token.{Token}
+use Rattle.vax_macro.specs.declared.error.FaultKind.{FaultKind}
+use Rattle.vax_macro.specs.declared.error.FaultKind.TheVariants as fault
+use Rattle.vax_asm_names.specs.declared.types.Duplicate.{Duplicate}
+use Rattle.vax_asm_labels.specs.Naming.{assigned_by, assignment_stated, attributes_from, begins, begins_at, chosen, defined, end_by, end_stated, entry_named, entry_stated, fault_of, is_place, label_stated, local_stated, name_assigned, name_in, name_of, named, names_from, names_stated, not_assigned, nothing_said, section_by, section_chosen, section_stated, shared, symbol_stated, two_alone}
+use Rattle.vax_asm_first.specs.Fixups.{Fixup}
+use Rattle.vax_asm_first.specs.Progress.{Progress, Site, after_change, joined, site_of}
+use Rattle.vax_asm_first.specs.Standing.{Standing, Told, here_in, told, with_scope}
+use Rattle.vax_asm_first.specs.declared.types.Origin.{Origin}
+use Rattle.vax_asm_scope.specs.Scope.{Scope, assigned, begun_block, entry, is_local, labelled, labelled_locally}
+use Rattle.vax_asm_statement.specs.Items.{whole}
+use Rattle.vax_asm_statement.specs.Parts.{parts}
+use Rattle.vax_asm_statement.specs.declared.reading.Label.{Label}
+use Rattle.vax_asm_values.specs.Values.{Written}
+use Rattle.vax_word.specs.declared.Size.TheVariants as size
+use Rattle.vax_asm_data.specs.Data.{item_stated}
+use Rattle.vax_asm_laws.proofs.Counting.{Step, select_step, step_same, step_then}
+use Rattle.vax_asm_laws.proofs.Data.{Goes, IsCounted, after_change_goes, done_goes, item_goes, unless_none_goes}
+
+-- the sections of what a statement leaves
+abbrev sections_in : Result Standing FaultKind → Standing → Sections Fixup
+sections_in (Ok t) s = t.sections
+sections_in (Err kind) s = s.sections
+
+-- what has the same sections
+pub same_goes : (s t u : Standing) → IsCounted s → u.sections ≡ s.sections → (let r : Result Standing FaultKind = Ok u in r) ≡ Ok t → Goes s t
+same_goes s t u c same e =
+    subst (λ (x : Sections Fixup). Step s.sections x) (sym same ∙ ap (λ (r : Result Standing FaultKind). sections_in r s) e) (step_same s.sections c)
+
+defined_goes : (s t : Standing) (r : Result Scope Duplicate) → IsCounted s → defined s r ≡ Ok t → Goes s t
+defined_goes s t (Ok scope) c e = same_goes s t (with_scope scope s) c refl e
+defined_goes s t (Err x) c e = cc
+
+pub symbol_goes : (global : Bool) (name : List ℕ) (s t : Standing) → IsCounted s → symbol_stated global name s ≡ Ok t → Goes s t
+symbol_goes global name s t c e = defined_goes s t (begins global name (labelled name (here_in s.sections) s.scope)) c e
+
+local_goes : (global : Bool) (name : List ℕ) (s t : Standing) → IsCounted s → local_stated global name s ≡ Ok t → Goes s t
+local_goes true name s t c e = cc
+local_goes false name s t c e = defined_goes s t (labelled_locally name (here_in s.sections) s.scope) c e
+
+label_by : (place local global : Bool) (name : List ℕ) (s t : Standing) → IsCounted s
+    → (if place then Err fault.Form else (if local then local_stated global name s else symbol_stated global name s)) ≡ Ok t → Goes s t
+label_by true local global name s t c e = cc
+label_by false true global name s t c e = local_goes global name s t c e
+label_by false false global name s t c e = symbol_goes global name s t c e
+
+pub label_goes : (line : List ℕ) (label : Label) (s t : Standing) → IsCounted s → label_stated line label s ≡ Ok t → Goes s t
+unfolding label_stated
+label_goes line label s t c e =
+    let name : List ℕ = name_in line label.name in
+    label_by (is_place name) (is_local name) label.global name s t c e
+
+-- ---- assignments
+
+assigned_goes : (global : Bool) (name : List ℕ) (s t : Standing) (r : Result Scope Duplicate) → IsCounted s → assigned_by global name s r ≡ Ok t → Goes s t
+assigned_goes global name s t (Ok scope) c e = same_goes s t (with_scope (shared global name scope) s) c refl e
+assigned_goes global name s t (Err x) c e = cc
+
+name_goes : (site : Site) (global : Bool) (name : List ℕ) (tokens : List Token) (s t : Standing) → IsCounted s → (name_assigned site global name tokens s).result ≡ Ok t → Goes s t
+name_goes site global name tokens s t c e =
+    let w : Told = told site.here (symbols_of site.line tokens) (entry name s.scope).scope in
+    let r : Result Standing FaultKind = assigned_by global name s (assigned name w.written w.scope) in
+    done_goes s t (joined (fault_of w.settled) (after_change s r))
+    (after_change_goes s r c (λ u made. assigned_goes global name s u (assigned name w.written w.scope) c made)) e
+
+assignment_by : (place local : Bool) (site : Site) (global : Bool) (name : List ℕ) (tokens : List Token) (s t : Standing) → IsCounted s
+    → (if place then not_assigned fault.UnknownOperator else (if local then not_assigned fault.Form else name_assigned site global name tokens s)).result ≡ Ok t → Goes s t
+assignment_by true local site global name tokens s t c e = cc
+assignment_by false true site global name tokens s t c e = cc
+assignment_by false false site global name tokens s t c e = name_goes site global name tokens s t c e
+
+pub assignment_goes : (origin : Origin) (line : List ℕ) (name : Token) (global : Bool) (tokens : List Token) (s t : Standing) → IsCounted s → (assignment_stated origin line name global tokens s).result ≡ Ok t → Goes s t
+unfolding assignment_stated
+assignment_goes origin line name global tokens s t c e =
+    let n : List ℕ = name_in line name in
+    assignment_by (is_place n) (is_local n) (site_of origin line s) global n tokens s t c e
+
+-- ---- sections
+
+chosen_goes : (s t : Standing) (r : Result (Sections Fixup) Refusal) → ((u : Sections Fixup) → r ≡ Ok u → Step s.sections u) → chosen s r ≡ Ok t → Goes s t
+chosen_goes s t (Ok u) h e =
+    let made : record { scope = begun_block s.scope; sections = u; transfer = s.transfer } ≡ t = cc in
+    subst (λ (x : Standing). Goes s x) made (h u refl)
+chosen_goes s t (Err refusal) h e = cc
+
+section_goes_by : (name : Option (List ℕ)) (attributes : Option Attributes) (s t : Standing) → IsCounted s → section_chosen name attributes s ≡ Ok t → Goes s t
+section_goes_by (Some name) (Some a) s t c e = chosen_goes s t (selected name a s.sections) (λ u made. select_step name a s.sections u c made) e
+section_goes_by (Some name) None s t c e = cc
+section_goes_by None (Some a) s t c e = cc
+section_goes_by None None s t c e = cc
+
+sections_by : (line : List ℕ) (found : List (List Token)) (s t : Standing) → IsCounted s → section_by line found s ≡ Ok t → Goes s t
+sections_by line [] s t c e = cc
+sections_by line (name ∷ attributes) s t c e = section_goes_by (name_of line name) (attributes_from line attributes (Some nothing_said)) s t c e
+
+pub section_goes : (line : List ℕ) (tokens : List Token) (s t : Standing) → IsCounted s → section_stated line tokens s ≡ Ok t → Goes s t
+unfolding section_stated
+section_goes line tokens s t c e = sections_by line (parts tokens) s t c e
+
+-- ---- entries, names, the end
+
+entry_goes_by : (site : Site) (name : Option (List ℕ)) (mask : List Token) (s t : Standing) → IsCounted s → entry_named site name mask s ≡ Ok t → Goes s t
+entry_goes_by site (Some name) mask s t c e =
+    let first : Progress = after_change s (symbol_stated true name s) in
+    let second : Progress = item_stated size.W site (whole mask) first.standing in
+    let a : Goes s first.standing = after_change_goes s (symbol_stated true name s) c (λ u made. symbol_goes true name s u c made) in
+    done_goes s t (joined first.fault second) (step_then s.sections first.standing.sections second.standing.sections a (item_goes size.W site (whole mask) first.standing a.counted)) e
+entry_goes_by site None mask s t c e = cc
+
+two_goes : (found : List (List Token)) (stated : List Token → List Token → Result Standing FaultKind) (s t : Standing) → ((x y : List Token) → stated x y ≡ Ok t → Goes s t) → two_alone found stated ≡ Ok t → Goes s t
+two_goes [] stated s t h e = cc
+two_goes (one ∷ []) stated s t h e = cc
+two_goes (one ∷ two ∷ []) stated s t h e = h one two e
+two_goes (one ∷ two ∷ three ∷ more) stated s t h e = cc
+
+pub entry_goes : (origin : Origin) (line : List ℕ) (tokens : List Token) (s t : Standing) → IsCounted s → entry_stated origin line tokens s ≡ Ok t → Goes s t
+unfolding entry_stated
+entry_goes origin line tokens s t c e =
+    two_goes (parts tokens) (λ name mask. entry_named (site_of origin line s) (name_of line name) mask s) s t
+    (λ name mask made. entry_goes_by (site_of origin line s) (name_of line name) mask s t c made) e
+
+named_goes : (s t : Standing) (o : Option Scope) → IsCounted s → named s o ≡ Ok t → Goes s t
+named_goes s t (Some scope) c e = same_goes s t (with_scope scope s) c refl e
+named_goes s t None c e = cc
+
+pub names_go : (global : Bool) (line : List ℕ) (tokens : List Token) (s t : Standing) → IsCounted s → names_stated global line tokens s ≡ Ok t → Goes s t
+unfolding names_stated
+names_go global line tokens s t c e =
+    unless_none_goes tokens (named s (names_from global line (parts tokens) (Some s.scope))) s t (named_goes s t (names_from global line (parts tokens) (Some s.scope)) c) e
+
+begins_goes : (name : Option (List ℕ)) (s t : Standing) → IsCounted s → begins_at name s ≡ Ok t → Goes s t
+begins_goes (Some name) s t c e = subst (λ (x : Sections Fixup). Step s.sections x) (ap (λ (r : Result Standing FaultKind). sections_in r s) e) (step_same s.sections c)
+begins_goes None s t c e = cc
+
+end_goes_by : (line : List ℕ) (found : List (List Token)) (s t : Standing) → IsCounted s → end_by line found s ≡ Ok t → Goes s t
+end_goes_by line [] s t c e = same_goes s t s c refl e
+end_goes_by line (name ∷ []) s t c e = begins_goes (name_of line name) s t c e
+end_goes_by line (name ∷ more ∷ others) s t c e = cc
+
+pub end_goes : (line : List ℕ) (tokens : List Token) (s t : Standing) → IsCounted s → end_stated line tokens s ≡ Ok t → Goes s t
+unfolding end_stated
+end_goes line tokens s t c e = end_goes_by line (parts tokens) s t c e

@@ -1,0 +1,5 @@
+use Rattle.vax_asm_laws.proofs.Walking.{is_stated}
+use Rattle.vax_asm_laws.proofs.modules_have_what_was_counted.Goals as goal
+
+pub returns : goal.returns
+returns c = λ source m assembled. is_stated source m assembled

@@ -1,0 +1,70 @@
+-- How the table of names changes.
+use Rattle.std.proofs.Common.{◌≡◌, ℕ, ◌<◌, ◌+◌, List, [], ◌∷◌, ◌++◌, length, map, slice_index_or, slice_set, Bool, true, false, cond, Option, Some, None, Result, Ok, Err, sym, ap, subst, ◌∙◌, arith}
+use Rattle.std.proofs.lemmas.List.{map-set, get_or-map, map-append, length-map, length-append}
+use Rattle.std.proofs.Math.Seq.{map-set_same}
+use Rattle.std.specs.Option.{ForSome}
+use Rattle.std.specs.Result.{OnOk, OnErr}
+use Rattle.std.specs.Str.{bytes_eq}
+use Rattle.vax_space.specs.declared.NoMemory.{NoMemory}
+use Rattle.vax_asm_names.specs.ByName.{with_entry}
+use Rattle.vax_asm_names.specs.Names as specs
+use Rattle.vax_asm_names.specs.View.{name_of, Becomes, Leaves}
+use Rattle.vax_asm_names.specs.declared.types.Duplicate.{Duplicate}
+use Rattle.vax_asm_names.specs.declared.types.Name.{Name}
+
+pub name_added : (xs : List Name) (n : Name) → map name_of (xs ++ n ∷ []) ≡ map name_of xs ++ name_of n ∷ []
+name_added xs n = map-append name_of xs (n ∷ [])
+
+-- a number in the table is one of a name
+pub in_table : (f : List ℕ → Option ℕ) (xs : List Name) (text : List ℕ) (i : ℕ) → ((t : List ℕ) → ForSome (f t) (λ k. k < length xs)) → f text ≡ Some i → i < length (map name_of xs)
+in_table f xs text i h e = rw (length-map xs name_of) (h text i e)
+
+some_is : {X : Type 0} {x y : X} → Some x ≡ Some y → x ≡ y
+some_is {X} {x} e = ap (λ (o : Option X). elim o [ Some z ↦ z | None ↦ x ]) e
+
+-- one more number
+in_longer : (b : Bool) (o : Option ℕ) (n i : ℕ) → ((k : ℕ) → o ≡ Some k → k < n) → cond b (Some n) o ≡ Some i → i < n + 1
+in_longer true o n i h e = omega (arith, some_is e)
+in_longer false o n i h e = omega (arith, h i e)
+
+still_in_table : (f : List ℕ → Option ℕ) (text : List ℕ) (n : ℕ) → ((t : List ℕ) → ForSome (f t) (λ k. k < n)) → (t : List ℕ) → ForSome (with_entry text (Some n) f t) (λ k. k < n + 1)
+still_in_table f text n h t = λ i e. in_longer (bytes_eq text t) (f t) n i (h t) e
+
+put_or_kept : (r : Result Unit NoMemory) (f g : List ℕ → Option ℕ) (text : List ℕ) (n : ℕ) → OnOk r (g ≡ with_entry text (Some n) f) → OnErr r (g ≡ f)
+    → ((t : List ℕ) → ForSome (f t) (λ k. k < n)) → (t : List ℕ) → ForSome (g t) (λ k. k < n + 1)
+put_or_kept (Ok u) f g text n put kept h t = λ i e. still_in_table f text n h t i (ap (λ (q : List ℕ → Option ℕ). q t) (sym put) ∙ e)
+put_or_kept (Err e) f g text n put kept h t = λ i is. omega (arith, h t i (ap (λ (q : List ℕ → Option ℕ). q t) (sym kept) ∙ is))
+
+-- a name more, and its number
+pub numbered_more : (r : Result Unit NoMemory) (f g : List ℕ → Option ℕ) (text : List ℕ) (xs ys : List Name) (x : Name) (n : ℕ) → n ≡ length xs → ys ≡ xs ++ x ∷ []
+    → OnOk r (g ≡ with_entry text (Some n) f) → OnErr r (g ≡ f) → ((t : List ℕ) → ForSome (f t) (λ k. k < length xs)) → (t : List ℕ) → ForSome (g t) (λ k. k < length ys)
+numbered_more r f g text xs ys x n is more put kept h t =
+    let longer : length ys ≡ n + 1 = ap length more ∙ length-append xs (x ∷ []) ∙ ap (λ k. k + 1) (sym is) in
+    let P : ℕ → Type 0 = λ k. ForSome (g t) (λ i. i < k) in
+    let Q : ℕ → Type 0 = λ k. (q : List ℕ) → ForSome (f q) (λ i. i < k) in
+    subst P (sym longer) (put_or_kept r f g text n put kept (subst Q (sym is) h) t)
+
+pub numbered_as_before : (f : List ℕ → Option ℕ) (xs ys : List Name) → ys ≡ xs → ((t : List ℕ) → ForSome (f t) (λ k. k < length xs)) → (t : List ℕ) → ForSome (f t) (λ k. k < length ys)
+numbered_as_before f xs ys e h = let Q : List Name → Type 0 = λ zs. (t : List ℕ) → ForSome (f t) (λ k. k < length zs) in subst Q (sym e) h
+
+-- a name is seen, and one of many becomes another
+pub name_seen : (xs : List Name) (i : ℕ) (d : Name) → i < length (map name_of xs) → specs.name_at (map name_of xs) i ≡ name_of (slice_index_or xs i d)
+name_seen xs i d h = get_or-map name_of xs i d (specs.first_seen [] 0) (subst (λ n. i < n) (length-map xs name_of) h)
+
+pub one_becomes : (r : Result Unit Duplicate) (s : specs.Names) (xs : List Name) (i : ℕ) (x b : Name) (f : specs.Name → Result specs.Name Duplicate) → i < length (map name_of xs) → x ≡ slice_index_or xs i x
+    → Becomes r (name_of x) (name_of b) (f (name_of x))
+    → Leaves r (record s { all = map name_of xs }) (record s { all = map name_of (slice_set xs i b) }) (specs.changed i (record s { all = map name_of xs }) (f (specs.name_at (map name_of xs) i)))
+one_becomes (Ok done) s xs i x b f h is e =
+    ap (λ n. specs.changed i (record s { all = map name_of xs }) (f n)) (name_seen xs i x h ∙ ap name_of (sym is))
+    ∙ ap (specs.changed i (record s { all = map name_of xs })) e
+    ∙ ap (λ l. Ok (record s { all = l })) (sym (map-set name_of xs i b))
+one_becomes (Err u) s xs i x b f h is e = (
+  ap (λ n. specs.changed i (record s { all = map name_of xs }) (f n)) (name_seen xs i x h ∙ ap name_of (sym is)) ∙ ap (specs.changed i (record s { all = map name_of xs })) e.0,
+  ap (λ (l : List specs.Name). record s { all = l }) (map-set_same name_of xs i b x (e.1 ∙ ap name_of is)),
+)
+
+pub one_is_global : (s : specs.Names) (xs : List Name) (i : ℕ) (x b : Name) → i < length (map name_of xs) → x ≡ slice_index_or xs i x → name_of b ≡ specs.made_global (name_of x)
+    → record s { all = map name_of (slice_set xs i b) } ≡ specs.with_change i (record s { all = map name_of xs }) (specs.made_global (specs.name_at (map name_of xs) i))
+one_is_global s xs i x b h is e =
+    ap (λ (l : List specs.Name). record s { all = l })
+    (map-set name_of xs i b ∙ ap (slice_set (map name_of xs) i) (e ∙ ap specs.made_global (ap name_of is ∙ sym (name_seen xs i x h))))

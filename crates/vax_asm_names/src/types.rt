@@ -1,0 +1,59 @@
+// What the table of names is built of.
+
+ghost use Rattle.std.specs.Prelude.{◌<◌, ℕ, List, length};
+ghost use Rattle.std.specs.Option.{ForSome};
+ghost use Rattle.vax_asm_names.specs.ByName.{by_name};
+
+use std::collections::BTreeMap;
+use thiserror::Error;
+
+/// What has defined a name so far.
+#[derive(Clone, Copy, PartialEq, Eq)]
+pub enum DefinedBy {
+    Nothing,
+    Label,
+    Assignment,
+}
+
+/// A name that appeared.
+#[derive(Drop)]
+pub struct Name {
+    /// In capitals.
+    pub text: Vec<u8>,
+    /// The number of the definition that a use means: the last one so far, else the first to come.
+    pub definition: usize,
+    pub defined_by: DefinedBy,
+    /// Whether other modules may use it.
+    pub global: bool,
+}
+
+/// A local label of the block.
+#[derive(Clone, Copy, PartialEq, Eq)]
+pub struct Local {
+    /// The number of its definition.
+    pub definition: usize,
+    pub defined: bool,
+}
+
+/// A label is defined twice, or a name is a label and assigned to.
+#[derive(Clone, Copy, Debug, PartialEq, Eq, Error)]
+#[error("a name that is defined twice")]
+pub struct Duplicate;
+
+/// Why a local label can't be defined.
+#[derive(Clone, Copy, Debug, PartialEq, Eq, Error)]
+pub enum LabelError {
+    #[error("a name that is defined twice")]
+    Duplicate,
+    #[error("out of memory")]
+    NoMemory,
+}
+
+/// The names of a module so far, in the order in which they first appeared, and the local labels of the block.
+#[derive(Drop)]
+pub struct NameTable {
+    pub(crate) numbers: BTreeMap<Vec<u8>, usize>,
+    pub(crate) names: Vec<Name>,
+    pub(crate) locals: BTreeMap<Vec<u8>, Local>,
+    pub ghost in_range: { (text : List ℕ) → ForSome (by_name numbers text) (λ i. i < length names.items) },
+}

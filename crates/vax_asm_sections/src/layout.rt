@@ -1,0 +1,263 @@
+// The sections of a module while it is assembled.
+
+ghost use Rattle.std.specs.Prelude.{◌≡◌, ◌<◌, ◌≤◌, ◌+◌, ◌^◌, IfOk, OnOk, IfSome, None, length, map};
+ghost use Rattle.vax_asm_sections.specs.Layout.{gap, differs, differs_in_write, conflicts, exceeds, longer, raised, at_first, current_of, with_part, with_raised, put, aligned, numbered, made, gone_back, begun, selected};
+ghost use Rattle.vax_asm_sections.specs.View.{part_of, section_of, sections_of, Leaves};
+ghost use Rattle.std.specs.Str.{bytes_eq};
+
+use crate::types::{Attributes, Building, Layout, Piece, Refusal};
+use std::alloc::{AllocError, AllocFailed, Global};
+
+const SECTION_LIMIT: u64 = 1_048_576;
+
+const MODULE_LIMIT: u64 = 16_777_216;
+
+fn named<F>(section: &Building<F>, name: &[u8]) -> bool
+    ensures { result ≡ bytes_eq section.now.name.items name.now }
+{
+    section.name.as_slice() == name
+}
+
+/// The bytes up to the next multiple of a power of two.
+fn gap(size: u32, align: u8) -> u32
+    requires { align ≤ 9 }
+    ensures exact { result ≡ gap size (2 ^ align) }
+    ensures few { result < 512 }
+{
+    let boundary: u32 = match align {
+        0 => 1,
+        1 => 2,
+        2 => 4,
+        3 => 8,
+        4 => 16,
+        5 => 32,
+        6 => 64,
+        7 => 128,
+        8 => 256,
+        _ => 512,
+    };
+    (boundary - size % boundary) % boundary
+}
+
+fn differs(said: Option<u8>, before: u8) -> bool
+    ensures { result ≡ differs said before }
+{
+    match said {
+        Some(align) => align != before,
+        None => false,
+    }
+}
+
+fn differs_in_write(said: Option<bool>, before: bool) -> bool
+    ensures { result ≡ differs_in_write said before }
+{
+    match said {
+        Some(write) => write != before,
+        None => false,
+    }
+}
+
+fn conflicts<F>(attributes: Attributes, section: &Building<F>) -> bool
+    ensures { result ≡ conflicts attributes (section_of section.now) }
+{
+    differs(attributes.align, section.declared) || differs_in_write(attributes.write, section.write)
+}
+
+fn is_too_long(size: u32, total: u32, more: u32) -> bool
+    ensures { result ≡ exceeds size total more }
+{
+    u64::from(size) + u64::from(more) > SECTION_LIMIT
+        || u64::from(total) + u64::from(more) > MODULE_LIMIT
+}
+
+impl<F> Building<F> {
+    fn add(&mut self, more: u32, piece: Piece<F>) -> Result<(), AllocFailed<Piece<F>>>
+        requires { self.old.size + more ≤ 1048576 }
+        ensures { OnOk result (section_of self.new ≡ longer more (part_of piece) (section_of self.old)) }
+    {
+        self.pieces.push(piece)?;
+        self.size += more;
+        Ok(())
+    }
+
+    fn raise(&mut self, align: u8)
+        requires { align ≤ 9 }
+        ensures { section_of self.new ≡ raised align (section_of self.old) }
+    {
+        self.align = self.align.max(align);
+    }
+}
+
+fn made<F>(alloc: Global, name: Vec<u8>, attributes: Attributes) -> Building<F>
+    requires { IfSome attributes.align (λ k. k ≤ 9) }
+    ensures { section_of result ≡ made name.items attributes }
+{
+    let align = attributes.align.unwrap_or(0);
+    Building {
+        name,
+        declared: align,
+        write: attributes.write.unwrap_or(true),
+        align,
+        size: 0,
+        pieces: Vec::new(alloc),
+    }
+}
+
+impl<F> Layout<F> {
+    /// The section without a name alone.
+    pub fn new(alloc: Global) -> Result<Layout<F>, AllocError>
+    where
+        F: Drop,
+        ensures { IfOk result (λ l. sections_of l ≡ at_first) }
+    {
+        let unnamed = Building {
+            name: Vec::new(alloc),
+            declared: 0,
+            write: true,
+            align: 0,
+            size: 0,
+            pieces: Vec::new(alloc),
+        };
+        Ok(Layout {
+            sections: vec![in alloc; unnamed]?,
+            current: 0,
+            total: 0,
+        })
+    }
+
+    /// The section that the next statement goes into.
+    #[tactic(auto, using(crate::proofs::Changing::current_seen))]
+    pub fn current(&self) -> &Building<F>
+        ensures { section_of result.now ≡ current_of (sections_of self.now) }
+    {
+        &self.sections[self.current]
+    }
+
+    /// The number of that section in their list.
+    pub fn number(&self) -> usize
+        ensures { result ≡ (sections_of self.now).current }
+    {
+        self.current
+    }
+
+    /// The sections, in the order in which they were first chosen.
+    pub fn sections(&self) -> &[Building<F>]
+        ensures { map section_of result.now ≡ (sections_of self.now).all }
+    {
+        &self.sections
+    }
+
+    #[tactic(auto, using(crate::proofs::Changing::part_added))]
+    fn add(&mut self, more: u32, piece: Piece<F>) -> Result<(), AllocFailed<Piece<F>>>
+        requires section { (current_of (sections_of self.old)).size + more ≤ 1048576 }
+        requires total { self.old.total + more < 2 ^ 32 }
+        ensures { OnOk result (sections_of self.new ≡ with_part more (part_of piece) (sections_of self.old)) }
+    {
+        self.sections[self.current].add(more, piece)?;
+        self.total += more;
+        Ok(())
+    }
+
+    #[tactic(auto, using(crate::proofs::Changing::alignment_raised))]
+    fn raise(&mut self, align: u8)
+        requires { align ≤ 9 }
+        ensures { sections_of self.new ≡ with_raised align (sections_of self.old) }
+    {
+        self.sections[self.current].raise(align);
+    }
+
+    /// Adds so many bytes to the section that the next statement goes into.
+    ///
+    /// [`Refusal::TooLong`] where the section or the module would be too long, [`Refusal::NoMemory`] where memory is
+    /// refused; the sections are then as before.
+    #[tactic(auto, unfolding(crate::specs::Layout::put))]
+    pub fn put(&mut self, more: u32, piece: Piece<F>) -> Result<(), Refusal>
+    where
+        F: Drop,
+        ensures { Leaves result self.old self.new (put more (part_of piece) (sections_of self.old)) }
+    {
+        if is_too_long(self.current().size, self.total, more) {
+            return Err(Refusal::TooLong);
+        }
+        self.add(more, piece).map_err(|_| Refusal::NoMemory)?;
+        Ok(())
+    }
+
+    /// `.ALIGN`: fills the section that the next statement goes into with zero bytes up to a multiple of a power of two,
+    /// and aligns the section to it at least.
+    #[tactic(auto, unfolding(crate::specs::Layout::aligned))]
+    pub fn align(&mut self, align: u8) -> Result<(), Refusal>
+    where
+        F: Drop,
+        requires { align ≤ 9 }
+        ensures { Leaves result self.old self.new (aligned align (sections_of self.old)) }
+    {
+        let more = gap(self.current().size, align);
+        self.put(more, Piece::Zeros(more))?;
+        self.raise(align);
+        Ok(())
+    }
+
+    /// The number of the section with a name.
+    fn number_of(&self, name: &[u8]) -> Option<usize>
+        ensures number { result ≡ numbered 0 name.now (sections_of self.now).all }
+        ensures within { IfSome result (λ i. i < length self.now.sections.items) }
+    {
+        for (i, section) in self.sections.iter().enumerate() {
+            if named(section, name) {
+                return Some(i);
+            }
+        }
+        None
+    }
+
+    /// Goes back to a section.
+    #[tactic(auto, using(crate::proofs::Changing::chosen_seen))]
+    fn go_back(&mut self, i: usize, attributes: Attributes) -> Result<(), Refusal>
+        requires { i < length self.old.sections.items }
+        ensures { Leaves result self.old self.new (gone_back attributes (sections_of self.old) i) }
+    {
+        if conflicts(attributes, &self.sections[i]) {
+            return Err(Refusal::Conflict);
+        }
+        self.current = i;
+        Ok(())
+    }
+
+    /// Begins a section.
+    #[tactic(auto, using(crate::proofs::Changing::section_begun))]
+    fn begin(&mut self, alloc: Global, name: &[u8], attributes: Attributes) -> Result<(), Refusal>
+    where
+        F: Drop,
+        requires { IfSome attributes.align (λ k. k ≤ 9) }
+        ensures { Leaves result self.old self.new (begun name.now attributes (sections_of self.old) None) }
+    {
+        let name = name.to_vec(alloc).map_err(|_| Refusal::NoMemory)?;
+        let section = made(alloc, name, attributes);
+        self.sections.push(section).map_err(|_| Refusal::NoMemory)?;
+        self.current = self.sections.len() - 1;
+        Ok(())
+    }
+
+    /// `.PSECT`: chooses the section with this name, which begins if there is none.
+    ///
+    /// [`Refusal::Conflict`] where the section was first said to have another alignment or protection,
+    /// [`Refusal::NoMemory`] where memory is refused; the sections are then as before.
+    #[tactic(auto, unfolding(crate::specs::Layout::selected))]
+    pub fn select(
+        &mut self,
+        alloc: Global,
+        name: &[u8],
+        attributes: Attributes,
+    ) -> Result<(), Refusal>
+    where
+        F: Drop,
+        requires { IfSome attributes.align (λ k. k ≤ 9) }
+        ensures { Leaves result self.old self.new (selected name.now attributes (sections_of self.old)) }
+    {
+        match self.number_of(name) {
+            Some(i) => self.go_back(i, attributes),
+            None => self.begin(alloc, name, attributes),
+        }
+    }
+}

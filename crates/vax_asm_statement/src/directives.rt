@@ -1,0 +1,179 @@
+// The directives.
+
+ghost use Rattle.std.specs.Prelude.{◌≡◌, map};
+ghost use Rattle.std.specs.Str.{str_eq_ignore_ascii_case};
+ghost use Rattle.vax_asm_statement.specs.Directives.{directives, directive_of, named, first_directive, attributes, attribute_of, named_attribute, first_attribute};
+
+use vax_word::Size;
+
+/// What a directive does (VAX MACRO and Instruction Set Reference Manual, "VAX MACRO assembler directives"). The directives of
+/// macros, repeats and conditions are not among them.
+#[derive(Clone, Copy, PartialEq, Eq)]
+pub enum Directive {
+    /// `.PSECT name,attributes`.
+    Section,
+    /// `.ENTRY name,mask`.
+    Entry,
+    /// `.BYTE`, `.WORD`, `.LONG`, `.QUAD`: items of this size.
+    Data(Size),
+    /// `.ADDRESS`: addresses.
+    Address,
+    /// `.ASCII`: pieces of text.
+    Text,
+    /// `.ASCIC`: the count of the bytes first.
+    CountedText,
+    /// `.ASCIZ`: a zero byte last.
+    ZeroText,
+    /// `.BLKB`, `.BLKW`, `.BLKL`, `.BLKQ`: room for so many of this size.
+    Space(Size),
+    /// `.ALIGN`: up to a multiple of a power of two.
+    Align,
+    /// `.EVEN`: up to a multiple of two.
+    Even,
+    /// `.GLOBAL`, `.GLOBL`: names for other modules.
+    Global,
+    /// `.EXTERNAL`, `.EXTRN`: names of other modules.
+    External,
+    /// `.TITLE`, `.SBTTL`, `.IDENT`, `.PAGE`, `.LIST`, `.NLIST`, `.SHOW`, `.NOSHOW`: nothing in the module.
+    Listing,
+    /// `.END`: where the program begins.
+    End,
+}
+
+#[derive(Clone, Copy)]
+struct Named {
+    name: &'static str,
+    directive: Directive,
+}
+
+#[rattlefmt::skip]
+static DIRECTIVES: [Named; 29] = [
+    Named { name: ".PSECT", directive: Directive::Section },
+    Named { name: ".ENTRY", directive: Directive::Entry },
+    Named { name: ".BYTE", directive: Directive::Data(Size::B) },
+    Named { name: ".WORD", directive: Directive::Data(Size::W) },
+    Named { name: ".LONG", directive: Directive::Data(Size::L) },
+    Named { name: ".QUAD", directive: Directive::Data(Size::Q) },
+    Named { name: ".ADDRESS", directive: Directive::Address },
+    Named { name: ".ASCII", directive: Directive::Text },
+    Named { name: ".ASCIC", directive: Directive::CountedText },
+    Named { name: ".ASCIZ", directive: Directive::ZeroText },
+    Named { name: ".BLKB", directive: Directive::Space(Size::B) },
+    Named { name: ".BLKW", directive: Directive::Space(Size::W) },
+    Named { name: ".BLKL", directive: Directive::Space(Size::L) },
+    Named { name: ".BLKQ", directive: Directive::Space(Size::Q) },
+    Named { name: ".ALIGN", directive: Directive::Align },
+    Named { name: ".EVEN", directive: Directive::Even },
+    Named { name: ".GLOBAL", directive: Directive::Global },
+    Named { name: ".GLOBL", directive: Directive::Global },
+    Named { name: ".EXTERNAL", directive: Directive::External },
+    Named { name: ".EXTRN", directive: Directive::External },
+    Named { name: ".TITLE", directive: Directive::Listing },
+    Named { name: ".SBTTL", directive: Directive::Listing },
+    Named { name: ".IDENT", directive: Directive::Listing },
+    Named { name: ".PAGE", directive: Directive::Listing },
+    Named { name: ".LIST", directive: Directive::Listing },
+    Named { name: ".NLIST", directive: Directive::Listing },
+    Named { name: ".SHOW", directive: Directive::Listing },
+    Named { name: ".NOSHOW", directive: Directive::Listing },
+    Named { name: ".END", directive: Directive::End },
+];
+
+fn all_directives() -> &'static [Named; 29]
+    ensures { map named result.now ≡ directives }
+{
+    &DIRECTIVES
+}
+
+fn is_called(word: &str, name: &str) -> bool
+    ensures { result ≡ str_eq_ignore_ascii_case word.now name.now }
+{
+    word.eq_ignore_ascii_case(name)
+}
+
+fn found(all: &[Named], name: &str) -> Option<Directive>
+    ensures { result ≡ first_directive all.now name.now }
+{
+    for entry in all {
+        if is_called(entry.name, name) {
+            return Some(entry.directive);
+        }
+    }
+    None
+}
+
+/// The directive with this name, in letters of either case.
+#[tactic(auto, using(crate::proofs::Tables::directive_found), unfolding(crate::specs::Directives::directive_of))]
+pub fn directive_named(name: &str) -> Option<Directive>
+    ensures { result ≡ directive_of name.now }
+{
+    found(all_directives(), name)
+}
+
+/// What an attribute says of a section.
+#[derive(Clone, Copy, PartialEq, Eq)]
+pub enum Attribute {
+    /// `BYTE`, `WORD`, `LONG`, `QUAD`, `PAGE`: the power of two that it is aligned to.
+    Align(u8),
+    /// `WRT`, `NOWRT`: whether it may be written.
+    Write(bool),
+    /// It is read, and changes nothing.
+    Ignored,
+}
+
+#[derive(Clone, Copy)]
+struct NamedAttribute {
+    name: &'static str,
+    attribute: Attribute,
+}
+
+#[rattlefmt::skip]
+static ATTRIBUTES: [NamedAttribute; 21] = [
+    NamedAttribute { name: "BYTE", attribute: Attribute::Align(0) },
+    NamedAttribute { name: "WORD", attribute: Attribute::Align(1) },
+    NamedAttribute { name: "LONG", attribute: Attribute::Align(2) },
+    NamedAttribute { name: "QUAD", attribute: Attribute::Align(3) },
+    NamedAttribute { name: "PAGE", attribute: Attribute::Align(9) },
+    NamedAttribute { name: "WRT", attribute: Attribute::Write(true) },
+    NamedAttribute { name: "NOWRT", attribute: Attribute::Write(false) },
+    NamedAttribute { name: "PIC", attribute: Attribute::Ignored },
+    NamedAttribute { name: "NOPIC", attribute: Attribute::Ignored },
+    NamedAttribute { name: "EXE", attribute: Attribute::Ignored },
+    NamedAttribute { name: "NOEXE", attribute: Attribute::Ignored },
+    NamedAttribute { name: "RD", attribute: Attribute::Ignored },
+    NamedAttribute { name: "SHR", attribute: Attribute::Ignored },
+    NamedAttribute { name: "NOSHR", attribute: Attribute::Ignored },
+    NamedAttribute { name: "CON", attribute: Attribute::Ignored },
+    NamedAttribute { name: "REL", attribute: Attribute::Ignored },
+    NamedAttribute { name: "LCL", attribute: Attribute::Ignored },
+    NamedAttribute { name: "GBL", attribute: Attribute::Ignored },
+    NamedAttribute { name: "USR", attribute: Attribute::Ignored },
+    NamedAttribute { name: "LIB", attribute: Attribute::Ignored },
+    NamedAttribute { name: "NOVEC", attribute: Attribute::Ignored },
+];
+
+fn all_attributes() -> &'static [NamedAttribute; 21]
+    ensures { map named_attribute result.now ≡ attributes }
+{
+    &ATTRIBUTES
+}
+
+fn found_attribute(all: &[NamedAttribute], name: &str) -> Option<Attribute>
+    ensures { result ≡ first_attribute all.now name.now }
+{
+    for entry in all {
+        if is_called(entry.name, name) {
+            return Some(entry.attribute);
+        }
+    }
+    None
+}
+
+/// The attribute of a section with this name, in letters of either case (VAX MACRO and Instruction Set Reference
+/// Manual, `.PSECT`).
+#[tactic(auto, using(crate::proofs::Tables::attribute_found), unfolding(crate::specs::Directives::attribute_of))]
+pub fn attribute_named(name: &str) -> Option<Attribute>
+    ensures { result ≡ attribute_of name.now }
+{
+    found_attribute(all_attributes(), name)
+}

@@ -1,0 +1,117 @@
+-- So many names and distinct options are no more than 21 items.
+use Rattle.std.proofs.Common.{◌≡◌, ◌≤◌, ◌+◌, ◌&&◌, ℕ, Bool, true, false, nat_le, List, [], ◌∷◌, length, Option, None, Some, is_none, refl, arith}
+use Rattle.std.proofs.lemmas.Bool.Decides.{nat_tests}
+use Rattle.std.specs.Option.{option_and_then}
+use Rattle.vax_cli.specs.Table.{Text, takes_files}
+use Rattle.vax_cli.specs.Values.{at_most}
+use Rattle.vax_cli.specs.Items.{Item, name, setting, names, value, are_distinct}
+use Rattle.vax_cli.specs.Words.{checked}
+use Rattle.vax_cli.specs.declared.table.Key.{Key}
+use Rattle.vax_cli.specs.declared.table.Key.TheVariants as key
+use Rattle.vax_cli.specs.declared.table.Verb.{Verb}
+use Rattle.vax_cli.specs.declared.table.Verb.TheVariants as verb
+
+-- 1 where an option is there
+unfoldable present : Option Text → ℕ
+present None = 0
+present (Some word) = 1
+
+present-some : (word : Text) → present (Some word) ≡ 1
+unfolding present
+present-some word = refl
+
+present-none : (o : Option Text) → is_none o ≡ true → present o ≡ 0
+unfolding present
+present-none None e = refl
+present-none (Some word) e = absurd (cc e)
+
+present-one : (o : Option Text) → present o ≤ 1
+unfolding present
+present-one None = omega arith
+present-one (Some word) = omega arith
+
+-- how many options are there
+abbrev given : List Item → ℕ
+given items =
+    present (value key.Input items) + present (value key.System items) + present (value key.Schedule items) + present (value key.Frames items)
+    + present (value key.Steps items) + present (value key.Turns items) + present (value key.Dump items) + present (value key.Record items)
+    + present (value key.Base items) + present (value key.Format items) + present (value key.Script items) + present (value key.Seed items)
+    + present (value key.Size items)
+
+-- an option that wasn't there
+one_more : (k : Key) (word : Text) (items : List Item) → is_none (value k items) ≡ true → given (setting k word ∷ items) ≡ given items + 1
+one_more key.Input word items e = omega (arith, present-some word, present-none (value key.Input items) e)
+one_more key.System word items e = omega (arith, present-some word, present-none (value key.System items) e)
+one_more key.Schedule word items e = omega (arith, present-some word, present-none (value key.Schedule items) e)
+one_more key.Frames word items e = omega (arith, present-some word, present-none (value key.Frames items) e)
+one_more key.Steps word items e = omega (arith, present-some word, present-none (value key.Steps items) e)
+one_more key.Turns word items e = omega (arith, present-some word, present-none (value key.Turns items) e)
+one_more key.Dump word items e = omega (arith, present-some word, present-none (value key.Dump items) e)
+one_more key.Record word items e = omega (arith, present-some word, present-none (value key.Record items) e)
+one_more key.Base word items e = omega (arith, present-some word, present-none (value key.Base items) e)
+one_more key.Format word items e = omega (arith, present-some word, present-none (value key.Format items) e)
+one_more key.Script word items e = omega (arith, present-some word, present-none (value key.Script items) e)
+one_more key.Seed word items e = omega (arith, present-some word, present-none (value key.Seed items) e)
+one_more key.Size word items e = omega (arith, present-some word, present-none (value key.Size items) e)
+
+at_most_thirteen : (items : List Item) → given items ≤ 13
+at_most_thirteen items =
+    omega (
+      arith,
+      present-one (value key.Input items),
+      present-one (value key.System items),
+      present-one (value key.Schedule items),
+      present-one (value key.Frames items),
+      present-one (value key.Steps items),
+      present-one (value key.Turns items),
+      present-one (value key.Dump items),
+      present-one (value key.Record items),
+      present-one (value key.Base items),
+      present-one (value key.Format items),
+      present-one (value key.Script items),
+      present-one (value key.Seed items),
+      present-one (value key.Size items),
+    )
+
+both : (a b : Bool) → (a && b) ≡ true → (a ≡ true) × (b ≡ true)
+both true b e = (refl, e)
+both false b e = absurd (cc e)
+
+counted : (items : List Item) → are_distinct items ≡ true → length items ≤ length (names items) + given items
+counted [] e = omega arith
+counted (name word ∷ items) e = omega (arith, counted items e)
+counted (setting k word ∷ items) e =
+    let each = both (is_none (value k items)) (are_distinct items) e in
+    omega (arith, counted items each.1, one_more k word items each.0)
+
+few_names : (v : Verb) (count : ℕ) → takes_files v count ≡ true → count ≤ 8
+few_names verb.Bare count e = grind (arith, nat_tests)
+few_names verb.Run count e = grind (arith, nat_tests)
+few_names verb.Build count e = grind (arith, nat_tests)
+few_names verb.List count e = grind (arith, nat_tests)
+few_names verb.Console count e = grind (arith, nat_tests)
+few_names verb.Work count e = grind (arith, nat_tests)
+
+few_items : (v : Verb) (items : List Item) → (takes_files v (length (names items)) && are_distinct items) ≡ true → length items ≤ 21
+few_items v items e =
+    let each = both (takes_files v (length (names items))) (are_distinct items) e in
+    omega (arith, counted items each.1, few_names v (length (names items)) each.0, at_most_thirteen items)
+
+short : (n : ℕ) → nat_le n 21 ≡ false → n ≤ 21 → ⊥
+short n e l = grind (arith, nat_tests)
+
+too_long : (v : Verb) (items : List Item) (b : Bool) → (takes_files v (length (names items)) && are_distinct items) ≡ b → nat_le (length items) 21 ≡ false → None ≡ checked v items
+too_long v items true e long = absurd (short (length items) long (few_items v items e))
+too_long v items false e long = rw e refl
+
+by_length : (v : Verb) (items : List Item) (b : Bool) → nat_le (length items) 21 ≡ b → option_and_then (checked v) (at_most 21 items) ≡ checked v items
+by_length v items true e = rw e refl
+by_length v items false e = rw (e, ← too_long v items _ refl e) refl
+
+-- more than 21 items are none of a command
+pub few_checked : (v : Verb) (items : Option (List Item)) → option_and_then (checked v) (option_and_then (at_most 21) items) ≡ option_and_then (checked v) items
+few_checked v None = refl
+few_checked v (Some items) = by_length v items _ refl
+
+pub none_checked : (v : Verb) (items : Option (List Item)) → None ≡ option_and_then (at_most 21) items → None ≡ option_and_then (checked v) items
+none_checked v items e = rw (← few_checked v items, ← e) refl

@@ -1,0 +1,82 @@
+-- Words and commands, without where they lie in memory.
+use Rattle.std.specs.Prelude.{◌≤◌, ◌^◌, All, List, length, map, string_bytes}
+use Rattle.std.specs.Option.{option_copied}
+use Rattle.std.specs.Global.{Global}
+use Rattle.std.specs.declared.string.String.{String}
+use Rattle.std.specs.Borrow.{Bor}
+use Rattle.vax_cli.specs.Words as words
+use Rattle.vax_cli.specs.Words.{Text, Said, bare, run, build, list, console, work, about}
+use Rattle.vax_cli.specs.Items as plain
+use Rattle.vax_cli.specs.declared.command.DumpItem.{DumpItem}
+use Rattle.vax_cli.specs.declared.command.Options.{Options}
+use Rattle.vax_cli.specs.declared.command.Command.{Command}
+use Rattle.vax_cli.specs.declared.command.Command.TheVariants as command
+use Rattle.vax_cli.specs.declared.items.Item.{Item}
+use Rattle.vax_cli.specs.declared.items.Item.TheVariants as item
+use Rattle.vax_cli.specs.declared.items.Reading.{Reading}
+use Rattle.vax_cli.specs.declared.items.Reading.TheVariants as reading
+
+abbrev pub texts : List (String Global) → List Text
+texts words = map (λ word. string_bytes word) words
+
+abbrev pub names_of : List (Bor Text) → List Text
+names_of names = map (λ name. name.now) names
+
+abbrev pub item_of : Item → plain.Item
+item_of (item.Name word) = plain.name word.now
+item_of (item.Setting key value) = plain.setting key value.now
+
+abbrev pub items_of : List Item → List plain.Item
+items_of items = map item_of items
+
+abbrev pub reading_of : Reading → plain.Reading
+reading_of (reading.Whole item) = plain.whole (item_of item)
+reading_of (reading.Opened key) = plain.opened key
+
+abbrev pub options : Options → words.Options
+options o = record {
+  input = option_copied o.input;
+  system = option_copied o.system;
+  schedule = option_copied o.schedule;
+  frames = o.frames;
+  steps = o.steps;
+  turns = o.turns;
+  dumps = o.dumps.items;
+  recorded = o.recorded;
+}
+
+abbrev pub said : Command → Said
+said (command.Bare files o) = bare (names_of files.items) (options o)
+said (command.Run files o) = run (names_of files.items) (options o)
+said (command.Build files base format) = build (names_of files.items) base format
+said (command.List files base) = list (names_of files.items) base
+said (command.Console files base script o) = console (names_of files.items) base script.now (options o)
+said (command.Work seed size o) = work seed size (options o)
+said command.About = about
+
+-- it has 1 to 4,096 bytes
+pub record IsDump (d : DumpItem) : Type 0 where
+  pub some : 1 ≤ d.count
+  pub few : d.count ≤ 4096
+
+-- the numbers of the options are within their bounds
+pub record AreWithin (o : words.Options) : Type 0 where
+  pub frames : 64 ≤ o.frames
+  pub few : o.frames ≤ 32768
+  pub steps : o.steps ≤ 10 ^ 15
+  pub turns : o.turns ≤ 10 ^ 15
+  pub dumps : All IsDump o.dumps
+
+-- there are 1 to 8 files
+pub record AreFiles (files : List Text) : Type 0 where
+  pub some : 1 ≤ length files
+  pub few : length files ≤ 8
+
+abbrev pub IsWithin : Said → Type 0
+IsWithin (bare files o) = AreFiles files × AreWithin o
+IsWithin (run files o) = AreFiles files × AreWithin o
+IsWithin (build files linked format) = AreFiles files
+IsWithin (list files linked) = AreFiles files
+IsWithin (console files linked script o) = AreFiles files × AreWithin o
+IsWithin (work seed size o) = (1 ≤ size) × (size ≤ 5000) × AreWithin o
+IsWithin about = Unit {0}

@@ -1,0 +1,123 @@
+-- Which words name a command, and what they say.
+use Rattle.std.specs.Prelude.{ℕ, Bool, true, false, not, ◌||◌, ◌&&◌, List, [], ◌∷◌, length, codes, Option, None, Some, is_some, if◌then◌else◌}
+use Rattle.std.specs.Option.{option_map, option_and_then}
+use Rattle.std.specs.Str.{bytes_eq}
+use Rattle.vax_cli.specs.Table.{Text as Word, keys_of, takes_files, verb_of}
+use Rattle.vax_cli.specs.Items.{Item, are_distinct, items_from, names, value}
+use Rattle.vax_cli.specs.Values.{base_of, dumps_of, format_of, frames_of, record_of, seed_of, size_of, steps_of, turns_of}
+use Rattle.vax_cli.specs.declared.command.Base.{Base}
+use Rattle.vax_cli.specs.declared.command.Base.TheVariants as base
+use Rattle.vax_cli.specs.declared.command.DumpItem.{DumpItem}
+use Rattle.vax_cli.specs.declared.command.Format.{Format}
+use Rattle.vax_cli.specs.declared.table.Verb.{Verb}
+use Rattle.vax_cli.specs.declared.table.Verb.TheVariants as verb
+use Rattle.vax_cli.specs.declared.table.Key.TheVariants as key
+
+abbrev pub Text : Type 0
+Text = Word
+
+-- what a run is given beside its program: the files of the console's input, of the system and of the schedule; how many pages may be resident; the
+-- most steps and turns; the memory to report; and whether evictions are recorded
+pub record Options : Type 0 where
+  pub input : Option Text
+  pub system : Option Text
+  pub schedule : Option Text
+  pub frames : ℕ
+  pub steps : ℕ
+  pub turns : ℕ
+  pub dumps : List DumpItem
+  pub recorded : Bool
+
+-- a command with its files and options, or a request for a text about the program itself
+pub data Said : Type 0 where
+  bare : List Text → Options → Said
+  run : List Text → Options → Said
+  build : List Text → Base → Format → Said
+  list : List Text → Base → Said
+  console : List Text → Base → Text → Options → Said
+  work : ℕ → ℕ → Options → Said
+  about : Said
+
+-- what the options of a run say
+abbrev pub options_of : List Item → Option Options
+options_of items =
+    option_and_then (λ frames.
+    option_and_then (λ steps.
+    option_and_then (λ turns.
+    option_and_then (λ dumps.
+    option_map (λ recorded. record {
+      input = value key.Input items;
+      system = value key.System items;
+      schedule = value key.Schedule items;
+      frames = frames;
+      steps = steps;
+      turns = turns;
+      dumps = dumps;
+      recorded = recorded;
+    })
+    (record_of (value key.Record items))) (dumps_of (value key.Dump items))) (turns_of (value key.Turns items)))
+    (steps_of (value key.Steps items))) (frames_of (value key.Frames items))
+
+abbrev pub build_of : List Item → Option Said
+build_of items =
+    option_and_then (λ base. option_map (λ format. build (names items) base format) (format_of (value key.Format items))) (base_of (value key.Base items))
+
+-- a session has a script, and no other system on the bare machine
+abbrev pub is_session : Base → Options → Bool
+is_session base.User o = true
+is_session base.Bare o = not (is_some o.system)
+
+abbrev pub console_of : List Item → Option Said
+console_of items =
+    option_and_then (λ script.
+    option_and_then (λ base.
+    option_and_then (λ options. if is_session base options then Some (console (names items) base script options) else None)
+    (options_of items)) (base_of (value key.Base items))) (value key.Script items)
+
+abbrev pub work_of : List Item → Option Said
+work_of items =
+    option_and_then (λ seed.
+    option_and_then (λ size.
+    option_map (λ options. work seed size options)
+    (options_of items)) (size_of (value key.Size items))) (seed_of (value key.Seed items))
+
+-- what a command's names and options say
+abbrev pub said_of : Verb → List Item → Option Said
+said_of verb.Bare items = option_map (λ options. bare (names items) options) (options_of items)
+said_of verb.Run items = option_map (λ options. run (names items) options) (options_of items)
+said_of verb.Build items = build_of items
+said_of verb.List items = option_map (λ base. list (names items) base) (base_of (value key.Base items))
+said_of verb.Console items = console_of items
+said_of verb.Work items = work_of items
+
+-- a command takes so many files as it is given, and each option at most once
+abbrev pub checked : Verb → List Item → Option Said
+checked verb items = if takes_files verb (length (names items)) && are_distinct items then said_of verb items else None
+
+abbrev pub is_help : Text → Bool
+is_help word = bytes_eq word (codes "--help")
+
+abbrev pub is_version : Text → Bool
+is_version word = bytes_eq word (codes "--version")
+
+-- one word, `--help`
+abbrev pub asks_help : List Text → Bool
+asks_help (word ∷ []) = is_help word
+asks_help words = false
+
+-- one word, `--help` or `--version`
+abbrev pub asks_about : List Text → Bool
+asks_about (word ∷ []) = is_help word || is_version word
+asks_about words = false
+
+-- what stands behind a command: names and options in any order
+abbrev pub behind : Verb → List Text → Option Said
+behind verb words = if asks_help words then Some about else option_and_then (checked verb) (items_from (keys_of verb) None words)
+
+abbrev pub named : List Text → Option Said
+named [] = None
+named (word ∷ words) = option_and_then (λ verb. behind verb words) (verb_of word)
+
+-- the command that words name
+abbrev pub command_of : List Text → Option Said
+command_of words = if asks_about words then Some about else named words

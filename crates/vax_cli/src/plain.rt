@@ -1,0 +1,185 @@
+//! Which words are plain, and what they say.
+ghost use Rattle.std.specs.Prelude.{◌≡◌, IfSome, None, length, true};
+ghost use Rattle.std.specs.Option.{option_and_then, option_map};
+ghost use Rattle.vax_cli.specs.Table.{keys_of, takes_files};
+ghost use Rattle.vax_cli.specs.Items.{items_from, names};
+ghost use Rattle.vax_cli.specs.Words.{asks_about, asks_help, behind, build_of, checked, command_of, console_of, is_session, options_of, said_of, work_of};
+ghost use Rattle.vax_cli.specs.Said.{AreFiles, AreWithin, IsWithin, items_of, names_of, options, said, texts};
+
+use crate::command::{Base, Command, Names, Options};
+use crate::items::{Item, are_distinct, names_in, read_items, value_in};
+use crate::table::{Key, Verb, verb_of};
+use crate::values::{
+    base_of, dumps_of, format_of, frames_of, record_of, seed_of, size_of, steps_of, turns_of,
+};
+
+/// What the options of a run say.
+fn options_of<'a>(items: &[Item<'a>]) -> Option<Options<'a>>
+    ensures options { option_map options result ≡ options_of (items_of items.now) }
+    ensures within { IfSome result (λ o. AreWithin (options o)) }
+{
+    let frames = frames_of(value_in(Key::Frames, items))?;
+    let steps = steps_of(value_in(Key::Steps, items))?;
+    let turns = turns_of(value_in(Key::Turns, items))?;
+    let dumps = dumps_of(value_in(Key::Dump, items))?;
+    let recorded = record_of(value_in(Key::Record, items))?;
+    Some(Options {
+        input: value_in(Key::Input, items),
+        system: value_in(Key::System, items),
+        schedule: value_in(Key::Schedule, items),
+        frames,
+        steps,
+        turns,
+        dumps,
+        recorded,
+    })
+}
+
+/// A session has a script, and no other system on the bare machine.
+fn is_session(base: Base, given: &Options) -> bool
+    ensures { result ≡ is_session base (options given.now) }
+{
+    match base {
+        Base::User => true,
+        Base::Bare => given.system.is_none(),
+    }
+}
+
+fn build_of<'a>(files: Names<'a>, items: &[Item<'a>]) -> Option<Command<'a>>
+    requires files { names_of files.items ≡ names (items_of items.now) }
+    requires are { AreFiles (names_of files.items) }
+    ensures said { option_map said result ≡ build_of (items_of items.now) }
+    ensures within { IfSome result (λ c. IsWithin (said c)) }
+{
+    let base = base_of(value_in(Key::Base, items))?;
+    let format = format_of(value_in(Key::Format, items))?;
+    Some(Command::Build {
+        files,
+        base,
+        format,
+    })
+}
+
+fn console_of<'a>(files: Names<'a>, items: &[Item<'a>]) -> Option<Command<'a>>
+    requires files { names_of files.items ≡ names (items_of items.now) }
+    requires are { AreFiles (names_of files.items) }
+    ensures said { option_map said result ≡ console_of (items_of items.now) }
+    ensures within { IfSome result (λ c. IsWithin (said c)) }
+{
+    let script = value_in(Key::Script, items)?;
+    let base = base_of(value_in(Key::Base, items))?;
+    let options = options_of(items)?;
+    if !is_session(base, &options) {
+        return None;
+    }
+    Some(Command::Console {
+        files,
+        base,
+        script,
+        options,
+    })
+}
+
+fn work_of<'a>(items: &[Item<'a>]) -> Option<Command<'a>>
+    ensures said { option_map said result ≡ work_of (items_of items.now) }
+    ensures within { IfSome result (λ c. IsWithin (said c)) }
+{
+    let seed = seed_of(value_in(Key::Seed, items))?;
+    let size = size_of(value_in(Key::Size, items))?;
+    let options = options_of(items)?;
+    Some(Command::Work {
+        seed,
+        size,
+        options,
+    })
+}
+
+/// What a command's files and options say.
+fn said_of<'a>(verb: Verb, files: Names<'a>, items: &[Item<'a>]) -> Option<Command<'a>>
+    requires files { names_of files.items ≡ names (items_of items.now) }
+    requires takes { takes_files verb (length (names_of files.items)) ≡ true }
+    ensures said { option_map said result ≡ said_of verb (items_of items.now) }
+    ensures within { IfSome result (λ c. IsWithin (said c)) }
+{
+    match verb {
+        Verb::Bare => Some(Command::Bare {
+            files,
+            options: options_of(items)?,
+        }),
+        Verb::Run => Some(Command::Run {
+            files,
+            options: options_of(items)?,
+        }),
+        Verb::Build => build_of(files, items),
+        Verb::List => Some(Command::List {
+            files,
+            base: base_of(value_in(Key::Base, items))?,
+        }),
+        Verb::Console => console_of(files, items),
+        Verb::Work => work_of(items),
+    }
+}
+
+/// What a command's items say: it takes so many files as it is given, and each option at most once.
+fn checked<'a>(verb: Verb, items: &[Item<'a>]) -> Option<Command<'a>>
+    ensures said { option_map said result ≡ checked verb (items_of items.now) }
+    ensures within { IfSome result (λ c. IsWithin (said c)) }
+{
+    let files = names_in(items)?;
+    if !verb.takes_files(files.len()) || !are_distinct(items) {
+        return None;
+    }
+    said_of(verb, files, items)
+}
+
+/// One word, `--help`.
+fn asks_help(words: &[String]) -> bool
+    ensures { result ≡ asks_help (texts words.now) }
+{
+    match words {
+        [word] => word.as_str() == "--help",
+        _ => false,
+    }
+}
+
+/// One word, `--help` or `--version`.
+fn asks_about(words: &[String]) -> bool
+    ensures { result ≡ asks_about (texts words.now) }
+{
+    match words {
+        [word] => word.as_str() == "--help" || word.as_str() == "--version",
+        _ => false,
+    }
+}
+
+/// What names and options say, in any order.
+#[tactic(auto, using(crate::proofs::Counted::few_checked, crate::proofs::Counted::none_checked))]
+fn read_command<'a>(verb: Verb, words: &'a [String]) -> Option<Command<'a>>
+    ensures said { option_map said result ≡ option_and_then (checked verb) (items_from (keys_of verb) None (texts words.entry.now)) }
+    ensures within { IfSome result (λ c. IsWithin (said c)) }
+{
+    checked(verb, &read_items(verb.keys(), words)?)
+}
+
+/// What stands behind a command.
+fn behind<'a>(verb: Verb, words: &'a [String]) -> Option<Command<'a>>
+    ensures said { option_map said result ≡ behind verb (texts words.entry.now) }
+    ensures within { IfSome result (λ c. IsWithin (said c)) }
+{
+    if asks_help(words) {
+        return Some(Command::About);
+    }
+    read_command(verb, words)
+}
+
+/// The command that plain words name.
+pub(crate) fn plain_command<'a>(words: &'a [String]) -> Option<Command<'a>>
+    ensures said { option_map said result ≡ command_of (texts words.entry.now) }
+    ensures within { IfSome result (λ c. IsWithin (said c)) }
+{
+    if asks_about(words) {
+        return Some(Command::About);
+    }
+    let (word, words) = words.split_first()?;
+    behind(verb_of(word)?, words)
+}

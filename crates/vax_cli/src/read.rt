@@ -1,0 +1,71 @@
+//! Words, as they were checked and as `clap` reads them.
+ghost use Rattle.std.specs.Prelude.{◌≡◌, IfOk, IsErrOf, None, Some};
+ghost use Rattle.vax_cli.specs.Words.{command_of as said_of};
+ghost use Rattle.vax_cli.specs.Said.{IsWithin, said, texts};
+
+use crate::clap_words::{FILES, read};
+use crate::command::Command;
+use crate::items::{names_in, read_items, value_in};
+use crate::plain::plain_command;
+use crate::table::verb_of;
+use clap::error::ErrorKind;
+use std::alloc::Global;
+
+/// Why the words have no command.
+#[derive(Clone, Copy, PartialEq, Eq)]
+pub enum WordsError {
+    /// The words aren't plain words of the table of commands.
+    Usage,
+    NoMemory,
+}
+
+/// `clap` finds the same files, and the same value of each option; none where the words aren't plain or memory was refused.
+fn reads_alike(alloc: Global, words: &[String]) -> Option<bool> {
+    let (first, rest) = words.split_first()?;
+    let verb = verb_of(first.as_str())?;
+    let items = read_items(verb.keys(), rest)?;
+    let files = names_in(&items)?;
+    let matches = read(alloc, words).ok()?;
+    let found = matches.subcommand_matches(verb.name())?;
+    let found_files = found.get_strs(FILES).unwrap_or(&[]);
+    if found_files != files.as_slice() {
+        return Some(false);
+    }
+    for key in verb.keys() {
+        if found.get_str(key.name()) != value_in(*key, &items) {
+            return Some(false);
+        }
+    }
+    Some(true)
+}
+
+/// The command that the words name.
+pub fn command_of<'a>(alloc: Global, words: &'a [String]) -> Result<Command<'a>, WordsError>
+    ensures ok { IfOk result (λ c. said_of (texts words.entry.now) ≡ Some (said c)) }
+    ensures within { IfOk result (λ c. IsWithin (said c)) }
+    ensures usage { IsErrOf result WordsError.Usage → said_of (texts words.entry.now) ≡ None }
+    ensures not_plain { said_of (texts words.entry.now) ≡ None → IsErrOf result WordsError.Usage }
+{
+    match plain_command(words) {
+        None => Err(WordsError::Usage),
+        Some(Command::About) => Ok(Command::About),
+        Some(command) => match reads_alike(alloc, words) {
+            Some(true) => Ok(command),
+            _ => Err(WordsError::NoMemory),
+        },
+    }
+}
+
+/// The text that `clap` has for `--help`, `COMMAND --help` or `--version`. Other words have none, which counts as want of
+/// memory.
+pub fn about(alloc: Global, words: &[String]) -> Result<String, WordsError> {
+    let Err(shown) = read(alloc, words) else {
+        return Err(WordsError::NoMemory);
+    };
+    match shown.kind() {
+        ErrorKind::DisplayHelp | ErrorKind::DisplayVersion => {
+            format!(in alloc; "{shown}").map_err(|_| WordsError::NoMemory)
+        }
+        _ => Err(WordsError::NoMemory),
+    }
+}

@@ -1,0 +1,163 @@
+//! The table of commands and their options.
+ghost use Rattle.std.specs.Prelude.{◌≡◌};
+ghost use Rattle.vax_cli.specs.Table.{is_same, key_name, key_of, keys_of, takes_files, verb_name, verb_of, verbs};
+
+/// A command.
+#[derive(Clone, Copy, PartialEq, Eq)]
+pub(crate) enum Verb {
+    Bare,
+    Run,
+    Build,
+    List,
+    Console,
+    Work,
+}
+
+/// An option.
+#[derive(Clone, Copy, PartialEq, Eq)]
+pub(crate) enum Key {
+    Input,
+    System,
+    Schedule,
+    Frames,
+    Steps,
+    Turns,
+    Dump,
+    Record,
+    Base,
+    Format,
+    Script,
+    Seed,
+    Size,
+}
+
+/// The commands.
+pub(crate) const VERBS: [Verb; 6] = [
+    Verb::Bare,
+    Verb::Run,
+    Verb::Build,
+    Verb::List,
+    Verb::Console,
+    Verb::Work,
+];
+
+impl Verb {
+    /// Its word.
+    pub(crate) fn name(self) -> &'static str
+        ensures { result.now ≡ verb_name self }
+    {
+        match self {
+            Verb::Bare => "bare",
+            Verb::Run => "run",
+            Verb::Build => "build",
+            Verb::List => "list",
+            Verb::Console => "console",
+            Verb::Work => "work",
+        }
+    }
+
+    /// The options that it takes.
+    pub(crate) fn keys(self) -> &'static [Key]
+        ensures { result.now ≡ keys_of self }
+    {
+        match self {
+            Verb::Bare => &[
+                Key::Input,
+                Key::Schedule,
+                Key::Frames,
+                Key::Steps,
+                Key::Turns,
+                Key::Dump,
+                Key::Record,
+            ],
+            Verb::Run => &[
+                Key::Input,
+                Key::System,
+                Key::Schedule,
+                Key::Frames,
+                Key::Steps,
+                Key::Turns,
+                Key::Dump,
+                Key::Record,
+            ],
+            Verb::Build => &[Key::Base, Key::Format],
+            Verb::List => &[Key::Base],
+            Verb::Console => &[
+                Key::Script,
+                Key::Base,
+                Key::Input,
+                Key::System,
+                Key::Schedule,
+                Key::Frames,
+                Key::Steps,
+                Key::Turns,
+            ],
+            Verb::Work => &[
+                Key::Seed,
+                Key::Size,
+                Key::Schedule,
+                Key::Frames,
+                Key::Steps,
+                Key::Turns,
+                Key::Dump,
+                Key::Record,
+            ],
+        }
+    }
+
+    /// It takes so many files.
+    pub(crate) fn takes_files(self, count: usize) -> bool
+        ensures { result ≡ takes_files self count }
+    {
+        match self {
+            Verb::Work => count == 0,
+            Verb::Bare | Verb::Run | Verb::Build | Verb::List | Verb::Console => {
+                1 <= count && count <= 8
+            }
+        }
+    }
+}
+
+impl Key {
+    /// Its word.
+    pub(crate) fn name(self) -> &'static str
+        ensures { result.now ≡ key_name self }
+    {
+        match self {
+            Key::Input => "--input",
+            Key::System => "--system",
+            Key::Schedule => "--schedule",
+            Key::Frames => "--frames",
+            Key::Steps => "--steps",
+            Key::Turns => "--turns",
+            Key::Dump => "--dump",
+            Key::Record => "--record",
+            Key::Base => "--base",
+            Key::Format => "--format",
+            Key::Script => "--script",
+            Key::Seed => "--seed",
+            Key::Size => "--size",
+        }
+    }
+
+    /// It is the same option.
+    pub(crate) fn is(self, other: Key) -> bool
+        ensures { result ≡ is_same self other }
+    {
+        self == other
+    }
+}
+
+/// The command of this name.
+pub(crate) fn verb_of(word: &str) -> Option<Verb>
+    ensures { result ≡ verb_of word.now }
+{
+    VERBS.iter().copied().find(|verb| verb.name() == word)
+}
+
+/// The option of this name, among those that a command takes.
+pub(crate) fn key_of(keys: &[Key], word: &str) -> Option<Key>
+    ensures { result ≡ key_of keys.now word.now }
+{
+    keys.iter().copied().find(|key| key.name() == word)
+}

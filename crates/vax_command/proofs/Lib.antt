@@ -1,0 +1,4 @@
+pub mod RunLaws
+pub mod RoomLaws
+pub mod LoadLaws
+pub mod SessionLaws

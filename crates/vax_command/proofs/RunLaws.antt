@@ -1,0 +1,264 @@
+-- What a run under a schedule comes to, from what the machine did.
+use Rattle.std.proofs.Common.{◌≡◌, ◌⊎◌, ℕ, Bool, true, false, List, [], map, Option, Some, None, refl, sym, ap, subst, ◌∙◌, inl, inr, arith}
+use Rattle.std.specs.List.{flat_map}
+use Rattle.vax_space.specs.declared.Area.{Area}
+use Rattle.vax_outside.specs.Blocks.{BlockFile}
+use Rattle.vax_outside.specs.Channels.{Channels, Grew, GrewByPrefix, append, nothing, only}
+use Rattle.vax_outside.specs.Faults.{Rose}
+use Rattle.vax_outside.specs.declared.traits.Chan.TheVariants.{Report}
+use Rattle.vax_outside.proofs.Growth.{append-nothing, grew_more, grew_nothing, prefix_in}
+use Rattle.vax_flat.specs.Parts.{Place, At, Within, machine_at, units_done}
+use Rattle.vax_flat.specs.Step.{Flat}
+use Rattle.vax_cpu.specs.Attempt.{open_at}
+use Rattle.vax_pager.specs.Listing.{is_listed}
+use Rattle.vax_pager.specs.Poking.{OnlyRead, without_reads}
+use Rattle.vax_image.specs.Start.{Start, start_areas, start_core}
+use Rattle.vax_flat.specs.Start.{start_memory}
+use Rattle.vax_sched.specs.Due.{due}
+use Rattle.vax_sched.specs.Faults.{Denotes}
+use Rattle.vax_sched.specs.declared.rule.Rule.{Rule}
+use Rattle.vax_report.specs.Report.{report}
+use Rattle.vax_report.specs.declared.Dump.{Dump}
+use Rattle.vax_report.specs.declared.Last.{Last}
+use Rattle.vax_report.specs.declared.Last.TheVariants as lasts
+use Rattle.vax_machine.specs.Console.{IsBetween}
+use Rattle.vax_machine.specs.Machine.{Means, keeping, residence}
+use Rattle.vax_machine.specs.Meaning.{starts_at, units_of}
+use Rattle.vax_machine.specs.Paged.{Paged, Why, ByEnding, BySteps, ByTurns, all_evicted, fresh, paged}
+use Rattle.vax_machine.specs.Run as machine
+use Rattle.vax_machine.specs.Blocks.{Moved}
+use Rattle.vax_machine.specs.Run.{FewTurns, IsLost, IsWhole, begun, why_of}
+use Rattle.vax_machine.specs.Writing.{OnlyWrote, Wrote, WrotePart, eviction_line, lines_of, output_of}
+use Rattle.vax_machine.proofs.Tracking.{many_evicted}
+use Rattle.vax_machine.specs.Touched.{PinsTouched}
+use Rattle.vax_machine.specs.declared.engine.Engine.{Engine}
+use Rattle.vax_machine.specs.declared.event.Limits.{Limits}
+use Rattle.vax_machine.specs.declared.event.RunEnd.{RunEnd}
+use Rattle.vax_machine.specs.declared.event.RunEnd.TheVariants as run_end
+use Rattle.vax_word.specs.declared.Core.{Core}
+use Rattle.vax_cli.specs.Words.{Options, Text}
+use Rattle.vax_cli.specs.declared.command.DumpItem.{DumpItem}
+use Rattle.vax_command.specs.Ends.{Ends}
+use Rattle.vax_command.specs.Fresh.{IsFresh, IsPrepared, IsReported, machine_report}
+use Rattle.vax_command.specs.Status.{refusal_growth}
+use Rattle.vax_command.specs.Loaded.{Loaded}
+use Rattle.vax_command.specs.Pages.{HasRun, Outside, outside_of}
+use Rattle.vax_command.specs.Running.{IsFaulty, IsRunning}
+use Rattle.vax_command.specs.Went.{IsRunAnswer, Went, dumps_at, last_of, limits_of, run_output, run_report, shown, status_of}
+use Rattle.vax_command.specs.declared.status.Status.{Status}
+use Rattle.vax_command.specs.declared.status.Status.TheVariants.{Done, NoMemory, PageFault, WriteFault}
+
+-- what is written after some growth
+pub ends_after : (before mid now : ℕ) (old between new : Option Channels) (meant : Status) (a b : Channels) (result : Status) → Grew old between a → mid ≡ before → Ends mid now between new meant b result → Ends before now old new meant (append a b) result
+ends_after before mid now old between new meant a b result g q (inl w) = inl (record { answer = w.answer; grew = grew_more old between new a b g w.grew; quiet = w.quiet ∙ q })
+ends_after before mid now old between new meant a b result g q (inr c) = inr (record {
+  answer = c.answer;
+  prefix = prefix_in old between new a b nothing (append a b) (ap (append a) (append-nothing b)) g c.prefix;
+  cause = let r = c.cause in omega (arith, q, r);
+})
+
+-- the report on a machine is the one on its place
+
+open_units : (place : Place) → units_of (open_at place) ≡ units_done place
+open_units (At m) = refl
+open_units (Within p) = refl
+
+pub reported_at : (m : Engine) (file : Option BlockFile) (place : Place) (steps : ℕ) (why : Last) (dumps : List Dump) → m.steps ≡ steps → Means m file place
+    → machine_report m why dumps ≡ report (machine_at place).core why steps (units_done place) (machine_at place).taken dumps
+reported_at m file place steps why dumps s means i =
+    let k = means.processor.machine in
+    let units : units_of m.cpu.latch ≡ units_done place = ap units_of means.processor.open_one ∙ open_units place in
+    report ((k i).core) why (s i) (units i) ((k i).taken) dumps
+
+reported : (m : Engine) (file : Option BlockFile) (p : Paged) (why : Last) (dumps : List Dump) → m.steps ≡ p.steps → Means m file p.place → machine_report m why dumps ≡ run_report p why dumps
+unfolding run_report
+reported m file p why dumps s means = reported_at m file p.place p.steps why dumps s means
+
+outputs : (listed : Bool) (p : Paged) (why : Last) (dumps : List Dump) (grown : Channels) → grown ≡ only Report (run_report p why dumps) → append (output_of listed p) grown ≡ run_output listed p why dumps
+unfolding run_output
+outputs listed p why dumps grown e = ap (append (output_of listed p)) e
+
+as_shown : (p : Paged) (items : List DumpItem) (dumps : List Dump) → dumps ≡ map (shown (machine_at p.place).memory) items → dumps ≡ dumps_at p items
+unfolding dumps_at
+as_shown p items dumps e = e
+
+-- a run from the start has written all that its turns write
+
+nothing_yet : (listed : Bool) (b : Paged) → (machine_at b.place).output ≡ [] → b.evictions ≡ [] → output_of listed b ≡ nothing
+unfolding lines_of
+nothing_yet true b none e = let k = ap (flat_map eviction_line) e in λ i. record { out = none i; report = []; recorded = k i }
+nothing_yet false b none e = λ i. record { out = none i; report = []; recorded = [] }
+
+all_of_it : (listed : Bool) (b p : Paged) (more : Channels) → output_of listed b ≡ nothing → output_of listed p ≡ append (output_of listed b) more → more ≡ output_of listed p
+all_of_it listed b p more none e = sym (e ∙ ap (λ (c : Channels). append c more) none)
+
+-- no page is pinned at the start
+pub none_pinned : (m : Engine) (frames : ℕ) (start : Flat) → IsFresh m frames start → PinsTouched (residence m) (At start)
+unfolding is_listed
+none_pinned m frames start f =
+    let e : (residence m).pinned ≡ [] = ap (λ (p : Paged). p.residence.pinned) f.begins in
+    record { touched = λ page h. let no : false ≡ true = sym (ap (is_listed page) e) ∙ h in cc }
+
+answers : (failed : Type 0) (why : Why) → IsRunAnswer failed (status_of why)
+answers failed (ByEnding e) = tt
+answers failed BySteps = tt
+answers failed ByTurns = tt
+
+as_whole : (limits : Limits) (areas : List Area) (rules : List Rule) (b : Paged) (before : Option BlockFile) (end : RunEnd) (why : Why) (m : Engine) (file : Option BlockFile) (old now : Option Channels) → why_of end ≡ Some why → machine.Ends limits areas rules b before end m file old now → IsWhole limits areas rules b end before m file old now
+as_whole limits areas rules b before (run_end.Ended e) why m file old now is h = h
+as_whole limits areas rules b before run_end.Steps why m file old now is h = h
+as_whole limits areas rules b before run_end.Turns why m file old now is h = h
+as_whole limits areas rules b before run_end.PageFault why m file old now is h = cc
+as_whole limits areas rules b before run_end.WriteFault why m file old now is h = cc
+
+-- how a run went, and how its call ends
+abbrev pub Told : Type 0 → Outside → Limits → List Area → List Rule → Paged → List DumpItem → Option Channels → Option Channels → Status → Type 0
+Told failed outside limits areas rules b items old new result =
+    (meant : Status) × (grown : Channels) × Went failed outside limits areas rules b items meant grown × Ends outside.sink_before outside.sink_now old new meant grown result
+
+-- memory may have been read behind a run
+ran_and_read : (areas : List Area) (b p : Paged) (items : List DumpItem) (file : BlockFile) (middle last : Option BlockFile) → FewTurns b p → Moved areas b p (Some file) middle → OnlyRead middle last → (items ≡ [] → last ≡ middle) → HasRun areas b p items file last
+ran_and_read areas b p items file middle last few moved reads unread =
+    let m = moved file refl in
+    record { few = few; between = m.0; moved = m.2; told = reads ∙ ap without_reads m.1; unread = λ none. unread none ∙ m.1 }
+
+-- what the machine did with whatever its page file told
+abbrev pub Did : Limits → List Area → List Rule → Engine → Option BlockFile → RunEnd → Engine → Option BlockFile → Option Channels → Option Channels → Type 0
+Did limits areas rules m told end n after old between =
+    (place : Place) → Means m told place → PinsTouched (residence m) place → machine.Ends limits areas rules (begun m place) told end n after old between
+
+module _ (failed : Type 0) (limits : Limits) (areas : List Area) (rules : List Rule) (m n : Engine) (frames : ℕ) (start : Flat) (f : IsFresh m frames start) (items : List DumpItem) (before mid now : ℕ) (old between new : Option Channels) (result : Status) where
+  abbrev b : Paged
+  b = begun m (At start)
+
+  silent_start : output_of limits.listed b ≡ nothing
+  silent_start = nothing_yet limits.listed b f.silent refl
+
+  wrote_out : (told : Option BlockFile) (p : Paged) → Wrote (machine.origin limits areas b told old) p between → Grew old between (output_of limits.listed p)
+  wrote_out told p w = subst (λ (c : Channels). Grew old between c) (all_of_it limits.listed b p w.more silent_start w.is) w.grew
+
+  at_fresh : (told last : Option BlockFile) → Told failed (outside_of told last before now) limits areas rules b items old new result → Told failed (outside_of told last before now) limits areas rules (fresh frames start) items old new result
+  at_fresh told last h = subst (λ (z : Paged). Told failed (outside_of told last before now) limits areas rules z items old new result) f.begins h
+
+  -- the report behind what the run wrote
+  behind : (listed : Bool) (p : Paged) (why : Last) (dumps : List Dump) (status : Status) (grown : Channels) → Grew old between (output_of listed p) → mid ≡ before → grown ≡ only Report (run_report p why dumps) → Ends mid now between new status grown result → Ends before now old new status (run_output listed p why dumps) result
+  behind listed p why dumps status grown wrote quiet is ends =
+      subst (λ (g : Channels). Ends before now old new status g result) (outputs listed p why dumps grown is) (ends_after before mid now old between new status (output_of listed p) grown result wrote quiet ends)
+
+  -- it stopped by itself, and the report was written
+  module _ (rose : Type 0) (up : rose → failed) (after last : Option BlockFile) (reads : OnlyRead after last) (unread : items ≡ [] → last ≡ after) (end : RunEnd) (why : Why) (is : why_of end ≡ Some why) (status : Status) (grown : Channels) (out : OnlyWrote limits.listed old between) (quiet : mid ≡ before) (ends : Ends mid now between new status grown result) where
+    answer_is : IsReported rose n after (last_of why) (status_of why) items status grown → IsRunAnswer failed status
+    answer_is (inl r) = subst (IsRunAnswer failed) (sym r.0) (answers failed why)
+    answer_is (inr r) = subst (IsRunAnswer failed) (sym r.1) (up r.0)
+
+    whole_by : (file : BlockFile) → IsWhole limits areas rules b end (Some file) n after old between → IsReported rose n after (last_of why) (status_of why) items status grown → Told failed (outside_of (Some file) last before now) limits areas rules b items old new result
+    whole_by file w (inl r) =
+        let p = paged areas (due rules) w.count b in
+        let d = r.1 in
+        let shows : d.0 ≡ dumps_at p items = as_shown p items d.0 (d.1 p.place w.tracks.means) in
+        let text : grown ≡ only Report (run_report p (last_of why) (dumps_at p items)) =
+        d.2 ∙ (ap (only Report) (reported n after p (last_of why) d.0 w.tracks.steps w.tracks.means) ∙ ap (λ dumps. only Report (run_report p (last_of why) dumps)) shows) in (
+          status,
+          run_output limits.listed p (last_of why) (dumps_at p items),
+          inl (record { count = w.count; goes = w.goes; why = why; stopped = w.stopped ∙ is; answer = r.0; wrote = refl; blocks = inl (ran_and_read areas b p items file after last w.few w.moved reads unread) }),
+          behind limits.listed p (last_of why) (dumps_at p items) status grown (wrote_out (Some file) p w.wrote) quiet text ends,
+        )
+    whole_by file w (inr r) =
+        let p = paged areas (due rules) w.count b in
+        let text : grown ≡ only Report (run_report p lasts.PageFault []) = r.2 ∙ ap (only Report) (reported n after p lasts.PageFault [] w.tracks.steps w.tracks.means) in (
+          status,
+          run_output limits.listed p lasts.PageFault [],
+          inr (up r.0, inl (record { count = w.count; goes = w.goes; why = why; stopped = w.stopped ∙ is; answer = r.1; wrote = refl; blocks = ran_and_read areas b p items file after last w.few w.moved reads unread })),
+          behind limits.listed p lasts.PageFault [] status grown (wrote_out (Some file) p w.wrote) quiet text ends,
+        )
+
+    stopped_by : (told : Option BlockFile) → Did limits areas rules m told end n after old between → IsReported rose n after (last_of why) (status_of why) items status grown → Told failed (outside_of told last before now) limits areas rules b items old new result
+    stopped_by None did r = (status, append out.more grown, answer_is r, ends_after before mid now old between new status out.more grown result out.grew quiet ends)
+    stopped_by (Some file) did r =
+        whole_by file (as_whole limits areas rules b (Some file) end why n after old between is (did (At start) (f.means file) (none_pinned m frames start f))) r
+
+  pub went_whole : (rose : Type 0) → (rose → failed) → (told after last : Option BlockFile) → OnlyRead after last → (items ≡ [] → last ≡ after) → (end : RunEnd) (why : Why) → why_of end ≡ Some why → Did limits areas rules m told end n after old between → OnlyWrote limits.listed old between → mid ≡ before
+      → (status : Status) × (grown : Channels) × IsReported rose n after (last_of why) (status_of why) items status grown × Ends mid now between new status grown result → Told failed (outside_of told last before now) limits areas rules (fresh frames start) items old new result
+  went_whole rose up told after last reads unread end why is did out quiet r = at_fresh told last (stopped_by rose up after last reads unread end why is r.0 r.1 out quiet r.3 told did r.2)
+
+  cut_by : (told after : Option BlockFile) → failed → Did limits areas rules m told run_end.PageFault n after old between → OnlyWrote limits.listed old between → mid ≡ before → Ends mid now between new PageFault (only Report (machine_report n lasts.PageFault [])) result → Told failed (outside_of told after before now) limits areas rules b items old new result
+  cut_by None after rose did out quiet ends =
+      let text = only Report (machine_report n lasts.PageFault []) in
+      (PageFault, append out.more text, rose, ends_after before mid now old between new PageFault out.more text result out.grew quiet ends)
+  cut_by (Some file) after rose did out quiet ends =
+      let w = did (At start) (f.means file) (none_pinned m frames start f) in
+      let q = paged areas (due rules) w.count b in
+      let p = all_evicted w.front q in
+      let kept = many_evicted w.front q in
+      let text = reported n after p lasts.PageFault [] (w.steps ∙ sym kept.steps) (subst (λ (z : Place). Means n after z) (sym kept.place) w.means) in (
+        PageFault,
+        run_output limits.listed p lasts.PageFault [],
+        inr (rose, inr (record { count = w.count; goes = w.goes; front = w.front; rest = w.rest; splits = w.splits; answer = refl; wrote = refl; blocks = w.moved })),
+        behind limits.listed p lasts.PageFault [] PageFault (only Report (machine_report n lasts.PageFault [])) (wrote_out (Some file) p w.wrote) quiet (ap (only Report) text) ends,
+      )
+
+  pub went_cut : (told after : Option BlockFile) → failed → Did limits areas rules m told run_end.PageFault n after old between → OnlyWrote limits.listed old between → mid ≡ before → Ends mid now between new PageFault (only Report (machine_report n lasts.PageFault [])) result → Told failed (outside_of told after before now) limits areas rules (fresh frames start) items old new result
+  went_cut told after rose did out quiet ends = at_fresh told after (cut_by told after rose did out quiet ends)
+
+module _ (failed : Type 0) (limits : Limits) (areas : List Area) (rules : List Rule) (m n : Engine) (frames : ℕ) (start : Flat) (f : IsFresh m frames start) (items : List DumpItem) (before now : ℕ) (old new : Option Channels) where
+  lost_prefix : (told : Option BlockFile) (p : Paged) (why : Last) (dumps : List Dump) → WrotePart (machine.origin limits areas (begun m (At start)) told old) p new → GrewByPrefix old new (run_output limits.listed p why dumps)
+  unfolding run_output
+  lost_prefix told p why dumps w =
+      let e = all_of_it limits.listed (begun m (At start)) p w.more (nothing_yet limits.listed (begun m (At start)) f.silent refl) w.is in
+      let text = only Report (run_report p why dumps) in
+      prefix_in old old new nothing w.more text (append (output_of limits.listed p) text) (ap (λ (c : Channels). append c text) e) (grew_nothing old) w.grew
+
+  lost_by : (told after : Option BlockFile) → Did limits areas rules m told run_end.WriteFault n after old new → OnlyWrote limits.listed old new → Rose before now → Told failed (outside_of told after before now) limits areas rules (begun m (At start)) items old new WriteFault
+  lost_by None after did out rose = (Done, out.more, tt, inr (record { answer = refl; prefix = record { prefix = out.more; rest = nothing; splits = append-nothing out.more; grew = out.grew }; cause = rose }))
+  lost_by (Some file) after did out rose =
+      let w = did (At start) (f.means file) (none_pinned m frames start f) in
+      let p = paged areas (due rules) w.count (begun m (At start)) in (
+        status_of w.why,
+        run_output limits.listed p (last_of w.why) (dumps_at p items),
+        inl (record { count = w.count; goes = w.goes; why = w.why; stopped = w.stopped; answer = refl; wrote = refl; blocks = inr (rose, w.moved) }),
+        inr (record { answer = refl; prefix = lost_prefix (Some file) p (last_of w.why) (dumps_at p items) w.wrote; cause = rose }),
+      )
+
+  pub went_lost : (told after : Option BlockFile) → Did limits areas rules m told run_end.WriteFault n after old new → OnlyWrote limits.listed old new → Rose before now → Told failed (outside_of told after before now) limits areas rules (fresh frames start) items old new WriteFault
+  went_lost told after did out rose = subst (λ (z : Paged). Told failed (outside_of told after before now) limits areas rules z items old new WriteFault) f.begins (lost_by told after did out rose)
+
+-- a call of the page file that failed isn't hidden
+pub cut_answers : (before now : ℕ) (old new : Option Channels) (grown : Channels) (result : Status) → Ends before now old new PageFault grown result → (result ≡ PageFault) ⊎ (result ≡ WriteFault)
+cut_answers before now old new grown result (inl w) = inl w.answer
+cut_answers before now old new grown result (inr c) = inr c.answer
+
+-- a machine at the start of a program
+
+abbrev Starts : Engine → ℕ → Core → List Area → List ℕ → Type 0
+Starts m frames k space input =
+    ((file : BlockFile) → Means m (Some file) (At (starts_at k (start_memory space) input)))
+    × (begun m (At (starts_at k (start_memory space) input)) ≡ fresh frames (starts_at k (start_memory space) input))
+    × ((keeping m).areas ≡ space)
+
+pub prepared : (m : Engine) (frames : ℕ) (program : Loaded) (input : List ℕ) (k : Core) (space : List Area) → k ≡ start_core program.system program.user → space ≡ start_areas program.system program.user
+    → Starts m frames k space input → IsBetween m → IsPrepared m frames (Start program.system program.user input) (start_areas program.system program.user)
+prepared m frames program input k space a b h between =
+    let areas = start_areas program.system program.user in
+    let registers = start_core program.system program.user in
+    let one : Starts m frames registers space input = subst (λ (z : Core). Starts m frames z space input) a h in
+    let both : Starts m frames registers areas input = subst (λ (z : List Area). Starts m frames registers z input) b one in
+    record { is_fresh = record { means = both.0; begins = both.1; silent = refl }; has_areas = both.2; between = between }
+
+-- what a run came to
+
+abbrev pub Ran : Type 0 → Type 0 → Outside → Loaded → Text → Text → Options → Option Channels → Option Channels → Status → Type 0
+Ran kept failed outside program input schedule options old new result =
+    (meant : Status) × (grown : Channels) × IsRunning kept failed outside program input schedule options meant grown × Ends outside.sink_before outside.sink_now old new meant grown result
+
+module _ (kept failed : Type 0) (outside : Outside) (program : Loaded) (input schedule : Text) (options : Options) (old new : Option Channels) (result : Status) where
+  pub run_misplanned : (status : Status) → IsFaulty (start_areas program.system program.user) schedule status ⊎ (status ≡ NoMemory) → kept → Ends outside.sink_before outside.sink_now old new status (refusal_growth status) result → Ran kept failed outside program input schedule options old new result
+  run_misplanned status (inl r) k ends = (status, refusal_growth status, inr (inl (record { fault = r; wrote = refl; keeps = k })), ends)
+  run_misplanned status (inr e) k ends = (status, refusal_growth status, inl (e, ap refusal_growth e, k), ends)
+
+  pub run_went : (rules : List Rule) (space : List Area) → Denotes (start_areas program.system program.user) schedule rules → space ≡ start_areas program.system program.user
+      → Told failed outside (limits_of options) space rules (fresh options.frames (Start program.system program.user input)) options.dumps old new result → Ran kept failed outside program input schedule options old new result
+  run_went rules space planned same h =
+      let begins = fresh options.frames (Start program.system program.user input) in
+      let went : Went failed outside (limits_of options) (start_areas program.system program.user) rules begins options.dumps h.0 h.1 =
+      subst (λ (z : List Area). Went failed outside (limits_of options) z rules begins options.dumps h.0 h.1) same h.2 in
+      (h.0, h.1, inr (inr (record { rules = rules; planned = planned; went = went })), h.3)

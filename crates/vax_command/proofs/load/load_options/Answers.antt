@@ -1,0 +1,23 @@
+use Rattle.std.proofs.Common.{◌≡◌, ◌++◌, Ok, subst, is_some, rules}
+use Rattle.std.specs.Option.{option_copied}
+use Rattle.vax_cli.specs.Said.{options as said_options}
+use Rattle.vax_command.specs.Reading.{Reads, given}
+use Rattle.vax_command.specs.ReadingView.{bytes_of}
+use Rattle.vax_command.proofs.LoadLaws.{has_given, reads_both}
+use Rattle.vax_command.proofs.load.load_options.Goals as goal
+
+pub returns-clause-ok : goal.returns-clause-ok
+returns-clause-ok g c =
+    let o = said_options c.args.options.now in
+    let name = option_copied c.args.script in
+    let system = bytes_of c.in_ok-system.system in
+    let input = bytes_of c.in_ok-system.input in
+    let schedule = bytes_of c.in_ok-schedule.schedule in
+    let script = bytes_of c.in_ok-schedule.script in
+    let s : is_some system ≡ is_some o.system = search rules in
+    let i : is_some input ≡ is_some o.input = search rules in
+    let k : is_some schedule ≡ is_some o.schedule = search rules in
+    let t : is_some script ≡ is_some name = search rules in
+    let others = subst (λ d. Reads d (given o.schedule ++ given name) (Ok (given schedule ++ given script))) c.in_ok-system.ensures.same c.in_ok-schedule.ensures.ok in
+    let all = has_given _ o name system input schedule script s i k t (reads_both _ (given o.system ++ given o.input) (given o.schedule ++ given name) (given system ++ given input) (given schedule ++ given script) c.in_ok-system.ensures.ok others) in
+    rw (c.or_empty.ensures.bytes, c.or_empty-2.ensures.bytes, c.or_empty-3.ensures.bytes) all

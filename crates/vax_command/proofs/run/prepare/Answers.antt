@@ -1,0 +1,13 @@
+use Rattle.std.proofs.Common.{ap, ◌∙◌}
+use Rattle.vax_image.specs.Start.{start_areas, start_core}
+use Rattle.vax_machine.specs.Meaning.{engine}
+use Rattle.vax_command.specs.Loaded.{loaded_seen}
+use Rattle.vax_command.proofs.RunLaws.{prepared}
+use Rattle.vax_command.proofs.run.prepare.Goals as goal
+
+pub returns-in-Ok-new-clause-prepared : goal.returns-in-Ok-new-clause-prepared
+returns-in-Ok-new-clause-prepared c =
+    let programs = c.args.programs.now in
+    prepared (engine c.in-Ok-new.machine) c.args.frames (loaded_seen programs) c.args.input.items c.in-Ok.core c.in-Ok.space
+    (c.in-Ok.ensures.core ∙ ap (start_core programs.system) c.as_ref.ensures.value) (c.in-Ok.ensures.space ∙ ap (start_areas programs.system) c.as_ref.ensures.value)
+    (c.in-Ok-new.ensures.start, c.in-Ok-new.ensures.begun, c.in-Ok-new.ensures.kept) c.in-Ok-new.ensures.between

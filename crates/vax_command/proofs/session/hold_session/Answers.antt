@@ -1,0 +1,15 @@
+use Rattle.std.proofs.Common.{◌≡◌}
+use Rattle.vax_outside.specs.Faults.{Rose}
+use Rattle.vax_image.specs.Start.{Start}
+use Rattle.vax_cli.specs.Said.{options as said_options}
+use Rattle.vax_command.specs.Loaded.{loaded_seen}
+use Rattle.vax_command.proofs.SessionLaws.{held_went}
+use Rattle.vax_command.proofs.hold_session.Goals as goal
+
+pub returns-in-Ok-clause-held : goal.returns-in-Ok-clause-held
+returns-in-Ok-clause-held g c =
+    let programs = loaded_seen c.args.programs.now in
+    let options = said_options c.args.options.now in
+    held_went (c.hold.new.pages ≡ c.args.pages.now) (Rose (g.F.PageFile.faults c.args.pages.now) (g.F.PageFile.faults c.hold.new.pages)) (g.F.PageFile.contents c.args.pages.now) programs c.args.input.items c.args.schedule.now c.args.script.now options
+    (g.K.Sink.faults c.args.sink.now) (g.K.Sink.faults c.hold.new.sink) (g.K.Sink.contents c.args.sink.now) (g.K.Sink.contents c.hold.new.sink) c.hold.result
+    c.in-Ok.schedule c.in-Ok.ensures.planned (c.hold.ensures.went options.frames (Start programs.system programs.user c.args.input.items) c.in-Ok.ensures.prepared.is_fresh)

@@ -1,0 +1,12 @@
+pub mod Status
+pub mod Ends
+pub mod Reading
+pub mod ReadingView
+pub mod Loaded
+pub mod Pages
+pub mod Went
+pub mod Room
+pub mod Fresh
+pub mod Running
+pub mod SessionWent
+pub mod Holding

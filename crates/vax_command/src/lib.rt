@@ -1,0 +1,20 @@
+//! The work of the command line: the files that a command reads, programs run on the machine with pages, sessions of the console,
+//! the reports behind them, and the answers with their numbers and lines.
+#![tactic(auto)]
+
+mod dump;
+mod load;
+mod name;
+mod programs;
+mod refusal;
+mod run;
+mod session;
+mod status;
+
+pub use load::{Given, load_files, load_options, load_run};
+pub use name::Name;
+pub use programs::Programs;
+pub use refusal::refuse;
+pub use run::{prepare, report, run_programs};
+pub use session::hold_session;
+pub use status::Status;

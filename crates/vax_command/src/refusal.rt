@@ -1,0 +1,165 @@
+//! The lines of refusals.
+ghost use Rattle.std.specs.Prelude.{◌≡◌, ◌≤◌, codes, OnErr, OnOk, true, false};
+ghost use Rattle.vax_outside.specs.Channels.{Grew, GrewByPrefix, only};
+ghost use Rattle.vax_outside.specs.Faults.{Rose};
+ghost use Rattle.vax_command.specs.Status.{image_fault, is_named, link_fault, named, refusal_growth, schedule_fault, source_fault};
+ghost use Rattle.vax_command.specs.Ends.{Ends};
+
+use crate::status::Status;
+use vax_outside::{Chan, Failed, Sink, Text, put_all};
+
+/// Writes a label and a name.
+#[tactic(auto, using(vax_outside::proofs::Growth::report_first, vax_outside::proofs::Growth::report_last, vax_outside::proofs::Growth::report_grew))]
+fn put_named<K: Sink>(label: &[u8], name: &[u8], sink: &mut K) -> Result<(), Failed>
+    ensures ok { OnOk result (Grew (K.contents sink.old) (K.contents sink.new) (only Chan.Report (named label.now name.now))) }
+    ensures prefix { OnErr result (GrewByPrefix (K.contents sink.old) (K.contents sink.new) (only Chan.Report (named label.now name.now))) }
+    ensures later { K.faults sink.old ≤ K.faults sink.new }
+    ensures cause { OnErr result (Rose (K.faults sink.old) (K.faults sink.new)) }
+    ensures quiet { OnOk result (K.faults sink.new ≡ K.faults sink.old) }
+{
+    put_all(sink, Chan::Report, label)?;
+    put_all(sink, Chan::Report, name)?;
+    put_all(sink, Chan::Report, b"\n")?;
+    Ok(())
+}
+
+/// Writes the place of a fault in a source.
+#[tactic(auto, unfolding(crate::specs::Status::source_fault))]
+fn put_source_fault<K: Sink>(file: u8, line: u32, kind: u8, sink: &mut K) -> Result<(), Failed>
+    ensures ok { OnOk result (Grew (K.contents sink.old) (K.contents sink.new) (only Chan.Report (source_fault file line kind))) }
+    ensures prefix { OnErr result (GrewByPrefix (K.contents sink.old) (K.contents sink.new) (only Chan.Report (source_fault file line kind))) }
+    ensures later { K.faults sink.old ≤ K.faults sink.new }
+    ensures cause { OnErr result (Rose (K.faults sink.old) (K.faults sink.new)) }
+    ensures quiet { OnOk result (K.faults sink.new ≡ K.faults sink.old) }
+{
+    let mut text = Text::new();
+    text.push(b"vax: source ");
+    text.push_decimal(file as u64);
+    text.push(b" line ");
+    text.push_decimal(line as u64);
+    text.push(b" fault ");
+    text.push_decimal(kind as u64);
+    text.push(b"\n");
+    put_all(sink, Chan::Report, text.as_slice())
+}
+
+/// Writes the place of a fault in a schedule.
+#[tactic(auto, unfolding(crate::specs::Status::schedule_fault))]
+fn put_schedule_fault<K: Sink>(line: u32, kind: u8, sink: &mut K) -> Result<(), Failed>
+    ensures ok { OnOk result (Grew (K.contents sink.old) (K.contents sink.new) (only Chan.Report (schedule_fault line kind))) }
+    ensures prefix { OnErr result (GrewByPrefix (K.contents sink.old) (K.contents sink.new) (only Chan.Report (schedule_fault line kind))) }
+    ensures later { K.faults sink.old ≤ K.faults sink.new }
+    ensures cause { OnErr result (Rose (K.faults sink.old) (K.faults sink.new)) }
+    ensures quiet { OnOk result (K.faults sink.new ≡ K.faults sink.old) }
+{
+    let mut text = Text::new();
+    text.push(b"vax: schedule line ");
+    text.push_decimal(line as u64);
+    text.push(b" fault ");
+    text.push_decimal(kind as u64);
+    text.push(b"\n");
+    put_all(sink, Chan::Report, text.as_slice())
+}
+
+/// Writes what the linker found without a name: behind kind 5 stands an address.
+#[tactic(auto, unfolding(crate::specs::Status::link_fault))]
+fn put_found<K: Sink>(kind: u8, name: &[u8], place: u32, sink: &mut K) -> Result<(), Failed>
+    requires { is_named kind ≡ false }
+    ensures ok { OnOk result (Grew (K.contents sink.old) (K.contents sink.new) (only Chan.Report (link_fault kind name.now place))) }
+    ensures prefix { OnErr result (GrewByPrefix (K.contents sink.old) (K.contents sink.new) (only Chan.Report (link_fault kind name.now place))) }
+    ensures later { K.faults sink.old ≤ K.faults sink.new }
+    ensures cause { OnErr result (Rose (K.faults sink.old) (K.faults sink.new)) }
+    ensures quiet { OnOk result (K.faults sink.new ≡ K.faults sink.old) }
+{
+    let mut text = Text::new();
+    text.push(b"vax: link fault ");
+    text.push_decimal(kind as u64);
+    if kind == 5 {
+        text.push(b" ");
+        text.push_hex8(place);
+    }
+    text.push(b"\n");
+    put_all(sink, Chan::Report, text.as_slice())
+}
+
+/// Writes what the linker found with a name.
+#[tactic(auto, unfolding(crate::specs::Status::link_fault))]
+fn put_found_name<K: Sink>(kind: u8, name: &[u8], place: u32, sink: &mut K) -> Result<(), Failed>
+    requires { is_named kind ≡ true }
+    ensures ok { OnOk result (Grew (K.contents sink.old) (K.contents sink.new) (only Chan.Report (link_fault kind name.now place))) }
+    ensures prefix { OnErr result (GrewByPrefix (K.contents sink.old) (K.contents sink.new) (only Chan.Report (link_fault kind name.now place))) }
+    ensures later { K.faults sink.old ≤ K.faults sink.new }
+    ensures cause { OnErr result (Rose (K.faults sink.old) (K.faults sink.new)) }
+    ensures quiet { OnOk result (K.faults sink.new ≡ K.faults sink.old) }
+{
+    let mut label = Text::new();
+    label.push(b"vax: link fault ");
+    label.push_decimal(kind as u64);
+    label.push(b" ");
+    put_named(label.as_slice(), name, sink)
+}
+
+/// Writes what the linker found.
+fn put_link_fault<K: Sink>(kind: u8, name: &[u8], place: u32, sink: &mut K) -> Result<(), Failed>
+    ensures ok { OnOk result (Grew (K.contents sink.old) (K.contents sink.new) (only Chan.Report (link_fault kind name.now place))) }
+    ensures prefix { OnErr result (GrewByPrefix (K.contents sink.old) (K.contents sink.new) (only Chan.Report (link_fault kind name.now place))) }
+    ensures later { K.faults sink.old ≤ K.faults sink.new }
+    ensures cause { OnErr result (Rose (K.faults sink.old) (K.faults sink.new)) }
+    ensures quiet { OnOk result (K.faults sink.new ≡ K.faults sink.old) }
+{
+    if kind == 1 || kind == 2 {
+        put_found_name(kind, name, place, sink)
+    } else {
+        put_found(kind, name, place, sink)
+    }
+}
+
+/// Writes the place of a fault in an image's file.
+#[tactic(auto, unfolding(crate::specs::Status::image_fault))]
+fn put_image_fault<K: Sink>(place: u32, kind: u8, sink: &mut K) -> Result<(), Failed>
+    ensures ok { OnOk result (Grew (K.contents sink.old) (K.contents sink.new) (only Chan.Report (image_fault place kind))) }
+    ensures prefix { OnErr result (GrewByPrefix (K.contents sink.old) (K.contents sink.new) (only Chan.Report (image_fault place kind))) }
+    ensures later { K.faults sink.old ≤ K.faults sink.new }
+    ensures cause { OnErr result (Rose (K.faults sink.old) (K.faults sink.new)) }
+    ensures quiet { OnOk result (K.faults sink.new ≡ K.faults sink.old) }
+{
+    let mut text = Text::new();
+    text.push(b"vax: image place ");
+    text.push_decimal(place as u64);
+    text.push(b" fault ");
+    text.push_decimal(kind as u64);
+    text.push(b"\n");
+    put_all(sink, Chan::Report, text.as_slice())
+}
+
+/// Writes the line of a refusal; other answers have none.
+fn put_refusal<K: Sink>(status: &Status, sink: &mut K) -> Result<(), Failed>
+    ensures ok { OnOk result (Grew (K.contents sink.old) (K.contents sink.new) (refusal_growth status.now)) }
+    ensures prefix { OnErr result (GrewByPrefix (K.contents sink.old) (K.contents sink.new) (refusal_growth status.now)) }
+    ensures later { K.faults sink.old ≤ K.faults sink.new }
+    ensures cause { OnErr result (Rose (K.faults sink.old) (K.faults sink.new)) }
+    ensures quiet { OnOk result (K.faults sink.new ≡ K.faults sink.old) }
+{
+    match status {
+        Status::Usage => put_all(sink, Chan::Report, b"vax: usage\n"),
+        Status::Missing(name) => put_named(b"vax: missing ", name.as_bytes(), sink),
+        Status::Large(name) => put_named(b"vax: large ", name.as_bytes(), sink),
+        Status::Refused { file, line, kind } => put_source_fault(*file, *line, *kind, sink),
+        Status::Link { kind, name, place } => put_link_fault(*kind, name.as_slice(), *place, sink),
+        Status::Schedule { line, kind } => put_schedule_fault(*line, *kind, sink),
+        Status::Image { place, kind } => put_image_fault(*place, *kind, sink),
+        Status::ReadFault => put_all(sink, Chan::Report, b"vax: read\n"),
+        Status::NoMemory => put_all(sink, Chan::Report, b"vax: memory\n"),
+        Status::Done | Status::Turns | Status::PageFault | Status::WriteFault => Ok(()),
+    }
+}
+
+/// Refuses: writes the line, and answers.
+pub fn refuse<K: Sink>(status: Status, sink: &mut K) -> Status
+    ensures { Ends (K.faults sink.old) (K.faults sink.new) (K.contents sink.old) (K.contents sink.new) status (refusal_growth status) result }
+{
+    match put_refusal(&status, sink) {
+        Ok(()) => status,
+        Err(Failed) => Status::WriteFault,
+    }
+}

@@ -1,0 +1,217 @@
+//! Runs a program: makes a machine and its schedule, runs it, and reports.
+ghost use Rattle.std.specs.Prelude.{◌≡◌, ◌≢◌, ◌⊎◌, ◌≤◌, ◌<◌, ◌^◌, ◌-◌, ℕ, List, [], Result, Ok, IfOk, IfErr, length};
+ghost use Rattle.vax_outside.specs.Channels.{Channels, only};
+ghost use Rattle.vax_outside.specs.Faults.{Rose};
+ghost use Rattle.vax_outside.specs.declared.traits.Chan.TheVariants.{Report};
+ghost use Rattle.vax_flat.specs.Step.{Flat};
+ghost use Rattle.vax_image.specs.Start.{Start, start_areas};
+ghost use Rattle.vax_pager.specs.Poking.{OnlyRead};
+ghost use Rattle.vax_machine.specs.Meaning.{engine};
+ghost use Rattle.vax_machine.specs.Machine.{keeping};
+ghost use Rattle.vax_machine.specs.Paged.{fresh};
+ghost use Rattle.vax_sched.specs.Faults.{Denotes, IsFirstFault};
+ghost use Rattle.vax_cli.specs.Said.{AreWithin, options as said_options};
+ghost use Rattle.vax_command.specs.Ends.{Ends};
+ghost use Rattle.vax_command.specs.Fresh.{IsFresh, IsPrepared, IsReported, machine_report};
+ghost use Rattle.vax_command.specs.Loaded.{AreSound, loaded_seen};
+ghost use Rattle.vax_command.specs.Reading.{file_limit};
+ghost use Rattle.vax_command.specs.Running.{IsFaulty, IsRunning};
+ghost use Rattle.vax_command.specs.Pages.{outside_of};
+ghost use Rattle.vax_command.specs.Room.{items_of};
+ghost use Rattle.vax_command.specs.Went.{Went, limits_of};
+
+use crate::dump::{Room, fill, reserve};
+use crate::programs::Programs;
+use crate::refusal::refuse;
+use crate::status::Status;
+use std::alloc::Global;
+use vax_cli::Options;
+use vax_image::start;
+use vax_machine::{Limits, Machine, RunEnd};
+use vax_outside::{Failed, PageFile, Sink};
+use vax_pager::PageFault;
+use vax_report::{Dump, Last, write_report};
+use vax_sched::{SchedError, Schedule, read};
+use vax_space::Space;
+
+/// Writes the report on a machine, with the memory that it is to show, and answers so.
+pub fn report<K: Sink>(
+    machine: &Machine,
+    last: Last,
+    dumps: &[Dump],
+    meant: Status,
+    sink: &mut K,
+) -> Status
+    ensures { Ends (K.faults sink.old) (K.faults sink.new) (K.contents sink.old) (K.contents sink.new) meant (only Report (machine_report (engine machine.now) last dumps.now)) result }
+{
+    let written = write_report(
+        machine.core(),
+        last,
+        machine.steps(),
+        machine.units(),
+        machine.taken(),
+        dumps,
+        sink,
+    );
+    match written {
+        Ok(()) => meant,
+        Err(Failed) => Status::WriteFault,
+    }
+}
+
+/// Reads the memory for which there is room, and writes the report on a machine that stopped.
+fn report_all<K: Sink, F: PageFile>(
+    machine: Machine,
+    last: Last,
+    room: Room,
+    meant: Status,
+    sink: &mut K,
+    pages: &mut F,
+) -> Status
+    ensures reported { (status : Status) × (grown : Channels)
+        × IsReported (Rose (F.faults pages.old) (F.faults pages.new)) (engine machine) (F.contents pages.old) last meant (items_of room.blanks.items) status grown
+        × Ends (K.faults sink.old) (K.faults sink.new) (K.contents sink.old) (K.contents sink.new) status grown result }
+    ensures reads { OnlyRead (F.contents pages.old) (F.contents pages.new) }
+    ensures unread { items_of room.blanks.items ≡ [] → F.contents pages.new ≡ F.contents pages.old }
+    ensures later { F.faults pages.old ≤ F.faults pages.new }
+    ensures failed { F.faults pages.new ≢ F.faults pages.old → (result ≡ Status.PageFault) ⊎ (result ≡ Status.WriteFault) }
+{
+    let mut machine = machine;
+    match fill(&mut machine, room, pages) {
+        Ok(dumps) => report(&machine, last, &dumps, meant, sink),
+        Err(PageFault) => report(&machine, Last::PageFault, &[], Status::PageFault, sink),
+    }
+}
+
+/// Runs a machine under a schedule, and writes the report.
+fn execute<K: Sink, F: PageFile>(
+    machine: Machine,
+    limits: &Limits,
+    schedule: &Schedule,
+    room: Room,
+    sink: &mut K,
+    pages: &mut F,
+) -> Status
+    requires few_steps { limits.now.steps < 2 ^ 64 }
+    requires few_turns { limits.now.turns < 2 ^ 64 - 2 }
+    ensures went { (frames : ℕ) → (m : Flat) → IsFresh (engine machine) frames m → (meant : Status) × (grown : Channels)
+        × Went (Rose (F.faults pages.old) (F.faults pages.new)) (outside_of (F.contents pages.old) (F.contents pages.new) (K.faults sink.old) (K.faults sink.new)) limits.now (keeping (engine machine)).areas schedule.now (fresh frames m) (items_of room.blanks.items) meant grown
+        × Ends (K.faults sink.old) (K.faults sink.new) (K.contents sink.old) (K.contents sink.new) meant grown result }
+    ensures failed { F.faults pages.new ≢ F.faults pages.old → (result ≡ Status.PageFault) ⊎ (result ≡ Status.WriteFault) }
+{
+    let mut machine = machine;
+    match machine.run(limits, schedule, pages, sink) {
+        RunEnd::Ended(ending) => {
+            let last = Last::Ending(ending);
+            report_all(machine, last, room, Status::Done, sink, pages)
+        }
+        RunEnd::Steps => report_all(machine, Last::Steps, room, Status::Done, sink, pages),
+        RunEnd::Turns => report_all(machine, Last::Turns, room, Status::Turns, sink, pages),
+        RunEnd::PageFault => report(&machine, Last::PageFault, &[], Status::PageFault, sink),
+        RunEnd::WriteFault => Status::WriteFault,
+    }
+}
+
+/// The schedule of a text, or the answer to its first fault.
+fn plan(alloc: Global, text: &[u8], space: &Space) -> Result<Schedule, Status>
+    requires { length text.now ≤ file_limit }
+    ensures planned { IfOk result (λ schedule. Denotes space.now text.now schedule) }
+    ensures fault { IfErr result (λ status. IsFaulty space.now text.now status ⊎ (status ≡ Status.NoMemory)) }
+{
+    match read(alloc, text, space) {
+        Ok(schedule) => Ok(schedule),
+        Err(SchedError::Fault { line, kind }) => Err(Status::Schedule { line, kind }),
+        Err(SchedError::NoMemory) => Err(Status::NoMemory),
+    }
+}
+
+/// A machine at the start of programs, with so many frames, and the schedule of a text for its areas. The error is the answer to the schedule's
+/// first fault, or want of memory.
+pub fn prepare(
+    alloc: Global,
+    programs: &Programs,
+    input: Vec<u8>,
+    schedule: &[u8],
+    frames: u32,
+) -> Result<(Machine, Schedule), Status>
+    requires sound { AreSound programs.now }
+    requires input { length input.items ≤ file_limit }
+    requires schedule { length schedule.now ≤ file_limit }
+    requires some { 64 ≤ frames }
+    requires few { frames ≤ 32768 }
+    ensures prepared { IfOk result (λ r. IsPrepared (engine r.0) frames (Start programs.now.system programs.now.user input.items) (start_areas programs.now.system programs.now.user)) }
+    ensures planned { IfOk result (λ r. Denotes (start_areas programs.now.system programs.now.user) schedule.now r.1) }
+    ensures fault { IfErr result (λ status. IsFaulty (start_areas programs.now.system programs.now.user) schedule.now status ⊎ (status ≡ Status.NoMemory)) }
+{
+    let Ok((space, core)) = start(alloc, &programs.system, programs.user.as_ref()) else {
+        return Err(Status::NoMemory);
+    };
+    let schedule = plan(alloc, schedule, &space)?;
+    match Machine::new(alloc, space, core, input, frames) {
+        Ok(machine) => Ok((machine, schedule)),
+        Err(_) => Err(Status::NoMemory),
+    }
+}
+
+/// The same, and room for the memory that the report is to show.
+fn prepare_run(
+    alloc: Global,
+    programs: &Programs,
+    input: Vec<u8>,
+    schedule: &[u8],
+    options: &Options<'_>,
+) -> Result<(Machine, Schedule, Room), Status>
+    requires sound { AreSound programs.now }
+    requires input { length input.items ≤ file_limit }
+    requires schedule { length schedule.now ≤ file_limit }
+    requires within { AreWithin (said_options options.now) }
+    ensures prepared { IfOk result (λ r. IsPrepared (engine r.0) options.now.frames (Start programs.now.system programs.now.user input.items) (start_areas programs.now.system programs.now.user)) }
+    ensures planned { IfOk result (λ r. Denotes (start_areas programs.now.system programs.now.user) schedule.now r.1) }
+    ensures room { IfOk result (λ r. items_of r.2.blanks.items ≡ (said_options options.now).dumps) }
+    ensures fault { IfErr result (λ status. IsFaulty (start_areas programs.now.system programs.now.user) schedule.now status ⊎ (status ≡ Status.NoMemory)) }
+{
+    let (machine, schedule) = prepare(alloc, programs, input, schedule, options.frames)?;
+    match reserve(alloc, options.dumps.as_slice()) {
+        Ok(room) => Ok((machine, schedule, room)),
+        Err(_) => Err(Status::NoMemory),
+    }
+}
+
+/// How far the options let a run go.
+fn limits_of(options: &Options<'_>) -> Limits
+    ensures { result ≡ limits_of (said_options options.now) }
+{
+    Limits {
+        steps: options.steps,
+        turns: options.turns,
+        listed: options.recorded,
+    }
+}
+
+/// Runs programs with their input under a schedule, as far as the options let them go.
+pub fn run_programs<K: Sink, F: PageFile>(
+    alloc: Global,
+    programs: &Programs,
+    input: Vec<u8>,
+    schedule: &[u8],
+    options: &Options<'_>,
+    sink: &mut K,
+    pages: &mut F,
+) -> Status
+    requires sound { AreSound programs.now }
+    requires input { length input.items ≤ file_limit }
+    requires schedule { length schedule.now ≤ file_limit }
+    requires within { AreWithin (said_options options.now) }
+    ensures ran { (meant : Status) × (grown : Channels)
+        × IsRunning (pages.new ≡ pages.old) (Rose (F.faults pages.old) (F.faults pages.new)) (outside_of (F.contents pages.old) (F.contents pages.new) (K.faults sink.old) (K.faults sink.new)) (loaded_seen programs.now) input.items schedule.now (said_options options.now) meant grown
+        × Ends (K.faults sink.old) (K.faults sink.new) (K.contents sink.old) (K.contents sink.new) meant grown result }
+    ensures failed { F.faults pages.new ≢ F.faults pages.old → (result ≡ Status.PageFault) ⊎ (result ≡ Status.WriteFault) }
+{
+    match prepare_run(alloc, programs, input, schedule, options) {
+        Ok((machine, schedule, room)) => {
+            let limits = limits_of(options);
+            execute(machine, &limits, &schedule, room, sink, pages)
+        }
+        Err(status) => refuse(status, sink),
+    }
+}

@@ -1,0 +1,61 @@
+//! The answers of the program.
+ghost use Rattle.std.specs.Prelude.{◌≡◌};
+
+use crate::name::Name;
+use vax_space::Bytes;
+
+/// The answer of the program.
+#[derive(Drop)]
+pub enum Status {
+    /// The command was carried out.
+    Done,
+    /// The words aren't plain words of the table of commands.
+    Usage,
+    /// There is no file of this name.
+    Missing(Name),
+    /// The file of this name has more than 4,194,304 bytes.
+    Large(Name),
+    /// The first fault of a source: its file, counted from 1, its line and its kind.
+    Refused { file: u8, line: u32, kind: u8 },
+    /// What the linker found: kinds 1 and 2 with a name, kind 5 with the address of a field.
+    Link { kind: u8, name: Bytes, place: u32 },
+    /// The first fault of a schedule.
+    Schedule { line: u32, kind: u8 },
+    /// The first fault of an image's file: the offset of its field, and its kind.
+    Image { place: u32, kind: u8 },
+    /// The limit of turns was reached.
+    Turns,
+    /// A call of the page file failed.
+    PageFault,
+    /// A read of a file failed.
+    ReadFault,
+    /// A write to a channel failed.
+    WriteFault,
+    /// Memory was refused before the run.
+    NoMemory,
+}
+
+impl Status {
+    ghost use Rattle.vax_command.specs.Status.{code};
+
+    /// The exit status of the process.
+    pub fn code(&self) -> u8
+        ensures { result ≡ code self.now }
+    {
+        match self {
+            Status::Done => 0,
+            Status::Usage => 1,
+            Status::Missing(_) => 2,
+            Status::Large(_) => 3,
+            Status::Refused { .. } => 4,
+            Status::Link { .. } => 5,
+            Status::Schedule { .. } => 6,
+            Status::Image { .. } => 7,
+            Status::Turns => 8,
+            Status::PageFault => 9,
+            Status::ReadFault => 10,
+            Status::WriteFault => 11,
+            Status::NoMemory => 12,
+        }
+    }
+}

@@ -1,4 +1,0 @@
-use Rattle.vax_data.proofs.items.state_part.Goals as goal
-
-pub state_item-requires : goal.state_item-requires
-state_item-requires c = c.read_as-item.ensures.within c.args.site.line.now.value.items c.requires

@@ -1,0 +1,10 @@
+use Rattle.vax_flat_units.proofs.Places.{few}
+use Rattle.vax_flat_units.proofs.Sums.{made, sums}
+use Rattle.vax_flat_units.proofs.places_count_units.Goals as goal
+
+pub returns : goal.returns
+returns c = record {
+  sum = λ m place by. sums m place by;
+  made = λ m place next by is. made m place next by is;
+  few = λ m. few m;
+}

@@ -1,7 +1,0 @@
-use Rattle.vax_names.specs.Names.{assigned}
-use Rattle.vax_names.specs.View.{names_of}
-use Rattle.vax_names.proofs.Changing.{one_becomes}
-use Rattle.vax_names.proofs.types.NameTable.assign.Goals as goal
-
-pub returns : goal.returns
-returns c = one_becomes c.assign.result (names_of c.args.self.now) c.args.self.now.names.items c.args.number c.index_mut.result.now c.assign.new.self (assigned c.args.fresh) c.requires c.index_mut.ensures.value c.assign.ensures

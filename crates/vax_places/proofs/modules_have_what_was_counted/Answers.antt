@@ -1,5 +1,0 @@
-use Rattle.vax_places.proofs.Walking.{is_stated}
-use Rattle.vax_places.proofs.modules_have_what_was_counted.Goals as goal
-
-pub returns : goal.returns
-returns c = λ source m assembled. is_stated source m assembled

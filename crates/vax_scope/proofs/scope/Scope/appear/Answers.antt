@@ -1,8 +1,0 @@
-use Rattle.vax_scope.specs.View.{scope_in}
-use Rattle.vax_scope.proofs.Range.{entry_is_in}
-use Rattle.vax_scope.proofs.scope.Scope.appear.Goals as goal
-
-pub invariant_of-drop : goal.invariant_of-drop
-invariant_of-drop c =
-    let before = c.replace-tables.result in
-    record { in_range = entry_is_in c.args.text.now (scope_in before.tables) (scope_in c.entry.new.self) before.in_range c.in_ok-number.ensures.scope }

@@ -1,7 +1,0 @@
--- What the scope means.
-use Rattle.vax_scope.specs.Scope as specs
-use Rattle.vax_scope.specs.View.{scope_in}
-use Rattle.vax_scope.specs.declared.scope.Scope.{Scope}
-
-abbrev pub scope_of : Scope → specs.Scope
-scope_of s = scope_in s.tables

@@ -1,9 +1,0 @@
--- What the code's places mean.
-use Rattle.vax_scope.specs.Used as specs
-use Rattle.vax_scope.specs.declared.place.Place.{Place}
-use Rattle.vax_scope.specs.declared.place.Place.TheVariants.{Term, Caret, Mask}
-
-abbrev pub place_of : Place → specs.Place
-place_of Term = specs.at_term
-place_of Caret = specs.behind_caret
-place_of Mask = specs.in_mask

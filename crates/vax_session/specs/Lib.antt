@@ -1,2 +1,0 @@
-pub mod SessionWent
-pub mod Holding

@@ -1,9 +1,0 @@
--- Faults that an expression has whatever the definitions in it are worth that have no value yet.
-use Rattle.std.specs.Prelude.{ℕ, Option}
-use Rattle.vax_lex.specs.Certain.{certain_at}
-use Rattle.vax_lex.specs.declared.value.Value.{Value}
-use Rattle.vax_lex.specs.declared.value.ExprError.{ExprError}
-use Rattle.vax_values.specs.Values.{Written, named}
-
-abbrev pub certain : (ℕ → Option Value) → Written → Option ExprError
-certain values w = certain_at (named values w.names) w.symbols
