@@ -3,7 +3,7 @@ use Rattle.vax_outside.specs.Faults.{Rose}
 use Rattle.vax_machine.specs.Meaning.{engine}
 use Rattle.vax_script.specs.Requests.{readings}
 use Rattle.vax_command.proofs.SessionLaws.{cut_off, lost, read_out, timed_out}
-use Rattle.vax_command.proofs.hold.Goals as goal
+use Rattle.vax_command.proofs.session.hold.Goals as goal
 
 pub returns-in-Read-clause-went : goal.returns-in-Read-clause-went
 returns-in-Read-clause-went g c = λ frames m f.

@@ -4,7 +4,7 @@ use Rattle.vax_image.specs.Start.{Start}
 use Rattle.vax_cli.specs.Said.{options as said_options}
 use Rattle.vax_command.specs.Loaded.{loaded_seen}
 use Rattle.vax_command.proofs.SessionLaws.{held_went}
-use Rattle.vax_command.proofs.hold_session.Goals as goal
+use Rattle.vax_command.proofs.session.hold_session.Goals as goal
 
 pub returns-in-Ok-clause-held : goal.returns-in-Ok-clause-held
 returns-in-Ok-clause-held g c =
