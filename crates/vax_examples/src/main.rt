@@ -1,118 +1,68 @@
-//! Runs each example, and shows its output and its report.
+//! Runs each example over the system's files, and then each row of the files in `rows` over objects in memory, and shows what each leaves.
 #![tactic(auto)]
 
+mod rows;
+mod setup;
+
+use crate::rows::show_rows;
 use std::alloc::{AllocError, Global};
+use std::fs;
 use vax_outside::{HostFiles, HostPages, HostSink};
 use vax_top::vax_main;
 
-/// The examples, in the order in which they are to be read: the line that is typed, and the words of the call.
-const EXAMPLES: [(&str, &[&str]); 25] = [
-    ("$ vax bare literals.mar", &["bare", "literals.mar"]),
-    ("$ vax bare registers.mar", &["bare", "registers.mar"]),
-    (
-        "$ vax bare autoincrement.mar",
-        &["bare", "autoincrement.mar"],
-    ),
-    ("$ vax bare overflow.mar", &["bare", "overflow.mar"]),
-    ("$ vax bare carry.mar", &["bare", "carry.mar"]),
-    (
-        "$ vax bare autoincrement.mar --schedule third-turns.txt",
-        &["bare", "autoincrement.mar", "--schedule", "third-turns.txt"],
-    ),
-    (
-        "$ vax bare autoincrement.mar --dump 80000400:12",
-        &["bare", "autoincrement.mar", "--dump", "80000400:12"],
-    ),
-    (
-        "$ vax list autoincrement.mar --base bare",
-        &["list", "autoincrement.mar", "--base", "bare"],
-    ),
-    (
-        "$ vax console autoincrement.mar --base bare --script session.txt",
-        &[
-            "console",
-            "autoincrement.mar",
-            "--base",
-            "bare",
-            "--script",
-            "session.txt",
-        ],
-    ),
-    ("$ vax run hello.mar", &["run", "hello.mar"]),
-    (
-        "$ vax run capitals.mar --input verse.txt",
-        &["run", "capitals.mar", "--input", "verse.txt"],
-    ),
-    (
-        "$ vax run count.mar number.mar --input verse.txt",
-        &["run", "count.mar", "number.mar", "--input", "verse.txt"],
-    ),
-    (
-        "$ vax run sort.mar number.mar",
-        &["run", "sort.mar", "number.mar"],
-    ),
-    (
-        "$ vax run fibonacci.mar number.mar",
-        &["run", "fibonacci.mar", "number.mar"],
-    ),
-    (
-        "$ vax run search.mar number.mar",
-        &["run", "search.mar", "number.mar"],
-    ),
-    (
-        "$ vax run factorial.mar number.mar",
-        &["run", "factorial.mar", "number.mar"],
-    ),
-    ("$ vax run hanoi.mar", &["run", "hanoi.mar"]),
-    ("$ vax run queue.mar", &["run", "queue.mar"]),
-    ("$ vax run rot13.mar", &["run", "rot13.mar"]),
-    (
-        "$ vax run macros.mar number.mar",
-        &["run", "macros.mar", "number.mar"],
-    ),
-    (
-        "$ vax run large.mar number.mar",
-        &["run", "large.mar", "number.mar"],
-    ),
-    (
-        "$ vax run large.mar number.mar --frames 64 --schedule thousandth-turns.txt",
-        &[
-            "run",
-            "large.mar",
-            "number.mar",
-            "--frames",
-            "64",
-            "--schedule",
-            "thousandth-turns.txt",
-        ],
-    ),
-    ("$ vax bare trap.mar", &["bare", "trap.mar"]),
-    ("$ vax bare clock.mar", &["bare", "clock.mar"]),
-    (
-        "$ vax run hello.mar --system hexadecimal.mar",
-        &["run", "hello.mar", "--system", "hexadecimal.mar"],
-    ),
+/// The calls that show the examples, a line each, in the order in which they are to be read.
+const CALLS: &str = "calls.txt";
+
+/// The files of rows.
+const ROWS: [&str; 10] = [
+    "rows/pages.txt",
+    "rows/instructions.txt",
+    "rows/modes.txt",
+    "rows/strings.txt",
+    "rows/assembly.txt",
+    "rows/linking.txt",
+    "rows/images.txt",
+    "rows/executive.txt",
+    "rows/console.txt",
+    "rows/refusals.txt",
 ];
 
-/// Words as the program is given them.
-fn owned(alloc: Global, words: &[&str]) -> Result<Vec<String>, AllocError> {
+/// The words of a line behind the program's name, as the program is given them. A word `''` is the empty one.
+fn words_of(alloc: Global, line: &str) -> Result<Vec<String>, AllocError> {
     let mut all = Vec::new(alloc);
-    for word in words {
+    for word in line.split(' ').skip(1) {
+        let word = if word == "''" { "" } else { word };
         all.push(String::from_str(alloc, word)?)?;
     }
     Ok(all)
 }
 
+/// Makes the call of a line over the system's files, with all that it writes on standard output.
+fn show(rt: HostRuntime, line: &str) -> anyhow::Result<()> {
+    println!(rt; "$ {line}")?;
+    let words = words_of(rt.alloc(), line)?;
+    let mut files = HostFiles::new(rt);
+    let mut sink = HostSink::new(rt.stdout(), rt.stdout(), rt);
+    let mut pages = HostPages::new(rt);
+    let status = vax_main(
+        rt.alloc(),
+        words.as_slice(),
+        &mut files,
+        &mut sink,
+        &mut pages,
+    );
+    println!(rt; "status {}\n", status.code())?;
+    Ok(())
+}
+
 fn main(rt: HostRuntime) -> anyhow::Result<()> {
-    let alloc = rt.alloc();
-    for (line, words) in EXAMPLES {
-        println!(rt; "{line}")?;
-        let words = owned(alloc, words)?;
-        let mut files = HostFiles::new(rt);
-        let mut sink = HostSink::new(rt.stdout(), rt.stdout(), rt);
-        let mut pages = HostPages::new(rt);
-        let status = vax_main(alloc, words.as_slice(), &mut files, &mut sink, &mut pages);
-        println!(rt; "status {}\n", status.code())?;
+    let calls = fs::read_to_string(&rt, CALLS)?;
+    for line in calls.lines() {
+        show(rt, line)?;
+    }
+    for name in ROWS {
+        let text = fs::read_to_string(&rt, name)?;
+        show_rows(&rt, rt.alloc(), text.as_str())?;
     }
     Ok(())
 }

@@ -1,0 +1,115 @@
+//! Files of rows: calls of the program over objects in memory.
+//!
+//! `file NAME` and `bytes NAME` begin a file, whose text or bytes stand in the lines behind it, four blanks further in; it stays until the name
+//! is given another one. `cut` takes the last end of line off it, and `blanks N` appends N blanks. `fail OBJECT read N` or `fail OBJECT write N` lets the
+//! Nth such call of `files`, `channels` or `pages` fail, and `any blocks` leaves the writes of blocks uncounted, both in the next call alone.
+//! `$ vax WORDS` makes the call. Lines that begin with `#`, and empty ones, are shown as they are.
+use crate::setup::{Form, Setup};
+use crate::words_of;
+use anyhow::{Result, bail};
+use std::alloc::Global;
+use std::io::Print;
+use vax_outside::{Chan, MemPages, MemSink};
+use vax_top::vax_main;
+
+/// Shows what a channel was written: a text as it is, and few bytes, or their number.
+fn show_channel<R: Print>(rt: &R, bytes: &[u8]) -> Result<()> {
+    if bytes
+        .iter()
+        .all(|byte| matches!(byte, b'\t' | b'\n' | b' '..=b'~'))
+    {
+        let text = str::from_utf8(bytes)?;
+        rt.print(text)?;
+        if !text.is_empty() && !text.ends_with('\n') {
+            rt.println("")?;
+        }
+    } else if bytes.len() <= 64 {
+        for line in bytes.chunks(16) {
+            for byte in line {
+                print!(rt; " {byte:02X}")?;
+            }
+            rt.println("")?;
+        }
+    } else {
+        println!(rt; "{} bytes", bytes.len())?;
+    }
+    Ok(())
+}
+
+/// Shows what a call left: Out and Report, Record where there is one, how many blocks were written, and its exit status.
+fn show_call<R: Print>(
+    rt: &R,
+    sink: &MemSink,
+    blocks: Option<&MemPages>,
+    status: u8,
+) -> Result<()> {
+    show_channel(rt, sink.bytes(Chan::Out))?;
+    show_channel(rt, sink.bytes(Chan::Report))?;
+    if !sink.bytes(Chan::Record).is_empty() {
+        rt.println("record:")?;
+        show_channel(rt, sink.bytes(Chan::Record))?;
+    }
+    if let Some(pages) = blocks {
+        let count = pages.writes().len();
+        if count > 0 {
+            println!(rt; "blocks written: {count}")?;
+        }
+    }
+    println!(rt; "status {status}")?;
+    Ok(())
+}
+
+/// Makes a call, and shows what it left.
+fn call<R: Print>(rt: &R, alloc: Global, setup: &mut Setup, line: &str) -> Result<()> {
+    let (mut files, mut sink, mut pages) = setup.objects()?;
+    let words = words_of(alloc, line)?;
+    let status = vax_main(alloc, words.as_slice(), &mut files, &mut sink, &mut pages);
+    let blocks = if setup.has_any_blocks {
+        None
+    } else {
+        Some(&pages)
+    };
+    setup.has_any_blocks = false;
+    show_call(rt, &sink, blocks, status.code())
+}
+
+/// Carries out a line that sets something up, and answers how the lines behind it give bytes.
+fn prepare(setup: &mut Setup, line: &str) -> Result<Form> {
+    if let Some(name) = line.strip_prefix("file ") {
+        setup.begin(name)?;
+    } else if let Some(name) = line.strip_prefix("bytes ") {
+        setup.begin(name)?;
+        return Ok(Form::Hexadecimal);
+    } else if let Some(count) = line.strip_prefix("blanks ") {
+        setup.append_blanks(count)?;
+    } else if let Some(said) = line.strip_prefix("fail ") {
+        setup.fail(said)?;
+    } else if line == "cut" {
+        setup.cut();
+    } else if line == "any blocks" {
+        setup.has_any_blocks = true;
+    } else {
+        bail!("a line of rows that has no meaning");
+    }
+    Ok(Form::Text)
+}
+
+/// Carries out the lines of a file of rows in their order.
+pub(crate) fn show_rows<R: Print>(rt: &R, alloc: Global, text: &str) -> Result<()> {
+    let mut setup = Setup::new(alloc);
+    let mut form = Form::Text;
+    for line in text.lines() {
+        if let Some(said) = line.strip_prefix("    ") {
+            setup.go_on(form, said)?;
+        } else if let Some(words) = line.strip_prefix("$ ") {
+            rt.println(line)?;
+            call(rt, alloc, &mut setup, words)?;
+        } else if line.is_empty() || line.starts_with('#') {
+            rt.println(line)?;
+        } else {
+            form = prepare(&mut setup, line)?;
+        }
+    }
+    rt.println("")?;
+    Ok(())
+}
