@@ -6,12 +6,10 @@
 
 mod due;
 mod line;
-mod lines;
 mod print;
 mod reader;
 mod rule;
 mod schedule;
-mod words;
 
 pub use print::push_at;
 pub use reader::{SchedError, read};
