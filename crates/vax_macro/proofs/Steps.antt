@@ -26,26 +26,16 @@ too_many names r line lines rest h k =
     let f : nat_le 100000 rest.read ≡ true = grind (arith, nat_tests) in
     rw (e, f) refl
 
--- lines that are too long together
-pub too_wide : (names : List ℕ → Option Value) (r : Reading) (line : SourceLine) (lines : List SourceLine) (rest : Rest) → length line.text ≤ 1024 → rest.read < 100000
-    → is_long (r.text ++ line.text) ≡ true → read_on names r (line ∷ lines) rest ≡ Faults r.number (rest.read + 1) faults.Token
-unfolding read_on
-too_wide names r line lines rest h k g =
-    let e : is_long line.text ≡ false = grind (arith, nat_tests) in
-    let f : nat_le 100000 rest.read ≡ false = grind (arith, nat_tests) in
-    rw (e, f, g) refl
-
 -- a line that is joined with what stands before
 pub goes_on : (names : List ℕ → Option Value) (r : Reading) (line : SourceLine) (lines : List SourceLine) (rest : Rest) → length line.text ≤ 1024 → rest.read < 100000
-    → is_long (r.text ++ line.text) ≡ false
     → read_on names r (line ∷ lines) rest
-    ≡ joined_with r (r.text ++ line.text) line.text (dash_in (pieces_of (r.text ++ line.text)))
+    ≡ joined_with (rest.read + 1) r (r.text ++ line.text) line.text (dash_in (pieces_of (r.text ++ line.text)))
     (λ whole. line_step names whole (record rest { lines = lines; read = rest.read + 1 })) (λ more. read_on names more lines (record rest { read = rest.read + 1 }))
 unfolding read_on
-goes_on names r line lines rest h k g =
+goes_on names r line lines rest h k =
     let e : is_long line.text ≡ false = grind (arith, nat_tests) in
     let f : nat_le 100000 rest.read ≡ false = grind (arith, nat_tests) in
-    rw (e, f, g) refl
+    rw (e, f) refl
 
 -- the first of some steps
 pub opens : (left : ℕ) (names : List ℕ → Option Value) (rest : Rest) → 0 < left → opened left names rest ≡ behind (left - 1) (step names rest) (λ after. opened (left - 1) names after)

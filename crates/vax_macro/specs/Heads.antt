@@ -104,7 +104,7 @@ unfoldable pub word_of : List ℕ → Word
 word_of name =
     if spells (codes ".MACRO") name then macro_word
     else (if spells (codes ".ENDM") name then end_macro
-    else (if spells (codes ".REPT") name then repeat
+    else (if spells (codes ".REPT") name || spells (codes ".REPEAT") name then repeat
     else (if spells (codes ".IRP") name then repeat_arguments
     else (if spells (codes ".IRPC") name then repeat_characters
     else (if spells (codes ".ENDR") name then end_repeat
