@@ -13,6 +13,7 @@ mod rule;
 mod schedule;
 mod words;
 
+pub use due::Targets;
 pub use print::push_at;
 pub use reader::{SchedError, read};
 pub use rule::{Fixed, Repeated, Rule, Target};
