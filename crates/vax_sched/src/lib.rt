@@ -11,6 +11,7 @@ mod reader;
 mod rule;
 mod schedule;
 
+pub use due::Targets;
 pub use print::push_at;
 pub use reader::{SchedError, read};
 pub use rule::{Fixed, Repeated, Rule, Target};
