@@ -1,8 +1,9 @@
-// Directives of data as they are written.
+//! Directives of data as they are written.
 ghost use Rattle.std.specs.Prelude.{◌≤◌, length};
 
 use vax_asm_data::*;
 use std::alloc::Global;
+use std::process::Abort;
 use std::rc::Rc;
 use std::test::Fail;
 use vax_lex::{Token, Value, scan};
@@ -51,72 +52,101 @@ fn stated(
     }
 }
 
-fn fault(kind: FaultKind) -> Result<u32, Refused> {
-    Err(Refused::Fault(kind))
+/// What directives give one behind another: how long the section is then, or the fault.
+fn test_behind(
+    rt: &impl Abort,
+    alloc: Global,
+    standing: &mut Standing,
+    rows: &[(Directive, &str, Result<u32, FaultKind>)],
+) -> Result<(), Fail> {
+    for (directive, text, want) in rows {
+        assert!(rt; text.len() <= 1024, "{text}");
+        let want = match want {
+            Ok(size) => Ok(*size),
+            Err(kind) => Err(Refused::Fault(*kind)),
+        };
+        let found = stated(alloc, standing, *directive, text.as_bytes())?;
+        assert!(rt; found == want, "{text}");
+    }
+    Ok(())
 }
 
-/// The length of a section with this directive alone, or the fault.
-fn alone(alloc: Global, directive: Directive, text: &[u8]) -> Result<Result<u32, Refused>, Fail>
-    requires { length text.now ≤ 1024 }
-{
-    let mut standing = Standing::new(alloc)?;
-    stated(alloc, &mut standing, directive, text)
+/// What directives give, each alone in a section.
+fn test_alone(
+    rt: &impl Abort,
+    alloc: Global,
+    rows: &[(Directive, &str, Result<u32, FaultKind>)],
+) -> Result<(), Fail> {
+    for row in rows {
+        let mut standing = Standing::new(alloc)?;
+        test_behind(rt, alloc, &mut standing, &[*row])?;
+    }
+    Ok(())
 }
+
+const BYTES: Directive = Directive::Data(Size::B);
+
+const WORDS: Directive = Directive::Data(Size::W);
+
+const LONGWORDS: Directive = Directive::Space(Size::L);
 
 #[test]
 fn lays_out_items(rt: HostRuntime) -> Result<(), Fail> {
-    let alloc = rt.alloc();
-    let bytes = Directive::Data(Size::B);
-    let words = Directive::Data(Size::W);
-    assert!(rt; alone(alloc, bytes, b".BYTE 1, -128, 255")? == Ok(3));
-    assert!(rt; alone(alloc, words, b".WORD 2[3], X")? == Ok(8));
-    assert!(rt; alone(alloc, Directive::Data(Size::Q), b".QUAD 1[0]")? == Ok(0));
-    assert!(rt; alone(alloc, Directive::Addresses, b".ADDRESS X, Y+2")? == Ok(8));
-    assert!(rt; alone(alloc, bytes, b".BYTE")? == fault(FaultKind::Count));
-    assert!(rt; alone(alloc, bytes, b".BYTE 256, 1")? == fault(FaultKind::Range));
-    assert!(rt; alone(alloc, bytes, b".BYTE 256, 1,")? == fault(FaultKind::Form));
-    assert!(rt; alone(alloc, bytes, b".BYTE .")? == fault(FaultKind::Form));
-    assert!(rt; alone(alloc, bytes, b".BYTE 1[N]")? == fault(FaultKind::Undefined));
-    assert!(rt; alone(alloc, bytes, b".BYTE 1[-1]")? == fault(FaultKind::Range));
-    assert!(rt; alone(alloc, Directive::Data(Size::L), b".LONG X+X/0")? == fault(FaultKind::Range));
-    assert!(rt; alone(alloc, bytes, b".BYTE 1[X/0]")? == fault(FaultKind::Undefined));
-    assert!(rt; alone(alloc, words, b".WORD 1[600000]")? == fault(FaultKind::Large));
-    assert!(rt; alone(alloc, Directive::Addresses, b".ADDRESS X[2]")? == fault(FaultKind::Form));
-    Ok(())
+    let rows = [
+        (BYTES, ".BYTE 1, -128, 255", Ok(3)),
+        (WORDS, ".WORD 2[3], X", Ok(8)),
+        (Directive::Data(Size::Q), ".QUAD 1[0]", Ok(0)),
+        (Directive::Addresses, ".ADDRESS X, Y+2", Ok(8)),
+        (BYTES, ".BYTE", Err(FaultKind::Count)),
+        (BYTES, ".BYTE 256, 1", Err(FaultKind::Range)),
+        (BYTES, ".BYTE 256, 1,", Err(FaultKind::Form)),
+        (BYTES, ".BYTE .", Err(FaultKind::Form)),
+        (BYTES, ".BYTE 1[N]", Err(FaultKind::Undefined)),
+        (BYTES, ".BYTE 1[-1]", Err(FaultKind::Range)),
+        (Directive::Data(Size::L), ".LONG X+X/0", Err(FaultKind::Range)),
+        (BYTES, ".BYTE 1[X/0]", Err(FaultKind::Undefined)),
+        (WORDS, ".WORD 1[600000]", Err(FaultKind::Large)),
+        (Directive::Addresses, ".ADDRESS X[2]", Err(FaultKind::Form)),
+    ];
+    test_alone(&rt, rt.alloc(), &rows)
 }
 
 #[test]
 fn lays_out_room_and_boundaries(rt: HostRuntime) -> Result<(), Fail> {
     let alloc = rt.alloc();
-    assert!(rt; alone(alloc, Directive::Space(Size::L), b".BLKL")? == Ok(4));
-    assert!(rt; alone(alloc, Directive::Space(Size::L), b".BLKL 2+1")? == Ok(12));
-    assert!(rt; alone(alloc, Directive::Space(Size::B), b".BLKB 1,2")? == fault(FaultKind::Count));
+    let rows = [
+        (LONGWORDS, ".BLKL", Ok(4)),
+        (LONGWORDS, ".BLKL 2+1", Ok(12)),
+        (Directive::Space(Size::B), ".BLKB 1,2", Err(FaultKind::Count)),
+        (Directive::Align, ".ALIGN 10", Err(FaultKind::Range)),
+        (Directive::Align, ".ALIGN X", Err(FaultKind::Undefined)),
+        (Directive::Align, ".ALIGN", Err(FaultKind::Count)),
+        (Directive::Even, ".EVEN 1", Err(FaultKind::Count)),
+    ];
+    test_alone(&rt, alloc, &rows)?;
     let mut standing = Standing::new(alloc)?;
-    let byte = Directive::Data(Size::B);
-    assert!(rt; stated(alloc, &mut standing, byte, b".BYTE 7")? == Ok(1));
-    assert!(rt; stated(alloc, &mut standing, Directive::Even, b".EVEN")? == Ok(2));
-    assert!(rt; stated(alloc, &mut standing, Directive::Align, b".ALIGN 2")? == Ok(4));
-    assert!(rt; stated(alloc, &mut standing, byte, b".BYTE 7")? == Ok(5));
-    assert!(rt; stated(alloc, &mut standing, Directive::Align, b".ALIGN Quad")? == Ok(8));
+    let rows = [
+        (BYTES, ".BYTE 7", Ok(1)),
+        (Directive::Even, ".EVEN", Ok(2)),
+        (Directive::Align, ".ALIGN 2", Ok(4)),
+        (BYTES, ".BYTE 7", Ok(5)),
+        (Directive::Align, ".ALIGN Quad", Ok(8)),
+    ];
+    test_behind(&rt, alloc, &mut standing, &rows)?;
     assert!(rt; standing.layout.current().align == 3);
-    assert!(rt; alone(alloc, Directive::Align, b".ALIGN 10")? == fault(FaultKind::Range));
-    assert!(rt; alone(alloc, Directive::Align, b".ALIGN X")? == fault(FaultKind::Undefined));
-    assert!(rt; alone(alloc, Directive::Align, b".ALIGN")? == fault(FaultKind::Count));
-    assert!(rt; alone(alloc, Directive::Even, b".EVEN 1")? == fault(FaultKind::Count));
     Ok(())
 }
 
 #[test]
 fn lays_out_text(rt: HostRuntime) -> Result<(), Fail> {
-    let alloc = rt.alloc();
     let plain = Directive::Text(TextForm::Plain);
-    let counted = Directive::Text(TextForm::CountFirst);
-    let ended = Directive::Text(TextForm::ZeroLast);
-    assert!(rt; alone(alloc, plain, b".ASCII /ab/<13>/c/<X>")? == Ok(5));
-    assert!(rt; alone(alloc, counted, b".ASCIC /ab/<13>")? == Ok(4));
-    assert!(rt; alone(alloc, ended, b".ASCIZ //")? == Ok(1));
-    assert!(rt; alone(alloc, plain, b".ASCII <256>")? == fault(FaultKind::Range));
-    assert!(rt; alone(alloc, plain, b".ASCII -1")? == fault(FaultKind::Form));
-    assert!(rt; alone(alloc, plain, b".ASCII")? == fault(FaultKind::Count));
-    Ok(())
+    let rows = [
+        (plain, ".ASCII /ab/<13>/c/<X>", Ok(5)),
+        (Directive::Text(TextForm::CountFirst), ".ASCIC /ab/<13>", Ok(4)),
+        (Directive::Text(TextForm::ZeroLast), ".ASCIZ //", Ok(1)),
+        (plain, ".ASCII <256>", Err(FaultKind::Range)),
+        (plain, ".ASCII -1", Err(FaultKind::Form)),
+        (plain, ".ASCII", Err(FaultKind::Count)),
+    ];
+    test_alone(&rt, rt.alloc(), &rows)
 }

@@ -1,4 +1,4 @@
-// Operands as the manual shows them.
+//! Operands as the manual shows them.
 use vax_asm_encode::*;
 use std::alloc::Global;
 use std::test::Fail;
@@ -67,18 +67,37 @@ fn stands_by_the_manual(rt: HostRuntime) {
         letter: Letter::Address,
         width: 1,
     };
-    assert!(rt; !may_stand(written, Operand::Literal));
-    assert!(rt; !may_stand(written, Operand::Immediate));
-    assert!(rt; !may_stand(written, Operand::Register(14)));
-    assert!(rt; may_stand(written, Operand::Register(13)));
-    assert!(rt; !may_stand(address, Operand::Register(1)));
-    assert!(rt; may_stand(address, Operand::Immediate));
-    assert!(rt; !may_stand(READ_LONG, Operand::Memory(Base::Increment(15))));
-    assert!(rt; !may_stand(READ_LONG, Operand::Indexed(Base::Increment(2), 2)));
-    assert!(rt; may_stand(READ_LONG, Operand::Indexed(Base::Deferred(2), 2)));
-    assert!(rt; !may_stand(READ_LONG, Operand::Indexed(Base::Absolute, 15)));
+    let rows = [
+        (written, Operand::Literal, false),
+        (written, Operand::Immediate, false),
+        (written, Operand::Register(14), false),
+        (written, Operand::Register(13), true),
+        (address, Operand::Register(1), false),
+        (address, Operand::Immediate, true),
+        (READ_LONG, Operand::Memory(Base::Increment(15)), false),
+        (READ_LONG, Operand::Indexed(Base::Increment(2), 2), false),
+        (READ_LONG, Operand::Indexed(Base::Deferred(2), 2), true),
+        (READ_LONG, Operand::Indexed(Base::Absolute, 15), false),
+    ];
+    for (i, (kind, operand, may)) in rows.into_iter().enumerate() {
+        assert!(rt; may_stand(kind, operand) == may, "row {i}");
+    }
     assert!(rt; field_of(READ_LONG, Operand::Immediate) == Some(Field::Number(Size::L)));
     assert!(rt; field_of(BRANCH, Operand::Branch) == Some(Field::Relative(Narrow::B)));
+}
+
+const fn number(number: u64) -> Result<Filled, FieldFault> {
+    Ok(Filled {
+        number,
+        reloc: None,
+    })
+}
+
+const fn linked(kind: RelocKind) -> Result<Filled, FieldFault> {
+    Ok(Filled {
+        number: 0,
+        reloc: Some(kind),
+    })
 }
 
 #[test]
@@ -87,25 +106,25 @@ fn fills_fields(rt: HostRuntime) {
         section: 1,
         offset: 0,
     };
-    let number = |n: u64| Ok(Filled {
-        number: n,
-        reloc: None,
-    });
-    let linked = |kind: RelocKind| Ok(Filled {
-        number: 0,
-        reloc: Some(kind),
-    });
-    // a branch from just past 128 and 129
-    assert!(rt; fill(Field::Relative(Narrow::B), 1, 127, place) == number(0xFFFF_FF80));
-    assert!(rt; fill(Field::Relative(Narrow::B), 1, 128, place) == Err(FieldFault::Range));
-    assert!(rt; fill(Field::Relative(Narrow::B), 2, 128, place) == linked(RelocKind::RelByte));
-    assert!(rt; fill(Field::Number(Size::B), 0, 0, Value::Absolute(255)) == number(255));
-    assert!(rt; fill(Field::Number(Size::B), 0, 0, Value::Absolute(256)) == Err(FieldFault::Range));
-    assert!(rt; fill(Field::Number(Size::W), 0, 0, Value::Absolute(-32768)) == number(0x8000));
-    assert!(rt; fill(Field::Number(Size::W), 0, 0, place) == Err(FieldFault::Form));
-    assert!(rt; fill(Field::Number(Size::L), 0, 0, place) == linked(RelocKind::Long));
-    assert!(rt; fill(Field::Number(Size::Q), 0, 0, Value::Absolute(-1)) == number(0xFFFF_FFFF_FFFF_FFFF));
-    assert!(rt; fill(Field::Displacement(Narrow::W), 0, 0, Value::Absolute(32768)) == Err(FieldFault::Range));
-    assert!(rt; fill(Field::Displacement(Narrow::W), 0, 0, place) == linked(RelocKind::Word));
-    assert!(rt; fill(Field::Literal, 0, 0, Value::Absolute(64)) == Err(FieldFault::Range));
+    let relative = Field::Relative(Narrow::B);
+    let displacement = Field::Displacement(Narrow::W);
+    let rows = [
+        // a branch from just past 128 and 129
+        (relative, (1, 127), place, number(0xFFFF_FF80)),
+        (relative, (1, 128), place, Err(FieldFault::Range)),
+        (relative, (2, 128), place, linked(RelocKind::RelByte)),
+        (Field::Number(Size::B), (0, 0), Value::Absolute(255), number(255)),
+        (Field::Number(Size::B), (0, 0), Value::Absolute(256), Err(FieldFault::Range)),
+        (Field::Number(Size::W), (0, 0), Value::Absolute(-32768), number(0x8000)),
+        (Field::Number(Size::W), (0, 0), place, Err(FieldFault::Form)),
+        (Field::Number(Size::L), (0, 0), place, linked(RelocKind::Long)),
+        (Field::Number(Size::Q), (0, 0), Value::Absolute(-1), number(u64::MAX)),
+        (displacement, (0, 0), Value::Absolute(32768), Err(FieldFault::Range)),
+        (displacement, (0, 0), place, linked(RelocKind::Word)),
+        (Field::Literal, (0, 0), Value::Absolute(64), Err(FieldFault::Range)),
+    ];
+    for (i, (field, (section, at), value, want)) in rows.into_iter().enumerate() {
+        assert!(rt; at < 1000, "row {i}");
+        assert!(rt; fill(field, section, at, value) == want, "row {i}");
+    }
 }

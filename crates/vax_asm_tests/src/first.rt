@@ -1,4 +1,4 @@
-// What the first pass keeps.
+//! What the first pass keeps.
 use vax_asm_first::*;
 use std::rc::Rc;
 use std::test::Fail;
@@ -56,26 +56,34 @@ fn tells_expressions_where_they_stand(rt: HostRuntime) -> Result<(), Fail> {
 }
 
 #[test]
-fn tells_the_fault_that_counts(rt: HostRuntime) -> Result<(), Fail> {
+fn tells_the_fault_that_counts(rt: HostRuntime) {
     let form = Some(FaultKind::Form);
     let range = Some(FaultKind::Range);
-    assert!(rt; lowest(range, form) == form);
-    assert!(rt; lowest(None, range) == range);
-    assert!(rt; lowest(form, None) == form);
+    for (one, other, want) in [(range, form, form), (None, range, range), (form, None, form)] {
+        assert!(rt; lowest(one, other) == want);
+    }
     assert!(rt; unless_place(true, range) == form);
     assert!(rt; unless_place(false, range) == range);
-    let byte = Field::Number(Size::B);
+}
+
+#[test]
+fn tells_faults_of_values(rt: HostRuntime) {
     let label = Value::Section {
         section: 1,
         offset: 0,
     };
-    assert!(rt; fault_of_value(byte, 0, 0, Ok(Value::Absolute(255))) == None);
-    assert!(rt; fault_of_value(byte, 0, 0, Ok(Value::Absolute(256))) == range);
-    assert!(rt; fault_of_value(byte, 0, 0, Ok(label)) == form);
-    assert!(rt; fault_of_value(byte, 0, 0, Err(ExprError::Unknown)) == None);
-    assert!(rt; number_of(Ok(Value::Absolute(7))) == Ok(7));
-    assert!(rt; number_of(Ok(Value::Absolute(-1))) == Err(FaultKind::Range));
-    assert!(rt; number_of(Ok(label)) == Err(FaultKind::Form));
-    assert!(rt; number_of(Err(ExprError::Unknown)) == Err(FaultKind::Undefined));
-    Ok(())
+    // a value, its fault in a byte, and its number or its fault as a number
+    let rows = [
+        (Ok(Value::Absolute(7)), None, Ok(7)),
+        (Ok(Value::Absolute(255)), None, Ok(255)),
+        (Ok(Value::Absolute(256)), Some(FaultKind::Range), Ok(256)),
+        (Ok(Value::Absolute(-1)), None, Err(FaultKind::Range)),
+        (Ok(label), Some(FaultKind::Form), Err(FaultKind::Form)),
+        (Err(ExprError::Unknown), None, Err(FaultKind::Undefined)),
+    ];
+    for (i, (value, fault, number)) in rows.into_iter().enumerate() {
+        let found = fault_of_value(Field::Number(Size::B), 0, 0, value);
+        assert!(rt; found == fault, "row {i}");
+        assert!(rt; number_of(value) == number, "row {i}");
+    }
 }

@@ -1,13 +1,14 @@
-// Statements that define names and choose sections, as they are written.
+//! Statements that define names and choose sections, as they are written.
 ghost use Rattle.std.specs.Prelude.{◌≤◌, length};
 
 use vax_asm_labels::*;
 use std::alloc::Global;
+use std::process::Abort;
 use std::rc::Rc;
 use std::test::Fail;
 use vax_asm_sections::Piece;
 use vax_lex::{TokenKind, Value, scan};
-use vax_asm_first::{Assignment, Content, FaultKind, Filling, Origin, Refused, Standing, first_circle};
+use vax_asm_first::{Assignment, Content, FaultKind, Filling, Fixup, Origin, Refused, Standing, first_circle};
 use vax_asm_statement::Label;
 use vax_word::Size;
 
@@ -34,10 +35,6 @@ const ASSIGNMENT: Kind = Kind::Assignment { global: false };
 const GLOBALS: Kind = Kind::Names { global: true };
 
 const EXTERNALS: Kind = Kind::Names { global: false };
-
-fn fault(kind: FaultKind) -> Result<(), Refused> {
-    Err(Refused::Fault(kind))
-}
 
 /// A statement is carried out. Its name, if it begins with one, is the first token, and `=` or `==` stands behind it.
 fn stated_behind(
@@ -86,41 +83,61 @@ fn stated_behind(
     Ok(done)
 }
 
-/// The same, whatever waits for later statements.
-fn stated(
+/// Statements one behind another, each with its fault if it has one.
+fn test_behind(
+    rt: &impl Abort,
     alloc: Global,
     standing: &mut Standing,
-    kind: Kind,
-    text: &[u8],
-) -> Result<Result<(), Refused>, Fail>
-    requires { length text.now ≤ 1024 }
-{
-    let mut assignments = Vec::new(alloc);
-    stated_behind(alloc, standing, &mut assignments, kind, text)
+    assignments: &mut Vec<Assignment>,
+    rows: &[(Kind, &str, Option<FaultKind>)],
+) -> Result<(), Fail> {
+    for (kind, text, fault) in rows {
+        assert!(rt; text.len() <= 1024, "{text}");
+        let want = match fault {
+            Some(kind) => Err(Refused::Fault(*kind)),
+            None => Ok(()),
+        };
+        let found = stated_behind(alloc, standing, assignments, *kind, text.as_bytes())?;
+        assert!(rt; found == want, "{text}");
+    }
+    Ok(())
 }
 
-/// What a statement gives alone.
-fn alone(alloc: Global, kind: Kind, text: &[u8]) -> Result<Result<(), Refused>, Fail>
-    requires { length text.now ≤ 1024 }
-{
-    let mut standing = Standing::new(alloc)?;
-    stated(alloc, &mut standing, kind, text)
-}
-
-/// What a statement gives behind a label.
-fn behind_label(
+/// The same, whatever waits for later statements.
+fn test_stated(
+    rt: &impl Abort,
     alloc: Global,
-    name: &[u8],
-    kind: Kind,
-    text: &[u8],
-) -> Result<Result<(), Refused>, Fail>
-    requires name { length name.now ≤ 1024 }
-    requires text { length text.now ≤ 1024 }
-{
-    let mut standing = Standing::new(alloc)?;
-    match stated(alloc, &mut standing, LABEL, name)? {
-        Ok(()) => stated(alloc, &mut standing, kind, text),
-        Err(refused) => Ok(Err(refused)),
+    standing: &mut Standing,
+    rows: &[(Kind, &str, Option<FaultKind>)],
+) -> Result<(), Fail> {
+    test_behind(rt, alloc, standing, &mut Vec::new(alloc), rows)
+}
+
+/// Statements each alone in a source, but for a label before it where one is told.
+fn test_alone(
+    rt: &impl Abort,
+    alloc: Global,
+    rows: &[(Option<&str>, Kind, &str, Option<FaultKind>)],
+) -> Result<(), Fail> {
+    for (before, kind, text, fault) in rows {
+        let mut standing = Standing::new(alloc)?;
+        if let Some(name) = before {
+            test_stated(rt, alloc, &mut standing, &[(LABEL, *name, None)])?;
+        }
+        test_stated(rt, alloc, &mut standing, &[(*kind, *text, *fault)])?;
+    }
+    Ok(())
+}
+
+/// What names stand for where a statement stands.
+fn test_known(
+    rt: &impl Abort,
+    standing: &Standing,
+    here: Value,
+    rows: &[(&str, Option<Value>)],
+) {
+    for (name, value) in rows {
+        assert!(rt; standing.scope.known(name.as_bytes(), here) == *value, "{name}");
     }
 }
 
@@ -141,30 +158,28 @@ fn labels_have_the_value_of_their_place(rt: HostRuntime) -> Result<(), Fail> {
     let alloc = rt.alloc();
     let mut standing = Standing::new(alloc)?;
     let here = standing.here()?;
-    assert!(rt; stated(alloc, &mut standing, GLOBAL_LABEL, b"first")? == Ok(()));
+    test_stated(&rt, alloc, &mut standing, &[(GLOBAL_LABEL, "first", None)])?;
     standing.put(3, Piece::Zeros(3))?;
-    assert!(rt; stated(alloc, &mut standing, LABEL, b"010$")? == Ok(()));
-    assert!(rt; standing.scope.known(b"FIRST", here) == place(0, 0));
-    assert!(rt; standing.scope.known(b"10$", here) == place(0, 3));
+    test_stated(&rt, alloc, &mut standing, &[(LABEL, "010$", None)])?;
+    test_known(&rt, &standing, here, &[("FIRST", place(0, 0)), ("10$", place(0, 3))]);
     assert!(rt; first_is_global(&standing));
-    let again = stated(alloc, &mut standing, LABEL, b"FIRST")?;
-    assert!(rt; again == fault(FaultKind::Duplicate));
+    let again = [(LABEL, "FIRST", Some(FaultKind::Duplicate))];
+    test_stated(&rt, alloc, &mut standing, &again)?;
     // All is as before, the block of local labels too.
-    assert!(rt; standing.scope.known(b"10$", here) == place(0, 3));
-    assert!(rt; stated(alloc, &mut standing, LABEL, b"NEXT")? == Ok(()));
-    assert!(rt; standing.scope.known(b"10$", here) == None);
-    assert!(rt; stated(alloc, &mut standing, LABEL, b"10$")? == Ok(()));
-    Ok(())
+    test_known(&rt, &standing, here, &[("10$", place(0, 3))]);
+    test_stated(&rt, alloc, &mut standing, &[(LABEL, "NEXT", None)])?;
+    test_known(&rt, &standing, here, &[("10$", None)]);
+    test_stated(&rt, alloc, &mut standing, &[(LABEL, "10$", None)])
 }
 
 #[test]
 fn tells_the_faults_of_labels(rt: HostRuntime) -> Result<(), Fail> {
-    let alloc = rt.alloc();
-    assert!(rt; alone(alloc, GLOBAL_LABEL, b"10$")? == fault(FaultKind::Form));
-    assert!(rt; alone(alloc, LABEL, b".")? == fault(FaultKind::Form));
-    let again = behind_label(alloc, b"10$", LABEL, b"10$")?;
-    assert!(rt; again == fault(FaultKind::Duplicate));
-    Ok(())
+    let rows = [
+        (None, GLOBAL_LABEL, "10$", Some(FaultKind::Form)),
+        (None, LABEL, ".", Some(FaultKind::Form)),
+        (Some("10$"), LABEL, "10$", Some(FaultKind::Duplicate)),
+    ];
+    test_alone(&rt, rt.alloc(), &rows)
 }
 
 #[test]
@@ -174,37 +189,35 @@ fn assignments_may_wait_for_later_ones(rt: HostRuntime) -> Result<(), Fail> {
     let here = standing.here()?;
     let global = Kind::Assignment { global: true };
     let mut later = Vec::new(alloc);
-    let done = stated_behind(alloc, &mut standing, &mut later, global, b"X == Y+1")?;
-    assert!(rt; done == Ok(()));
-    assert!(rt; later.len() == 1);
+    test_behind(&rt, alloc, &mut standing, &mut later, &[(global, "X == Y+1", None)])?;
     let x = standing.scope.appear(alloc, b"X")?;
-    assert!(rt; later[0].definition == x);
+    assert!(rt; later.len() == 1 && later[0].definition == x);
     assert!(rt; first_is_global(&standing));
-    assert!(rt; standing.scope.known(b"X", here) == None);
-    let done = stated_behind(alloc, &mut standing, &mut later, ASSIGNMENT, b"Y = 4")?;
-    assert!(rt; done == Ok(()));
-    assert!(rt; standing.scope.known(b"X", here) == Some(Value::Absolute(5)));
-    assert!(rt; stated(alloc, &mut standing, ASSIGNMENT, b"X = X*2")? == Ok(()));
-    assert!(rt; standing.scope.known(b"X", here) == Some(Value::Absolute(10)));
-    assert!(rt; stated(alloc, &mut standing, ASSIGNMENT, b"Z = .")? == Ok(()));
-    assert!(rt; standing.scope.known(b"Z", here) == place(0, 0));
+    test_known(&rt, &standing, here, &[("X", None)]);
+    test_behind(&rt, alloc, &mut standing, &mut later, &[(ASSIGNMENT, "Y = 4", None)])?;
+    test_known(&rt, &standing, here, &[("X", Some(Value::Absolute(5)))]);
+    let rows = [(ASSIGNMENT, "X = X*2", None), (ASSIGNMENT, "Z = .", None)];
+    test_stated(&rt, alloc, &mut standing, &rows)?;
+    let rows = [("X", Some(Value::Absolute(10))), ("Z", place(0, 0))];
+    test_known(&rt, &standing, here, &rows);
     assert!(rt; later.len() == 1);
     Ok(())
 }
 
 #[test]
 fn tells_the_faults_of_assignments(rt: HostRuntime) -> Result<(), Fail> {
-    let alloc = rt.alloc();
-    let operator = fault(FaultKind::UnknownOperator);
-    assert!(rt; alone(alloc, ASSIGNMENT, b". = 5")? == operator);
-    assert!(rt; alone(alloc, ASSIGNMENT, b"10$ = 5")? == fault(FaultKind::Form));
-    assert!(rt; alone(alloc, ASSIGNMENT, b"X =")? == fault(FaultKind::Form));
-    assert!(rt; alone(alloc, ASSIGNMENT, b"X = 1/0")? == fault(FaultKind::Range));
-    assert!(rt; alone(alloc, ASSIGNMENT, b"X = Y/0")? == fault(FaultKind::Range));
-    let divided = behind_label(alloc, b"L", ASSIGNMENT, b"L = 1/0")?;
-    assert!(rt; divided == fault(FaultKind::Duplicate));
-    let formless = behind_label(alloc, b"L", ASSIGNMENT, b"L = )")?;
-    assert!(rt; formless == fault(FaultKind::Form));
+    let rows = [
+        (None, ". = 5", Some(FaultKind::UnknownOperator)),
+        (None, "10$ = 5", Some(FaultKind::Form)),
+        (None, "X =", Some(FaultKind::Form)),
+        (None, "X = 1/0", Some(FaultKind::Range)),
+        (None, "X = Y/0", Some(FaultKind::Range)),
+        (Some("L"), "L = 1/0", Some(FaultKind::Duplicate)),
+        (Some("L"), "L = )", Some(FaultKind::Form)),
+    ];
+    for (before, text, fault) in rows {
+        test_alone(&rt, rt.alloc(), &[(before, ASSIGNMENT, text, fault)])?;
+    }
     Ok(())
 }
 
@@ -213,13 +226,10 @@ fn a_circle_is_found_where_it_closes(rt: HostRuntime) -> Result<(), Fail> {
     let alloc = rt.alloc();
     let mut standing = Standing::new(alloc)?;
     let mut later = Vec::new(alloc);
-    let done = stated_behind(alloc, &mut standing, &mut later, ASSIGNMENT, b"X = Y")?;
-    assert!(rt; done == Ok(()));
-    let done = stated_behind(alloc, &mut standing, &mut later, ASSIGNMENT, b"Y = Z-Z")?;
-    assert!(rt; done == Ok(()));
-    assert!(rt; first_circle(alloc, &later)? == None);
-    let done = stated_behind(alloc, &mut standing, &mut later, ASSIGNMENT, b"Z = X")?;
-    assert!(rt; done == Ok(()));
+    let rows = [(ASSIGNMENT, "X = Y", None), (ASSIGNMENT, "Y = Z-Z", None)];
+    test_behind(&rt, alloc, &mut standing, &mut later, &rows)?;
+    assert!(rt; first_circle(alloc, &later)?.is_none());
+    test_behind(&rt, alloc, &mut standing, &mut later, &[(ASSIGNMENT, "Z = X", None)])?;
     assert!(rt; later.len() == 3);
     assert!(rt; first_circle(alloc, &later)? == Some(ORIGIN));
     Ok(())
@@ -229,32 +239,48 @@ fn a_circle_is_found_where_it_closes(rt: HostRuntime) -> Result<(), Fail> {
 fn chooses_sections_with_their_attributes(rt: HostRuntime) -> Result<(), Fail> {
     let alloc = rt.alloc();
     let mut standing = Standing::new(alloc)?;
-    let code = b".PSECT code,nowrt,PIC,LONG,NOWRT".as_slice();
-    assert!(rt; stated(alloc, &mut standing, Kind::Section, code)? == Ok(()));
+    let code = [(Kind::Section, ".PSECT code,nowrt,PIC,LONG,NOWRT", None)];
+    test_stated(&rt, alloc, &mut standing, &code)?;
     let section = standing.layout.current();
     assert!(rt; section.name.as_slice() == b"CODE".as_slice());
-    assert!(rt; section.align == 2);
-    assert!(rt; !section.write);
-    assert!(rt; stated(alloc, &mut standing, LABEL, b"1$")? == Ok(()));
-    assert!(rt; stated(alloc, &mut standing, Kind::Section, b".PSECT DATA")? == Ok(()));
+    assert!(rt; section.align == 2 && !section.write);
+    let data = [
+        (LABEL, "1$", None),
+        (Kind::Section, ".PSECT DATA", None),
+        (LABEL, "1$", None),
+    ];
+    test_stated(&rt, alloc, &mut standing, &data)?;
     assert!(rt; standing.layout.number() == 2);
-    assert!(rt; stated(alloc, &mut standing, LABEL, b"1$")? == Ok(()));
-    assert!(rt; stated(alloc, &mut standing, Kind::Section, b".PSECT CODE")? == Ok(()));
+    test_stated(&rt, alloc, &mut standing, &[(Kind::Section, ".PSECT CODE", None)])?;
     assert!(rt; standing.layout.number() == 1);
-    let conflict = stated(alloc, &mut standing, Kind::Section, b".PSECT DATA,NOWRT")?;
-    assert!(rt; conflict == fault(FaultKind::Form));
-    Ok(())
+    let conflict = [(Kind::Section, ".PSECT DATA,NOWRT", Some(FaultKind::Form))];
+    test_stated(&rt, alloc, &mut standing, &conflict)
 }
 
 #[test]
 fn tells_the_faults_of_sections(rt: HostRuntime) -> Result<(), Fail> {
-    let alloc = rt.alloc();
-    assert!(rt; alone(alloc, Kind::Section, b".PSECT")? == fault(FaultKind::Count));
-    assert!(rt; alone(alloc, Kind::Section, b".PSECT 10$")? == fault(FaultKind::Form));
-    assert!(rt; alone(alloc, Kind::Section, b".PSECT A,")? == fault(FaultKind::Form));
-    let twice = alone(alloc, Kind::Section, b".PSECT A,BYTE,WORD")?;
-    assert!(rt; twice == fault(FaultKind::Form));
-    Ok(())
+    let rows = [
+        (None, Kind::Section, ".PSECT", Some(FaultKind::Count)),
+        (None, Kind::Section, ".PSECT 10$", Some(FaultKind::Form)),
+        (None, Kind::Section, ".PSECT A,", Some(FaultKind::Form)),
+        (None, Kind::Section, ".PSECT A,BYTE,WORD", Some(FaultKind::Form)),
+    ];
+    test_alone(&rt, rt.alloc(), &rows)
+}
+
+/// Whether a section holds a word alone, with a value.
+fn holds_word(pieces: &[Piece<Fixup>], value: Value) -> bool {
+    let word = Content::Data {
+        size: Size::W,
+        count: 1,
+    };
+    match pieces {
+        [Piece::Field(fixup)] => match fixup.filling {
+            Filling::Known(known) => fixup.content == word && known == value,
+            Filling::Later(_) => false,
+        },
+        _ => false,
+    }
 }
 
 #[test]
@@ -262,61 +288,55 @@ fn entries_have_a_word_for_their_mask(rt: HostRuntime) -> Result<(), Fail> {
     let alloc = rt.alloc();
     let mut standing = Standing::new(alloc)?;
     let here = standing.here()?;
-    assert!(rt; stated(alloc, &mut standing, LABEL, b"1$")? == Ok(()));
-    let entry = b".ENTRY begin,^M<R2,R11>".as_slice();
-    assert!(rt; stated(alloc, &mut standing, Kind::Entry, entry)? == Ok(()));
-    assert!(rt; standing.scope.known(b"BEGIN", here) == place(0, 0));
-    assert!(rt; standing.scope.known(b"1$", here) == None);
+    let rows = [
+        (LABEL, "1$", None),
+        (Kind::Entry, ".ENTRY begin,^M<R2,R11>", None),
+    ];
+    test_stated(&rt, alloc, &mut standing, &rows)?;
+    test_known(&rt, &standing, here, &[("BEGIN", place(0, 0)), ("1$", None)]);
     assert!(rt; first_is_global(&standing));
     let section = standing.layout.current();
     assert!(rt; section.size == 2);
-    let [Piece::Field(fixup)] = section.pieces.as_slice() else {
-        return Err(Fail::from("no field"));
-    };
-    let word = Content::Data {
-        size: Size::W,
-        count: 1,
-    };
-    assert!(rt; fixup.content == word);
-    let Filling::Known(mask) = fixup.filling else {
-        return Err(Fail::from("no value"));
-    };
-    assert!(rt; mask == Value::Absolute(0x804));
+    assert!(rt; holds_word(section.pieces.as_slice(), Value::Absolute(0x804)));
     Ok(())
 }
 
 #[test]
 fn tells_the_faults_of_entries(rt: HostRuntime) -> Result<(), Fail> {
     let alloc = rt.alloc();
-    assert!(rt; alone(alloc, Kind::Entry, b".ENTRY X")? == fault(FaultKind::Count));
-    assert!(rt; alone(alloc, Kind::Entry, b".ENTRY 1$,1")? == fault(FaultKind::Form));
-    assert!(rt; alone(alloc, Kind::Entry, b".ENTRY X,1[2]")? == fault(FaultKind::Form));
-    let large = alone(alloc, Kind::Entry, b".ENTRY X,70000+X-X")?;
-    assert!(rt; large == fault(FaultKind::Range));
-    let again = behind_label(alloc, b"X", Kind::Entry, b".ENTRY X,70000")?;
-    assert!(rt; again == fault(FaultKind::Duplicate));
+    let rows = [
+        (None, Kind::Entry, ".ENTRY X", Some(FaultKind::Count)),
+        (None, Kind::Entry, ".ENTRY 1$,1", Some(FaultKind::Form)),
+        (None, Kind::Entry, ".ENTRY X,1[2]", Some(FaultKind::Form)),
+        (None, Kind::Entry, ".ENTRY X,70000+X-X", Some(FaultKind::Range)),
+        (Some("X"), Kind::Entry, ".ENTRY X,70000", Some(FaultKind::Duplicate)),
+    ];
+    test_alone(&rt, alloc, &rows)?;
     // Where the name is at fault the block of local labels is the one before.
     let mut standing = Standing::new(alloc)?;
-    assert!(rt; stated(alloc, &mut standing, LABEL, b"X")? == Ok(()));
-    assert!(rt; stated(alloc, &mut standing, LABEL, b"1$")? == Ok(()));
-    let before = stated(alloc, &mut standing, Kind::Entry, b".ENTRY X,1$")?;
-    assert!(rt; before == fault(FaultKind::Form));
-    Ok(())
+    let rows = [
+        (LABEL, "X", None),
+        (LABEL, "1$", None),
+        (Kind::Entry, ".ENTRY X,1$", Some(FaultKind::Form)),
+    ];
+    test_stated(&rt, alloc, &mut standing, &rows)
 }
 
 #[test]
 fn names_appear_in_their_order(rt: HostRuntime) -> Result<(), Fail> {
     let alloc = rt.alloc();
     let mut standing = Standing::new(alloc)?;
-    assert!(rt; stated(alloc, &mut standing, GLOBALS, b".GLOBAL b,A")? == Ok(()));
-    assert!(rt; stated(alloc, &mut standing, EXTERNALS, b".EXTERNAL c, b")? == Ok(()));
-    assert!(rt; stated(alloc, &mut standing, Kind::End, b".END a")? == Ok(()));
+    let rows = [
+        (GLOBALS, ".GLOBAL b,A", None),
+        (EXTERNALS, ".EXTERNAL c, b", None),
+        (Kind::End, ".END a", None),
+    ];
+    test_stated(&rt, alloc, &mut standing, &rows)?;
     let [first, second, third] = standing.scope.names() else {
         return Err(Fail::from("other names"));
     };
     assert!(rt; first.text.as_slice() == b"B".as_slice());
-    assert!(rt; second.global);
-    assert!(rt; !third.global);
+    assert!(rt; second.global && !third.global);
     let Some(transfer) = &standing.transfer else {
         return Err(Fail::from("no transfer"));
     };
@@ -327,12 +347,13 @@ fn names_appear_in_their_order(rt: HostRuntime) -> Result<(), Fail> {
 
 #[test]
 fn tells_the_faults_of_names(rt: HostRuntime) -> Result<(), Fail> {
-    let alloc = rt.alloc();
-    assert!(rt; alone(alloc, GLOBALS, b".GLOBAL")? == fault(FaultKind::Count));
-    assert!(rt; alone(alloc, GLOBALS, b".GLOBAL A,1$")? == fault(FaultKind::Form));
-    assert!(rt; alone(alloc, EXTERNALS, b".EXTERNAL .")? == fault(FaultKind::Form));
-    assert!(rt; alone(alloc, Kind::End, b".END")? == Ok(()));
-    assert!(rt; alone(alloc, Kind::End, b".END A,")? == fault(FaultKind::Count));
-    assert!(rt; alone(alloc, Kind::End, b".END A+1")? == fault(FaultKind::Form));
-    Ok(())
+    let rows = [
+        (None, GLOBALS, ".GLOBAL", Some(FaultKind::Count)),
+        (None, GLOBALS, ".GLOBAL A,1$", Some(FaultKind::Form)),
+        (None, EXTERNALS, ".EXTERNAL .", Some(FaultKind::Form)),
+        (None, Kind::End, ".END", None),
+        (None, Kind::End, ".END A,", Some(FaultKind::Count)),
+        (None, Kind::End, ".END A+1", Some(FaultKind::Form)),
+    ];
+    test_alone(&rt, rt.alloc(), &rows)
 }
