@@ -1,5 +1,6 @@
 //! Lines as they are read.
-use vax_script::{Line, Request, next_line, read_line};
+use vax_lines::next_line;
+use vax_script::{Line, Request, read_line};
 use std::test::Fail;
 
 #[test]
