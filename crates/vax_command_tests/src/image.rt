@@ -1,5 +1,5 @@
-use vax_image::*;
 use std::test::Fail;
+use vax_image::*;
 
 /// A program of four bytes at 80000200 that begins there, in version 1.
 const FIRST: [u8; 36] = [
@@ -59,7 +59,8 @@ fn tells_the_first_fault(rt: HostRuntime) -> Result<(), Fail> {
         (28, 3, (35, REST)),
         (9, 0, (8, TRANSFER)),
     ] {
-        assert!(rt; fault_with(&rt, &FIRST, place, byte)? == Some(fault),
+        assert!(rt;
+            fault_with(&rt, &FIRST, place, byte)? == Some(fault),
             "at {place}"
         );
     }
@@ -71,7 +72,8 @@ fn tells_the_first_fault(rt: HostRuntime) -> Result<(), Fail> {
         (40, 0xFF, (40, TEXT)),
         (28, 2, (8, TRANSFER)),
     ] {
-        assert!(rt; fault_with(&rt, &SECOND, place, byte)? == Some(fault),
+        assert!(rt;
+            fault_with(&rt, &SECOND, place, byte)? == Some(fault),
             "at {place}"
         );
     }

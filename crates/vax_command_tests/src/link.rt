@@ -3,11 +3,11 @@ ghost use Rattle.std.specs.Prelude.{◌≡◌, true, length, All, IfSome, IfOk};
 ghost use Rattle.vax_module.specs.Formed.{Formed, IsAlignment, IsKnown, IsFieldOf};
 ghost use Rattle.vax_image.specs.Image.{IsImage};
 
-use vax_space::Bytes;
-use vax_link::*;
 use std::test::Fail;
 use vax_image::{Base, Image, read, start, write};
+use vax_link::*;
 use vax_module::{Module, Reloc, RelocKind, Section, Symbol, Value};
+use vax_space::Bytes;
 
 /// The start of a section.
 const HERE: Value = Value::Section {

@@ -1,8 +1,8 @@
 // From files to images.
-use vax_program::*;
 use std::alloc::Global;
 use std::test::Fail;
 use vax_image::{Base, Image};
+use vax_program::*;
 
 /// The bytes of files.
 fn files(alloc: Global, texts: &[&[u8]]) -> Result<Vec<Vec<u8>>, Fail> {

@@ -1,9 +1,9 @@
 //! Whole calls over objects in memory.
-use vax_top::vax_main;
 use std::alloc::{AllocError, Global};
 use std::process::Abort;
 use std::test::Fail;
 use vax_outside::{Chan, Fail as Failing, MemFiles, MemPages, MemSink};
+use vax_top::vax_main;
 
 /// What a call left behind: the exit status, and what was written.
 #[derive(Drop)]

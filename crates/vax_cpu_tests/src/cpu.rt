@@ -1,7 +1,7 @@
 //! Steps over plain memory. The expected values are worked by hand from the manual's descriptions of the instructions.
-use vax_cpu::*;
 use std::alloc::Global;
 use std::test::Fail;
+use vax_cpu::*;
 use vax_flat::Ending;
 use vax_space::{Area, Bytes, Space};
 use vax_undo::{Plain, Term};
@@ -115,7 +115,8 @@ fn sums(rt: HostRuntime) -> Result<(), Fail> {
         let mut after = registers(3, codes);
         after.regs[2] = addend;
         after.regs[3] = sum;
-        assert!(rt; attempt(alloc, &mut port, core) == (Attempt::Step(None), after),
+        assert!(rt;
+            attempt(alloc, &mut port, core) == (Attempt::Step(None), after),
             "{addend} + {old}"
         );
     }
@@ -136,10 +137,13 @@ fn a_batch_up_to_a_halt(rt: HostRuntime) -> Result<(), Fail> {
     assert!(rt; (cpu.core.regs[1], cpu.core.regs[15], cpu.core.psl) == (5, 3, Psl(0x1F_0000)));
     assert!(rt; (cpu.core.iccs, cpu.core.clock) == (0xC0, 0));
     let batch = cpu.attempts(&mut port, 10);
-    assert!(rt; batch == Batch {
-            steps: 1,
-            last: Attempt::Ended(Ending::Halt)
-        });
+    assert!(rt;
+        batch
+            == Batch {
+                steps: 1,
+                last: Attempt::Ended(Ending::Halt)
+            }
+    );
     assert!(rt; (cpu.core.regs[2], cpu.core.regs[15], cpu.core.clock) == (5, 6, 1));
     Ok(())
 }
@@ -160,11 +164,14 @@ fn a_move_in_two_parts(rt: HostRuntime) -> Result<(), Fail> {
     let start = registers(0, 0);
     let mut cpu = Cpu::new(start, Term::new(Vec::new(alloc)));
     assert!(rt; cpu.attempt(&mut port) == Attempt::Part);
-    assert!(rt; cpu.latch == Some(Open {
-            opcode: 0x28,
-            start,
-            units: 512,
-        }));
+    assert!(rt;
+        cpu.latch
+            == Some(Open {
+                opcode: 0x28,
+                start,
+                units: 512,
+            })
+    );
     let regs = cpu.core.regs;
     assert!(rt; (regs[0], regs[1], regs[2], regs[3]) == (0x0E00_0258, 0x200, 0x0200_0258, 0x600));
     assert!(rt; (regs[4], regs[5], regs[15], cpu.core.psl) == (0, 0, 0, Psl(0x0800_0000)));

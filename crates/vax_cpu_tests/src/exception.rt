@@ -1,7 +1,7 @@
 //! Runs with exceptions, changes of stack, interrupts and the console, with fields, queues and calls. The expected values are worked by hand from the manual's rules.
-use vax_cpu::*;
 use std::alloc::Global;
 use std::test::Fail;
+use vax_cpu::*;
 use vax_flat::Ending;
 use vax_space::{Area, Bytes, Space};
 use vax_undo::{Plain, Term};
@@ -182,10 +182,13 @@ fn exceptions_and_interrupts(rt: HostRuntime) -> Result<(), Fail> {
         let mut cpu = Cpu::new(core, Term::new(b"AB".to_vec(alloc)?));
         let batch = cpu.attempts(&mut port, 5000);
         let last = Attempt::Ended(row.ending);
-        assert!(rt; batch == Batch {
-                steps: row.steps,
-                last
-            });
+        assert!(rt;
+            batch
+                == Batch {
+                    steps: row.steps,
+                    last
+                }
+        );
         let regs = &cpu.core.regs;
         let Psl(psl) = cpu.core.psl;
         assert!(rt; [regs[1], regs[14], regs[15], psl] == row.registers);

@@ -1,9 +1,9 @@
 //! Instructions one by one, with operands at the edges of each size. The expected values follow the manual's rules
 //! (VAX MACRO and Instruction Set Reference Manual, instruction descriptions).
-use vax_cpu::execute;
 use std::alloc::Global;
 use std::process::Abort;
 use std::test::Fail;
+use vax_cpu::execute;
 use vax_flat::{Cut, Exception, Flow};
 use vax_space::{Area, Bytes, Space, Violation};
 use vax_undo::{Log, Plain, Term, Txn};

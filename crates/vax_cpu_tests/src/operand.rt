@@ -2,12 +2,12 @@
 ghost use Rattle.std.specs.Prelude.{◌≢◌};
 ghost use Rattle.vax_flat.specs.Operand.{IsWidth};
 
-use vax_operand::*;
 use std::alloc::Global;
 use std::process::Abort;
 use std::test::Fail;
 use vax_flat::Exception;
 use vax_isa::{Letter, OperandKind};
+use vax_operand::*;
 use vax_space::{Area, Bytes, Space};
 use vax_undo::{Log, Plain, Term, Txn};
 use vax_word::{Core, Psl};
@@ -95,10 +95,12 @@ fn compare(rt: &impl Abort, alloc: Global, port: &mut Plain, letter: Letter, wid
         let reserved = is_reserved_mode(byte, letter, width, indexed);
         let operand = operand_at(alloc, port, OperandKind { letter, width }, 16 * place);
         let fault = matches!(&operand, Err(Cut::Event(Exception::Mode)));
-        assert!(rt; fault == reserved,
+        assert!(rt;
+            fault == reserved,
             "byte {byte} of {width}, indexed {indexed}"
         );
-        assert!(rt; operand.is_err() == reserved,
+        assert!(rt;
+            operand.is_err() == reserved,
             "byte {byte} of {width}, indexed {indexed}"
         );
     }

@@ -1,7 +1,8 @@
-use vax_undo::{Log, Plain, Port, Stop, Term, Txn};
 use std::alloc::{AllocError, Global};
+use std::process::Abort;
 use std::test::Fail;
 use vax_space::{Access, Area, Bytes, Space, Violation};
+use vax_undo::{Log, Plain, Port, Stop, Term, Txn};
 use vax_word::{Core, Psl};
 
 const KERNEL: u8 = 0;
@@ -40,17 +41,37 @@ fn core() -> Core {
     }
 }
 
+/// What reads of so many bytes give.
+fn test_reads(rt: &impl Abort, memory: &mut Plain, rows: &[(u32, u32, u8, Result<u64, Stop>)]) {
+    for (addr, n, mode, want) in rows {
+        assert!(rt; *n >= 1 && *n <= 8 && *mode <= 3, "{addr:X}");
+        assert!(rt; memory.read(*addr, *n, *mode) == *want, "{addr:X}");
+    }
+}
+
+/// What bytes there are, whoever asks.
+fn test_bytes(rt: &impl Abort, memory: &Plain, rows: &[(u32, Option<u8>)]) {
+    for (addr, byte) in rows {
+        assert!(rt; memory.byte(*addr) == *byte, "{addr:X}");
+    }
+}
+
 #[test]
 fn memory_at_the_start(rt: HostRuntime) -> Result<(), Fail> {
     let mut memory = memory(rt.alloc())?;
-    assert!(rt; memory.read(0x200, 4, USER) == Ok(0x0003_0201));
-    assert!(rt; memory.read(0x201, 2, USER) == Ok(0x0302));
-    assert!(rt; memory.read(0x200, 3, USER) == Ok(0x03_0201));
-    assert!(rt; memory.read(0x5F8, 8, USER) == Ok(0));
-    assert!(rt; memory.read(0x800, 1, KERNEL) == Ok(9));
-    assert!(rt; memory.byte(0x202) == Some(3));
-    assert!(rt; memory.byte(0x600) == None);
-    assert!(rt; memory.byte(0x1FF) == None);
+    let reads = [
+        (0x200, 4, USER, Ok(0x0003_0201)),
+        (0x201, 2, USER, Ok(0x0302)),
+        (0x200, 3, USER, Ok(0x03_0201)),
+        (0x5F8, 8, USER, Ok(0)),
+        (0x800, 1, KERNEL, Ok(9)),
+    ];
+    test_reads(&rt, &mut memory, &reads);
+    test_bytes(
+        &rt,
+        &memory,
+        &[(0x202, Some(3)), (0x600, None), (0x1FF, None)],
+    );
     Ok(())
 }
 
@@ -71,9 +92,8 @@ fn numbers_in_memory(rt: HostRuntime) -> Result<(), Fail> {
         assert!(rt; memory.write(addr, n, value, USER) == old, "at {addr:X}");
         assert!(rt; memory.read(addr, n, USER) == Ok(value), "at {addr:X}");
     }
-    assert!(rt; memory.byte(0x3FF) == Some(0xF5));
-    assert!(rt; memory.byte(0x400) == Some(0xF6));
-    assert!(rt; memory.byte(0x224) == Some(0));
+    let bytes = [(0x3FF, Some(0xF5)), (0x400, Some(0xF6)), (0x224, Some(0))];
+    test_bytes(&rt, &memory, &bytes);
     Ok(())
 }
 
@@ -82,24 +102,27 @@ fn absent_pages(rt: HostRuntime) -> Result<(), Fail> {
     let mut memory = memory(rt.alloc())?;
     memory.hide(2);
     assert!(rt; memory.write(0x3FE, 4, 0x1111_1111, USER) == Err(Stop::NotResident(2)));
-    assert!(rt; memory.byte(0x3FE) == Some(0));
-    assert!(rt; memory.byte(0x3FF) == Some(0));
-    assert!(rt; memory.read(0x3FE, 4, USER) == Err(Stop::NotResident(2)));
-    assert!(rt; memory.read(0x400, 4, USER) == Err(Stop::NotResident(2)));
+    test_bytes(&rt, &memory, &[(0x3FE, Some(0)), (0x3FF, Some(0))]);
+    let absent = Err(Stop::NotResident(2));
+    let reads = [(0x3FE, 4, USER, absent), (0x400, 4, USER, absent)];
+    test_reads(&rt, &mut memory, &reads);
     assert!(rt; memory.write_run(0x400, &[1], USER) == Err(Stop::NotResident(2)));
     memory.hide(1);
     assert!(rt; memory.read(0x3FE, 4, USER) == Err(Stop::NotResident(1)));
     memory.show(2);
     memory.show(1);
-    assert!(rt; memory.read(0x200, 4, USER) == Ok(0x0003_0201));
-    assert!(rt; memory.read(0x3FE, 4, USER) == Ok(0));
     memory.show(3);
     let violation = Violation {
         addr: 0x600,
         length: false,
         write: false,
     };
-    assert!(rt; memory.read(0x600, 1, USER) == Err(Stop::Violated(violation)));
+    let reads = [
+        (0x200, 4, USER, Ok(0x0003_0201)),
+        (0x3FE, 4, USER, Ok(0)),
+        (0x600, 1, USER, Err(Stop::Violated(violation))),
+    ];
+    test_reads(&rt, &mut memory, &reads);
     memory.hide(4);
     let violation = Violation {
         addr: 0x800,
@@ -162,7 +185,9 @@ fn a_part_is_kept(rt: HostRuntime) -> Result<(), Fail> {
     txn.set_clock(76);
     assert!(rt; txn.write_run(0x402, &[5, 6], USER) == Ok(()));
     assert!(rt; txn.commit_part() == start);
-    assert!(rt; (core.regs[3], core.regs[15], core.psl, core.stacks[4]) == (71, 72, Psl(0x0800_0008), 73));
+    assert!(rt;
+        (core.regs[3], core.regs[15], core.psl, core.stacks[4]) == (71, 72, Psl(0x0800_0008), 73)
+    );
     assert!(rt; memory.read(0x402, 2, USER) == Ok(0x0605));
     Ok(())
 }
@@ -206,7 +231,7 @@ fn changes_are_undone(rt: HostRuntime) -> Result<(), Fail> {
     assert!(rt; core.regs == [7; 16]);
     assert!(rt; (core.psl, core.stacks, core.sisr) == (Psl(0x041F_0000), [10, 11, 12, 13, 14], 2));
     assert!(rt; (core.iccs, core.clock, term.out, term.place) == (0x41, 5, None, 0));
-    assert!(rt; memory.read(0x3FE, 4, USER) == Ok(0));
-    assert!(rt; memory.read(0x200, 8, USER) == Ok(0x0003_0201));
+    let reads = [(0x3FE, 4, USER, Ok(0)), (0x200, 8, USER, Ok(0x0003_0201))];
+    test_reads(&rt, &mut memory, &reads);
     Ok(())
 }

@@ -1,15 +1,12 @@
 //! Instructions over plain memory, with results worked by hand from the manual's rules.
-use vax_undo::CutShort;
-use vax_undo::Txn;
-use vax_isa::Call;
-use vax_flat::Flow;
-use vax_x_call::*;
 use std::alloc::Global;
 use std::test::Fail;
-use vax_flat::{Cut, Exception};
+use vax_flat::{Cut, Exception, Flow};
+use vax_isa::Call;
 use vax_space::{Area, Bytes, Space, Violation};
-use vax_undo::{Log, Plain, Term};
+use vax_undo::{CutShort, Log, Plain, Term, Txn};
 use vax_word::{Core, Psl};
+use vax_x_call::*;
 
 /// Where the instruction's first operand lies.
 const CODE: u32 = 0x8000_0200;
@@ -111,7 +108,9 @@ fn a_frame_by_hand(rt: HostRuntime) -> Result<(), Fail> {
     assert!(rt; longword(&port, 0x8010_1E00) == 0xAB);
     assert!(rt; went(rt.alloc(), &mut port, &mut core, Call::Return) == Ok(Flow::Done));
     assert!(rt; (core.regs[14], core.regs[15]) == (0x8010_1E0B, CODE + 2));
-    assert!(rt; (core.regs[11], core.regs[12], core.regs[13]) == (0xAB, before.regs[12], before.regs[13]));
+    assert!(rt;
+        (core.regs[11], core.regs[12], core.regs[13]) == (0xAB, before.regs[12], before.regs[13])
+    );
     assert!(rt; core.psl == Psl(0x1F_00E0));
     Ok(())
 }
@@ -203,7 +202,10 @@ fn reserved_operands_of_calls(rt: HostRuntime) -> Result<(), Fail> {
         assert!(rt; went(rt.alloc(), &mut port, &mut core, Call::Return) == answer);
         if answer != RESERVED {
             assert!(rt; core.psl == Psl(0x1F_0000 + bit));
-            assert!(rt; (core.regs[12], core.regs[13], core.regs[15], core.regs[14]) == (1, 2, 3, STACK + 20));
+            assert!(rt;
+                (core.regs[12], core.regs[13], core.regs[15], core.regs[14])
+                    == (1, 2, 3, STACK + 20)
+            );
         }
     }
     Ok(())

@@ -1,14 +1,12 @@
 //! Instructions over plain memory, with results worked by hand from the manual's rules.
-use vax_undo::Txn;
-use vax_flat::Flow;
-use vax_isa::Field;
-use vax_x_field::*;
 use std::alloc::Global;
 use std::test::Fail;
-use vax_flat::{Cut, Exception};
+use vax_flat::{Cut, Exception, Flow};
+use vax_isa::Field;
 use vax_space::{Area, Bytes, Space, Violation};
-use vax_undo::{Log, Plain, Port, Term};
+use vax_undo::{Log, Plain, Port, Term, Txn};
 use vax_word::{Core, Psl};
+use vax_x_field::*;
 
 /// Where the instruction's first operand lies.
 const CODE: u32 = 0x8000_0200;
@@ -224,7 +222,10 @@ fn fields_are_inserted(rt: HostRuntime) -> Result<(), Fail> {
                     word,
                 );
                 let flow = went(rt.alloc(), &mut in_memory, &mut core, Field::Insert);
-                assert!(rt; (flow, quadword(&in_memory, HELD), core.psl) == (Ok(Flow::Done), after, Psl(0x1F_0000 + word)));
+                assert!(rt;
+                    (flow, quadword(&in_memory, HELD), core.psl)
+                        == (Ok(Flow::Done), after, Psl(0x1F_0000 + word))
+                );
                 let beside = (in_memory.byte(HELD - 1), in_memory.byte(HELD + 8));
                 assert!(rt; beside == (Some(0xFF), Some(0xFF)));
             }
@@ -261,15 +262,20 @@ fn first_bits_are_found(rt: HostRuntime) -> Result<(), Fail> {
             let codes = if found { 0 } else { 4 };
             let mut core = registers([position, size, 0xF000_0100, 1, 7], 0xEF);
             let flow = went(rt.alloc(), &mut in_registers, &mut core, instruction);
-            assert!(rt; (flow, core.regs[5], core.psl) == (Ok(Flow::Done), place, Psl(0x1F_00E0 + codes)));
+            assert!(rt;
+                (flow, core.regs[5], core.psl) == (Ok(Flow::Done), place, Psl(0x1F_00E0 + codes))
+            );
             for (base, first) in BASES {
                 let mut core = registers([first.wrapping_add(position), size, base, 0, 7], 0);
                 let flow = went(rt.alloc(), &mut in_memory, &mut core, instruction);
-                assert!(rt; (flow, core.regs[5], core.psl) == (
-                        Ok(Flow::Done),
-                        first.wrapping_add(place),
-                        Psl(0x1F_0000 + codes)
-                    ));
+                assert!(rt;
+                    (flow, core.regs[5], core.psl)
+                        == (
+                            Ok(Flow::Done),
+                            first.wrapping_add(place),
+                            Psl(0x1F_0000 + codes)
+                        )
+                );
             }
         }
     }
@@ -304,12 +310,18 @@ fn branches_on_bits(rt: HostRuntime) -> Result<(), Fail> {
                 let mut core = registers([position, 0, 0x89AB_CDEF, 0x0123_4567, 0], 0x0F);
                 let flow = went(rt.alloc(), &mut in_registers, &mut core, instruction);
                 let pair = u64::from(core.regs[4]) << 32 | u64::from(core.regs[3]);
-                assert!(rt; (flow, core.regs[15], pair, core.psl) == (Ok(Flow::Done), goes_on, after, Psl(0x1F_000F)));
+                assert!(rt;
+                    (flow, core.regs[15], pair, core.psl)
+                        == (Ok(Flow::Done), goes_on, after, Psl(0x1F_000F))
+                );
                 for (base, first) in BASES {
                     let _ = in_memory.write(HELD, 8, held, 0);
                     let mut core = registers([first.wrapping_add(position), 0, base, 0, 0], 0);
                     let flow = went(rt.alloc(), &mut in_memory, &mut core, instruction);
-                    assert!(rt; (flow, core.regs[15], quadword(&in_memory, HELD), core.psl) == (Ok(Flow::Done), goes_on, after, Psl(0x1F_0000)));
+                    assert!(rt;
+                        (flow, core.regs[15], quadword(&in_memory, HELD), core.psl)
+                            == (Ok(Flow::Done), goes_on, after, Psl(0x1F_0000))
+                    );
                 }
             }
         }

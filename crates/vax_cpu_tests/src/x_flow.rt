@@ -1,13 +1,12 @@
 //! Instructions over plain memory, with results worked by hand.
-use vax_undo::Txn;
-use vax_flat::Flow;
-use vax_x_flow::*;
 use std::alloc::Global;
 use std::test::Fail;
+use vax_flat::Flow;
 use vax_isa::{Action, action};
 use vax_space::{Area, Bytes, Space};
-use vax_undo::{Log, Plain, Term};
+use vax_undo::{Log, Plain, Term, Txn};
 use vax_word::{Core, Psl};
+use vax_x_flow::*;
 
 /// Where the instruction's opcode lies: the beginning of the second page of the system region.
 const START: u32 = 0x8000_0200;

@@ -1,13 +1,12 @@
 //! Instructions over plain memory, with results worked by hand.
-use vax_undo::Txn;
-use vax_flat::Flow;
-use vax_x_int::*;
 use std::alloc::Global;
 use std::test::Fail;
+use vax_flat::Flow;
 use vax_isa::{Action, action};
 use vax_space::{Area, Bytes, Space};
-use vax_undo::{Log, Plain, Term};
+use vax_undo::{Log, Plain, Term, Txn};
 use vax_word::{Core, Psl};
+use vax_x_int::*;
 
 /// Where the instruction's opcode lies: the beginning of the second page of the system region.
 const START: u32 = 0x8000_0200;
@@ -49,10 +48,15 @@ fn quotients_that_overflow(rt: HostRuntime) -> Result<(), Fail> {
         0xC7, 0x8F, 0xFF, 0xFF, 0xFF, 0xFF, 0x8F, 0x00, 0x00, 0x00, 0x80, 0x51,
     ];
     let (flow, core) = after(rt.alloc(), &long, [0; 6])?;
-    assert!(rt; (flow, core.regs[1], core.regs[15], core.psl) == (Some(Flow::Done), 0x8000_0000, START + 12, Psl(0x1F_000A)));
+    assert!(rt;
+        (flow, core.regs[1], core.regs[15], core.psl)
+            == (Some(Flow::Done), 0x8000_0000, START + 12, Psl(0x1F_000A))
+    );
     // EDIV #2,R2,R4,R5 of R2 and R3 as a quadword
     let extended = [0x7B, 0x02, 0x52, 0x54, 0x55];
     let (flow, core) = after(rt.alloc(), &extended, [0, 0, 0, 2, 7, 7])?;
-    assert!(rt; (flow, core.regs[4], core.regs[5], core.psl) == (Some(Flow::Done), 0, 0, Psl(0x1F_0006)));
+    assert!(rt;
+        (flow, core.regs[4], core.regs[5], core.psl) == (Some(Flow::Done), 0, 0, Psl(0x1F_0006))
+    );
     Ok(())
 }

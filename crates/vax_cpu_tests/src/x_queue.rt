@@ -1,14 +1,12 @@
 //! Instructions over plain memory, with results worked by hand from the manual's rules.
-use vax_isa::Queue;
-use vax_undo::Txn;
-use vax_flat::Flow;
-use vax_x_queue::*;
 use std::alloc::Global;
 use std::test::Fail;
-use vax_flat::{Cut, Exception, Trap};
+use vax_flat::{Cut, Exception, Flow, Trap};
+use vax_isa::Queue;
 use vax_space::{Area, Bytes, Space, Violation};
-use vax_undo::{Log, Plain, Term};
+use vax_undo::{Log, Plain, Term, Txn};
 use vax_word::{Core, Psl};
+use vax_x_queue::*;
 
 /// Where the instruction's first operand lies.
 const CODE: u32 = 0x8000_0200;

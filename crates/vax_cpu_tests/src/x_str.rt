@@ -1,5 +1,4 @@
 //! Instructions over plain memory, with results worked by hand from the manual's rules.
-use vax_x_str::*;
 use std::alloc::Global;
 use std::test::Fail;
 use vax_flat::{Cut, Exception, Flow};
@@ -7,6 +6,7 @@ use vax_isa::Text;
 use vax_space::{Area, Bytes, Space, Violation};
 use vax_undo::{CutShort, Log, Plain, Term, Txn};
 use vax_word::{Core, Psl};
+use vax_x_str::*;
 
 /// Where the instruction lies.
 const CODE: u32 = 0x8000_0200;
@@ -215,15 +215,24 @@ fn a_search_goes_on_in_the_next_page(rt: HostRuntime) -> Result<(), Fail> {
     let mut port = memory(rt.alloc(), &[0x3A, 7, 60, 0x66], &data)?;
     let mut core = registers(DATA + 500, 0, 0);
     let first = made(rt.alloc(), &mut port, &mut core, Part::First(Text::Locate));
-    assert!(rt; first == Ok(Flow::More {
-            opcode: 0x3A,
-            units: 12
-        }));
+    assert!(rt;
+        first
+            == Ok(Flow::More {
+                opcode: 0x3A,
+                units: 12
+            })
+    );
     // 48 bytes are left, the character is 7, and the instruction has 4 bytes
-    assert!(rt; [core.regs[0], core.regs[1], core.regs[15], core.psl.0] == [0x0407_0030, DATA + 512, CODE, 0x081F_0000]);
+    assert!(rt;
+        [core.regs[0], core.regs[1], core.regs[15], core.psl.0]
+            == [0x0407_0030, DATA + 512, CODE, 0x081F_0000]
+    );
     let second = made(rt.alloc(), &mut port, &mut core, Part::Later(0x3A));
     assert!(rt; second == Ok(Flow::Done));
-    assert!(rt; [core.regs[0], core.regs[1], core.regs[15], core.psl.0] == [40, DATA + 520, CODE + 4, 0x1F_0000]);
+    assert!(rt;
+        [core.regs[0], core.regs[1], core.regs[15], core.psl.0]
+            == [40, DATA + 520, CODE + 4, 0x1F_0000]
+    );
     Ok(())
 }
 
@@ -240,10 +249,13 @@ fn a_match_goes_on_in_the_next_page(rt: HostRuntime) -> Result<(), Fail> {
     let mut core = registers(DATA, DATA + 500, 0);
     let first = made(rt.alloc(), &mut port, &mut core, Part::First(Text::Match));
     // at the places 0 to 9 three bytes are compared each, and at place 10 two that are in this page
-    assert!(rt; first == Ok(Flow::More {
-            opcode: 0x39,
-            units: 32
-        }));
+    assert!(rt;
+        first
+            == Ok(Flow::More {
+                opcode: 0x39,
+                units: 32
+            })
+    );
     assert!(rt; low(&core) == [0x0500_0003, DATA, 0x0002_0006, DATA + 510, 0, 0]);
     let second = made(rt.alloc(), &mut port, &mut core, Part::Later(0x39));
     assert!(rt; second == Ok(Flow::Done));
@@ -456,10 +468,13 @@ fn violations(rt: HostRuntime) -> Result<(), Fail> {
     // a string that ends there is met once its first part is done, at which the registers say so
     let mut port = memory(rt.alloc(), &[0x3A, 7, 9, 0x66], &[])?;
     let mut core = registers(BEYOND - 4, 0, 0);
-    assert!(rt; made(rt.alloc(), &mut port, &mut core, Part::First(Text::Locate)) == Ok(Flow::More {
-            opcode: 0x3A,
-            units: 4
-        }));
+    assert!(rt;
+        made(rt.alloc(), &mut port, &mut core, Part::First(Text::Locate))
+            == Ok(Flow::More {
+                opcode: 0x3A,
+                units: 4
+            })
+    );
     let between = core;
     let late = Err(Cut::Event(Exception::Access(Violation {
         addr: BEYOND,

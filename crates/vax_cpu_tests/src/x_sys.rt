@@ -1,16 +1,12 @@
 //! Instructions and deliveries over plain memory, with results worked by hand from the manual's rules.
-use vax_undo::Txn;
-use vax_undo::CutShort;
-use vax_isa::System;
-use vax_flat::Flow;
-use vax_x_sys::*;
 use std::alloc::Global;
 use std::test::Fail;
-use vax_flat::{Cut, Delivery, Exception, Trap};
-use vax_isa::AccessMode;
+use vax_flat::{Cut, Delivery, Exception, Flow, Trap};
+use vax_isa::{AccessMode, System};
 use vax_space::{Area, Bytes, Space};
-use vax_undo::{Log, Plain, Term};
+use vax_undo::{CutShort, Log, Plain, Term, Txn};
 use vax_word::{Core, Psl};
+use vax_x_sys::*;
 
 /// A page at 80000000, for kernel mode alone, and a page at 80000200 with this protection.
 fn memory(alloc: Global, first: &[u8], prot: u8, second: &[u8]) -> Result<Plain, Fail> {
@@ -182,7 +178,8 @@ fn probes_over_the_protections(rt: HostRuntime) -> Result<(), Fail> {
                 let mut core = registers(0x8000_0000, 0x8000_0300, 0);
                 let flow = went(rt.alloc(), &mut port, &mut core, System::Probe { writing });
                 let psl = if mode < count { 0 } else { 4 };
-                assert!(rt; (flow, core.psl) == (Ok(Flow::Done), Psl(psl)),
+                assert!(rt;
+                    (flow, core.psl) == (Ok(Flow::Done), Psl(psl)),
                     "{prot} {mode}"
                 );
             }
@@ -207,7 +204,9 @@ fn an_arithmetic_trap_and_an_interrupt(rt: HostRuntime) -> Result<(), Fail> {
     let level = interrupt(&mut txn, 3).ok();
     let _ = txn.commit();
     assert!(rt; (trap, level) == (Some(Delivery::Entered), Some(Delivery::Entered)));
-    assert!(rt; (core.regs[14], core.regs[15], core.psl) == (0x8000_0348, 0x8000_0204, Psl(0x403_0000)));
+    assert!(rt;
+        (core.regs[14], core.regs[15], core.psl) == (0x8000_0348, 0x8000_0204, Psl(0x403_0000))
+    );
     assert!(rt; (core.stacks[0], core.stacks[4], core.sisr) == (0x8000_02F4, 0, 0));
     assert!(rt; (longword(&port, 0x8000_02FC), longword(&port, 0x8000_02F8)) == (2, 0x8000_0204));
     assert!(rt; (longword(&port, 0x8000_02F4), longword(&port, 0x8000_0348)) == (2, 0x8000_0208));

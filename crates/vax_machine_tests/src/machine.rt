@@ -120,12 +120,10 @@ fn events_one_by_one(rt: HostRuntime) -> Result<(), Fail> {
     for (event, answer) in rows {
         assert!(rt; machine.apply(event, &mut file) == answer);
     }
-    assert!(rt; machine.steps() == 3);
-    assert!(rt; machine.turns() == 6);
+    assert!(rt; [machine.steps(), machine.turns(), machine.counts().written] == [3, 6, 1]);
     assert!(rt; machine.ended() == Some(Ending::Halt));
     assert!(rt; machine.peek(0x600, &mut file) == Ok(Some(1)));
-    assert!(rt; machine.next_flush() == None);
-    assert!(rt; machine.counts().written == 1);
+    assert!(rt; machine.next_flush().is_none());
     Ok(())
 }
 
@@ -139,9 +137,8 @@ fn lists_evictions(rt: HostRuntime) -> Result<(), Fail> {
     let mut sink = MemSink::new(alloc, [100; 3], 7, Vec::new(alloc))?;
     let end = run_up(&mut machine, &schedule, &mut file, &mut sink);
     assert!(rt; end == RunEnd::Ended(Ending::Halt));
-    assert!(rt; machine.turns() == 5);
+    assert!(rt; [machine.turns(), machine.counts().written] == [5, 0]);
     assert!(rt; sink.bytes(Chan::Record) == b"at 2 00000000\nat 4 00000000\n".as_slice());
-    assert!(rt; machine.counts().written == 0);
     Ok(())
 }
 
@@ -255,8 +252,8 @@ fn writes_what_makes_room(rt: HostRuntime) -> Result<(), Fail> {
     let end = machine.run(&limits, &Schedule::new(alloc), &mut file, &mut sink);
     assert!(rt; end == RunEnd::Ended(Ending::Halt));
     // Page 0 and 70 pages come, then page 0 again, which made room, and page 2. So 9 make room; page 0 isn't written, since nothing was written to it.
-    assert!(rt; machine.counts().served == 73);
-    assert!(rt; machine.counts().evicted == 9);
+    let counts = machine.counts();
+    assert!(rt; [counts.served, counts.evicted] == [73, 9]);
     assert!(rt; file.writes().len() == 8);
     for (_, block) in file.writes() {
         assert!(rt; [block[0], block[511]] == [1, 1]);

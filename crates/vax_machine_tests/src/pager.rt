@@ -13,7 +13,7 @@ use vax_undo::Port;
 const USER: u8 = 3;
 
 /// A call of a pager or of its page file.
-#[derive(Clone, Copy, Debug)]
+#[derive(Clone, Copy)]
 enum Call {
     /// Brings in a page, and keeps it pinned.
     Pin(u32),
@@ -187,8 +187,8 @@ fn make_call(pager: &mut Pager, file: &mut MemPages, call: Call) -> Answer {
 
 /// Makes calls, and compares what they answer.
 fn compare(rt: &impl Abort, pager: &mut Pager, file: &mut MemPages, rows: &[(Call, Answer)]) {
-    for (call, want) in rows {
-        assert!(rt; make_call(pager, file, *call) == *want, "{call:?}");
+    for (i, (call, want)) in rows.iter().enumerate() {
+        assert!(rt; make_call(pager, file, *call) == *want, "call {i}");
     }
 }
 

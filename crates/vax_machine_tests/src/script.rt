@@ -3,54 +3,41 @@ use vax_lines::next_line;
 use vax_script::{Line, Request, read_line};
 use std::test::Fail;
 
+/// What a line asks for, in a word and two numbers.
+fn asked(line: &[u8]) -> Option<(&str, u64, u64)> {
+    let Line::Request(request) = read_line(line) else {
+        return None;
+    };
+    Some(match &request {
+        Request::ExamineRegister(register) => ("register", u64::from(*register), 0),
+        Request::ExamineMemory { addr, count } => ("memory", u64::from(*addr), u64::from(*count)),
+        Request::DepositRegister { register, value } => {
+            ("other register", u64::from(*register), u64::from(*value))
+        }
+        Request::DepositMemory { addr, .. } => ("other memory", u64::from(*addr), 0),
+        Request::Next(steps) => ("next", *steps, 0),
+        Request::Continue => ("continue", 0, 0),
+        Request::Show => ("show", 0, 0),
+    })
+}
+
 #[test]
 fn reads_requests(rt: HostRuntime) {
-    use Request::{Continue, DepositRegister, ExamineMemory, ExamineRegister, Next, Show};
-    let said = |line: &[u8]| -> Option<Request> {
-        match read_line(line) {
-            Line::Request(request) => Some(request),
-            Line::Blank | Line::Malformed => None,
-        }
-    };
-    assert!(rt; matches!(said(b"EXAMINE R1"), Some(ExamineRegister(1))));
-    assert!(rt; matches!(said(b"examine R15"), Some(ExamineRegister(15))));
-    assert!(rt; matches!(said(b"Examine  R0"), Some(ExamineRegister(0))));
-    assert!(rt;
-        matches!(
-            said(b"EXAMINE 800003FE"),
-            Some(ExamineMemory {
-                addr: 0x8000_03FE,
-                count: 4
-            })
-        )
-    );
-    assert!(rt;
-        matches!(
-            said(b"EXAMINE 800003fe 16"),
-            Some(ExamineMemory {
-                addr: 0x8000_03FE,
-                count: 16
-            })
-        )
-    );
-    assert!(rt;
-        matches!(
-            said(b"DEPOSIT R10 FFFFFFFF"),
-            Some(DepositRegister {
-                register: 10,
-                value: 0xFFFF_FFFF
-            })
-        )
-    );
-    assert!(rt; matches!(said(b"NEXT"), Some(Next(1))));
-    assert!(rt;
-        matches!(
-            said(b"next 1000000000000000"),
-            Some(Next(1_000_000_000_000_000))
-        )
-    );
-    assert!(rt; matches!(said(b"CONTINUE"), Some(Continue)));
-    assert!(rt; matches!(said(b"sHOW"), Some(Show)));
+    let rows = [
+        ("EXAMINE R1", ("register", 1, 0)),
+        ("examine R15", ("register", 15, 0)),
+        ("Examine  R0", ("register", 0, 0)),
+        ("EXAMINE 800003FE", ("memory", 0x8000_03FE, 4)),
+        ("EXAMINE 800003fe 16", ("memory", 0x8000_03FE, 16)),
+        ("DEPOSIT R10 FFFFFFFF", ("other register", 10, 0xFFFF_FFFF)),
+        ("NEXT", ("next", 1, 0)),
+        ("next 1000000000000000", ("next", 1_000_000_000_000_000, 0)),
+        ("CONTINUE", ("continue", 0, 0)),
+        ("sHOW", ("show", 0, 0)),
+    ];
+    for (line, want) in rows {
+        assert!(rt; asked(line.as_bytes()) == Some(want), "{line}");
+    }
 }
 
 #[test]
@@ -67,37 +54,38 @@ fn reads_bytes(rt: HostRuntime) {
 
 #[test]
 fn refuses_other_lines(rt: HostRuntime) {
-    let lines: [&[u8]; 24] = [
-        b"BOGUS",
-        b"EXAMINE",
-        b"EXAMINE R16",
-        b"EXAMINE R01",
-        b"EXAMINE r1",
-        b"EXAMINE R1 4",
-        b"EXAMINE 8000 4",
-        b"EXAMINE 800003FE 17",
-        b"EXAMINE 800003FE 0",
-        b"EXAMINE 800003FE 04",
-        b"EXAMINE 800003FE 4 4",
-        b"DEPOSIT R1",
-        b"DEPOSIT R1 0",
-        b"DEPOSIT 800003FE 0",
-        b"DEPOSIT 800003FE 0G",
-        b"DEPOSIT 800003FE 01 02",
-        b"NEXT 0",
-        b"NEXT 1000000000000001",
-        b"NEXT 1 1",
-        b"CONTINUE 1",
-        b"SHOW\t",
-        b" SHOW",
-        b"SHOW ",
-        b"SHOW\r",
+    let lines = [
+        "BOGUS",
+        "EXAMINE",
+        "EXAMINE R16",
+        "EXAMINE R01",
+        "EXAMINE r1",
+        "EXAMINE R1 4",
+        "EXAMINE 8000 4",
+        "EXAMINE 800003FE 17",
+        "EXAMINE 800003FE 0",
+        "EXAMINE 800003FE 04",
+        "EXAMINE 800003FE 4 4",
+        "DEPOSIT R1",
+        "DEPOSIT R1 0",
+        "DEPOSIT 800003FE 0",
+        "DEPOSIT 800003FE 0G",
+        "DEPOSIT 800003FE 01 02",
+        "NEXT 0",
+        "NEXT 1000000000000001",
+        "NEXT 1 1",
+        "CONTINUE 1",
+        "SHOW\t",
+        " SHOW",
+        "SHOW ",
+        "SHOW\r",
     ];
     for line in lines {
-        assert!(rt; matches!(read_line(line), Line::Malformed));
+        assert!(rt; matches!(read_line(line.as_bytes()), Line::Malformed), "{line}");
     }
-    assert!(rt; matches!(read_line(b""), Line::Blank));
-    assert!(rt; matches!(read_line(b" \t"), Line::Blank));
+    for line in ["", " \t"] {
+        assert!(rt; matches!(read_line(line.as_bytes()), Line::Blank), "{line}");
+    }
 }
 
 #[test]
