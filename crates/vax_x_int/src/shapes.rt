@@ -106,10 +106,10 @@ fn clear<P: Port>(txn: &mut Txn<P>, size: Size) -> Result<Flow, CutShort>
 
 /// TST.
 #[inline(always)]
-#[tactic(auto, unfolding(vax_flat::specs::Integer::test))]
+#[tactic(auto, unfolding(vax_flat::specs::Integer::test_value))]
 fn test<P: Port>(txn: &mut Txn<P>, size: Size) -> Result<Flow, CutShort>
     requires { 5 ≤ room txn.old }
-    ensures exact { Follows (integer.test size (present P.view txn.old).state) (present P.view txn.old) (told txn.new result) (present P.view txn.new) }
+    ensures exact { Follows (integer.test_value size (present P.view txn.old).state) (present P.view txn.old) (told txn.new result) (present P.view txn.new) }
     ensures keeps { Keeps P.view P.since 5 txn.old txn.new }
 {
     let x = next_value(txn, size)?;
