@@ -3,7 +3,7 @@ use Rattle.std.proofs.Common.{◌≡◌, ℕ, zero, suc, ◌+◌, ◌-◌, Bool,
 use Rattle.std.specs.Prelude.{◌&&◌, ◌||◌, ◌==◌, nat_le, codes}
 use Rattle.std.proofs.lemmas.Bool.Decides.{nat_tests}
 use Rattle.vax_lex.specs.Characters.{spells}
-use Rattle.vax_lex.specs.Statements.{Operator, text_directive, immediate_if, other_operator, operator_of, operand_place, is_text_directive, compares_texts, tests_text, Subject, on_two_texts, on_text, on_no_text, subject_of, argument_place, begun_after, Place, statement, first_name, behind_label, text_piece, bracketed_piece, condition_name, condition_end, expression_rest, text_argument, between_arguments, operands, Before, nothing_special, label_colon, is_colon, piece_due}
+use Rattle.vax_lex.specs.Statements.{Operator, text_directive, immediate_if, other_operator, operator_of, operand_place, is_text_directive, compares_texts, tests_text, Subject, on_two_texts, on_text, on_no_text, subject_of, argument_place, Place, statement, first_name, behind_label, text_piece, bracketed_piece, condition_name, condition_end, expression_rest, text_argument, between_arguments, operands, Before, nothing_special, label_colon, is_colon, piece_due}
 use Rattle.vax_lex.specs.Parts.{Part, space, word, sign, quotation, numeric}
 use Rattle.vax_lex.specs.Directives.{is_sign, is_bracket, Blanks, no_blanks, a_blank, Nested, nested_nothing, nested_part, nested_group, Piece, quoted_text, bracketed_value, Pieces, no_pieces, blank_more, piece_more, Tested, tested_nothing, tested_part, tested_group, begins_argument, Argument, argument_begins, argument_group, argument_more, is_of_first, is_of_last, Last, last_missing, last_given, Second, parted_by_comma, parted_by_blanks, Two, first_missing, first_given, Parted, by_blank, by_comma, Begun, begun_part, begun_group, two_texts, one_text, no_text, two_touching, text_touching, no_text_touching, is_immediate_if, StatementDue, at_line, behind_blank, behind_condition, OperatorDue, without_label, with_label, Labelled, one_colon, two_colons, PieceDue, behind_labelled, first_piece, later_piece}
 use Rattle.vax_lex.proofs.Behind.{after, behind, step}

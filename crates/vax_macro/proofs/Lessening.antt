@@ -1,8 +1,8 @@
 -- What is left of a line to be read again is less than it.
-use Rattle.std.proofs.Common.{◌≡◌, ◌<◌, ◌≤◌, ◌+◌, ◌-◌, ◌*◌, ℕ, Bool, true, false, cond, List, length, drop, Option, Some, None, option_map, refl, ap, arith}
+use Rattle.std.proofs.Common.{◌≡◌, ◌<◌, ◌≤◌, ◌+◌, ◌*◌, ℕ, Bool, true, false, cond, length, drop, Some, ap, arith}
 use Rattle.std.proofs.lemmas.List.{length-drop}
 use Rattle.vax_macro.specs.LineViews.{remainder_of, reading_of}
-use Rattle.vax_macro.specs.Lines.{Remainder, Reading}
+use Rattle.vax_macro.specs.Lines.{Reading}
 use Rattle.vax_macro.specs.Rest.{weight}
 use Rattle.vax_macro.specs.Readings.{left_of}
 use Rattle.vax_macro.specs.Expansion.{whole}

@@ -1,5 +1,5 @@
 -- One step after another.
-use Rattle.std.proofs.Common.{◌≡◌, ◌<◌, ◌≤◌, ◌+◌, ◌-◌, ℕ, zero, suc, Bool, true, false, List, ◌∷◌, ◌++◌, length, refl, ap, sym, ◌∙◌, arith}
+use Rattle.std.proofs.Common.{◌≡◌, ◌<◌, ◌≤◌, ◌+◌, ◌-◌, ℕ, zero, suc, true, false, List, ◌∷◌, ◌++◌, length, refl, arith}
 use Rattle.std.specs.Prelude.{Option, nat_le}
 use Rattle.std.proofs.lemmas.Bool.Decides.{nat_tests}
 use Rattle.vax_lex.specs.Tokens.{pieces_of}
@@ -7,7 +7,7 @@ use Rattle.vax_lex.specs.declared.value.Value.{Value}
 use Rattle.vax_macro.specs.declared.error.FaultKind.TheVariants as faults
 use Rattle.vax_macro.specs.Lines.{SourceLine, Reading, dash_in, is_long}
 use Rattle.vax_macro.specs.Rest.{Rest}
-use Rattle.vax_macro.specs.Expansion.{Stepped, Faults, line_step, read_on, joined_with, step, behind, opened, Later}
+use Rattle.vax_macro.specs.Expansion.{Faults, line_step, read_on, joined_with, step, behind, opened}
 
 -- a line that is too long
 pub too_long : (names : List ℕ → Option Value) (r : Reading) (line : SourceLine) (lines : List SourceLine) (rest : Rest) → 1024 < length line.text

@@ -1,7 +1,6 @@
 -- Conditions, and counts of repeats (VAX MACRO and Instruction Set Reference Manual, directives `.IF`, `.IIF` and `.REPT`).
-use Rattle.std.specs.Prelude.{ℕ, ℤ, pos, negsuc, zero, ◌+◌, ◌-◌, Bool, true, false, not, ◌&&◌, ◌||◌, ◌==◌, nat_lt, List, [], ◌∷◌, length, take, drop, map, Option, Some, None, unwrap_or, is_some, Result, Ok, Err, codes, if◌then◌else◌}
+use Rattle.std.specs.Prelude.{ℕ, ℤ, pos, negsuc, ◌+◌, ◌-◌, Bool, true, false, not, ◌&&◌, ◌||◌, ◌==◌, nat_lt, List, [], ◌∷◌, length, take, drop, map, Option, Some, None, unwrap_or, is_some, Result, Ok, Err, codes, if◌then◌else◌}
 use Rattle.std.specs.List.{list_all, list_any, prefix_len}
-use Rattle.std.specs.Char.{is_ascii_digit}
 use Rattle.std.specs.Str.{bytes_eq}
 use Rattle.vax_lex.specs.Characters.{is_blank, spells, canonical_name}
 use Rattle.vax_lex.specs.Grammar.{Symbol, symbols_of}

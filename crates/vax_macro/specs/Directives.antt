@@ -1,6 +1,6 @@
 -- What the lines of a source do: definitions of macros, calls, repeats and conditions (VAX MACRO and Instruction Set
 -- Reference Manual, directives `.MACRO` to `.ENDR`).
-use Rattle.std.specs.Prelude.{ℕ, ℤ, pos, negsuc, zero, suc, ◌+◌, ◌-◌, Bool, true, false, not, ◌&&◌, ◌||◌, ◌==◌, nat_lt, nat_le, List, [], ◌∷◌, ◌++◌, length, take, drop, map, replicate, Option, Some, None, unwrap_or, is_some, Result, Ok, Err, if◌then◌else◌}
+use Rattle.std.specs.Prelude.{ℕ, ℤ, pos, negsuc, zero, suc, ◌+◌, ◌-◌, Bool, true, false, not, ◌&&◌, ◌||◌, ◌==◌, nat_le, List, [], ◌∷◌, ◌++◌, length, take, drop, map, Option, Some, None, unwrap_or, is_some, Result, Ok, Err, if◌then◌else◌}
 use Rattle.std.specs.List.{flat_map, prefix_len}
 use Rattle.vax_lex.specs.Characters.{is_blank, canonical_name, spells}
 use Rattle.vax_lex.specs.declared.token.Piece.{Piece}
@@ -11,7 +11,7 @@ use Rattle.vax_macro.specs.Names.{is_name, with_entry}
 use Rattle.vax_macro.specs.Arguments.{Argument, arguments, behind_blanks, begins_with, closing, is_no_separator, name_length}
 use Rattle.vax_macro.specs.Heads.{Head, Word, macro_word, end_macro, repeat, repeat_arguments, repeat_characters, end_repeat, if_word, if_false, if_true, if_true_false, end_if, immediate_if, end_word, other_word, word_in, piece_text, has_bad, has_unprintable, code_from}
 use Rattle.vax_macro.specs.Templates.{Formals, no_formals, with_formal, formals_from, BodyLine, Template, template, rewritten, assigned, Filled, filled}
-use Rattle.vax_macro.specs.Conditions.{has_comma, number_in, condition_in, guarded_in, Guarded, no_keyword}
+use Rattle.vax_macro.specs.Conditions.{has_comma, number_in, condition_in, guarded_in, no_keyword}
 use Rattle.vax_macro.specs.Lines.{SourceLine, Reading}
 use Rattle.vax_macro.specs.Rest.{Opening, Use, macro_body, copies_of, copy_each, Pending, OpenCondition, Rest}
 

@@ -6,7 +6,7 @@ use Rattle.vax_lex.specs.Characters.{spells}
 use Rattle.vax_lex.specs.declared.token.Piece.{Piece}
 use Rattle.vax_lex.specs.declared.token.PieceKind.{PieceKind}
 use Rattle.vax_lex.specs.declared.token.PieceKind.TheVariants as kinds
-use Rattle.vax_lex.specs.declared.token.TokenKind.TheVariants.{Name, Number, Mark, Text}
+use Rattle.vax_lex.specs.declared.token.TokenKind.TheVariants.{Name, Mark}
 
 abbrev pub is_name_piece : PieceKind → Bool
 is_name_piece (kinds.Token Name) = true

@@ -1,11 +1,8 @@
 -- What the types of lines and expansions mean.
-use Rattle.std.specs.Prelude.{◌≡◌, ℕ, List, [], ◌∷◌, ◌++◌, map, drop, Option, Some, None, Vec}
+use Rattle.std.specs.Prelude.{◌≡◌, ℕ, List, [], ◌∷◌, ◌++◌, map, drop, Option, Some, None}
 use Rattle.std.specs.List.{flat_map}
 use Rattle.std.specs.Str.Lines.{lines}
-use Rattle.std.specs.Global.{Global}
-use Rattle.vax_macro.specs.Lines as specs
 use Rattle.vax_macro.specs.Lines.{SourceLine, Remainder, Reading, numbered}
-use Rattle.vax_macro.specs.Templates.{BodyLine}
 use Rattle.vax_macro.specs.Directives.{expansion, copies}
 use Rattle.vax_macro.specs.TemplateViews.{line_view, texts_view}
 use Rattle.vax_macro.specs.declared.line_types.SourceLine as code_line

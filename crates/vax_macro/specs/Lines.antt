@@ -1,11 +1,9 @@
 -- Lines of a source and of expansions, and how continued ones are joined (VAX MACRO and Instruction Set Reference Manual,
 -- "Line continuation").
-use Rattle.std.specs.Prelude.{ℕ, ◌+◌, ◌-◌, Bool, true, false, not, ◌&&◌, ◌==◌, nat_lt, nat_le, List, [], ◌∷◌, ◌++◌, length, take, drop, map, Option, Some, None, slice_index, if◌then◌else◌}
-use Rattle.std.specs.List.{slice_split}
+use Rattle.std.specs.Prelude.{ℕ, ◌+◌, ◌-◌, Bool, nat_lt, List, [], ◌∷◌, ◌++◌, length, take, drop, Option, Some, None, if◌then◌else◌}
 use Rattle.std.specs.Str.Lines.{lines}
-use Rattle.vax_lex.specs.Tokens.{pieces_of}
 use Rattle.vax_lex.specs.declared.token.Piece.{Piece}
-use Rattle.vax_macro.specs.Heads.{is_mark_piece, end_of}
+use Rattle.vax_macro.specs.Heads.{is_mark_piece}
 
 -- a line that is still to come: its number in the source, or that of the outermost call, and how many expansions it
 -- stands in

@@ -1,6 +1,6 @@
 // Conditions, and counts of repeats.
 
-ghost use Rattle.std.specs.Prelude.{◌≡◌, ◌+◌, ◌-◌, ◌<◌, ◌≤◌, ◌^◌, [], unwrap_or, All, length, drop, take, map, option_map, IfOk, IfSome, OnOk};
+ghost use Rattle.std.specs.Prelude.{◌≡◌, ◌+◌, ◌-◌, ◌<◌, ◌≤◌, ◌^◌, [], List, ℕ, unwrap_or, All, length, drop, take, map, option_map, IfOk, IfSome, OnOk};
 ghost use Rattle.std.specs.List.{list_any, list_all, prefix_len};
 ghost use Rattle.vax_lex.specs.Characters.{canonical_name};
 ghost use Rattle.vax_lex.specs.Tokens.{IsPieceOf};
@@ -392,9 +392,11 @@ fn named_condition(text: &[u8], piece: Piece) -> Option<Condition>
 }
 
 /// The pieces behind a condition's name that ends at a place, and the place from which they are read.
+#[tactic(auto, using(crate::proofs::Tokens::parts))]
 fn behind_name(end: u32, pieces: &[Piece]) -> (&[Piece], usize)
     ensures pieces { result.0.now ≡ behind_name end pieces.now }
     ensures place { result.1 ≡ name_end end pieces.now }
+    ensures within { (line : List ℕ) → All (IsPieceOf line) pieces.now → All (IsPieceOf line) result.0.now }
 {
     match pieces.split_first() {
         Some((first, rest)) if is_mark_piece(b',', first.kind) && first.start == end => {

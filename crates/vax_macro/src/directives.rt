@@ -94,8 +94,11 @@ pub(crate) fn operands_fault(pieces: &[Piece], operands: &[Piece]) -> Option<Fau
 fn is_named(text: &[u8], name: Option<&[u8]>, operands: &[Piece]) -> bool
     ensures { result ≡ is_named text.now (lent_view name.entry) operands.now }
 {
-    match (name, operands) {
-        (Some(name), [piece]) => spells(name, piece_text(text, *piece)),
+    let Some(name) = name else {
+        return false;
+    };
+    match operands {
+        [piece] => spells(name, piece_text(text, *piece)),
         _ => false,
     }
 }

@@ -1,6 +1,6 @@
 // Lines as they are read, with those that continue them.
 
-ghost use Rattle.std.specs.Prelude.{◌≡◌, ◌+◌, ◌<◌, ◌≤◌, ◌++◌, [], ℕ, All, IfOk, length};
+ghost use Rattle.std.specs.Prelude.{◌≡◌, ◌+◌, ◌<◌, ◌≤◌, ◌++◌, [], ℕ, All, IfOk, length, false};
 ghost use Rattle.vax_macro.specs.Lines.{dash_in, before_dash};
 ghost use Rattle.vax_macro.specs.LineViews.{line_of, lines_of, reading_of, remainder_of};
 ghost use Rattle.vax_macro.specs.Expansion.{whole};

@@ -18,7 +18,8 @@ use crate::arguments::{NoKeyword, arguments, behind_blanks, name_length};
 use crate::conditions::{Refusal, condition_in, guarded_in, number_in};
 use crate::directives::{
     argument_texts, begin_at, body_fault, call_frame, character_texts, copies_each, copies_of,
-    count_of, end_fault, ends, iterated_in, macro_formals, nested_after, one_formal, operand_text, operands_fault, shared,
+    count_of, end_fault, ends, iterated_in, macro_formals, nested_after, one_formal, operand_text,
+    operands_fault, shared,
 };
 use crate::error::{FaultKind, NoMemory};
 use crate::heads::{Head, Word, has_unprintable, piece_text, word_in};
@@ -83,11 +84,14 @@ impl Parsed<'_> {
         }
     }
 
-    /// The fault of an `.ENDM` that ends no macro, if its operands have one.
-    fn stray_end_fault(&self) -> Option<FaultKind>
-        ensures { result ≡ end_fault (line_in self.now).text None self.now.pieces.now (head_in self.now).operands }
+    /// What an `.ENDM` does that ends no macro.
+    fn unless_named(&self, done: Done) -> Done
+        ensures { result ≡ unless (end_fault (line_in self.now).text None self.now.pieces.now (head_in self.now).operands) done }
     {
-        end_fault(&self.line.text, None, self.pieces, self.operands())
+        match end_fault(&self.line.text, None, self.pieces, self.operands()) {
+            Some(kind) => Done::Fails(kind),
+            None => done,
+        }
     }
 
     /// Whether a label stands before that was not handed out yet.
@@ -254,8 +258,12 @@ impl State {
                 return Ok(Done::Label(parsed.head.label_end));
             }
             let text = &parsed.line.text;
-            if let Some(kind) = body_fault(&pending.use_of, text, parsed.pieces, parsed.operands())
-            {
+            if let Some(kind) = body_fault(
+                &pending.use_of,
+                text,
+                parsed.pieces,
+                parsed.operands(),
+            ) {
                 return Ok(Done::Fails(kind));
             }
             self.finish(alloc, pending)?;
@@ -592,9 +600,7 @@ impl State {
     {
         match word {
             Word::Macro => self.begin_macro(alloc, parsed),
-            Word::EndMacro => Ok(Done::Fails(
-                parsed.stray_end_fault().unwrap_or(FaultKind::Nesting),
-            )),
+            Word::EndMacro => Ok(parsed.unless_named(Done::Fails(FaultKind::Nesting))),
             Word::EndRepeat => Ok(parsed.unless_operands(Done::Fails(FaultKind::Nesting))),
             Word::Repeat => self.begin_repeat(alloc, names, parsed),
             Word::RepeatArguments => self.begin_arguments(alloc, parsed),
