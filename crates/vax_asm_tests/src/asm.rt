@@ -1,7 +1,7 @@
-// Whole sources.
-use vax_asm::*;
+//! Whole sources.
 use std::alloc::Global;
 use std::test::Fail;
+use vax_asm::*;
 use vax_module::{Module, RelocKind, Value};
 
 /// The bytes of a section.
@@ -33,21 +33,39 @@ TABLE:  .LONG   1,2[2],START
         0xEF, 0, 0, 0, 0, 0x00,
     ];
     assert!(rt; bytes_of(&module, 1) == code.as_slice());
-    assert!(rt; bytes_of(&module, 2) == [1, 0, 0, 0, 2, 0, 0, 0, 2, 0, 0, 0, 0, 0, 0, 0].as_slice());
+    assert!(rt;
+        bytes_of(&module, 2) == [1, 0, 0, 0, 2, 0, 0, 0, 2, 0, 0, 0, 0, 0, 0, 0].as_slice()
+    );
     assert!(rt; module.externals.as_slice().len() == 1);
+    let places = [
+        (
+            RelocKind::RelLong,
+            Value::Section {
+                section: 2,
+                offset: 0,
+            },
+        ),
+        (
+            RelocKind::RelLong,
+            Value::External {
+                index: 0,
+                offset: 0,
+            },
+        ),
+        (
+            RelocKind::Long,
+            Value::Section {
+                section: 1,
+                offset: 0,
+            },
+        ),
+    ];
     let relocs = module.relocs.as_slice();
-    assert!(rt; relocs.len() == 3);
+    assert!(rt; relocs.len() == places.len());
     assert!(rt; relocs[0].offset == 6);
-    assert!(rt; relocs[0].kind == RelocKind::RelLong);
-    assert!(rt; relocs[0].target == Value::Section {
-            section: 2,
-            offset: 0
-        });
-    assert!(rt; relocs[1].target == Value::External {
-            index: 0,
-            offset: 0
-        });
-    assert!(rt; relocs[2].kind == RelocKind::Long);
+    for (reloc, (kind, target)) in relocs.iter().zip(places) {
+        assert!(rt; reloc.kind == kind && reloc.target == target);
+    }
     assert!(rt; module.transfer.is_some());
     Ok(())
 }

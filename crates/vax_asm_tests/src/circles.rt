@@ -1,8 +1,8 @@
-// Definitions in circles, and in none.
+//! Definitions in circles, and in none.
 
-use vax_asm_circles::*;
 use std::alloc::Global;
 use std::test::Fail;
+use vax_asm_circles::*;
 
 /// A step: a definition that waits for these.
 fn step(alloc: Global, from: usize, to: &[usize]) -> Result<Step, Fail> {

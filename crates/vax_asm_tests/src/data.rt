@@ -1,13 +1,13 @@
 //! Directives of data as they are written.
 ghost use Rattle.std.specs.Prelude.{◌≤◌, length};
 
-use vax_asm_data::*;
 use std::alloc::Global;
 use std::process::Abort;
 use std::rc::Rc;
 use std::test::Fail;
-use vax_lex::{Token, Value, scan};
+use vax_asm_data::*;
 use vax_asm_first::{FaultKind, Origin, Refused, Standing};
+use vax_lex::{Token, Value, scan};
 use vax_word::Size;
 
 const ORIGIN: Origin = Origin { line: 1, place: 1 };
@@ -103,7 +103,11 @@ fn lays_out_items(rt: HostRuntime) -> Result<(), Fail> {
         (BYTES, ".BYTE .", Err(FaultKind::Form)),
         (BYTES, ".BYTE 1[N]", Err(FaultKind::Undefined)),
         (BYTES, ".BYTE 1[-1]", Err(FaultKind::Range)),
-        (Directive::Data(Size::L), ".LONG X+X/0", Err(FaultKind::Range)),
+        (
+            Directive::Data(Size::L),
+            ".LONG X+X/0",
+            Err(FaultKind::Range),
+        ),
         (BYTES, ".BYTE 1[X/0]", Err(FaultKind::Undefined)),
         (WORDS, ".WORD 1[600000]", Err(FaultKind::Large)),
         (Directive::Addresses, ".ADDRESS X[2]", Err(FaultKind::Form)),
@@ -117,7 +121,11 @@ fn lays_out_room_and_boundaries(rt: HostRuntime) -> Result<(), Fail> {
     let rows = [
         (LONGWORDS, ".BLKL", Ok(4)),
         (LONGWORDS, ".BLKL 2+1", Ok(12)),
-        (Directive::Space(Size::B), ".BLKB 1,2", Err(FaultKind::Count)),
+        (
+            Directive::Space(Size::B),
+            ".BLKB 1,2",
+            Err(FaultKind::Count),
+        ),
         (Directive::Align, ".ALIGN 10", Err(FaultKind::Range)),
         (Directive::Align, ".ALIGN X", Err(FaultKind::Undefined)),
         (Directive::Align, ".ALIGN", Err(FaultKind::Count)),
@@ -142,7 +150,11 @@ fn lays_out_text(rt: HostRuntime) -> Result<(), Fail> {
     let plain = Directive::Text(TextForm::Plain);
     let rows = [
         (plain, ".ASCII /ab/<13>/c/<X>", Ok(5)),
-        (Directive::Text(TextForm::CountFirst), ".ASCIC /ab/<13>", Ok(4)),
+        (
+            Directive::Text(TextForm::CountFirst),
+            ".ASCIC /ab/<13>",
+            Ok(4),
+        ),
         (Directive::Text(TextForm::ZeroLast), ".ASCIZ //", Ok(1)),
         (plain, ".ASCII <256>", Err(FaultKind::Range)),
         (plain, ".ASCII -1", Err(FaultKind::Form)),

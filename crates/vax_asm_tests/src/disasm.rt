@@ -1,95 +1,90 @@
-// Texts of instructions, and instructions of every opcode and mode that are decoded and assembled again. Expected texts are worked by hand from
-// the tables of the VAX MACRO and Instruction Set Reference Manual.
+//! Texts of instructions, and instructions of every opcode and mode that are decoded and assembled again. Expected texts are worked by hand
+//! from the tables of the VAX MACRO and Instruction Set Reference Manual.
 ghost use Rattle.std.specs.Prelude.{◌≤◌, length, None};
 ghost use Rattle.vax_isa.specs.Rows.{IsKind};
 
-use vax_disasm::decode;
 use std::alloc::Global;
-use std::process::Abort;
 use std::str;
 use std::test::Fail;
 use vax_asm_encode::{Operand, field_of, fill, may_stand, write_operand};
+use vax_asm_statement::{operand, sized};
+use vax_disasm::decode;
 use vax_isa::{Letter, OperandKind, Row, by_code, by_name};
 use vax_lex::{Names, Value, evaluate, scan};
-use vax_asm_statement::{operand, sized};
-
-fn decodes(rt: &impl Abort, bytes: &[u8], addr: u32, length: u8, text: &str) {
-    let decoded = decode(bytes, addr);
-    assert!(rt; decoded.map(|d| d.length) == Some(length));
-    assert!(rt; matches!(&decoded, Some(d) if d.text.as_str() == text));
-}
 
 #[test]
 fn decodes_forms(rt: HostRuntime) {
-    let rt = &rt;
-    decodes(rt, &[0xD0, 5, 0x51, 0], 0x8000_0200, 3, "MOVL S^#^X05,R1");
-    decodes(rt, &[0], 0, 1, "HALT");
-    decodes(rt, &[0xD4, 0x5C], 0, 2, "CLRL AP");
-    decodes(
-        rt,
-        &[0xB0, 0x8F, 0x34, 0x12, 0x6D],
-        0,
-        5,
-        "MOVW I^#^X1234,(FP)",
-    );
-    decodes(
-        rt,
-        &[0x7D, 0x8F, 1, 2, 3, 4, 5, 6, 7, 0xF8, 0x7E],
-        0,
-        11,
-        "MOVQ I^#^XF807060504030201,-(SP)",
-    );
-    decodes(rt, &[0x90, 0x81, 0x92], 0, 3, "MOVB (R1)+,@(R2)+");
-    decodes(
-        rt,
-        &[0x17, 0x9F, 0x78, 0x56, 0x34, 0x92],
-        0,
-        6,
-        "JMP @#^X92345678",
-    );
-    decodes(rt, &[0xD5, 0xA1, 0xFB], 0, 3, "TSTL B^-5(R1)");
-    decodes(rt, &[0xD5, 0xB1, 0x7F], 0, 3, "TSTL @B^127(R1)");
-    decodes(rt, &[0xD5, 0xCF, 0, 0x80], 0, 4, "TSTL W^-32768(PC)");
-    decodes(
-        rt,
-        &[0xD5, 0xFB, 0, 0, 0, 0x80],
-        0,
-        6,
-        "TSTL @L^-2147483648(R11)",
-    );
-    decodes(
-        rt,
-        &[0xD5, 0x4B, 0xFB, 0, 0, 0, 0x80],
-        0,
-        7,
-        "TSTL @L^-2147483648(R11)[R11]",
-    );
-    decodes(rt, &[0xD5, 0x42, 0x61], 0, 3, "TSTL (R1)[R2]");
-    decodes(rt, &[0x11, 0xFE], 0, 2, "BRB ^X00000000");
-    decodes(rt, &[0x31, 0xFB, 0xFF], 0, 3, "BRW ^XFFFFFFFE");
-    decodes(rt, &[0x1F, 0x10], 0x8000_0200, 2, "BCS ^X80000212");
-    decodes(
-        rt,
-        &[0xE0, 3, 0x52, 0xFC],
-        0xFFFF_FFFE,
-        4,
-        "BBS S^#^X03,R2,^XFFFFFFFE",
-    );
+    let rows: [(&[u8], u32, u8, &str); 17] = [
+        (&[0xD0, 5, 0x51, 0], 0x8000_0200, 3, "MOVL S^#^X05,R1"),
+        (&[0], 0, 1, "HALT"),
+        (&[0xD4, 0x5C], 0, 2, "CLRL AP"),
+        (&[0xB0, 0x8F, 0x34, 0x12, 0x6D], 0, 5, "MOVW I^#^X1234,(FP)"),
+        (
+            &[0x7D, 0x8F, 1, 2, 3, 4, 5, 6, 7, 0xF8, 0x7E],
+            0,
+            11,
+            "MOVQ I^#^XF807060504030201,-(SP)",
+        ),
+        (&[0x90, 0x81, 0x92], 0, 3, "MOVB (R1)+,@(R2)+"),
+        (
+            &[0x17, 0x9F, 0x78, 0x56, 0x34, 0x92],
+            0,
+            6,
+            "JMP @#^X92345678",
+        ),
+        (&[0xD5, 0xA1, 0xFB], 0, 3, "TSTL B^-5(R1)"),
+        (&[0xD5, 0xB1, 0x7F], 0, 3, "TSTL @B^127(R1)"),
+        (&[0xD5, 0xCF, 0, 0x80], 0, 4, "TSTL W^-32768(PC)"),
+        (
+            &[0xD5, 0xFB, 0, 0, 0, 0x80],
+            0,
+            6,
+            "TSTL @L^-2147483648(R11)",
+        ),
+        (
+            &[0xD5, 0x4B, 0xFB, 0, 0, 0, 0x80],
+            0,
+            7,
+            "TSTL @L^-2147483648(R11)[R11]",
+        ),
+        (&[0xD5, 0x42, 0x61], 0, 3, "TSTL (R1)[R2]"),
+        (&[0x11, 0xFE], 0, 2, "BRB ^X00000000"),
+        (&[0x31, 0xFB, 0xFF], 0, 3, "BRW ^XFFFFFFFE"),
+        (&[0x1F, 0x10], 0x8000_0200, 2, "BCS ^X80000212"),
+        (
+            &[0xE0, 3, 0x52, 0xFC],
+            0xFFFF_FFFE,
+            4,
+            "BBS S^#^X03,R2,^XFFFFFFFE",
+        ),
+    ];
+    for (bytes, addr, length, text) in rows {
+        let decoded = decode(bytes, addr);
+        assert!(rt;
+            matches!(&decoded, Some(d) if d.length == length && d.text.as_str() == text),
+            "{text}"
+        );
+    }
 }
 
 #[test]
 fn decodes_no_others(rt: HostRuntime) {
-    // Nothing, a reserved opcode, and an instruction that is cut short.
-    assert!(rt; decode(&[], 0).is_none());
-    assert!(rt; decode(&[0x57], 0).is_none());
-    assert!(rt; decode(&[0xD0, 5], 0).is_none());
-    assert!(rt; decode(&[0xD5, 0xC1, 0], 0).is_none());
-    // Reserved addressing modes: a literal for a result, PC, an index of a register, and a quadword in SP.
-    assert!(rt; decode(&[0xD4, 5], 0).is_none());
-    assert!(rt; decode(&[0xD5, 0x5F], 0).is_none());
-    assert!(rt; decode(&[0xD5, 0x42, 0x51], 0).is_none());
-    assert!(rt; decode(&[0xD5, 0x42, 0x82], 0).is_none());
-    assert!(rt; decode(&[0x7C, 0x5E], 0).is_none());
+    let rows: [&[u8]; 9] = [
+        // Nothing, a reserved opcode, and an instruction that is cut short.
+        &[],
+        &[0x57],
+        &[0xD0, 5],
+        &[0xD5, 0xC1, 0],
+        // Reserved addressing modes: a literal for a result, PC, an index of a register, and a quadword in SP.
+        &[0xD4, 5],
+        &[0xD5, 0x5F],
+        &[0xD5, 0x42, 0x51],
+        &[0xD5, 0x42, 0x82],
+        &[0x7C, 0x5E],
+    ];
+    for (i, bytes) in rows.into_iter().enumerate() {
+        assert!(rt; decode(bytes, 0).is_none(), "row {i}");
+    }
 }
 
 /// No name has a value.

@@ -1,7 +1,7 @@
 //! Operands as the manual shows them.
-use vax_asm_encode::*;
 use std::alloc::Global;
 use std::test::Fail;
+use vax_asm_encode::*;
 use vax_isa::{Letter, Narrow, OperandKind};
 use vax_lex::Value;
 use vax_module::RelocKind;
@@ -113,15 +113,50 @@ fn fills_fields(rt: HostRuntime) {
         (relative, (1, 127), place, number(0xFFFF_FF80)),
         (relative, (1, 128), place, Err(FieldFault::Range)),
         (relative, (2, 128), place, linked(RelocKind::RelByte)),
-        (Field::Number(Size::B), (0, 0), Value::Absolute(255), number(255)),
-        (Field::Number(Size::B), (0, 0), Value::Absolute(256), Err(FieldFault::Range)),
-        (Field::Number(Size::W), (0, 0), Value::Absolute(-32768), number(0x8000)),
+        (
+            Field::Number(Size::B),
+            (0, 0),
+            Value::Absolute(255),
+            number(255),
+        ),
+        (
+            Field::Number(Size::B),
+            (0, 0),
+            Value::Absolute(256),
+            Err(FieldFault::Range),
+        ),
+        (
+            Field::Number(Size::W),
+            (0, 0),
+            Value::Absolute(-32768),
+            number(0x8000),
+        ),
         (Field::Number(Size::W), (0, 0), place, Err(FieldFault::Form)),
-        (Field::Number(Size::L), (0, 0), place, linked(RelocKind::Long)),
-        (Field::Number(Size::Q), (0, 0), Value::Absolute(-1), number(u64::MAX)),
-        (displacement, (0, 0), Value::Absolute(32768), Err(FieldFault::Range)),
+        (
+            Field::Number(Size::L),
+            (0, 0),
+            place,
+            linked(RelocKind::Long),
+        ),
+        (
+            Field::Number(Size::Q),
+            (0, 0),
+            Value::Absolute(-1),
+            number(u64::MAX),
+        ),
+        (
+            displacement,
+            (0, 0),
+            Value::Absolute(32768),
+            Err(FieldFault::Range),
+        ),
         (displacement, (0, 0), place, linked(RelocKind::Word)),
-        (Field::Literal, (0, 0), Value::Absolute(64), Err(FieldFault::Range)),
+        (
+            Field::Literal,
+            (0, 0),
+            Value::Absolute(64),
+            Err(FieldFault::Range),
+        ),
     ];
     for (i, (field, (section, at), value, want)) in rows.into_iter().enumerate() {
         assert!(rt; at < 1000, "row {i}");

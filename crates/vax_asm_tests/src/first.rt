@@ -1,8 +1,8 @@
 //! What the first pass keeps.
-use vax_asm_first::*;
 use std::rc::Rc;
 use std::test::Fail;
 use vax_asm_encode::Field;
+use vax_asm_first::*;
 use vax_asm_sections::Piece;
 use vax_lex::{ExprError, Value, scan};
 use vax_word::Size;
@@ -51,7 +51,9 @@ fn tells_expressions_where_they_stand(rt: HostRuntime) -> Result<(), Fail> {
     };
     standing.put(1, Piece::Field(fixup))?;
     assert!(rt; standing.section_size() == 9);
-    assert!(rt; standing.put(2_000_000, Piece::Zeros(2_000_000)) == Err(Refused::Fault(FaultKind::Large)));
+    assert!(rt;
+        standing.put(2_000_000, Piece::Zeros(2_000_000)) == Err(Refused::Fault(FaultKind::Large))
+    );
     Ok(())
 }
 
@@ -59,7 +61,11 @@ fn tells_expressions_where_they_stand(rt: HostRuntime) -> Result<(), Fail> {
 fn tells_the_fault_that_counts(rt: HostRuntime) {
     let form = Some(FaultKind::Form);
     let range = Some(FaultKind::Range);
-    for (one, other, want) in [(range, form, form), (None, range, range), (form, None, form)] {
+    for (one, other, want) in [
+        (range, form, form),
+        (None, range, range),
+        (form, None, form),
+    ] {
         assert!(rt; lowest(one, other) == want);
     }
     assert!(rt; unless_place(true, range) == form);

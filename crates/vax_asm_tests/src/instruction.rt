@@ -1,16 +1,16 @@
-// Statements of instructions. The bytes are the manual's.
+//! Statements of instructions. The bytes are the manual's.
 ghost use Rattle.std.specs.Prelude.{◌<◌, ◌+◌, ◌^◌, IfOk};
 ghost use Rattle.vax_asm_encode.specs.Bytes.{HoldsIn};
 
-use vax_asm_instruction::*;
 use std::alloc::Global;
 use std::rc::Rc;
 use std::test::Fail;
 use vax_asm_encode::{Field, Operand, field_of, fill, write_operand};
-use vax_isa::by_name;
-use vax_asm_sections::Piece;
-use vax_lex::{Value, scan};
 use vax_asm_first::{Content, FaultKind, Filling, Fixup, Origin, Refused, Standing};
+use vax_asm_instruction::*;
+use vax_asm_sections::Piece;
+use vax_isa::by_name;
+use vax_lex::{Value, scan};
 
 /// Carries out a statement of the instruction with a name.
 fn state(
@@ -65,7 +65,8 @@ fn field_at(operand: Operand, at: u32) -> u32 {
     match operand {
         Operand::Branch => at,
         Operand::Indexed(_, _) => at.saturating_add(2),
-        Operand::Literal | Operand::Register(_) | Operand::Immediate | Operand::Memory(_) => at.saturating_add(1),
+        Operand::Literal | Operand::Register(_) | Operand::Immediate | Operand::Memory(_) =>
+            at.saturating_add(1),
     }
 }
 

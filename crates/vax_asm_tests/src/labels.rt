@@ -1,15 +1,17 @@
 //! Statements that define names and choose sections, as they are written.
 ghost use Rattle.std.specs.Prelude.{◌≤◌, length};
 
-use vax_asm_labels::*;
 use std::alloc::Global;
 use std::process::Abort;
 use std::rc::Rc;
 use std::test::Fail;
+use vax_asm_first::{
+    Assignment, Content, FaultKind, Filling, Fixup, Origin, Refused, Standing, first_circle,
+};
+use vax_asm_labels::*;
 use vax_asm_sections::Piece;
-use vax_lex::{TokenKind, Value, scan};
-use vax_asm_first::{Assignment, Content, FaultKind, Filling, Fixup, Origin, Refused, Standing, first_circle};
 use vax_asm_statement::Label;
+use vax_lex::{TokenKind, Value, scan};
 use vax_word::Size;
 
 const ORIGIN: Origin = Origin { line: 1, place: 1 };
@@ -130,14 +132,12 @@ fn test_alone(
 }
 
 /// What names stand for where a statement stands.
-fn test_known(
-    rt: &impl Abort,
-    standing: &Standing,
-    here: Value,
-    rows: &[(&str, Option<Value>)],
-) {
+fn test_known(rt: &impl Abort, standing: &Standing, here: Value, rows: &[(&str, Option<Value>)]) {
     for (name, value) in rows {
-        assert!(rt; standing.scope.known(name.as_bytes(), here) == *value, "{name}");
+        assert!(rt;
+            standing.scope.known(name.as_bytes(), here) == *value,
+            "{name}"
+        );
     }
 }
 
@@ -161,7 +161,12 @@ fn labels_have_the_value_of_their_place(rt: HostRuntime) -> Result<(), Fail> {
     test_stated(&rt, alloc, &mut standing, &[(GLOBAL_LABEL, "first", None)])?;
     standing.put(3, Piece::Zeros(3))?;
     test_stated(&rt, alloc, &mut standing, &[(LABEL, "010$", None)])?;
-    test_known(&rt, &standing, here, &[("FIRST", place(0, 0)), ("10$", place(0, 3))]);
+    test_known(
+        &rt,
+        &standing,
+        here,
+        &[("FIRST", place(0, 0)), ("10$", place(0, 3))],
+    );
     assert!(rt; first_is_global(&standing));
     let again = [(LABEL, "FIRST", Some(FaultKind::Duplicate))];
     test_stated(&rt, alloc, &mut standing, &again)?;
@@ -189,12 +194,24 @@ fn assignments_may_wait_for_later_ones(rt: HostRuntime) -> Result<(), Fail> {
     let here = standing.here()?;
     let global = Kind::Assignment { global: true };
     let mut later = Vec::new(alloc);
-    test_behind(&rt, alloc, &mut standing, &mut later, &[(global, "X == Y+1", None)])?;
+    test_behind(
+        &rt,
+        alloc,
+        &mut standing,
+        &mut later,
+        &[(global, "X == Y+1", None)],
+    )?;
     let x = standing.scope.appear(alloc, b"X")?;
     assert!(rt; later.len() == 1 && later[0].definition == x);
     assert!(rt; first_is_global(&standing));
     test_known(&rt, &standing, here, &[("X", None)]);
-    test_behind(&rt, alloc, &mut standing, &mut later, &[(ASSIGNMENT, "Y = 4", None)])?;
+    test_behind(
+        &rt,
+        alloc,
+        &mut standing,
+        &mut later,
+        &[(ASSIGNMENT, "Y = 4", None)],
+    )?;
     test_known(&rt, &standing, here, &[("X", Some(Value::Absolute(5)))]);
     let rows = [(ASSIGNMENT, "X = X*2", None), (ASSIGNMENT, "Z = .", None)];
     test_stated(&rt, alloc, &mut standing, &rows)?;
@@ -229,7 +246,13 @@ fn a_circle_is_found_where_it_closes(rt: HostRuntime) -> Result<(), Fail> {
     let rows = [(ASSIGNMENT, "X = Y", None), (ASSIGNMENT, "Y = Z-Z", None)];
     test_behind(&rt, alloc, &mut standing, &mut later, &rows)?;
     assert!(rt; first_circle(alloc, &later)?.is_none());
-    test_behind(&rt, alloc, &mut standing, &mut later, &[(ASSIGNMENT, "Z = X", None)])?;
+    test_behind(
+        &rt,
+        alloc,
+        &mut standing,
+        &mut later,
+        &[(ASSIGNMENT, "Z = X", None)],
+    )?;
     assert!(rt; later.len() == 3);
     assert!(rt; first_circle(alloc, &later)? == Some(ORIGIN));
     Ok(())
@@ -251,7 +274,12 @@ fn chooses_sections_with_their_attributes(rt: HostRuntime) -> Result<(), Fail> {
     ];
     test_stated(&rt, alloc, &mut standing, &data)?;
     assert!(rt; standing.layout.number() == 2);
-    test_stated(&rt, alloc, &mut standing, &[(Kind::Section, ".PSECT CODE", None)])?;
+    test_stated(
+        &rt,
+        alloc,
+        &mut standing,
+        &[(Kind::Section, ".PSECT CODE", None)],
+    )?;
     assert!(rt; standing.layout.number() == 1);
     let conflict = [(Kind::Section, ".PSECT DATA,NOWRT", Some(FaultKind::Form))];
     test_stated(&rt, alloc, &mut standing, &conflict)
@@ -263,7 +291,12 @@ fn tells_the_faults_of_sections(rt: HostRuntime) -> Result<(), Fail> {
         (None, Kind::Section, ".PSECT", Some(FaultKind::Count)),
         (None, Kind::Section, ".PSECT 10$", Some(FaultKind::Form)),
         (None, Kind::Section, ".PSECT A,", Some(FaultKind::Form)),
-        (None, Kind::Section, ".PSECT A,BYTE,WORD", Some(FaultKind::Form)),
+        (
+            None,
+            Kind::Section,
+            ".PSECT A,BYTE,WORD",
+            Some(FaultKind::Form),
+        ),
     ];
     test_alone(&rt, rt.alloc(), &rows)
 }
@@ -293,7 +326,12 @@ fn entries_have_a_word_for_their_mask(rt: HostRuntime) -> Result<(), Fail> {
         (Kind::Entry, ".ENTRY begin,^M<R2,R11>", None),
     ];
     test_stated(&rt, alloc, &mut standing, &rows)?;
-    test_known(&rt, &standing, here, &[("BEGIN", place(0, 0)), ("1$", None)]);
+    test_known(
+        &rt,
+        &standing,
+        here,
+        &[("BEGIN", place(0, 0)), ("1$", None)],
+    );
     assert!(rt; first_is_global(&standing));
     let section = standing.layout.current();
     assert!(rt; section.size == 2);
@@ -308,8 +346,18 @@ fn tells_the_faults_of_entries(rt: HostRuntime) -> Result<(), Fail> {
         (None, Kind::Entry, ".ENTRY X", Some(FaultKind::Count)),
         (None, Kind::Entry, ".ENTRY 1$,1", Some(FaultKind::Form)),
         (None, Kind::Entry, ".ENTRY X,1[2]", Some(FaultKind::Form)),
-        (None, Kind::Entry, ".ENTRY X,70000+X-X", Some(FaultKind::Range)),
-        (Some("X"), Kind::Entry, ".ENTRY X,70000", Some(FaultKind::Duplicate)),
+        (
+            None,
+            Kind::Entry,
+            ".ENTRY X,70000+X-X",
+            Some(FaultKind::Range),
+        ),
+        (
+            Some("X"),
+            Kind::Entry,
+            ".ENTRY X,70000",
+            Some(FaultKind::Duplicate),
+        ),
     ];
     test_alone(&rt, alloc, &rows)?;
     // Where the name is at fault the block of local labels is the one before.

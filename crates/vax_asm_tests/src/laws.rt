@@ -1,7 +1,7 @@
-// Places and the bytes that lie there.
-use vax_asm_laws::*;
+//! Places and the bytes that lie there.
 use std::test::Fail;
 use vax_asm::assemble;
+use vax_asm_laws::*;
 use vax_module::Value;
 
 #[test]

@@ -1,16 +1,16 @@
-// Tables of lines and expressions, with what the rules give for them.
+//! Tables of lines and expressions, with what the rules give for them.
 
 ghost use Rattle.std.specs.Prelude.{Some, None, pos, negsuc, codes, if◌then◌else◌};
 ghost use Rattle.std.specs.Str.{bytes_eq};
 ghost use Rattle.vax_lex.specs.declared.value.Value.TheVariants.{Absolute, Section, External};
 
+use std::alloc::Global;
+use std::process::Abort;
+use std::test::Fail;
 use vax_lex::{
     ExprError, LexError, Names, PieceKind, Span, TokenKind, Value, certain_fault, evaluate, names,
     pieces, scan,
 };
-use std::alloc::Global;
-use std::process::Abort;
-use std::test::Fail;
 
 /// Whether a text is this word.
 fn is_word(text: &[u8], word: &[u8]) -> bool

@@ -1,7 +1,7 @@
 //! Whole listings. Expected texts are worked by hand from the tables of the VAX MACRO and Instruction Set Reference Manual.
-use vax_listing::write_listing;
 use std::alloc::{AllocError, Global};
 use std::test::Fail;
+use vax_listing::write_listing;
 use vax_outside::{Chan, Failed, MemSink};
 use vax_space::{Area, Bytes};
 

@@ -1,6 +1,6 @@
-// A module, made and looked at.
-use vax_module::*;
+//! A module, made and looked at.
 use std::test::Fail;
+use vax_module::*;
 
 #[test]
 fn tells_its_parts(rt: HostRuntime) -> Result<(), Fail> {
@@ -28,11 +28,9 @@ fn tells_its_parts(rt: HostRuntime) -> Result<(), Fail> {
         relocs: Items::from([reloc].to_vec(rt.alloc())?),
         transfer: None,
     };
-    assert!(rt; module.sections.as_slice().len() == 1);
-    assert!(rt; module.sections.as_slice()[0].bytes.as_slice().len() == 6);
-    assert!(rt; module.externals.as_slice().len() == 1);
-    assert!(rt; module.externals.as_slice()[0].as_slice() == b"X".as_slice());
-    assert!(rt; module.globals.as_slice().len() == 0);
+    assert!(rt; matches!(module.sections.as_slice(), [s] if s.bytes.as_slice().len() == 6));
+    assert!(rt; matches!(module.externals.as_slice(), [x] if x.as_slice() == b"X".as_slice()));
+    assert!(rt; module.globals.as_slice().is_empty());
     assert!(rt; module.relocs.as_slice() == [reloc].as_slice());
     assert!(rt; module.transfer.is_none());
     Ok(())
@@ -40,10 +38,15 @@ fn tells_its_parts(rt: HostRuntime) -> Result<(), Fail> {
 
 #[test]
 fn tells_widths(rt: HostRuntime) {
-    assert!(rt; RelocKind::Byte.width() == 1);
-    assert!(rt; RelocKind::Word.width() == 2);
-    assert!(rt; RelocKind::Long.width() == 4);
-    assert!(rt; RelocKind::RelByte.width() == 1);
-    assert!(rt; RelocKind::RelWord.width() == 2);
-    assert!(rt; RelocKind::RelLong.width() == 4);
+    let widths = [
+        (RelocKind::Byte, 1),
+        (RelocKind::Word, 2),
+        (RelocKind::Long, 4),
+        (RelocKind::RelByte, 1),
+        (RelocKind::RelWord, 2),
+        (RelocKind::RelLong, 4),
+    ];
+    for (kind, width) in widths {
+        assert!(rt; kind.width() == width);
+    }
 }

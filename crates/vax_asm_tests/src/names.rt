@@ -1,6 +1,6 @@
-// Names as statements define and use them.
-use vax_asm_names::*;
+//! Names as statements define and use them.
 use std::test::Fail;
+use vax_asm_names::*;
 
 #[test]
 fn numbers_names_as_they_appear(rt: HostRuntime) -> Result<(), Fail> {

@@ -1,15 +1,15 @@
-// Names, labels and assignments as statements make them.
+//! Names, labels and assignments as statements make them.
 ghost use Rattle.std.specs.Prelude.{◌≡◌, ◌≤◌, IfOk, length};
 ghost use Rattle.vax_asm_scope.specs.Kept.{scope_of};
 ghost use Rattle.vax_asm_values.specs.Values.{Means, Worked};
 ghost use Rattle.vax_asm_values.specs.View.{written_of};
 
-use vax_asm_scope::*;
 use std::alloc::Global;
 use std::rc::Rc;
 use std::test::Fail;
-use vax_lex::{ExprError, Value, evaluate, scan};
+use vax_asm_scope::*;
 use vax_asm_values::Expression;
+use vax_lex::{ExprError, Value, evaluate, scan};
 
 /// Where the expressions of the tests stand.
 const HERE: Value = Value::Section {

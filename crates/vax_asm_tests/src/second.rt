@@ -1,4 +1,4 @@
-// Fields that are filled in, names, and faults.
+//! Fields that are filled in, names, and faults.
 ghost use Rattle.std.specs.Prelude.{◌≡◌, ◌≤◌, true, IfOk, length};
 ghost use Rattle.vax_asm_first.specs.Contents.{IsSound};
 ghost use Rattle.vax_asm_first.specs.declared.types.Content.TheVariants.{Operand as of_operand};
@@ -6,17 +6,17 @@ ghost use Rattle.vax_asm_scope.specs.Kept.{scope_of};
 ghost use Rattle.vax_asm_values.specs.Values.{Means, Worked};
 ghost use Rattle.vax_asm_values.specs.View.{written_of};
 
-use vax_asm_second::*;
 use std::alloc::Global;
 use std::rc::Rc;
 use std::test::Fail;
 use vax_asm_encode::{Base, Operand, may_stand};
-use vax_isa::{Letter, Narrow, OperandKind};
+use vax_asm_first::{Assignment, Content, Fixup, Origin, Standing, Told, Transfer, filling_of};
+use vax_asm_second::*;
 use vax_asm_sections::{Attributes, Piece};
+use vax_isa::{Letter, Narrow, OperandKind};
 use vax_lex::{Value, scan};
 use vax_macro::{Begin, FaultKind};
 use vax_module::{Module, Reloc, RelocKind};
-use vax_asm_first::{Assignment, Content, Fixup, Origin, Standing, Told, Transfer, filling_of};
 use vax_word::Size;
 
 const READ_LONG: OperandKind = OperandKind {

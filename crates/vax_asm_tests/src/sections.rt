@@ -1,6 +1,6 @@
-// Sections as `.PSECT` and `.ALIGN` make them.
-use vax_asm_sections::*;
+//! Sections as `.PSECT` and `.ALIGN` make them.
 use std::test::Fail;
+use vax_asm_sections::*;
 
 const NOTHING_SAID: Attributes = Attributes {
     align: None,

@@ -1,10 +1,10 @@
 //! Statements and operands as the manual shows them.
 ghost use Rattle.std.specs.Prelude.{◌≤◌, length};
 
-use vax_asm_statement::*;
 use std::alloc::Global;
 use std::test::Fail;
 use vax_asm_encode::{Base, Operand};
+use vax_asm_statement::*;
 use vax_isa::Narrow;
 use vax_lex::{ExprError, Token, Value, scan};
 use vax_word::Size;
@@ -46,7 +46,12 @@ fn reads_modes(rt: HostRuntime) -> Result<(), Fail> {
         ("@(AP)", Mode::PointerDeferred(12), 0, None),
         ("@#X", Mode::Absolute, 1, None),
         ("4(FP)", displaced(None, false, 13), 1, None),
-        ("@W^-4(R1)[R2]", displaced(Some(Narrow::W), true, 1), 2, Some(2)),
+        (
+            "@W^-4(R1)[R2]",
+            displaced(Some(Narrow::W), true, 1),
+            2,
+            Some(2),
+        ),
         ("G^X", relative(Some(Narrow::L)), 1, None),
         // no register: the symbol
         ("R16", relative(None), 1, None),
@@ -68,13 +73,7 @@ fn body_of(alloc: Global, line: &str) -> Result<u8, Fail> {
     let tokens = scan(alloc, line.as_bytes())?;
     Ok(match read_statement(&tokens).body {
         Body::Nothing => 0,
-        Body::Assignment { global, .. } => {
-            if global {
-                2
-            } else {
-                1
-            }
-        }
+        Body::Assignment { global, .. } => { if global { 2 } else { 1 } }
         Body::Malformed => 3,
         Body::Operation { .. } => 4,
     })
@@ -91,7 +90,12 @@ fn reads_statements(rt: HostRuntime) -> Result<(), Fail> {
     };
     assert!(rt; operands.len() < 100);
     assert!(rt; parts(alloc, operands)?.len() == 3);
-    for (line, body) in [("", 0), ("SIZE = = 5", 1), ("SIZE == 5", 2), ("5 = SIZE", 3)] {
+    for (line, body) in [
+        ("", 0),
+        ("SIZE = = 5", 1),
+        ("SIZE == 5", 2),
+        ("5 = SIZE", 3),
+    ] {
         assert!(rt; body_of(alloc, line)? == body, "{line}");
     }
     Ok(())
@@ -116,13 +120,31 @@ fn chooses_sizes(rt: HostRuntime) {
     let indexed = Operand::Indexed(Base::Relative(Narrow::L), 2);
     // a mode and its index, where it stands, its value, and the operand
     let rows = [
-        (Mode::Constant, None, (0, 1), number(63), Some(Operand::Literal)),
-        (Mode::Constant, None, (0, 1), number(64), Some(Operand::Immediate)),
+        (
+            Mode::Constant,
+            None,
+            (0, 1),
+            number(63),
+            Some(Operand::Literal),
+        ),
+        (
+            Mode::Constant,
+            None,
+            (0, 1),
+            number(64),
+            Some(Operand::Immediate),
+        ),
         (Mode::Constant, Some(1), (0, 1), number(5), None),
         (relative(None), None, (0, 127), place, Some(near)),
         (relative(None), None, (0, 128), place, Some(far)),
         (relative(None), Some(2), (1, 0), place, Some(indexed)),
-        (displaced(None, false, 3), None, (0, 1), number(128), Some(Operand::Memory(base))),
+        (
+            displaced(None, false, 3),
+            None,
+            (0, 1),
+            number(128),
+            Some(Operand::Memory(base)),
+        ),
     ];
     for (i, (mode, index, (section, at), value, want)) in rows.into_iter().enumerate() {
         assert!(rt; at < 1000, "row {i}");

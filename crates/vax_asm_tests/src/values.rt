@@ -1,13 +1,13 @@
-// Definitions that rest on later ones, and on themselves.
+//! Definitions that rest on later ones, and on themselves.
 ghost use Rattle.std.specs.Prelude.{◌≡◌, ◌≤◌, ◌<◌, ℕ, IfOk, length};
 ghost use Rattle.vax_asm_values.specs.Definitions.{sources_of};
 ghost use Rattle.vax_asm_values.specs.Values.{Means, Worked};
 ghost use Rattle.vax_asm_values.specs.View.{written_of};
 
-use vax_asm_values::*;
 use std::alloc::Global;
 use std::rc::Rc;
 use std::test::Fail;
+use vax_asm_values::*;
 use vax_lex::{ExprError, Value, scan};
 
 /// An expression with one name in it.

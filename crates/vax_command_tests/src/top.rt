@@ -107,11 +107,11 @@ fn listed(alloc: Global, fail: Option<Failing>) -> Result<Vec<Failing>, AllocErr
     Ok(fails)
 }
 
-/// Calls the program with words over these files, with calls that are to fail.
-fn call_failing(rt: &HostRuntime, words: &[&str], fails: Failures) -> Result<Left, Fail> {
+/// Calls the program with the words of a line, between single blanks, over these files, with calls that are to fail.
+fn call_failing(rt: &HostRuntime, line: &str, fails: Failures) -> Result<Left, Fail> {
     let alloc = rt.alloc();
     let mut all = Vec::new(alloc);
-    for word in words {
+    for word in line.split(' ') {
         all.push(String::from_str(alloc, word)?)?;
     }
     let mut held = Vec::new(alloc);
@@ -131,8 +131,8 @@ fn call_failing(rt: &HostRuntime, words: &[&str], fails: Failures) -> Result<Lef
     })
 }
 
-fn call(rt: &HostRuntime, words: &[&str]) -> Result<Left, Fail> {
-    call_failing(rt, words, NONE)
+fn call(rt: &HostRuntime, line: &str) -> Result<Left, Fail> {
+    call_failing(rt, line, NONE)
 }
 
 fn expect<R: Abort>(rt: &R, left: &Left, code: u8, out: &[u8], report: &[u8]) {
@@ -150,24 +150,24 @@ fn begins<R: Abort>(rt: &R, left: &Left, code: u8, out: &[u8], report: &[u8]) {
 
 #[test]
 fn runs_in_kernel_mode(rt: HostRuntime) -> Result<(), Fail> {
-    expect(&rt, &call(&rt, &["bare", "A"])?, 0, b"", REPORT.as_bytes());
-    let words = ["bare", "--input=A", "--steps", "2", "IMAGE"];
-    expect(&rt, &call(&rt, &words)?, 0, b"", REPORT.as_bytes());
-    let left = call(&rt, &["bare", "A", "--steps=0"])?;
+    expect(&rt, &call(&rt, "bare A")?, 0, b"", REPORT.as_bytes());
+    let line = "bare --input=A --steps 2 IMAGE";
+    expect(&rt, &call(&rt, line)?, 0, b"", REPORT.as_bytes());
+    let left = call(&rt, "bare A --steps=0")?;
     begins(&rt, &left, 0, b"", b"ENDING STEPS\nSTEPS 0\n");
-    let left = call(&rt, &["bare", "A", "--turns=1"])?;
+    let left = call(&rt, "bare A --turns=1")?;
     begins(&rt, &left, 8, b"", b"ENDING TURNS\nSTEPS 0\n");
     Ok(())
 }
 
 #[test]
 fn runs_in_user_mode(rt: HostRuntime) -> Result<(), Fail> {
-    let left = call(&rt, &["run", "WORDS", "--input", "TEXT"])?;
+    let left = call(&rt, "run WORDS --input TEXT")?;
     begins(&rt, &left, 0, b"6\n", b"ENDING HALT\n");
     assert!(rt; left.sink.bytes(Chan::Report).ends_with(b"INPUT 23\n"));
     begins(
         &rt,
-        &call(&rt, &["work"])?,
+        &call(&rt, "work")?,
         0,
         b"",
         b"ENDING HALT\nSTEPS 107\n",
@@ -177,14 +177,8 @@ fn runs_in_user_mode(rt: HostRuntime) -> Result<(), Fail> {
 
 #[test]
 fn builds(rt: HostRuntime) -> Result<(), Fail> {
-    expect(
-        &rt,
-        &call(&rt, &["build", "A", "--base", "bare"])?,
-        0,
-        IMAGE,
-        b"",
-    );
-    let left = call(&rt, &["build", "IMAGE", "--base=bare", "--format=2"])?;
+    expect(&rt, &call(&rt, "build A --base bare")?, 0, IMAGE, b"");
+    let left = call(&rt, "build IMAGE --base=bare --format=2")?;
     assert!(rt; left.code == 0);
     assert!(rt;
         left.sink
@@ -196,41 +190,37 @@ fn builds(rt: HostRuntime) -> Result<(), Fail> {
 
 #[test]
 fn refuses(rt: HostRuntime) -> Result<(), Fail> {
-    let refusals: [(&[&str], u8, &[u8]); 14] = [
-        (&["bare", "A", "--frames", "63"], 1, b"vax: usage\n"),
-        (&["console", "A"], 1, b"vax: usage\n"),
-        (&["bare", "NONE"], 2, b"vax: missing NONE\n"),
-        (&["bare", "--input", "NO", "A"], 2, b"vax: missing NO\n"),
-        (&["bare", "FROB"], 4, b"vax: source 1 line 1 fault 2\n"),
-        (&["run", "A", "FROB"], 4, b"vax: source 2 line 1 fault 2\n"),
+    let refusals: [(&str, u8, &[u8]); 14] = [
+        ("bare A --frames 63", 1, b"vax: usage\n"),
+        ("console A", 1, b"vax: usage\n"),
+        ("bare NONE", 2, b"vax: missing NONE\n"),
+        ("bare --input NO A", 2, b"vax: missing NO\n"),
+        ("bare FROB", 4, b"vax: source 1 line 1 fault 2\n"),
+        ("run A FROB", 4, b"vax: source 2 line 1 fault 2\n"),
+        ("run A --system FROB", 4, b"vax: source 0 line 1 fault 2\n"),
+        ("bare FAR", 5, b"vax: link fault 1 NOWHERE\n"),
+        ("bare X Y", 5, b"vax: link fault 2 X\n"),
+        ("build EMPTY", 5, b"vax: link fault 4\n"),
         (
-            &["run", "A", "--system", "FROB"],
-            4,
-            b"vax: source 0 line 1 fault 2\n",
-        ),
-        (&["bare", "FAR"], 5, b"vax: link fault 1 NOWHERE\n"),
-        (&["bare", "X", "Y"], 5, b"vax: link fault 2 X\n"),
-        (&["build", "EMPTY"], 5, b"vax: link fault 4\n"),
-        (
-            &["bare", "A", "--schedule", "WRONG"],
+            "bare A --schedule WRONG",
             6,
             b"vax: schedule line 2 fault 1\n",
         ),
-        (&["run", "IMAGE"], 7, b"vax: image place 6 fault 3\n"),
-        (&["bare", "CUT"], 7, b"vax: image place 20 fault 8\n"),
-        (&["bare", "A", "IMAGE"], 7, b"vax: image place 0 fault 11\n"),
+        ("run IMAGE", 7, b"vax: image place 6 fault 3\n"),
+        ("bare CUT", 7, b"vax: image place 20 fault 8\n"),
+        ("bare A IMAGE", 7, b"vax: image place 0 fault 11\n"),
     ];
-    for (words, code, line) in refusals {
-        expect(&rt, &call(&rt, words)?, code, b"", line);
+    for (line, code, report) in refusals {
+        expect(&rt, &call(&rt, line)?, code, b"", report);
     }
     Ok(())
 }
 
 #[test]
 fn tells_failures(rt: HostRuntime) -> Result<(), Fail> {
-    for (words, read) in [
-        (["bare", "A", "--input", "A"].as_slice(), Failing::Read(2)),
-        (&["build", "A"], Failing::Read(1)),
+    for (line, read) in [
+        ("bare A --input A", Failing::Read(2)),
+        ("build A", Failing::Read(1)),
     ] {
         let fails = Failures {
             read: Some(read),
@@ -238,7 +228,7 @@ fn tells_failures(rt: HostRuntime) -> Result<(), Fail> {
         };
         expect(
             &rt,
-            &call_failing(&rt, words, fails)?,
+            &call_failing(&rt, line, fails)?,
             10,
             b"",
             b"vax: read\n",
@@ -250,12 +240,12 @@ fn tells_failures(rt: HostRuntime) -> Result<(), Fail> {
     };
     expect(
         &rt,
-        &call_failing(&rt, &["bare", "A"], fails)?,
+        &call_failing(&rt, "bare A", fails)?,
         11,
         b"",
         b"ENDING HALT\nST",
     );
-    let left = call_failing(&rt, &["build", "IMAGE", "--base", "bare"], fails)?;
+    let left = call_failing(&rt, "build IMAGE --base bare", fails)?;
     expect(&rt, &left, 11, &IMAGE[..14], b"");
     Ok(())
 }
@@ -263,7 +253,7 @@ fn tells_failures(rt: HostRuntime) -> Result<(), Fail> {
 /// Memory is shown behind the registers; a byte in no area has no digits.
 #[test]
 fn shows_memory(rt: HostRuntime) -> Result<(), Fail> {
-    let left = call(&rt, &["bare", "A", "--dump", "800003FE:4,80000201:17"])?;
+    let left = call(&rt, "bare A --dump 800003FE:4,80000201:17")?;
     assert!(rt; left.code == 0);
     let shown = left
         .sink
@@ -276,8 +266,8 @@ fn shows_memory(rt: HostRuntime) -> Result<(), Fail> {
 /// A page that is on file is read for the report, and that read fails.
 #[test]
 fn fails_to_show_memory(rt: HostRuntime) -> Result<(), Fail> {
-    let words = ["bare", "WIDE", "--frames=64", "--dump=80000400:1"];
-    let left = call(&rt, &words)?;
+    let line = "bare WIDE --frames=64 --dump=80000400:1";
+    let left = call(&rt, line)?;
     begins(&rt, &left, 0, b"", b"ENDING HALT\nSTEPS 243\n");
     assert!(rt;
         left.sink
@@ -288,7 +278,7 @@ fn fails_to_show_memory(rt: HostRuntime) -> Result<(), Fail> {
         page: Some(Failing::Read(1)),
         ..NONE
     };
-    let left = call_failing(&rt, &words, fails)?;
+    let left = call_failing(&rt, line, fails)?;
     begins(&rt, &left, 9, b"", b"ENDING PAGEFAULT\nSTEPS 243\n");
     assert!(rt; left.sink.bytes(Chan::Report).ends_with(b"INPUT 0\n"));
     Ok(())
@@ -296,16 +286,8 @@ fn fails_to_show_memory(rt: HostRuntime) -> Result<(), Fail> {
 
 #[test]
 fn records_evictions(rt: HostRuntime) -> Result<(), Fail> {
-    let words = [
-        "bare",
-        "COUNTS",
-        "--schedule",
-        "EACH",
-        "--steps",
-        "6",
-        "--record=on",
-    ];
-    let left = call(&rt, &words)?;
+    let line = "bare COUNTS --schedule EACH --steps 6 --record=on";
+    let left = call(&rt, line)?;
     begins(&rt, &left, 0, b"", b"ENDING STEPS\nSTEPS 6\n");
     assert!(rt; left.sink.bytes(Chan::Record) == EVICTIONS.as_bytes());
     Ok(())
@@ -313,18 +295,10 @@ fn records_evictions(rt: HostRuntime) -> Result<(), Fail> {
 
 #[test]
 fn holds_a_session(rt: HostRuntime) -> Result<(), Fail> {
-    let words = [
-        "console", "COPY", "--base", "bare", "--script", "SCRIPT", "--steps", "1",
-    ];
-    expect(&rt, &call(&rt, &words)?, 0, b"", REPLIES);
-    let words = [
-        "console",
-        "A",
-        "--base=bare",
-        "--script=SCRIPT",
-        "--turns=1",
-    ];
-    let left = call(&rt, &words)?;
+    let line = "console COPY --base bare --script SCRIPT --steps 1";
+    expect(&rt, &call(&rt, line)?, 0, b"", REPLIES);
+    let line = "console A --base=bare --script=SCRIPT --turns=1";
+    let left = call(&rt, line)?;
     begins(&rt, &left, 8, b"", b"R1 00000000\nOK\n?ADDRESS\n");
     assert!(rt; left.sink.bytes(Chan::Report).ends_with(b"INPUT 0\n"));
     Ok(())
@@ -333,27 +307,21 @@ fn holds_a_session(rt: HostRuntime) -> Result<(), Fail> {
 #[test]
 fn lists(rt: HostRuntime) -> Result<(), Fail> {
     let listing = b"80000200 MOVL S^#^X05,R1\n80000203 HALT\n";
-    expect(
-        &rt,
-        &call(&rt, &["list", "A", "--base", "bare"])?,
-        0,
-        listing,
-        b"",
-    );
+    expect(&rt, &call(&rt, "list A --base bare")?, 0, listing, b"");
     Ok(())
 }
 
 /// All pages go before each fourth attempt, and the loop goes on; the third write to the page file fails.
 #[test]
 fn runs_under_a_schedule(rt: HostRuntime) -> Result<(), Fail> {
-    let words = ["bare", "COUNTS", "--schedule", "EACH", "--steps", "6"];
-    begins(&rt, &call(&rt, &words)?, 0, b"", b"ENDING STEPS\nSTEPS 6\n");
-    let words = ["bare", "COUNTS", "--schedule", "EACH", "--steps", "100"];
+    let line = "bare COUNTS --schedule EACH --steps 6";
+    begins(&rt, &call(&rt, line)?, 0, b"", b"ENDING STEPS\nSTEPS 6\n");
+    let line = "bare COUNTS --schedule EACH --steps 100";
     let fails = Failures {
         page: Some(Failing::Write(3)),
         ..NONE
     };
-    let left = call_failing(&rt, &words, fails)?;
+    let left = call_failing(&rt, line, fails)?;
     begins(&rt, &left, 9, b"", b"ENDING PAGEFAULT\nSTEPS 5\n");
     Ok(())
 }
