@@ -161,7 +161,7 @@ module _ (m : Flat) (n : ℕ) (cpu next : Cpu) (view after : View) (old mid : Op
         ap (λ (i : ℕ). (run i m).output) same,
       )
 
-  pub tried : HasTried m (n + count) view last next after × ((run (n + count) m).output ≡ (run n m).output)
+  tried : HasTried m (n + count) view last next after × ((run (n + count) m).output ≡ (run n m).output)
   tried =
       let e : count + n ≡ n + count = omega arith in
       subst (λ (i : ℕ). HasTried m i view last next after × ((run i m).output ≡ (run n m).output)) e (by cpu.latch refl)
@@ -170,34 +170,49 @@ module _ (m : Flat) (n : ℕ) (cpu next : Cpu) (view after : View) (old mid : Op
       by None is = from_closed is
       by (Some open_one) is = from_open (subst IsSome (sym is) refl)
 
+-- attempts behind n steps of the flat machine, of which the last is behind k; nothing was sent before it
+pub record Turned (m : Flat) (n k : ℕ) (cpu next : Cpu) (view after : View) (old mid : Option Channels) (last : Attempt) : Type 0 where
+  pub at : IsAt m n cpu view old mid
+  pub silent : (run k m).output ≡ (run n m).output
+  pub tried : HasTried m k view last next after
+
+pub turned : {m : Flat} {n : ℕ} {cpu : Cpu} {view : View} {old mid : Option Channels} {last said : Attempt} (at : IsAt m n cpu view old mid) (next : Cpu) (after : View) (count : ℕ) → last ≡ said
+    → (cpu.latch ≡ None → (memory : List Area) → (output : List ℕ) → StandsFor view memory → AreAttempts view (flat_of cpu memory output) count last next after)
+    → (IsSome cpu.latch → (place : Place) → IsPlaced cpu place → StandsFor view (machine_at place).memory → IsOneAttempt view place count last next after)
+    → (count ≡ 0 → IsAsBefore last cpu view next after)
+    → Turned m n (n + count) cpu next view after old mid said
+turned {m} {n} {cpu} {view} {old} {mid} {last} {said} at next after count is closed within before =
+    let t = tried m n cpu next view after old mid at count last closed within before in
+    record { at = at; silent = t.1; tried = subst (λ (l : Attempt). HasTried m (n + count) view l next after) is t.0 }
+
 -- all pages stay resident
-stays_resident : (m : Flat) (n : ℕ) (cpu next : Cpu) (view after : View) (old mid : Option Channels) (at : IsAt m n cpu view old mid) (memory : List Area) → after.resident ≡ view.resident → after.areas ≡ view.areas → StandsFor after memory → AllResident after.resident memory
-stays_resident m n cpu next view after old mid at memory r s st = alike_resident view.resident after.resident (machine_at at.place).memory memory r (st.areas ∙ (ap layout s ∙ sym at.stands.areas)) at.resident
+stays_resident : {m : Flat} {n : ℕ} {cpu : Cpu} {view : View} {old mid : Option Channels} (after : View) (at : IsAt m n cpu view old mid) (memory : List Area) → after.resident ≡ view.resident → after.areas ≡ view.areas → StandsFor after memory → AllResident after.resident memory
+stays_resident {m} {n} {cpu} {view} {old} {mid} after at memory r s st = alike_resident view.resident after.resident (machine_at at.place).memory memory r (st.areas ∙ (ap layout s ∙ sym at.stands.areas)) at.resident
 
-module _ (m : Flat) (n k : ℕ) (cpu next : Cpu) (view after : View) (old mid : Option Channels) (at : IsAt m n cpu view old mid) (silent : (run k m).output ≡ (run n m).output) where
+module _ {m : Flat} {n k : ℕ} {cpu next : Cpu} {view after : View} {old mid : Option Channels} where
   -- a step was completed
-  module _ (sent : Option ℕ) (t : HasTried m k view (attempt.Step sent) next after) where
+  module _ {sent : Option ℕ} (t : Turned m n k cpu next view after old mid (attempt.Step sent)) where
     abbrev sent_there : List ℕ
-    sent_there = with_byte_sent (machine_at t.from).output sent
+    sent_there = with_byte_sent (machine_at t.tried.from).output sent
 
-    stepped : run (suc k) m ≡ flat_of next t.attempted.1.memory sent_there
+    stepped : run (suc k) m ≡ flat_of next t.tried.attempted.1.memory sent_there
     unfolding run
     stepped =
-        let s = same_there (run k m) t.from t.goes in
-        t.attempted.1.step (run k m) (sym s.1 ∙ t.running) t.goes
+        let s = same_there (run k m) t.tried.from t.tried.goes in
+        t.tried.attempted.1.step (run k m) (sym s.1 ∙ t.tried.running) t.tried.goes
 
     output_is : (run (suc k) m).output ≡ with_byte_sent (run n m).output sent
     output_is =
-        let s = same_there (run k m) t.from t.goes in
-        ap (λ (x : Flat). x.output) stepped ∙ ap (λ o. with_byte_sent o sent) (s.0 ∙ silent)
+        let s = same_there (run k m) t.tried.from t.tried.goes in
+        ap (λ (x : Flat). x.output) stepped ∙ ap (λ o. with_byte_sent o sent) (s.0 ∙ t.silent)
 
     goes_on_so : (new : Option Channels) → next.latch ≡ None → Grew old new (only Out (with_byte_sent (run n m).output sent)) → IsAt m (suc k) next after old new
     goes_on_so new closed wrote = record {
-      place = At (flat_of next t.attempted.1.memory sent_there);
+      place = At (flat_of next t.tried.attempted.1.memory sent_there);
       goes = sym stepped;
       at = record { open_one = closed; machine = refl };
-      stands = t.attempted.1.leaves.stands;
-      resident = stays_resident m n cpu next view after old mid at t.attempted.1.memory (t.attempted.1.leaves.resident ∙ t.resident) (t.attempted.1.leaves.areas ∙ t.areas) t.attempted.1.leaves.stands;
+      stands = t.tried.attempted.1.leaves.stands;
+      resident = stays_resident after t.at t.tried.attempted.1.memory (t.tried.attempted.1.leaves.resident ∙ t.tried.resident) (t.tried.attempted.1.leaves.areas ∙ t.tried.areas) t.tried.attempted.1.leaves.stands;
       wrote = subst (λ o. Grew old new (only Out o)) (sym output_is) wrote;
     }
 
@@ -208,25 +223,25 @@ module _ (m : Flat) (n k : ℕ) (cpu next : Cpu) (view after : View) (old mid : 
     still_going = ap (λ (x : Flat). x.ending) stepped
 
   -- a part was completed
-  module _ (t : HasTried m k view attempt.Part next after) where
+  module _ (t : Turned m n k cpu next view after old mid attempt.Part) where
     pub parted : IsAt m k next after old mid
     parted = record {
-      place = Within t.attempted.1.next;
-      goes = t.attempted.1.by (run k m) t.goes;
-      at = t.attempted.1.at;
-      stands = t.attempted.1.leaves.stands;
-      resident = stays_resident m n cpu next view after old mid at t.attempted.1.next.now.memory (t.attempted.1.leaves.resident ∙ t.resident) (t.attempted.1.leaves.areas ∙ t.areas) t.attempted.1.leaves.stands;
-      wrote = subst (λ o. Grew old mid (only Out o)) (sym silent) at.wrote;
+      place = Within t.tried.attempted.1.next;
+      goes = t.tried.attempted.1.by (run k m) t.tried.goes;
+      at = t.tried.attempted.1.at;
+      stands = t.tried.attempted.1.leaves.stands;
+      resident = stays_resident after t.at t.tried.attempted.1.next.now.memory (t.tried.attempted.1.leaves.resident ∙ t.tried.resident) (t.tried.attempted.1.leaves.areas ∙ t.tried.areas) t.tried.attempted.1.leaves.stands;
+      wrote = subst (λ o. Grew old mid (only Out o)) (sym t.silent) t.at.wrote;
     }
 
   -- no page is absent
-  pub none_absent : (page : ℕ) → HasTried m k view (attempt.Absent page) next after → ⊥
+  pub none_absent : (page : ℕ) → Turned m n k cpu next view after old mid (attempt.Absent page) → ⊥
   none_absent page t =
-      let a = t.absent page refl in
-      let all : AllResident view.resident (machine_at t.from).memory =
-      alike_resident view.resident view.resident (machine_at at.place).memory (machine_at t.from).memory refl (a.0.areas ∙ (ap layout a.1 ∙ sym at.stands.areas)) at.resident in
-      let none = none_missing_attempt t.from view.resident all in
-      let seen : first_missing view.resident (touches_at t.from) ≡ Some page = ap (λ f. first_missing f (touches_at t.from)) (sym t.resident) ∙ t.attempted.0 in
+      let a = t.tried.absent page refl in
+      let all : AllResident view.resident (machine_at t.tried.from).memory =
+      alike_resident view.resident view.resident (machine_at t.at.place).memory (machine_at t.tried.from).memory refl (a.0.areas ∙ (ap layout a.1 ∙ sym t.at.stands.areas)) t.at.resident in
+      let none = none_missing_attempt t.tried.from view.resident all in
+      let seen : first_missing view.resident (touches_at t.tried.from) ≡ Some page = ap (λ f. first_missing f (touches_at t.tried.from)) (sym t.tried.resident) ∙ t.tried.attempted.0 in
       let no : Some page ≡ None = sym seen ∙ none in
       absurd (cc)
 
@@ -290,14 +305,14 @@ stops_later (suc fuel) n limit m e going =
     (λ next. let s : suc n + fuel ≡ limit = omega arith in stops_later fuel (suc n) limit m s next)
 
 -- a run whose last attempt ended it
-module _ (limit : ℕ) (m : Flat) (n k : ℕ) (cpu next : Cpu) (view after : View) (old mid : Option Channels) (at : IsAt m n cpu view old mid) (silent : (run k m).output ≡ (run n m).output) where
-  ends_so : (e : Ending) → HasTried m k view (attempt.Ended e) next after → suc k ≤ limit → IsRun limit m next after old mid (record { ending = Some e; steps = suc k })
+module _ (limit : ℕ) {m : Flat} {n k : ℕ} {cpu next : Cpu} {view after : View} {old mid : Option Channels} where
+  ends_so : (e : Ending) → Turned m n k cpu next view after old mid (attempt.Ended e) → suc k ≤ limit → IsRun limit m next after old mid (record { ending = Some e; steps = suc k })
   unfolding run
   ends_so e t low =
-      let s = same_there (run k m) t.from t.goes in
-      let going : (run k m).ending ≡ None = sym s.1 ∙ t.running in
-      let is : run (suc k) m ≡ ended (gone_back t.from) e = t.attempted.1.step (run k m) going t.goes in
-      let stays = t.ended e refl in
+      let s = same_there (run k m) t.tried.from t.tried.goes in
+      let going : (run k m).ending ≡ None = sym s.1 ∙ t.tried.running in
+      let is : run (suc k) m ≡ ended (gone_back t.tried.from) e = t.tried.attempted.1.step (run k m) going t.tried.goes in
+      let stays = t.tried.ended e refl in
       record {
         stops = record {
           within = low;
@@ -308,26 +323,26 @@ module _ (limit : ℕ) (m : Flat) (n k : ℕ) (cpu next : Cpu) (view after : Vie
         stands = subst (StandsFor after) (sym (ap (λ (x : Flat). x.memory) is)) stays.2;
         taken = ap (λ (x : Flat). x.taken) is ∙ stays.1;
         ending = ap (λ (x : Flat). x.ending) is;
-        wrote = subst (λ o. Grew old mid (only Out o)) (sym (ap (λ (x : Flat). x.output) is ∙ (s.0 ∙ silent))) at.wrote;
+        wrote = subst (λ o. Grew old mid (only Out o)) (sym (ap (λ (x : Flat). x.output) is ∙ (s.0 ∙ t.silent))) t.at.wrote;
       }
 
-  pub ends : (e : Ending) → HasTried m k view (attempt.Ended e) next after → k + 1 ≤ limit → IsRun limit m next after old mid (record { ending = Some e; steps = k + 1 })
+  pub ends : (e : Ending) → Turned m n k cpu next view after old mid (attempt.Ended e) → k + 1 ≤ limit → IsRun limit m next after old mid (record { ending = Some e; steps = k + 1 })
   ends e t low =
       let same : suc k ≡ k + 1 = omega arith in
       subst (λ (i : ℕ). IsRun limit m next after old mid (record { ending = Some e; steps = i })) same (ends_so e t (omega arith))
 
   -- a byte that couldn't be written
-  pub cut_short : (byte : ℕ) (new : Option Channels) → HasTried m k view (attempt.Step (Some byte)) next after → k + 1 ≤ limit → GrewByPrefix mid new (only Out (byte ∷ [])) → IsCutShort limit m old new
+  pub cut_short : (byte : ℕ) (new : Option Channels) → Turned m n k cpu next view after old mid (attempt.Step (Some byte)) → k + 1 ≤ limit → GrewByPrefix mid new (only Out (byte ∷ [])) → IsCutShort limit m old new
   cut_short byte new t low wrote =
       let place = suc k in
       let fuel : place + (limit - place) ≡ limit = omega arith in
-      let s = stops_later (limit - place) place limit m fuel (still_going m n k cpu next view after old mid at silent (Some byte) t) in
+      let s = stops_later (limit - place) place limit m fuel (still_going t) in
       let far : s.0 ≡ (s.0 - place) + place = omega (arith, s.2) in
       let more = output_extends place (s.0 - place) m in
       let whole : (run s.0 m).output ≡ (run place m).output ++ more.more = ap (λ (i : ℕ). (run i m).output) far ∙ more.is in
       let parts : (run n m).output ++ (byte ∷ [] ++ more.more) ≡ (run s.0 m).output =
-      sym (whole ∙ (ap (λ o. o ++ more.more) (output_is m n k cpu next view after old mid at silent (Some byte) t) ∙ append_assoc (run n m).output (byte ∷ []) more.more)) in
-      record { steps = s.0; stops = s.1; wrote = prefix_within old mid new Out (run n m).output (byte ∷ []) more.more (run s.0 m).output parts at.wrote wrote }
+      sym (whole ∙ (ap (λ o. o ++ more.more) (output_is t) ∙ append_assoc (run n m).output (byte ∷ []) more.more)) in
+      record { steps = s.0; stops = s.1; wrote = prefix_within old mid new Out (run n m).output (byte ∷ []) more.more (run s.0 m).output parts t.at.wrote wrote }
 
 -- at the limit no instruction is open
 pub closed_at_limit : (latch : Option Open) (steps limit : ℕ) → (IsSome latch → steps < limit) → limit ≤ steps → latch ≡ None

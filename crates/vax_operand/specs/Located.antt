@@ -6,10 +6,13 @@ use Rattle.vax_flat.specs.declared.Cut.TheVariants.{Absent, Event}
 use Rattle.vax_flat.specs.declared.Flow.{Flow}
 use Rattle.vax_flat.specs.declared.Operand.{Operand}
 use Rattle.vax_flat.specs.State.{State}
-use Rattle.vax_flat.specs.Port.{StandsFor}
+use Rattle.vax_flat.specs.Port.{View, StandsFor}
 use Rattle.vax_flat.specs.Accesses.{Accesses, Leaf, Done, Found, Went}
 use Rattle.vax_flat.specs.Outcome.{Outcome, Ends, Raised, outcome_of, touches_of, first_missing}
 use Rattle.vax_flat.specs.OverPort.{Present}
+use Rattle.vax_undo.specs.declared.txn.CutShort.{CutShort}
+use Rattle.vax_undo.specs.declared.txn.Txn.{Txn as Transaction}
+use Rattle.vax_undo.specs.Transaction.{present, told}
 
 module _ {X : Type 0} (leaf : X → State → Leaf) where
   -- a tree's end, with a value and the state there
@@ -29,9 +32,11 @@ module _ {X : Type 0} (leaf : X → State → Leaf) where
       (memory : List Area) → StandsFor before.view memory → Lands (first_missing before.view.resident (touches_of (tree at_end) memory)) (outcome_of (tree at_end) memory) result after
 
 -- one operand
-abbrev pub LocatesEverywhere : ((Operand → State → Accesses Leaf) → Accesses Leaf) → Present → Result Operand Cut → Present → Type 0
-LocatesEverywhere = LandsEverywhere Found
+abbrev pub LocatesEverywhere : {P : Type 0} → (P → View) → (State → (Operand → State → Accesses Leaf) → Accesses Leaf)
+    → Result Operand CutShort → Transaction P → Transaction P → Type 0
+LocatesEverywhere view tree result old new = LandsEverywhere Found (tree (present view old).state) (present view old) (told new result) (present view new)
 
 -- one instruction
-abbrev pub GoesEverywhere : ((Flow → State → Accesses Leaf) → Accesses Leaf) → Present → Result Flow Cut → Present → Type 0
-GoesEverywhere = LandsEverywhere Went
+abbrev pub GoesEverywhere : {P : Type 0} → (P → View) → (State → (Flow → State → Accesses Leaf) → Accesses Leaf)
+    → Result Flow CutShort → Transaction P → Transaction P → Type 0
+GoesEverywhere view tree result old new = LandsEverywhere Went (tree (present view old).state) (present view old) (told new result) (present view new)

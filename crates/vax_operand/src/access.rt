@@ -7,8 +7,7 @@ ghost use Rattle.vax_isa.specs.declared.Letter.TheVariants as letter;
 ghost use Rattle.vax_flat.specs.declared.Operand.TheVariants as operand;
 ghost use Rattle.vax_flat.specs.Operand.{form_of, formed, in_register, read_at, check_at, IsWidth, IsPlace};
 ghost use Rattle.vax_flat.specs.Rows.{read_of, modify_of, write_of, value_at, value_of, address_in, with_value, stored, read_value, modify_value, write_place, address_value, branch_target};
-ghost use Rattle.vax_flat.specs.OverPort.{Follows, Performs};
-ghost use Rattle.vax_undo.specs.Transaction.{present, room, Keeps, with_state, told};
+ghost use Rattle.vax_undo.specs.Transaction.{room, Keeps, Acts, Does, Updates};
 ghost use Rattle.vax_operand.specs.Addressed.{located, checked, modified, modified_there, IsMemory};
 ghost use Rattle.vax_flat.specs.declared.Form.TheVariants as form;
 ghost use Rattle.vax_operand.specs.Form.{IsDisplacement};
@@ -73,7 +72,7 @@ fn set_value<P: Port>(txn: &mut Txn<P>, width: u8, n: u8, value: u64)
     requires pair { width ≡ 8 → n < 14 }
     requires fits { value < 256 ^ width }
     requires room { 2 ≤ room txn.old }
-    ensures exact { present P.view txn.new ≡ with_state (present P.view txn.old) (with_value width n value (present P.view txn.old).state) }
+    ensures exact { Updates P.view (with_value width n value) txn.old txn.new }
     ensures keeps { Keeps P.view P.since 2 txn.old txn.new }
 {
     match width {
@@ -100,7 +99,7 @@ fn store_at<P: Port>(
     requires place { IsPlace width operand }
     requires fits { value < 256 ^ width }
     requires room { 2 ≤ room txn.old }
-    ensures exact { Performs (stored width operand value (present P.view txn.old).state) (present P.view txn.old) (told txn.new result) (present P.view txn.new) }
+    ensures exact { Acts P.view (stored width operand value) result txn.old txn.new }
     ensures keeps { Keeps P.view P.since 2 txn.old txn.new }
 {
     match operand {
@@ -126,7 +125,7 @@ pub fn store<P: Port>(
     requires place { IsPlace (bytes_of size) operand }
     requires fits { value < 256 ^ bytes_of size }
     requires room { 2 ≤ room txn.old }
-    ensures exact { Performs (stored (bytes_of size) operand value (present P.view txn.old).state) (present P.view txn.old) (told txn.new result) (present P.view txn.new) }
+    ensures exact { Acts P.view (stored (bytes_of size) operand value) result txn.old txn.new }
     ensures keeps { Keeps P.view P.since 2 txn.old txn.new }
 {
     store_at(txn, width_of(size), operand, value)
@@ -137,7 +136,9 @@ pub fn store<P: Port>(
 fn value_there<P: Port>(txn: &mut Txn<P>, width: u8, byte: u8) -> Result<u64, CutShort>
     requires width { IsWidth width }
     requires room { 3 ≤ room txn.old }
-    ensures exact { Follows (λ next. located letter.Read width (form_of byte) (present P.view txn.old).state (λ addr s. read_at addr width s next)) (present P.view txn.old) (told txn.new result) (present P.view txn.new) }
+    ensures exact { Does P.view
+        (λ s next. located letter.Read width (form_of byte) s (λ addr s. read_at addr width s next))
+        result txn.old txn.new }
     ensures fits { IfOk result (λ x. x < 256 ^ width) }
     ensures keeps { Keeps P.view P.since 3 txn.old txn.new }
 {
@@ -151,7 +152,9 @@ fn value_beyond<P: Port>(txn: &mut Txn<P>, width: u8, byte: u8) -> Result<u64, C
     requires width { IsWidth width }
     requires memory { IsMemory (form_of byte) }
     requires room { 3 ≤ room txn.old }
-    ensures exact { Follows (λ next. formed (read_of width) (form_of byte) (present P.view txn.old).state (λ o s. next (value_of o) s)) (present P.view txn.old) (told txn.new result) (present P.view txn.new) }
+    ensures exact { Does P.view
+        (λ s next. formed (read_of width) (form_of byte) s (λ o s. next (value_of o) s))
+        result txn.old txn.new }
     ensures fits { IfOk result (λ x. x < 256 ^ width) }
     ensures keeps { Keeps P.view P.since 3 txn.old txn.new }
 {
@@ -164,7 +167,7 @@ fn value_beyond<P: Port>(txn: &mut Txn<P>, width: u8, byte: u8) -> Result<u64, C
 fn checked_address<P: Port>(txn: &mut Txn<P>, width: u8, byte: u8) -> Result<u32, CutShort>
     requires width { IsWidth width }
     requires room { 3 ≤ room txn.old }
-    ensures exact { Follows (checked width (form_of byte) (present P.view txn.old).state) (present P.view txn.old) (told txn.new result) (present P.view txn.new) }
+    ensures exact { Does P.view (checked width (form_of byte)) result txn.old txn.new }
     ensures keeps { Keeps P.view P.since 3 txn.old txn.new }
 {
     let addr = address_near(txn, Letter::Modify, width, byte)?;
@@ -182,7 +185,7 @@ fn modified_there<P: Port>(
 ) -> Result<(Operand, u64), CutShort>
     requires width { IsWidth width }
     requires room { 3 ≤ room txn.old }
-    ensures exact { Follows (modified_there width (form_of byte) (present P.view txn.old).state) (present P.view txn.old) (told txn.new result) (present P.view txn.new) }
+    ensures exact { Does P.view (modified_there width (form_of byte)) result txn.old txn.new }
     ensures place { IfOk result (λ m. IsPlace width m.0) }
     ensures fits { IfOk result (λ m. m.1 < 256 ^ width) }
     ensures keeps { Keeps P.view P.since 3 txn.old txn.new }
@@ -202,7 +205,7 @@ fn modified_beyond<P: Port>(
     requires width { IsWidth width }
     requires memory { IsMemory (form_of byte) }
     requires room { 3 ≤ room txn.old }
-    ensures exact { Follows (modified width (form_of byte) (present P.view txn.old).state) (present P.view txn.old) (told txn.new result) (present P.view txn.new) }
+    ensures exact { Does P.view (modified width (form_of byte)) result txn.old txn.new }
     ensures place { IfOk result (λ m. IsPlace width m.0) }
     ensures fits { IfOk result (λ m. m.1 < 256 ^ width) }
     ensures keeps { Keeps P.view P.since 3 txn.old txn.new }
@@ -215,7 +218,7 @@ fn modified_beyond<P: Port>(
 fn written_address<P: Port>(txn: &mut Txn<P>, width: u8, byte: u8) -> Result<u32, CutShort>
     requires width { IsWidth width }
     requires room { 3 ≤ room txn.old }
-    ensures exact { Follows (located letter.Write width (form_of byte) (present P.view txn.old).state) (present P.view txn.old) (told txn.new result) (present P.view txn.new) }
+    ensures exact { Does P.view (located letter.Write width (form_of byte)) result txn.old txn.new }
     ensures keeps { Keeps P.view P.since 3 txn.old txn.new }
 {
     address_near(txn, Letter::Write, width, byte)
@@ -226,7 +229,10 @@ fn written_address<P: Port>(txn: &mut Txn<P>, width: u8, byte: u8) -> Result<u32
 fn place_there<P: Port>(txn: &mut Txn<P>, width: u8, byte: u8) -> Result<Operand, CutShort>
     requires width { IsWidth width }
     requires room { 3 ≤ room txn.old }
-    ensures exact { Follows (λ next. located letter.Write width (form_of byte) (present P.view txn.old).state (λ addr s. next (operand.Memory addr) s)) (present P.view txn.old) (told txn.new result) (present P.view txn.new) }
+    ensures exact { Does P.view
+        (λ s next. located letter.Write width (form_of byte) s
+        (λ addr s. next (operand.Memory addr) s))
+        result txn.old txn.new }
     ensures place { IfOk result (IsPlace width) }
     ensures keeps { Keeps P.view P.since 3 txn.old txn.new }
 {
@@ -240,7 +246,7 @@ fn place_beyond<P: Port>(txn: &mut Txn<P>, width: u8, byte: u8) -> Result<Operan
     requires width { IsWidth width }
     requires memory { IsMemory (form_of byte) }
     requires room { 3 ≤ room txn.old }
-    ensures exact { Follows (formed (write_of width) (form_of byte) (present P.view txn.old).state) (present P.view txn.old) (told txn.new result) (present P.view txn.new) }
+    ensures exact { Does P.view (formed (write_of width) (form_of byte)) result txn.old txn.new }
     ensures place { IfOk result (IsPlace width) }
     ensures keeps { Keeps P.view P.since 3 txn.old txn.new }
 {
@@ -253,7 +259,9 @@ fn place_beyond<P: Port>(txn: &mut Txn<P>, width: u8, byte: u8) -> Result<Operan
 fn value_of_register<P: Port>(txn: &mut Txn<P>, width: u8, n: u8) -> Result<u64, CutShort>
     requires width { IsWidth width }
     requires of_core { n < 16 }
-    ensures exact { Follows (λ next. in_register (read_of width) n (present P.view txn.old).state (λ o s. next (value_of o) s)) (present P.view txn.old) (told txn.new result) (present P.view txn.new) }
+    ensures exact { Does P.view
+        (λ s next. in_register (read_of width) n s (λ o s. next (value_of o) s))
+        result txn.old txn.new }
     ensures fits { IfOk result (λ x. x < 256 ^ width) }
     ensures keeps { Keeps P.view P.since 0 txn.old txn.new }
 {
@@ -273,7 +281,7 @@ fn modified_register<P: Port>(
 ) -> Result<(Operand, u64), CutShort>
     requires width { IsWidth width }
     requires of_core { n < 16 }
-    ensures exact { Follows (modified width (form.Register n) (present P.view txn.old).state) (present P.view txn.old) (told txn.new result) (present P.view txn.new) }
+    ensures exact { Does P.view (modified width (form.Register n)) result txn.old txn.new }
     ensures place { IfOk result (λ m. IsPlace width m.0) }
     ensures fits { IfOk result (λ m. m.1 < 256 ^ width) }
     ensures keeps { Keeps P.view P.since 0 txn.old txn.new }
@@ -290,7 +298,7 @@ fn modified_register<P: Port>(
 fn place_register<P: Port>(txn: &mut Txn<P>, width: u8, n: u8) -> Result<Operand, CutShort>
     requires width { IsWidth width }
     requires of_core { n < 16 }
-    ensures exact { Follows (in_register (write_of width) n (present P.view txn.old).state) (present P.view txn.old) (told txn.new result) (present P.view txn.new) }
+    ensures exact { Does P.view (in_register (write_of width) n) result txn.old txn.new }
     ensures place { IfOk result (IsPlace width) }
     ensures keeps { Keeps P.view P.since 0 txn.old txn.new }
 {
@@ -308,7 +316,7 @@ fn modified_literal<P: Port>(
     width: u8,
     byte: u8,
 ) -> Result<(Operand, u64), CutShort>
-    ensures exact { Follows (modified width (form.Literal byte) (present P.view txn.old).state) (present P.view txn.old) (told txn.new result) (present P.view txn.new) }
+    ensures exact { Does P.view (modified width (form.Literal byte)) result txn.old txn.new }
     ensures place { IfOk result (λ m. IsPlace width m.0) }
     ensures fits { IfOk result (λ m. m.1 < 256 ^ width) }
     ensures keeps { Keeps P.view P.since 0 txn.old txn.new }
@@ -323,7 +331,9 @@ fn modified_literal<P: Port>(
 fn value_by_byte<P: Port>(txn: &mut Txn<P>, width: u8, byte: u8) -> Result<u64, CutShort>
     requires width { IsWidth width }
     requires room { 3 ≤ room txn.old }
-    ensures exact { Follows (λ next. formed (read_of width) (form_of byte) (present P.view txn.old).state (λ o s. next (value_of o) s)) (present P.view txn.old) (told txn.new result) (present P.view txn.new) }
+    ensures exact { Does P.view
+        (λ s next. formed (read_of width) (form_of byte) s (λ o s. next (value_of o) s))
+        result txn.old txn.new }
     ensures fits { IfOk result (λ x. x < 256 ^ width) }
     ensures keeps { Keeps P.view P.since 3 txn.old txn.new }
 {
@@ -344,7 +354,7 @@ fn modified_by_byte<P: Port>(
 ) -> Result<(Operand, u64), CutShort>
     requires width { IsWidth width }
     requires room { 3 ≤ room txn.old }
-    ensures exact { Follows (modified width (form_of byte) (present P.view txn.old).state) (present P.view txn.old) (told txn.new result) (present P.view txn.new) }
+    ensures exact { Does P.view (modified width (form_of byte)) result txn.old txn.new }
     ensures place { IfOk result (λ m. IsPlace width m.0) }
     ensures fits { IfOk result (λ m. m.1 < 256 ^ width) }
     ensures keeps { Keeps P.view P.since 3 txn.old txn.new }
@@ -362,7 +372,7 @@ fn modified_by_byte<P: Port>(
 fn place_by_byte<P: Port>(txn: &mut Txn<P>, width: u8, byte: u8) -> Result<Operand, CutShort>
     requires width { IsWidth width }
     requires room { 3 ≤ room txn.old }
-    ensures exact { Follows (formed (write_of width) (form_of byte) (present P.view txn.old).state) (present P.view txn.old) (told txn.new result) (present P.view txn.new) }
+    ensures exact { Does P.view (formed (write_of width) (form_of byte)) result txn.old txn.new }
     ensures place { IfOk result (IsPlace width) }
     ensures keeps { Keeps P.view P.since 3 txn.old txn.new }
 {
@@ -378,7 +388,7 @@ fn place_by_byte<P: Port>(txn: &mut Txn<P>, width: u8, byte: u8) -> Result<Opera
 #[tactic(auto, unfolding(vax_flat::specs::Rows::read_value, vax_flat::specs::Operand::next_operand, vax_flat::specs::Operand::specified))]
 pub fn next_value<P: Port>(txn: &mut Txn<P>, size: Size) -> Result<u64, CutShort>
     requires room { 4 ≤ room txn.old }
-    ensures exact { Follows (read_value (bytes_of size) (present P.view txn.old).state) (present P.view txn.old) (told txn.new result) (present P.view txn.new) }
+    ensures exact { Does P.view (read_value (bytes_of size)) result txn.old txn.new }
     ensures fits { IfOk result (λ x. x < 256 ^ bytes_of size) }
     ensures keeps { Keeps P.view P.since 4 txn.old txn.new }
 {
@@ -392,7 +402,7 @@ pub fn next_value<P: Port>(txn: &mut Txn<P>, size: Size) -> Result<u64, CutShort
 #[tactic(auto, unfolding(crate::specs::Addressed::modified, vax_flat::specs::Rows::modify_value, vax_flat::specs::Operand::next_operand, vax_flat::specs::Operand::specified))]
 pub fn next_modified<P: Port>(txn: &mut Txn<P>, size: Size) -> Result<(Operand, u64), CutShort>
     requires room { 4 ≤ room txn.old }
-    ensures exact { Follows (modify_value (bytes_of size) (present P.view txn.old).state) (present P.view txn.old) (told txn.new result) (present P.view txn.new) }
+    ensures exact { Does P.view (modify_value (bytes_of size)) result txn.old txn.new }
     ensures place { IfOk result (λ m. IsPlace (bytes_of size) m.0) }
     ensures fits { IfOk result (λ m. m.1 < 256 ^ bytes_of size) }
     ensures keeps { Keeps P.view P.since 4 txn.old txn.new }
@@ -407,7 +417,7 @@ pub fn next_modified<P: Port>(txn: &mut Txn<P>, size: Size) -> Result<(Operand, 
 #[tactic(auto, unfolding(vax_flat::specs::Rows::write_place, vax_flat::specs::Operand::next_operand, vax_flat::specs::Operand::specified))]
 pub fn next_place<P: Port>(txn: &mut Txn<P>, size: Size) -> Result<Operand, CutShort>
     requires room { 4 ≤ room txn.old }
-    ensures exact { Follows (write_place (bytes_of size) (present P.view txn.old).state) (present P.view txn.old) (told txn.new result) (present P.view txn.new) }
+    ensures exact { Does P.view (write_place (bytes_of size)) result txn.old txn.new }
     ensures place { IfOk result (IsPlace (bytes_of size)) }
     ensures keeps { Keeps P.view P.since 4 txn.old txn.new }
 {
@@ -421,7 +431,7 @@ pub fn next_place<P: Port>(txn: &mut Txn<P>, size: Size) -> Result<Operand, CutS
 #[tactic(auto, unfolding(vax_flat::specs::Rows::address_value))]
 pub fn next_address<P: Port>(txn: &mut Txn<P>, size: Size) -> Result<u32, CutShort>
     requires room { 4 ≤ room txn.old }
-    ensures exact { Follows (address_value (bytes_of size) (present P.view txn.old).state) (present P.view txn.old) (told txn.new result) (present P.view txn.new) }
+    ensures exact { Does P.view (address_value (bytes_of size)) result txn.old txn.new }
     ensures keeps { Keeps P.view P.since 4 txn.old txn.new }
 {
     let kind = OperandKind {
@@ -437,7 +447,7 @@ pub fn next_address<P: Port>(txn: &mut Txn<P>, size: Size) -> Result<u32, CutSho
 #[tactic(auto, unfolding(vax_flat::specs::Rows::branch_target, vax_flat::specs::Operand::next_operand, vax_flat::specs::Operand::branched, vax_flat::specs::Rows::address_in))]
 pub fn next_target<P: Port>(txn: &mut Txn<P>, size: Narrow) -> Result<u32, CutShort>
     requires room { 4 ≤ room txn.old }
-    ensures exact { Follows (branch_target (bytes_of (size_of size)) (present P.view txn.old).state) (present P.view txn.old) (told txn.new result) (present P.view txn.new) }
+    ensures exact { Does P.view (branch_target (bytes_of (size_of size))) result txn.old txn.new }
     ensures keeps { Keeps P.view P.since 4 txn.old txn.new }
 {
     let width = displacement_width(size);

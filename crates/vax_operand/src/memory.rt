@@ -1,8 +1,7 @@
 //! Single accesses of an instruction, in the current access mode.
 ghost use Rattle.std.specs.Prelude.{◌≡◌, ℕ, ◌+◌, ◌*◌, ◌%◌, ◌^◌, ◌<◌, ◌≤◌, IfOk, Ok};
 ghost use Rattle.vax_flat.specs.Operand.{read_at, write_at, check_at, read_in, write_in, asked, fetched};
-ghost use Rattle.vax_flat.specs.OverPort.{Follows, Performs};
-ghost use Rattle.vax_undo.specs.Transaction.{present, room, Keeps, told};
+ghost use Rattle.vax_undo.specs.Transaction.{present, room, Keeps, Acts, Does};
 
 use vax_flat::{Cut, Exception};
 use vax_space::Access;
@@ -14,7 +13,7 @@ use vax_undo::{CutShort, Port, Txn};
 pub fn read<P: Port>(txn: &mut Txn<P>, addr: u32, n: u32) -> Result<u64, CutShort>
     requires some { 1 ≤ n }
     requires few { n ≤ 8 }
-    ensures exact { Follows (read_at addr n (present P.view txn.old).state) (present P.view txn.old) (told txn.new result) (present P.view txn.new) }
+    ensures exact { Does P.view (read_at addr n) result txn.old txn.new }
     ensures same { present P.view txn.new ≡ present P.view txn.old }
     ensures fits { IfOk result (λ x. x < 256 ^ n) }
     ensures keeps { Keeps P.view P.since 0 txn.old txn.new }
@@ -34,7 +33,7 @@ pub fn write<P: Port>(txn: &mut Txn<P>, addr: u32, n: u32, value: u64) -> Result
     requires few { n ≤ 8 }
     requires fits { value < 256 ^ n }
     requires room { 1 ≤ room txn.old }
-    ensures exact { Performs (write_at addr n value (present P.view txn.old).state) (present P.view txn.old) (told txn.new result) (present P.view txn.new) }
+    ensures exact { Acts P.view (write_at addr n value) result txn.old txn.new }
     ensures keeps { Keeps P.view P.since 1 txn.old txn.new }
 {
     let mode = txn.psl().mode();
@@ -49,7 +48,7 @@ pub fn write<P: Port>(txn: &mut Txn<P>, addr: u32, n: u32, value: u64) -> Result
 #[tactic(auto, unfolding(vax_flat::specs::OverPort::over_port, vax_flat::specs::Operand::check_at))]
 pub fn check<P: Port>(txn: &mut Txn<P>, addr: u32, n: u32, access: Access) -> Result<(), CutShort>
     requires short { n ≤ 65536 }
-    ensures exact { Performs (check_at addr n access (present P.view txn.old).state) (present P.view txn.old) (told txn.new result) (present P.view txn.new) }
+    ensures exact { Acts P.view (check_at addr n access) result txn.old txn.new }
     ensures same { present P.view txn.new ≡ present P.view txn.old }
     ensures keeps { Keeps P.view P.since 0 txn.old txn.new }
 {
@@ -67,7 +66,7 @@ pub fn read_in<P: Port>(txn: &mut Txn<P>, addr: u32, n: u32, mode: u8) -> Result
     requires some { 1 ≤ n }
     requires few { n ≤ 8 }
     requires of_mode { mode ≤ 3 }
-    ensures exact { Follows (read_in addr n mode (present P.view txn.old).state) (present P.view txn.old) (told txn.new result) (present P.view txn.new) }
+    ensures exact { Does P.view (read_in addr n mode) result txn.old txn.new }
     ensures same { present P.view txn.new ≡ present P.view txn.old }
     ensures fits { IfOk result (λ x. x < 256 ^ n) }
     ensures keeps { Keeps P.view P.since 0 txn.old txn.new }
@@ -93,7 +92,7 @@ pub fn write_in<P: Port>(
     requires of_mode { mode ≤ 3 }
     requires fits { value < 256 ^ n }
     requires room { 1 ≤ room txn.old }
-    ensures exact { Performs (write_in addr n value mode (present P.view txn.old).state) (present P.view txn.old) (told txn.new result) (present P.view txn.new) }
+    ensures exact { Acts P.view (write_in addr n value mode) result txn.old txn.new }
     ensures keeps { Keeps P.view P.since 1 txn.old txn.new }
 {
     match txn.write(addr, n, value, mode) {
@@ -108,7 +107,7 @@ pub fn write_in<P: Port>(
 pub fn is_allowed<P: Port>(txn: &Txn<P>, addr: u32, n: u32, mode: u8, access: Access) -> bool
     requires short { n ≤ 65536 }
     requires of_mode { mode ≤ 3 }
-    ensures { Follows (asked addr n mode access (present P.view txn.now).state) (present P.view txn.now) (Ok result) (present P.view txn.now) }
+    ensures { Does P.view (asked addr n mode access) (Ok result) txn.now txn.now }
 {
     txn.check(addr, n, mode, access).is_ok()
 }
@@ -120,7 +119,7 @@ pub fn fetch<P: Port>(txn: &mut Txn<P>, n: u32) -> Result<u64, CutShort>
     requires some { 1 ≤ n }
     requires few { n ≤ 8 }
     requires room { 1 ≤ room txn.old }
-    ensures exact { Follows (fetched n (present P.view txn.old).state) (present P.view txn.old) (told txn.new result) (present P.view txn.new) }
+    ensures exact { Does P.view (fetched n) result txn.old txn.new }
     ensures fits { IfOk result (λ x. x < 256 ^ n) }
     ensures keeps { Keeps P.view P.since 1 txn.old txn.new }
 {

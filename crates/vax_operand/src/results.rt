@@ -3,9 +3,8 @@ ghost use Rattle.std.specs.Prelude.{◌≡◌, ℕ, ◌^◌, ◌<◌, ◌≤◌,
 ghost use Rattle.vax_word.specs.Arithmetic.{bytes_of};
 ghost use Rattle.vax_flat.specs.Operand.{IsPlace};
 ghost use Rattle.vax_flat.specs.Rows.{flow_of, settled, answered, pushed};
-ghost use Rattle.vax_flat.specs.OverPort.{Follows, Performs};
 ghost use Rattle.vax_flat.specs.State.{with_conditions, overflow_enabled};
-ghost use Rattle.vax_undo.specs.Transaction.{present, room, Keeps, with_state, told};
+ghost use Rattle.vax_undo.specs.Transaction.{present, room, Keeps, Acts, Does, Updates};
 
 use crate::access::store;
 use crate::memory::write;
@@ -18,7 +17,7 @@ use vax_word::{Codes, Psl, Size};
 #[tactic(auto, using(vax_undo::proofs::FirstPart::codes_closed))]
 pub fn set_codes<P: Port>(txn: &mut Txn<P>, codes: Codes)
     requires { 1 ≤ room txn.old }
-    ensures exact { present P.view txn.new ≡ with_state (present P.view txn.old) (with_conditions (present P.view txn.old).state codes) }
+    ensures exact { Updates P.view (λ s. with_conditions s codes) txn.old txn.new }
     ensures keeps { Keeps P.view P.since 1 txn.old txn.new }
 {
     let psl = txn.psl().with_codes(codes);
@@ -39,7 +38,7 @@ fn traps_overflow<P: Port>(txn: &Txn<P>) -> bool
 #[tactic(auto, unfolding(vax_flat::specs::Rows::settled, vax_flat::specs::Rows::flow_of))]
 pub fn settle<P: Port>(txn: &mut Txn<P>, by_zero: bool, codes: Codes) -> Result<Flow, CutShort>
     requires { 1 ≤ room txn.old }
-    ensures exact { Follows (settled by_zero codes (present P.view txn.old).state) (present P.view txn.old) (told txn.new result) (present P.view txn.new) }
+    ensures exact { Does P.view (settled by_zero codes) result txn.old txn.new }
     ensures keeps { Keeps P.view P.since 1 txn.old txn.new }
 {
     let flow = if by_zero {
@@ -66,7 +65,8 @@ pub fn answer<P: Port>(
     requires place { IsPlace (bytes_of size) place }
     requires fits { result_and_codes.0 < 256 ^ bytes_of size }
     requires room { 3 ≤ room txn.old }
-    ensures exact { Follows (answered (bytes_of size) place by_zero result_and_codes (present P.view txn.old).state) (present P.view txn.old) (told txn.new result) (present P.view txn.new) }
+    ensures exact { Does P.view (answered (bytes_of size) place by_zero result_and_codes)
+        result txn.old txn.new }
     ensures keeps { Keeps P.view P.since 3 txn.old txn.new }
 {
     let (value, codes) = result_and_codes;
@@ -79,7 +79,7 @@ pub fn answer<P: Port>(
 #[tactic(auto, unfolding(vax_flat::specs::Rows::pushed))]
 pub fn push<P: Port>(txn: &mut Txn<P>, value: u32) -> Result<(), CutShort>
     requires { 2 ≤ room txn.old }
-    ensures exact { Performs (pushed value (present P.view txn.old).state) (present P.view txn.old) (told txn.new result) (present P.view txn.new) }
+    ensures exact { Acts P.view (pushed value) result txn.old txn.new }
     ensures keeps { Keeps P.view P.since 2 txn.old txn.new }
 {
     let top = txn.reg(14).wrapping_sub(4);

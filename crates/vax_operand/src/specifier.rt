@@ -1,8 +1,7 @@
 //! Operand specifiers.
 ghost use Rattle.std.specs.Prelude.{◌≡◌, ℕ, ◌+◌, ◌*◌, ◌%◌, ◌^◌, ◌<◌, ◌≤◌, IfOk};
 ghost use Rattle.vax_flat.specs.Operand.{form_of, extended, at_address, literal, in_register, register_value, addressed, is_reserved, is_no_base, is_result, reaches_pc, formed, specified, branched, next_operand, IsWidth, IsTarget, Fits};
-ghost use Rattle.vax_flat.specs.OverPort.{Follows, Performs};
-ghost use Rattle.vax_undo.specs.Transaction.{present, room, Keeps, told};
+ghost use Rattle.vax_undo.specs.Transaction.{present, room, Keeps, Does};
 ghost use Rattle.vax_operand.specs.Located.{LocatesEverywhere};
 ghost use Rattle.vax_operand.specs.Addressed.{direct, based, prefixed, located, IsMemory};
 ghost use Rattle.vax_operand.specs.Form.{IsForm, IsDisplacement};
@@ -58,7 +57,7 @@ pub(crate) fn extend(width: u8, value: u64) -> u32
 #[tactic(auto, using(vax_flat::proofs::Leaves::over_port_raises), unfolding(vax_flat::specs::Operand::at_address))]
 fn locate<P: Port>(txn: &mut Txn<P>, kind: OperandKind, addr: u32) -> Result<Operand, CutShort>
     requires width { IsWidth kind.width }
-    ensures exact { Follows (at_address kind addr (present P.view txn.old).state) (present P.view txn.old) (told txn.new result) (present P.view txn.new) }
+    ensures exact { Does P.view (at_address kind addr) result txn.old txn.new }
     ensures fits { IfOk result (Fits kind) }
     ensures keeps { Keeps P.view P.since 0 txn.old txn.new }
 {
@@ -88,7 +87,7 @@ fn short_literal<P: Port>(
 ) -> Result<Operand, CutShort>
     requires small { value < 64 }
     requires width { IsWidth kind.width }
-    ensures exact { Follows (literal kind.letter value (present P.view txn.old).state) (present P.view txn.old) (told txn.new result) (present P.view txn.new) }
+    ensures exact { Does P.view (literal kind.letter value) result txn.old txn.new }
     ensures fits { IfOk result (Fits kind) }
     ensures keeps { Keeps P.view P.since 0 txn.old txn.new }
 {
@@ -139,7 +138,7 @@ fn register_operand<P: Port>(
 ) -> Result<Operand, CutShort>
     requires of_core { n < 16 }
     requires width { IsWidth kind.width }
-    ensures exact { Follows (in_register kind n (present P.view txn.old).state) (present P.view txn.old) (told txn.new result) (present P.view txn.new) }
+    ensures exact { Does P.view (in_register kind n) result txn.old txn.new }
     ensures fits { IfOk result (Fits kind) }
     ensures keeps { Keeps P.view P.since 0 txn.old txn.new }
 {
@@ -163,7 +162,7 @@ fn address<P: Port>(txn: &mut Txn<P>, width: u8, form: Form) -> Result<u32, CutS
     requires width { IsWidth width }
     requires form { IsForm form }
     requires room { 2 ≤ room txn.old }
-    ensures exact { Follows (addressed width form (present P.view txn.old).state) (present P.view txn.old) (told txn.new result) (present P.view txn.new) }
+    ensures exact { Does P.view (addressed width form) result txn.old txn.new }
     ensures keeps { Keeps P.view P.since 2 txn.old txn.new }
 {
     match form {
@@ -260,7 +259,7 @@ fn direct_address<P: Port>(
     requires width { IsWidth width }
     requires form { IsForm form }
     requires room { 2 ≤ room txn.old }
-    ensures exact { Follows (direct letter width form (present P.view txn.old).state) (present P.view txn.old) (told txn.new result) (present P.view txn.new) }
+    ensures exact { Does P.view (direct letter width form) result txn.old txn.new }
     ensures keeps { Keeps P.view P.since 2 txn.old txn.new }
 {
     if is_reserved(letter, form) {
@@ -277,7 +276,7 @@ fn based_address<P: Port>(txn: &mut Txn<P>, width: u8, x: u8, base: Form) -> Res
     requires of_core { x < 16 }
     requires form { IsForm base }
     requires room { 2 ≤ room txn.old }
-    ensures exact { Follows (based width x base (present P.view txn.old).state) (present P.view txn.old) (told txn.new result) (present P.view txn.new) }
+    ensures exact { Does P.view (based width x base) result txn.old txn.new }
     ensures keeps { Keeps P.view P.since 2 txn.old txn.new }
 {
     if is_no_base(x, base) {
@@ -295,7 +294,7 @@ fn prefixed_address<P: Port>(txn: &mut Txn<P>, width: u8, x: u8) -> Result<u32, 
     requires width { IsWidth width }
     requires of_core { x < 16 }
     requires room { 3 ≤ room txn.old }
-    ensures exact { Follows (prefixed width x (present P.view txn.old).state) (present P.view txn.old) (told txn.new result) (present P.view txn.new) }
+    ensures exact { Does P.view (prefixed width x) result txn.old txn.new }
     ensures keeps { Keeps P.view P.since 3 txn.old txn.new }
 {
     if x == 15 {
@@ -317,7 +316,7 @@ fn address_of<P: Port>(
     requires width { IsWidth width }
     requires form { IsForm form }
     requires room { 3 ≤ room txn.old }
-    ensures exact { Follows (located letter width form (present P.view txn.old).state) (present P.view txn.old) (told txn.new result) (present P.view txn.new) }
+    ensures exact { Does P.view (located letter width form) result txn.old txn.new }
     ensures keeps { Keeps P.view P.since 3 txn.old txn.new }
 {
     match form {
@@ -343,7 +342,7 @@ fn deferred_address<P: Port>(
     n: u8,
 ) -> Result<u32, CutShort>
     requires of_core { n < 16 }
-    ensures exact { Follows (located letter width (Form.Deferred n) (present P.view txn.old).state) (present P.view txn.old) (told txn.new result) (present P.view txn.new) }
+    ensures exact { Does P.view (located letter width (Form.Deferred n)) result txn.old txn.new }
     ensures keeps { Keeps P.view P.since 0 txn.old txn.new }
 {
     let _ = (letter, width);
@@ -364,7 +363,8 @@ fn near_address<P: Port>(
 ) -> Result<u32, CutShort>
     requires of_core { n < 16 }
     requires room { 1 ≤ room txn.old }
-    ensures exact { Follows (located letter width (Form.Displacement 1 n) (present P.view txn.old).state) (present P.view txn.old) (told txn.new result) (present P.view txn.new) }
+    ensures exact { Does P.view (located letter width (Form.Displacement 1 n))
+        result txn.old txn.new }
     ensures keeps { Keeps P.view P.since 1 txn.old txn.new }
 {
     let _ = (letter, width);
@@ -383,7 +383,7 @@ pub(crate) fn address_near<P: Port>(
 ) -> Result<u32, CutShort>
     requires width { IsWidth width }
     requires room { 3 ≤ room txn.old }
-    ensures exact { Follows (located letter width (form_of byte) (present P.view txn.old).state) (present P.view txn.old) (told txn.new result) (present P.view txn.new) }
+    ensures exact { Does P.view (located letter width (form_of byte)) result txn.old txn.new }
     ensures keeps { Keeps P.view P.since 3 txn.old txn.new }
 {
     match byte >> 4 {
@@ -402,7 +402,10 @@ fn operand_there<P: Port>(
 ) -> Result<Operand, CutShort>
     requires width { IsWidth kind.width }
     requires room { 3 ≤ room txn.old }
-    ensures exact { Follows (λ next. located kind.letter kind.width (form_of byte) (present P.view txn.old).state (λ addr s. at_address kind addr s next)) (present P.view txn.old) (told txn.new result) (present P.view txn.new) }
+    ensures exact { Does P.view
+        (λ s next. located kind.letter kind.width (form_of byte) s
+        (λ addr s. at_address kind addr s next))
+        result txn.old txn.new }
     ensures fits { IfOk result (Fits kind) }
     ensures keeps { Keeps P.view P.since 3 txn.old txn.new }
 {
@@ -422,7 +425,7 @@ fn memory_operand<P: Port>(
     requires width { IsWidth kind.width }
     requires memory { IsMemory (form_of byte) }
     requires room { 3 ≤ room txn.old }
-    ensures exact { Follows (formed kind (form_of byte) (present P.view txn.old).state) (present P.view txn.old) (told txn.new result) (present P.view txn.new) }
+    ensures exact { Does P.view (formed kind (form_of byte)) result txn.old txn.new }
     ensures fits { IfOk result (Fits kind) }
     ensures keeps { Keeps P.view P.since 3 txn.old txn.new }
 {
@@ -435,7 +438,7 @@ fn memory_operand<P: Port>(
 fn by_byte<P: Port>(txn: &mut Txn<P>, kind: OperandKind, byte: u8) -> Result<Operand, CutShort>
     requires width { IsWidth kind.width }
     requires room { 3 ≤ room txn.old }
-    ensures exact { Follows (formed kind (form_of byte) (present P.view txn.old).state) (present P.view txn.old) (told txn.new result) (present P.view txn.new) }
+    ensures exact { Does P.view (formed kind (form_of byte)) result txn.old txn.new }
     ensures fits { IfOk result (Fits kind) }
     ensures keeps { Keeps P.view P.since 3 txn.old txn.new }
 {
@@ -452,7 +455,7 @@ fn by_byte<P: Port>(txn: &mut Txn<P>, kind: OperandKind, byte: u8) -> Result<Ope
 fn specified<P: Port>(txn: &mut Txn<P>, kind: OperandKind) -> Result<Operand, CutShort>
     requires width { IsWidth kind.width }
     requires room { 4 ≤ room txn.old }
-    ensures exact { Follows (specified kind (present P.view txn.old).state) (present P.view txn.old) (told txn.new result) (present P.view txn.new) }
+    ensures exact { Does P.view (specified kind) result txn.old txn.new }
     ensures fits { IfOk result (Fits kind) }
     ensures keeps { Keeps P.view P.since 4 txn.old txn.new }
 {
@@ -468,7 +471,7 @@ fn specified<P: Port>(txn: &mut Txn<P>, kind: OperandKind) -> Result<Operand, Cu
 fn branch_target<P: Port>(txn: &mut Txn<P>, width: u8) -> Result<Operand, CutShort>
     requires width { IsDisplacement width }
     requires room { 1 ≤ room txn.old }
-    ensures exact { Follows (branched width (present P.view txn.old).state) (present P.view txn.old) (told txn.new result) (present P.view txn.new) }
+    ensures exact { Does P.view (branched width) result txn.old txn.new }
     ensures target { IfOk result IsTarget }
     ensures keeps { Keeps P.view P.since 1 txn.old txn.new }
 {
@@ -488,7 +491,7 @@ fn by_letter<P: Port>(txn: &mut Txn<P>, kind: OperandKind) -> Result<Operand, Cu
     requires width { IsWidth kind.width }
     requires displacement { kind.letter ≡ Letter.Branch → IsDisplacement kind.width }
     requires room { 4 ≤ room txn.old }
-    ensures exact { Follows (next_operand kind (present P.view txn.old).state) (present P.view txn.old) (told txn.new result) (present P.view txn.new) }
+    ensures exact { Does P.view (next_operand kind) result txn.old txn.new }
     ensures fits { IfOk result (Fits kind) }
     ensures keeps { Keeps P.view P.since 4 txn.old txn.new }
 {
@@ -512,8 +515,8 @@ pub fn next<P: Port>(txn: &mut Txn<P>, kind: OperandKind) -> Result<Operand, Cut
     requires width { IsWidth kind.width }
     requires displacement { kind.letter ≡ Letter.Branch → IsDisplacement kind.width }
     requires room { 4 ≤ room txn.old }
-    ensures exact { Follows (next_operand kind (present P.view txn.old).state) (present P.view txn.old) (told txn.new result) (present P.view txn.new) }
-    ensures everywhere { LocatesEverywhere (next_operand kind (present P.view txn.old).state) (present P.view txn.old) (told txn.new result) (present P.view txn.new) }
+    ensures exact { Does P.view (next_operand kind) result txn.old txn.new }
+    ensures everywhere { LocatesEverywhere P.view (next_operand kind) result txn.old txn.new }
     ensures fits { IfOk result (Fits kind) }
     ensures keeps { Keeps P.view P.since 4 txn.old txn.new }
 {

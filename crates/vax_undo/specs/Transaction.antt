@@ -10,7 +10,8 @@ use Rattle.vax_flat.specs.declared.Flow.{Flow}
 use Rattle.vax_flat.specs.declared.Flow.TheVariants as flow
 use Rattle.vax_flat.specs.State.{State, with_register, with_psl, with_stack, with_requests, with_timer, with_clock, with_taken, with_sent, next_input}
 use Rattle.vax_flat.specs.Port.{View, first_absent, is_in, unmarked, with_number_back}
-use Rattle.vax_flat.specs.OverPort.{Present}
+use Rattle.vax_flat.specs.Accesses.{Accesses, Leaf}
+use Rattle.vax_flat.specs.OverPort.{Present, Follows, Performs, over_port, goes_on}
 use Rattle.vax_undo.specs.declared.entry.Entry.{Entry}
 use Rattle.vax_undo.specs.declared.entry.Kept.{Kept}
 use Rattle.vax_undo.specs.declared.entry.Kept.TheVariants.{Register, Stack, Requests, Timer, Taken, Sent, Bytes}
@@ -22,6 +23,10 @@ use Rattle.vax_undo.specs.declared.txn.Txn.{Txn as Transaction}
 -- registers and console as an instruction sees them
 abbrev pub state_of : Core → Term → State
 state_of core term = record { core = core; input = term.input.items; taken = term.place; sent = term.out }
+
+-- these over a port
+abbrev pub seen : {P : Type 0} → (P → View) → Core → Term → P → Present
+seen view core term port = record { state = state_of core term; view = view port }
 
 abbrev pub with_state : Present → State → Present
 with_state p s = record { state = s; view = p.view }
@@ -118,6 +123,28 @@ module _ {P : Type 0} where
   abbrev pub told : {X : Type 0} → Transaction P → Result X CutShort → Result X Cut
   told t (Ok x) = Ok x
   told t (Err short) = Err t.why
+
+  -- The call makes the accesses of a tree, which begins at the registers and the console that the call finds.
+  abbrev pub Does : {X : Type 0} → (P → View) → (State → (X → State → Accesses Leaf) → Accesses Leaf)
+      → Result X CutShort → Transaction P → Transaction P → Type 0
+  Does view tree result old new = Follows (tree (present view old).state) (present view old) (told new result) (present view new)
+
+  -- the same of a call that gives no value
+  abbrev pub Acts : (P → View) → (State → (State → Accesses Leaf) → Accesses Leaf)
+      → Result (Unit {0}) CutShort → Transaction P → Transaction P → Type 0
+  Acts view tree result old new = Performs (tree (present view old).state) (present view old) (told new result) (present view new)
+
+  -- the same of a call whose answer is told to what follows in some way of its own
+  abbrev pub Passes : {X N : Type 0} → (P → View) → (State → N → Accesses Leaf) → (N → X → State → Accesses Leaf)
+      → Result X CutShort → Transaction P → Transaction P → Type 0
+  Passes view tree tell result old new =
+      (next : _) → over_port (tree (present view old).state next) (present view old).view
+      ≡ goes_on (told new result) (present view new).view.marked
+      (λ x. over_port (tell next x (present view new).state) (present view new).view)
+
+  -- The call changes the registers and the console in this way, and nothing of what the port shows.
+  abbrev pub Updates : (P → View) → (State → State) → Transaction P → Transaction P → Type 0
+  Updates view change old new = present view new ≡ with_state (present view old) (change (present view old).state)
 
   -- what comes out when the log is undone, but for the marks
   abbrev pub undone : (P → View) → Transaction P → Present

@@ -47,7 +47,8 @@ impl Entry {
     /// An entry of a value that isn't bytes.
     #[inline]
     pub(crate) fn of(kept: Kept, number: u8, old: u64) -> Entry
-        ensures { result ≡ record { old = old; addr = 0; number = number; mode = 0; kept = kept; spare = 0 } }
+        ensures { result
+            ≡ record { old = old; addr = 0; number = number; mode = 0; kept = kept; spare = 0 } }
     {
         Entry {
             old,

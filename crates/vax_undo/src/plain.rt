@@ -116,7 +116,8 @@ impl Plain {
     fn part(&self, addr: u32, len: u32) -> Option<&[u8]>
         requires some { 1 ≤ len }
         requires one_page { addr % 512 + len ≤ 512 }
-        ensures bytes { IfSome result (λ bytes. bytes.now ≡ bytes_from (view_of self.now).byte addr len) }
+        ensures bytes { IfSome result
+            (λ bytes. bytes.now ≡ bytes_from (view_of self.now).byte addr len) }
         ensures resident { is_some result ≡ (view_of self.now).resident (page_of addr) }
     {
         match self.owner(addr / PAGE_BYTES) {
@@ -165,7 +166,9 @@ impl Plain {
     fn read_apart(&self, addr: u32, n: u32) -> Result<u64, Stop>
         requires few { n ≤ 8 }
         requires apart { 512 < addr % 512 + n }
-        ensures { result ≡ loaded_by (stop_of None (first_absent (view_of self.now).resident addr n)) (number (view_of self.now).byte addr n) }
+        ensures { result
+            ≡ loaded_by (stop_of None (first_absent (view_of self.now).resident addr n))
+            (number (view_of self.now).byte addr n) }
     {
         let first = PAGE_BYTES - addr % PAGE_BYTES;
         let next = addr.wrapping_add(first);
@@ -183,8 +186,12 @@ impl Plain {
     fn write_apart(&mut self, addr: u32, n: u32, value: u64) -> Result<u64, Stop>
         requires few { n ≤ 8 }
         requires apart { 512 < addr % 512 + n }
-        ensures answer { result ≡ loaded_by (stop_of None (first_absent (view_of self.old).resident addr n)) (number (view_of self.old).byte addr n) }
-        ensures stored { view_of self.new ≡ unless_cut (stop_of None (first_absent (view_of self.old).resident addr n)) (view_of self.old) (with_number (view_of self.old) addr n value) }
+        ensures answer { result
+            ≡ loaded_by (stop_of None (first_absent (view_of self.old).resident addr n))
+            (number (view_of self.old).byte addr n) }
+        ensures stored { view_of self.new
+            ≡ unless_cut (stop_of None (first_absent (view_of self.old).resident addr n))
+            (view_of self.old) (with_number (view_of self.old) addr n value) }
     {
         let first = PAGE_BYTES - addr % PAGE_BYTES;
         let next = addr.wrapping_add(first);
@@ -255,7 +262,8 @@ impl Plain {
 
     /// Makes a page of an area resident again, with the bytes that it had.
     pub fn show(&mut self, page: u32)
-        ensures { view_of self.new ≡ with_page (view_of self.old) page (is_some (area_of (view_of self.old).areas page)) }
+        ensures { view_of self.new
+            ≡ with_page (view_of self.old) page (is_some (area_of (view_of self.old).areas page)) }
     {
         let number = number_of_area(self.space.areas(), page);
         if let Some(place) = slot_of(page) {
@@ -265,7 +273,8 @@ impl Plain {
 
     /// The byte at an address, whether its page is resident or not; none where no area has it.
     pub fn byte(&self, addr: u32) -> Option<u8>
-        ensures { result ≡ (if is_some (area_of (view_of self.now).areas (page_of addr)) then Some ((view_of self.now).byte addr) else None) }
+        ensures { result ≡ (if is_some (area_of (view_of self.now).areas (page_of addr))
+            then Some ((view_of self.now).byte addr) else None) }
     {
         match number_of_area(self.space.areas(), addr / PAGE_BYTES) {
             Some(number) => {
@@ -279,7 +288,8 @@ impl Plain {
     /// Memory with the areas' bytes, and all pages of the areas resident.
     pub fn new(alloc: Global, space: Space) -> Result<Plain, NoMemory>
         ensures areas { IfOk result (λ plain. (view_of plain).areas ≡ space) }
-        ensures resident { IfOk result (λ plain. (page : ℕ) → (view_of plain).resident page ≡ is_some (area_of space page)) }
+        ensures resident { IfOk result
+            (λ plain. (page : ℕ) → (view_of plain).resident page ≡ is_some (area_of space page)) }
         ensures bytes { IfOk result (λ plain. (view_of plain).byte ≡ byte_at (start_memory space)) }
         ensures stands { IfOk result (λ plain. StandsFor (view_of plain) (start_memory space)) }
     {

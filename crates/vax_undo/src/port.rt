@@ -53,8 +53,10 @@ pub trait Port {
         requires some { 1 ≤ length into.old }
         requires one_page { addr % 512 + length into.old ≤ 512 }
         requires of_mode { mode ≤ 3 }
-        ensures answer { err_of result ≡ stop (view self.old) addr (length into.old) mode Access.Read }
-        ensures bytes { OnOk result (into.new ≡ bytes_from (view self.old).byte addr (length into.old)) }
+        ensures answer { err_of result
+            ≡ stop (view self.old) addr (length into.old) mode Access.Read }
+        ensures bytes { OnOk result
+            (into.new ≡ bytes_from (view self.old).byte addr (length into.old)) }
         ensures unread { OnErr result (into.new ≡ into.old) }
         ensures same { view self.new ≡ view self.old }
         ensures since { (start : Self) → since start self.old → since start self.new };
@@ -64,7 +66,8 @@ pub trait Port {
         requires some { 1 ≤ length from.now }
         requires one_page { addr % 512 + length from.now ≤ 512 }
         requires of_mode { mode ≤ 3 }
-        ensures answer { err_of result ≡ stop (view self.old) addr (length from.now) mode Access.Write }
+        ensures answer { err_of result
+            ≡ stop (view self.old) addr (length from.now) mode Access.Write }
         ensures stored { view self.new ≡ stored_run (view self.old) addr from.now mode }
         ensures since { (start : Self) → since start self.old → since start self.new };
 }

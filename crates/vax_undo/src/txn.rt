@@ -41,7 +41,8 @@ ghost use Rattle.vax_undo.specs.Transaction.{sent_of};
 
 #[inline(always)]
 fn origin_of(core: &Core) -> Origin
-    ensures { result ≡ record { pc = slice_index core.now.regs 15; psl = core.now.psl; clock = core.now.clock } }
+    ensures { result
+        ≡ record { pc = slice_index core.now.regs 15; psl = core.now.psl; clock = core.now.clock } }
 {
     Origin {
         pc: register_of(core, 15),
@@ -98,14 +99,16 @@ fn input_is_left(term: &Term) -> bool
     (term.place as usize) < term.input.len()
 }
 
-ghost use Rattle.vax_undo.specs.Transaction.{state_of, undo, Allows};
+ghost use Rattle.vax_undo.specs.Transaction.{state_of, undo, Allows, seen};
 
 /// Puts the old value of an entry back.
 #[tactic(auto, using(crate::proofs::Undo::put_again))]
 fn put_back<P: Port>(entry: Entry, core: &mut Core, term: &mut Term, port: &mut P)
-    requires { Allows (vec_len term.old.input) (P.view port.old).areas (P.view port.old).resident (P.view port.old).marked entry.kept entry }
-    ensures state { state_of core.new term.new ≡ (undo entry (record { state = state_of core.old term.old; view = P.view port.old })).state }
-    ensures view { P.view port.new ≡ (undo entry (record { state = state_of core.old term.old; view = P.view port.old })).view }
+    requires { Allows (vec_len term.old.input) (P.view port.old).areas (P.view port.old).resident
+        (P.view port.old).marked entry.kept entry }
+    ensures state { state_of core.new term.new
+        ≡ (undo entry (seen P.view core.old term.old port.old)).state }
+    ensures view { P.view port.new ≡ (undo entry (seen P.view core.old term.old port.old)).view }
     ensures input { term.new.input ≡ term.old.input }
     ensures since { (start : P) → P.since start port.old → P.since start port.new }
 {
@@ -144,7 +147,7 @@ impl<'a, P: Port> Txn<'a, P> {
     ghost use Rattle.vax_flat.specs.State.{register, with_register, with_psl, with_stack, with_requests, with_timer, with_clock, with_taken, with_sent};
     ghost use Rattle.vax_flat.specs.Memory.{bytes_from};
     ghost use Rattle.vax_flat.specs.Port.{loaded, stored, stored_run, stop, unmarked};
-    ghost use Rattle.vax_undo.specs.Transaction.{bare, state_of, present, undone, room, IsLeft, IsLeftOpen, IsReady, IsSame, Keeps, with_state, with_view, next_byte, after_take};
+    ghost use Rattle.vax_undo.specs.Transaction.{bare, state_of, present, undone, room, IsLeft, IsLeftOpen, IsReady, IsSame, Keeps, Updates, seen, with_view, next_byte, after_take};
 
     /// Begins a transaction, at which nothing is sent to the console yet. What the log held is forgotten.
     #[inline]
@@ -158,7 +161,7 @@ impl<'a, P: Port> Txn<'a, P> {
         ensures core { result.core.ghost_name ≡ core.entry.ghost_name }
         ensures term { result.term.ghost_name ≡ term.entry.ghost_name }
         ensures port { result.port.ghost_name ≡ port.entry.ghost_name }
-        ensures present { present P.view result ≡ record { state = state_of core.old term.old; view = P.view port.old } }
+        ensures present { present P.view result ≡ seen P.view core.old term.old port.old }
         ensures lent { result.port.now ≡ port.old }
         ensures console { result.term.now ≡ term.old }
         ensures undone { undone P.view result ≡ bare (present P.view result) }
@@ -221,7 +224,7 @@ impl<'a, P: Port> Txn<'a, P> {
     pub fn set_reg(&mut self, n: u8, v: u32)
         requires of_core { n < 16 }
         requires room { 1 ≤ room self.old }
-        ensures present { present P.view self.new ≡ with_state (present P.view self.old) (with_register (present P.view self.old).state n v) }
+        ensures present { Updates P.view (λ s. with_register s n v) self.old self.new }
         ensures keeps { Keeps P.view P.since 1 self.old self.new }
     {
         if n == 15 {
@@ -248,7 +251,7 @@ impl<'a, P: Port> Txn<'a, P> {
     pub fn set_psl(&mut self, v: Psl)
         requires closed { first_part_done v ≤ first_part_done self.old.core.now.psl }
         requires room { 1 ≤ room self.old }
-        ensures present { present P.view self.new ≡ with_state (present P.view self.old) (with_psl (present P.view self.old).state v) }
+        ensures present { Updates P.view (λ s. with_psl s v) self.old self.new }
         ensures keeps { Keeps P.view P.since 1 self.old self.new }
     {
         self.core.psl = v;
@@ -259,7 +262,7 @@ impl<'a, P: Port> Txn<'a, P> {
     #[inline]
     pub fn leave_open(&mut self, v: Psl)
         requires { 1 ≤ room self.old }
-        ensures present { present P.view self.new ≡ with_state (present P.view self.old) (with_psl (present P.view self.old).state v) }
+        ensures present { Updates P.view (λ s. with_psl s v) self.old self.new }
         ensures left { IsLeftOpen P.view P.since 1 self.old self.new }
     {
         self.core.psl = v;
@@ -278,7 +281,7 @@ impl<'a, P: Port> Txn<'a, P> {
     pub fn set_stack(&mut self, i: u8, v: u32)
         requires of_core { i < 5 }
         requires room { 1 ≤ room self.old }
-        ensures present { present P.view self.new ≡ with_state (present P.view self.old) (with_stack (present P.view self.old).state i v) }
+        ensures present { Updates P.view (λ s. with_stack s i v) self.old self.new }
         ensures keeps { Keeps P.view P.since 1 self.old self.new }
     {
         let old = stack_of(self.core, i);
@@ -297,7 +300,7 @@ impl<'a, P: Port> Txn<'a, P> {
     #[inline]
     pub fn set_sisr(&mut self, v: u16)
         requires { 1 ≤ room self.old }
-        ensures present { present P.view self.new ≡ with_state (present P.view self.old) (with_requests (present P.view self.old).state v) }
+        ensures present { Updates P.view (λ s. with_requests s v) self.old self.new }
         ensures keeps { Keeps P.view P.since 1 self.old self.new }
     {
         self.log
@@ -317,7 +320,7 @@ impl<'a, P: Port> Txn<'a, P> {
     #[inline]
     pub fn set_iccs(&mut self, v: u8)
         requires { 1 ≤ room self.old }
-        ensures present { present P.view self.new ≡ with_state (present P.view self.old) (with_timer (present P.view self.old).state v) }
+        ensures present { Updates P.view (λ s. with_timer s v) self.old self.new }
         ensures keeps { Keeps P.view P.since 1 self.old self.new }
     {
         self.log
@@ -338,7 +341,7 @@ impl<'a, P: Port> Txn<'a, P> {
     #[inline(always)]
     pub fn set_clock(&mut self, v: u16)
         requires { v ≤ 999 }
-        ensures present { present P.view self.new ≡ with_state (present P.view self.old) (with_clock (present P.view self.old).state v) }
+        ensures present { Updates P.view (λ s. with_clock s v) self.old self.new }
         ensures keeps { Keeps P.view P.since 0 self.old self.new }
     {
         self.core.clock = v;
@@ -349,7 +352,7 @@ impl<'a, P: Port> Txn<'a, P> {
     pub fn take(&mut self) -> Option<u8>
         requires room { 1 ≤ room self.old }
         ensures answer { result ≡ next_byte (present P.view self.old).state }
-        ensures present { present P.view self.new ≡ with_state (present P.view self.old) (after_take (present P.view self.old).state) }
+        ensures present { Updates P.view after_take self.old self.new }
         ensures keeps { Keeps P.view P.since 1 self.old self.new }
     {
         let term = &mut *self.term;
@@ -377,7 +380,7 @@ impl<'a, P: Port> Txn<'a, P> {
     #[inline]
     pub fn emit(&mut self, byte: u8)
         requires room { 1 ≤ room self.old }
-        ensures present { present P.view self.new ≡ with_state (present P.view self.old) (with_sent (present P.view self.old).state (Some byte)) }
+        ensures present { Updates P.view (λ s. with_sent s (Some byte)) self.old self.new }
         ensures keeps { Keeps P.view P.since 1 self.old self.new }
     {
         let old = sent_number(self.term.out);
@@ -390,7 +393,8 @@ impl<'a, P: Port> Txn<'a, P> {
     pub fn check(&self, addr: u32, len: u32, mode: u8, access: Access) -> Result<(), Violation>
         requires short { len ≤ 65536 }
         requires of_mode { mode ≤ 3 }
-        ensures { err_of result ≡ violation (present P.view self.now).view.areas addr len mode access }
+        ensures { err_of result
+            ≡ violation (present P.view self.now).view.areas addr len mode access }
     {
         self.port.check(addr, len, mode, access)
     }
@@ -417,8 +421,11 @@ impl<'a, P: Port> Txn<'a, P> {
         requires of_mode { mode ≤ 3 }
         requires fits { value < 256 ^ n }
         requires room { 1 ≤ room self.old }
-        ensures answer { err_of result ≡ stop (present P.view self.old).view addr n mode Access.Write }
-        ensures present { present P.view self.new ≡ with_view (present P.view self.old) (stored (present P.view self.old).view addr n value mode) }
+        ensures answer { err_of result
+            ≡ stop (present P.view self.old).view addr n mode Access.Write }
+        ensures present { present P.view self.new
+            ≡ with_view (present P.view self.old)
+            (stored (present P.view self.old).view addr n value mode) }
         ensures keeps { Keeps P.view P.since 1 self.old self.new }
     {
         match self.port.write(addr, n, value, mode) {
@@ -443,8 +450,10 @@ impl<'a, P: Port> Txn<'a, P> {
         requires some { 1 ≤ length into.old }
         requires one_page { addr % 512 + length into.old ≤ 512 }
         requires of_mode { mode ≤ 3 }
-        ensures answer { err_of result ≡ stop (present P.view self.old).view addr (length into.old) mode Access.Read }
-        ensures bytes { OnOk result (into.new ≡ bytes_from (present P.view self.old).view.byte addr (length into.old)) }
+        ensures answer { err_of result
+            ≡ stop (present P.view self.old).view addr (length into.old) mode Access.Read }
+        ensures bytes { OnOk result
+            (into.new ≡ bytes_from (present P.view self.old).view.byte addr (length into.old)) }
         ensures unread { OnErr result (into.new ≡ into.old) }
         ensures present { present P.view self.new ≡ present P.view self.old }
         ensures keeps { Keeps P.view P.since 0 self.old self.new }
@@ -459,8 +468,11 @@ impl<'a, P: Port> Txn<'a, P> {
         requires some { 1 ≤ length from.now }
         requires one_page { addr % 512 + length from.now ≤ 512 }
         requires of_mode { mode ≤ 3 }
-        ensures answer { err_of result ≡ stop (present P.view self.old).view addr (length from.now) mode Access.Write }
-        ensures present { present P.view self.new ≡ with_view (present P.view self.old) (stored_run (present P.view self.old).view addr from.now mode) }
+        ensures answer { err_of result
+            ≡ stop (present P.view self.old).view addr (length from.now) mode Access.Write }
+        ensures present { present P.view self.new
+            ≡ with_view (present P.view self.old)
+            (stored_run (present P.view self.old).view addr from.now mode) }
         ensures keeps { OnErr result (Keeps P.view P.since 0 self.old self.new) }
         ensures left { IsLeftOpen P.view P.since 0 self.old self.new }
         ensures completed { IsLeft P.since 0 self.old self.new }
@@ -474,11 +486,12 @@ impl<'a, P: Port> Txn<'a, P> {
     #[inline(always)]
     pub fn renew(&mut self) -> Option<u8>
         ensures sent { result ≡ (present P.view self.old).state.sent }
-        ensures present { present P.view self.new ≡ with_state (present P.view self.old) (with_sent (present P.view self.old).state None) }
+        ensures present { Updates P.view (λ s. with_sent s None) self.old self.new }
         ensures undone { undone P.view self.new ≡ bare (present P.view self.new) }
         ensures room { room self.new ≡ 96 }
         ensures ready { IsReady P.view self.new }
-        ensures closed { first_part_done self.new.core.now.psl ≤ first_part_done self.old.core.now.psl }
+        ensures closed { first_part_done self.new.core.now.psl
+            ≤ first_part_done self.old.core.now.psl }
         ensures same { IsSame P.since self.old self.new }
     {
         self.log.forget();
@@ -542,11 +555,13 @@ impl<'a, P: Port> Txn<'a, P> {
     /// Puts everything back as it was when the transaction began. Pages that were written to stay marked.
     pub fn unwind(self)
         requires { IsReady P.view self }
-        ensures state { state_of self.exit.0.now self.exit.1.0.now ≡ (undone P.view self.entry).state }
+        ensures state { state_of self.exit.0.now self.exit.1.0.now
+            ≡ (undone P.view self.entry).state }
         ensures view { unmarked (P.view self.exit.1.1.0.now) ≡ (undone P.view self.entry).view }
         ensures marks { (P.view self.exit.1.1.0.now).marked ≡ (P.view self.entry.port.now).marked }
         ensures input { self.exit.1.0.now.input ≡ self.entry.term.now.input }
-        ensures since { (start : P) → P.since start self.entry.port.now → P.since start self.exit.1.1.0.now }
+        ensures since { (start : P) → P.since start self.entry.port.now
+            → P.since start self.exit.1.1.0.now }
     {
         let Txn {
             core,

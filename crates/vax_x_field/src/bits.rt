@@ -35,7 +35,8 @@ pub(crate) fn with_part(holder: Holder, held: u64, size: u8, new: u64) -> u64
     requires first { holder.first < 32 }
     requires short { size ≤ 32 }
     requires fits { held < 256 ^ holder.width }
-    ensures bits { number_of (with_part holder.first (bits_of size new) (bits_of (8 * holder.width) held)) ≡ result }
+    ensures bits { number_of
+        (with_part holder.first (bits_of size new) (bits_of (8 * holder.width) held)) ≡ result }
     ensures fits { result < 256 ^ holder.width }
 {
     let behind = holder.first + size;
@@ -48,7 +49,8 @@ pub(crate) fn with_bit(holder: Holder, held: u64, new: bool) -> u64
     requires within { holder.first + 1 ≤ 8 * holder.width }
     requires first { holder.first < 32 }
     requires fits { held < 256 ^ holder.width }
-    ensures bits { number_of (with_part holder.first (new ∷ []) (bits_of (8 * holder.width) held)) ≡ result }
+    ensures bits { number_of (with_part holder.first (new ∷ []) (bits_of (8 * holder.width) held))
+        ≡ result }
     ensures fits { result < 256 ^ holder.width }
 {
     with_part(holder, held, 1, u64::from(new))

@@ -2,10 +2,9 @@
 ghost use Rattle.std.specs.Prelude.{◌≡◌, ◌+◌, ◌*◌, ◌^◌, ◌<◌, ◌≤◌, IfOk, false};
 ghost use Rattle.vax_flat.specs.Field.{base_place, bytes_at, bytes_before, holder, is_reserved_field, field_bits};
 ghost use Rattle.vax_flat.specs.Operand.{IsBase};
-ghost use Rattle.vax_flat.specs.OverPort.{Follows, Performs};
 ghost use Rattle.vax_flat.specs.Rows.{value_at, stored};
-ghost use Rattle.vax_undo.specs.Transaction.{present, room, Keeps, told};
-ghost use Rattle.vax_x_field.specs.Fields.{FollowsBits, IsHeld};
+ghost use Rattle.vax_undo.specs.Transaction.{room, Keeps, Acts, Does};
+ghost use Rattle.vax_x_field.specs.Fields.{IsHeld, DoesBits};
 
 use crate::bits::part;
 use vax_flat::{Cut, Exception, Holder, Operand};
@@ -19,7 +18,7 @@ use vax_word::Size;
 #[tactic(auto, unfolding(vax_flat::specs::Field::base_place))]
 pub(crate) fn next_base<P: Port>(txn: &mut Txn<P>) -> Result<Operand, CutShort>
     requires room { 4 ≤ room txn.old }
-    ensures exact { Follows (base_place (present P.view txn.old).state) (present P.view txn.old) (told txn.new result) (present P.view txn.new) }
+    ensures exact { Does P.view base_place result txn.old txn.new }
     ensures base { IfOk result IsBase }
     ensures keeps { Keeps P.view P.since 4 txn.old txn.new }
 {
@@ -113,7 +112,7 @@ pub(crate) fn held<P: Port>(txn: &mut Txn<P>, holder: Holder) -> Result<u64, Cut
     requires some { 1 ≤ holder.width }
     requires few { holder.width ≤ 8 }
     requires place { IsHeld holder.width holder.place }
-    ensures exact { Follows (value_at holder.width holder.place (present P.view txn.old).state) (present P.view txn.old) (told txn.new result) (present P.view txn.new) }
+    ensures exact { Does P.view (value_at holder.width holder.place) result txn.old txn.new }
     ensures fits { IfOk result (λ x. x < 256 ^ holder.width) }
     ensures keeps { Keeps P.view P.since 0 txn.old txn.new }
 {
@@ -140,7 +139,7 @@ pub(crate) fn put<P: Port>(txn: &mut Txn<P>, holder: Holder, value: u64) -> Resu
     requires place { IsHeld holder.width holder.place }
     requires fits { value < 256 ^ holder.width }
     requires room { 2 ≤ room txn.old }
-    ensures exact { Performs (stored holder.width holder.place value (present P.view txn.old).state) (present P.view txn.old) (told txn.new result) (present P.view txn.new) }
+    ensures exact { Acts P.view (stored holder.width holder.place value) result txn.old txn.new }
     ensures keeps { Keeps P.view P.since 2 txn.old txn.new }
 {
     match holder.place {
@@ -161,7 +160,7 @@ pub(crate) fn field_bits<P: Port>(
     base: Operand,
 ) -> Result<u64, CutShort>
     requires base { IsBase base }
-    ensures exact { FollowsBits size (field_bits position size base (present P.view txn.old).state) (present P.view txn.old) (told txn.new result) (present P.view txn.new) }
+    ensures exact { DoesBits P.view size (field_bits position size base) result txn.old txn.new }
     ensures fits { IfOk result (λ x. x < 2 ^ size) }
     ensures short { IfOk result (λ x. size ≤ 32) }
     ensures keeps { Keeps P.view P.since 0 txn.old txn.new }

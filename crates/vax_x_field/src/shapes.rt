@@ -3,10 +3,9 @@ ghost use Rattle.std.specs.Prelude.{◌≡◌, ◌+◌, ◌*◌, ◌^◌, ◌<�
 ghost use Rattle.vax_flat.specs.Control.{jumped_if};
 ghost use Rattle.vax_flat.specs.Field as field;
 ghost use Rattle.vax_flat.specs.Field.{bits_of};
-ghost use Rattle.vax_flat.specs.OverPort.{Follows, Performs};
 ghost use Rattle.vax_flat.specs.Operand.{IsBase};
 ghost use Rattle.vax_flat.specs.Rows.{carry_of};
-ghost use Rattle.vax_undo.specs.Transaction.{present, room, with_state, Keeps, told};
+ghost use Rattle.vax_undo.specs.Transaction.{present, room, Keeps, Acts, Does, Updates};
 ghost use Rattle.vax_x_field.specs.Fields.{IsHeld};
 
 use crate::bits::{answer_of, before_first, part, widen, with_bit, with_part};
@@ -30,7 +29,7 @@ fn carry<P: Port>(txn: &Txn<P>) -> bool
 #[tactic(auto, unfolding(vax_flat::specs::Field::extract, vax_flat::specs::Field::extracted))]
 fn extract<P: Port>(txn: &mut Txn<P>, signed: bool) -> Result<Flow, CutShort>
     requires { 19 ≤ room txn.old }
-    ensures exact { Follows (field.extract signed (present P.view txn.old).state) (present P.view txn.old) (told txn.new result) (present P.view txn.new) }
+    ensures exact { Does P.view (field.extract signed) result txn.old txn.new }
     ensures keeps { Keeps P.view P.since 19 txn.old txn.new }
 {
     let position = next_value(txn, Size::L)? as u32;
@@ -46,7 +45,7 @@ fn extract<P: Port>(txn: &mut Txn<P>, signed: bool) -> Result<Flow, CutShort>
 #[tactic(auto, unfolding(vax_flat::specs::Field::compare, vax_flat::specs::Field::compared_field))]
 fn compare<P: Port>(txn: &mut Txn<P>, signed: bool) -> Result<Flow, CutShort>
     requires { 17 ≤ room txn.old }
-    ensures exact { Follows (field.compare signed (present P.view txn.old).state) (present P.view txn.old) (told txn.new result) (present P.view txn.new) }
+    ensures exact { Does P.view (field.compare signed) result txn.old txn.new }
     ensures keeps { Keeps P.view P.since 17 txn.old txn.new }
 {
     let position = next_value(txn, Size::L)? as u32;
@@ -65,7 +64,7 @@ fn compare<P: Port>(txn: &mut Txn<P>, signed: bool) -> Result<Flow, CutShort>
 #[tactic(auto, using(crate::proofs::BitLaws::length_of), unfolding(vax_flat::specs::Field::find_first, vax_flat::specs::Field::found))]
 fn find_first<P: Port>(txn: &mut Txn<P>, set: bool) -> Result<Flow, CutShort>
     requires { 19 ≤ room txn.old }
-    ensures exact { Follows (field.find_first set (present P.view txn.old).state) (present P.view txn.old) (told txn.new result) (present P.view txn.new) }
+    ensures exact { Does P.view (field.find_first set) result txn.old txn.new }
     ensures keeps { Keeps P.view P.since 19 txn.old txn.new }
 {
     let position = next_value(txn, Size::L)? as u32;
@@ -95,7 +94,7 @@ fn insert_bits<P: Port>(
 ) -> Result<Flow, CutShort>
     requires base { IsBase base }
     requires room { 2 ≤ room txn.old }
-    ensures exact { Follows (field.inserted source position size base (present P.view txn.old).state) (present P.view txn.old) (told txn.new result) (present P.view txn.new) }
+    ensures exact { Does P.view (field.inserted source position size base) result txn.old txn.new }
     ensures keeps { Keeps P.view P.since 2 txn.old txn.new }
 {
     if is_reserved(position, size, base) {
@@ -114,7 +113,7 @@ fn insert_bits<P: Port>(
 #[tactic(auto, unfolding(vax_flat::specs::Field::insert))]
 fn insert<P: Port>(txn: &mut Txn<P>) -> Result<Flow, CutShort>
     requires { 18 ≤ room txn.old }
-    ensures exact { Follows (field.insert (present P.view txn.old).state) (present P.view txn.old) (told txn.new result) (present P.view txn.new) }
+    ensures exact { Does P.view field.insert result txn.old txn.new }
     ensures keeps { Keeps P.view P.since 18 txn.old txn.new }
 {
     let source = next_value(txn, Size::L)?;
@@ -129,7 +128,7 @@ fn insert<P: Port>(txn: &mut Txn<P>) -> Result<Flow, CutShort>
 #[tactic(auto, unfolding(vax_flat::specs::Control::jumped_if))]
 fn jump_if<P: Port>(txn: &mut Txn<P>, taken: bool, target: u32)
     requires { 1 ≤ room txn.old }
-    ensures exact { present P.view txn.new ≡ with_state (present P.view txn.old) (jumped_if taken target (present P.view txn.old).state) }
+    ensures exact { Updates P.view (jumped_if taken target) txn.old txn.new }
     ensures keeps { Keeps P.view P.since 1 txn.old txn.new }
 {
     if taken {
@@ -153,7 +152,8 @@ fn becoming<P: Port>(
     requires first { holder.first < 32 }
     requires fits { bits < 256 ^ holder.width }
     requires room { 2 ≤ room txn.old }
-    ensures exact { Performs (field.becoming becomes holder (bits_of (8 * holder.width) bits) (present P.view txn.old).state) (present P.view txn.old) (told txn.new result) (present P.view txn.new) }
+    ensures exact { Acts P.view (field.becoming becomes holder (bits_of (8 * holder.width) bits))
+        result txn.old txn.new }
     ensures keeps { Keeps P.view P.since 2 txn.old txn.new }
 {
     match becomes {
@@ -175,7 +175,8 @@ fn branch_on<P: Port>(
 ) -> Result<Flow, CutShort>
     requires base { IsBase base }
     requires room { 3 ≤ room txn.old }
-    ensures exact { Follows (field.branched_on set becomes position base target (present P.view txn.old).state) (present P.view txn.old) (told txn.new result) (present P.view txn.new) }
+    ensures exact { Does P.view (field.branched_on set becomes position base target)
+        result txn.old txn.new }
     ensures keeps { Keeps P.view P.since 3 txn.old txn.new }
 {
     if is_reserved(position, 1, base) {
@@ -192,7 +193,7 @@ fn branch_on<P: Port>(
 #[tactic(auto, unfolding(vax_flat::specs::Field::branch))]
 fn branch<P: Port>(txn: &mut Txn<P>, set: bool, becomes: Option<bool>) -> Result<Flow, CutShort>
     requires { 15 ≤ room txn.old }
-    ensures exact { Follows (field.branch set becomes (present P.view txn.old).state) (present P.view txn.old) (told txn.new result) (present P.view txn.new) }
+    ensures exact { Does P.view (field.branch set becomes) result txn.old txn.new }
     ensures keeps { Keeps P.view P.since 15 txn.old txn.new }
 {
     let position = next_value(txn, Size::L)? as u32;
@@ -206,7 +207,7 @@ fn branch<P: Port>(txn: &mut Txn<P>, set: bool, becomes: Option<bool>) -> Result
 #[tactic(auto, unfolding(vax_flat::specs::Field::performed))]
 pub(crate) fn perform<P: Port>(txn: &mut Txn<P>, instruction: Field) -> Result<Flow, CutShort>
     requires { 19 ≤ room txn.old }
-    ensures exact { Follows (field.performed instruction (present P.view txn.old).state) (present P.view txn.old) (told txn.new result) (present P.view txn.new) }
+    ensures exact { Does P.view (field.performed instruction) result txn.old txn.new }
     ensures keeps { Keeps P.view P.since 19 txn.old txn.new }
 {
     match instruction {

@@ -4,8 +4,7 @@ ghost use Rattle.vax_word.specs.Arithmetic.{bytes_of};
 ghost use Rattle.vax_isa.specs.Actions.{size_of};
 ghost use Rattle.vax_flat.specs.Integer as integer;
 ghost use Rattle.vax_flat.specs.Rows.{carry_of};
-ghost use Rattle.vax_flat.specs.OverPort.{Follows};
-ghost use Rattle.vax_undo.specs.Transaction.{present, room, Keeps, told};
+ghost use Rattle.vax_undo.specs.Transaction.{present, room, Keeps, Does};
 
 use crate::results::{answer_of, is_by_zero, of_one, of_two, rotated};
 use vax_flat::{Flow, Trap};
@@ -34,7 +33,7 @@ fn unary<P: Port>(
     to: Size,
 ) -> Result<Flow, CutShort>
     requires { 11 ≤ room txn.old }
-    ensures exact { Follows (integer.unary operation from to (present P.view txn.old).state) (present P.view txn.old) (told txn.new result) (present P.view txn.new) }
+    ensures exact { Does P.view (integer.unary operation from to) result txn.old txn.new }
     ensures keeps { Keeps P.view P.since 11 txn.old txn.new }
 {
     let x = next_value(txn, from)?;
@@ -48,7 +47,7 @@ fn unary<P: Port>(
 #[tactic(auto, unfolding(vax_flat::specs::Integer::two))]
 fn two<P: Port>(txn: &mut Txn<P>, operation: Binary, size: Narrow) -> Result<Flow, CutShort>
     requires { 11 ≤ room txn.old }
-    ensures exact { Follows (integer.two operation (size_of size) (present P.view txn.old).state) (present P.view txn.old) (told txn.new result) (present P.view txn.new) }
+    ensures exact { Does P.view (integer.two operation (size_of size)) result txn.old txn.new }
     ensures keeps { Keeps P.view P.since 11 txn.old txn.new }
 {
     let a = next_value(txn, size.into())?;
@@ -62,7 +61,7 @@ fn two<P: Port>(txn: &mut Txn<P>, operation: Binary, size: Narrow) -> Result<Flo
 #[tactic(auto, unfolding(vax_flat::specs::Integer::three))]
 fn three<P: Port>(txn: &mut Txn<P>, operation: Binary, size: Narrow) -> Result<Flow, CutShort>
     requires { 15 ≤ room txn.old }
-    ensures exact { Follows (integer.three operation (size_of size) (present P.view txn.old).state) (present P.view txn.old) (told txn.new result) (present P.view txn.new) }
+    ensures exact { Does P.view (integer.three operation (size_of size)) result txn.old txn.new }
     ensures keeps { Keeps P.view P.since 15 txn.old txn.new }
 {
     let a = next_value(txn, size.into())?;
@@ -83,7 +82,7 @@ fn three<P: Port>(txn: &mut Txn<P>, operation: Binary, size: Narrow) -> Result<F
 #[tactic(auto, unfolding(vax_flat::specs::Integer::by_one))]
 fn by_one<P: Port>(txn: &mut Txn<P>, operation: Binary, size: Narrow) -> Result<Flow, CutShort>
     requires { 7 ≤ room txn.old }
-    ensures exact { Follows (integer.by_one operation (size_of size) (present P.view txn.old).state) (present P.view txn.old) (told txn.new result) (present P.view txn.new) }
+    ensures exact { Does P.view (integer.by_one operation (size_of size)) result txn.old txn.new }
     ensures keeps { Keeps P.view P.since 7 txn.old txn.new }
 {
     let (place, b) = next_modified(txn, size.into())?;
@@ -96,7 +95,7 @@ fn by_one<P: Port>(txn: &mut Txn<P>, operation: Binary, size: Narrow) -> Result<
 #[tactic(auto, unfolding(vax_flat::specs::Integer::clear))]
 fn clear<P: Port>(txn: &mut Txn<P>, size: Size) -> Result<Flow, CutShort>
     requires { 7 ≤ room txn.old }
-    ensures exact { Follows (integer.clear size (present P.view txn.old).state) (present P.view txn.old) (told txn.new result) (present P.view txn.new) }
+    ensures exact { Does P.view (integer.clear size) result txn.old txn.new }
     ensures keeps { Keeps P.view P.since 7 txn.old txn.new }
 {
     let destination = next_place(txn, size)?;
@@ -109,7 +108,7 @@ fn clear<P: Port>(txn: &mut Txn<P>, size: Size) -> Result<Flow, CutShort>
 #[tactic(auto, unfolding(vax_flat::specs::Integer::test_value))]
 fn test<P: Port>(txn: &mut Txn<P>, size: Size) -> Result<Flow, CutShort>
     requires { 5 ≤ room txn.old }
-    ensures exact { Follows (integer.test_value size (present P.view txn.old).state) (present P.view txn.old) (told txn.new result) (present P.view txn.new) }
+    ensures exact { Does P.view (integer.test_value size) result txn.old txn.new }
     ensures keeps { Keeps P.view P.since 5 txn.old txn.new }
 {
     let x = next_value(txn, size)?;
@@ -121,7 +120,7 @@ fn test<P: Port>(txn: &mut Txn<P>, size: Size) -> Result<Flow, CutShort>
 #[tactic(auto, unfolding(vax_flat::specs::Integer::compare))]
 fn compare<P: Port>(txn: &mut Txn<P>, size: Size) -> Result<Flow, CutShort>
     requires { 9 ≤ room txn.old }
-    ensures exact { Follows (integer.compare size (present P.view txn.old).state) (present P.view txn.old) (told txn.new result) (present P.view txn.new) }
+    ensures exact { Does P.view (integer.compare size) result txn.old txn.new }
     ensures keeps { Keeps P.view P.since 9 txn.old txn.new }
 {
     let a = next_value(txn, size)?;
@@ -134,7 +133,7 @@ fn compare<P: Port>(txn: &mut Txn<P>, size: Size) -> Result<Flow, CutShort>
 #[tactic(auto, using(crate::proofs::Sizes::and_fits), unfolding(vax_flat::specs::Integer::bit_test))]
 fn bit_test<P: Port>(txn: &mut Txn<P>, size: Size) -> Result<Flow, CutShort>
     requires { 9 ≤ room txn.old }
-    ensures exact { Follows (integer.bit_test size (present P.view txn.old).state) (present P.view txn.old) (told txn.new result) (present P.view txn.new) }
+    ensures exact { Does P.view (integer.bit_test size) result txn.old txn.new }
     ensures keeps { Keeps P.view P.since 9 txn.old txn.new }
 {
     let mask = next_value(txn, size)?;
@@ -148,7 +147,7 @@ fn bit_test<P: Port>(txn: &mut Txn<P>, size: Size) -> Result<Flow, CutShort>
 #[tactic(auto, using(crate::proofs::Sizes::signed_count), unfolding(vax_flat::specs::Integer::shift))]
 fn shift_by<P: Port>(txn: &mut Txn<P>, size: Size) -> Result<Flow, CutShort>
     requires { 15 ≤ room txn.old }
-    ensures exact { Follows (integer.shift size (present P.view txn.old).state) (present P.view txn.old) (told txn.new result) (present P.view txn.new) }
+    ensures exact { Does P.view (integer.shift size) result txn.old txn.new }
     ensures keeps { Keeps P.view P.since 15 txn.old txn.new }
 {
     let count = next_value(txn, Size::B)?;
@@ -163,7 +162,7 @@ fn shift_by<P: Port>(txn: &mut Txn<P>, size: Size) -> Result<Flow, CutShort>
 #[tactic(auto, unfolding(vax_flat::specs::Integer::rotate))]
 fn rotate<P: Port>(txn: &mut Txn<P>) -> Result<Flow, CutShort>
     requires { 15 ≤ room txn.old }
-    ensures exact { Follows (integer.rotate (present P.view txn.old).state) (present P.view txn.old) (told txn.new result) (present P.view txn.new) }
+    ensures exact { Does P.view integer.rotate result txn.old txn.new }
     ensures keeps { Keeps P.view P.since 15 txn.old txn.new }
 {
     let count = next_value(txn, Size::B)?;
@@ -178,7 +177,7 @@ fn rotate<P: Port>(txn: &mut Txn<P>) -> Result<Flow, CutShort>
 #[tactic(auto, unfolding(vax_flat::specs::Integer::move_address))]
 fn move_address<P: Port>(txn: &mut Txn<P>, size: Size) -> Result<Flow, CutShort>
     requires { 11 ≤ room txn.old }
-    ensures exact { Follows (integer.move_address size (present P.view txn.old).state) (present P.view txn.old) (told txn.new result) (present P.view txn.new) }
+    ensures exact { Does P.view (integer.move_address size) result txn.old txn.new }
     ensures keeps { Keeps P.view P.since 11 txn.old txn.new }
 {
     let addr = next_address(txn, size)?;
@@ -192,7 +191,7 @@ fn move_address<P: Port>(txn: &mut Txn<P>, size: Size) -> Result<Flow, CutShort>
 #[tactic(auto, unfolding(vax_flat::specs::Integer::pushed_result))]
 fn push_result<P: Port>(txn: &mut Txn<P>, x: u32) -> Result<Flow, CutShort>
     requires { 3 ≤ room txn.old }
-    ensures exact { Follows (integer.pushed_result x (present P.view txn.old).state) (present P.view txn.old) (told txn.new result) (present P.view txn.new) }
+    ensures exact { Does P.view (integer.pushed_result x) result txn.old txn.new }
     ensures keeps { Keeps P.view P.since 3 txn.old txn.new }
 {
     push(txn, x)?;
@@ -205,7 +204,7 @@ fn push_result<P: Port>(txn: &mut Txn<P>, x: u32) -> Result<Flow, CutShort>
 #[tactic(auto, unfolding(vax_flat::specs::Integer::push_address))]
 fn push_address<P: Port>(txn: &mut Txn<P>, size: Size) -> Result<Flow, CutShort>
     requires { 7 ≤ room txn.old }
-    ensures exact { Follows (integer.push_address size (present P.view txn.old).state) (present P.view txn.old) (told txn.new result) (present P.view txn.new) }
+    ensures exact { Does P.view (integer.push_address size) result txn.old txn.new }
     ensures keeps { Keeps P.view P.since 7 txn.old txn.new }
 {
     let addr = next_address(txn, size)?;
@@ -217,7 +216,7 @@ fn push_address<P: Port>(txn: &mut Txn<P>, size: Size) -> Result<Flow, CutShort>
 #[tactic(auto, unfolding(vax_flat::specs::Integer::push))]
 fn push_long<P: Port>(txn: &mut Txn<P>) -> Result<Flow, CutShort>
     requires { 7 ≤ room txn.old }
-    ensures exact { Follows (integer.push (present P.view txn.old).state) (present P.view txn.old) (told txn.new result) (present P.view txn.new) }
+    ensures exact { Does P.view integer.push result txn.old txn.new }
     ensures keeps { Keeps P.view P.since 7 txn.old txn.new }
 {
     let x = next_value(txn, Size::L)?;
@@ -229,7 +228,7 @@ fn push_long<P: Port>(txn: &mut Txn<P>) -> Result<Flow, CutShort>
 #[tactic(auto, using(crate::proofs::Sizes::product_fits), unfolding(vax_flat::specs::Integer::extended_multiply))]
 fn extended_multiply<P: Port>(txn: &mut Txn<P>) -> Result<Flow, CutShort>
     requires { 19 ≤ room txn.old }
-    ensures exact { Follows (integer.extended_multiply (present P.view txn.old).state) (present P.view txn.old) (told txn.new result) (present P.view txn.new) }
+    ensures exact { Does P.view integer.extended_multiply result txn.old txn.new }
     ensures keeps { Keeps P.view P.since 19 txn.old txn.new }
 {
     let a = next_value(txn, Size::L)?;
@@ -245,7 +244,7 @@ fn extended_multiply<P: Port>(txn: &mut Txn<P>) -> Result<Flow, CutShort>
 #[tactic(auto, unfolding(vax_flat::specs::Integer::extended_divide))]
 fn extended_divide<P: Port>(txn: &mut Txn<P>) -> Result<Flow, CutShort>
     requires { 21 ≤ room txn.old }
-    ensures exact { Follows (integer.extended_divide (present P.view txn.old).state) (present P.view txn.old) (told txn.new result) (present P.view txn.new) }
+    ensures exact { Does P.view integer.extended_divide result txn.old txn.new }
     ensures keeps { Keeps P.view P.since 21 txn.old txn.new }
 {
     let divisor = next_value(txn, Size::L)?;
@@ -293,7 +292,7 @@ fn subscript_flow(subscript: u64, low: u64, high: u64) -> Flow
 #[tactic(auto, unfolding(vax_flat::specs::Integer::index))]
 fn index<P: Port>(txn: &mut Txn<P>) -> Result<Flow, CutShort>
     requires { 27 ≤ room txn.old }
-    ensures exact { Follows (integer.index (present P.view txn.old).state) (present P.view txn.old) (told txn.new result) (present P.view txn.new) }
+    ensures exact { Does P.view integer.index result txn.old txn.new }
     ensures keeps { Keeps P.view P.since 27 txn.old txn.new }
 {
     let subscript = next_value(txn, Size::L)?;
@@ -313,7 +312,7 @@ fn index<P: Port>(txn: &mut Txn<P>) -> Result<Flow, CutShort>
 #[tactic(auto, unfolding(vax_flat::specs::Integer::performed))]
 fn perform_any<P: Port>(txn: &mut Txn<P>, instruction: Integer) -> Result<Flow, CutShort>
     requires { 27 ≤ room txn.old }
-    ensures exact { Follows (integer.performed instruction (present P.view txn.old).state) (present P.view txn.old) (told txn.new result) (present P.view txn.new) }
+    ensures exact { Does P.view (integer.performed instruction) result txn.old txn.new }
     ensures keeps { Keeps P.view P.since 27 txn.old txn.new }
 {
     match instruction {
@@ -346,7 +345,7 @@ fn perform_any<P: Port>(txn: &mut Txn<P>, instruction: Integer) -> Result<Flow, 
 #[tactic(auto, unfolding(vax_flat::specs::Integer::performed))]
 pub(crate) fn perform<P: Port>(txn: &mut Txn<P>, instruction: Integer) -> Result<Flow, CutShort>
     requires { 27 ≤ room txn.old }
-    ensures exact { Follows (integer.performed instruction (present P.view txn.old).state) (present P.view txn.old) (told txn.new result) (present P.view txn.new) }
+    ensures exact { Does P.view (integer.performed instruction) result txn.old txn.new }
     ensures keeps { Keeps P.view P.since 27 txn.old txn.new }
 {
     match instruction {

@@ -1,8 +1,7 @@
 //! One function for each instruction.
 ghost use Rattle.std.specs.Prelude.{◌≡◌, ◌≤◌};
 ghost use Rattle.vax_flat.specs.Queue as queue;
-ghost use Rattle.vax_flat.specs.OverPort.{Follows};
-ghost use Rattle.vax_undo.specs.Transaction.{present, room, Keeps, told};
+ghost use Rattle.vax_undo.specs.Transaction.{room, Keeps, Does};
 
 use vax_flat::{Cut, Exception, Flow, Operand};
 use vax_isa::Queue;
@@ -16,7 +15,7 @@ use vax_word::{Codes, Size, add, compare};
 #[tactic(auto, unfolding(vax_flat::specs::Queue::insert, vax_flat::specs::Queue::inserted))]
 fn insert<P: Port>(txn: &mut Txn<P>) -> Result<Flow, CutShort>
     requires { 13 ≤ room txn.old }
-    ensures exact { Follows (queue.insert (present P.view txn.old).state) (present P.view txn.old) (told txn.new result) (present P.view txn.new) }
+    ensures exact { Does P.view queue.insert result txn.old txn.new }
     ensures keeps { Keeps P.view P.since 13 txn.old txn.new }
 {
     let entry = next_address(txn, Size::B)?;
@@ -34,7 +33,7 @@ fn insert<P: Port>(txn: &mut Txn<P>) -> Result<Flow, CutShort>
 #[tactic(auto, unfolding(vax_flat::specs::Queue::remove, vax_flat::specs::Queue::removed))]
 fn remove<P: Port>(txn: &mut Txn<P>) -> Result<Flow, CutShort>
     requires { 13 ≤ room txn.old }
-    ensures exact { Follows (queue.remove (present P.view txn.old).state) (present P.view txn.old) (told txn.new result) (present P.view txn.new) }
+    ensures exact { Does P.view queue.remove result txn.old txn.new }
     ensures keeps { Keeps P.view P.since 13 txn.old txn.new }
 {
     let entry = next_address(txn, Size::B)?;
@@ -69,7 +68,7 @@ fn is_odd(place: Operand) -> bool
 #[tactic(auto, using(vax_flat::proofs::Leaves::over_port_raises), unfolding(vax_flat::specs::Queue::add_aligned, vax_flat::specs::Queue::aligned_sum))]
 fn add_aligned<P: Port>(txn: &mut Txn<P>) -> Result<Flow, CutShort>
     requires { 11 ≤ room txn.old }
-    ensures exact { Follows (queue.add_aligned (present P.view txn.old).state) (present P.view txn.old) (told txn.new result) (present P.view txn.new) }
+    ensures exact { Does P.view queue.add_aligned result txn.old txn.new }
     ensures keeps { Keeps P.view P.since 11 txn.old txn.new }
 {
     let addend = next_value(txn, Size::W)?;
@@ -85,7 +84,7 @@ fn add_aligned<P: Port>(txn: &mut Txn<P>) -> Result<Flow, CutShort>
 #[tactic(auto, unfolding(vax_flat::specs::Queue::performed))]
 pub(crate) fn perform<P: Port>(txn: &mut Txn<P>, instruction: Queue) -> Result<Flow, CutShort>
     requires { 15 ≤ room txn.old }
-    ensures exact { Follows (queue.performed instruction (present P.view txn.old).state) (present P.view txn.old) (told txn.new result) (present P.view txn.new) }
+    ensures exact { Does P.view (queue.performed instruction) result txn.old txn.new }
     ensures keeps { Keeps P.view P.since 15 txn.old txn.new }
 {
     match instruction {

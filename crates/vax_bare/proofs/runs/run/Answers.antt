@@ -1,4 +1,4 @@
-use Rattle.std.proofs.Common.{◌≡◌, ◌<◌, ◌≤◌, ℕ, ◌+◌, ◌-◌, ◌∙◌, List, [], ◌∷◌, Some, None, ap, subst, refl, arith}
+use Rattle.std.proofs.Common.{◌≡◌, ◌<◌, ◌≤◌, ℕ, ◌+◌, ◌∙◌, List, [], ◌∷◌, None, ap, subst, refl, arith}
 use Rattle.std.specs.Prelude.{IsSome}
 use Rattle.vax_space.specs.declared.Area.{Area}
 use Rattle.vax_flat.specs.Port.{StandsFor}
@@ -10,7 +10,7 @@ use Rattle.vax_cpu.specs.declared.cpu.Attempt.{Attempt}
 use Rattle.vax_cpu.specs.declared.cpu.Attempt.TheVariants as attempt
 use Rattle.vax_cpu.specs.Attempt.{flat_of, IsAt as IsPlaced, IsOpenAfter}
 use Rattle.vax_cpu.specs.Batch.{AreAttempts, IsOneAttempt}
-use Rattle.vax_bare.proofs.Turns.{HasTried, at_start, closed_at_limit, goes_on, at_limit, ends, less_by_part, less_by_step, none_absent, parted, cut_short, failed, tried}
+use Rattle.vax_bare.proofs.Turns.{at_start, closed_at_limit, goes_on, at_limit, ends, less_by_part, less_by_step, none_absent, parted, cut_short, failed, turned}
 use Rattle.vax_bare.proofs.runs.run.Goals as goal
 
 pub loop-steps-init : goal.loop-steps-init
@@ -28,20 +28,10 @@ loop-steps-preserved-in-None g c =
     let closed : c.attempts-batch.new.self.latch ≡ None = subst (λ (l : Attempt). IsOpenAfter l c.loop-steps.cpu.latch c.attempts-batch.new.self.latch) c.in-Step.is c.attempts-batch.ensures.latch in
     record {
       at = λ memory st.
-          let m = flat_of c.args.cpu.now memory [] in
-          let n = c.loop-steps.steps in
-          let count = c.attempts-batch.result.steps in
-          let cpu = c.loop-steps.cpu in
-          let next = c.attempts-batch.new.self in
-          let view = g.P.Port.view c.loop-steps.port in
-          let after = g.P.Port.view c.attempts-batch.new.port in
-          let old = g.K.Sink.contents c.args.sink.now in
-          let mid = g.K.Sink.contents c.loop-steps.sink in
-          let at = c.loop-steps.invariant.at memory st in
-          let t = tried m n cpu next view after old mid at count c.attempts-batch.result.last c.attempts-batch.ensures.steps c.attempts-batch.ensures.within c.attempts-batch.ensures.before in
-          let is : c.attempts-batch.result.last ≡ attempt.Step None = c.in-Step.is ∙ ap (λ x. attempt.Step x) c.in-None.is in
-          let h = subst (λ (l : Attempt). HasTried m (n + count) view l next after) is t.0 in
-          goes_on m n (n + count) cpu next view after old mid at t.1 None h mid closed at.wrote;
+          let b = c.attempts-batch in
+          let t = turned (c.loop-steps.invariant.at memory st) b.new.self (g.P.Port.view b.new.port) b.result.steps (c.in-Step.is ∙ ap (λ x. attempt.Step x) c.in-None.is)
+          b.ensures.steps b.ensures.within b.ensures.before in
+          goes_on t (g.K.Sink.contents c.loop-steps.sink) closed t.at.wrote;
       within = few;
       inside = λ some. let no = subst IsSome closed some in absurd (cc);
       unsent = c.attempts-batch.ensures.unsent;
@@ -53,20 +43,10 @@ loop-steps-preserved g c =
     let few : c.loop-steps.steps + c.attempts-batch.result.steps < c.args.limit = omega arith in
     record {
       at = λ memory st.
-          let m = flat_of c.args.cpu.now memory [] in
-          let n = c.loop-steps.steps in
-          let count = c.attempts-batch.result.steps in
-          let cpu = c.loop-steps.cpu in
-          let next = c.attempts-batch.new.self in
-          let view = g.P.Port.view c.loop-steps.port in
-          let after = g.P.Port.view c.attempts-batch.new.port in
-          let old = g.K.Sink.contents c.args.sink.now in
-          let mid = g.K.Sink.contents c.loop-steps.sink in
-          let at = c.loop-steps.invariant.at memory st in
-          let t = tried m n cpu next view after old mid at count c.attempts-batch.result.last c.attempts-batch.ensures.steps c.attempts-batch.ensures.within c.attempts-batch.ensures.before in
-          let is : c.attempts-batch.result.last ≡ attempt.Part = c.in-Part.is in
-          let h = subst (λ (l : Attempt). HasTried m (n + count) view l next after) is t.0 in
-          parted m n (n + count) cpu next view after old mid at t.1 h;
+          let b = c.attempts-batch in
+          let t = turned (c.loop-steps.invariant.at memory st) b.new.self (g.P.Port.view b.new.port) b.result.steps c.in-Part.is
+          b.ensures.steps b.ensures.within b.ensures.before in
+          parted t;
       within = omega arith;
       inside = λ some. few;
       unsent = c.attempts-batch.ensures.unsent;
@@ -79,21 +59,11 @@ loop-steps-preserved-in-Continue-1 g c =
     let closed : c.attempts-batch.new.self.latch ≡ None = subst (λ (l : Attempt). IsOpenAfter l c.loop-steps.cpu.latch c.attempts-batch.new.self.latch) c.in-Step.is c.attempts-batch.ensures.latch in
     record {
       at = λ memory st.
-          let m = flat_of c.args.cpu.now memory [] in
-          let n = c.loop-steps.steps in
-          let count = c.attempts-batch.result.steps in
-          let cpu = c.loop-steps.cpu in
-          let next = c.attempts-batch.new.self in
-          let view = g.P.Port.view c.loop-steps.port in
-          let after = g.P.Port.view c.attempts-batch.new.port in
-          let old = g.K.Sink.contents c.args.sink.now in
-          let mid = g.K.Sink.contents c.loop-steps.sink in
-          let at = c.loop-steps.invariant.at memory st in
-          let t = tried m n cpu next view after old mid at count c.attempts-batch.result.last c.attempts-batch.ensures.steps c.attempts-batch.ensures.within c.attempts-batch.ensures.before in
-          let is : c.attempts-batch.result.last ≡ attempt.Step (Some c.in-Some.byte) = c.in-Step.is ∙ ap (λ x. attempt.Step x) c.in-Some.is in
-          let h = subst (λ (l : Attempt). HasTried m (n + count) view l next after) is t.0 in
-          goes_on m n (n + count) cpu next view after old mid at t.1 (Some c.in-Some.byte) h (g.K.Sink.contents c.put_all.new.sink) closed
-          (grew_only _ _ _ Out (run n m).output (c.in-Some.byte ∷ []) at.wrote c.in_ok-put_all-in-Some.ensures.ok);
+          let b = c.attempts-batch in
+          let t = turned (c.loop-steps.invariant.at memory st) b.new.self (g.P.Port.view b.new.port) b.result.steps (c.in-Step.is ∙ ap (λ x. attempt.Step x) c.in-Some.is)
+          b.ensures.steps b.ensures.within b.ensures.before in
+          goes_on t (g.K.Sink.contents c.put_all.new.sink) closed
+          (grew_only _ _ _ Out (run c.loop-steps.steps (flat_of c.args.cpu.now memory [])).output (c.in-Some.byte ∷ []) t.at.wrote c.in_ok-put_all-in-Some.ensures.ok);
       within = few;
       inside = λ some. let no = subst IsSome closed some in absurd (cc);
       unsent = c.attempts-batch.ensures.unsent;
@@ -123,54 +93,24 @@ loop-steps-smaller g c =
 
 pub returns-in_err-put_all-in-Some-clause-err : goal.returns-in_err-put_all-in-Some-clause-err
 returns-in_err-put_all-in-Some-clause-err g c = λ memory st.
-    let m = flat_of c.args.cpu.now memory [] in
-    let n = c.loop-steps.steps in
-    let count = c.attempts-batch.result.steps in
-    let cpu = c.loop-steps.cpu in
-    let next = c.attempts-batch.new.self in
-    let view = g.P.Port.view c.loop-steps.port in
-    let after = g.P.Port.view c.attempts-batch.new.port in
-    let old = g.K.Sink.contents c.args.sink.now in
-    let mid = g.K.Sink.contents c.loop-steps.sink in
-    let at = c.loop-steps.invariant.at memory st in
-    let t = tried m n cpu next view after old mid at count c.attempts-batch.result.last c.attempts-batch.ensures.steps c.attempts-batch.ensures.within c.attempts-batch.ensures.before in
-    let is : c.attempts-batch.result.last ≡ attempt.Step (Some c.in-Some.byte) = c.in-Step.is ∙ ap (λ x. attempt.Step x) c.in-Some.is in
-    let h = subst (λ (l : Attempt). HasTried m (n + count) view l next after) is t.0 in
-    failed c.from_residual.result (cut_short c.args.limit m n (n + count) cpu next view after old mid at t.1 c.in-Some.byte _ h (omega arith) c.in_err-put_all-in-Some.ensures.prefix)
+    let b = c.attempts-batch in
+    let t = turned (c.loop-steps.invariant.at memory st) b.new.self (g.P.Port.view b.new.port) b.result.steps (c.in-Step.is ∙ ap (λ x. attempt.Step x) c.in-Some.is)
+    b.ensures.steps b.ensures.within b.ensures.before in
+    failed c.from_residual.result (cut_short c.args.limit c.in-Some.byte _ t (omega arith) c.in_err-put_all-in-Some.ensures.prefix)
 
 pub returns-in-Ended-clause-ok : goal.returns-in-Ended-clause-ok
 returns-in-Ended-clause-ok g c = λ memory st.
-    let m = flat_of c.args.cpu.now memory [] in
-    let n = c.loop-steps.steps in
-    let count = c.attempts-batch.result.steps in
-    let cpu = c.loop-steps.cpu in
-    let next = c.attempts-batch.new.self in
-    let view = g.P.Port.view c.loop-steps.port in
-    let after = g.P.Port.view c.attempts-batch.new.port in
-    let old = g.K.Sink.contents c.args.sink.now in
-    let mid = g.K.Sink.contents c.loop-steps.sink in
-    let at = c.loop-steps.invariant.at memory st in
-    let t = tried m n cpu next view after old mid at count c.attempts-batch.result.last c.attempts-batch.ensures.steps c.attempts-batch.ensures.within c.attempts-batch.ensures.before in
-    let is : c.attempts-batch.result.last ≡ attempt.Ended c.in-Ended.ending = c.in-Ended.is in
-    let h = subst (λ (l : Attempt). HasTried m (n + count) view l next after) is t.0 in
-    ends c.args.limit m n (n + count) cpu next view after old mid at t.1 c.in-Ended.ending h (omega arith)
+    let b = c.attempts-batch in
+    let t = turned (c.loop-steps.invariant.at memory st) b.new.self (g.P.Port.view b.new.port) b.result.steps c.in-Ended.is
+    b.ensures.steps b.ensures.within b.ensures.before in
+    ends c.args.limit c.in-Ended.ending t (omega arith)
 
 pub returns-in-Absent-clause-ok : goal.returns-in-Absent-clause-ok
 returns-in-Absent-clause-ok g c = λ memory st.
-    let m = flat_of c.args.cpu.now memory [] in
-    let n = c.loop-steps.steps in
-    let count = c.attempts-batch.result.steps in
-    let cpu = c.loop-steps.cpu in
-    let next = c.attempts-batch.new.self in
-    let view = g.P.Port.view c.loop-steps.port in
-    let after = g.P.Port.view c.attempts-batch.new.port in
-    let old = g.K.Sink.contents c.args.sink.now in
-    let mid = g.K.Sink.contents c.loop-steps.sink in
-    let at = c.loop-steps.invariant.at memory st in
-    let t = tried m n cpu next view after old mid at count c.attempts-batch.result.last c.attempts-batch.ensures.steps c.attempts-batch.ensures.within c.attempts-batch.ensures.before in
-    let is : c.attempts-batch.result.last ≡ attempt.Absent c.in-Absent.field-0 = c.in-Absent.is in
-    let h = subst (λ (l : Attempt). HasTried m (n + count) view l next after) is t.0 in
-    absurd (none_absent m n (n + count) cpu next view after old mid at t.1 c.in-Absent.field-0 h)
+    let b = c.attempts-batch in
+    let t = turned (c.loop-steps.invariant.at memory st) b.new.self (g.P.Port.view b.new.port) b.result.steps c.in-Absent.is
+    b.ensures.steps b.ensures.within b.ensures.before in
+    absurd (none_absent c.in-Absent.field-0 t)
 
 pub returns-clause-ok : goal.returns-clause-ok
 returns-clause-ok g c = λ memory st.
