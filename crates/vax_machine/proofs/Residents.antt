@@ -1,5 +1,5 @@
 -- The resident pages in ascending order, and that evicting these is evicting all pages.
-use Rattle.std.proofs.Common.{ℕ, zero, suc, ◌≡◌, ◌≢◌, ◌+◌, ◌<◌, ◌≤◌, Bool, true, false, ◌==◌, ◌||◌, cond, List, [], ◌∷◌, ◌++◌, length, get_or, take, refl, ap, sym, ◌∙◌, subst, arith, inl, inr, Option, Some, None, Result, Ok, Err}
+use Rattle.std.proofs.Common.{ℕ, zero, suc, ◌≡◌, ◌≢◌, ◌+◌, ◌<◌, ◌≤◌, Bool, true, false, ◌==◌, ◌||◌, cond, List, [], ◌∷◌, ◌++◌, length, get_or, take, refl, ap, sym, ◌∙◌, subst, arith, inl, inr, Option, Some}
 use Rattle.std.specs.Prelude.{is_some, ◌⊎◌}
 use Rattle.std.specs.List.{filter, flat_map, list_any, range_with_len, slice_get, sum_by}
 use Rattle.std.specs.List.Sorted.{IsNonDecreasing, IsPermutation, IsSorted}

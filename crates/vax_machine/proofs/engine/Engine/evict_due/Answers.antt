@@ -1,4 +1,4 @@
-use Rattle.std.proofs.Common.{◌+◌, refl, arith, subst, sym, ◌∙◌, ℕ, List, length, take}
+use Rattle.std.proofs.Common.{◌+◌, refl, arith, subst, ◌∙◌, ℕ, List, length, take}
 use Rattle.std.proofs.lemmas.Iterator.Consumers.{YieldsList-end, YieldsList-from_first, YieldsList-turn}
 use Rattle.vax_space.specs.declared.Area.{Area}
 use Rattle.vax_pager.specs.Meaning.{pages}

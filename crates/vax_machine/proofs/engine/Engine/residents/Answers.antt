@@ -1,4 +1,4 @@
-use Rattle.std.proofs.Common.{◌≡◌, ℕ, List, ap, length, subst, sym, ◌∙◌}
+use Rattle.std.proofs.Common.{ℕ, List, ap, length, subst, sym, ◌∙◌}
 use Rattle.std.specs.List.Sorted.{IsPermutation}
 use Rattle.vax_pager.specs.Meaning.{pages}
 use Rattle.vax_machine.proofs.Residents.{residents_sorted, taken}
