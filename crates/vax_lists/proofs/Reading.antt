@@ -1,5 +1,5 @@
 -- What stands at the nodes of a circle is read.
-use Rattle.std.proofs.Common.{ℕ, zero, suc, ◌≡◌, ◌+◌, ◌-◌, ◌<◌, ◌≤◌, List, [], ◌∷◌, ◌++◌, append_assoc, length, map, take, slice_index, slice_index_or, slice_set, refl, ap, sym, ◌∙◌, subst, arith}
+use Rattle.std.proofs.Common.{ℕ, suc, ◌≡◌, ◌+◌, ◌-◌, ◌<◌, ◌≤◌, List, [], ◌∷◌, ◌++◌, append_assoc, length, map, take, slice_index, slice_set, refl, ap, sym, ◌∙◌, subst, arith}
 use Rattle.std.proofs.lemmas.List.{append-nil, take_more_set}
 use Rattle.vax_lists.specs.Lines.{PageLists, page_lists, pages_at, pages_of}
 use Rattle.vax_lists.specs.Links.{AllBelow, AreLinked, FrameLists, lists_of, walk}

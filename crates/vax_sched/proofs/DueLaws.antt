@@ -1,15 +1,14 @@
 -- What a turn takes of a schedule, by its two kinds of lines.
 use Rattle.std.proofs.Common.{◌≡◌, ◌<◌, ◌≤◌, ℕ, ◌+◌, ◌-◌, ◌%◌, ◌^◌, ◌==◌, Bool, true, false, List, [], ◌∷◌, ◌++◌, map, length, take, drop, get_or, min, zero, suc, Option, Some, None, refl, sym, ap, ◌∙◌, arith, length-append, nat_lt, nat_le, subst}
 use Rattle.std.proofs.lemmas.Bool.Decides.{nat_tests}
-use Rattle.std.proofs.lemmas.List.{take-append-drop, length-map, length-drop, length-take, get_or-take, get_or-drop}
-use Rattle.std.proofs.lemmas.List.Elements.{filter-append}
-use Rattle.std.specs.List.{filter, filter_map, list_all}
+use Rattle.std.proofs.lemmas.List.{length-map, length-drop, get_or-drop}
+use Rattle.std.specs.List.{filter, filter_map}
 use Rattle.std.specs.Prelude.{slice_get}
 use Rattle.std.specs.List.Sorted.{IsPartitionPoint}
 use Rattle.vax_sched.specs.Due.{IsGap, due, fixed_now, fixed_target, repeated_now, repeated_target, targets_of}
-use Rattle.vax_sched.specs.Kept.{IsKept, fixed_in, repeated_in, is_proper, is_divisor, Ascends}
+use Rattle.vax_sched.specs.Kept.{IsKept, fixed_in, repeated_in, Ascends}
 use Rattle.vax_sched.specs.declared.rule.Target.{Target}
-use Rattle.vax_sched.specs.declared.rule.Target.TheVariants.{Page, All}
+use Rattle.vax_sched.specs.declared.rule.Target.TheVariants.{Page}
 use Rattle.vax_sched.specs.declared.rule.Fixed.{Fixed}
 use Rattle.vax_sched.specs.declared.rule.Repeated.{Repeated}
 use Rattle.vax_sched.specs.declared.rule.Rule.{Rule}

@@ -1,4 +1,4 @@
-use Rattle.vax_asm_names.proofs.Maps.{name_updates, same_map}
+use Rattle.vax_asm_names.proofs.Maps.{name_updates}
 use Rattle.vax_asm_sections.proofs.layout.add_number.Goals as goal
 
 pub returns-clause-added : goal.returns-clause-added

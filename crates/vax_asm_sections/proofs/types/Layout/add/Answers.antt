@@ -1,4 +1,4 @@
-use Rattle.std.proofs.Common.{ap, ◌∙◌, rules}
+use Rattle.std.proofs.Common.{rules}
 use Rattle.vax_asm_names.specs.ByName.{by_name}
 use Rattle.vax_asm_sections.proofs.Numbering.{known_still, same_name}
 use Rattle.vax_asm_sections.proofs.types.Layout.add.Goals as goal

@@ -1,4 +1,4 @@
-use Rattle.std.proofs.Common.{◌≡◌, ◌++◌, ◌∷◌, ◌-◌, [], List, ℕ, length, take, ap, ◌∙◌, sym, rules}
+use Rattle.std.proofs.Common.{◌≡◌, ◌++◌, ◌∷◌, ◌-◌, [], ℕ, take, ap, ◌∙◌, sym, rules}
 use Rattle.vax_asm_names.specs.ByName.{by_name}
 use Rattle.vax_asm_sections.proofs.Numbering.{is_added, is_refused, known_again, known_more, made_name}
 use Rattle.vax_asm_sections.proofs.types.Layout.begin.Goals as goal

@@ -1,7 +1,4 @@
-use Rattle.std.proofs.Common.{List, ℕ, ap, ◌∙◌}
 use Rattle.vax_asm_names.specs.ByName.{by_name}
-use Rattle.vax_asm_sections.specs.Layout.{Section}
-use Rattle.vax_asm_sections.specs.declared.types.Building.{Building}
 use Rattle.vax_asm_sections.proofs.Numbering.{known_still, raised_name}
 use Rattle.vax_asm_sections.proofs.types.Layout.raise.Goals as goal
 

@@ -1,4 +1,4 @@
-use Rattle.std.proofs.Common.{◌<◌, length, ap, arith, refl, sym, ◌∙◌}
+use Rattle.std.proofs.Common.{◌<◌, length, ap, arith, refl}
 use Rattle.vax_lists.specs.Links.{FrameLists}
 use Rattle.vax_lists.proofs.Frames.{came_back, first-length}
 use Rattle.vax_lists.proofs.Reading.{below_all, below_next, read_all, read_more, read_none}

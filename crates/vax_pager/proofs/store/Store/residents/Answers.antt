@@ -1,4 +1,4 @@
-use Rattle.std.proofs.Common.{arith, sym, ◌∙◌}
+use Rattle.std.proofs.Common.{arith, ◌∙◌}
 use Rattle.vax_pager.proofs.Told.{residents_count, residents_pages}
 use Rattle.vax_pager.proofs.store.Store.residents.Goals as goal
 
