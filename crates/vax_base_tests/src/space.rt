@@ -1,3 +1,4 @@
+//! Protections and spaces, with the values of the manual's table and of ranges worked by hand.
 use std::alloc::{AllocError, Global};
 use std::process::Abort;
 use std::test::Fail;

@@ -1,3 +1,4 @@
+//! Generated programs and the executive. Numbers are worked by hand from the generator's rule.
 use std::test::Fail;
 use vax_guest::*;
 

@@ -1,3 +1,4 @@
+//! Images of both versions, byte for byte, and what is wrong with others.
 use std::test::Fail;
 use vax_image::*;
 

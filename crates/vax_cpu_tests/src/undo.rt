@@ -1,3 +1,4 @@
+//! Memory as it is plainly kept, and transactions that are kept and undone.
 use std::alloc::{AllocError, Global};
 use std::process::Abort;
 use std::test::Fail;

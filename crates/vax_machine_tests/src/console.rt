@@ -3,10 +3,10 @@ ghost use Rattle.std.specs.Prelude.{IfOk};
 ghost use Rattle.vax_machine.specs.Console.{IsBetween};
 ghost use Rattle.vax_machine.specs.Meaning.{engine};
 
-use vax_console::{SessionEnd, session};
 use std::alloc::Global;
 use std::process::Abort;
 use std::test::Fail as TestFail;
+use vax_console::{SessionEnd, session};
 use vax_machine::{Limits, Machine};
 use vax_outside::{Chan, Fail, MemPages, MemSink, Text};
 use vax_sched::Schedule;

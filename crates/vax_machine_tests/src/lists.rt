@@ -1,7 +1,7 @@
 //! One test of each call.
-use vax_lists::Lists;
 use std::alloc::AllocError;
 use std::test::Fail;
+use vax_lists::Lists;
 use vax_outside::{Failed, MemPages};
 use vax_space::NoMemory;
 

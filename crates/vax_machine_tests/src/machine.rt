@@ -1,9 +1,9 @@
 //! Machines over page files in memory. Expected values are worked by hand.
-use vax_machine::{Applied, Event, Limits, Machine, RunEnd};
 use std::alloc::Global;
 use std::process::Abort;
 use std::test::Fail;
 use vax_flat::Ending;
+use vax_machine::{Applied, Event, Limits, Machine, RunEnd};
 use vax_outside::{Chan, MemPages, MemSink};
 use vax_pager::PageFault;
 use vax_sched::{Schedule, read};

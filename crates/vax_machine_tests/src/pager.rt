@@ -1,12 +1,12 @@
 //! Pagers with 64 frames over page files in memory, as tables of calls and answers. Expected values are worked by hand.
 ghost use Rattle.std.specs.Prelude.{◌≤◌, length};
 
-use vax_pager::{PageFault, Pager};
 use std::alloc::Global;
 use std::process::Abort;
 use std::test::Fail;
 use vax_flat::Stop;
 use vax_outside::{Fail as Failing, MemPages, PageFile};
+use vax_pager::{PageFault, Pager};
 use vax_space::{Access, Area, Bytes, Space, Violation};
 use vax_undo::Port;
 
@@ -195,7 +195,8 @@ fn compare(rt: &impl Abort, pager: &mut Pager, file: &mut MemPages, rows: &[(Cal
 /// Brings in pages that take no resident page's frame.
 fn fill(rt: &impl Abort, pager: &mut Pager, file: &mut MemPages, first: u32, end: u32) {
     for page in first..end {
-        assert!(rt; make_call(pager, file, Call::Serve(page)) == Answer::Page(None),
+        assert!(rt;
+            make_call(pager, file, Call::Serve(page)) == Answer::Page(None),
             "page {page}"
         );
     }
@@ -407,7 +408,8 @@ fn rounds(rt: &impl Abort, pager: &mut Pager, file: &mut MemPages) -> u64 {
             if make_call(pager, file, Call::Serve(page)) == Answer::Fault {
                 assert!(rt; !pager.is_resident(page), "page {page}");
                 assert!(rt; pager.kept() == kept, "page {page}");
-                assert!(rt; make_call(pager, file, Call::Serve(page)) != Answer::Fault,
+                assert!(rt;
+                    make_call(pager, file, Call::Serve(page)) != Answer::Fault,
                     "page {page}"
                 );
                 faults = faults.saturating_add(1);
@@ -418,7 +420,8 @@ fn rounds(rt: &impl Abort, pager: &mut Pager, file: &mut MemPages) -> u64 {
             } else {
                 page + 60 * (round - 1)
             };
-            assert!(rt; make_call(pager, file, call) == Answer::Value(u64::from(old)),
+            assert!(rt;
+                make_call(pager, file, call) == Answer::Value(u64::from(old)),
                 "page {page}"
             );
         }
@@ -436,7 +439,8 @@ fn failing_calls(rt: HostRuntime) -> Result<(), Fail> {
         assert!(rt; rounds(&rt, &mut pager, &mut file) == 1, "call {number}");
         for page in 0..70u32 {
             let byte = make_call(&mut pager, &mut file, Call::Peek(page * 512 + 8));
-            assert!(rt; byte == Answer::Byte(Some((page + 120) as u8)),
+            assert!(rt;
+                byte == Answer::Byte(Some((page + 120) as u8)),
                 "call {number}"
             );
         }

@@ -1,9 +1,9 @@
 //! Whole reports, byte for byte. Expected texts are worked by hand from the format of a report.
-use vax_report::{Dump, DumpBytes, Last, push_ending, push_memory, push_register, write_report};
 use std::alloc::{AllocError, Global};
 use std::test::Fail;
 use vax_flat::Ending;
 use vax_outside::{Chan, Failed, MemSink, Text};
+use vax_report::{Dump, DumpBytes, Last, push_ending, push_memory, push_register, write_report};
 use vax_word::{Core, Psl};
 
 /// The registers after `MOVL #5,R1` and `HALT` at 80000200.

@@ -1,6 +1,6 @@
 //! Schedules by the rules of their lines.
-use vax_sched::{SchedError, Schedule, Target, read};
 use std::test::Fail;
+use vax_sched::{SchedError, Schedule, Target, read};
 use vax_space::{Area, Bytes, Space};
 
 /// A space with two pages, at 80000200 and 80000400.
@@ -57,7 +57,9 @@ fn tells_quiet_turns(rt: HostRuntime) -> Result<(), Fail> {
 #[test]
 fn prints_its_lines(rt: HostRuntime) -> Result<(), Fail> {
     let text = read_text(&rt)?.print(rt.alloc())?;
-    assert!(rt; text.as_slice() == b"at 2 80000200\neach 3 all\nat 6 80000400\neach 2 80000400\n".as_slice());
+    assert!(rt;
+        text.as_slice() == b"at 2 80000200\neach 3 all\nat 6 80000400\neach 2 80000400\n".as_slice()
+    );
     let every = read(rt.alloc(), b"each 4 all", &space(&rt)?)?;
     let text = every.print(rt.alloc())?;
     assert!(rt; text.as_slice() == b"each 4 all\n".as_slice());

@@ -1,7 +1,7 @@
 //! Lines as they are read.
+use std::test::Fail;
 use vax_lines::next_line;
 use vax_script::{Line, Request, read_line};
-use std::test::Fail;
 
 /// What a line asks for, in a word and two numbers.
 fn asked(line: &[u8]) -> Option<(&str, u64, u64)> {
@@ -81,7 +81,10 @@ fn refuses_other_lines(rt: HostRuntime) {
         "SHOW\r",
     ];
     for line in lines {
-        assert!(rt; matches!(read_line(line.as_bytes()), Line::Malformed), "{line}");
+        assert!(rt;
+            matches!(read_line(line.as_bytes()), Line::Malformed),
+            "{line}"
+        );
     }
     for line in ["", " \t"] {
         assert!(rt; matches!(read_line(line.as_bytes()), Line::Blank), "{line}");

@@ -1,8 +1,8 @@
-use vax_table::*;
-use vax_space::Space;
+//! Page tables over spaces, and the frames that they remember.
 use std::alloc::Global;
 use std::test::Fail;
-use vax_space::{Area, Bytes};
+use vax_space::{Area, Bytes, Space};
+use vax_table::*;
 
 fn area(alloc: Global, first: u32, pages: u32, prot: u8) -> Area {
     Area {

@@ -1,9 +1,9 @@
 //! One test of each call.
-use vax_tb::Buffer;
 use std::alloc::{AllocError, Global};
 use std::test::Fail;
 use vax_space::{Access, Area, Bytes, NoMemory, Space, SpaceError};
 use vax_table::{Tables, Walk};
+use vax_tb::Buffer;
 
 /// Pages 1 to 81 (hexadecimal), which kernel mode may write and any mode may read. The first and the last have one
 /// place in the buffer.
