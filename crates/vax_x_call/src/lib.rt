@@ -10,9 +10,8 @@ mod stack;
 
 ghost use Rattle.std.specs.Prelude.{◌≡◌, ◌≤◌};
 ghost use Rattle.vax_flat.specs.Call.{performed};
-ghost use Rattle.vax_flat.specs.OverPort.{Follows};
 ghost use Rattle.vax_undo.specs.Rooms.{room_of_call};
-ghost use Rattle.vax_undo.specs.Transaction.{present, room, Keeps, told};
+ghost use Rattle.vax_undo.specs.Transaction.{room, Keeps, Does};
 ghost use Rattle.vax_operand.specs.Located.{GoesEverywhere};
 
 use vax_flat::Flow;
@@ -25,8 +24,8 @@ use vax_undo::{CutShort, Port, Txn};
 /// of a frame's status aren't 0, or the first page that it needs and that is absent.
 pub fn run<P: Port>(txn: &mut Txn<P>, instruction: Call) -> Result<Flow, CutShort>
     requires { room_of_call ≤ room txn.old }
-    ensures exact { Follows (performed instruction (present P.view txn.old).state) (present P.view txn.old) (told txn.new result) (present P.view txn.new) }
-    ensures everywhere { GoesEverywhere (performed instruction (present P.view txn.old).state) (present P.view txn.old) (told txn.new result) (present P.view txn.new) }
+    ensures exact { Does P.view (performed instruction) result txn.old txn.new }
+    ensures everywhere { GoesEverywhere P.view (performed instruction) result txn.old txn.new }
     ensures keeps { Keeps P.view P.since room_of_call txn.old txn.new }
 {
     shapes::perform(txn, instruction)

@@ -2,8 +2,7 @@
 ghost use Rattle.std.specs.Prelude.{◌≡◌, ◌<◌, ◌≤◌, ◌∷◌, []};
 ghost use Rattle.vax_flat.specs.Call.{frame, linked, named, pushed_below, pushed_one, restored, saved};
 ghost use Rattle.vax_flat.specs.Operand.{write_at};
-ghost use Rattle.vax_flat.specs.OverPort.{Follows, Performs};
-ghost use Rattle.vax_undo.specs.Transaction.{present, room, Keeps, told};
+ghost use Rattle.vax_undo.specs.Transaction.{room, Keeps, Acts, Does};
 ghost use Rattle.vax_word.specs.Status.{is_one};
 ghost use Rattle.vax_x_call.specs.Stack.{links_pushed, links_restored, restored_if, saved_if};
 
@@ -16,7 +15,7 @@ use vax_undo::{CutShort, Port, Txn};
 #[tactic(auto, unfolding(vax_flat::specs::OverPort::over_port, vax_flat::specs::Operand::write_at))]
 fn write_long<P: Port>(txn: &mut Txn<P>, addr: u32, value: u32) -> Result<(), CutShort>
     requires { 1 ≤ room txn.old }
-    ensures exact { Performs (write_at addr 4 value (present P.view txn.old).state) (present P.view txn.old) (told txn.new result) (present P.view txn.new) }
+    ensures exact { Acts P.view (write_at addr 4 value) result txn.old txn.new }
     ensures keeps { Keeps P.view P.since 1 txn.old txn.new }
 {
     let mode = txn.psl().mode();
@@ -31,7 +30,7 @@ fn write_long<P: Port>(txn: &mut Txn<P>, addr: u32, value: u32) -> Result<(), Cu
 #[tactic(auto, unfolding(vax_flat::specs::Call::pushed_one))]
 pub(crate) fn push_below<P: Port>(txn: &mut Txn<P>, value: u32, top: u32) -> Result<u32, CutShort>
     requires { 1 ≤ room txn.old }
-    ensures exact { Follows (pushed_one value top (present P.view txn.old).state) (present P.view txn.old) (told txn.new result) (present P.view txn.new) }
+    ensures exact { Does P.view (pushed_one value top) result txn.old txn.new }
     ensures keeps { Keeps P.view P.since 1 txn.old txn.new }
 {
     let at = top.wrapping_sub(4);
@@ -45,7 +44,7 @@ pub(crate) fn push_below<P: Port>(txn: &mut Txn<P>, value: u32, top: u32) -> Res
 fn restore_one<P: Port>(txn: &mut Txn<P>, n: u8, from: u32) -> Result<u32, CutShort>
     requires of_core { n < 16 }
     requires room { 1 ≤ room txn.old }
-    ensures exact { Follows (restored (n ∷ []) from (present P.view txn.old).state) (present P.view txn.old) (told txn.new result) (present P.view txn.new) }
+    ensures exact { Does P.view (restored (n ∷ []) from) result txn.old txn.new }
     ensures keeps { Keeps P.view P.since 1 txn.old txn.new }
 {
     let value = read(txn, from, 4)?;
@@ -58,7 +57,7 @@ fn restore_one<P: Port>(txn: &mut Txn<P>, n: u8, from: u32) -> Result<u32, CutSh
 fn save_if<P: Port>(txn: &mut Txn<P>, mask: u32, n: u8, top: u32) -> Result<u32, CutShort>
     requires of_core { n < 16 }
     requires room { 1 ≤ room txn.old }
-    ensures exact { Follows (saved_if (is_one mask n) n top (present P.view txn.old).state) (present P.view txn.old) (told txn.new result) (present P.view txn.new) }
+    ensures exact { Does P.view (saved_if (is_one mask n) n top) result txn.old txn.new }
     ensures keeps { Keeps P.view P.since 1 txn.old txn.new }
 {
     if (mask >> n) % 2 == 1 {
@@ -73,7 +72,7 @@ fn save_if<P: Port>(txn: &mut Txn<P>, mask: u32, n: u8, top: u32) -> Result<u32,
 fn restore_if<P: Port>(txn: &mut Txn<P>, mask: u32, n: u8, from: u32) -> Result<u32, CutShort>
     requires of_core { n < 16 }
     requires room { 1 ≤ room txn.old }
-    ensures exact { Follows (restored_if (is_one mask n) n from (present P.view txn.old).state) (present P.view txn.old) (told txn.new result) (present P.view txn.new) }
+    ensures exact { Does P.view (restored_if (is_one mask n) n from) result txn.old txn.new }
     ensures keeps { Keeps P.view P.since 1 txn.old txn.new }
 {
     if (mask >> n) % 2 == 1 {
@@ -109,7 +108,7 @@ pub(crate) fn save<P: Port>(
 ) -> Result<u32, CutShort>
     requires of_core { count ≤ 15 }
     requires room { count ≤ room txn.old }
-    ensures exact { Follows (saved (named count mask) top (present P.view txn.old).state) (present P.view txn.old) (told txn.new result) (present P.view txn.new) }
+    ensures exact { Does P.view (saved (named count mask) top) result txn.old txn.new }
     ensures keeps { Keeps P.view P.since count txn.old txn.new }
 {
     let mut at = top;
@@ -130,7 +129,7 @@ pub(crate) fn restore<P: Port>(
 ) -> Result<u32, CutShort>
     requires of_core { count ≤ 15 }
     requires room { count ≤ room txn.old }
-    ensures exact { Follows (restored (named count mask) from (present P.view txn.old).state) (present P.view txn.old) (told txn.new result) (present P.view txn.new) }
+    ensures exact { Does P.view (restored (named count mask) from) result txn.old txn.new }
     ensures keeps { Keeps P.view P.since count txn.old txn.new }
 {
     let mut at = from;
@@ -147,7 +146,7 @@ pub(crate) fn restore<P: Port>(
 #[inline]
 fn push_links<P: Port>(txn: &mut Txn<P>, mask: u32, word: u32, top: u32) -> Result<u32, CutShort>
     requires { 17 ≤ room txn.old }
-    ensures exact { Follows (links_pushed mask word top (present P.view txn.old).state) (present P.view txn.old) (told txn.new result) (present P.view txn.new) }
+    ensures exact { Does P.view (links_pushed mask word top) result txn.old txn.new }
     ensures keeps { Keeps P.view P.since 17 txn.old txn.new }
 {
     let (ap, fp, pc) = (txn.reg(12), txn.reg(13), txn.reg(15));
@@ -168,7 +167,8 @@ pub(crate) fn push_frame<P: Port>(
     top: u32,
 ) -> Result<u32, CutShort>
     requires { 17 ≤ room txn.old }
-    ensures exact { Follows (pushed_below (frame mask word (present P.view txn.old).state) top (present P.view txn.old).state) (present P.view txn.old) (told txn.new result) (present P.view txn.new) }
+    ensures exact { Does P.view (λ s. pushed_below (frame mask word s) top s)
+        result txn.old txn.new }
     ensures keeps { Keeps P.view P.since 17 txn.old txn.new }
 {
     push_links(txn, mask, word, top)
@@ -178,7 +178,7 @@ pub(crate) fn push_frame<P: Port>(
 #[inline]
 fn restore_links<P: Port>(txn: &mut Txn<P>, mask: u32, from: u32) -> Result<u32, CutShort>
     requires { 15 ≤ room txn.old }
-    ensures exact { Follows (links_restored mask from (present P.view txn.old).state) (present P.view txn.old) (told txn.new result) (present P.view txn.new) }
+    ensures exact { Does P.view (links_restored mask from) result txn.old txn.new }
     ensures keeps { Keeps P.view P.since 15 txn.old txn.new }
 {
     let at = restore_one(txn, 12, from)?;
@@ -194,7 +194,7 @@ pub(crate) fn restore_frame<P: Port>(
     from: u32,
 ) -> Result<u32, CutShort>
     requires { 15 ≤ room txn.old }
-    ensures exact { Follows (restored (linked mask) from (present P.view txn.old).state) (present P.view txn.old) (told txn.new result) (present P.view txn.new) }
+    ensures exact { Does P.view (restored (linked mask) from) result txn.old txn.new }
     ensures keeps { Keeps P.view P.since 15 txn.old txn.new }
 {
     restore_links(txn, mask, from)

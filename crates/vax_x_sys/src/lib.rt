@@ -13,9 +13,8 @@ mod stacks;
 
 ghost use Rattle.std.specs.Prelude.{◌≡◌, ◌≤◌};
 ghost use Rattle.vax_flat.specs.System.{performed};
-ghost use Rattle.vax_flat.specs.OverPort.{Follows};
 ghost use Rattle.vax_undo.specs.Rooms.{room_of_transfer};
-ghost use Rattle.vax_undo.specs.Transaction.{present, room, Keeps, told};
+ghost use Rattle.vax_undo.specs.Transaction.{room, Keeps, Does};
 ghost use Rattle.vax_operand.specs.Located.{GoesEverywhere};
 
 pub use crate::delivery::{deliver, interrupt};
@@ -30,8 +29,8 @@ use vax_undo::{CutShort, Port, Txn};
 /// exactly where the interval clock was set.
 pub fn run<P: Port>(txn: &mut Txn<P>, instruction: System) -> Result<Flow, CutShort>
     requires { room_of_transfer ≤ room txn.old }
-    ensures exact { Follows (performed instruction (present P.view txn.old).state) (present P.view txn.old) (told txn.new result) (present P.view txn.new) }
-    ensures everywhere { GoesEverywhere (performed instruction (present P.view txn.old).state) (present P.view txn.old) (told txn.new result) (present P.view txn.new) }
+    ensures exact { Does P.view (performed instruction) result txn.old txn.new }
+    ensures everywhere { GoesEverywhere P.view (performed instruction) result txn.old txn.new }
     ensures keeps { Keeps P.view P.since room_of_transfer txn.old txn.new }
 {
     shapes::perform(txn, instruction)

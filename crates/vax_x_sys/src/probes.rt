@@ -1,8 +1,7 @@
 //! PROBER and PROBEW (VAX MACRO and Instruction Set Reference Manual, PROBE).
 ghost use Rattle.std.specs.Prelude.{◌≡◌, ◌^◌, ◌<◌, ◌≤◌, ℕ};
 ghost use Rattle.vax_flat.specs.System.{accessing, probe, probed};
-ghost use Rattle.vax_flat.specs.OverPort.{Follows};
-ghost use Rattle.vax_undo.specs.Transaction.{present, room, Keeps, told};
+ghost use Rattle.vax_undo.specs.Transaction.{room, Keeps, Does};
 
 use vax_flat::Flow;
 use vax_operand::{is_allowed, next_address, next_value, set_codes};
@@ -29,7 +28,7 @@ fn probe_by<P: Port>(
     requires of_mode { mode ≤ 3 }
     requires length { length < 2 ^ 16 }
     requires room { 1 ≤ room txn.old }
-    ensures exact { Follows (probed writing mode length base (present P.view txn.old).state) (present P.view txn.old) (told txn.new result) (present P.view txn.new) }
+    ensures exact { Does P.view (probed writing mode length base) result txn.old txn.new }
     ensures keeps { Keeps P.view P.since 1 txn.old txn.new }
 {
     let access = accessing(writing);
@@ -50,7 +49,7 @@ fn probe_by<P: Port>(
 #[tactic(auto, unfolding(vax_flat::specs::System::probe))]
 pub(crate) fn probe<P: Port>(txn: &mut Txn<P>, writing: bool) -> Result<Flow, CutShort>
     requires { 13 ≤ room txn.old }
-    ensures exact { Follows (probe writing (present P.view txn.old).state) (present P.view txn.old) (told txn.new result) (present P.view txn.new) }
+    ensures exact { Does P.view (probe writing) result txn.old txn.new }
     ensures keeps { Keeps P.view P.since 13 txn.old txn.new }
 {
     let named = next_value(txn, Size::B)?;

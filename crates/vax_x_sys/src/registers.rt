@@ -1,8 +1,7 @@
 //! The registers of the processor, MTPR and MFPR (VAX Architecture Reference Manual, processor registers).
 ghost use Rattle.std.specs.Prelude.{◌≡◌, ◌<◌, ◌≤◌, ◌%◌, ◌^◌, ℕ};
 ghost use Rattle.vax_flat.specs.System.{clock_set, from_register, get_processor, pointer, requested, set_processor, to_register, with_moved, with_pointer, with_priority};
-ghost use Rattle.vax_flat.specs.OverPort.{Follows};
-ghost use Rattle.vax_undo.specs.Transaction.{present, room, Keeps, with_state, told};
+ghost use Rattle.vax_undo.specs.Transaction.{present, room, Keeps, Does, Updates};
 
 use crate::stacks::stack_in_use;
 use vax_flat::{Cut, Exception, Flow};
@@ -15,7 +14,7 @@ use vax_word::{Codes, Psl, Size, is_negative};
 #[tactic(auto, unfolding(vax_word::specs::Arithmetic::answer))]
 fn set_moved<P: Port>(txn: &mut Txn<P>, value: u32)
     requires { 1 ≤ room txn.old }
-    ensures exact { present P.view txn.new ≡ with_state (present P.view txn.old) (with_moved value (present P.view txn.old).state) }
+    ensures exact { Updates P.view (with_moved value) txn.old txn.new }
     ensures keeps { Keeps P.view P.since 1 txn.old txn.new }
 {
     let codes = Codes {
@@ -46,7 +45,7 @@ fn pointer<P: Port>(txn: &Txn<P>, n: u8) -> u32
 fn set_pointer<P: Port>(txn: &mut Txn<P>, n: u8, value: u32)
     requires n { n < 5 }
     requires room { 1 ≤ room txn.old }
-    ensures exact { present P.view txn.new ≡ with_state (present P.view txn.old) (with_pointer n value (present P.view txn.old).state) }
+    ensures exact { Updates P.view (with_pointer n value) txn.old txn.new }
     ensures keeps { Keeps P.view P.since 1 txn.old txn.new }
 {
     if n == stack_in_use(txn.psl()) {
@@ -62,7 +61,7 @@ fn set_pointer<P: Port>(txn: &mut Txn<P>, n: u8, value: u32)
 fn set_priority<P: Port>(txn: &mut Txn<P>, level: u32)
     requires level { level < 32 }
     requires room { 1 ≤ room txn.old }
-    ensures exact { present P.view txn.new ≡ with_state (present P.view txn.old) (with_priority level (present P.view txn.old).state) }
+    ensures exact { Updates P.view (with_priority level) txn.old txn.new }
     ensures keeps { Keeps P.view P.since 1 txn.old txn.new }
 {
     let Psl(bits) = txn.psl();
@@ -76,7 +75,7 @@ fn set_priority<P: Port>(txn: &mut Txn<P>, level: u32)
 fn request<P: Port>(txn: &mut Txn<P>, level: u32)
     requires level { level < 16 }
     requires room { 1 ≤ room txn.old }
-    ensures exact { present P.view txn.new ≡ with_state (present P.view txn.old) (requested level (present P.view txn.old).state) }
+    ensures exact { Updates P.view (requested level) txn.old txn.new }
     ensures keeps { Keeps P.view P.since 1 txn.old txn.new }
 {
     if level != 0 {
@@ -89,7 +88,7 @@ fn request<P: Port>(txn: &mut Txn<P>, level: u32)
 #[tactic(auto, unfolding(vax_flat::specs::System::clock_set))]
 fn set_clock<P: Port>(txn: &mut Txn<P>, value: u32)
     requires { 2 ≤ room txn.old }
-    ensures exact { present P.view txn.new ≡ with_state (present P.view txn.old) (clock_set value (present P.view txn.old).state) }
+    ensures exact { Updates P.view (clock_set value) txn.old txn.new }
     ensures keeps { Keeps P.view P.since 2 txn.old txn.new }
 {
     let on = value / 0x40 % 2 == 1;
@@ -102,7 +101,7 @@ fn set_clock<P: Port>(txn: &mut Txn<P>, value: u32)
 #[tactic(auto, using(vax_flat::proofs::Leaves::over_port_raises), unfolding(vax_flat::specs::System::set_processor))]
 fn set_register<P: Port>(txn: &mut Txn<P>, number: u32, value: u32) -> Result<Flow, CutShort>
     requires { 2 ≤ room txn.old }
-    ensures exact { Follows (set_processor number value (present P.view txn.old).state) (present P.view txn.old) (told txn.new result) (present P.view txn.new) }
+    ensures exact { Does P.view (set_processor number value) result txn.old txn.new }
     ensures keeps { Keeps P.view P.since 2 txn.old txn.new }
 {
     if number <= 4 {
@@ -128,7 +127,7 @@ fn set_register<P: Port>(txn: &mut Txn<P>, number: u32, value: u32) -> Result<Fl
 #[tactic(auto, unfolding(vax_flat::specs::System::to_register))]
 pub(crate) fn to_register<P: Port>(txn: &mut Txn<P>) -> Result<Flow, CutShort>
     requires { 11 ≤ room txn.old }
-    ensures exact { Follows (to_register (present P.view txn.old).state) (present P.view txn.old) (told txn.new result) (present P.view txn.new) }
+    ensures exact { Does P.view to_register result txn.old txn.new }
     ensures keeps { Keeps P.view P.since 11 txn.old txn.new }
 {
     let value = next_value(txn, Size::L)? as u32;
@@ -141,7 +140,7 @@ pub(crate) fn to_register<P: Port>(txn: &mut Txn<P>) -> Result<Flow, CutShort>
 #[tactic(auto, using(vax_flat::proofs::Leaves::over_port_raises), unfolding(vax_flat::specs::System::get_processor))]
 fn get_register<P: Port>(txn: &mut Txn<P>, number: u32) -> Result<u32, CutShort>
     requires { 1 ≤ room txn.old }
-    ensures exact { Follows (get_processor number (present P.view txn.old).state) (present P.view txn.old) (told txn.new result) (present P.view txn.new) }
+    ensures exact { Does P.view (get_processor number) result txn.old txn.new }
     ensures keeps { Keeps P.view P.since 1 txn.old txn.new }
 {
     if number <= 4 {
@@ -170,7 +169,7 @@ fn get_register<P: Port>(txn: &mut Txn<P>, number: u32) -> Result<u32, CutShort>
 #[tactic(auto, unfolding(vax_flat::specs::System::from_register))]
 pub(crate) fn from_register<P: Port>(txn: &mut Txn<P>) -> Result<Flow, CutShort>
     requires { 12 ≤ room txn.old }
-    ensures exact { Follows (from_register (present P.view txn.old).state) (present P.view txn.old) (told txn.new result) (present P.view txn.new) }
+    ensures exact { Does P.view from_register result txn.old txn.new }
     ensures keeps { Keeps P.view P.since 12 txn.old txn.new }
 {
     let number = next_value(txn, Size::L)? as u32;

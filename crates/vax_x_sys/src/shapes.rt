@@ -1,8 +1,7 @@
 //! One function for each shape of instruction.
 ghost use Rattle.std.specs.Prelude.{◌≡◌, ◌≤◌, true};
 ghost use Rattle.vax_flat.specs.System as system;
-ghost use Rattle.vax_flat.specs.OverPort.{Follows};
-ghost use Rattle.vax_undo.specs.Transaction.{present, room, Keeps, told};
+ghost use Rattle.vax_undo.specs.Transaction.{room, Keeps, Does};
 
 use crate::delivery::change_mode;
 use crate::probes::probe;
@@ -18,7 +17,7 @@ use vax_word::{Psl, Size};
 #[inline]
 #[tactic(auto, using(vax_flat::proofs::Leaves::over_port_raises), unfolding(vax_flat::specs::System::halt))]
 fn halt<P: Port>(txn: &mut Txn<P>) -> Result<Flow, CutShort>
-    ensures exact { Follows (system.halt (present P.view txn.old).state) (present P.view txn.old) (told txn.new result) (present P.view txn.new) }
+    ensures exact { Does P.view system.halt result txn.old txn.new }
     ensures keeps { Keeps P.view P.since 0 txn.old txn.new }
 {
     if txn.psl().mode() == 0 {
@@ -60,7 +59,7 @@ fn is_refused(old: Psl, new: Psl) -> bool
 #[tactic(auto, using(vax_flat::proofs::Leaves::over_port_raises), unfolding(vax_flat::specs::System::return_from))]
 fn return_from<P: Port>(txn: &mut Txn<P>, pc: u32, psl: Psl) -> Result<Flow, CutShort>
     requires { 6 ≤ room txn.old }
-    ensures exact { Follows (system.return_from pc psl (present P.view txn.old).state) (present P.view txn.old) (told txn.new result) (present P.view txn.new) }
+    ensures exact { Does P.view (system.return_from pc psl) result txn.old txn.new }
     ensures keeps { Keeps P.view P.since 6 txn.old txn.new }
 {
     let old = txn.psl();
@@ -78,7 +77,7 @@ fn return_from<P: Port>(txn: &mut Txn<P>, pc: u32, psl: Psl) -> Result<Flow, Cut
 #[tactic(auto, unfolding(vax_flat::specs::System::return_exception))]
 fn return_exception<P: Port>(txn: &mut Txn<P>) -> Result<Flow, CutShort>
     requires { 6 ≤ room txn.old }
-    ensures exact { Follows (system.return_exception (present P.view txn.old).state) (present P.view txn.old) (told txn.new result) (present P.view txn.new) }
+    ensures exact { Does P.view system.return_exception result txn.old txn.new }
     ensures keeps { Keeps P.view P.since 6 txn.old txn.new }
 {
     let top = txn.reg(14);
@@ -102,7 +101,7 @@ pub fn flow_of(delivery: Delivery) -> Flow
 #[tactic(auto, unfolding(vax_flat::specs::System::change_of_mode))]
 fn change_of_mode<P: Port>(txn: &mut Txn<P>, target: AccessMode) -> Result<Flow, CutShort>
     requires { 20 ≤ room txn.old }
-    ensures exact { Follows (system.change_of_mode target (present P.view txn.old).state) (present P.view txn.old) (told txn.new result) (present P.view txn.new) }
+    ensures exact { Does P.view (system.change_of_mode target) result txn.old txn.new }
     ensures keeps { Keeps P.view P.since 20 txn.old txn.new }
 {
     let code = next_value(txn, Size::W)?;
@@ -114,7 +113,7 @@ fn change_of_mode<P: Port>(txn: &mut Txn<P>, target: AccessMode) -> Result<Flow,
 #[tactic(auto, unfolding(vax_flat::specs::System::move_status))]
 fn move_status<P: Port>(txn: &mut Txn<P>) -> Result<Flow, CutShort>
     requires { 6 ≤ room txn.old }
-    ensures exact { Follows (system.move_status (present P.view txn.old).state) (present P.view txn.old) (told txn.new result) (present P.view txn.new) }
+    ensures exact { Does P.view system.move_status result txn.old txn.new }
     ensures keeps { Keeps P.view P.since 6 txn.old txn.new }
 {
     let destination = next_place(txn, Size::L)?;
@@ -127,7 +126,7 @@ fn move_status<P: Port>(txn: &mut Txn<P>) -> Result<Flow, CutShort>
 #[tactic(auto, using(vax_flat::proofs::Leaves::over_port_raises, vax_undo::proofs::FirstPart::set_closed), unfolding(vax_flat::specs::System::status_set))]
 fn set_bits<P: Port>(txn: &mut Txn<P>, mask: u32) -> Result<Flow, CutShort>
     requires { 1 ≤ room txn.old }
-    ensures exact { Follows (system.status_set mask (present P.view txn.old).state) (present P.view txn.old) (told txn.new result) (present P.view txn.new) }
+    ensures exact { Does P.view (system.status_set mask) result txn.old txn.new }
     ensures keeps { Keeps P.view P.since 1 txn.old txn.new }
 {
     if mask / 0x100 != 0 || mask / 0x10 % 2 == 1 {
@@ -142,7 +141,7 @@ fn set_bits<P: Port>(txn: &mut Txn<P>, mask: u32) -> Result<Flow, CutShort>
 #[tactic(auto, unfolding(vax_flat::specs::System::set_status))]
 fn set_status<P: Port>(txn: &mut Txn<P>) -> Result<Flow, CutShort>
     requires { 5 ≤ room txn.old }
-    ensures exact { Follows (system.set_status (present P.view txn.old).state) (present P.view txn.old) (told txn.new result) (present P.view txn.new) }
+    ensures exact { Does P.view system.set_status result txn.old txn.new }
     ensures keeps { Keeps P.view P.since 5 txn.old txn.new }
 {
     let mask = next_value(txn, Size::W)?;
@@ -153,7 +152,7 @@ fn set_status<P: Port>(txn: &mut Txn<P>) -> Result<Flow, CutShort>
 #[tactic(auto, using(vax_flat::proofs::Leaves::over_port_raises, vax_undo::proofs::FirstPart::cleared_closed), unfolding(vax_flat::specs::System::status_cleared))]
 fn clear_bits<P: Port>(txn: &mut Txn<P>, mask: u32) -> Result<Flow, CutShort>
     requires { 1 ≤ room txn.old }
-    ensures exact { Follows (system.status_cleared mask (present P.view txn.old).state) (present P.view txn.old) (told txn.new result) (present P.view txn.new) }
+    ensures exact { Does P.view (system.status_cleared mask) result txn.old txn.new }
     ensures keeps { Keeps P.view P.since 1 txn.old txn.new }
 {
     if mask / 0x100 != 0 {
@@ -168,7 +167,7 @@ fn clear_bits<P: Port>(txn: &mut Txn<P>, mask: u32) -> Result<Flow, CutShort>
 #[tactic(auto, unfolding(vax_flat::specs::System::clear_status))]
 fn clear_status<P: Port>(txn: &mut Txn<P>) -> Result<Flow, CutShort>
     requires { 5 ≤ room txn.old }
-    ensures exact { Follows (system.clear_status (present P.view txn.old).state) (present P.view txn.old) (told txn.new result) (present P.view txn.new) }
+    ensures exact { Does P.view system.clear_status result txn.old txn.new }
     ensures keeps { Keeps P.view P.since 5 txn.old txn.new }
 {
     let mask = next_value(txn, Size::W)?;
@@ -180,7 +179,9 @@ fn clear_status<P: Port>(txn: &mut Txn<P>) -> Result<Flow, CutShort>
 #[tactic(auto, using(vax_flat::proofs::Leaves::over_port_raises))]
 fn move_to<P: Port>(txn: &mut Txn<P>) -> Result<Flow, CutShort>
     requires { 11 ≤ room txn.old }
-    ensures exact { Follows (λ next. system.unless_privileged true (present P.view txn.old).state (system.to_register (present P.view txn.old).state next)) (present P.view txn.old) (told txn.new result) (present P.view txn.new) }
+    ensures exact { Does P.view
+        (λ s next. system.unless_privileged true s (system.to_register s next))
+        result txn.old txn.new }
     ensures keeps { Keeps P.view P.since 11 txn.old txn.new }
 {
     if txn.psl().mode() != 0 {
@@ -193,7 +194,9 @@ fn move_to<P: Port>(txn: &mut Txn<P>) -> Result<Flow, CutShort>
 #[tactic(auto, using(vax_flat::proofs::Leaves::over_port_raises))]
 fn move_from<P: Port>(txn: &mut Txn<P>) -> Result<Flow, CutShort>
     requires { 12 ≤ room txn.old }
-    ensures exact { Follows (λ next. system.unless_privileged true (present P.view txn.old).state (system.from_register (present P.view txn.old).state next)) (present P.view txn.old) (told txn.new result) (present P.view txn.new) }
+    ensures exact { Does P.view
+        (λ s next. system.unless_privileged true s (system.from_register s next))
+        result txn.old txn.new }
     ensures keeps { Keeps P.view P.since 12 txn.old txn.new }
 {
     if txn.psl().mode() != 0 {
@@ -206,7 +209,7 @@ fn move_from<P: Port>(txn: &mut Txn<P>) -> Result<Flow, CutShort>
 #[tactic(auto, using(vax_flat::proofs::Leaves::over_port_raises), unfolding(vax_flat::specs::System::performed))]
 pub(crate) fn perform<P: Port>(txn: &mut Txn<P>, instruction: System) -> Result<Flow, CutShort>
     requires { 20 ≤ room txn.old }
-    ensures exact { Follows (system.performed instruction (present P.view txn.old).state) (present P.view txn.old) (told txn.new result) (present P.view txn.new) }
+    ensures exact { Does P.view (system.performed instruction) result txn.old txn.new }
     ensures keeps { Keeps P.view P.since 20 txn.old txn.new }
 {
     match instruction {
