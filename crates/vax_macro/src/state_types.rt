@@ -70,7 +70,7 @@ pub(crate) enum Done {
     Gives,
     /// What is behind a place is read as a line of its own.
     Again(usize),
-    /// The same, and the label before is a statement.
+    /// The label up to a place is a statement, and the line is read again without it.
     Label(usize),
     Fails(crate::error::FaultKind),
 }
