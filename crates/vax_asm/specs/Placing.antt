@@ -66,7 +66,7 @@ instruction_named name = if in_ascii name then with_name name else None
 abbrev pub directed : Directive → Origin → List ℕ → List Token → Standing → Result Standing FaultKind
 directed directive.Section origin line tokens s = section_stated line tokens s
 directed directive.Entry origin line tokens s = entry_stated origin line tokens s
-directed (directive.Data size) origin line tokens s = data_stated size origin line tokens s
+directed (directive.Data kind) origin line tokens s = data_stated kind origin line tokens s
 directed directive.Address origin line tokens s = addresses_stated origin line tokens s
 directed directive.Text origin line tokens s = text_stated Plain origin line tokens s
 directed directive.CountedText origin line tokens s = text_stated Counted_first origin line tokens s

@@ -48,7 +48,7 @@ fn direct(
     match directive {
         Directive::Section => section(standing, alloc, line, operands),
         Directive::Entry => entry(standing, alloc, origin, line, operands),
-        Directive::Data(size) => data(standing, alloc, origin, line, size, operands),
+        Directive::Data(kind) => data(standing, alloc, origin, line, kind, operands),
         Directive::Address => addresses(standing, alloc, origin, line, operands),
         Directive::Text => text(standing, alloc, origin, line, TextForm::Plain, operands),
         Directive::CountedText => text(

@@ -9,7 +9,7 @@ use Rattle.vax_asm_first.specs.Progress.{Site, Progress, joined}
 use Rattle.vax_asm_statement.specs.Items.{Piece, piece_seen}
 use Rattle.vax_asm_statement.specs.Within.{PieceWithin}
 use Rattle.vax_asm_statement.specs.declared.items.Piece.{Piece as CodePiece}
-use Rattle.vax_word.specs.declared.Size.{Size}
+use Rattle.vax_asm_encode.specs.declared.operand.DataKind.{DataKind}
 
 split_at : {X Y : Type 0} (seen : X → Y) (xs : List X) (i : ℕ) (d : X) → i < length xs → map seen (drop i xs) ≡ seen (slice_index_or xs i d) ∷ map seen (drop (i + 1) xs)
 split_at {X} {Y} seen xs i d h =
@@ -19,14 +19,14 @@ split_at {X} {Y} seen xs i d h =
 abbrev now : Bor (List Token) → List Token
 now s = s.now
 
-pub item_step : (size : Size) (site : Site) (once : Bool) (before one all : Progress) (xs : List (Bor (List Token))) (i : ℕ) (d : Bor (List Token)) → i < length xs
-    → one ≡ item_stated size site (item_as once (slice_index_or xs i d).now) before.standing
-    → items_stated size site (map (item_as once) (map now (drop i xs))) before ≡ all
-    → items_stated size site (map (item_as once) (map now (drop (i + 1) xs))) (joined before.fault one) ≡ all
-item_step size site once before one all xs i d h is same =
+pub item_step : (kind : DataKind) (site : Site) (once : Bool) (before one all : Progress) (xs : List (Bor (List Token))) (i : ℕ) (d : Bor (List Token)) → i < length xs
+    → one ≡ item_stated kind site (item_as once (slice_index_or xs i d).now) before.standing
+    → items_stated kind site (map (item_as once) (map now (drop i xs))) before ≡ all
+    → items_stated kind site (map (item_as once) (map now (drop (i + 1) xs))) (joined before.fault one) ≡ all
+item_step kind site once before one all xs i d h is same =
     let rest = map (item_as once) (map now (drop (i + 1) xs)) in
-    ap (λ (p : Progress). items_stated size site rest (joined before.fault p)) is
-    ∙ ap (λ (l : List (List Token)). items_stated size site (map (item_as once) l) before) (sym (split_at now xs i d h))
+    ap (λ (p : Progress). items_stated kind site rest (joined before.fault p)) is
+    ∙ ap (λ (l : List (List Token)). items_stated kind site (map (item_as once) l) before) (sym (split_at now xs i d h))
     ∙ same
 
 pub piece_step : (site : Site) (before one all : Progress) (xs : List CodePiece) (i : ℕ) (d : CodePiece) → i < length xs

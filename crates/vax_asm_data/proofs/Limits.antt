@@ -3,6 +3,8 @@ use Rattle.std.proofs.Common.{◌≡◌, ◌<◌, ◌≤◌, ◌+◌, ◌*◌, �
 use Rattle.std.proofs.lemmas.Bool.{lt-ltb}
 use Rattle.std.specs.Prelude.{◌^◌, ◌||◌, if◌then◌else◌}
 use Rattle.vax_asm_data.specs.Data.{fixed, room}
+use Rattle.vax_asm_encode.specs.Operands.{item_size}
+use Rattle.vax_asm_encode.specs.declared.operand.DataKind.{DataKind}
 use Rattle.vax_asm_sections.specs.Layout.{Part, Zeros, Field, Sections, current_of, with_part, put, module_limit}
 use Rattle.vax_asm_sections.specs.declared.types.Refusal.{Refusal}
 use Rattle.vax_asm_sections.specs.declared.types.Refusal.TheVariants.{TooLong}
@@ -31,10 +33,10 @@ too_long n part s h =
     ap (λ (b : Bool). if◌then◌else◌ {A = Result (Sections _) Refusal} b (Err TooLong) (Ok (with_part n part s)))
     (or_second _ _ (lt-ltb module_limit (s.total + n) (omega (arith, h))))
 
-pub items_too_many : (size : Size) (site : Site) (n : ℕ) (filling : Filling) (s : Standing) → 16777216 < n → fixed size site n filling s ≡ record { fault = Some fault.Large; standing = s }
-items_too_many size site n filling s h =
+pub items_too_many : (kind : DataKind) (site : Site) (n : ℕ) (filling : Filling) (s : Standing) → 16777216 < n → fixed kind site n filling s ≡ record { fault = Some fault.Large; standing = s }
+items_too_many kind site n filling s h =
     ap (λ (r : Result (Sections Fixup) Refusal). after_change s (with_sections s r))
-    (too_long (bytes_of size * n) (Field (record { origin = site.origin; at = (current_of s.sections).size; content = Data size n; filling = filling })) s.sections (omega (arith, h, at_least size n)))
+    (too_long (bytes_of (item_size kind) * n) (Field (record { origin = site.origin; at = (current_of s.sections).size; content = Data kind n; filling = filling })) s.sections (omega (arith, h, at_least (item_size kind) n)))
 
 pub room_too_large : (size : Size) (s : Standing) (n : ℕ) → 16777216 < n → room size s (Ok n) ≡ Err fault.Large
 room_too_large size s n h =

@@ -1,7 +1,9 @@
 -- The directives of data (VAX MACRO and Instruction Set Reference Manual, "VAX MACRO assembler directives": `.BYTE` to
--- `.QUAD`, `.ADDRESS`, `.ASCII` to `.ASCIZ`, `.BLKB` to `.BLKQ`, `.ALIGN`, `.EVEN`).
+-- `.QUAD`, `.SIGNED_BYTE`, `.SIGNED_WORD`, `.ADDRESS`, `.ASCII` to `.ASCIZ`, `.BLKB` to `.BLKQ`, `.ALIGN`, `.EVEN`).
 use Rattle.std.specs.Prelude.{ℕ, ◌+◌, ◌-◌, ◌*◌, Bool, true, false, nat_lt, nat_le, if◌then◌else◌, List, [], ◌∷◌, length, map, take, drop, Option, Some, None, Result, Ok, Err, codes}
-use Rattle.vax_asm_encode.specs.declared.operand.Field.TheVariants.{Number}
+use Rattle.vax_asm_encode.specs.Operands.{item_size, item_field}
+use Rattle.vax_asm_encode.specs.declared.operand.DataKind.{DataKind}
+use Rattle.vax_asm_encode.specs.declared.operand.DataKind.TheVariants.{Number}
 use Rattle.vax_asm_sections.specs.Layout.{Zeros, Bytes, Field, current_of, put, aligned}
 use Rattle.vax_lex.specs.Characters.{spells}
 use Rattle.vax_lex.specs.Grammar.{symbols_of}
@@ -23,26 +25,26 @@ use Rattle.vax_word.specs.Arithmetic.{bytes_of}
 use Rattle.vax_word.specs.declared.Size.{Size}
 use Rattle.vax_word.specs.declared.Size.TheVariants as size
 
--- An item of data: an expression that a field of this size holds, so many times.
-abbrev pub fixed : Size → Site → ℕ → Filling → Standing → Progress
-fixed size site n filling s =
-    added (bytes_of size * n) (Field (record { origin = site.origin; at = (current_of s.sections).size; content = Data size n; filling = filling })) s
+-- An item of data: an expression that a field of this kind holds, so many times.
+abbrev pub fixed : DataKind → Site → ℕ → Filling → Standing → Progress
+fixed kind site n filling s =
+    added (bytes_of (item_size kind) * n) (Field (record { origin = site.origin; at = (current_of s.sections).size; content = Data kind n; filling = filling })) s
 
-abbrev pub placed_item : Size → Site → Option FaultKind → Result ℕ FaultKind → Filling → Standing → Progress
-placed_item size site None (Ok n) filling s = fixed size site n filling s
-placed_item size site (Some kind) (Ok n) filling s = record { fault = Some kind; standing = s }
-placed_item size site before (Err kind) filling s = record { fault = lowest before (Some kind); standing = s }
+abbrev pub placed_item : DataKind → Site → Option FaultKind → Result ℕ FaultKind → Filling → Standing → Progress
+placed_item kind site None (Ok n) filling s = fixed kind site n filling s
+placed_item kind site (Some f) (Ok n) filling s = record { fault = Some f; standing = s }
+placed_item kind site before (Err f) filling s = record { fault = lowest before (Some f); standing = s }
 
-abbrev pub item_stated : Size → Site → Item → Standing → Progress
-item_stated size site item s =
+abbrev pub item_stated : DataKind → Site → Item → Standing → Progress
+item_stated kind site item s =
     let symbols = symbols_of site.line item.expression in
     let t = told site.here symbols s.scope in
     let c = counted site item.count t.scope in
-    placed_item size site (unless_place (uses_place symbols) (fault_of_value (Number size) 0 0 t.settled)) c.number (filling_by t.value t.written) (with_scope c.scope s)
+    placed_item kind site (unless_place (uses_place symbols) (fault_of_value (item_field kind) 0 0 t.settled)) c.number (filling_by t.value t.written) (with_scope c.scope s)
 
-abbrev pub items_stated : Size → Site → List Item → Progress → Progress
-items_stated size site [] p = p
-items_stated size site (item ∷ items) p = items_stated size site items (joined p.fault (item_stated size site item p.standing))
+abbrev pub items_stated : DataKind → Site → List Item → Progress → Progress
+items_stated kind site [] p = p
+items_stated kind site (item ∷ items) p = items_stated kind site items (joined p.fault (item_stated kind site item p.standing))
 
 -- an operand as an item: written once, or as often as its count says
 abbrev pub item_as : Bool → List Token → Item
@@ -54,15 +56,15 @@ abbrev pub unless_none : List Token → Result Standing FaultKind → Result Sta
 unless_none [] r = Err fault.Count
 unless_none (t ∷ tokens) r = r
 
--- `.BYTE`, `.WORD`, `.LONG`, `.QUAD`
-unfoldable pub data_stated : Size → Origin → List ℕ → List Token → Standing → Result Standing FaultKind
-data_stated size origin line tokens s =
-    unless_none tokens (done (items_stated size (site_of origin line s) (map item_of (parts tokens)) (begun s)))
+-- `.BYTE`, `.WORD`, `.LONG`, `.QUAD`, `.SIGNED_BYTE`, `.SIGNED_WORD`
+unfoldable pub data_stated : DataKind → Origin → List ℕ → List Token → Standing → Result Standing FaultKind
+data_stated kind origin line tokens s =
+    unless_none tokens (done (items_stated kind (site_of origin line s) (map item_of (parts tokens)) (begun s)))
 
 -- `.ADDRESS`: longwords, each written once
 unfoldable pub addresses_stated : Origin → List ℕ → List Token → Standing → Result Standing FaultKind
 addresses_stated origin line tokens s =
-    unless_none tokens (done (items_stated size.L (site_of origin line s) (map whole (parts tokens)) (begun s)))
+    unless_none tokens (done (items_stated (Number size.L) (site_of origin line s) (map whole (parts tokens)) (begun s)))
 
 -- the characters between two delimiters
 abbrev pub characters_of : List ℕ → Token → List ℕ
@@ -71,7 +73,7 @@ characters_of line t = let text = token_text line t in take (length text - 2) (d
 -- a piece of text
 abbrev pub piece_stated : Site → Piece → Standing → Progress
 piece_stated site (Characters t) s = added (length (characters_of site.line t)) (Bytes (characters_of site.line t)) s
-piece_stated site (ByteValue tokens) s = item_stated size.B site (whole tokens) s
+piece_stated site (ByteValue tokens) s = item_stated (Number size.B) site (whole tokens) s
 
 abbrev pub pieces_stated : Site → List Piece → Progress → Progress
 pieces_stated site [] p = p

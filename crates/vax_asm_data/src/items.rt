@@ -11,7 +11,7 @@ ghost use Rattle.vax_asm_statement.specs.Within.{ItemWithin};
 
 use std::alloc::Global;
 use std::rc::Rc;
-use vax_asm_encode::Field;
+use vax_asm_encode::DataKind;
 use vax_asm_first::{
     Content, FaultKind, Filling, Fixup, Origin, Refused, Site, Standing, add, counted,
     fault_of_value, filling_of, lowest, site_of, unless_place,
@@ -31,11 +31,11 @@ const MOST_ITEMS: u64 = 16_777_216;
 fn fix(
     standing: &mut Standing,
     site: Site<'_>,
-    size: Size,
+    kind: DataKind,
     count: u64,
     filling: Filling,
 ) -> Result<Option<FaultKind>, NoMemory>
-    ensures { IfOk result (λ f. progress_of f standing.new ≡ fixed size (site_seen site.entry) count (filling_of filling) (standing_of standing.old)) }
+    ensures { IfOk result (λ f. progress_of f standing.new ≡ fixed kind (site_seen site.entry) count (filling_of filling) (standing_of standing.old)) }
 {
     if count > MOST_ITEMS {
         return Ok(Some(FaultKind::Large));
@@ -44,38 +44,35 @@ fn fix(
     let fixup = Fixup {
         origin: site.origin,
         at: standing.section_size(),
-        content: Content::Data { size, count },
+        content: Content::Data { kind, count },
         filling,
     };
-    add(standing, size.bytes() * count, Piece::Field(fixup))
+    add(standing, kind.size().bytes() * count, Piece::Field(fixup))
 }
 
-/// One item: an expression that a field of this size holds, so many times. Its fault, if it has one.
+/// One item: an expression that a field of this kind holds, so many times. Its fault, if it has one.
 fn state_item(
     standing: &mut Standing,
     alloc: Global,
     site: Site<'_>,
-    size: Size,
+    kind: DataKind,
     item: Item<'_>,
 ) -> Result<Option<FaultKind>, NoMemory>
     requires { ItemWithin site.line.now.value.items (item_seen item) }
-    ensures { IfOk result (λ f. progress_of f standing.new ≡ item_stated size (site_seen site.entry) (item_seen item.entry) (standing_of standing.old)) }
+    ensures { IfOk result (λ f. progress_of f standing.new ≡ item_stated kind (site_seen site.entry) (item_seen item.entry) (standing_of standing.old)) }
 {
     let here = uses_place(site.line, item.expression);
     let told = standing.tell(alloc, site.line, item.expression, site.here)?;
-    let fault = unless_place(
-        here,
-        fault_of_value(Field::Number(size), 0, 0, told.settled),
-    );
+    let fault = unless_place(here, fault_of_value(kind.field(), 0, 0, told.settled));
     let count = counted(standing, alloc, site, item.count)?;
     let count = match count {
         Ok(count) => count,
-        Err(kind) => return Ok(lowest(fault, Some(kind))),
+        Err(other) => return Ok(lowest(fault, Some(other))),
     };
     if fault.is_some() {
         return Ok(fault);
     }
-    fix(standing, site, size, count, filling_of(told))
+    fix(standing, site, kind, count, filling_of(told))
 }
 
 /// The item that an operand is: `e[n]` too, or `e` alone.
@@ -99,15 +96,15 @@ fn state_part(
     standing: &mut Standing,
     alloc: Global,
     site: Site<'_>,
-    size: Size,
+    kind: DataKind,
     once: bool,
     part: &[Token],
 ) -> Result<Option<FaultKind>, NoMemory>
     requires { All (IsTokenOf site.line.now.value.items) part.now }
-    ensures { IfOk result (λ f. progress_of f standing.new ≡ item_stated size (site_seen site.entry) (item_as once part.now) (standing_of standing.old)) }
+    ensures { IfOk result (λ f. progress_of f standing.new ≡ item_stated kind (site_seen site.entry) (item_as once part.now) (standing_of standing.old)) }
 {
     let item = read_as(once, part);
-    state_item(standing, alloc, site, size, item)
+    state_item(standing, alloc, site, kind, item)
 }
 
 /// An item that is written once, as a part of a statement. Its fault, if it has one.
@@ -115,13 +112,13 @@ pub fn item(
     standing: &mut Standing,
     alloc: Global,
     site: Site<'_>,
-    size: Size,
+    kind: DataKind,
     tokens: &[Token],
 ) -> Result<Option<FaultKind>, NoMemory>
     requires { All (IsTokenOf site.line.now.value.items) tokens.now }
-    ensures { IfOk result (λ f. progress_of f standing.new ≡ item_stated size (site_seen site.entry) (whole tokens.now) (standing_of standing.old)) }
+    ensures { IfOk result (λ f. progress_of f standing.new ≡ item_stated kind (site_seen site.entry) (whole tokens.now) (standing_of standing.old)) }
 {
-    state_part(standing, alloc, site, size, true, tokens)
+    state_part(standing, alloc, site, kind, true, tokens)
 }
 
 /// The items that operands are. The fault that counts, if one has any.
@@ -130,18 +127,18 @@ fn state_items(
     standing: &mut Standing,
     alloc: Global,
     site: Site<'_>,
-    size: Size,
+    kind: DataKind,
     once: bool,
     operands: &[Token],
 ) -> Result<Option<FaultKind>, NoMemory>
     requires tokens { All (IsTokenOf site.line.now.value.items) operands.now }
     requires few { length operands.now < 2 ^ 32 }
-    ensures { IfOk result (λ f. progress_of f standing.new ≡ items_stated size (site_seen site.entry) (map (item_as once) (parts operands.now)) (begun (standing_of standing.old))) }
+    ensures { IfOk result (λ f. progress_of f standing.new ≡ items_stated kind (site_seen site.entry) (map (item_as once) (parts operands.now)) (begun (standing_of standing.old))) }
 {
     let list = parts(alloc, operands).map_err(|_| NoMemory)?;
     let mut fault = None;
     for part in &list {
-        let found = state_part(standing, alloc, site, size, once, part)?;
+        let found = state_part(standing, alloc, site, kind, once, part)?;
         fault = lowest(fault, found);
     }
     Ok(fault)
@@ -153,19 +150,19 @@ fn state(
     alloc: Global,
     origin: Origin,
     line: &Rc<Vec<u8>>,
-    size: Size,
+    kind: DataKind,
     once: bool,
     operands: &[Token],
 ) -> Result<Option<FaultKind>, NoMemory>
     requires tokens { All (IsTokenOf line.now.value.items) operands.now }
     requires few { length operands.now < 2 ^ 32 }
-    ensures { IfOk result (λ f. progress_of f standing.new ≡ items_stated size (site_of origin line.now.value.items (standing_of standing.old)) (map (item_as once) (parts operands.now)) (begun (standing_of standing.old))) }
+    ensures { IfOk result (λ f. progress_of f standing.new ≡ items_stated kind (site_of origin line.now.value.items (standing_of standing.old)) (map (item_as once) (parts operands.now)) (begun (standing_of standing.old))) }
 {
     let site = site_of(origin, line, standing)?;
-    state_items(standing, alloc, site, size, once, operands)
+    state_items(standing, alloc, site, kind, once, operands)
 }
 
-/// `.BYTE`, `.WORD`, `.LONG` and `.QUAD`: items of this size, `e` or `e[n]`.
+/// `.BYTE`, `.WORD`, `.LONG`, `.QUAD`, `.SIGNED_BYTE` and `.SIGNED_WORD`: items of this kind, `e` or `e[n]`.
 ///
 /// [`Refused::Fault`] with the fault that counts: `Count` where there are no items, `Form` where an item is no expression,
 /// uses `.` or is a relocatable one that isn't of a longword, or where a count is no number, `Undefined` where a count isn't
@@ -177,19 +174,19 @@ pub fn data(
     alloc: Global,
     origin: Origin,
     line: &Rc<Vec<u8>>,
-    size: Size,
+    kind: DataKind,
     operands: &[Token],
 ) -> Result<(), Refused>
     requires tokens { All (IsTokenOf line.now.value.items) operands.now }
     requires few { length operands.now < 2 ^ 32 }
-    ensures { Stands result (standing_of standing.new) (data_stated size origin line.now.value.items operands.now (standing_of standing.old)) }
+    ensures { Stands result (standing_of standing.new) (data_stated kind origin line.now.value.items operands.now (standing_of standing.old)) }
 {
     if operands.is_empty() {
         return Err(Refused::Fault(FaultKind::Count));
     }
-    match state(standing, alloc, origin, line, size, false, operands) {
+    match state(standing, alloc, origin, line, kind, false, operands) {
         Ok(None) => Ok(()),
-        Ok(Some(kind)) => Err(Refused::Fault(kind)),
+        Ok(Some(fault)) => Err(Refused::Fault(fault)),
         Err(NoMemory) => Err(Refused::NoMemory),
     }
 }
@@ -212,9 +209,17 @@ pub fn addresses(
     if operands.is_empty() {
         return Err(Refused::Fault(FaultKind::Count));
     }
-    match state(standing, alloc, origin, line, Size::L, true, operands) {
+    match state(
+        standing,
+        alloc,
+        origin,
+        line,
+        DataKind::Number(Size::L),
+        true,
+        operands,
+    ) {
         Ok(None) => Ok(()),
-        Ok(Some(kind)) => Err(Refused::Fault(kind)),
+        Ok(Some(fault)) => Err(Refused::Fault(fault)),
         Err(NoMemory) => Err(Refused::NoMemory),
     }
 }

@@ -12,6 +12,7 @@ ghost use Rattle.vax_asm_statement.specs.Within.{PieceWithin};
 use crate::items::item;
 use std::alloc::Global;
 use std::rc::Rc;
+use vax_asm_encode::DataKind;
 use vax_asm_first::{FaultKind, Origin, Refused, Site, Standing, add, lowest, site_of};
 use vax_asm_sections::Piece as Part;
 use vax_asm_statement::{Piece, pieces, text_of};
@@ -85,7 +86,7 @@ fn state_piece(
             let bytes = characters.to_vec(alloc).map_err(|_| NoMemory)?;
             add(standing, size, Part::Bytes(bytes))
         }
-        Piece::Value(tokens) => item(standing, alloc, site, Size::B, tokens),
+        Piece::Value(tokens) => item(standing, alloc, site, DataKind::Number(Size::B), tokens),
     }
 }
 

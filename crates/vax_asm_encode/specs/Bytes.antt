@@ -45,6 +45,7 @@ Extends width displacement = extended width (displacement % 256 ^ width) ≡ dis
 abbrev pub Holds : Field → ℕ → Type 0
 Holds field.Literal n = n < 64
 Holds (field.Number size) n = n < 256 ^ width_of_size size
+Holds (field.Signed size) n = n < 256 ^ width_of_size size
 Holds (field.Displacement size) n = Extends (width_of size) n
 Holds (field.Relative size) n = Extends (width_of size) n
 

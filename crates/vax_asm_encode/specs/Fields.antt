@@ -26,6 +26,11 @@ abbrev pub number : Size → ℤ → Option ℕ
 number size (pos n) = if nat_lt n (modulus size) then Some n else None
 number size (negsuc n) = if nat_lt n (sign_bit size) then Some (modulus size - suc n) else None
 
+-- A signed number of this size, in two's complement.
+abbrev pub signed : Size → ℤ → Option ℕ
+signed size (pos n) = if nat_lt n (sign_bit size) then Some n else None
+signed size (negsuc n) = if nat_lt n (sign_bit size) then Some (modulus size - suc n) else None
+
 -- the number whose sign a displacement of this size extends first
 abbrev pub half : Narrow → ℕ
 half size = 256 ^ width_of size / 2
@@ -83,6 +88,9 @@ filled field.Literal section at (value.External i offset) = Err fault.Form
 filled (field.Number size) section at (value.Absolute n) = outright (number size n)
 filled (field.Number size) section at (value.Section s offset) = address size
 filled (field.Number size) section at (value.External i offset) = address size
+filled (field.Signed size) section at (value.Absolute n) = outright (signed size n)
+filled (field.Signed size) section at (value.Section s offset) = Err fault.Form
+filled (field.Signed size) section at (value.External i offset) = Err fault.Form
 filled (field.Displacement size) section at (value.Absolute n) = outright (displacement size n)
 filled (field.Displacement size) section at (value.Section s offset) = relocated (displacement_reloc size)
 filled (field.Displacement size) section at (value.External i offset) = relocated (displacement_reloc size)

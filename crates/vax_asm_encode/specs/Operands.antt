@@ -17,6 +17,17 @@ use Rattle.vax_asm_encode.specs.declared.operand.Operand.{Operand}
 use Rattle.vax_asm_encode.specs.declared.operand.Operand.TheVariants as operand
 use Rattle.vax_asm_encode.specs.declared.operand.Field.{Field}
 use Rattle.vax_asm_encode.specs.declared.operand.Field.TheVariants as field
+use Rattle.vax_asm_encode.specs.declared.operand.DataKind.{DataKind}
+use Rattle.vax_asm_encode.specs.declared.operand.DataKind.TheVariants as data_kind
+
+-- the size of an item of data, and what holds its value
+abbrev pub item_size : DataKind → Size
+item_size (data_kind.Number size) = size
+item_size (data_kind.Signed size) = size
+
+abbrev pub item_field : DataKind → Field
+item_field (data_kind.Number size) = field.Number size
+item_field (data_kind.Signed size) = field.Signed size
 
 abbrev pub data_size : ℕ → Size
 data_size width = if width == 1 then size.B else (if width == 2 then size.W else (if width == 4 then size.L else size.Q))

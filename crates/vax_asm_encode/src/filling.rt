@@ -2,7 +2,7 @@
 
 ghost use Rattle.std.specs.Prelude.{◌≡◌, ◌≤◌, ◌<◌, ◌^◌, ◌+◌, IfOk, IfSome};
 ghost use Rattle.vax_asm_encode.specs.Operands.{width_of};
-ghost use Rattle.vax_asm_encode.specs.Fields.{literal, number, half, displacement, distance, reached, outright, relocated, displacement_reloc, relative_reloc, address, relative, filled};
+ghost use Rattle.vax_asm_encode.specs.Fields.{literal, number, signed, half, displacement, distance, reached, outright, relocated, displacement_reloc, relative_reloc, address, relative, filled};
 ghost use Rattle.vax_asm_encode.specs.Bytes.{Holds, Extends};
 ghost use Rattle.vax_word.specs.Arithmetic.{modulus};
 
@@ -62,6 +62,24 @@ fn number(size: Size, value: i64) -> Option<u64>
     let magnitude = value.unsigned_abs();
     if value >= 0 {
         if magnitude <= greatest {
+            Some(magnitude)
+        } else {
+            None
+        }
+    } else if magnitude <= greatest / 2 + 1 {
+        Some(greatest - (magnitude - 1))
+    } else {
+        None
+    }
+}
+
+fn signed(size: Size, value: i64) -> Option<u64>
+    ensures { result ≡ signed size value }
+{
+    let greatest = greatest(size);
+    let magnitude = value.unsigned_abs();
+    if value >= 0 {
+        if magnitude <= greatest / 2 {
             Some(magnitude)
         } else {
             None
@@ -214,6 +232,8 @@ pub fn fill(field: Field, section: u32, at: u32, value: Value) -> Result<Filled,
         (Field::Literal, _) => Err(FieldFault::Form),
         (Field::Number(size), Value::Absolute(value)) => outright(number(size, value)),
         (Field::Number(size), _) => address(size),
+        (Field::Signed(size), Value::Absolute(value)) => outright(signed(size, value)),
+        (Field::Signed(_), _) => Err(FieldFault::Form),
         (Field::Displacement(size), Value::Absolute(value)) => outright(displacement(size, value)),
         (Field::Displacement(size), _) => relocated(displacement_reloc(size)),
         (Field::Relative(size), value) => relative(size, section, at, value),

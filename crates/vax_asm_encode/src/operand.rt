@@ -3,7 +3,7 @@
 ghost use Rattle.std.specs.Prelude.{◌≡◌, ◌≤◌};
 ghost use Rattle.vax_flat.specs.Operand.{is_result};
 ghost use Rattle.vax_flat.specs.Grammar.{is_read, takes_register};
-ghost use Rattle.vax_asm_encode.specs.Operands.{data_size, branch_size, base_field, field_of, base_stands, takes_index, may_stand, takes_branch};
+ghost use Rattle.vax_asm_encode.specs.Operands.{item_size, item_field, data_size, branch_size, base_field, field_of, base_stands, takes_index, may_stand, takes_branch};
 
 use vax_isa::{Letter, Narrow, OperandKind};
 use vax_word::Size;
@@ -56,10 +56,42 @@ pub enum Field {
     Literal,
     /// A number of this size, with a sign or without.
     Number(Size),
+    /// A signed number of this size.
+    Signed(Size),
     /// A displacement of this size from a register: a signed number.
     Displacement(Narrow),
     /// A displacement of this size from the address just past the field.
     Relative(Narrow),
+}
+
+/// What an item of data is.
+#[derive(Clone, Copy, PartialEq, Eq)]
+pub enum DataKind {
+    /// A number of this size, with a sign or without.
+    Number(Size),
+    /// A signed number of this size.
+    Signed(Size),
+}
+
+impl DataKind {
+    /// The size of the item.
+    pub fn size(self) -> Size
+        ensures { result ≡ item_size self }
+    {
+        match self {
+            DataKind::Number(size) | DataKind::Signed(size) => size,
+        }
+    }
+
+    /// What holds its value.
+    pub fn field(self) -> Field
+        ensures { result ≡ item_field self }
+    {
+        match self {
+            DataKind::Number(size) => Field::Number(size),
+            DataKind::Signed(size) => Field::Signed(size),
+        }
+    }
 }
 
 /// The size of data of 1, 2, 4 or 8 bytes.

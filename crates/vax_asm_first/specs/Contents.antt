@@ -10,7 +10,7 @@ use Rattle.vax_asm_first.specs.declared.types.Content.TheVariants.{Data, Operand
 
 -- an operand where the grammar of operands reads it back
 abbrev pub IsSound : Content → Type 0
-IsSound (Data size count) = Unit {0}
+IsSound (Data kind count) = Unit {0}
 IsSound (Operand kind operand) = IsKind kind × (may_stand kind operand ≡ true)
 
 -- that is a fact
@@ -42,5 +42,5 @@ kind_prop : (kind : OperandKind) → IsProp (IsKind kind)
 kind_prop kind = Prim.hlevel (props, width_prop, branch_width_prop)
 
 pub sound_prop : (c : Content) → IsProp (IsSound c)
-sound_prop (Data size count) = Prim.hlevel props
+sound_prop (Data kind count) = Prim.hlevel props
 sound_prop (Operand kind operand) = Prim.hlevel (props, kind_prop)

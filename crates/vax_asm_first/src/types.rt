@@ -4,20 +4,19 @@ ghost use Rattle.std.specs.Prelude.{◌+◌, ◌<◌, ◌^◌};
 ghost use Rattle.vax_asm_first.specs.Contents.{IsSound, sound_prop};
 
 use thiserror::Error;
-use vax_asm_encode::Operand;
+use vax_asm_encode::{DataKind, Operand};
 use vax_asm_scope::Scope;
 use vax_asm_sections::Layout;
 use vax_asm_values::Expression;
 use vax_isa::OperandKind;
 use vax_lex::{ExprError, Value};
 use vax_macro::FaultKind;
-use vax_word::Size;
 
 /// What a value is filled into.
 #[derive(Clone, Copy, PartialEq, Eq)]
 pub enum Content {
-    /// An item of data of this size, so many times.
-    Data { size: Size, count: u32 },
+    /// An item of data of this kind, so many times.
+    Data { kind: DataKind, count: u32 },
     /// An operand of this kind.
     Operand { kind: OperandKind, operand: Operand },
 }

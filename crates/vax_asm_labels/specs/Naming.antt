@@ -2,6 +2,7 @@
 -- Manual, "Label field", "Direct assignment statement", `.PSECT`, `.ENTRY`, `.GLOBAL`, `.EXTERNAL` and `.END`).
 use Rattle.std.specs.Prelude.{ℕ, Bool, true, false, ◌==◌, not, if◌then◌else◌, List, [], ◌∷◌, ◌++◌, Option, Some, None, Result, Ok, Err, codes}
 use Rattle.std.specs.Str.{bytes_eq}
+use Rattle.vax_asm_encode.specs.declared.operand.DataKind.TheVariants.{Number}
 use Rattle.vax_asm_data.specs.Data.{item_stated, unless_none}
 use Rattle.vax_asm_sections.specs.Layout.{Sections, selected}
 use Rattle.vax_asm_sections.specs.declared.types.Attributes.{Attributes}
@@ -191,7 +192,7 @@ section_stated line tokens s = section_by line (parts tokens) s
 
 -- `.ENTRY`: a label for other modules, and a word that holds the mask
 abbrev pub entry_by : Site → List Token → Progress → Result Standing FaultKind
-entry_by site mask p = done (joined p.fault (item_stated size.W site (whole mask) p.standing))
+entry_by site mask p = done (joined p.fault (item_stated (Number size.W) site (whole mask) p.standing))
 
 abbrev pub entry_named : Site → Option (List ℕ) → List Token → Standing → Result Standing FaultKind
 entry_named site (Some name) mask s = entry_by site mask (after_change s (symbol_stated true name s))

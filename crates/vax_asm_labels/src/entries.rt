@@ -14,6 +14,7 @@ use crate::operands::name_of;
 use std::alloc::Global;
 use std::rc::Rc;
 use vax_asm_data::item;
+use vax_asm_encode::DataKind;
 use vax_asm_first::{FaultKind, Origin, Refused, Site, Standing, Transfer, lowest, site_of};
 use vax_asm_scope::Scope;
 use vax_asm_statement::parts;
@@ -48,7 +49,7 @@ fn state_entry(
     ensures { IfOk result (λ f. done_by f (standing_of standing.new) ≡ entry_named (site_seen site.entry) (Some name.now) mask.now (standing_of standing.old)) }
 {
     let fault = state_label(standing, alloc, name)?;
-    let found = item(standing, alloc, site, Size::W, mask)?;
+    let found = item(standing, alloc, site, DataKind::Number(Size::W), mask)?;
     Ok(lowest(fault, found))
 }
 

@@ -8,7 +8,9 @@ use Rattle.vax_asm_sections.specs.declared.types.Refusal.{Refusal}
 use Rattle.vax_lex.specs.declared.token.Token.{Token}
 use Rattle.vax_lex.specs.Grammar.{symbols_of}
 use Rattle.vax_macro.specs.declared.error.FaultKind.{FaultKind}
-use Rattle.vax_asm_encode.specs.declared.operand.Field.TheVariants.{Number}
+use Rattle.vax_asm_encode.specs.Operands.{item_field, item_size}
+use Rattle.vax_asm_encode.specs.declared.operand.DataKind.{DataKind}
+use Rattle.vax_asm_encode.specs.declared.operand.DataKind.TheVariants.{Number}
 use Rattle.vax_asm_first.specs.Faults.{fault_of_value, unless_place}
 use Rattle.vax_asm_first.specs.Fixups.{Filling, Fixup, filling_by}
 use Rattle.vax_asm_first.specs.Progress.{Progress, Site, added, after_change, begun, counted, done, done_by, joined, site_of}
@@ -56,24 +58,24 @@ done_goes s t p h e = subst (λ (x : Standing). Goes s x) (done_is p.fault p.sta
 
 -- ---- items
 
-fixed_goes : (k : Size) (site : Site) (n : ℕ) (filling : Filling) (s : Standing) → IsCounted s → Goes s (fixed k site n filling s).standing
+fixed_goes : (k : DataKind) (site : Site) (n : ℕ) (filling : Filling) (s : Standing) → IsCounted s → Goes s (fixed k site n filling s).standing
 fixed_goes k site n filling s c =
-    added_goes (bytes_of k * n) (Field (record { origin = site.origin; at = (current_of s.sections).size; content = Data k n; filling = filling })) s c (data_length k n 0 ∙ mul_comm n (bytes_of k)) refl
+    added_goes (bytes_of (item_size k) * n) (Field (record { origin = site.origin; at = (current_of s.sections).size; content = Data k n; filling = filling })) s c (data_length (item_size k) n 0 ∙ mul_comm n (bytes_of (item_size k))) refl
 
-placed_goes : (k : Size) (site : Site) (f : Option FaultKind) (n : Result ℕ FaultKind) (filling : Filling) (s : Standing) → IsCounted s → Goes s (placed_item k site f n filling s).standing
+placed_goes : (k : DataKind) (site : Site) (f : Option FaultKind) (n : Result ℕ FaultKind) (filling : Filling) (s : Standing) → IsCounted s → Goes s (placed_item k site f n filling s).standing
 placed_goes k site None (Ok n) filling s c = fixed_goes k site n filling s c
 placed_goes k site (Some kind) (Ok n) filling s c = step_same s.sections c
 placed_goes k site None (Err kind) filling s c = step_same s.sections c
 placed_goes k site (Some other) (Err kind) filling s c = step_same s.sections c
 
-pub item_goes : (k : Size) (site : Site) (item : Item) (s : Standing) → IsCounted s → Goes s (item_stated k site item s).standing
+pub item_goes : (k : DataKind) (site : Site) (item : Item) (s : Standing) → IsCounted s → Goes s (item_stated k site item s).standing
 item_goes k site item s c =
     let symbols = symbols_of site.line item.expression in
     let t = told site.here symbols s.scope in
     let n = counted site item.count t.scope in
-    placed_goes k site (unless_place (uses_place symbols) (fault_of_value (Number k) 0 0 t.settled)) n.number (filling_by t.value t.written) (with_scope n.scope s) c
+    placed_goes k site (unless_place (uses_place symbols) (fault_of_value (item_field k) 0 0 t.settled)) n.number (filling_by t.value t.written) (with_scope n.scope s) c
 
-items_go : (k : Size) (site : Site) (items : List Item) (p : Progress) → IsCounted p.standing → Goes p.standing (items_stated k site items p).standing
+items_go : (k : DataKind) (site : Site) (items : List Item) (p : Progress) → IsCounted p.standing → Goes p.standing (items_stated k site items p).standing
 items_go k site [] p c = step_same p.standing.sections c
 items_go k site (item ∷ items) p c =
     let one : Progress = item_stated k site item p.standing in
@@ -88,7 +90,7 @@ unless_none_is (x ∷ tokens) r t e = e
 pub unless_none_goes : (tokens : List Token) (r : Result Standing FaultKind) (s t : Standing) → (r ≡ Ok t → Goes s t) → unless_none tokens r ≡ Ok t → Goes s t
 unless_none_goes tokens r s t h e = h (unless_none_is tokens r t e)
 
-pub data_goes : (k : Size) (origin : Origin) (line : List ℕ) (tokens : List Token) (s t : Standing) → IsCounted s → data_stated k origin line tokens s ≡ Ok t → Goes s t
+pub data_goes : (k : DataKind) (origin : Origin) (line : List ℕ) (tokens : List Token) (s t : Standing) → IsCounted s → data_stated k origin line tokens s ≡ Ok t → Goes s t
 unfolding data_stated
 data_goes k origin line tokens s t c e =
     let p : Progress = items_stated k (site_of origin line s) (map item_of (parts tokens)) (begun s) in
@@ -97,14 +99,14 @@ data_goes k origin line tokens s t c e =
 pub addresses_go : (origin : Origin) (line : List ℕ) (tokens : List Token) (s t : Standing) → IsCounted s → addresses_stated origin line tokens s ≡ Ok t → Goes s t
 unfolding addresses_stated
 addresses_go origin line tokens s t c e =
-    let p : Progress = items_stated size.L (site_of origin line s) (map whole (parts tokens)) (begun s) in
-    unless_none_goes tokens (done p) s t (done_goes s t p (items_go size.L (site_of origin line s) (map whole (parts tokens)) (begun s) c)) e
+    let p : Progress = items_stated (Number size.L) (site_of origin line s) (map whole (parts tokens)) (begun s) in
+    unless_none_goes tokens (done p) s t (done_goes s t p (items_go (Number size.L) (site_of origin line s) (map whole (parts tokens)) (begun s) c)) e
 
 -- ---- texts
 
 piece_goes : (site : Site) (piece : Piece) (s : Standing) → IsCounted s → Goes s (piece_stated site piece s).standing
 piece_goes site (Characters x) s c = added_goes (length (characters_of site.line x)) (Bytes (characters_of site.line x)) s c refl tt
-piece_goes site (ByteValue tokens) s c = item_goes size.B site (whole tokens) s c
+piece_goes site (ByteValue tokens) s c = item_goes (Number size.B) site (whole tokens) s c
 
 pieces_go : (site : Site) (pieces : List Piece) (p : Progress) → IsCounted p.standing → Goes p.standing (pieces_stated site pieces p).standing
 pieces_go site [] p c = step_same p.standing.sections c

@@ -20,6 +20,7 @@ use Rattle.vax_asm_statement.specs.Parts.{parts}
 use Rattle.vax_asm_statement.specs.declared.reading.Label.{Label}
 use Rattle.vax_asm_values.specs.Values.{Written}
 use Rattle.vax_word.specs.declared.Size.TheVariants as size
+use Rattle.vax_asm_encode.specs.declared.operand.DataKind.TheVariants.{Number}
 use Rattle.vax_asm_data.specs.Data.{item_stated}
 use Rattle.vax_asm_laws.proofs.Counting.{Step, select_step, step_same, step_then}
 use Rattle.vax_asm_laws.proofs.Data.{Goes, IsCounted, after_change_goes, done_goes, item_goes, unless_none_goes}
@@ -109,9 +110,9 @@ section_goes line tokens s t c e = sections_by line (parts tokens) s t c e
 entry_goes_by : (site : Site) (name : Option (List ℕ)) (mask : List Token) (s t : Standing) → IsCounted s → entry_named site name mask s ≡ Ok t → Goes s t
 entry_goes_by site (Some name) mask s t c e =
     let first : Progress = after_change s (symbol_stated true name s) in
-    let second : Progress = item_stated size.W site (whole mask) first.standing in
+    let second : Progress = item_stated (Number size.W) site (whole mask) first.standing in
     let a : Goes s first.standing = after_change_goes s (symbol_stated true name s) c (λ u made. symbol_goes true name s u c made) in
-    done_goes s t (joined first.fault second) (step_then s.sections first.standing.sections second.standing.sections a (item_goes size.W site (whole mask) first.standing a.counted)) e
+    done_goes s t (joined first.fault second) (step_then s.sections first.standing.sections second.standing.sections a (item_goes (Number size.W) site (whole mask) first.standing a.counted)) e
 entry_goes_by site None mask s t c e = cc
 
 two_goes : (found : List (List Token)) (stated : List Token → List Token → Result Standing FaultKind) (s t : Standing) → ((x y : List Token) → stated x y ≡ Ok t → Goes s t) → two_alone found stated ≡ Ok t → Goes s t

@@ -27,7 +27,7 @@ use Rattle.vax_asm_laws.proofs.Operands.{instruction_goes}
 directed_goes : (d : Directive) (origin : Origin) (line : List ℕ) (tokens : List Token) (s t : Standing) → IsCounted s → directed d origin line tokens s ≡ Ok t → Goes s t
 directed_goes directive.Section origin line tokens s t c e = section_goes line tokens s t c e
 directed_goes directive.Entry origin line tokens s t c e = entry_goes origin line tokens s t c e
-directed_goes (directive.Data size) origin line tokens s t c e = data_goes size origin line tokens s t c e
+directed_goes (directive.Data kind) origin line tokens s t c e = data_goes kind origin line tokens s t c e
 directed_goes directive.Address origin line tokens s t c e = addresses_go origin line tokens s t c e
 directed_goes directive.Text origin line tokens s t c e = text_goes Plain origin line tokens s t c e
 directed_goes directive.CountedText origin line tokens s t c e = text_goes Counted_first origin line tokens s t c e

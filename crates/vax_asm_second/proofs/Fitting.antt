@@ -20,8 +20,8 @@ use Rattle.vax_module.specs.Formed.{width_of as reloc_width}
 use Rattle.vax_module.specs.declared.RelocKind.{RelocKind}
 use Rattle.vax_asm_encode.specs.Bytes.{low_bytes, place_bytes, operand_bytes, Extends, HoldsIn, bytes_of as specifier_bytes}
 use Rattle.vax_asm_encode.proofs.Extending.{extends_low}
-use Rattle.vax_asm_encode.specs.Fields.{filled, literal, number, displacement, outright, relocated, displacement_reloc, relative_reloc, reached, distance, address}
-use Rattle.vax_asm_encode.specs.Operands.{width_of, field_of, base_field, data_size, branch_size, place_of, may_stand, takes_branch}
+use Rattle.vax_asm_encode.specs.Fields.{filled, literal, number, signed, displacement, outright, relocated, displacement_reloc, relative_reloc, reached, distance, address}
+use Rattle.vax_asm_encode.specs.Operands.{width_of, field_of, item_field, item_size, base_field, data_size, branch_size, place_of, may_stand, takes_branch}
 use Rattle.vax_asm_encode.specs.declared.filling.Filled.{Filled}
 use Rattle.vax_asm_encode.specs.declared.filling.FieldFault.{FieldFault}
 use Rattle.vax_asm_encode.specs.declared.operand.Base.{Base}
@@ -30,6 +30,8 @@ use Rattle.vax_asm_encode.specs.declared.operand.Operand.{Operand}
 use Rattle.vax_asm_encode.specs.declared.operand.Operand.TheVariants as operand
 use Rattle.vax_asm_encode.specs.declared.operand.Field.{Field}
 use Rattle.vax_asm_encode.specs.declared.operand.Field.TheVariants as field
+use Rattle.vax_asm_encode.specs.declared.operand.DataKind.{DataKind}
+use Rattle.vax_asm_encode.specs.declared.operand.DataKind.TheVariants as data_kind
 use Rattle.vax_asm_second.specs.Contents.{specifiers}
 use Rattle.vax_asm_second.specs.Laid.{link_to, holding, held}
 use Rattle.vax_asm_second.specs.declared.types.Held.{Held}
@@ -39,6 +41,7 @@ use Rattle.vax_asm_second.specs.declared.types.Link.{Link}
 abbrev pub field_width : Field → ℕ
 field_width field.Literal = 0
 field_width (field.Number s) = bytes_of s
+field_width (field.Signed s) = bytes_of s
 field_width (field.Displacement s) = width_of s
 field_width (field.Relative s) = width_of s
 
@@ -82,6 +85,9 @@ reloc_fits field.Literal section at (value.External i offset) r kind e k = cc
 reloc_fits (field.Number s) section at (value.Absolute n) r kind e k = absurd (not_outright (number s n) r kind e k)
 reloc_fits (field.Number s) section at (value.Section i offset) r kind e k = number_width s r kind e k
 reloc_fits (field.Number s) section at (value.External i offset) r kind e k = number_width s r kind e k
+reloc_fits (field.Signed s) section at (value.Absolute n) r kind e k = absurd (not_outright (signed s n) r kind e k)
+reloc_fits (field.Signed s) section at (value.Section i offset) r kind e k = cc
+reloc_fits (field.Signed s) section at (value.External i offset) r kind e k = cc
 reloc_fits (field.Displacement s) section at (value.Absolute n) r kind e k = absurd (not_outright (displacement s n) r kind e k)
 reloc_fits (field.Displacement s) section at (value.Section i offset) r kind e k = told_width (displacement_reloc s) kind r (width_of s) e k (displaced_width s)
 reloc_fits (field.Displacement s) section at (value.External i offset) r kind e k = told_width (displacement_reloc s) kind r (width_of s) e k (displaced_width s)
@@ -155,8 +161,9 @@ operand_fits kind (operand.Indexed b x) f n k h e = omega (arith, base_fits b f 
 operand_fits kind operand.Branch f n k h e =
     omega (arith, some_width f (field.Relative (branch_size kind.width)) e, branch_width kind.width (k.branch (is_branch kind.letter h)), length_low kind.width n)
 
-pub data_fits : (s : Size) (f : Field) → Some (field.Number s) ≡ Some f → field_width f ≡ bytes_of s
-data_fits s f e = some_width f (field.Number s) e
+pub data_fits : (d : DataKind) (f : Field) → Some (item_field d) ≡ Some f → field_width f ≡ bytes_of (item_size d)
+data_fits (data_kind.Number s) f e = some_width f (field.Number s) e
+data_fits (data_kind.Signed s) f e = some_width f (field.Signed s) e
 
 pub data_length : (s : Size) (count n : ℕ) → length (repeat count (low_bytes (bytes_of s) n)) ≡ count * bytes_of s
 data_length s zero n = omega arith
@@ -180,5 +187,6 @@ pub zero_holds : (o : Option Field) → HoldsIn o 0
 zero_holds None = tt
 zero_holds (Some field.Literal) = lit< tt
 zero_holds (Some (field.Number s)) = zero_fits s
+zero_holds (Some (field.Signed s)) = zero_fits s
 zero_holds (Some (field.Displacement s)) = zero_extends s
 zero_holds (Some (field.Relative s)) = zero_extends s

@@ -3,9 +3,8 @@
 use Rattle.std.specs.Prelude.{ℕ, zero, suc, ◌+◌, List, [], ◌∷◌, Option, Some}
 use Rattle.std.specs.List.{repeat}
 use Rattle.vax_asm_encode.specs.Bytes.{low_bytes, operand_bytes}
-use Rattle.vax_asm_encode.specs.Operands.{field_of}
+use Rattle.vax_asm_encode.specs.Operands.{field_of, item_field, item_size}
 use Rattle.vax_asm_encode.specs.declared.operand.Field.{Field}
-use Rattle.vax_asm_encode.specs.declared.operand.Field.TheVariants.{Number}
 use Rattle.vax_asm_encode.specs.declared.operand.Operand.{Operand}
 use Rattle.vax_asm_encode.specs.declared.operand.Operand.TheVariants as operand
 use Rattle.vax_module.specs.declared.Reloc.{Reloc}
@@ -15,7 +14,7 @@ use Rattle.vax_word.specs.Arithmetic.{bytes_of}
 
 -- what holds the value
 abbrev pub field_in : Content → Option Field
-field_in (content.Data size count) = Some (Number size)
+field_in (content.Data kind count) = Some (item_field kind)
 field_in (content.Operand kind o) = field_of kind o
 
 -- how many bytes stand before those of the field: the specifier, and the index before it
@@ -28,12 +27,12 @@ specifiers operand.Immediate = 1
 specifiers (operand.Memory base) = 1
 
 abbrev pub before_field : Content → ℕ
-before_field (content.Data size count) = 0
+before_field (content.Data kind count) = 0
 before_field (content.Operand kind o) = specifiers o
 
 -- the bytes whose field holds a number
 abbrev pub bytes_in : Content → ℕ → List ℕ
-bytes_in (content.Data size count) number = repeat count (low_bytes (bytes_of size) number)
+bytes_in (content.Data kind count) number = repeat count (low_bytes (bytes_of (item_size kind)) number)
 bytes_in (content.Operand kind o) number = operand_bytes kind o number
 
 abbrev pub moved : ℕ → Reloc → Reloc
@@ -46,5 +45,5 @@ every (suc n) step r = r ∷ every n step (moved step r)
 
 -- the relocations of the fields, the first of which is this one
 abbrev pub relocs_in : Content → Reloc → List Reloc
-relocs_in (content.Data size count) r = every count (bytes_of size) r
+relocs_in (content.Data kind count) r = every count (bytes_of (item_size kind)) r
 relocs_in (content.Operand kind o) r = r ∷ []

@@ -18,7 +18,7 @@ pub(crate) fn field_in(content: Content) -> Option<Field>
     ensures { result ≡ field_in content }
 {
     match content {
-        Content::Data { size, .. } => Some(Field::Number(size)),
+        Content::Data { kind, .. } => Some(kind.field()),
         Content::Operand { kind, operand } => field_of(kind, operand),
     }
 }
@@ -68,8 +68,8 @@ pub(crate) fn write_content(
     ensures { OnOk result (out.new.items ≡ out.old.items ++ bytes_in content number) }
 {
     match content {
-        Content::Data { size, count } => {
-            write_data(out, size, count, number)?;
+        Content::Data { kind, count } => {
+            write_data(out, kind.size(), count, number)?;
             Ok(())
         }
         Content::Operand { kind, operand } => {
@@ -110,8 +110,8 @@ pub(crate) fn add_relocs(
     ensures { OnOk result (relocs.new.items ≡ relocs.old.items ++ relocs_in content first) }
 {
     match content {
-        Content::Data { size, count } => {
-            add_every(relocs, count, size.bytes(), first)?;
+        Content::Data { kind, count } => {
+            add_every(relocs, count, kind.size().bytes(), first)?;
             Ok(())
         }
         Content::Operand { kind, operand } => {

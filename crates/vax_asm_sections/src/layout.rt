@@ -1,22 +1,17 @@
 // The sections of a module while it is assembled.
 
-ghost use Rattle.std.specs.Prelude.{◌≡◌, ◌<◌, ◌≤◌, ◌+◌, ◌^◌, IfOk, OnOk, IfSome, None, length, map};
+ghost use Rattle.std.specs.Prelude.{◌≡◌, ◌<◌, ◌≤◌, ◌+◌, ◌^◌, IfOk, OnOk, OnErr, IfSome, None, Some, length, map};
+ghost use Rattle.vax_asm_names.specs.ByName.{by_name, with_entry};
 ghost use Rattle.vax_asm_sections.specs.Layout.{gap, differs, differs_in_write, conflicts, exceeds, longer, raised, at_first, current_of, with_part, with_raised, put, aligned, numbered, made, gone_back, begun, selected};
 ghost use Rattle.vax_asm_sections.specs.View.{part_of, section_of, sections_of, Leaves};
-ghost use Rattle.std.specs.Str.{bytes_eq};
 
 use crate::types::{Attributes, Building, Layout, Piece, Refusal};
 use std::alloc::{AllocError, AllocFailed, Global};
+use std::collections::BTreeMap;
 
 const SECTION_LIMIT: u64 = 1_048_576;
 
 const MODULE_LIMIT: u64 = 16_777_216;
-
-fn named<F>(section: &Building<F>, name: &[u8]) -> bool
-    ensures { result ≡ bytes_eq section.now.name.items name.now }
-{
-    section.name.as_slice() == name
-}
 
 /// The bytes up to the next multiple of a power of two.
 fn gap(size: u32, align: u8) -> u32
@@ -73,7 +68,8 @@ fn is_too_long(size: u32, total: u32, more: u32) -> bool
 impl<F> Building<F> {
     fn add(&mut self, more: u32, piece: Piece<F>) -> Result<(), AllocFailed<Piece<F>>>
         requires { self.old.size + more ≤ 1048576 }
-        ensures { OnOk result (section_of self.new ≡ longer more (part_of piece) (section_of self.old)) }
+        ensures longer { OnOk result (section_of self.new ≡ longer more (part_of piece) (section_of self.old)) }
+        ensures named { self.new.name ≡ self.old.name }
     {
         self.pieces.push(piece)?;
         self.size += more;
@@ -103,6 +99,27 @@ fn made<F>(alloc: Global, name: Vec<u8>, attributes: Attributes) -> Building<F>
     }
 }
 
+fn copied(alloc: Global, name: &[u8]) -> Result<Vec<u8>, AllocError>
+    ensures { IfOk result (λ v. v.items ≡ name.now) }
+{
+    name.to_vec(alloc)
+}
+
+/// A name gets its number.
+fn add_number(
+    alloc: Global,
+    numbers: &mut BTreeMap<Vec<u8>, usize>,
+    name: &[u8],
+    number: usize,
+) -> Result<(), AllocError>
+    ensures added { OnOk result (by_name numbers.new ≡ with_entry name.now (Some number) (by_name numbers.old)) }
+    ensures kept { OnErr result (by_name numbers.new ≡ by_name numbers.old) }
+{
+    let name = copied(alloc, name)?;
+    numbers.insert(name, number)?;
+    Ok(())
+}
+
 impl<F> Layout<F> {
     /// The section without a name alone.
     pub fn new(alloc: Global) -> Result<Layout<F>, AllocError>
@@ -118,8 +135,11 @@ impl<F> Layout<F> {
             size: 0,
             pieces: Vec::new(alloc),
         };
+        let mut numbers = BTreeMap::new(alloc);
+        add_number(alloc, &mut numbers, &[], 0)?;
         Ok(Layout {
             sections: vec![in alloc; unnamed]?,
+            numbers,
             current: 0,
             total: 0,
         })
@@ -203,12 +223,7 @@ impl<F> Layout<F> {
         ensures number { result ≡ numbered 0 name.now (sections_of self.now).all }
         ensures within { IfSome result (λ i. i < length self.now.sections.items) }
     {
-        for (i, section) in self.sections.iter().enumerate() {
-            if named(section, name) {
-                return Some(i);
-            }
-        }
-        None
+        self.numbers.get(name).copied()
     }
 
     /// Goes back to a section.
@@ -229,13 +244,19 @@ impl<F> Layout<F> {
     fn begin(&mut self, alloc: Global, name: &[u8], attributes: Attributes) -> Result<(), Refusal>
     where
         F: Drop,
-        requires { IfSome attributes.align (λ k. k ≤ 9) }
+        requires align { IfSome attributes.align (λ k. k ≤ 9) }
+        requires new { numbered 0 name.now (sections_of self.old).all ≡ None }
         ensures { Leaves result self.old self.new (begun name.now attributes (sections_of self.old) None) }
     {
-        let name = name.to_vec(alloc).map_err(|_| Refusal::NoMemory)?;
-        let section = made(alloc, name, attributes);
+        let number = self.sections.len();
+        let copy = copied(alloc, name).map_err(|_| Refusal::NoMemory)?;
+        let section = made(alloc, copy, attributes);
         self.sections.push(section).map_err(|_| Refusal::NoMemory)?;
-        self.current = self.sections.len() - 1;
+        if add_number(alloc, &mut self.numbers, name, number).is_err() {
+            self.sections.pop();
+            return Err(Refusal::NoMemory);
+        }
+        self.current = number;
         Ok(())
     }
 

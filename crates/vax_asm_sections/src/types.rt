@@ -1,7 +1,10 @@
 // What the sections are built of.
 
-ghost use Rattle.std.specs.Prelude.{◌<◌, ◌≤◌, length};
+ghost use Rattle.std.specs.Prelude.{◌≡◌, ◌<◌, ◌≤◌, ℕ, List, length, map};
+ghost use Rattle.vax_asm_names.specs.ByName.{by_name};
+ghost use Rattle.vax_asm_sections.specs.Numbers.{placed};
 
+use std::collections::BTreeMap;
 use thiserror::Error;
 
 /// What a section holds, one behind another.
@@ -56,7 +59,10 @@ pub enum Refusal {
 #[derive(Drop)]
 pub struct Layout<F> {
     pub(crate) sections: Vec<Building<F>>,
+    /// The number of each section, by its name.
+    pub(crate) numbers: BTreeMap<Vec<u8>, usize>,
     pub(crate) current: usize,
     pub(crate) total: u32,
     pub ghost in_range: { current < length sections.items },
+    pub ghost known: { (name : List ℕ) → by_name numbers name ≡ placed 0 name (map (λ section. section.name.items) sections.items) },
 }

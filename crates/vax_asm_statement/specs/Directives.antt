@@ -2,6 +2,7 @@
 use Rattle.std.specs.Prelude.{ℕ, true, false, List, [], ◌∷◌, Option, Some, None, codes, if◌then◌else◌}
 use Rattle.std.specs.Str.{str_eq_ignore_ascii_case}
 use Rattle.vax_word.specs.declared.Size.TheVariants as size
+use Rattle.vax_asm_encode.specs.declared.operand.DataKind.TheVariants.{Number, Signed}
 use Rattle.vax_asm_statement.specs.declared.directives.Directive.{Directive}
 use Rattle.vax_asm_statement.specs.declared.directives.Directive.TheVariants.{Section, Entry, Data, Address, Text, CountedText, ZeroText, Space, Align, Even, Global, External, Listing, End}
 use Rattle.vax_asm_statement.specs.declared.directives.Named.{Named}
@@ -13,10 +14,12 @@ abbrev pub directives : List (List ℕ × Directive)
 directives =
     (codes ".PSECT", Section)
     ∷ (codes ".ENTRY", Entry)
-    ∷ (codes ".BYTE", Data size.B)
-    ∷ (codes ".WORD", Data size.W)
-    ∷ (codes ".LONG", Data size.L)
-    ∷ (codes ".QUAD", Data size.Q)
+    ∷ (codes ".BYTE", Data (Number size.B))
+    ∷ (codes ".WORD", Data (Number size.W))
+    ∷ (codes ".LONG", Data (Number size.L))
+    ∷ (codes ".QUAD", Data (Number size.Q))
+    ∷ (codes ".SIGNED_BYTE", Data (Signed size.B))
+    ∷ (codes ".SIGNED_WORD", Data (Signed size.W))
     ∷ (codes ".ADDRESS", Address)
     ∷ (codes ".ASCII", Text)
     ∷ (codes ".ASCIC", CountedText)
@@ -24,6 +27,7 @@ directives =
     ∷ (codes ".BLKB", Space size.B)
     ∷ (codes ".BLKW", Space size.W)
     ∷ (codes ".BLKL", Space size.L)
+    ∷ (codes ".BLKA", Space size.L)
     ∷ (codes ".BLKQ", Space size.Q)
     ∷ (codes ".ALIGN", Align)
     ∷ (codes ".EVEN", Even)
@@ -33,6 +37,7 @@ directives =
     ∷ (codes ".EXTRN", External)
     ∷ (codes ".TITLE", Listing)
     ∷ (codes ".SBTTL", Listing)
+    ∷ (codes ".SUBTITLE", Listing)
     ∷ (codes ".IDENT", Listing)
     ∷ (codes ".PAGE", Listing)
     ∷ (codes ".LIST", Listing)

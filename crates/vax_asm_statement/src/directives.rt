@@ -4,6 +4,7 @@ ghost use Rattle.std.specs.Prelude.{◌≡◌, map};
 ghost use Rattle.std.specs.Str.{str_eq_ignore_ascii_case};
 ghost use Rattle.vax_asm_statement.specs.Directives.{directives, directive_of, named, first_directive, attributes, attribute_of, named_attribute, first_attribute};
 
+use vax_asm_encode::DataKind;
 use vax_word::Size;
 
 /// What a directive does (VAX MACRO and Instruction Set Reference Manual, "VAX MACRO assembler directives"). The directives of
@@ -14,8 +15,8 @@ pub enum Directive {
     Section,
     /// `.ENTRY name,mask`.
     Entry,
-    /// `.BYTE`, `.WORD`, `.LONG`, `.QUAD`: items of this size.
-    Data(Size),
+    /// `.BYTE`, `.WORD`, `.LONG`, `.QUAD`, `.SIGNED_BYTE`, `.SIGNED_WORD`: items of this kind.
+    Data(DataKind),
     /// `.ADDRESS`: addresses.
     Address,
     /// `.ASCII`: pieces of text.
@@ -24,7 +25,7 @@ pub enum Directive {
     CountedText,
     /// `.ASCIZ`: a zero byte last.
     ZeroText,
-    /// `.BLKB`, `.BLKW`, `.BLKL`, `.BLKQ`: room for so many of this size.
+    /// `.BLKB`, `.BLKW`, `.BLKL`, `.BLKA`, `.BLKQ`: room for so many of this size.
     Space(Size),
     /// `.ALIGN`: up to a multiple of a power of two.
     Align,
@@ -34,7 +35,7 @@ pub enum Directive {
     Global,
     /// `.EXTERNAL`, `.EXTRN`: names of other modules.
     External,
-    /// `.TITLE`, `.SBTTL`, `.IDENT`, `.PAGE`, `.LIST`, `.NLIST`, `.SHOW`, `.NOSHOW`: nothing in the module.
+    /// `.TITLE`, `.SBTTL`, `.SUBTITLE`, `.IDENT`, `.PAGE`, `.LIST`, `.NLIST`, `.SHOW`, `.NOSHOW`: nothing in the module.
     Listing,
     /// `.END`: where the program begins.
     End,
@@ -47,13 +48,15 @@ struct Named {
 }
 
 #[rattlefmt::skip]
-static DIRECTIVES: [Named; 29] = [
+static DIRECTIVES: [Named; 33] = [
     Named { name: ".PSECT", directive: Directive::Section },
     Named { name: ".ENTRY", directive: Directive::Entry },
-    Named { name: ".BYTE", directive: Directive::Data(Size::B) },
-    Named { name: ".WORD", directive: Directive::Data(Size::W) },
-    Named { name: ".LONG", directive: Directive::Data(Size::L) },
-    Named { name: ".QUAD", directive: Directive::Data(Size::Q) },
+    Named { name: ".BYTE", directive: Directive::Data(DataKind::Number(Size::B)) },
+    Named { name: ".WORD", directive: Directive::Data(DataKind::Number(Size::W)) },
+    Named { name: ".LONG", directive: Directive::Data(DataKind::Number(Size::L)) },
+    Named { name: ".QUAD", directive: Directive::Data(DataKind::Number(Size::Q)) },
+    Named { name: ".SIGNED_BYTE", directive: Directive::Data(DataKind::Signed(Size::B)) },
+    Named { name: ".SIGNED_WORD", directive: Directive::Data(DataKind::Signed(Size::W)) },
     Named { name: ".ADDRESS", directive: Directive::Address },
     Named { name: ".ASCII", directive: Directive::Text },
     Named { name: ".ASCIC", directive: Directive::CountedText },
@@ -61,6 +64,7 @@ static DIRECTIVES: [Named; 29] = [
     Named { name: ".BLKB", directive: Directive::Space(Size::B) },
     Named { name: ".BLKW", directive: Directive::Space(Size::W) },
     Named { name: ".BLKL", directive: Directive::Space(Size::L) },
+    Named { name: ".BLKA", directive: Directive::Space(Size::L) },
     Named { name: ".BLKQ", directive: Directive::Space(Size::Q) },
     Named { name: ".ALIGN", directive: Directive::Align },
     Named { name: ".EVEN", directive: Directive::Even },
@@ -70,6 +74,7 @@ static DIRECTIVES: [Named; 29] = [
     Named { name: ".EXTRN", directive: Directive::External },
     Named { name: ".TITLE", directive: Directive::Listing },
     Named { name: ".SBTTL", directive: Directive::Listing },
+    Named { name: ".SUBTITLE", directive: Directive::Listing },
     Named { name: ".IDENT", directive: Directive::Listing },
     Named { name: ".PAGE", directive: Directive::Listing },
     Named { name: ".LIST", directive: Directive::Listing },
@@ -79,7 +84,7 @@ static DIRECTIVES: [Named; 29] = [
     Named { name: ".END", directive: Directive::End },
 ];
 
-fn all_directives() -> &'static [Named; 29]
+fn all_directives() -> &'static [Named; 33]
     ensures { map named result.now ≡ directives }
 {
     &DIRECTIVES

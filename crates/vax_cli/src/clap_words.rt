@@ -107,7 +107,7 @@ fn value_and_help<'a>(key: Key) -> (&'a str, &'a str) {
         ),
         Key::Script => (
             "FILE",
-            "The lines of the session: EXAMINE, DEPOSIT, NEXT and CONTINUE",
+            "The lines of the session: EXAMINE, DEPOSIT, NEXT, CONTINUE and SHOW",
         ),
         Key::Seed => (
             "N",

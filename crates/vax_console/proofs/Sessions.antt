@@ -8,7 +8,7 @@ use Rattle.vax_flat.specs.Step.{Flat}
 use Rattle.vax_machine.specs.Machine.{Means}
 use Rattle.vax_machine.specs.declared.engine.Engine.{Engine}
 use Rattle.vax_machine.specs.declared.event.Limits.{Limits}
-use Rattle.vax_script.specs.Lines.{Text, lines}
+use Rattle.vax_lines.specs.Lines.{Text, lines}
 use Rattle.vax_script.specs.Requests.{line_of, readings}
 use Rattle.vax_script.specs.declared.request.Line.{Line}
 use Rattle.vax_script.specs.declared.request.Line.TheVariants.{Blank, Request as Asks, Malformed}

@@ -15,10 +15,11 @@ use crate::requests::{
 };
 use crate::runs::{next, proceed};
 use crate::stopped::Stopped;
+use vax_lines::next_line;
 use vax_machine::{Limits, Machine};
 use vax_outside::{PageFile, Sink};
 use vax_sched::Schedule;
-use vax_script::{Line, Request, next_line, read_line};
+use vax_script::{Line, Request, read_line};
 
 /// Does what a request asks for, and replies.
 #[tactic(auto, unfolding(vax_script::specs::Requests::IsProper))]

@@ -88,7 +88,7 @@ IsAsBefore (Absent page) old before new after = (flat_of new [] [] ≡ flat_of o
 IsAsBefore (Ended e) old before new after =
     (flat_of new [] [] ≡ record (flat_of old [] []) { core = start_by old.latch old.core }) × (after ≡ with_marks before after.marked)
 
--- the interval clock counts milliseconds up to 999, now and at the start of the string instruction that is open
+-- the interval clock counts completed steps up to 999, now and at the start of the string instruction that is open
 abbrev pub KeepsTime : Cpu → Type 0
 KeepsTime cpu = (cpu.core.clock ≤ 999) × IfSome cpu.latch (λ latched. latched.start.clock ≤ 999)
 

@@ -23,7 +23,7 @@ use Rattle.vax_asm_encode.specs.declared.operand.Operand.{Operand}
 use Rattle.vax_asm_encode.specs.declared.operand.Field.{Field}
 use Rattle.vax_asm_encode.specs.declared.operand.Field.TheVariants as field
 use Rattle.vax_asm_encode.specs.Operands.{width_of, field_of, may_stand, takes_branch, specifier_of}
-use Rattle.vax_asm_encode.specs.Fields.{filled, literal, number, displacement, half, reached, outright, relative, relocated, relative_reloc, distance, address}
+use Rattle.vax_asm_encode.specs.Fields.{filled, literal, number, signed, displacement, half, reached, outright, relative, relocated, relative_reloc, distance, address}
 use Rattle.vax_asm_encode.specs.Bytes.{Holds, HoldsIn, IsReadBack, operand_bytes}
 use Rattle.vax_asm_encode.proofs.Extending.{extends_low, extends_high}
 use Rattle.vax_asm_encode.proofs.Standing.{reads_back}
@@ -64,6 +64,16 @@ number_holds size.W (negsuc n) k e = let g = given (nat_lt n 32768) (65536 - suc
 number_holds size.L (negsuc n) k e = let g = given (nat_lt n 2147483648) (4294967296 - suc n) k e in let same = g.1 in omega arith
 number_holds size.Q (negsuc n) k e = let g = given (nat_lt n 9223372036854775808) (18446744073709551616 - suc n) k e in let same = g.1 in omega arith
 
+signed_holds : (s : Size) (z : ℤ) (k : ℕ) → signed s z ≡ Some k → Holds (field.Signed s) k
+signed_holds size.B (pos n) k e = let g = given (nat_lt n 128) n k e in let l = less n 128 g.0 in let same = g.1 in omega arith
+signed_holds size.W (pos n) k e = let g = given (nat_lt n 32768) n k e in let l = less n 32768 g.0 in let same = g.1 in omega arith
+signed_holds size.L (pos n) k e = let g = given (nat_lt n 2147483648) n k e in let l = less n 2147483648 g.0 in let same = g.1 in omega arith
+signed_holds size.Q (pos n) k e = let g = given (nat_lt n 9223372036854775808) n k e in let l = less n 9223372036854775808 g.0 in let same = g.1 in omega arith
+signed_holds size.B (negsuc n) k e = number_holds size.B (negsuc n) k e
+signed_holds size.W (negsuc n) k e = number_holds size.W (negsuc n) k e
+signed_holds size.L (negsuc n) k e = number_holds size.L (negsuc n) k e
+signed_holds size.Q (negsuc n) k e = number_holds size.Q (negsuc n) k e
+
 half_small : (s : Narrow) → half s ≤ 2 ^ 31
 half_small narrow.B = omega arith
 half_small narrow.W = omega arith
@@ -102,6 +112,9 @@ holds field.Literal addr at (value.External i o) k e = absurd cc
 holds (field.Number s) addr at (value.Absolute z) k e = number_holds s z k (outright_is (number s z) k e)
 holds (field.Number s) addr at (value.Section t o) k e = absurd (address_none s k e)
 holds (field.Number s) addr at (value.External i o) k e = absurd (address_none s k e)
+holds (field.Signed s) addr at (value.Absolute z) k e = signed_holds s z k (outright_is (signed s z) k e)
+holds (field.Signed s) addr at (value.Section t o) k e = absurd cc
+holds (field.Signed s) addr at (value.External i o) k e = absurd cc
 holds (field.Displacement s) addr at (value.Absolute z) k e = displacement_holds s z k (outright_is (displacement s z) k e)
 holds (field.Displacement s) addr at (value.Section t o) k e = absurd cc
 holds (field.Displacement s) addr at (value.External i o) k e = absurd cc

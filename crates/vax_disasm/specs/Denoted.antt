@@ -41,6 +41,7 @@ place_at addr (value.External i offset) = value.External i offset
 abbrev pub as_place : (addr : ℕ) → Field → Value → Value
 as_place addr field.Literal v = v
 as_place addr (field.Number size) v = v
+as_place addr (field.Signed size) v = v
 as_place addr (field.Displacement size) v = v
 as_place addr (field.Relative size) v = place_at addr v
 

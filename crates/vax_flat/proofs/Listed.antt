@@ -36,7 +36,7 @@ use Rattle.vax_flat.specs.declared.Exception.TheVariants.{Privileged, Customer, 
 use Rattle.vax_flat.specs.State.{State, with_conditions, mode}
 use Rattle.vax_flat.specs.Accesses.{Accesses, Raises, Leaf}
 use Rattle.vax_flat.specs.Rows.{read_value, modify_value, write_place, address_value, branch_target, address_in, stored, settled, answered, carry_of}
-use Rattle.vax_flat.specs.Integer.{of_one, of_two, is_by_zero, rotated, unary, two, three, by_one, clear, test, compare, bit_test, shift, rotate, move_address, pushed_result, push_address, push, extended_multiply, extended_divide, subscript_flow, index_of, index, performed as integer_performed}
+use Rattle.vax_flat.specs.Integer.{of_one, of_two, is_by_zero, rotated, unary, two, three, by_one, clear, test_value, compare, bit_test, shift, rotate, move_address, pushed_result, push_address, push, extended_multiply, extended_divide, subscript_flow, index_of, index, performed as integer_performed}
 use Rattle.vax_flat.specs.Control.{holds, compares, jumped, jumped_if, branch, called, branch_subroutine, jump, jump_subroutine, return_subroutine, low_bit, looped, add_one, subtract_one, within, add_compare, chosen, case_of, performed as control_performed}
 use Rattle.vax_flat.specs.Field.{base_place, extracted, extract, compared_field, compare as compare_field, found, find_first, inserted as inserted_field, insert as insert_field, branched_on, branch as branch_on_bit, performed as field_performed}
 use Rattle.vax_flat.specs.Delivery.{change_mode}
@@ -120,7 +120,7 @@ of_controls (control.AddCompare size) xs s next =
 of_controls (control.Case size) xs s next = chosen (size_of size) (difference (size_of size) (value 0 xs) (value 1 xs) false).0 (value 2 xs) s next
 
 pub integer_takes : (i : Integer) (s : State) (next : Flow → State → Accesses Leaf) → integer_performed i s next ≡ next_operands (of_integer i) s (λ xs s. of_integers i xs s next)
-unfolding integer_performed unary two three by_one clear test compare bit_test shift rotate move_address push_address push extended_multiply extended_divide index read_value modify_value write_place address_value next_operands taken of_integers
+unfolding integer_performed unary two three by_one clear test_value compare bit_test shift rotate move_address push_address push extended_multiply extended_divide index read_value modify_value write_place address_value next_operands taken of_integers
 integer_takes (integer.Unary operation from to) s next = refl
 integer_takes (integer.Two operation size) s next = refl
 integer_takes (integer.Three operation size) s next = refl

@@ -95,8 +95,8 @@ clear size s next =
     answered (bytes_of size) destination false (answer size 0 false (carry_of s)) s next)
 
 -- TST
-unfoldable pub test : Size → State → (Flow → State → Accesses Leaf) → Accesses Leaf
-test size s next = read_value (bytes_of size) s (λ x s. settled false (answer size x false false).1 s next)
+unfoldable pub test_value : Size → State → (Flow → State → Accesses Leaf) → Accesses Leaf
+test_value size s next = read_value (bytes_of size) s (λ x s. settled false (answer size x false false).1 s next)
 
 -- CMP
 unfoldable pub compare : Size → State → (Flow → State → Accesses Leaf) → Accesses Leaf
@@ -194,7 +194,7 @@ performed (integer.Two operation size) s next = two operation (size_of size) s n
 performed (integer.Three operation size) s next = three operation (size_of size) s next
 performed (integer.ByOne operation size) s next = by_one operation (size_of size) s next
 performed (integer.Clear size) s next = clear size s next
-performed (integer.Test size) s next = test (size_of size) s next
+performed (integer.Test size) s next = test_value (size_of size) s next
 performed (integer.Compare size) s next = compare (size_of size) s next
 performed (integer.BitTest size) s next = bit_test (size_of size) s next
 performed (integer.Shift size) s next = shift size s next

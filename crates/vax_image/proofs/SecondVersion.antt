@@ -14,7 +14,8 @@ use Rattle.vax_image.specs.declared.Base.TheVariants.{Bare, User}
 use Rattle.vax_image.specs.declared.Image.{Image}
 use Rattle.vax_image.specs.declared.ImageError.{ImageError}
 use Rattle.vax_image.specs.declared.ImageError.TheVariants.{Fault}
-use Rattle.vax_image.specs.declared.TheConstants.{TEXT, LENGTH, NO_TEXT}
+use Rattle.vax_image.specs.Kinds.{wrong_text, wrong_length}
+use Rattle.vax_image.specs.Texts.{no_text}
 use Rattle.vax_image.specs.Image.{first_page, end_page, IsAreaFrom, AscendFrom}
 use Rattle.vax_image.specs.Texts.{Text, is_constant, is_shared, place_among, number_among, number_of, texts_with, texts_behind, texts_of}
 use Rattle.vax_image.specs.File.{word, longword, base_number, placing, counted, entry, text_field, numbered, fields_2}
@@ -28,9 +29,9 @@ use Rattle.vax_image.proofs.FirstVersion.{HasAreas, are_pages, bytes_small, end_
 pub text_takes : (c : Cursor) (x : List ℕ × Cursor) → IsBytes c.rest → text_at c ≡ Ok x → Takes c (counted x.0) x.1
 unfolding text_at
 text_takes c x fits e =
-    let a = bind_ok (number_at 4 c) (λ len. unless (eqb len.0 0 || ltb 16777216 len.0) c.place LENGTH len >>= λ sound. bytes_at sound.0 sound.1) x e in
-    let b = bind_ok (unless (eqb a.0.0 0 || ltb 16777216 a.0.0) c.place LENGTH a.0) (λ sound. bytes_at sound.0 sound.1) x a.2 in
-    let g = unless_ok (eqb a.0.0 0 || ltb 16777216 a.0.0) c.place LENGTH a.0 b.0 b.1 in
+    let a = bind_ok (number_at 4 c) (λ len. unless (eqb len.0 0 || ltb 16777216 len.0) c.place wrong_length len >>= λ sound. bytes_at sound.0 sound.1) x e in
+    let b = bind_ok (unless (eqb a.0.0 0 || ltb 16777216 a.0.0) c.place wrong_length a.0) (λ sound. bytes_at sound.0 sound.1) x a.2 in
+    let g = unless_ok (eqb a.0.0 0 || ltb 16777216 a.0.0) c.place wrong_length a.0 b.0 b.1 in
     let t0 = number_takes 4 wide4 c a.0 fits a.1 in
     let read : bytes_at a.0.0 a.0.1 ≡ Ok x = ap (λ (y : ℕ × Cursor). bytes_at y.0 y.1) g.1 ∙ b.2 in
     let t1 = bytes_take a.0.0 a.0.1 x t0.0.rest_fits read in
@@ -98,7 +99,7 @@ cond_false : {X : Type 0} (b : Bool) (x y : X) → b ≡ false → cond b x y �
 cond_false b x y e = rw e refl
 
 -- what an area without bytes takes
-pub with_none : (texts : List Text) (bytes : List ℕ) (prot : ℕ) → length bytes ≡ 0 → (number_among texts bytes prot ≡ NO_TEXT) × (texts_with texts bytes prot ≡ texts)
+pub with_none : (texts : List Text) (bytes : List ℕ) (prot : ℕ) → length bytes ≡ 0 → (number_among texts bytes prot ≡ no_text) × (texts_with texts bytes prot ≡ texts)
 unfolding number_among texts_with
 with_none texts bytes prot none = (cond_true _ _ _ (eq-eqb _ _ none), cond_true _ _ _ (eq-eqb _ _ none))
 
@@ -152,17 +153,17 @@ some_or_none (b ∷ bytes) = inr (omega arith)
 pub named_takes : (texts : List (List ℕ)) (taken : List Text) (pages prot place number : ℕ) (bytes : List ℕ) → named texts taken pages prot place number ≡ Ok bytes → IsNamed texts taken pages prot number bytes
 unfolding named
 named_takes texts taken pages prot place number bytes e =
-    elim (chosen (eqb number NO_TEXT) (Ok []) (cond (leb (length texts) number) (Err (Fault place TEXT)) (cond (not (eqb (number_among taken (get_or texts number []) prot) number)) (Err (Fault place TEXT)) (unless (ltb (512 * pages) (length (get_or texts number []))) place LENGTH (get_or texts number [])))) (Ok bytes) e) [
+    elim (chosen (eqb number no_text) (Ok []) (cond (leb (length texts) number) (Err (Fault place wrong_text)) (cond (not (eqb (number_among taken (get_or texts number []) prot) number)) (Err (Fault place wrong_text)) (unless (ltb (512 * pages) (length (get_or texts number []))) place wrong_length (get_or texts number [])))) (Ok bytes) e) [
       | inl none ↦ let is : [] ≡ bytes = ok_is [] bytes none.1 in
           let with = with_none taken [] prot refl in
           subst (λ (b : List ℕ). IsNamed texts taken pages prot number b) is (record { numbered = eqb-true _ _ none.0 ∙ sym with.0; few = omega arith; front = λ front. subst (λ (ts : List Text). IsFront texts ts) (sym with.1) front })
       | inr some ↦ let text : List ℕ = get_or texts number [] in
-          let g0 = guard_ok (leb (length texts) number) place TEXT (cond (not (eqb (number_among taken text prot) number)) (Err (Fault place TEXT)) (unless (ltb (512 * pages) (length text)) place LENGTH text)) bytes some.1 in
-          let g1 = guard_ok (not (eqb (number_among taken text prot) number)) place TEXT (unless (ltb (512 * pages) (length text)) place LENGTH text) bytes g0.1 in
-          let g2 = unless_ok (ltb (512 * pages) (length text)) place LENGTH text bytes g1.1 in
+          let g0 = guard_ok (leb (length texts) number) place wrong_text (cond (not (eqb (number_among taken text prot) number)) (Err (Fault place wrong_text)) (unless (ltb (512 * pages) (length text)) place wrong_length text)) bytes some.1 in
+          let g1 = guard_ok (not (eqb (number_among taken text prot) number)) place wrong_text (unless (ltb (512 * pages) (length text)) place wrong_length text) bytes g0.1 in
+          let g2 = unless_ok (ltb (512 * pages) (length text)) place wrong_length text bytes g1.1 in
           let lt : number < length texts = leb-false _ _ g0.0 in
           let is : number_among taken text prot ≡ number = eqb-true _ _ (not_false _ g1.0) in
-          let no : number ≡ NO_TEXT → ⊥ = eqb-false _ _ some.0 in
+          let no : number ≡ no_text → ⊥ = eqb-false _ _ some.0 in
           let made : IsNamed texts taken pages prot number text =
           elim (some_or_none text) [
             | inl none ↦ absurd (no (sym is ∙ (with_none taken text prot none).0))
@@ -311,8 +312,8 @@ named_again base low area areas taken all place is texts_are few =
           let at : get_or (bytes_of all) (number_of taken area) [] ≡ area.bytes = ap (λ (k : ℕ). get_or (bytes_of all) k []) number ∙ get_or-map (λ t. t.bytes) all (place_among taken area.bytes area.prot) nothing [] lt ∙ ap (λ (t : Text). t.bytes) text_is ∙ there.1 in
           let len : length (bytes_of all) ≡ length all = length-map all (λ t. t.bytes) in
           let low_number : number_of taken area < length (bytes_of all) = omega arith in
-          cond_false _ _ _ (ne_eqb (number_of taken area) NO_TEXT (λ e. omega arith)) ∙ cond_false _ _ _ (lt-leb _ _ low_number)
-          ∙ subst (λ (t : List ℕ). cond (not (eqb (number_among taken t area.prot) (number_of taken area))) (Err (Fault place TEXT)) (unless (ltb (512 * area.pages) (length t)) place LENGTH t) ≡ Ok area.bytes) (sym at)
+          cond_false _ _ _ (ne_eqb (number_of taken area) no_text (λ e. omega arith)) ∙ cond_false _ _ _ (lt-leb _ _ low_number)
+          ∙ subst (λ (t : List ℕ). cond (not (eqb (number_among taken t area.prot) (number_of taken area))) (Err (Fault place wrong_text)) (unless (ltb (512 * area.pages) (length t)) place wrong_length t) ≡ Ok area.bytes) (sym at)
           (cond_false _ _ _ (ap not (eq-eqb (number_of taken area) (number_of taken area) refl)) ∙ cond_false _ _ _ (le-ltb _ _ is.bytes))
     ]
 

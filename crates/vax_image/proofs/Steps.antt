@@ -8,7 +8,7 @@ use Rattle.byteorder.specs.Endian.{little_bytes, little_number}
 use Rattle.byteorder.specs.Numbers.{length-bytes_low_first, little_from-append, little_from-lt, little_number-reads_back}
 use Rattle.vax_image.specs.declared.ImageError.{ImageError}
 use Rattle.vax_image.specs.declared.ImageError.TheVariants.{Fault}
-use Rattle.vax_image.specs.declared.TheConstants.{SHORT}
+use Rattle.vax_image.specs.Kinds.{ends_early}
 use Rattle.vax_image.specs.Reading.{Cursor, ◌>>=◌, unless, bytes_at, number_at}
 
 abbrev pub IsBytes : List ℕ → Type 0
@@ -56,7 +56,7 @@ Reads read x rest = (place : ℕ) × (read ≡ Ok (x, record { place = place; re
 pub bytes_take : (n : ℕ) (c : Cursor) (x : List ℕ × Cursor) → IsBytes c.rest → bytes_at n c ≡ Ok x → Takes c x.0 x.1 × (length x.0 ≡ n)
 unfolding bytes_at
 bytes_take n c x fits e =
-    let g = unless_ok (ltb (length c.rest) n) c.place SHORT (take n c.rest, record { place = c.place + n; rest = drop n c.rest }) x e in
+    let g = unless_ok (ltb (length c.rest) n) c.place ends_early (take n c.rest, record { place = c.place + n; rest = drop n c.rest }) x e in
     let long : n ≤ length c.rest = ltb-false _ _ g.0 in
     let len : length (take n c.rest) ≡ n = omega (arith, length-take n c.rest) in
     subst (λ (y : List ℕ × Cursor). Takes c y.0 y.1 × (length y.0 ≡ n)) g.1 (record { parts = sym (take-append-drop n c.rest); rest_fits = IsBytes-drop n c.rest fits }, len)

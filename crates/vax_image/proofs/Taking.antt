@@ -4,7 +4,7 @@ use Rattle.std.specs.Prelude.{not}
 use Rattle.std.proofs.lemmas.Bool.{cases_eq}
 use Rattle.std.proofs.lemmas.List.{length-map, get_or-map, length-drop, drop_all}
 use Rattle.std.proofs.lemmas.List.Sums.{prefix_len-drop_yes, prefix_len-drop_no, prefix_len-drop_all}
-use Rattle.vax_image.specs.declared.TheConstants.{NO_TEXT}
+use Rattle.vax_image.specs.Texts.{no_text}
 use Rattle.vax_image.specs.declared.texts.Text.{Text as Kept}
 use Rattle.vax_image.specs.Texts.{Text, is_constant, is_shared, place_among, number_among, texts_with}
 use Rattle.vax_image.specs.Views.{text, texts}
@@ -31,7 +31,7 @@ place_there ts bytes prot i d lt shared =
 pub taken_new : (ts : List Text) (bytes : List ℕ) (prot number : ℕ) → number ≡ number_among ts bytes prot → number ≡ length ts → length ts ≤ 64 → texts_with ts bytes prot ≡ ts ++ record { bytes = bytes; constant = is_constant prot } ∷ []
 taken_new ts bytes prot number is new few =
     elim (some_or_none bytes) [
-      | inl none ↦ let no : number ≡ NO_TEXT = is ∙ (with_none ts bytes prot none).0 in absurd (omega arith)
+      | inl none ↦ let no : number ≡ no_text = is ∙ (with_none ts bytes prot none).0 in absurd (omega arith)
       | inr some ↦ with_new ts bytes prot some (sym (with_some ts bytes prot some) ∙ sym is ∙ new)
     ]
 

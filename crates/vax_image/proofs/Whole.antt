@@ -11,7 +11,7 @@ use Rattle.vax_image.specs.declared.Base.{Base}
 use Rattle.vax_image.specs.declared.Image.{Image}
 use Rattle.vax_image.specs.declared.ImageError.{ImageError}
 use Rattle.vax_image.specs.declared.ImageError.TheVariants.{Fault, NoMemory}
-use Rattle.vax_image.specs.declared.TheConstants.{REST, TEXT, TRANSFER}
+use Rattle.vax_image.specs.Kinds.{goes_on, wrong_text, begins_nowhere}
 use Rattle.vax_image.specs.Image.{first_page, end_page, AscendFrom, is_in, IsImage}
 use Rattle.vax_image.specs.File.{word, magic, fields_1, fields_2, spelling_1, spelling_2, File, File2, IsSpelled}
 use Rattle.vax_image.specs.Reading.{Cursor, Contents, ◌>>=◌, Gives, unless, magic_at, version_at, contents_1, contents_2, contents_of, contents_at, ended, image_of}
@@ -66,9 +66,9 @@ record IsEnded (x : Contents) (image : Image) : Type 0 where
 ended_ok : (x : Contents) (image : Image) → ended x ≡ Ok image → IsEnded x image
 unfolding ended
 ended_ok x image e =
-    let g0 = guard_ok (not (eqb (length x.end.rest) 0)) x.end.place REST (cond (not x.complete) (Err (Fault 12 TEXT)) (unless (not (is_in x.image.areas x.image.transfer)) 8 TRANSFER x.image)) image e in
-    let g1 = guard_ok (not x.complete) 12 TEXT (unless (not (is_in x.image.areas x.image.transfer)) 8 TRANSFER x.image) image g0.1 in
-    let g2 = unless_ok (not (is_in x.image.areas x.image.transfer)) 8 TRANSFER x.image image g1.1 in
+    let g0 = guard_ok (not (eqb (length x.end.rest) 0)) x.end.place goes_on (cond (not x.complete) (Err (Fault 12 wrong_text)) (unless (not (is_in x.image.areas x.image.transfer)) 8 begins_nowhere x.image)) image e in
+    let g1 = guard_ok (not x.complete) 12 wrong_text (unless (not (is_in x.image.areas x.image.transfer)) 8 begins_nowhere x.image) image g0.1 in
+    let g2 = unless_ok (not (is_in x.image.areas x.image.transfer)) 8 begins_nowhere x.image image g1.1 in
     record { none = nil_from_length x.end.rest (eqb-true _ _ (not_false _ g0.0)); complete = not_false _ g1.0; begins = not_false _ g2.0; is = g2.1 }
 
 image_found : (bytes : List ℕ) (image : Image) → IsBytes bytes → image_of bytes ≡ Ok image → File image bytes ⊎ File2 image bytes

@@ -1,4 +1,5 @@
 pub mod Image
+pub mod Kinds
 pub mod Texts
 pub mod File
 pub mod Reading

@@ -10,7 +10,8 @@ use Rattle.vax_image.specs.declared.Base.TheVariants.{Bare, User}
 use Rattle.vax_image.specs.declared.Image.{Image}
 use Rattle.vax_image.specs.declared.ImageError.{ImageError}
 use Rattle.vax_image.specs.declared.ImageError.TheVariants.{Fault, NoMemory}
-use Rattle.vax_image.specs.declared.TheConstants.{MAGIC, VERSION, BASE, COUNT, AREA, PROTECTION, LENGTH, SHORT, REST, TRANSFER, TEXT, NO_TEXT}
+use Rattle.vax_image.specs.Kinds.{no_magic, other_version, other_base, wrong_count, wrong_pages, no_protection, wrong_length, ends_early, goes_on, begins_nowhere, wrong_text}
+use Rattle.vax_image.specs.Texts.{no_text}
 use Rattle.vax_image.specs.Image.{first_page, end_page, is_in}
 use Rattle.vax_image.specs.Texts.{Text, number_among, texts_with}
 use Rattle.vax_image.specs.File.{magic}
@@ -39,7 +40,7 @@ abbrev pub unless : {X : Type 0} → Bool → ℕ → ℕ → X → Result X Ima
 unless faulty place kind x = if faulty then Err (Fault place kind) else Ok x
 
 unfoldable pub bytes_at : ℕ → Cursor → Result (List ℕ × Cursor) ImageError
-bytes_at len from = unless (nat_lt (length from.rest) len) from.place SHORT (take len from.rest, record { place = from.place + len; rest = drop len from.rest })
+bytes_at len from = unless (nat_lt (length from.rest) len) from.place ends_early (take len from.rest, record { place = from.place + len; rest = drop len from.rest })
 
 unfoldable pub number_at : ℕ → Cursor → Result (ℕ × Cursor) ImageError
 number_at len from = do
@@ -49,12 +50,12 @@ number_at len from = do
 unfoldable pub magic_at : Cursor → Result Cursor ImageError
 magic_at from = do
   field ← bytes_at 4 from
-  unless (not (bytes_eq field.0 magic)) from.place MAGIC field.1
+  unless (not (bytes_eq field.0 magic)) from.place no_magic field.1
 
 unfoldable pub version_at : Cursor → Result (ℕ × Cursor) ImageError
 version_at from = do
   field ← number_at 2 from
-  unless (not (field.0 == 1 || field.0 == 2)) from.place VERSION field
+  unless (not (field.0 == 1 || field.0 == 2)) from.place other_version field
 
 abbrev pub base_of : ℕ → Base
 base_of n = if n == 0 then Bare else User
@@ -62,31 +63,31 @@ base_of n = if n == 0 then Bare else User
 unfoldable pub base_at : Cursor → Result (Base × Cursor) ImageError
 base_at from = do
   field ← number_at 2 from
-  unless (nat_lt 1 field.0) from.place BASE (base_of field.0, field.1)
+  unless (nat_lt 1 field.0) from.place other_base (base_of field.0, field.1)
 
 -- how many areas there are
 unfoldable pub count_at : Cursor → Result (ℕ × Cursor) ImageError
 count_at from = do
   field ← number_at 4 from
-  unless (field.0 == 0 || nat_lt 64 field.0) from.place COUNT field
+  unless (field.0 == 0 || nat_lt 64 field.0) from.place wrong_count field
 
 -- the first page and the number of the pages of an area that stands at page `low` or behind it
 unfoldable pub pages_at : Base → ℕ → Cursor → Result ((ℕ × ℕ) × Cursor) ImageError
 pages_at base low from = do
   first ← number_at 4 from
   pages ← number_at 4 first.1
-  unless (pages.0 == 0 || (nat_lt first.0 low || nat_lt (end_page base) (first.0 + pages.0))) from.place AREA ((first.0, pages.0), pages.1)
+  unless (pages.0 == 0 || (nat_lt first.0 low || nat_lt (end_page base) (first.0 + pages.0))) from.place wrong_pages ((first.0, pages.0), pages.1)
 
 unfoldable pub protection_at : Cursor → Result (ℕ × Cursor) ImageError
 protection_at from = do
   field ← number_at 4 from
-  unless (not (is_protection field.0)) from.place PROTECTION field
+  unless (not (is_protection field.0)) from.place no_protection field
 
 -- the number of an area's bytes
 unfoldable pub length_at : ℕ → Cursor → Result (ℕ × Cursor) ImageError
 length_at pages from = do
   field ← number_at 4 from
-  unless (nat_lt (512 * pages) field.0) from.place LENGTH field
+  unless (nat_lt (512 * pages) field.0) from.place wrong_length field
 
 unfoldable pub area_at : Base → ℕ → Cursor → Result (Area × Cursor) ImageError
 area_at base low from = do
@@ -123,12 +124,12 @@ contents_1 from = do
 unfoldable pub text_count_at : Cursor → Result (ℕ × Cursor) ImageError
 text_count_at from = do
   field ← number_at 4 from
-  unless (nat_lt 64 field.0) from.place COUNT field
+  unless (nat_lt 64 field.0) from.place wrong_count field
 
 unfoldable pub text_at : Cursor → Result (List ℕ × Cursor) ImageError
 text_at from = do
   len ← number_at 4 from
-  sound ← unless (len.0 == 0 || nat_lt 16777216 len.0) from.place LENGTH len
+  sound ← unless (len.0 == 0 || nat_lt 16777216 len.0) from.place wrong_length len
   bytes_at sound.0 sound.1
 
 unfoldable pub texts_at : ℕ → Cursor → Result (List (List ℕ) × Cursor) ImageError
@@ -141,11 +142,11 @@ texts_at (suc count) from = do
 -- the text that a number names, where areas before have taken these
 unfoldable pub named : List (List ℕ) → List Text → ℕ → ℕ → ℕ → ℕ → Result (List ℕ) ImageError
 named texts taken pages prot place number =
-    if number == NO_TEXT then Ok []
-    else (if nat_le (length texts) number then Err (Fault place TEXT)
+    if number == no_text then Ok []
+    else (if nat_le (length texts) number then Err (Fault place wrong_text)
     else (let text = slice_index_or texts number [] in
-    if not (number_among taken text prot == number) then Err (Fault place TEXT)
-    else unless (nat_lt (512 * pages) (length text)) place LENGTH text))
+    if not (number_among taken text prot == number) then Err (Fault place wrong_text)
+    else unless (nat_lt (512 * pages) (length text)) place wrong_length text))
 
 -- an area with the number of its text, and the texts that areas have taken then
 unfoldable pub numbered_area_at : Base → ℕ → List (List ℕ) → List Text → Cursor → Result ((Area × List Text) × Cursor) ImageError
@@ -181,9 +182,9 @@ contents_2 from = do
 -- no bytes behind the last field, no text that isn't used, and a beginning within an area
 unfoldable pub ended : Contents → Result Image ImageError
 ended contents =
-    if not (length contents.end.rest == 0) then Err (Fault contents.end.place REST)
-    else (if not contents.complete then Err (Fault 12 TEXT)
-    else unless (not (is_in contents.image.areas contents.image.transfer)) 8 TRANSFER contents.image)
+    if not (length contents.end.rest == 0) then Err (Fault contents.end.place goes_on)
+    else (if not contents.complete then Err (Fault 12 wrong_text)
+    else unless (not (is_in contents.image.areas contents.image.transfer)) 8 begins_nowhere contents.image)
 
 abbrev pub contents_of : ℕ → Cursor → Result Contents ImageError
 contents_of version from = if version == 1 then contents_1 from else contents_2 from

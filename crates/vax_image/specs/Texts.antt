@@ -5,7 +5,10 @@ use Rattle.std.specs.Str.{bytes_eq}
 use Rattle.vax_space.specs.declared.Access.TheVariants.{Write}
 use Rattle.vax_space.specs.declared.Area.{Area}
 use Rattle.vax_space.specs.Protection.{allows}
-use Rattle.vax_image.specs.declared.TheConstants.{NO_TEXT}
+
+-- what an area without bytes has for the number of a text
+abbrev pub no_text : ℕ
+no_text = 0xFFFFFFFF
 
 -- the bytes of the area that a text was written for, and whether no mode may write that area
 pub record Text : Type 0 where
@@ -24,7 +27,7 @@ place_among texts bytes prot = position_or_len (is_shared bytes prot) texts
 
 -- the number of an area's text, where these are the texts before: the first that it shares, or else the next new number
 unfoldable pub number_among : List Text → List ℕ → ℕ → ℕ
-number_among texts bytes prot = if length bytes == 0 then NO_TEXT else place_among texts bytes prot
+number_among texts bytes prot = if length bytes == 0 then no_text else place_among texts bytes prot
 
 abbrev pub number_of : List Text → Area → ℕ
 number_of texts area = number_among texts area.bytes area.prot

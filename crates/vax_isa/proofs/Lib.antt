@@ -1,3 +1,3 @@
-mod Lists
+pub mod Lists
 mod Passed
 pub mod Laws

@@ -1,7 +1,10 @@
 -- Lists that agree place by place, and what `find` finds.
-use Rattle.std.proofs.Common.{◌≡◌, ℕ, zero, suc, ◌+◌, ◌<◌, Bool, true, false, cond, List, [], ◌∷◌, All, IfSome, Option, Some, None, find, map, option_map, refl, sym, ◌∙◌, ap, subst, add-zero, arith, slice_index_or}
+use Rattle.std.proofs.Common.{◌≡◌, ℕ, zero, suc, ◌+◌, ◌<◌, Bool, true, false, cond, List, [], ◌∷◌, All, IfSome, Option, Some, None, find, map, option_map, refl, sym, ◌∙◌, ap, subst, add-zero, arith, slice_index_or, length, drop, get_or, Bor}
+use Rattle.std.proofs.lemmas.List.{drop_more}
+use Rattle.std.specs.Str.{str_eq_ignore_ascii_case}
 use Rattle.std.proofs.lemmas.List.Elements.{All-nil, All-cons}
 use Rattle.vax_isa.specs.Entries.{counted}
+use Rattle.vax_isa.specs.Rows.{is_one_of}
 
 -- of a list that f takes to what g makes of the numbers from `start` on
 pub at_counted : {X Y : Type 0} (f : X → Y) (g : ℕ → Y) (xs : List X) (start n : ℕ) → map f xs ≡ map g (counted start n) → (k : ℕ) (d : X) → k < n → f (slice_index_or xs k d) ≡ g (start + k)
@@ -45,3 +48,13 @@ pub IfSome-alike : {X Y Z : Type 0} (f : X → Z) (g : Y → Z) (P : Z → Type 
 IfSome-alike f g P None y e h = tt
 IfSome-alike f g P (Some a) None e h = absurd (cc)
 IfSome-alike f g P (Some a) (Some b) e h = let same : g b ≡ f a = cc in subst P same h
+
+-- a name and the texts of a list, from one place on
+
+pub text_skipped : (texts : List (Bor (List ℕ))) (i : ℕ) (d : Bor (List ℕ)) (name : List ℕ) → i < length texts → str_eq_ignore_ascii_case (get_or texts i d).now name ≡ false →
+    is_one_of (map (λ text. text.now) (drop i texts)) name ≡ is_one_of (map (λ text. text.now) (drop (i + 1) texts)) name
+text_skipped texts i d name h e = rw (drop_more texts i d h, e) refl
+
+pub text_met : (texts : List (Bor (List ℕ))) (i : ℕ) (d : Bor (List ℕ)) (name : List ℕ) → i < length texts → str_eq_ignore_ascii_case (get_or texts i d).now name ≡ true →
+    is_one_of (map (λ text. text.now) (drop i texts)) name ≡ true
+text_met texts i d name h e = rw (drop_more texts i d h, e) refl

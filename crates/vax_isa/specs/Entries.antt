@@ -1,5 +1,5 @@
 -- The code's table: an entry in the slot of each opcode that isn't reserved.
-use Rattle.std.specs.Prelude.{ℕ, zero, suc, List, [], ◌∷◌, Option, find, filter_map, option_map, option_to_list}
+use Rattle.std.specs.Prelude.{ℕ, zero, suc, List, [], ◌∷◌, Option, find, filter_map, map, option_map}
 use Rattle.vax_isa.specs.declared.table.Entry.{Entry}
 use Rattle.vax_isa.specs.declared.actions.Action.{Action}
 use Rattle.vax_isa.specs.Instructions.{Instruction}
@@ -11,9 +11,9 @@ entry_row e = plain e.row
 abbrev pub entry_action : Entry → Action
 entry_action e = e.action
 
--- the name and the alias
+-- the name and the aliases
 abbrev pub entry_names : Entry → List (List ℕ)
-entry_names e = e.row.name.now ∷ option_to_list (option_map (λ alias. alias.now) e.alias)
+entry_names e = e.row.name.now ∷ map (λ alias. alias.now) e.aliases.now
 
 -- a row with all its names
 pub record Listing : Type 0 where

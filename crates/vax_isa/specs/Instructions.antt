@@ -91,9 +91,9 @@ Wq = kind Write 8
 abbrev pub row : ℕ → String → List OperandKind → Action → Instruction
 row opcode name operands what = record { opcode = opcode; name = codes name; aliases = []; operands = operands; action = what }
 
--- the same instruction with an alias
+-- the same instruction with an alias, which comes first among its aliases
 abbrev pub also : String → (Action → Instruction) → Action → Instruction
-also alias instruction what = record (instruction what) { aliases = codes alias ∷ [] }
+also alias instruction what = record (instruction what) { aliases = codes alias ∷ (instruction what).aliases }
 
 -- the instruction, which does this
 abbrev pub does : Action → (Action → Instruction) → Instruction
@@ -153,10 +153,10 @@ instructions =
     does (action.Integer (integer.Shift size.Q)) (row 0x79 "ASHQ" (Rb ∷ Rq ∷ Wq ∷ [])) ∷
     does (action.Integer integer.ExtendedMultiply) (row 0x7A "EMUL" (Rl ∷ Rl ∷ Rl ∷ Wq ∷ [])) ∷
     does (action.Integer integer.ExtendedDivide) (row 0x7B "EDIV" (Rl ∷ Rq ∷ Wl ∷ Wl ∷ [])) ∷
-    does (action.Integer (integer.Clear size.Q)) (row 0x7C "CLRQ" (Wq ∷ [])) ∷
+    does (action.Integer (integer.Clear size.Q)) (also "CLRD" (also "CLRG" (row 0x7C "CLRQ" (Wq ∷ [])))) ∷
     does (unary Move size.Q size.Q) (row 0x7D "MOVQ" (Rq ∷ Wq ∷ [])) ∷
-    does (action.Integer (integer.MoveAddress size.Q)) (row 0x7E "MOVAQ" (Aq ∷ Wl ∷ [])) ∷
-    does (action.Integer (integer.PushAddress size.Q)) (row 0x7F "PUSHAQ" (Aq ∷ [])) ∷
+    does (action.Integer (integer.MoveAddress size.Q)) (also "MOVAD" (also "MOVAG" (row 0x7E "MOVAQ" (Aq ∷ Wl ∷ [])))) ∷
+    does (action.Integer (integer.PushAddress size.Q)) (also "PUSHAD" (also "PUSHAG" (row 0x7F "PUSHAQ" (Aq ∷ [])))) ∷
     does (two Add narrow.B) (row 0x80 "ADDB2" (Rb ∷ Mb ∷ [])) ∷
     does (three Add narrow.B) (row 0x81 "ADDB3" (Rb ∷ Rb ∷ Wb ∷ [])) ∷
     does (two Subtract narrow.B) (row 0x82 "SUBB2" (Rb ∷ Mb ∷ [])) ∷
@@ -241,7 +241,7 @@ instructions =
     does (action.Integer (integer.Compare narrow.L)) (row 0xD1 "CMPL" (Rl ∷ Rl ∷ [])) ∷
     does (unary Complement size.L size.L) (row 0xD2 "MCOML" (Rl ∷ Wl ∷ [])) ∷
     does (action.Integer (integer.BitTest narrow.L)) (row 0xD3 "BITL" (Rl ∷ Rl ∷ [])) ∷
-    does (action.Integer (integer.Clear size.L)) (row 0xD4 "CLRL" (Wl ∷ [])) ∷
+    does (action.Integer (integer.Clear size.L)) (also "CLRF" (row 0xD4 "CLRL" (Wl ∷ []))) ∷
     does (action.Integer (integer.Test narrow.L)) (row 0xD5 "TSTL" (Rl ∷ [])) ∷
     does (by_one Add narrow.L) (row 0xD6 "INCL" (Ml ∷ [])) ∷
     does (by_one Subtract narrow.L) (row 0xD7 "DECL" (Ml ∷ [])) ∷
@@ -251,8 +251,8 @@ instructions =
     does (action.System system.FromRegister) (row 0xDB "MFPR" (Rl ∷ Wl ∷ [])) ∷
     does (action.System system.MoveStatus) (row 0xDC "MOVPSL" (Wl ∷ [])) ∷
     does (action.Integer integer.Push) (row 0xDD "PUSHL" (Rl ∷ [])) ∷
-    does (action.Integer (integer.MoveAddress size.L)) (row 0xDE "MOVAL" (Al ∷ Wl ∷ [])) ∷
-    does (action.Integer (integer.PushAddress size.L)) (row 0xDF "PUSHAL" (Al ∷ [])) ∷
+    does (action.Integer (integer.MoveAddress size.L)) (also "MOVAF" (row 0xDE "MOVAL" (Al ∷ Wl ∷ []))) ∷
+    does (action.Integer (integer.PushAddress size.L)) (also "PUSHAF" (row 0xDF "PUSHAL" (Al ∷ []))) ∷
     does (action.Field (field.Branch true None)) (row 0xE0 "BBS" (Rl ∷ Vb ∷ Bb ∷ [])) ∷
     does (action.Field (field.Branch false None)) (row 0xE1 "BBC" (Rl ∷ Vb ∷ Bb ∷ [])) ∷
     does (action.Field (field.Branch true (Some true))) (row 0xE2 "BBSS" (Rl ∷ Vb ∷ Bb ∷ [])) ∷

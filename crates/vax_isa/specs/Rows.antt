@@ -1,8 +1,8 @@
 -- What is looked up in the list of the instructions.
-use Rattle.std.specs.Prelude.{◌≡◌, ℕ, List, [], ◌∷◌, ◌++◌, ◌-◌, ◌<◌, ◌≤◌, ◌==◌, Bool, false, ◌||◌, ◌⊎◌, Option, find, option_map, length, replicate, slice_index, slice_index_or, true}
+use Rattle.std.specs.Prelude.{◌≡◌, ℕ, List, ◌∷◌, ◌++◌, ◌-◌, ◌<◌, ◌≤◌, ◌==◌, Bool, ◌||◌, ◌⊎◌, Option, find, option_map, length, replicate, slice_index, slice_index_or, true}
 use Rattle.std.specs.Str.{str_eq_ignore_ascii_case}
 use Rattle.std.specs.Char.{is_ascii_uppercase, is_ascii_digit}
-use Rattle.std.specs.List.{AllPass}
+use Rattle.std.specs.List.{AllPass, list_any}
 use Rattle.vax_isa.specs.declared.OperandKind.{OperandKind}
 use Rattle.vax_isa.specs.declared.Letter.TheVariants.{Read, Branch}
 use Rattle.vax_isa.specs.declared.Row.{Row}
@@ -39,8 +39,7 @@ names_of i = i.name ∷ i.aliases
 
 -- the text is one of these names, in letters of either case
 abbrev pub is_one_of : List (List ℕ) → List ℕ → Bool
-is_one_of [] text = false
-is_one_of (name ∷ names) text = str_eq_ignore_ascii_case name text || is_one_of names text
+is_one_of names text = list_any (λ name. str_eq_ignore_ascii_case name text) names
 
 unfoldable pub with_name : List ℕ → Option Instruction
 with_name text = find (λ i. is_one_of (names_of i) text) instructions

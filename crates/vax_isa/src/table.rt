@@ -1,6 +1,7 @@
 // The instructions by their opcodes (VAX MACRO and Instruction Set Reference Manual, instruction summary).
 
 ghost use Rattle.std.specs.Prelude.{◌≡◌, map, option_map};
+ghost use Rattle.std.specs.Str.{str_eq_ignore_ascii_case};
 ghost use Rattle.vax_isa.specs.Entries.{counted, entries, entry_action, entry_listing, entry_names, entry_row, first_named, listing_of, row_at};
 ghost use Rattle.vax_isa.specs.Instructions.{instructions};
 ghost use Rattle.vax_isa.specs.Rows.{plain, action_of, is_one_of};
@@ -12,11 +13,11 @@ use crate::actions::{
 use crate::{Letter, OperandKind, Row};
 use vax_word::Size;
 
-/// A row, the other name that the manual gives its instruction, and what it does.
+/// A row, the other names that the manual gives its instruction, and what it does.
 #[derive(Clone, Copy)]
 pub(crate) struct Entry {
     pub row: Row,
-    pub alias: Option<&'static str>,
+    pub aliases: &'static [&'static str],
     pub action: Action,
 }
 
@@ -24,12 +25,27 @@ impl Entry {
     fn is_named(&self, name: &str) -> bool
         ensures { result ≡ is_one_of (entry_names self.now) name.now }
     {
-        self.row.name.eq_ignore_ascii_case(name)
-            || match self.alias {
-                Some(alias) => alias.eq_ignore_ascii_case(name),
-                None => false,
-            }
+        is_called(self.row.name, name) || is_among(self.aliases, name)
     }
+}
+
+/// Whether a word is this name, in letters of either case.
+fn is_called(word: &str, name: &str) -> bool
+    ensures { result ≡ str_eq_ignore_ascii_case word.now name.now }
+{
+    word.eq_ignore_ascii_case(name)
+}
+
+/// Whether a name is one of these, in letters of either case.
+fn is_among(aliases: &[&str], name: &str) -> bool
+    ensures { result ≡ is_one_of (map (λ alias. alias.now) aliases.now) name.now }
+{
+    for alias in aliases {
+        if is_called(alias, name) {
+            return true;
+        }
+    }
+    false
 }
 
 /// The slot of each opcode.
@@ -144,18 +160,15 @@ macro_rules! branch {
 }
 
 macro_rules! row {
-    ($code:literal, $name:literal $(or $alias:literal)?; $action:expr) => { row!(@ $code, $name $(or $alias)?; $action; 0, NO, NO, NO, NO, NO, NO) };
-    ($code:literal, $name:literal $(or $alias:literal)?, $a:ident; $action:expr) => { row!(@ $code, $name $(or $alias)?; $action; 1, $a, NO, NO, NO, NO, NO) };
-    ($code:literal, $name:literal $(or $alias:literal)?, $a:ident, $b:ident; $action:expr) => { row!(@ $code, $name $(or $alias)?; $action; 2, $a, $b, NO, NO, NO, NO) };
-    ($code:literal, $name:literal $(or $alias:literal)?, $a:ident, $b:ident, $c:ident; $action:expr) => { row!(@ $code, $name $(or $alias)?; $action; 3, $a, $b, $c, NO, NO, NO) };
-    ($code:literal, $name:literal $(or $alias:literal)?, $a:ident, $b:ident, $c:ident, $d:ident; $action:expr) => { row!(@ $code, $name $(or $alias)?; $action; 4, $a, $b, $c, $d, NO, NO) };
-    ($code:literal, $name:literal $(or $alias:literal)?, $a:ident, $b:ident, $c:ident, $d:ident, $e:ident; $action:expr) => { row!(@ $code, $name $(or $alias)?; $action; 5, $a, $b, $c, $d, $e, NO) };
-    ($code:literal, $name:literal $(or $alias:literal)?, $a:ident, $b:ident, $c:ident, $d:ident, $e:ident, $f:ident; $action:expr) => { row!(@ $code, $name $(or $alias)?; $action; 6, $a, $b, $c, $d, $e, $f) };
-    (@ $code:literal, $name:literal; $action:expr; $count:literal, $($kind:ident),*) => {
-        Some(Entry { row: Row { code: $code, name: $name, count: $count, operands: [$($kind),*] }, alias: None, action: $action })
-    };
-    (@ $code:literal, $name:literal or $alias:literal; $action:expr; $count:literal, $($kind:ident),*) => {
-        Some(Entry { row: Row { code: $code, name: $name, count: $count, operands: [$($kind),*] }, alias: Some($alias), action: $action })
+    ($code:literal, $name:literal $(or $alias:literal)*; $action:expr) => { row!(@ $code, $name $(or $alias)*; $action; 0, NO, NO, NO, NO, NO, NO) };
+    ($code:literal, $name:literal $(or $alias:literal)*, $a:ident; $action:expr) => { row!(@ $code, $name $(or $alias)*; $action; 1, $a, NO, NO, NO, NO, NO) };
+    ($code:literal, $name:literal $(or $alias:literal)*, $a:ident, $b:ident; $action:expr) => { row!(@ $code, $name $(or $alias)*; $action; 2, $a, $b, NO, NO, NO, NO) };
+    ($code:literal, $name:literal $(or $alias:literal)*, $a:ident, $b:ident, $c:ident; $action:expr) => { row!(@ $code, $name $(or $alias)*; $action; 3, $a, $b, $c, NO, NO, NO) };
+    ($code:literal, $name:literal $(or $alias:literal)*, $a:ident, $b:ident, $c:ident, $d:ident; $action:expr) => { row!(@ $code, $name $(or $alias)*; $action; 4, $a, $b, $c, $d, NO, NO) };
+    ($code:literal, $name:literal $(or $alias:literal)*, $a:ident, $b:ident, $c:ident, $d:ident, $e:ident; $action:expr) => { row!(@ $code, $name $(or $alias)*; $action; 5, $a, $b, $c, $d, $e, NO) };
+    ($code:literal, $name:literal $(or $alias:literal)*, $a:ident, $b:ident, $c:ident, $d:ident, $e:ident, $f:ident; $action:expr) => { row!(@ $code, $name $(or $alias)*; $action; 6, $a, $b, $c, $d, $e, $f) };
+    (@ $code:literal, $name:literal $(or $alias:literal)*; $action:expr; $count:literal, $($kind:ident),*) => {
+        Some(Entry { row: Row { code: $code, name: $name, count: $count, operands: [$($kind),*] }, aliases: &[$($alias),*], action: $action })
     };
 }
 
@@ -222,10 +235,10 @@ static TABLE: [Option<Entry>; 256] = [
     row!(0x79, "ASHQ", RB, RQ, WQ; integer!(Shift(Size::Q))),
     row!(0x7A, "EMUL", RL, RL, RL, WQ; integer!(ExtendedMultiply)),
     row!(0x7B, "EDIV", RL, RQ, WL, WL; integer!(ExtendedDivide)),
-    row!(0x7C, "CLRQ", WQ; integer!(Clear(Size::Q))),
+    row!(0x7C, "CLRQ" or "CLRD" or "CLRG", WQ; integer!(Clear(Size::Q))),
     row!(0x7D, "MOVQ", RQ, WQ; unary!(Move Q Q)),
-    row!(0x7E, "MOVAQ", AQ, WL; integer!(MoveAddress(Size::Q))),
-    row!(0x7F, "PUSHAQ", AQ; integer!(PushAddress(Size::Q))),
+    row!(0x7E, "MOVAQ" or "MOVAD" or "MOVAG", AQ, WL; integer!(MoveAddress(Size::Q))),
+    row!(0x7F, "PUSHAQ" or "PUSHAD" or "PUSHAG", AQ; integer!(PushAddress(Size::Q))),
     row!(0x80, "ADDB2", RB, MB; two!(Add B)),
     row!(0x81, "ADDB3", RB, RB, WB; three!(Add B)),
     row!(0x82, "SUBB2", RB, MB; two!(Subtract B)),
@@ -310,7 +323,7 @@ static TABLE: [Option<Entry>; 256] = [
     row!(0xD1, "CMPL", RL, RL; integer!(Compare(Narrow::L))),
     row!(0xD2, "MCOML", RL, WL; unary!(Complement L L)),
     row!(0xD3, "BITL", RL, RL; integer!(BitTest(Narrow::L))),
-    row!(0xD4, "CLRL", WL; integer!(Clear(Size::L))),
+    row!(0xD4, "CLRL" or "CLRF", WL; integer!(Clear(Size::L))),
     row!(0xD5, "TSTL", RL; integer!(Test(Narrow::L))),
     row!(0xD6, "INCL", ML; by_one!(Add L)),
     row!(0xD7, "DECL", ML; by_one!(Subtract L)),
@@ -320,8 +333,8 @@ static TABLE: [Option<Entry>; 256] = [
     row!(0xDB, "MFPR", RL, WL; system!(FromRegister)),
     row!(0xDC, "MOVPSL", WL; system!(MoveStatus)),
     row!(0xDD, "PUSHL", RL; integer!(Push)),
-    row!(0xDE, "MOVAL", AL, WL; integer!(MoveAddress(Size::L))),
-    row!(0xDF, "PUSHAL", AL; integer!(PushAddress(Size::L))),
+    row!(0xDE, "MOVAL" or "MOVAF", AL, WL; integer!(MoveAddress(Size::L))),
+    row!(0xDF, "PUSHAL" or "PUSHAF", AL; integer!(PushAddress(Size::L))),
     row!(0xE0, "BBS", RL, VB, BB; field!(Branch { set: true, becomes: None })),
     row!(0xE1, "BBC", RL, VB, BB; field!(Branch { set: false, becomes: None })),
     row!(0xE2, "BBSS", RL, VB, BB; field!(Branch { set: true, becomes: Some(true) })),

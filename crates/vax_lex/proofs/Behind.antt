@@ -2,7 +2,7 @@
 use Rattle.std.proofs.Common.{◌≡◌, ℕ, zero, suc, Bool, true, false, not, cond, List, [], ◌∷◌, refl, ap, ◌∙◌}
 use Rattle.std.specs.Prelude.{◌&&◌, ◌==◌, codes}
 use Rattle.vax_lex.specs.Characters.{spells}
-use Rattle.vax_lex.specs.Statements.{text_directive, immediate_if, other_operator, Place, statement, first_name, behind_label, text_piece, bracketed_piece, condition_name, expression_rest, text_argument, between_arguments, operands, Before, nothing_special, size_letter, operator_caret, text_sign, label_colon, Context, context_after, context_after_blank, place_after, before_after, line_start, is_caret, is_size, is_text_sign, is_first_name, is_size_letter}
+use Rattle.vax_lex.specs.Statements.{text_directive, immediate_if, other_operator, on_two_texts, on_text, on_no_text, Place, statement, first_name, behind_label, text_piece, bracketed_piece, condition_name, condition_end, expression_rest, text_argument, between_arguments, operands, Before, nothing_special, size_letter, operator_caret, text_sign, label_colon, Context, context_after, context_after_blank, place_after, before_after, line_start, is_caret, is_size, is_text_sign, is_first_name, is_size_letter}
 use Rattle.vax_lex.specs.Tokens.{stray_kind}
 use Rattle.vax_lex.specs.Parts.{token, stray, Part, space, word, sign, quotation, numeric, part_of, behind_operator, behind_size, behind_text_operator}
 use Rattle.vax_lex.specs.declared.token.TokenKind.{TokenKind}
@@ -42,6 +42,7 @@ mark_alone behind_label b m text = refl
 mark_alone text_piece b m text = refl
 mark_alone (bracketed_piece depth) b m text = refl
 mark_alone condition_name b m text = refl
+mark_alone (condition_end subject) b m text = refl
 mark_alone (expression_rest depth) b m text = refl
 mark_alone (text_argument last begun depth) b m text = refl
 mark_alone between_arguments b m text = refl
@@ -56,6 +57,7 @@ text_alone behind_label b text = refl
 text_alone text_piece b text = refl
 text_alone (bracketed_piece depth) b text = refl
 text_alone condition_name b text = refl
+text_alone (condition_end subject) b text = refl
 text_alone (expression_rest depth) b text = refl
 text_alone (text_argument last begun depth) b text = refl
 text_alone between_arguments b text = refl
@@ -70,6 +72,9 @@ number_alone behind_label b n text = refl
 number_alone text_piece b n text = refl
 number_alone (bracketed_piece depth) b n text = refl
 number_alone condition_name b n text = refl
+number_alone (condition_end on_two_texts) b n text = refl
+number_alone (condition_end on_text) b n text = refl
+number_alone (condition_end on_no_text) b n text = refl
 number_alone (expression_rest depth) b n text = refl
 number_alone (text_argument last begun zero) b n text = refl
 number_alone (text_argument last begun (suc depth)) b n text = refl

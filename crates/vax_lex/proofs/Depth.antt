@@ -1,15 +1,23 @@
 -- A token opens at most one bracket.
 use Rattle.std.proofs.Common.{◌≡◌, ◌≤◌, ℕ, zero, suc, ◌+◌, ◌-◌, Bool, true, false, not, cond, List, ap, arith}
 use Rattle.std.specs.Prelude.{◌&&◌, ◌==◌, nat_le}
-use Rattle.vax_lex.specs.Statements.{Operator, text_directive, immediate_if, other_operator, Place, statement, first_name, behind_label, text_piece, bracketed_piece, condition_name, expression_rest, text_argument, between_arguments, operands, Before, Context, open_brackets, context_after, context_after_blank, place_after, operand_after, operand_place, argument_after, condition_place, operator_of, compares_texts, tests_text, is_mark, is_name, is_text, is_colon}
+use Rattle.vax_lex.specs.Statements.{Operator, text_directive, immediate_if, other_operator, Subject, on_two_texts, on_text, on_no_text, Place, statement, first_name, behind_label, text_piece, bracketed_piece, condition_name, condition_end, expression_rest, text_argument, between_arguments, operands, Before, Context, open_brackets, context_after, context_after_blank, place_after, operand_after, operand_place, argument_after, argument_place, expression_after, begun_after, subject_of, operator_of, is_mark, is_name, is_text, is_colon}
 use Rattle.vax_lex.specs.declared.token.TokenKind.{TokenKind}
 
 deep_if : (t : Bool) (x y : Place) (n : ℕ) → open_brackets x ≤ n → open_brackets y ≤ n → open_brackets (cond t x y) ≤ n
 deep_if true x y n f g = f
 deep_if false x y n f g = g
 
-condition_depth : (text : List ℕ) → open_brackets (condition_place text) ≤ 1
-condition_depth text = deep_if (compares_texts text) (text_argument false false 0) _ 1 (omega arith) (deep_if (tests_text text) (text_argument true false 0) (expression_rest 0) 1 (omega arith) (omega arith))
+argument_place_depth : (s : Subject) → open_brackets (argument_place s) ≤ 0
+argument_place_depth on_two_texts = omega arith
+argument_place_depth on_text = omega arith
+argument_place_depth on_no_text = omega arith
+
+expression_depth : (depth : ℕ) (kind : TokenKind) → open_brackets (expression_after depth kind) ≤ depth + 1
+expression_depth depth kind =
+    deep_if (is_mark 60 kind) (expression_rest (depth + 1)) _ (depth + 1) (omega arith)
+    (deep_if (is_mark 62 kind) (expression_rest (depth - 1)) _ (depth + 1) (omega arith)
+    (deep_if (is_mark 44 kind && (depth == 0)) statement (expression_rest depth) (depth + 1) (omega arith) (omega arith)))
 
 argument_depth : (last begun : Bool) (depth : ℕ) (kind : TokenKind) → open_brackets (argument_after last begun depth kind) ≤ depth + 1
 argument_depth last begun zero kind =
@@ -19,6 +27,11 @@ argument_depth last begun (suc depth) kind =
     deep_if (is_mark 60 kind) (text_argument last true (suc depth + 1)) _ (suc depth + 1) (omega arith)
     (deep_if (is_mark 62 kind) (text_argument last true depth) (text_argument last true (suc depth)) (suc depth + 1) (omega arith) (omega arith))
 
+begun_depth : (s : Subject) (kind : TokenKind) → open_brackets (begun_after s kind) ≤ 1
+begun_depth on_two_texts kind = argument_depth false false 0 kind
+begun_depth on_text kind = argument_depth true false 0 kind
+begun_depth on_no_text kind = expression_depth 0 kind
+
 operand_depth : (p : Place) (kind : TokenKind) (text : List ℕ) → open_brackets (operand_after p kind text) ≤ open_brackets p + 1
 operand_depth statement kind text = omega arith
 operand_depth (first_name operator) kind text = omega arith
@@ -27,11 +40,9 @@ operand_depth text_piece kind text = deep_if (is_text kind) text_piece _ 1 (omeg
 operand_depth (bracketed_piece depth) kind text =
     deep_if (is_mark 60 kind) (bracketed_piece (depth + 1)) _ (depth + 1) (omega arith)
     (deep_if (is_mark 62 kind) _ (bracketed_piece depth) (depth + 1) (deep_if (nat_le depth 1) text_piece (bracketed_piece (depth - 1)) (depth + 1) (omega arith) (omega arith)) (omega arith))
-operand_depth condition_name kind text = deep_if (is_name kind) (condition_place text) operands 1 (condition_depth text) (omega arith)
-operand_depth (expression_rest depth) kind text =
-    deep_if (is_mark 60 kind) (expression_rest (depth + 1)) _ (depth + 1) (omega arith)
-    (deep_if (is_mark 62 kind) (expression_rest (depth - 1)) _ (depth + 1) (omega arith)
-    (deep_if (is_mark 44 kind && (depth == 0)) statement (expression_rest depth) (depth + 1) (omega arith) (omega arith)))
+operand_depth condition_name kind text = deep_if (is_name kind) (condition_end (subject_of text)) operands 1 (omega arith) (omega arith)
+operand_depth (condition_end subject) kind text = deep_if (is_mark 44 kind) (argument_place subject) _ 1 (omega (arith, argument_place_depth subject)) (begun_depth subject kind)
+operand_depth (expression_rest depth) kind text = expression_depth depth kind
 operand_depth (text_argument last begun depth) kind text = argument_depth last begun depth kind
 operand_depth between_arguments kind text = deep_if (is_mark 44 kind) (text_argument true false 0) _ 1 (omega arith) (argument_depth true false 0 kind)
 operand_depth operands kind text = omega arith
@@ -53,6 +64,7 @@ place_depth behind_label b kind text =
 place_depth text_piece b kind text = operand_depth text_piece kind text
 place_depth (bracketed_piece depth) b kind text = operand_depth (bracketed_piece depth) kind text
 place_depth condition_name b kind text = operand_depth condition_name kind text
+place_depth (condition_end subject) b kind text = operand_depth (condition_end subject) kind text
 place_depth (expression_rest depth) b kind text = operand_depth (expression_rest depth) kind text
 place_depth (text_argument last begun depth) b kind text = operand_depth (text_argument last begun depth) kind text
 place_depth between_arguments b kind text = operand_depth between_arguments kind text
@@ -68,6 +80,7 @@ blank_depth behind_label b = omega arith
 blank_depth text_piece b = omega arith
 blank_depth (bracketed_piece depth) b = omega arith
 blank_depth condition_name b = omega arith
+blank_depth (condition_end subject) b = argument_place_depth subject
 blank_depth (expression_rest depth) b = omega arith
 blank_depth (text_argument true begun depth) b = omega arith
 blank_depth (text_argument false false depth) b = omega arith

@@ -1,11 +1,11 @@
 -- What the scanner's place says of the parts before it, in the language's terms.
-use Rattle.std.proofs.Common.{◌≡◌, ℕ, zero, suc, ◌+◌, ◌-◌, Bool, true, false, not, cond, List, [], ◌∷◌, refl, ap, arith, subst}
+use Rattle.std.proofs.Common.{◌≡◌, ℕ, zero, suc, ◌+◌, ◌-◌, Bool, true, false, not, cond, List, [], ◌∷◌, refl, ap, sym, arith, subst}
 use Rattle.std.specs.Prelude.{◌&&◌, ◌||◌, ◌==◌, nat_le, codes}
 use Rattle.std.proofs.lemmas.Bool.Decides.{nat_tests}
 use Rattle.vax_lex.specs.Characters.{spells}
-use Rattle.vax_lex.specs.Statements.{Operator, text_directive, immediate_if, other_operator, operator_of, operand_place, is_text_directive, compares_texts, tests_text, condition_place, Place, statement, first_name, behind_label, text_piece, bracketed_piece, condition_name, expression_rest, text_argument, between_arguments, operands, Before, nothing_special, label_colon, is_colon, piece_due}
+use Rattle.vax_lex.specs.Statements.{Operator, text_directive, immediate_if, other_operator, operator_of, operand_place, is_text_directive, compares_texts, tests_text, Subject, on_two_texts, on_text, on_no_text, subject_of, argument_place, Place, statement, first_name, behind_label, text_piece, bracketed_piece, condition_name, condition_end, expression_rest, text_argument, between_arguments, operands, Before, nothing_special, label_colon, is_colon, piece_due}
 use Rattle.vax_lex.specs.Parts.{Part, space, word, sign, quotation, numeric}
-use Rattle.vax_lex.specs.Directives.{is_sign, is_bracket, Blanks, no_blanks, a_blank, Nested, nested_nothing, nested_part, nested_group, Piece, quoted_text, bracketed_value, Pieces, no_pieces, blank_more, piece_more, Tested, tested_nothing, tested_part, tested_group, begins_argument, Argument, argument_begins, argument_group, argument_more, is_of_first, is_of_last, Last, last_missing, last_given, Two, first_missing, parted_by_comma, parted_by_blanks, two_texts, one_text, no_text, is_immediate_if, StatementDue, at_line, behind_blank, behind_condition, OperatorDue, without_label, with_label, Labelled, one_colon, two_colons, PieceDue, behind_labelled, first_piece, later_piece}
+use Rattle.vax_lex.specs.Directives.{is_sign, is_bracket, Blanks, no_blanks, a_blank, Nested, nested_nothing, nested_part, nested_group, Piece, quoted_text, bracketed_value, Pieces, no_pieces, blank_more, piece_more, Tested, tested_nothing, tested_part, tested_group, begins_argument, Argument, argument_begins, argument_group, argument_more, is_of_first, is_of_last, Last, last_missing, last_given, Second, parted_by_comma, parted_by_blanks, Two, first_missing, first_given, Parted, by_blank, by_comma, Begun, begun_part, begun_group, two_texts, one_text, no_text, two_touching, text_touching, no_text_touching, is_immediate_if, StatementDue, at_line, behind_blank, behind_condition, OperatorDue, without_label, with_label, Labelled, one_colon, two_colons, PieceDue, behind_labelled, first_piece, later_piece}
 use Rattle.vax_lex.proofs.Behind.{after, behind, step}
 
 -- so many brackets are open, and in the innermost each `<` has its `>`
@@ -53,17 +53,21 @@ pub record Conditional (whole : List Part) : Type 0 where
   pub is : is_immediate_if name ≡ true
   pub blanks : Blanks (word name ∷ before) whole
 
--- what a condition tests that is no text
+-- the name of a condition
+pub record Named (s : Subject) (whole : List Part) : Type 0 where
+  pub blanks : List Part
+  pub name : List ℕ
+  pub due : Conditional blanks
+  pub is : subject_of name ≡ s
+  pub ends_here : word name ∷ blanks ≡ whole
+
+-- what a condition tests that is no text: what is to come of it, up to a comma
 pub record TestedSoFar (whole : List Part) : Type 0 where
-  pub start : List Part
-  pub ends : (all : List Part) → Tested start all → StatementDue (sign 44 ∷ all)
-  pub so_far : Tested start whole
+  pub ends : (all : List Part) → Tested whole all → StatementDue (sign 44 ∷ all)
 
 pub record TestedOpen (d : ℕ) (whole : List Part) : Type 0 where
-  pub start : List Part
   pub outer : List Part
-  pub ends : (all : List Part) → Tested start all → StatementDue (sign 44 ∷ all)
-  pub so_far : Tested start outer
+  pub ends : (inner : List Part) → Nested (sign 60 ∷ outer) inner → (all : List Part) → Tested (sign 62 ∷ inner) all → StatementDue (sign 44 ∷ all)
   pub open_brackets : Open d outer whole
 
 -- the last argument: not begun, begun, and in brackets
@@ -90,25 +94,17 @@ pub record FirstDue (whole : List Part) : Type 0 where
 
 pub record FirstBegun (whole : List Part) : Type 0 where
   pub start : List Part
-  pub blanks : List Part
-  pub ends : (all : List Part) → Two start all → StatementDue (sign 44 ∷ all)
-  pub before : Blanks start blanks
-  pub argument : Argument is_of_first blanks whole
+  pub ends : (first : List Part) → Argument is_of_first start first → (all : List Part) → Second first all → StatementDue (sign 44 ∷ all)
+  pub argument : Argument is_of_first start whole
 
 pub record FirstOpen (d : ℕ) (whole : List Part) : Type 0 where
   pub start : List Part
-  pub blanks : List Part
-  pub ends : (all : List Part) → Two start all → StatementDue (sign 44 ∷ all)
-  pub before : Blanks start blanks
-  pub open_brackets : Open d blanks whole
+  pub ends : (first : List Part) → Argument is_of_first start first → (all : List Part) → Second first all → StatementDue (sign 44 ∷ all)
+  pub open_brackets : Open d start whole
 
 pub record Between (whole : List Part) : Type 0 where
-  pub start : List Part
-  pub blanks : List Part
   pub first : List Part
-  pub ends : (all : List Part) → Two start all → StatementDue (sign 44 ∷ all)
-  pub before : Blanks start blanks
-  pub argument : Argument is_of_first blanks first
+  pub ends : (all : List Part) → Second first all → StatementDue (sign 44 ∷ all)
   pub behind : Blanks (space ∷ first) whole
 
 abbrev pub Known : Place → Before → List Part → Type 0
@@ -118,6 +114,7 @@ Known behind_label b whole = Labelled whole × (is_colon b ≡ true → Colon wh
 Known text_piece b whole = PiecesDue whole
 Known (bracketed_piece d) b whole = Bracketed d whole
 Known condition_name b whole = Conditional whole
+Known (condition_end s) b whole = Named s whole
 Known (expression_rest zero) b whole = TestedSoFar whole
 Known (expression_rest (suc d)) b whole = TestedOpen (suc d) whole
 Known (text_argument true false zero) b whole = LastDue whole
@@ -195,13 +192,63 @@ widened no_blanks = a_blank no_blanks
 widened (a_blank more) = a_blank (widened more)
 
 -- behind the name of a condition
-condition_known : (name : List ℕ) (b : Before) (whole : List Part) → Conditional whole → Known (condition_place name) b (word name ∷ whole)
-condition_known name b whole k =
-    known_if (compares_texts name) _ _ b (word name ∷ whole)
-    (λ c. record { start = word name ∷ whole; ends = λ all two. behind_condition k.name name k.due k.is k.blanks (two_texts c two); blanks = no_blanks })
-    (λ c. known_if (tests_text name) _ _ b (word name ∷ whole)
-    (λ t. record { start = word name ∷ whole; ends = λ all last. behind_condition k.name name k.due k.is k.blanks (one_text c t last); blanks = no_blanks })
-    (λ t. record { start = word name ∷ whole; ends = λ all tested. behind_condition k.name name k.due k.is k.blanks (no_text c t tested); so_far = tested_nothing }))
+condition_known : (name : List ℕ) (whole : List Part) → Conditional whole → Named (subject_of name) (word name ∷ whole)
+condition_known name whole k = record { blanks = whole; name = name; due = k; is = refl; ends_here = refl }
+
+-- which condition it is
+two_by : (s t : Bool) → cond s on_two_texts (cond t on_text on_no_text) ≡ on_two_texts → s ≡ true
+two_by true t e = refl
+two_by false true e = absurd cc
+two_by false false e = absurd cc
+
+one_by : (s t : Bool) → cond s on_two_texts (cond t on_text on_no_text) ≡ on_text → (s ≡ false) × (t ≡ true)
+one_by true t e = absurd cc
+one_by false true e = (refl, refl)
+one_by false false e = absurd cc
+
+none_by : (s t : Bool) → cond s on_two_texts (cond t on_text on_no_text) ≡ on_no_text → (s ≡ false) × (t ≡ false)
+none_by true t e = absurd cc
+none_by false true e = absurd cc
+none_by false false e = (refl, refl)
+
+-- what stands behind it ends in a statement
+abbrev EndsIn : List Part → (List Part → Type 0) → Type 0
+EndsIn whole Rest = (all : List Part) → Rest all → StatementDue (sign 44 ∷ all)
+
+two_ends : (whole start : List Part) → Named on_two_texts whole → Parted whole start → EndsIn start (Two start)
+two_ends whole start k parts all two =
+    behind_condition k.due.name k.name k.due.due k.due.is k.due.blanks (two_texts (two_by (compares_texts k.name) (tests_text k.name) k.is) (subst (λ (w : List Part). Parted w start) (sym k.ends_here) parts) two)
+
+last_ends : (whole start : List Part) → Named on_text whole → Parted whole start → EndsIn start (Last start)
+last_ends whole start k parts all last =
+    let is = one_by (compares_texts k.name) (tests_text k.name) k.is in
+    behind_condition k.due.name k.name k.due.due k.due.is k.due.blanks (one_text is.0 is.1 (subst (λ (w : List Part). Parted w start) (sym k.ends_here) parts) last)
+
+tested_ends : (whole start : List Part) → Named on_no_text whole → Parted whole start → EndsIn start (Tested start)
+tested_ends whole start k parts all tested =
+    let is = none_by (compares_texts k.name) (tests_text k.name) k.is in
+    behind_condition k.due.name k.name k.due.due k.due.is k.due.blanks (no_text is.0 is.1 (subst (λ (w : List Part). Parted w start) (sym k.ends_here) parts) tested)
+
+first_touches : (whole : List Part) → Named on_two_texts whole → (first : List Part) → Argument is_of_first whole first → EndsIn first (Second first)
+first_touches whole k first argument all second =
+    behind_condition k.due.name k.name k.due.due k.due.is k.due.blanks
+    (two_touching (two_by (compares_texts k.name) (tests_text k.name) k.is) (subst (λ (w : List Part). Argument is_of_first w first) (sym k.ends_here) argument) second)
+
+last_touches : (whole : List Part) → Named on_text whole → EndsIn whole (Argument is_of_last whole)
+last_touches whole k all argument =
+    let is = one_by (compares_texts k.name) (tests_text k.name) k.is in
+    behind_condition k.due.name k.name k.due.due k.due.is k.due.blanks (text_touching is.0 is.1 (subst (λ (w : List Part). Argument is_of_last w all) (sym k.ends_here) argument))
+
+tested_touches : (whole first : List Part) → Named on_no_text whole → Begun whole first → EndsIn first (Tested first)
+tested_touches whole first k begun all tested =
+    let is = none_by (compares_texts k.name) (tests_text k.name) k.is in
+    behind_condition k.due.name k.name k.due.due k.due.is k.due.blanks (no_text_touching is.0 is.1 (subst (λ (w : List Part). Begun w first) (sym k.ends_here) begun) tested)
+
+-- the argument behind what parts it from the name
+parted_known : (s : Subject) (b : Before) (whole start : List Part) → Named s whole → Parted whole start → Known (argument_place s) b start
+parted_known on_two_texts b whole start k parts = record { start = start; ends = two_ends whole start k parts; blanks = no_blanks }
+parted_known on_text b whole start k parts = record { start = start; ends = last_ends whole start k parts; blanks = no_blanks }
+parted_known on_no_text b whole start k parts = record { ends = tested_ends whole start k parts }
 
 -- behind the operator of a statement
 operator_known : (o : Operator) (name : List ℕ) (b : Before) (whole : List Part) → operator_of name ≡ o → Labelled whole → Known (operand_place o) b (word name ∷ whole)
@@ -238,7 +285,7 @@ first_bracket whole k = record { before = whole; piece = λ all p. of_bare k.nam
 name_steps : (o : Operator) → Steps (first_name o)
 name_steps o space b whole k = blank_name o whole k
 name_steps text_directive (word name) b whole k = tt
-name_steps immediate_if (word name) b whole k = condition_known name _ whole (conditional_of whole k)
+name_steps immediate_if (word name) b whole k = condition_known name whole (conditional_of whole k)
 name_steps other_operator (word name) b whole k = tt
 name_steps text_directive (sign m) b whole k = known_if (m == 58) _ _ _ (sign m ∷ whole)
     (λ e. (told (λ p. Labelled (p ∷ whole)) m 58 e (first_colon text_directive whole k), λ _. told (λ p. Colon (p ∷ whole)) m 58 e (colon_of text_directive whole k)))
@@ -326,17 +373,22 @@ bracketed_steps (suc d) numeric b whole k = bracketed_more d whole numeric refl 
 
 condition_steps : Steps condition_name
 condition_steps space b whole k = record { before = k.before; name = k.name; due = k.due; is = k.is; blanks = a_blank k.blanks }
-condition_steps (word name) b whole k = condition_known name _ whole k
+condition_steps (word name) b whole k = condition_known name whole k
 condition_steps (sign m) b whole k = tt
 condition_steps quotation b whole k = tt
 condition_steps numeric b whole k = tt
 
 -- what is no text
+tested_behind : {before first whole : List Part} → Tested before first → Tested first whole → Tested before whole
+tested_behind t tested_nothing = t
+tested_behind t (tested_part p c o more) = tested_part p c o (tested_behind t more)
+tested_behind t (tested_group more inner) = tested_group (tested_behind t more) inner
+
 tested_more : (whole : List Part) (p : Part) → is_sign 44 p ≡ false → is_sign 60 p ≡ false → TestedSoFar whole → TestedSoFar (p ∷ whole)
-tested_more whole p c o k = record { start = k.start; ends = k.ends; so_far = tested_part p c o k.so_far }
+tested_more whole p c o k = record { ends = λ all tested. k.ends all (tested_behind (tested_part p c o tested_nothing) tested) }
 
 tested_opened : (whole : List Part) → TestedSoFar whole → TestedOpen 1 (sign 60 ∷ whole)
-tested_opened whole k = record { start = k.start; outer = whole; ends = k.ends; so_far = k.so_far; open_brackets = nested_nothing }
+tested_opened whole k = record { outer = whole; ends = λ inner nested all tested. k.ends all (tested_behind (tested_group tested_nothing nested) tested); open_brackets = nested_nothing }
 
 sign_other : (m n k : ℕ) → (m == n) ≡ true → (n == k) ≡ false → (m == k) ≡ false
 sign_other m n k e f = grind (arith, nat_tests)
@@ -349,7 +401,7 @@ tested_steps (sign m) b whole k = known_if (m == 60) _ _ _ (sign m ∷ whole)
     (λ e. known_if (m == 62) _ _ _ (sign m ∷ whole)
     (λ f. tested_more whole (sign m) (sign_other m 62 44 f refl) e k)
     (λ f. known_if ((m == 44) && true) _ _ _ (sign m ∷ whole)
-    (λ g. told (λ p. StatementDue (p ∷ whole)) m 44 (and_left (m == 44) true g) (k.ends whole k.so_far))
+    (λ g. told (λ p. StatementDue (p ∷ whole)) m 44 (and_left (m == 44) true g) (k.ends whole tested_nothing))
     (λ g. tested_more whole (sign m) (and_true (m == 44) g) e k)))
   where
     and_true : (t : Bool) → (t && true) ≡ false → t ≡ false
@@ -359,19 +411,19 @@ tested_steps quotation b whole k = tested_more whole quotation refl refl k
 tested_steps numeric b whole k = tested_more whole numeric refl refl k
 
 open_tested : (d : ℕ) (whole : List Part) (p : Part) → is_bracket p ≡ false → TestedOpen (suc d) whole → TestedOpen (suc d) (p ∷ whole)
-open_tested d whole p n k = record { start = k.start; outer = k.outer; ends = k.ends; so_far = k.so_far; open_brackets = open_more d k.outer whole p n k.open_brackets }
+open_tested d whole p n k = record { outer = k.outer; ends = k.ends; open_brackets = open_more d k.outer whole p n k.open_brackets }
 
 tested_deeper : (d : ℕ) (b : Before) (whole : List Part) → TestedOpen (suc d) whole → Known (expression_rest (suc d + 1)) b (sign 60 ∷ whole)
 tested_deeper d b whole k =
     let same : suc (suc d) ≡ suc d + 1 = omega arith in
-    let there : Known (expression_rest (suc (suc d))) b (sign 60 ∷ whole) = record { start = k.start; outer = k.outer; ends = k.ends; so_far = k.so_far; open_brackets = open_deeper d k.outer whole k.open_brackets } in
+    let there : Known (expression_rest (suc (suc d))) b (sign 60 ∷ whole) = record { outer = k.outer; ends = k.ends; open_brackets = open_deeper d k.outer whole k.open_brackets } in
     subst (λ (n : ℕ). Known (expression_rest n) b (sign 60 ∷ whole)) same there
 
 tested_closed : (d : ℕ) (b : Before) (whole : List Part) → TestedOpen (suc d) whole → Known (expression_rest (suc d - 1)) b (sign 62 ∷ whole)
-tested_closed zero b whole k = record { start = k.start; ends = k.ends; so_far = tested_group k.so_far k.open_brackets }
+tested_closed zero b whole k = record { ends = k.ends whole k.open_brackets }
 tested_closed (suc d) b whole k =
     let same : suc d ≡ suc (suc d) - 1 = omega arith in
-    let there : Known (expression_rest (suc d)) b (sign 62 ∷ whole) = record { start = k.start; outer = k.outer; ends = k.ends; so_far = k.so_far; open_brackets = open_closed d k.outer whole k.open_brackets } in
+    let there : Known (expression_rest (suc d)) b (sign 62 ∷ whole) = record { outer = k.outer; ends = k.ends; open_brackets = open_closed d k.outer whole k.open_brackets } in
     subst (λ (n : ℕ). Known (expression_rest n) b (sign 62 ∷ whole)) same there
 
 open_steps : (d : ℕ) → Steps (expression_rest (suc d))
@@ -460,10 +512,10 @@ last_open_steps d numeric b whole k = last_inside d whole numeric refl k
 
 -- the first of two arguments
 first_begins : (whole : List Part) (p : Part) → begins_argument p ≡ true → FirstDue whole → FirstBegun (p ∷ whole)
-first_begins whole p n k = record { start = k.start; blanks = whole; ends = k.ends; before = k.blanks; argument = argument_begins p n }
+first_begins whole p n k = record { start = whole; ends = λ first argument all second. k.ends all (first_given k.blanks argument second); argument = argument_begins p n }
 
 first_opened : (whole : List Part) → FirstDue whole → FirstOpen 1 (sign 60 ∷ whole)
-first_opened whole k = record { start = k.start; blanks = whole; ends = k.ends; before = k.blanks; open_brackets = nested_nothing }
+first_opened whole k = record { start = whole; ends = λ first argument all second. k.ends all (first_given k.blanks argument second); open_brackets = nested_nothing }
 
 none_first : (whole : List Part) → FirstDue whole → LastDue (sign 44 ∷ whole)
 none_first whole k = record { start = sign 44 ∷ whole; ends = λ all last. k.ends all (first_missing k.blanks last); blanks = no_blanks }
@@ -480,13 +532,13 @@ first_steps quotation b whole k = first_begins whole quotation refl k
 first_steps numeric b whole k = first_begins whole numeric refl k
 
 first_more : (whole : List Part) (p : Part) → is_of_first p ≡ true → FirstBegun whole → FirstBegun (p ∷ whole)
-first_more whole p n k = record { start = k.start; blanks = k.blanks; ends = k.ends; before = k.before; argument = argument_more p n k.argument }
+first_more whole p n k = record { start = k.start; ends = k.ends; argument = argument_more p n k.argument }
 
 first_ended : (whole : List Part) → FirstBegun whole → LastDue (sign 44 ∷ whole)
-first_ended whole k = record { start = sign 44 ∷ whole; ends = λ all last. k.ends all (parted_by_comma k.before k.argument no_blanks last); blanks = no_blanks }
+first_ended whole k = record { start = sign 44 ∷ whole; ends = λ all last. k.ends whole k.argument all (parted_by_comma no_blanks last); blanks = no_blanks }
 
 first_begun_steps : Steps (text_argument false true zero)
-first_begun_steps space b whole k = record { start = k.start; blanks = k.blanks; first = whole; ends = k.ends; before = k.before; argument = k.argument; behind = no_blanks }
+first_begun_steps space b whole k = record { first = whole; ends = k.ends whole k.argument; behind = no_blanks }
 first_begun_steps (word name) b whole k = first_more whole (word name) refl k
 first_begun_steps (sign m) b whole k = known_if (m == 44) _ _ _ (sign m ∷ whole)
     (λ e. told (λ p. LastDue (p ∷ whole)) m 44 e (first_ended whole k))
@@ -501,17 +553,17 @@ first_begun_steps quotation b whole k = first_more whole quotation refl k
 first_begun_steps numeric b whole k = first_more whole numeric refl k
 
 first_inside : (d : ℕ) (whole : List Part) (p : Part) → is_bracket p ≡ false → FirstOpen (suc d) whole → FirstOpen (suc d) (p ∷ whole)
-first_inside d whole p n k = record { start = k.start; blanks = k.blanks; ends = k.ends; before = k.before; open_brackets = open_more d k.blanks whole p n k.open_brackets }
+first_inside d whole p n k = record { start = k.start; ends = k.ends; open_brackets = open_more d k.start whole p n k.open_brackets }
 
 first_deeper : (d : ℕ) (b : Before) (whole : List Part) → FirstOpen (suc d) whole → Known (text_argument false true (suc d + 1)) b (sign 60 ∷ whole)
 first_deeper d b whole k =
     let same : suc (suc d) ≡ suc d + 1 = omega arith in
-    let there : Known (text_argument false true (suc (suc d))) b (sign 60 ∷ whole) = record { start = k.start; blanks = k.blanks; ends = k.ends; before = k.before; open_brackets = open_deeper d k.blanks whole k.open_brackets } in
+    let there : Known (text_argument false true (suc (suc d))) b (sign 60 ∷ whole) = record { start = k.start; ends = k.ends; open_brackets = open_deeper d k.start whole k.open_brackets } in
     subst (λ (n : ℕ). Known (text_argument false true n) b (sign 60 ∷ whole)) same there
 
 first_closed : (d : ℕ) (b : Before) (whole : List Part) → FirstOpen (suc d) whole → Known (text_argument false true d) b (sign 62 ∷ whole)
-first_closed zero b whole k = record { start = k.start; blanks = k.blanks; ends = k.ends; before = k.before; argument = argument_group k.open_brackets }
-first_closed (suc d) b whole k = record { start = k.start; blanks = k.blanks; ends = k.ends; before = k.before; open_brackets = open_closed d k.blanks whole k.open_brackets }
+first_closed zero b whole k = record { start = k.start; ends = k.ends; argument = argument_group k.open_brackets }
+first_closed (suc d) b whole k = record { start = k.start; ends = k.ends; open_brackets = open_closed d k.start whole k.open_brackets }
 
 first_open_steps : (d : ℕ) → Steps (text_argument false true (suc d))
 first_open_steps d space b whole k = first_inside d whole space refl k
@@ -526,16 +578,16 @@ first_open_steps d numeric b whole k = first_inside d whole numeric refl k
 
 -- behind the first argument and a blank
 second_begins : (whole : List Part) (p : Part) → begins_argument p ≡ true → Between whole → LastBegun (p ∷ whole)
-second_begins whole p n k = record { start = whole; ends = λ all argument. k.ends all (parted_by_blanks k.before k.argument k.behind argument); argument = argument_begins p n }
+second_begins whole p n k = record { start = whole; ends = λ all argument. k.ends all (parted_by_blanks k.behind argument); argument = argument_begins p n }
 
 second_opened : (whole : List Part) → Between whole → LastOpen 1 (sign 60 ∷ whole)
-second_opened whole k = record { start = whole; ends = λ all argument. k.ends all (parted_by_blanks k.before k.argument k.behind argument); open_brackets = nested_nothing }
+second_opened whole k = record { start = whole; ends = λ all argument. k.ends all (parted_by_blanks k.behind argument); open_brackets = nested_nothing }
 
 comma_behind : (whole : List Part) → Between whole → LastDue (sign 44 ∷ whole)
-comma_behind whole k = record { start = sign 44 ∷ whole; ends = λ all last. k.ends all (parted_by_comma k.before k.argument (widened k.behind) last); blanks = no_blanks }
+comma_behind whole k = record { start = sign 44 ∷ whole; ends = λ all last. k.ends all (parted_by_comma (widened k.behind) last); blanks = no_blanks }
 
 between_steps : Steps between_arguments
-between_steps space b whole k = record { start = k.start; blanks = k.blanks; first = k.first; ends = k.ends; before = k.before; argument = k.argument; behind = a_blank k.behind }
+between_steps space b whole k = record { first = k.first; ends = k.ends; behind = a_blank k.behind }
 between_steps (word name) b whole k = second_begins whole (word name) refl k
 between_steps (sign m) b whole k = known_if (m == 44) _ _ _ (sign m ∷ whole)
     (λ e. told (λ p. LastDue (p ∷ whole)) m 44 e (comma_behind whole k))
@@ -546,6 +598,55 @@ between_steps (sign m) b whole k = known_if (m == 44) _ _ _ (sign m ∷ whole)
     (λ f. second_begins whole (sign m) (begins_sign m e f) k)))
 between_steps quotation b whole k = second_begins whole quotation refl k
 between_steps numeric b whole k = second_begins whole numeric refl k
+
+-- right behind the name of a condition
+two_touched : (whole : List Part) (p : Part) → begins_argument p ≡ true → Named on_two_texts whole → FirstBegun (p ∷ whole)
+two_touched whole p n k = record { start = whole; ends = first_touches whole k; argument = argument_begins p n }
+
+last_touched : (whole : List Part) (p : Part) → begins_argument p ≡ true → Named on_text whole → LastBegun (p ∷ whole)
+last_touched whole p n k = record { start = whole; ends = last_touches whole k; argument = argument_begins p n }
+
+tested_touched : (whole : List Part) (p : Part) → begins_argument p ≡ true → Named on_no_text whole → TestedSoFar (p ∷ whole)
+tested_touched whole p n k = record { ends = tested_touches whole (p ∷ whole) k (begun_part p n) }
+
+end_steps : (s : Subject) → Steps (condition_end s)
+end_steps s space b whole k = parted_known s _ whole (space ∷ whole) k by_blank
+end_steps on_two_texts (word name) b whole k = two_touched whole (word name) refl k
+end_steps on_text (word name) b whole k = last_touched whole (word name) refl k
+end_steps on_no_text (word name) b whole k = tested_touched whole (word name) refl k
+end_steps on_two_texts (sign m) b whole k = known_if (m == 44) _ _ _ (sign m ∷ whole)
+    (λ e. told (λ p. FirstDue (p ∷ whole)) m 44 e (parted_known on_two_texts b whole (sign 44 ∷ whole) k by_comma))
+    (λ e. known_if (m == 44) _ _ _ (sign m ∷ whole)
+    (λ f. absurd cc)
+    (λ _. known_if ((m == 60) && true) _ _ _ (sign m ∷ whole)
+    (λ f. told (λ p. FirstOpen 1 (p ∷ whole)) m 60 (and_left (m == 60) true f) (record { start = whole; ends = first_touches whole k; open_brackets = nested_nothing }))
+    (λ f. two_touched whole (sign m) (begins_sign m e f) k)))
+end_steps on_text (sign m) b whole k = known_if (m == 44) _ _ _ (sign m ∷ whole)
+    (λ e. told (λ p. LastDue (p ∷ whole)) m 44 e (parted_known on_text b whole (sign 44 ∷ whole) k by_comma))
+    (λ e. known_if (m == 44) _ _ _ (sign m ∷ whole)
+    (λ f. absurd cc)
+    (λ _. known_if ((m == 60) && true) _ _ _ (sign m ∷ whole)
+    (λ f. told (λ p. LastOpen 1 (p ∷ whole)) m 60 (and_left (m == 60) true f) (record { start = whole; ends = last_touches whole k; open_brackets = nested_nothing }))
+    (λ f. last_touched whole (sign m) (begins_sign m e f) k)))
+end_steps on_no_text (sign m) b whole k = known_if (m == 44) _ _ _ (sign m ∷ whole)
+    (λ e. told (λ p. TestedSoFar (p ∷ whole)) m 44 e (parted_known on_no_text b whole (sign 44 ∷ whole) k by_comma))
+    (λ e. known_if (m == 60) _ _ _ (sign m ∷ whole)
+    (λ f. told (λ p. TestedOpen 1 (p ∷ whole)) m 60 f (record { outer = whole; ends = λ inner nested. tested_touches whole (sign 62 ∷ inner) k (begun_group nested); open_brackets = nested_nothing }))
+    (λ f. known_if (m == 62) _ _ _ (sign m ∷ whole)
+    (λ g. tested_touched whole (sign m) (begins_sign m e (ap (λ (t : Bool). t && true) f)) k)
+    (λ g. known_if ((m == 44) && true) _ _ _ (sign m ∷ whole)
+    (λ h. absurd (both_ways (m == 44) e h))
+    (λ h. tested_touched whole (sign m) (begins_sign m e (ap (λ (t : Bool). t && true) f)) k))))
+  where
+    both_ways : (t : Bool) → t ≡ false → (t && true) ≡ true → ⊥
+    both_ways true e f = absurd cc
+    both_ways false e f = cc
+end_steps on_two_texts quotation b whole k = two_touched whole quotation refl k
+end_steps on_text quotation b whole k = last_touched whole quotation refl k
+end_steps on_no_text quotation b whole k = tested_touched whole quotation refl k
+end_steps on_two_texts numeric b whole k = two_touched whole numeric refl k
+end_steps on_text numeric b whole k = last_touched whole numeric refl k
+end_steps on_no_text numeric b whole k = tested_touched whole numeric refl k
 
 operands_steps : Steps operands
 operands_steps space b whole k = tt
@@ -567,6 +668,7 @@ known_steps behind_label = label_steps
 known_steps text_piece = piece_steps
 known_steps (bracketed_piece d) = bracketed_steps d
 known_steps condition_name = condition_steps
+known_steps (condition_end s) = end_steps s
 known_steps (expression_rest zero) = tested_steps
 known_steps (expression_rest (suc d)) = open_steps d
 known_steps (text_argument true false zero) = last_steps
@@ -606,6 +708,7 @@ due_by b statement x before k e = absurd cc
 due_by b behind_label x before k e = absurd cc
 due_by b (bracketed_piece d) x before k e = absurd cc
 due_by b condition_name x before k e = absurd cc
+due_by b (condition_end s) x before k e = absurd cc
 due_by b (expression_rest d) x before k e = absurd cc
 due_by b (text_argument last begun d) x before k e = absurd cc
 due_by b between_arguments x before k e = absurd cc

@@ -3,9 +3,9 @@ use Rattle.std.proofs.Common.{◌≡◌, ℕ, suc, ◌-◌, Bool, true, false, n
 use Rattle.std.specs.Prelude.{◌&&◌, ◌||◌, ◌==◌, nat_le, codes}
 use Rattle.std.proofs.lemmas.Bool.Decides.{nat_tests}
 use Rattle.vax_lex.specs.Characters.{spells}
-use Rattle.vax_lex.specs.Statements.{text_directive, immediate_if, other_operator, operator_of, operand_place, is_text_directive, compares_texts, tests_text, condition_place, Place, statement, first_name, behind_label, text_piece, bracketed_piece, condition_name, expression_rest, text_argument, between_arguments, operands, Before, label_colon, is_first_name, is_colon, piece_due}
+use Rattle.vax_lex.specs.Statements.{text_directive, immediate_if, other_operator, operator_of, operand_place, is_text_directive, compares_texts, tests_text, Subject, on_two_texts, on_text, on_no_text, subject_of, argument_place, Place, statement, first_name, behind_label, text_piece, bracketed_piece, condition_name, condition_end, expression_rest, text_argument, between_arguments, operands, Before, label_colon, is_first_name, is_colon, piece_due}
 use Rattle.vax_lex.specs.Parts.{Part, space, word, sign, quotation, numeric}
-use Rattle.vax_lex.specs.Directives.{is_space, is_sign, is_bracket, Blanks, no_blanks, a_blank, Nested, nested_nothing, nested_part, nested_group, Piece, quoted_text, bracketed_value, Pieces, no_pieces, blank_more, piece_more, Tested, tested_nothing, tested_part, tested_group, Argument, argument_begins, argument_group, argument_more, is_of_first, is_of_last, Last, last_missing, last_given, Two, first_missing, parted_by_comma, parted_by_blanks, Condition, two_texts, one_text, no_text, is_immediate_if, StatementDue, at_line, behind_blank, behind_condition, OperatorDue, without_label, with_label, Labelled, one_colon, two_colons, PieceDue, behind_labelled, first_piece, later_piece}
+use Rattle.vax_lex.specs.Directives.{is_space, is_sign, is_bracket, Blanks, no_blanks, a_blank, Nested, nested_nothing, nested_part, nested_group, Piece, quoted_text, bracketed_value, Pieces, no_pieces, blank_more, piece_more, Tested, tested_nothing, tested_part, tested_group, Argument, argument_begins, argument_group, argument_more, is_of_first, is_of_last, Last, last_missing, last_given, Second, parted_by_comma, parted_by_blanks, Two, first_missing, first_given, Parted, by_blank, by_comma, Begun, begun_part, begun_group, Condition, two_texts, one_text, no_text, two_touching, text_touching, no_text_touching, is_immediate_if, StatementDue, at_line, behind_blank, behind_condition, OperatorDue, without_label, with_label, Labelled, one_colon, two_colons, PieceDue, behind_labelled, first_piece, later_piece}
 use Rattle.vax_lex.proofs.Behind.{behind, step, steps_to}
 
 -- the place of what stands behind parts
@@ -121,9 +121,8 @@ pieces_keep (blank_more {whole = whole} more) e = goes space whole text_piece te
 pieces_keep (piece_more pieces more p) e = piece_keeps p (pieces_keep more e)
 
 -- what is no text
-tested_keeps : {before whole : List Part} → Tested before whole → At before (expression_rest 0) → At whole (expression_rest 0)
-tested_keeps tested_nothing e = e
-tested_keeps (tested_part {whole = whole} p c o more) e = goes p whole (expression_rest 0) (expression_rest 0) (tested_keeps more e) (by_part p (behind whole).before c o)
+tested_step : (p : Part) (b : Before) → is_sign 44 p ≡ false → is_sign 60 p ≡ false → step p b (expression_rest 0) ≡ expression_rest 0
+tested_step p b c o = by_part p b c o
   where
     by_tests : (s t u : Bool) → u ≡ false → s ≡ false → cond s (expression_rest 1) (cond t (expression_rest 0) (cond (u && true) statement (expression_rest 0))) ≡ expression_rest 0
     by_tests true t u c o = absurd cc
@@ -137,6 +136,10 @@ tested_keeps (tested_part {whole = whole} p c o more) e = goes p whole (expressi
     by_part (sign m) b c o = by_tests (m == 60) (m == 62) (m == 44) c o
     by_part quotation b c o = refl
     by_part numeric b c o = refl
+
+tested_keeps : {before whole : List Part} → Tested before whole → At before (expression_rest 0) → At whole (expression_rest 0)
+tested_keeps tested_nothing e = e
+tested_keeps (tested_part {whole = whole} p c o more) e = goes p whole (expression_rest 0) (expression_rest 0) (tested_keeps more e) (tested_step p (behind whole).before c o)
 tested_keeps (tested_group {outer = outer} {inner = inner} o i) e =
     let opened = goes (sign 60) outer (expression_rest 0) (expression_rest 1) (tested_keeps o e) refl in
     goes (sign 62) inner (expression_rest 1) (expression_rest 0) (nested_keeps deep_expression expression_deepens 0 i opened) refl
@@ -240,22 +243,72 @@ parted {first = first} (a_blank {whole = whole} more) e = goes (sign 44) (space 
     between {first = first} no_blanks e = goes space first (text_argument false true 0) between_arguments e refl
     between (a_blank {whole = whole} more) e = goes space (space ∷ whole) between_arguments between_arguments (between more e) refl
 
-two_done : {before whole : List Part} → Two before whole → At before (text_argument false false 0) → Done whole
-two_done (first_missing {blanks = start} blanks last) e =
-    last_done last (goes (sign 44) start (text_argument false false 0) (text_argument true false 0) (blanks_keep (text_argument false false 0) (λ b. refl) blanks e) refl)
-two_done (parted_by_comma blanks argument behind last) e = last_done last (parted behind (first_placed blanks argument e))
-two_done {whole = whole} (parted_by_blanks {first = first} {behind = start} blanks argument behind last) e =
-    let between = goes space first (text_argument false true 0) between_arguments (first_placed blanks argument e) refl in
+second_done : {first whole : List Part} → Second first whole → At first (text_argument false true 0) → Done whole
+second_done (parted_by_comma behind last) e = last_done last (parted behind e)
+second_done {first = first} {whole = whole} (parted_by_blanks {behind = start} behind last) e =
+    let between = goes space first (text_argument false true 0) between_arguments e refl in
     let due = due_between start (blanks_keep between_arguments (λ b. refl) behind between) in
     goes (sign 44) whole (text_argument true true 0) statement (argument_placed true last_goes_on last due) refl
 
-condition_by : (name : List ℕ) (s t : Bool) → compares_texts name ≡ s → tests_text name ≡ t → condition_place name ≡ cond s (text_argument false false 0) (cond t (text_argument true false 0) (expression_rest 0))
-condition_by name s t e f = ap (λ (x : Bool). cond x (text_argument false false 0) (cond (tests_text name) (text_argument true false 0) (expression_rest 0))) e ∙ ap (λ (y : Bool). cond s (text_argument false false 0) (cond y (text_argument true false 0) (expression_rest 0))) f
+two_done : {before whole : List Part} → Two before whole → At before (text_argument false false 0) → Done whole
+two_done (first_missing {blanks = start} blanks last) e =
+    last_done last (goes (sign 44) start (text_argument false false 0) (text_argument true false 0) (blanks_keep (text_argument false false 0) (λ b. refl) blanks e) refl)
+two_done (first_given blanks argument second) e = second_done second (first_placed blanks argument e)
 
-condition_done : {name : List ℕ} {before whole : List Part} → Condition name before whole → At before (condition_place name) → Done whole
-condition_done {name = name} (two_texts c two) e = two_done two (e ∙ condition_by name true _ c refl)
-condition_done {name = name} (one_text c t last) e = last_done last (e ∙ condition_by name false true c t)
-condition_done {name = name} {whole = whole} (no_text c t tested) e = goes (sign 44) whole (expression_rest 0) statement (tested_keeps tested (e ∙ condition_by name false false c t)) refl
+tested_done : {before whole : List Part} → Tested before whole → At before (expression_rest 0) → Done whole
+tested_done {whole = whole} tested e = goes (sign 44) whole (expression_rest 0) statement (tested_keeps tested e) refl
+
+-- right behind the name of a condition
+subject_by : (name : List ℕ) (s t : Bool) → compares_texts name ≡ s → tests_text name ≡ t → subject_of name ≡ cond s on_two_texts (cond t on_text on_no_text)
+subject_by name s t e f = ap (λ (x : Bool). cond x on_two_texts (cond (tests_text name) on_text on_no_text)) e ∙ ap (λ (y : Bool). cond s on_two_texts (cond y on_text on_no_text)) f
+
+on_subject : (name : List ℕ) (before : List Part) (s : Subject) → subject_of name ≡ s → At before (condition_end (subject_of name)) → At before (condition_end s)
+on_subject name before s e f = f ∙ ap condition_end e
+
+parted_from : {before start : List Part} (s : Subject) → Parted before start → At before (condition_end s) → At start (argument_place s)
+parted_from {before = before} s by_blank e = goes space before (condition_end s) (argument_place s) e refl
+parted_from {before = before} s by_comma e = goes (sign 44) before (condition_end s) (argument_place s) e refl
+
+not_first : (t : Bool) (x y : Place) → t ≡ false → cond t x y ≡ y
+not_first true x y e = absurd cc
+not_first false x y e = refl
+
+-- a part that touches the name, and is no comma, is read as one behind what parts the argument from it
+touching : (s : Subject) (p : Part) (b : Before) → is_space p ≡ false → is_sign 44 p ≡ false → step p b (condition_end s) ≡ step p b (argument_place s)
+touching s space b n c = absurd cc
+touching on_two_texts (word name) b n c = refl
+touching on_text (word name) b n c = refl
+touching on_no_text (word name) b n c = refl
+touching on_two_texts (sign m) b n c = not_first (m == 44) _ _ c
+touching on_text (sign m) b n c = not_first (m == 44) _ _ c
+touching on_no_text (sign m) b n c = not_first (m == 44) _ _ c
+touching on_two_texts quotation b n c = refl
+touching on_text quotation b n c = refl
+touching on_no_text quotation b n c = refl
+touching on_two_texts numeric b n c = refl
+touching on_text numeric b n c = refl
+touching on_no_text numeric b n c = refl
+
+due_touching : (s : Subject) (last : Bool) (before : List Part) → argument_place s ≡ text_argument last false 0 → At before (condition_end s) → ArgumentDue last before
+due_touching s last before is e p n c = steps_to p before (condition_end s) e ∙ touching s p (behind before).before n c ∙ ap (step p (behind before).before) is
+
+begun_placed : {before first : List Part} → Begun before first → At before (condition_end on_no_text) → At first (expression_rest 0)
+begun_placed {before = before} (begun_part p n) e =
+    let facts = begins_facts (is_space p) (is_sign 44 p) (is_sign 60 p) n in
+    steps_to p before (condition_end on_no_text) e ∙ touching on_no_text p (behind before).before facts.0 facts.1 ∙ tested_step p (behind before).before facts.1 facts.2
+begun_placed {before = before} (begun_group {inner = inner} n) e =
+    let opened = goes (sign 60) before (condition_end on_no_text) (expression_rest 1) e refl in
+    goes (sign 62) inner (expression_rest 1) (expression_rest 0) (nested_keeps deep_expression expression_deepens 0 n opened) refl
+
+condition_done : {name : List ℕ} {before whole : List Part} → Condition name before whole → At before (condition_end (subject_of name)) → Done whole
+condition_done {name = name} {before = before} (two_texts c parts two) e = two_done two (parted_from on_two_texts parts (on_subject name before on_two_texts (subject_by name true _ c refl) e))
+condition_done {name = name} {before = before} (one_text c t parts last) e = last_done last (parted_from on_text parts (on_subject name before on_text (subject_by name false true c t) e))
+condition_done {name = name} {before = before} (no_text c t parts tested) e = tested_done tested (parted_from on_no_text parts (on_subject name before on_no_text (subject_by name false false c t) e))
+condition_done {name = name} {before = before} (two_touching c argument second) e =
+    second_done second (argument_placed false first_goes_on argument (due_touching on_two_texts false before refl (on_subject name before on_two_texts (subject_by name true _ c refl) e)))
+condition_done {name = name} {before = before} {whole = whole} (text_touching c t argument) e =
+    goes (sign 44) whole (text_argument true true 0) statement (argument_placed true last_goes_on argument (due_touching on_text true before refl (on_subject name before on_text (subject_by name false true c t) e))) refl
+condition_done {name = name} {before = before} (no_text_touching c t begun tested) e = tested_done tested (begun_placed begun (on_subject name before on_no_text (subject_by name false false c t) e))
 
 -- which operator a name is
 text_operator : (name : List ℕ) → is_text_directive name ≡ true → operator_of name ≡ text_directive
@@ -294,13 +347,13 @@ mutual
   statement_placed (behind_condition {before = before} {blanks = start} name condition due is blanks tests) =
       condition_done tests (condition_named before start name condition due is blanks)
 
-  condition_named : (before start : List Part) (name condition : List ℕ) → OperatorDue before → is_immediate_if name ≡ true → Blanks (word name ∷ before) start → At (word condition ∷ start) (condition_place condition)
+  condition_named : (before start : List Part) (name condition : List ℕ) → OperatorDue before → is_immediate_if name ≡ true → Blanks (word name ∷ before) start → At (word condition ∷ start) (condition_end (subject_of condition))
   condition_named before start name condition (without_label due) is blanks =
       let first = goes (word name) before statement (first_name immediate_if) (statement_placed due) (ap first_name (immediate_operator name is)) in
-      goes (word condition) start (first_name immediate_if) (condition_place condition) (blanks_keep (first_name immediate_if) (λ b. refl) blanks first) refl
+      goes (word condition) start (first_name immediate_if) (condition_end (subject_of condition)) (blanks_keep (first_name immediate_if) (λ b. refl) blanks first) refl
   condition_named before start name condition (with_label label) is blanks =
       let first = goes (word name) before behind_label condition_name (label_placed label) (ap operand_place (immediate_operator name is)) in
-      goes (word condition) start condition_name (condition_place condition) (blanks_keep condition_name (λ b. refl) blanks first) refl
+      goes (word condition) start condition_name (condition_end (subject_of condition)) (blanks_keep condition_name (λ b. refl) blanks first) refl
 
   pub label_placed : {whole : List Part} → Labelled whole → At whole behind_label
   label_placed (one_colon {before = before} {blanks = start} name due blanks more) = blanks_keep behind_label (λ b. refl) more (colon_placed before start name (statement_placed due) blanks)

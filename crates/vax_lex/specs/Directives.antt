@@ -73,17 +73,35 @@ pub data Last : List Part → List Part → Type 0 where
   last_missing : {before whole : List Part} → Blanks before whole → Last before whole
   last_given : {before blanks whole : List Part} → Blanks before blanks → Argument is_of_last blanks whole → Last before whole
 
--- two arguments, with a comma between them or with blanks alone
+-- the second of two arguments behind the first, with a comma between them or with blanks alone
+pub data Second : List Part → List Part → Type 0 where
+  parted_by_comma : {first behind whole : List Part} → Blanks first behind → Last (sign 44 ∷ behind) whole → Second first whole
+  parted_by_blanks : {first behind whole : List Part} → Blanks (space ∷ first) behind → Argument is_of_last behind whole → Second first whole
+
+-- two arguments
 pub data Two : List Part → List Part → Type 0 where
   first_missing : {before blanks whole : List Part} → Blanks before blanks → Last (sign 44 ∷ blanks) whole → Two before whole
-  parted_by_comma : {before blanks first behind whole : List Part} → Blanks before blanks → Argument is_of_first blanks first → Blanks first behind → Last (sign 44 ∷ behind) whole → Two before whole
-  parted_by_blanks : {before blanks first behind whole : List Part} → Blanks before blanks → Argument is_of_first blanks first → Blanks (space ∷ first) behind → Argument is_of_last behind whole → Two before whole
+  first_given : {before blanks first whole : List Part} → Blanks before blanks → Argument is_of_first blanks first → Second first whole → Two before whole
 
--- what stands behind the name of a condition: two texts, one text, or what is no text
+-- what parts the name of a condition from its argument: a blank, or a comma that touches the name
+pub data Parted : List Part → List Part → Type 0 where
+  by_blank : {before : List Part} → Parted before (space ∷ before)
+  by_comma : {before : List Part} → Parted before (sign 44 ∷ before)
+
+-- what begins an expression or a name that touches the name of its condition
+pub data Begun : List Part → List Part → Type 0 where
+  begun_part : {before : List Part} (p : Part) → begins_argument p ≡ true → Begun before (p ∷ before)
+  begun_group : {before inner : List Part} → Nested (sign 60 ∷ before) inner → Begun before (sign 62 ∷ inner)
+
+-- What stands behind the name of a condition: two texts, one text, or what is no text. It is parted from the name, or it
+-- touches the name and begins with no comma.
 pub data Condition (name : List ℕ) : List Part → List Part → Type 0 where
-  two_texts : {before whole : List Part} → compares_texts name ≡ true → Two before whole → Condition name before whole
-  one_text : {before whole : List Part} → compares_texts name ≡ false → tests_text name ≡ true → Last before whole → Condition name before whole
-  no_text : {before whole : List Part} → compares_texts name ≡ false → tests_text name ≡ false → Tested before whole → Condition name before whole
+  two_texts : {before start whole : List Part} → compares_texts name ≡ true → Parted before start → Two start whole → Condition name before whole
+  one_text : {before start whole : List Part} → compares_texts name ≡ false → tests_text name ≡ true → Parted before start → Last start whole → Condition name before whole
+  no_text : {before start whole : List Part} → compares_texts name ≡ false → tests_text name ≡ false → Parted before start → Tested start whole → Condition name before whole
+  two_touching : {before first whole : List Part} → compares_texts name ≡ true → Argument is_of_first before first → Second first whole → Condition name before whole
+  text_touching : {before whole : List Part} → compares_texts name ≡ false → tests_text name ≡ true → Argument is_of_last before whole → Condition name before whole
+  no_text_touching : {before first whole : List Part} → compares_texts name ≡ false → tests_text name ≡ false → Begun before first → Tested first whole → Condition name before whole
 
 abbrev pub is_immediate_if : List ℕ → Bool
 is_immediate_if name = spells (codes ".IIF") name

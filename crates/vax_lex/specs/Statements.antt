@@ -12,6 +12,12 @@ pub data Operator : Type 0 where
   immediate_if : Operator
   other_operator : Operator
 
+-- what a condition is on: two texts, one text, or what is no text, an expression or a name
+pub data Subject : Type 0 where
+  on_two_texts : Subject
+  on_text : Subject
+  on_no_text : Subject
+
 -- The part of a statement that is due.
 pub data Place : Type 0 where
   -- the statement itself: its label or its operator
@@ -26,6 +32,8 @@ pub data Place : Type 0 where
   bracketed_piece : ℕ → Place
   -- the name of a condition
   condition_name : Place
+  -- what stands right behind that name: a blank, a comma that touches it, or the argument
+  condition_end : Subject → Place
   -- the rest of a condition's expression or name, in so many open brackets
   expression_rest : ℕ → Place
   -- the rest of a condition's argument that is any text: the last one or not, something of it stands before or not,
@@ -75,12 +83,17 @@ compares_texts name = spells (codes "IDN") name || spells (codes "DIF") name || 
 abbrev pub tests_text : List ℕ → Bool
 tests_text name = spells (codes "B") name || spells (codes "NB") name || spells (codes "BLANK") name || spells (codes "NOT_BLANK") name
 
--- what is due behind the name of a condition: two texts, one text, or an expression or a name
-abbrev pub condition_place : List ℕ → Place
-condition_place name =
-    if compares_texts name then text_argument false false 0
-    else (if tests_text name then text_argument true false 0
-    else expression_rest 0)
+abbrev pub subject_of : List ℕ → Subject
+subject_of name =
+    if compares_texts name then on_two_texts
+    else (if tests_text name then on_text
+    else on_no_text)
+
+-- what is due behind the name of a condition and what parts it from its argument
+abbrev pub argument_place : Subject → Place
+argument_place on_two_texts = text_argument false false 0
+argument_place on_text = text_argument true false 0
+argument_place on_no_text = expression_rest 0
 
 -- the token is this mark
 abbrev pub is_mark : ℕ → TokenKind → Bool
@@ -128,6 +141,22 @@ argument_after last begun zero kind =
     else (if is_mark 60 kind && not begun then text_argument last true 1
     else text_argument last true 0)
 
+abbrev pub expression_after : ℕ → TokenKind → Place
+expression_after depth kind =
+    if is_mark 60 kind then expression_rest (depth + 1)
+    else (if is_mark 62 kind then expression_rest (depth - 1)
+    else (if is_mark 44 kind && (depth == 0) then statement
+    else expression_rest depth))
+
+-- What is due after a token right behind the name of a condition: a comma, or what begins its argument.
+abbrev pub begun_after : Subject → TokenKind → Place
+begun_after on_two_texts kind = argument_after false false 0 kind
+begun_after on_text kind = argument_after true false 0 kind
+begun_after on_no_text kind = expression_after 0 kind
+
+abbrev pub condition_after : Subject → TokenKind → Place
+condition_after subject kind = if is_mark 44 kind then argument_place subject else begun_after subject kind
+
 -- What is due after a token of the operands.
 abbrev pub operand_after : Place → TokenKind → List ℕ → Place
 operand_after text_piece kind text =
@@ -136,12 +165,9 @@ operand_after (bracketed_piece depth) kind text =
     if is_mark 60 kind then bracketed_piece (depth + 1)
     else (if is_mark 62 kind then (if nat_le depth 1 then text_piece else bracketed_piece (depth - 1))
     else bracketed_piece depth)
-operand_after condition_name kind text = if is_name kind then condition_place text else operands
-operand_after (expression_rest depth) kind text =
-    if is_mark 60 kind then expression_rest (depth + 1)
-    else (if is_mark 62 kind then expression_rest (depth - 1)
-    else (if is_mark 44 kind && (depth == 0) then statement
-    else expression_rest depth))
+operand_after condition_name kind text = if is_name kind then condition_end (subject_of text) else operands
+operand_after (condition_end subject) kind text = condition_after subject kind
+operand_after (expression_rest depth) kind text = expression_after depth kind
 operand_after (text_argument last begun depth) kind text = argument_after last begun depth kind
 operand_after between_arguments kind text =
     if is_mark 44 kind then text_argument true false 0 else argument_after true false 0 kind
@@ -176,10 +202,11 @@ before_after c Text text = nothing_special
 abbrev pub context_after : Context → TokenKind → List ℕ → Context
 context_after c kind text = record { place = place_after c kind text; before = before_after c kind text }
 
--- A blank parts a name from a `^`, and a colon from a colon, but not `^A` from its text. It ends the first of two texts.
+-- A blank parts a name from a `^`, and a colon from a colon, but not `^A` from its text. It ends the first of two texts, and
+-- parts a condition's name from its argument, so that no comma behind it does.
 abbrev pub context_after_blank : Context → Context
 context_after_blank c = record {
-  place = elim c.place [ text_argument false true zero ↦ between_arguments | place ↦ place ];
+  place = elim c.place [ text_argument false true zero ↦ between_arguments | condition_end subject ↦ argument_place subject | place ↦ place ];
   before = if is_text_sign c.before then text_sign else nothing_special;
 }
 

@@ -1,13 +1,15 @@
 -- What the scanner's own types mean.
-use Rattle.vax_lex.specs.Statements.{Operator, text_directive, immediate_if, other_operator, Place, statement, first_name, behind_label, text_piece, bracketed_piece, condition_name, expression_rest, text_argument, between_arguments, operands, Before, nothing_special, size_letter, operator_caret, text_sign, label_colon, Context}
+use Rattle.vax_lex.specs.Statements.{Operator, text_directive, immediate_if, other_operator, Subject, on_two_texts, on_text, on_no_text, Place, statement, first_name, behind_label, text_piece, bracketed_piece, condition_name, condition_end, expression_rest, text_argument, between_arguments, operands, Before, nothing_special, size_letter, operator_caret, text_sign, label_colon, Context}
 use Rattle.vax_lex.specs.Tokens.{Head, blank, no_more, begins, too_wide, no_token}
 use Rattle.vax_lex.specs.Values.{Operation, addition, subtraction, multiplication, division, arithmetic_shift, logical_and, inclusive_or, exclusive_or}
 use Rattle.vax_lex.specs.declared.context.Operator.TheVariants as operators
+use Rattle.vax_lex.specs.declared.context.Subject.TheVariants as subjects
 use Rattle.vax_lex.specs.declared.context.Place.TheVariants as places
 use Rattle.vax_lex.specs.declared.context.Before.TheVariants as befores
 use Rattle.vax_lex.specs.declared.head.Head.TheVariants as heads
 use Rattle.vax_lex.specs.declared.value.Binary.TheVariants as binaries
 use Rattle.vax_lex.specs.declared.context.Operator as code_operator
+use Rattle.vax_lex.specs.declared.context.Subject as code_subject
 use Rattle.vax_lex.specs.declared.context.Place as code_place
 use Rattle.vax_lex.specs.declared.context.Before as code_before
 use Rattle.vax_lex.specs.declared.context.Context as code_context
@@ -19,6 +21,11 @@ operator_view operators.Text = text_directive
 operator_view operators.Conditional = immediate_if
 operator_view operators.Plain = other_operator
 
+abbrev pub subject_view : code_subject.Subject → Subject
+subject_view subjects.TwoTexts = on_two_texts
+subject_view subjects.Text = on_text
+subject_view subjects.NoText = on_no_text
+
 abbrev pub place_view : code_place.Place → Place
 place_view places.Statement = statement
 place_view (places.FirstName operator) = first_name (operator_view operator)
@@ -26,6 +33,7 @@ place_view places.AfterLabel = behind_label
 place_view places.Piece = text_piece
 place_view (places.Bracketed depth) = bracketed_piece depth
 place_view places.Condition = condition_name
+place_view (places.ConditionEnd subject) = condition_end (subject_view subject)
 place_view (places.Expression depth) = expression_rest depth
 place_view (places.Argument last begun depth) = text_argument last begun depth
 place_view places.BetweenArguments = between_arguments

@@ -1,9 +1,9 @@
 // What the tokens so far say of the next one.
 
 ghost use Rattle.std.specs.Prelude.{◌≡◌, ◌<◌, ◌+◌, ◌≤◌};
-ghost use Rattle.vax_lex.specs.Statements.{operator_of, operand_place, condition_place, argument_after, operand_after, is_size_letter, place_after, before_after, context_after, context_after_blank, line_start, text_due, open_brackets};
+ghost use Rattle.vax_lex.specs.Statements.{operator_of, operand_place, subject_of, argument_place, argument_after, expression_after, condition_after, operand_after, is_size_letter, place_after, before_after, context_after, context_after_blank, line_start, text_due, open_brackets};
 ghost use Rattle.vax_lex.specs.Words.{text_start};
-ghost use Rattle.vax_lex.specs.Views.{operator_view, place_view, before_view, context_view};
+ghost use Rattle.vax_lex.specs.Views.{operator_view, subject_view, place_view, before_view, context_view};
 
 use crate::character::{is_delimiter, spells};
 use crate::token::TokenKind;
@@ -17,6 +17,15 @@ pub(crate) enum Operator {
     Conditional,
     /// Any other.
     Plain,
+}
+
+/// What a condition is on.
+#[derive(Clone, Copy, PartialEq, Eq)]
+pub(crate) enum Subject {
+    TwoTexts,
+    Text,
+    /// An expression or a name.
+    NoText,
 }
 
 /// The part of a statement that is due.
@@ -34,6 +43,8 @@ pub(crate) enum Place {
     Bracketed(u32),
     /// The name of a condition.
     Condition,
+    /// What stands right behind that name: a blank, a comma that touches it, or the argument.
+    ConditionEnd(Subject),
     /// The rest of a condition's expression or name, in so many open brackets.
     Expression(u32),
     /// The rest of a condition's argument that is any text.
@@ -97,9 +108,9 @@ fn operand_place(operator: Operator) -> Place
     }
 }
 
-/// What is due behind the name of a condition.
-fn condition_place(name: &[u8]) -> Place
-    ensures { place_view result ≡ condition_place name.now }
+/// What the condition of this name is on.
+fn subject_of(name: &[u8]) -> Subject
+    ensures { subject_view result ≡ subject_of name.now }
 {
     let two_texts = spells(b"IDN", name)
         || spells(b"DIF", name)
@@ -110,19 +121,30 @@ fn condition_place(name: &[u8]) -> Place
         || spells(b"BLANK", name)
         || spells(b"NOT_BLANK", name);
     if two_texts {
-        Place::Argument {
+        Subject::TwoTexts
+    } else if one_text {
+        Subject::Text
+    } else {
+        Subject::NoText
+    }
+}
+
+/// What is due behind the name of a condition and what parts it from its argument.
+fn argument_place(subject: Subject) -> Place
+    ensures { place_view result ≡ argument_place (subject_view subject) }
+{
+    match subject {
+        Subject::TwoTexts => Place::Argument {
             last: false,
             begun: false,
             depth: 0,
-        }
-    } else if one_text {
-        Place::Argument {
+        },
+        Subject::Text => Place::Argument {
             last: true,
             begun: false,
             depth: 0,
-        }
-    } else {
-        Place::Expression(0)
+        },
+        Subject::NoText => Place::Expression(0),
     }
 }
 
@@ -154,6 +176,31 @@ fn argument_after(last: bool, begun: bool, depth: u32, kind: TokenKind) -> Place
     }
 }
 
+/// What is due after a token of a condition's expression or name.
+fn expression_after(depth: u32, kind: TokenKind) -> Place
+    requires { depth < 4096 }
+    ensures { place_view result ≡ expression_after depth kind }
+{
+    match kind {
+        TokenKind::Mark(b'<') => Place::Expression(depth + 1),
+        TokenKind::Mark(b'>') => Place::Expression(depth.saturating_sub(1)),
+        TokenKind::Mark(b',') if depth == 0 => Place::Statement,
+        _ => Place::Expression(depth),
+    }
+}
+
+/// What is due after a token right behind the name of a condition.
+fn condition_after(subject: Subject, kind: TokenKind) -> Place
+    ensures { place_view result ≡ condition_after (subject_view subject) kind }
+{
+    match (subject, kind) {
+        (_, TokenKind::Mark(b',')) => argument_place(subject),
+        (Subject::TwoTexts, _) => argument_after(false, false, 0, kind),
+        (Subject::Text, _) => argument_after(true, false, 0, kind),
+        (Subject::NoText, _) => expression_after(0, kind),
+    }
+}
+
 /// What is due after a token of the operands.
 fn operand_after(place: Place, kind: TokenKind, text: &[u8]) -> Place
     requires { open_brackets (place_view place) < 4096 }
@@ -172,15 +219,11 @@ fn operand_after(place: Place, kind: TokenKind, text: &[u8]) -> Place
             _ => place,
         },
         Place::Condition => match kind {
-            TokenKind::Name => condition_place(text),
+            TokenKind::Name => Place::ConditionEnd(subject_of(text)),
             _ => Place::Operands,
         },
-        Place::Expression(depth) => match kind {
-            TokenKind::Mark(b'<') => Place::Expression(depth + 1),
-            TokenKind::Mark(b'>') => Place::Expression(depth.saturating_sub(1)),
-            TokenKind::Mark(b',') if depth == 0 => Place::Statement,
-            _ => place,
-        },
+        Place::ConditionEnd(subject) => condition_after(subject, kind),
+        Place::Expression(depth) => expression_after(depth, kind),
         Place::Argument { last, begun, depth } => argument_after(last, begun, depth, kind),
         Place::BetweenArguments => match kind {
             TokenKind::Mark(b',') => Place::Argument {
@@ -286,6 +329,7 @@ impl Context {
                 begun: true,
                 depth: 0,
             } => Place::BetweenArguments,
+            Place::ConditionEnd(subject) => argument_place(subject),
             place => place,
         };
         let before = match self.before {

@@ -81,7 +81,7 @@ fn number_of(radix: u8, digits: &[u8]) -> Option<u64>
 /// The number or the local label that begins with a digit.
 #[tactic(auto, unfolding(crate::specs::Tokens::numeral))]
 fn numeral(bytes: &[u8]) -> Head
-    requires { length bytes.now ≤ 1024 }
+    requires { length bytes.now ≤ 2048 }
     ensures { head_view result ≡ numeral bytes.now }
 {
     let count = digit_run(10, bytes);
@@ -98,7 +98,7 @@ fn numeral(bytes: &[u8]) -> Head
 /// The number in a radix, whose digits come behind a `^` and a letter.
 #[tactic(auto, using(crate::proofs::Runs::no_digits), unfolding(crate::specs::Tokens::based))]
 fn based(radix: u8, bytes: &[u8]) -> Head
-    requires { length bytes.now ≤ 1024 }
+    requires { length bytes.now ≤ 2048 }
     ensures { head_view result ≡ based radix bytes.now }
 {
     let count = digit_run(radix, bytes);
@@ -113,7 +113,7 @@ fn based(radix: u8, bytes: &[u8]) -> Head
 
 /// What a `^` begins.
 fn caret(bytes: &[u8]) -> Head
-    requires { length bytes.now ≤ 1024 }
+    requires { length bytes.now ≤ 2048 }
     ensures { head_view result ≡ caret bytes.now }
 {
     match bytes {
@@ -136,7 +136,7 @@ fn position_of(wanted: u8, bytes: &[u8]) -> Option<usize>
 /// The text up to the next byte that is its delimiter.
 #[tactic(auto, unfolding(crate::specs::Tokens::quoted))]
 fn quoted(delimiter: u8, bytes: &[u8]) -> Head
-    requires { length bytes.now ≤ 1024 }
+    requires { length bytes.now ≤ 2048 }
     ensures { head_view result ≡ quoted delimiter bytes.now }
 {
     match position_of(delimiter, bytes) {
@@ -148,7 +148,7 @@ fn quoted(delimiter: u8, bytes: &[u8]) -> Head
 /// What a byte and those behind it begin where no text is due.
 #[tactic(auto, unfolding(crate::specs::Tokens::plain))]
 fn plain(bytes: &[u8]) -> Head
-    requires { length bytes.now ≤ 1024 }
+    requires { length bytes.now ≤ 2048 }
     ensures { head_view result ≡ plain bytes.now }
 {
     let [first, rest @ ..] = bytes else {
@@ -175,7 +175,7 @@ fn plain(bytes: &[u8]) -> Head
 /// What the bytes that are left of a line begin with.
 #[tactic(auto, unfolding(crate::specs::Tokens::head_of))]
 pub(crate) fn head_of(context: Context, bytes: &[u8]) -> Head
-    requires { length bytes.now ≤ 1024 }
+    requires { length bytes.now ≤ 2048 }
     ensures { head_view result ≡ head_of (context_view context) bytes.now }
 {
     let Some(first) = bytes.first().copied() else {
@@ -195,7 +195,7 @@ pub(crate) fn head_of(context: Context, bytes: &[u8]) -> Head
 /// What the bytes that are left of a text begin with where no quoted text begins anywhere.
 #[tactic(auto, unfolding(crate::specs::Words::word_of))]
 pub(crate) fn word_of(context: Context, bytes: &[u8]) -> Head
-    requires { length bytes.now ≤ 1024 }
+    requires { length bytes.now ≤ 2048 }
     ensures { head_view result ≡ word_of (context_view context) bytes.now }
 {
     let Some(first) = bytes.first().copied() else {

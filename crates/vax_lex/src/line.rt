@@ -12,7 +12,7 @@ use std::alloc::{AllocError, Global};
 
 /// Adds a piece of so many bytes.
 fn add(pieces: &mut Vec<Piece>, kind: PieceKind, at: usize, length: usize) -> Result<(), AllocError>
-    requires { at + length ≤ 1024 }
+    requires { at + length ≤ 2048 }
     ensures { OnOk result (pieces.new.items ≡ pieces.old.items ++ piece kind at length ∷ []) }
 {
     pieces.push(Piece {
@@ -23,13 +23,13 @@ fn add(pieces: &mut Vec<Piece>, kind: PieceKind, at: usize, length: usize) -> Re
     Ok(())
 }
 
-/// The pieces of a line of at most 1,024 bytes, which has no line feed: its tokens, and what stands between them and is
-/// no token.
+/// The pieces of a text of at most 2,048 bytes, which has no line feed: its tokens, and what stands between them and is
+/// no token. Two lines that are joined have so many bytes, before the comment between them is dropped.
 ///
 /// Blanks and the comment belong to no piece. A number above 64 bits is one piece, and so is a byte where no token
 /// begins, behind which the line goes on as behind a mark. So a line with a fault can be read for its other faults.
 pub fn pieces(alloc: Global, line: &[u8]) -> Result<Vec<Piece>, AllocError>
-    requires { length line.now ≤ 1024 }
+    requires { length line.now ≤ 2048 }
     // The pieces are those of the definition.
     ensures exact { IfOk result (λ v. v.items ≡ pieces_of line.now) }
     // The line is written as these pieces in the language.

@@ -2,3 +2,4 @@ pub mod Links
 mod Frames
 pub mod Pages
 mod Moves
+mod Reading

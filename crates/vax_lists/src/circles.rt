@@ -1,5 +1,5 @@
 //! Frames in two lists, doubly linked.
-ghost use Rattle.std.specs.Prelude.{◌≡◌, ◌+◌, ◌-◌, ◌<◌, ◌≤◌, ◌∷◌, ◌++◌, true, [], length, drop, slice_get, slice_index, IfOk, IfSome};
+ghost use Rattle.std.specs.Prelude.{◌≡◌, ◌+◌, ◌-◌, ◌<◌, ◌≤◌, ◌∷◌, ◌++◌, true, [], length, drop, map, take, slice_get, slice_index, IfOk, IfSome};
 ghost use Rattle.vax_lists.specs.Links.{Away, before_appended, before_removed, is_in, next_appended, next_removed, omit, with_first, with_second};
 
 use std::alloc::Global;
@@ -50,7 +50,7 @@ impl Links {
 }
 
 /// Frames below a limit in two lists, each frame once and in one of them. Only `new` takes memory, 4 bytes a frame, and
-/// only `is_among_last` looks at more than two of them.
+/// only `is_among_last` and `read` look at more than two of them.
 #[derive(Drop)]
 pub(crate) struct Circles {
     /// Two circles, through `limit` and through `limit + 1`.
@@ -164,6 +164,22 @@ impl Circles {
     {
         self.links.remove(frame);
         self.second -= 1;
+    }
+
+    /// Writes what a table has at the frames of the first list, in order, and answers how many these are.
+    pub(crate) fn read(&self, table: &[u32], cells: &mut [u32]) -> usize
+        requires table { length table.now ≡ self.now.limit }
+        requires room { length self.now.first ≤ length cells.old }
+        ensures count { result ≡ length self.now.first }
+        ensures cells { take result cells.new ≡ map (slice_index table.now) self.now.first }
+    {
+        let count = self.first as usize;
+        let mut at = self.limit as usize;
+        for i in 0..count {
+            at = usize::from(self.links.next[at]);
+            cells[i] = table[at];
+        }
+        count
     }
 
     /// Whether a frame is among so many that came last of the first list.

@@ -1,8 +1,8 @@
 //! The resident, the kept and the modified pages of a pager.
-ghost use Rattle.std.specs.Prelude.{◌≡◌, ◌≢◌, ◌≤◌, ◌<◌, ◌+◌, ◌-◌, ℕ, None, Some, [], IfOk, OnOk, OnErr, drop, is_some, slice_get, length, option_map};
+ghost use Rattle.std.specs.Prelude.{◌≡◌, ◌≢◌, ◌≤◌, ◌<◌, ◌+◌, ◌-◌, ℕ, None, Some, [], IfOk, OnOk, OnErr, drop, is_some, slice_get, length, option_map, take};
 ghost use Rattle.vax_outside.specs.Blocks.{PutsBlock};
 ghost use Rattle.vax_outside.specs.Faults.{Rose};
-ghost use Rattle.vax_lists.specs.Lines.{EachOnce, appended, frame_in, with_kept, with_modified, with_order, without};
+ghost use Rattle.vax_lists.specs.Lines.{EachOnce, appended, frame_in, with_kept, with_modified, with_order, without, pages_of};
 
 use crate::circles::Circles;
 use std::alloc::Global;
@@ -209,6 +209,15 @@ impl Lists {
     {
         let frame = self.modified.first()?;
         Some(self.pages[frame as usize])
+    }
+
+    /// Writes the resident pages, in order of service, and answers how many these are; looks at no others.
+    pub fn residents(&self, cells: &mut [u32]) -> usize
+        requires room { length self.now.order ≤ length cells.old }
+        ensures count { result ≡ length self.now.order }
+        ensures pages { take result cells.new ≡ pages_of self.now.order }
+    {
+        self.held.read(&self.pages, cells)
     }
 
     /// Whether a resident page is among so many that were served last; looks at so many pages.

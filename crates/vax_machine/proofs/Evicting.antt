@@ -1,12 +1,8 @@
 -- Several pages are made absent.
-use Rattle.std.proofs.Common.{ℕ, zero, suc, ◌≡◌, ◌+◌, ◌^◌, ◌<◌, ◌≤◌, List, [], ◌∷◌, ◌++◌, length, append_assoc, take, drop, get_or, refl, ap, sym, ◌∙◌, subst, arith, Option, Some, None, Result, Ok, Err}
-use Rattle.std.specs.List.{flat_map, range_with_len, slice_get}
-use Rattle.std.proofs.lemmas.List.{take_all}
-use Rattle.std.proofs.lemmas.Option.{get_or_from_slice_get, slice_get_within}
-use Rattle.vax_space.specs.declared.Area.{Area}
-use Rattle.vax_space.specs.Areas.{end_of}
-use Rattle.vax_space.specs.Faults.{IsSpace}
-use Rattle.vax_space.proofs.Extents.{area_end}
+use Rattle.std.proofs.Common.{ℕ, ◌≡◌, ◌+◌, ◌<◌, ◌≤◌, List, [], ◌∷◌, ◌++◌, length, append_assoc, take, drop, get_or, ap, sym, ◌∙◌, subst, arith, Option, Some, Result, Ok, Err}
+use Rattle.std.specs.List.{flat_map, slice_get}
+use Rattle.std.proofs.lemmas.List.{length-append, take_all}
+use Rattle.std.proofs.lemmas.Option.{get_or_from_slice_get, slice_get-get_or, slice_get_within}
 use Rattle.vax_outside.specs.Blocks.{BlockFile}
 use Rattle.vax_outside.specs.Channels.{Channels}
 use Rattle.vax_outside.proofs.Growth.{flat_map-more, flat_map-split}
@@ -21,31 +17,9 @@ use Rattle.vax_machine.specs.declared.event.Fault.{Fault}
 use Rattle.vax_machine.specs.declared.event.Fault.TheVariants.{Page, Write}
 use Rattle.vax_machine.specs.declared.held.Held.{Held}
 
--- pages one behind another
-
-range_more : (first n : ℕ) → range_with_len first (n + 1) ≡ range_with_len first n ++ (first + n) ∷ []
-range_more first zero = let e : first + 0 ≡ first = omega arith in rw e refl
-range_more first (suc n) =
-    let a : suc n + 1 ≡ suc (n + 1) = omega arith in
-    let b : first + suc n ≡ (first + 1) + n = omega arith in
-    rw (a, b) (ap (λ (xs : List ℕ). first ∷ xs) (range_more (first + 1) n))
-
-range_splits : (first n many : ℕ) → n < many → (rest : List ℕ) × (range_with_len first many ≡ range_with_len first n ++ ((first + n) ∷ rest))
-range_splits first zero zero low = absurd (omega (arith, low))
-range_splits first zero (suc many) low = let e : first + 0 ≡ first = omega arith in (range_with_len (first + 1) many, rw e refl)
-range_splits first (suc n) zero low = absurd (omega (arith, low))
-range_splits first (suc n) (suc many) low =
-    let k = range_splits (first + 1) n many (omega (arith, low)) in
-    let b : first + suc n ≡ (first + 1) + n = omega arith in
-    (k.0, rw b (ap (λ (xs : List ℕ). first ∷ xs) k.1))
-
 module _ (o : Origin) (p : Paged) (m : Engine) (file : Option BlockFile) (now : Option Channels) (left : Held) where
   pub none_yet : Follows o p m file now left → Follows o (all_evicted [] p) m file now left
   none_yet f = subst (λ (z : Paged). Follows o z m file now left) (sym (evicted_none p)) f
-
-  pub next_page : (first n : ℕ) → Follows o (all_evicted ((first + n) ∷ []) (all_evicted (range_with_len first n) p)) m file now left → Follows o (all_evicted (range_with_len first (n + 1)) p) m file now left
-  next_page first n f =
-      subst (λ (z : Paged). Follows o z m file now left) (sym (ap (λ (xs : List ℕ). all_evicted xs p) (range_more first n) ∙ evicted_append (range_with_len first n) ((first + n) ∷ []) p)) f
 
 -- some of the pages were made absent, and then a call failed
 
@@ -75,11 +49,6 @@ failed_in o p m file now left done next rest all (Err Write) (Err Write) l e h =
 failed_in o p m file now left done next rest all (Err Page) (Err Write) l e h = cc
 failed_in o p m file now left done next rest all (Err Write) (Err Page) l e h = cc
 
-pub failed_range : (o : Origin) (p : Paged) (m : Engine) (file : Option BlockFile) (now : Option Channels) (left : Held) (first n many : ℕ) (r q : Result (Unit {0}) Fault) → n < many → IsErrLike r q → EvictedAll q o ((first + n) ∷ []) (all_evicted (range_with_len first n) p) m file now left → EvictedAll r o (range_with_len first many) p m file now left
-failed_range o p m file now left first n many r q low l h =
-    let k = range_splits first n many low in
-    failed_in o p m file now left (range_with_len first n) ((first + n) ∷ []) k.0 (range_with_len first many) r q l k.1 h
-
 -- lists of pages one behind another
 
 module _ {X : Type 0} (f : X → List ℕ) (xs : List X) (i : ℕ) (x : X) (there : slice_get xs i ≡ Some x) (o : Origin) (p : Paged) (m : Engine) (file : Option BlockFile) (now : Option Channels) (left : Held) where
@@ -97,20 +66,12 @@ module _ {X : Type 0} (f : X → List ℕ) (xs : List X) (i : ℕ) (x : X) (ther
       failed_in o p m file now left (flat_map f (take i xs)) (f x) (flat_map f (drop (i + 1) xs)) (flat_map f xs) r q l
       (sym (ap (λ (z : X). flat_map f (take i xs) ++ (f z ++ flat_map f (drop (i + 1) xs))) (sym is_there) ∙ flat_map-split f xs i x (slice_get_within xs i x there))) h
 
-none_past : {X : Type 0} (xs : List X) (i : ℕ) → slice_get xs i ≡ None → length xs ≤ i
-none_past [] i h = omega arith
-none_past (x ∷ xs) zero h = cc
-none_past (x ∷ xs) (suc i) h = let k = none_past xs i h in omega (arith, k)
-
 pub all_lists : {X : Type 0} (f : X → List ℕ) (xs : List X) (i : ℕ) (o : Origin) (p : Paged) (m : Engine) (file : Option BlockFile) (now : Option Channels) (left : Held) → length xs ≤ i → Follows o (all_evicted (flat_map f (take i xs)) p) m file now left → Follows o (all_evicted (flat_map f xs) p) m file now left
 all_lists f xs i o p m file now left past t = subst (λ zs. Follows o (all_evicted (flat_map f zs) p) m file now left) (take_all i xs past) t
 
-pub past_all : {X : Type 0} (f : X → List ℕ) (xs : List X) (i : ℕ) (o : Origin) (p : Paged) (m : Engine) (file : Option BlockFile) (now : Option Channels) (left : Held) → slice_get xs i ≡ None → Follows o (all_evicted (flat_map f (take i xs)) p) m file now left → Follows o (all_evicted (flat_map f xs) p) m file now left
-past_all f xs i o p m file now left none t = all_lists f xs i o p m file now left (none_past xs i none) t
+-- an element that a list has at a place
+pub told : {X : Type 0} (xs : List X) (i : ℕ) (x : X) → (i < length xs) × (x ≡ get_or xs i x) → slice_get xs i ≡ Some x
+told {X} xs i x h = slice_get-get_or xs i x h.0 ∙ ap (λ (z : X). Some z) (sym h.1)
 
--- an area's end is a page number
-pub area_fits : (all areas here : List Area) (i : ℕ) (area : Area) → all ≡ areas → areas ≡ here → IsSpace areas → i < length here → area ≡ get_or all i area → area.first + area.pages < 2 ^ 32
-area_fits all areas here i area a b space low there =
-    let within : i < length areas = subst (λ (z : List Area). i < length z) (sym b) low in
-    let e : end_of area ≤ 0x401000 = area_end areas i area space within (there ∙ ap (λ (z : List Area). get_or z i area) a) in
-    omega (arith, e)
+pub one_more : {X : Type 0} (xs : List X) (x : X) → length xs + 1 ≡ length (xs ++ x ∷ [])
+one_more xs x = omega (arith, length-append xs (x ∷ []))

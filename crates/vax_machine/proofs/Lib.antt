@@ -10,6 +10,8 @@ pub mod Outputs
 pub mod Holding
 pub mod Listing
 pub mod Evicting
+pub mod Residents
+pub mod Skipping
 pub mod Serving
 pub mod Passing
 pub mod Beginning

@@ -16,12 +16,18 @@ use vax_space::{Access, NoMemory, Space};
 use vax_undo::Term;
 use vax_word::Core;
 
+/// The most frames that a machine may have.
+const MOST_FRAMES: usize = 32_768;
+
 /// A machine: a processor over a pager. With a page file it stands for a place of the flat machine: the start of one of its steps, or between
 /// two parts of one. Only `new` takes memory.
 #[derive(Drop)]
 pub struct Machine {
     pub(crate) engine: Engine,
+    /// Room for the numbers of the resident pages, which a run takes where it makes all pages absent.
+    pub(crate) found: Vec<u32>,
     ghost sound: { IsSound engine },
+    ghost room: { length found.items ≡ 32768 },
 }
 
 impl Machine {
@@ -62,6 +68,7 @@ impl Machine {
     {
         let pager = Pager::new(alloc, space, frames)?;
         let cpu = Cpu::new(core, Term::new(input));
+        let found = vec![in alloc; 0u32; MOST_FRAMES]?;
         Ok(Machine {
             engine: Engine {
                 pager,
@@ -71,6 +78,7 @@ impl Machine {
                 steps: 0,
                 turns: 0,
             },
+            found,
         })
     }
 
@@ -120,7 +128,8 @@ impl Machine {
         ensures written { result ≢ RunEnd.WriteFault → K.faults sink.new ≡ K.faults sink.old }
         ensures only { OnlyWrote limits.now.listed (K.contents sink.old) (K.contents sink.new) }
     {
-        self.engine.run(limits, schedule, file, sink)
+        self.engine
+            .run(limits, schedule, &mut self.found, file, sink)
     }
 
     /// The registers.

@@ -1,6 +1,5 @@
 //! Runs of a machine.
-ghost use Rattle.std.specs.Prelude.{◌≡◌, ◌≢◌, ℕ, ◌+◌, ◌-◌, ◌<◌, ◌≤◌, ◌^◌, None, Some, [], ◌∷◌, length, slice_get, OnOk, Option, IfSome, is_some, true};
-ghost use Rattle.vax_space.specs.declared.Area.{Area};
+ghost use Rattle.std.specs.Prelude.{◌≡◌, ◌≢◌, ℕ, ◌+◌, ◌-◌, ◌<◌, ◌≤◌, ◌^◌, None, Some, [], ◌∷◌, length, take, OnOk, Option, IfSome, is_some, true};
 ghost use Rattle.vax_outside.specs.Blocks.{BlockFile};
 ghost use Rattle.vax_outside.specs.Faults.{Rose};
 ghost use Rattle.vax_flat.specs.Parts.{Place};
@@ -12,7 +11,6 @@ use crate::event::{Applied, Fault, Limits, RunEnd};
 use crate::held::Held;
 use vax_outside::{PageFile, Sink};
 use vax_sched::{Schedule, Target};
-use vax_space::Area;
 
 /// Writes what is held back, and ends so, or by a write fault.
 fn finish<K: Sink>(held: &Held, end: RunEnd, sink: &mut K) -> RunEnd
@@ -28,10 +26,11 @@ fn finish<K: Sink>(held: &Held, end: RunEnd, sink: &mut K) -> RunEnd
 }
 
 impl Engine {
-    ghost use Rattle.std.specs.List.{flat_map, range_with_len};
+    ghost use Rattle.std.specs.List.{filter, flat_map};
     ghost use Rattle.vax_space.specs.Areas.{area_of, pages_of};
     ghost use Rattle.vax_space.specs.Faults.{IsSpace};
     ghost use Rattle.vax_pager.specs.Calls.{IsPaging};
+    ghost use Rattle.vax_pager.specs.Listing.{is_listed};
     ghost use Rattle.vax_pager.specs.Meaning.{pages};
     ghost use Rattle.vax_sched.specs.Due.{due};
     ghost use Rattle.vax_machine.specs.Console.{IsBetween, MayGoOn, StopsBetween};
@@ -86,102 +85,73 @@ impl Engine {
         }
     }
 
-    /// Makes so many pages absent, from one on, in ascending order.
-    fn evict_several<F: PageFile, K: Sink>(
+    /// Makes these pages absent, in order.
+    fn evict_pages<F: PageFile, K: Sink>(
         &mut self,
-        first: u32,
-        count: u32,
+        pages: &[u32],
         held: &mut Held,
         file: &mut F,
         sink: &mut K,
     ) -> Result<(), Fault>
         requires sound { IsSound self.old }
         requires turns { self.old.turns < 2 ^ 64 - 1 }
-        requires within { first + count < 2 ^ 32 }
         ensures sound { IsSound self.new }
-        ensures done { (o : Origin) → (p : Paged) → Follows o p self.old (F.contents file.old) (K.contents sink.old) held.old → EvictedAll result o (range_with_len first count) p self.new (F.contents file.new) (K.contents sink.new) held.new }
+        ensures done { (o : Origin) → (p : Paged) → Follows o p self.old (F.contents file.old) (K.contents sink.old) held.old → EvictedAll result o pages.now p self.new (F.contents file.new) (K.contents sink.new) held.new }
         ensures still { Still self.old self.new }
         ensures writes { StillWrites held.old held.new (K.contents sink.old) (K.contents sink.new) }
         ensures counts { Counts result (F.faults file.old) (F.faults file.new) (K.faults sink.old) (K.faults sink.new) }
     {
-        for place in 0..count {
-            self.evict_one(first + place, held, file, sink)?;
+        for page in pages {
+            self.evict_one(*page, held, file, sink)?;
         }
         Ok(())
     }
 
-    /// How many areas there are.
-    fn area_count(&self) -> usize
-        ensures { result ≡ length (pages self.now.pager).areas }
+    /// Writes the resident pages in ascending order, and answers how many these are.
+    fn residents(&self, found: &mut [u32]) -> usize
+        requires room { length found.old ≡ 32768 }
+        ensures few { result ≤ 32768 }
+        ensures pages { take result found.new ≡ filter (λ page. is_listed page (pages self.now.pager).order) (flat_map pages_of (pages self.now.pager).areas) }
     {
-        self.pager.space().areas().len()
+        self.facts();
+        let count = self.pager.residents(found);
+        found[..count].sort_unstable();
+        count
     }
 
-    /// An area, by its place among the areas.
-    fn area(&self, place: usize) -> &Area
-        requires { place < length (pages self.now.pager).areas }
-        ensures is { slice_get (pages self.now.pager).areas place ≡ Some result.now }
-        ensures within { result.now.first + result.now.pages < 2 ^ 32 }
-    {
-        let areas = self.pager.space().areas();
-        &areas[place]
-    }
-
-    /// Makes all pages of one area absent.
-    fn evict_area<F: PageFile, K: Sink>(
-        &mut self,
-        place: usize,
-        held: &mut Held,
-        file: &mut F,
-        sink: &mut K,
-    ) -> Result<(), Fault>
-        requires sound { IsSound self.old }
-        requires turns { self.old.turns < 2 ^ 64 - 1 }
-        requires there { place < length (pages self.old.pager).areas }
-        ensures sound { IsSound self.new }
-        ensures done { (o : Origin) → (p : Paged) → (area : Area) → slice_get (pages self.old.pager).areas place ≡ Some area → Follows o p self.old (F.contents file.old) (K.contents sink.old) held.old → EvictedAll result o (pages_of area) p self.new (F.contents file.new) (K.contents sink.new) held.new }
-        ensures still { Still self.old self.new }
-        ensures writes { StillWrites held.old held.new (K.contents sink.old) (K.contents sink.new) }
-        ensures counts { Counts result (F.faults file.old) (F.faults file.new) (K.faults sink.old) (K.faults sink.new) }
-    {
-        let area = self.area(place);
-        let first = area.first;
-        let count = area.pages;
-        self.evict_several(first, count, held, file, sink)
-    }
-
-    /// Makes all pages absent, in ascending order.
+    /// Makes all pages absent, in ascending order: those that are resident, since it changes nothing at others.
     fn evict_all<F: PageFile, K: Sink>(
         &mut self,
+        found: &mut [u32],
         held: &mut Held,
         file: &mut F,
         sink: &mut K,
     ) -> Result<(), Fault>
         requires sound { IsSound self.old }
         requires turns { self.old.turns < 2 ^ 64 - 1 }
+        requires room { length found.old ≡ 32768 }
         ensures sound { IsSound self.new }
         ensures done { (o : Origin) → (p : Paged) → Follows o p self.old (F.contents file.old) (K.contents sink.old) held.old → EvictedAll result o (flat_map pages_of (pages self.old.pager).areas) p self.new (F.contents file.new) (K.contents sink.new) held.new }
         ensures still { Still self.old self.new }
         ensures writes { StillWrites held.old held.new (K.contents sink.old) (K.contents sink.new) }
         ensures counts { Counts result (F.faults file.old) (F.faults file.new) (K.faults sink.old) (K.faults sink.new) }
     {
-        let count = self.area_count();
-        for place in 0..count {
-            self.evict_area(place, held, file, sink)?;
-        }
-        Ok(())
+        let count = self.residents(found);
+        self.evict_pages(&found[..count], held, file, sink)
     }
 
     /// Makes what a target names absent.
     fn evict_target<F: PageFile, K: Sink>(
         &mut self,
         target: Target,
+        found: &mut [u32],
         held: &mut Held,
         file: &mut F,
         sink: &mut K,
     ) -> Result<(), Fault>
         requires sound { IsSound self.old }
         requires turns { self.old.turns < 2 ^ 64 - 1 }
+        requires room { length found.old ≡ 32768 }
         ensures sound { IsSound self.new }
         ensures done { (o : Origin) → (p : Paged) → Follows o p self.old (F.contents file.old) (K.contents sink.old) held.old → EvictedAll result o (named (pages self.old.pager).areas target) p self.new (F.contents file.new) (K.contents sink.new) held.new }
         ensures still { Still self.old self.new }
@@ -190,7 +160,7 @@ impl Engine {
     {
         match target {
             Target::Page(page) => self.evict_one(page, held, file, sink),
-            Target::All => self.evict_all(held, file, sink),
+            Target::All => self.evict_all(found, held, file, sink),
         }
     }
 
@@ -198,23 +168,22 @@ impl Engine {
     fn evict_due<F: PageFile, K: Sink>(
         &mut self,
         schedule: &Schedule,
+        found: &mut [u32],
         held: &mut Held,
         file: &mut F,
         sink: &mut K,
     ) -> Result<(), Fault>
         requires sound { IsSound self.old }
         requires turns { self.old.turns < 2 ^ 64 - 1 }
+        requires room { length found.old ≡ 32768 }
         ensures sound { IsSound self.new }
         ensures done { (o : Origin) → (p : Paged) → Follows o p self.old (F.contents file.old) (K.contents sink.old) held.old → EvictedAll result o (all_named (pages self.old.pager).areas (due schedule.now (self.old.turns + 1))) p self.new (F.contents file.new) (K.contents sink.new) held.new }
         ensures still { Still self.old self.new }
         ensures writes { StillWrites held.old held.new (K.contents sink.old) (K.contents sink.new) }
         ensures counts { Counts result (F.faults file.old) (F.faults file.new) (K.faults sink.old) (K.faults sink.new) }
     {
-        let turn = self.turns + 1;
-        let mut place = 0;
-        while let Some(target) = schedule.due(turn, place) {
-            self.evict_target(target, held, file, sink)?;
-            place += 1;
+        for target in schedule.targets(self.turns + 1) {
+            self.evict_target(target, found, held, file, sink)?;
         }
         Ok(())
     }
@@ -293,6 +262,7 @@ impl Engine {
         &mut self,
         limits: &Limits,
         schedule: &Schedule,
+        found: &mut [u32],
         held: &mut Held,
         file: &mut F,
         sink: &mut K,
@@ -303,6 +273,7 @@ impl Engine {
         requires turns { self.old.turns < limits.now.turns }
         requires few_steps { limits.now.steps < 2 ^ 64 }
         requires few_turns { limits.now.turns < 2 ^ 64 - 2 }
+        requires room { length found.old ≡ 32768 }
         ensures sound { IsSound self.new }
         ensures done { (o : Origin) → (p : Paged) → Follows o p self.old (F.contents file.old) (K.contents sink.old) held.old → PinsTouched p.residence p.place → TurnsMade result limits.now o (pages self.old.pager).areas schedule.now p self.new (F.contents file.new) (K.contents sink.new) held.new }
         ensures steps { OnOk result (self.new.steps ≤ limits.now.steps) }
@@ -313,7 +284,7 @@ impl Engine {
         ensures writes { StillWrites held.old held.new (K.contents sink.old) (K.contents sink.new) }
         ensures counts { Counts result (F.faults file.old) (F.faults file.new) (K.faults sink.old) (K.faults sink.new) }
     {
-        self.evict_due(schedule, held, file, sink)?;
+        self.evict_due(schedule, found, held, file, sink)?;
         let most = self.most_attempts(limits, schedule);
         self.attempt_and_serve(most, held, file, sink)
     }
@@ -338,7 +309,7 @@ impl Engine {
     }
 
     /// Runs up to an ending or a limit. The bytes that the program sends to its console go to Out in order, and where evictions are listed a line
-    /// for each to Record.
+    /// for each to Record. `found` has room for the resident pages.
     ///
     /// After a page fault the machine stands where the turns before it left it; after a write fault, a prefix of what the whole run writes was
     /// written.
@@ -346,12 +317,14 @@ impl Engine {
         &mut self,
         limits: &Limits,
         schedule: &Schedule,
+        found: &mut [u32],
         file: &mut F,
         sink: &mut K,
     ) -> RunEnd
         requires sound { IsSound self.old }
         requires few_steps { limits.now.steps < 2 ^ 64 }
         requires few_turns { limits.now.turns < 2 ^ 64 - 2 }
+        requires room { length found.old ≡ 32768 }
         ensures sound { IsSound self.new }
         ensures ends { (place : Place) → Means self.old (F.contents file.old) place → PinsTouched (residence self.old) place → Ends limits.now (pages self.old.pager).areas schedule.now (begun self.old place) (F.contents file.old) result self.new (F.contents file.new) (K.contents sink.old) (K.contents sink.new) }
         ensures between { StopsBetween result → IsBetween self.old → IsBetween self.new }
@@ -369,7 +342,7 @@ impl Engine {
             if let Some(end) = self.stopped(limits) {
                 return finish(&held, end, sink);
             }
-            match self.several_turns(limits, schedule, &mut held, file, sink) {
+            match self.several_turns(limits, schedule, found, &mut held, file, sink) {
                 Ok(()) => {}
                 Err(Fault::Page) => return finish(&held, RunEnd::PageFault, sink),
                 Err(Fault::Write) => return RunEnd::WriteFault,

@@ -1,5 +1,5 @@
 -- Open conditions, and the first begin that has no end.
-use Rattle.std.proofs.Common.{◌≡◌, ℕ, suc, ◌+◌, ◌-◌, ◌<◌, List, [], ◌∷◌, length, map, get_or, Option, Some, None, refl, ap, ◌∙◌, arith}
+use Rattle.std.proofs.Common.{◌≡◌, ℕ, suc, ◌-◌, ◌<◌, List, [], ◌∷◌, length, map, get_or, Option, Some, None, refl, ap, ◌∙◌, arith}
 use Rattle.std.proofs.lemmas.List.{length-map}
 use Rattle.std.specs.Prelude.{Vec}
 use Rattle.std.specs.Global.{Global}
@@ -11,7 +11,7 @@ use Rattle.vax_macro.specs.Templates.{Template}
 use Rattle.vax_macro.specs.declared.line_types.Lines as code_lines
 use Rattle.vax_macro.specs.declared.template_types.Template as code_template
 use Rattle.vax_macro.proofs.Maps.{no_macros}
-use Rattle.vax_macro.specs.Rest.{Opening, OpenCondition, Pending, Rest, started}
+use Rattle.vax_macro.specs.Rest.{Opening, Pending, Rest, started}
 use Rattle.vax_macro.specs.Expansion.{last_begin, unclosed}
 use Rattle.vax_macro.specs.View.{condition_view, opening_of, macros_of}
 use Rattle.vax_macro.specs.declared.state_types.OpenCondition as code

@@ -8,3 +8,4 @@ pub mod Sources
 pub mod Tokens
 pub mod Begins
 pub mod Steps
+pub mod Lessening

@@ -1,5 +1,5 @@
 -- The tokens in place of pieces lie within the line, and so do some of its pieces.
-use Rattle.std.proofs.Common.{◌≡◌, ◌≤◌, ℕ, Bool, true, List, [], ◌∷◌, length, map, sym}
+use Rattle.std.proofs.Common.{◌≡◌, ◌≤◌, ℕ, true, List, [], ◌∷◌, length, map, sym}
 use Rattle.std.specs.Prelude.{All}
 use Rattle.std.proofs.lemmas.List.Elements.{All-map, All-weaker, All-take, All-drop, All-tail, All-rest, All-head, All-same}
 use Rattle.std.proofs.lemmas.Bool.{false≢true}

@@ -1,5 +1,5 @@
 -- What the types of conditions mean.
-use Rattle.std.specs.Prelude.{◌≡◌, ℕ, Bool, List, Option, Some, None, Result, Ok, Err, Vec}
+use Rattle.std.specs.Prelude.{◌≡◌, ℕ, List, Result, Ok, Err, Vec}
 use Rattle.std.proofs.Common.{Bor}
 use Rattle.std.specs.Global.{Global}
 use Rattle.vax_macro.specs.Directives.{Iterated}

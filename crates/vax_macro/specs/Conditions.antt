@@ -1,7 +1,6 @@
 -- Conditions, and counts of repeats (VAX MACRO and Instruction Set Reference Manual, directives `.IF`, `.IIF` and `.REPT`).
-use Rattle.std.specs.Prelude.{ℕ, ℤ, pos, negsuc, zero, ◌+◌, ◌-◌, Bool, true, false, not, ◌&&◌, ◌||◌, ◌==◌, nat_lt, List, [], ◌∷◌, length, take, drop, map, Option, Some, None, unwrap_or, is_some, Result, Ok, Err, codes, if◌then◌else◌}
+use Rattle.std.specs.Prelude.{ℕ, ℤ, pos, negsuc, ◌+◌, ◌-◌, Bool, true, false, not, ◌&&◌, ◌||◌, ◌==◌, nat_lt, List, [], ◌∷◌, length, take, drop, map, Option, Some, None, unwrap_or, is_some, Result, Ok, Err, codes, if◌then◌else◌}
 use Rattle.std.specs.List.{list_all, list_any, prefix_len}
-use Rattle.std.specs.Char.{is_ascii_digit}
 use Rattle.std.specs.Str.{bytes_eq}
 use Rattle.vax_lex.specs.Characters.{is_blank, spells, canonical_name}
 use Rattle.vax_lex.specs.Grammar.{Symbol, symbols_of}
@@ -185,11 +184,25 @@ no_condition pieces = if has_bad pieces then faults.Token else faults.Form
 abbrev pub named_condition : List ℕ → Piece → Option Condition
 named_condition text p = if is_name_piece p.kind then condition_named (piece_text text p) else None
 
+-- A comma that touches a condition's name parts it from what is behind it, as blanks do. Behind a blank a comma parts what
+-- stands before it, if anything does, from what stands behind.
+abbrev pub is_touching : ℕ → Piece → Bool
+is_touching end p = is_mark_piece 44 p.kind && (p.start == end)
+
+-- the pieces behind a condition's name that ends at a place, and the place from which they are read
+abbrev pub behind_name : ℕ → List Piece → List Piece
+behind_name end [] = []
+behind_name end (p ∷ pieces) = if is_touching end p then pieces else p ∷ pieces
+
+abbrev pub name_end : ℕ → List Piece → ℕ
+name_end end [] = end
+name_end end (p ∷ pieces) = if is_touching end p then p.end else end
+
 -- a condition's name and what is behind it
 unfoldable pub condition_in : (List ℕ → Option Value) → List ℕ → List Piece → Result Bool FaultKind
 condition_in names text [] = Err faults.Count
 condition_in names text (p ∷ pieces) = elim (named_condition text p) [
-  | Some condition ↦ condition_on names text condition p.end pieces
+  | Some condition ↦ condition_on names text condition (name_end p.end pieces) (behind_name p.end pieces)
   | None ↦ Err (no_condition (p ∷ pieces))
 ]
 
@@ -251,6 +264,6 @@ guarded_on names text (identical wanted) at pieces =
 unfoldable pub guarded_in : (List ℕ → Option Value) → List ℕ → List Piece → Result Guarded FaultKind
 guarded_in names text [] = Err faults.Count
 guarded_in names text (p ∷ pieces) = elim (named_condition text p) [
-  | Some condition ↦ guarded_on names text condition p.end pieces
+  | Some condition ↦ guarded_on names text condition (name_end p.end pieces) (behind_name p.end pieces)
   | None ↦ Err (no_condition (p ∷ pieces))
 ]

@@ -1,17 +1,17 @@
 -- What the lines of a source do: definitions of macros, calls, repeats and conditions (VAX MACRO and Instruction Set
 -- Reference Manual, directives `.MACRO` to `.ENDR`).
-use Rattle.std.specs.Prelude.{ℕ, ℤ, pos, negsuc, zero, suc, ◌+◌, ◌-◌, Bool, true, false, not, ◌&&◌, ◌||◌, ◌==◌, nat_lt, nat_le, List, [], ◌∷◌, ◌++◌, length, take, drop, map, replicate, Option, Some, None, unwrap_or, is_some, Result, Ok, Err, position, if◌then◌else◌}
-use Rattle.std.specs.List.{flat_map, prefix_len, list_all}
-use Rattle.vax_lex.specs.Characters.{is_blank, is_name_character, canonical_name}
+use Rattle.std.specs.Prelude.{ℕ, ℤ, pos, negsuc, zero, suc, ◌+◌, ◌-◌, Bool, true, false, not, ◌&&◌, ◌||◌, ◌==◌, nat_le, List, [], ◌∷◌, ◌++◌, length, take, drop, map, Option, Some, None, unwrap_or, is_some, Result, Ok, Err, if◌then◌else◌}
+use Rattle.std.specs.List.{flat_map, prefix_len}
+use Rattle.vax_lex.specs.Characters.{is_blank, canonical_name, spells}
 use Rattle.vax_lex.specs.declared.token.Piece.{Piece}
 use Rattle.vax_lex.specs.declared.value.Value.{Value}
 use Rattle.vax_macro.specs.declared.error.FaultKind.{FaultKind}
 use Rattle.vax_macro.specs.declared.error.FaultKind.TheVariants as faults
 use Rattle.vax_macro.specs.Names.{is_name, with_entry}
-use Rattle.vax_macro.specs.Arguments.{Argument, arguments, behind_blanks, begins_with, closing, name_length}
+use Rattle.vax_macro.specs.Arguments.{Argument, arguments, behind_blanks, begins_with, closing, is_no_separator, name_length}
 use Rattle.vax_macro.specs.Heads.{Head, Word, macro_word, end_macro, repeat, repeat_arguments, repeat_characters, end_repeat, if_word, if_false, if_true, if_true_false, end_if, immediate_if, end_word, other_word, word_in, piece_text, has_bad, has_unprintable, code_from}
 use Rattle.vax_macro.specs.Templates.{Formals, no_formals, with_formal, formals_from, BodyLine, Template, template, rewritten, assigned, Filled, filled}
-use Rattle.vax_macro.specs.Conditions.{number_in, condition_in, guarded_in, Guarded, no_keyword}
+use Rattle.vax_macro.specs.Conditions.{has_comma, number_in, condition_in, guarded_in, no_keyword}
 use Rattle.vax_macro.specs.Lines.{SourceLine, Reading}
 use Rattle.vax_macro.specs.Rest.{Opening, Use, macro_body, copies_of, copy_each, Pending, OpenCondition, Rest}
 
@@ -21,7 +21,7 @@ pub record Statement : Type 0 where
   pub text : List ℕ
 
 -- What a line does: it changes what is left to open, it is a statement, what is behind a place is read as a line of its
--- own, a label before that is a statement of its own or there is none, or it has a fault.
+-- own, a label up to a place is a statement and the line is read again without it, or it has a fault.
 pub data Done : Type 0 where
   Goes : Rest → Done
   Gives : Rest → Done
@@ -91,11 +91,36 @@ unless_fault None done = done
 abbrev pub unless_operands : List Piece → Head → Done → Done
 unless_operands pieces head done = unless_fault (operands_fault pieces head.operands) done
 
+-- The one operand of an `.ENDM` is the name of the macro that ends here, if one does, in letters of either case.
+abbrev pub is_named : List ℕ → Option (List ℕ) → List Piece → Bool
+is_named text None operands = false
+is_named text (Some name) [] = false
+is_named text (Some name) (p ∷ []) = spells name (piece_text text p)
+is_named text (Some name) (p ∷ q ∷ operands) = false
+
+abbrev pub end_fault : List ℕ → Option (List ℕ) → List Piece → List Piece → Option FaultKind
+end_fault text name pieces operands =
+    if has_bad pieces then Some faults.Token
+    else (if length operands == 0 then None
+    else (if has_comma operands then Some faults.Count
+    else (if is_named text name operands then None else Some faults.Form)))
+
+-- the fault of a line that ends a body
+abbrev pub body_fault : Use → List ℕ → List Piece → List Piece → Option FaultKind
+body_fault (macro_body name fs) text pieces operands = end_fault text (Some name) pieces operands
+body_fault (copies_of n) text pieces operands = operands_fault pieces operands
+body_fault (copy_each name texts) text pieces operands = operands_fault pieces operands
+
+-- A label stands before, and was not handed out yet.
+abbrev pub has_label : Reading → Head → Bool
+has_label line head = not line.labelled && not (head.label_end == 0)
+
 unfoldable pub collect : Pending → Reading → List Piece → Head → Rest → Done
 collect p line pieces head rest =
     let word = word_in line.text head.operator in
     if (p.nested == 0) && ends p.use_of word then
-    (if head.label_end == 0 then unless_operands pieces head (Goes (finished p rest)) else Label head.label_end (record rest { collecting = Some p }))
+    (if has_label line head then Label head.label_end (record rest { collecting = Some p })
+    else unless_fault (body_fault p.use_of line.text pieces head.operands) (Goes (finished p rest)))
     else Goes (record rest { collecting = Some (record p { nested = nested_after p.use_of word p.nested; lines = p.lines ++ line.parts }) })
 
 -- ---- Conditions
@@ -216,7 +241,7 @@ begin_macro line head at rest =
     else (if is_name (take (name_length text) text) then begin_body (canonical_name (take (name_length text) text)) (macro_formals (drop (name_length text) text)) line rest
     else Fails faults.Form))
 
--- The operands of `.IRP` and `.IRPC`: a formal argument, a comma, and a text in brackets.
+-- The operands of `.IRP` and `.IRPC`: a formal argument, a comma or blanks, and a text in brackets.
 abbrev pub listed_end : List ℕ → ℕ → Result (List ℕ) FaultKind
 listed_end text n =
     if length (behind_blanks (drop (n + 1) text)) == 0 then Ok (take n text)
@@ -229,10 +254,8 @@ listed_in text (Some n) = listed_end text n
 unfoldable pub listed : List ℕ → Result (List ℕ) FaultKind
 listed text = if begins_with 60 text then listed_in (drop 1 text) (closing 0 (drop 1 text)) else Err faults.Form
 
--- a name alone, perhaps with blanks behind it
-abbrev pub only_name : List ℕ → Option (List ℕ)
-only_name text =
-    if is_name (take (name_length text) text) && list_all is_blank (drop (name_length text) text) then Some (canonical_name (take (name_length text) text)) else None
+abbrev pub formal_name : List ℕ → Option (List ℕ)
+formal_name text = if is_name text then Some (canonical_name text) else None
 
 -- a formal argument and the text for it
 pub record Iterated : Type 0 where
@@ -244,14 +267,18 @@ iterated name (Err kind) = Err kind
 iterated None (Ok text) = Err faults.Form
 iterated (Some name) (Ok text) = Ok (record { name = name; text = text })
 
-abbrev pub iterated_at : List ℕ → Option ℕ → Result Iterated FaultKind
-iterated_at text None = Err faults.Count
-iterated_at text (Some n) = iterated (only_name (behind_blanks (take n text))) (listed (behind_blanks (drop (n + 1) text)))
+-- operands of which so many bytes are the formal argument
+abbrev pub iterated_at : List ℕ → ℕ → Result Iterated FaultKind
+iterated_at text n =
+    if length (drop n text) == 0 then Err faults.Count
+    else iterated (formal_name (take n text)) (listed (behind_comma (drop n text)))
+
+abbrev pub iterated_from : List ℕ → Result Iterated FaultKind
+iterated_from text = iterated_at text (prefix_len is_no_separator text)
 
 unfoldable pub iterated_in : List ℕ → List Piece → ℕ → Result Iterated FaultKind
 iterated_in text operands at =
-    if has_unprintable text operands then Err faults.Token
-    else iterated_at (code_from at operands text) (position (λ b. b == 44) (code_from at operands text))
+    if has_unprintable text operands then Err faults.Token else iterated_from (behind_blanks (code_from at operands text))
 
 abbrev pub argument_texts : List Argument → List (List ℕ)
 argument_texts arguments = map (λ a. unwrap_or a.text []) arguments
@@ -290,8 +317,9 @@ abbrev pub call_by : Template → Option (List Argument) → Reading → Rest �
 call_by t None line rest = Fails faults.Form
 call_by t (Some arguments) line rest = call_with t (assigned t.formals arguments) line rest
 
+-- A keyword is the name of a formal argument.
 abbrev pub is_formal : Formals → List ℕ → Bool
-is_formal fs name = is_some (fs.index (canonical_name name))
+is_formal fs name = is_name name && is_some (fs.index (canonical_name name))
 
 unfoldable pub call : Template → Reading → Head → ℕ → Rest → Done
 call t line head at rest =
@@ -300,14 +328,14 @@ call t line head at rest =
 
 -- ---- A line that is read
 
--- A label before a directive or a call is a statement of its own.
-abbrev pub behind_label : Head → Rest → Done → Done
-behind_label head rest done = if head.label_end == 0 then done else Label head.label_end rest
+-- A label before a directive or a call is a statement of its own. The rest of the line is read with its label once more.
+abbrev pub behind_label : Reading → Head → Rest → Done → Done
+behind_label line head rest done = if has_label line head then Label head.label_end rest else done
 
 unfoldable pub direct : (List ℕ → Option Value) → Word → Reading → List Piece → Head → ℕ → Rest → Done
 direct names word line pieces head at rest = elim word [
   | macro_word ↦ begin_macro line head at rest
-  | end_macro ↦ unless_operands pieces head (Fails faults.Nesting)
+  | end_macro ↦ unless_fault (end_fault line.text None pieces head.operands) (Fails faults.Nesting)
   | repeat ↦ begin_repeat names line head rest
   | repeat_arguments ↦ begin_arguments line head at rest
   | repeat_characters ↦ begin_characters line head at rest
@@ -325,11 +353,11 @@ direct names word line pieces head at rest = elim word [
 abbrev pub read_word : (List ℕ → Option Value) → Word → Reading → List Piece → Head → ℕ → Rest → Done
 read_word names end_word line pieces head at rest = Gives (record rest { lines = [] })
 read_word names other_word line pieces head at rest = Gives rest
-read_word names word line pieces head at rest = behind_label head rest (direct names word line pieces head at rest)
+read_word names word line pieces head at rest = behind_label line head rest (direct names word line pieces head at rest)
 
 -- A macro comes before a directive of its name.
 abbrev pub read_operator : (List ℕ → Option Value) → Reading → List Piece → Head → Piece → Option Template → Rest → Done
-read_operator names line pieces head operator (Some t) rest = behind_label head rest (call t line head operator.end rest)
+read_operator names line pieces head operator (Some t) rest = behind_label line head rest (call t line head operator.end rest)
 read_operator names line pieces head operator None rest = read_word names (word_in line.text (Some operator)) line pieces head operator.end rest
 
 unfoldable pub read : (List ℕ → Option Value) → Reading → List Piece → Head → Rest → Done

@@ -1,11 +1,11 @@
 -- What comes of a source, one step after another.
-use Rattle.std.specs.Prelude.{ℕ, zero, suc, ◌+◌, ◌-◌, Bool, true, false, ◌==◌, nat_lt, nat_le, List, [], ◌∷◌, ◌++◌, length, take, drop, Option, Some, None, option_map, if◌then◌else◌}
+use Rattle.std.specs.Prelude.{ℕ, zero, suc, ◌+◌, true, false, nat_le, List, [], ◌∷◌, ◌++◌, take, drop, Option, Some, None, option_map, if◌then◌else◌}
 use Rattle.vax_lex.specs.Tokens.{pieces_of}
 use Rattle.vax_lex.specs.declared.value.Value.{Value}
 use Rattle.vax_macro.specs.declared.error.FaultKind.{FaultKind}
 use Rattle.vax_macro.specs.declared.error.FaultKind.TheVariants as faults
 use Rattle.vax_macro.specs.Heads.{head_in}
-use Rattle.vax_macro.specs.Lines.{SourceLine, Reading, dash_in, is_long, with_part}
+use Rattle.vax_macro.specs.Lines.{SourceLine, Remainder, Reading, dash_in, before_dash, is_long, with_part}
 use Rattle.vax_macro.specs.Rest.{Opening, Pending, OpenCondition, Rest}
 use Rattle.vax_macro.specs.Directives.{Statement, Done, Goes, Gives, Again, Label, Fails, done}
 
@@ -28,23 +28,33 @@ unclosed [] collecting = option_map (λ p. p.begin) collecting
 unclosed (c ∷ conditions) collecting = Some (last_begin c conditions)
 
 -- what is behind a place of a line, as a line of its own
-abbrev pub cut : ℕ → Reading → SourceLine
-cut at line = record { number = line.number; depth = line.depth; text = drop at line.text }
+abbrev pub cut : ℕ → Reading → Remainder
+cut at line = record { number = line.number; depth = line.depth; text = drop at line.text; labelled = false }
+
+-- a line whose label was handed out
+abbrev pub behind_label : Reading → Remainder
+behind_label line = record { number = line.number; depth = line.depth; text = line.text; labelled = true }
 
 abbrev pub outcome : Reading → ℕ → Done → Stepped
 outcome line place (Goes rest) = Steps rest
 outcome line place (Gives rest) = Says (record { number = line.number; text = line.text }) rest
 outcome line place (Again at rest) = Steps (record rest { again = Some (cut at line) })
-outcome line place (Label at rest) = Says (record { number = line.number; text = take at line.text }) (record rest { again = Some (cut at line) })
+outcome line place (Label at rest) = Says (record { number = line.number; text = take at line.text }) (record rest { again = Some (behind_label line) })
 outcome line place (Fails kind) = Faults line.number place kind
 
 unfoldable pub line_step : (List ℕ → Option Value) → Reading → Rest → Stepped
 line_step names line rest = outcome line rest.read (done names line (pieces_of line.text) (head_in (pieces_of line.text)) rest)
 
--- a line that may be continued by those to come
-abbrev pub joined_with : Reading → List ℕ → List ℕ → Option ℕ → (Reading → Stepped) → (Reading → Stepped) → Stepped
-joined_with r text part None whole more = whole (with_part r text part)
-joined_with r text part (Some dash) whole more = more (with_part r (take dash text) part)
+-- A line that may be continued by those to come: of one that is, the `-` and the comment behind it are dropped, and what
+-- is joined counts without them.
+abbrev pub joined_on : Reading → Option ℕ → (Reading → Stepped) → (Reading → Stepped) → Stepped
+joined_on r None whole more = whole r
+joined_on r (Some dash) whole more = more r
+
+abbrev pub joined_with : ℕ → Reading → List ℕ → List ℕ → Option ℕ → (Reading → Stepped) → (Reading → Stepped) → Stepped
+joined_with place r text part dash whole more =
+    if is_long (before_dash text dash) then Faults r.number place faults.Token
+    else joined_on (with_part r (before_dash text dash) part) dash whole more
 
 -- the step of the line that begins with r and goes on with the lines to come
 unfoldable pub read_on : (List ℕ → Option Value) → Reading → List SourceLine → Rest → Stepped
@@ -52,16 +62,15 @@ read_on names r [] rest = line_step names r (record rest { lines = [] })
 read_on names r (line ∷ lines) rest =
     if is_long line.text then Faults line.number (rest.read + 1) faults.Token
     else (if nat_le 100000 rest.read then Faults line.number (rest.read + 1) faults.Lines
-    else (if is_long (r.text ++ line.text) then Faults r.number (rest.read + 1) faults.Token
-    else joined_with r (r.text ++ line.text) line.text (dash_in (pieces_of (r.text ++ line.text)))
+    else joined_with (rest.read + 1) r (r.text ++ line.text) line.text (dash_in (pieces_of (r.text ++ line.text)))
     (λ whole. line_step names whole (record rest { lines = lines; read = rest.read + 1 }))
-    (λ more. read_on names more lines (record rest { read = rest.read + 1 }))))
+    (λ more. read_on names more lines (record rest { read = rest.read + 1 })))
 
 abbrev pub begun : SourceLine → Reading
-begun line = record { number = line.number; depth = line.depth; text = []; parts = [] }
+begun line = record { number = line.number; depth = line.depth; text = []; parts = []; labelled = false }
 
-abbrev pub whole : SourceLine → Reading
-whole line = record { number = line.number; depth = line.depth; text = line.text; parts = line.text ∷ [] }
+abbrev pub whole : Remainder → Reading
+whole line = record { number = line.number; depth = line.depth; text = line.text; parts = line.text ∷ []; labelled = line.labelled }
 
 -- One step: what is left of the line just read, else the next line.
 abbrev pub next_line_step : (List ℕ → Option Value) → List SourceLine → Rest → Stepped

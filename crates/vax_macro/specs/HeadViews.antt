@@ -1,5 +1,5 @@
 -- What the types of lines' heads mean.
-use Rattle.std.specs.Prelude.{ℕ, List, drop}
+use Rattle.std.specs.Prelude.{List, drop}
 use Rattle.vax_lex.specs.declared.token.Piece.{Piece}
 use Rattle.vax_macro.specs.Heads as specs
 use Rattle.vax_macro.specs.declared.heads.Head as code_head

@@ -6,7 +6,7 @@ use Rattle.vax_lex.specs.Characters.{spells}
 use Rattle.vax_lex.specs.declared.token.Piece.{Piece}
 use Rattle.vax_lex.specs.declared.token.PieceKind.{PieceKind}
 use Rattle.vax_lex.specs.declared.token.PieceKind.TheVariants as kinds
-use Rattle.vax_lex.specs.declared.token.TokenKind.TheVariants.{Name, Number, Mark, Text}
+use Rattle.vax_lex.specs.declared.token.TokenKind.TheVariants.{Name, Mark}
 
 abbrev pub is_name_piece : PieceKind → Bool
 is_name_piece (kinds.Token Name) = true
@@ -104,7 +104,7 @@ unfoldable pub word_of : List ℕ → Word
 word_of name =
     if spells (codes ".MACRO") name then macro_word
     else (if spells (codes ".ENDM") name then end_macro
-    else (if spells (codes ".REPT") name then repeat
+    else (if spells (codes ".REPT") name || spells (codes ".REPEAT") name then repeat
     else (if spells (codes ".IRP") name then repeat_arguments
     else (if spells (codes ".IRPC") name then repeat_characters
     else (if spells (codes ".ENDR") name then end_repeat

@@ -1,11 +1,8 @@
 -- What the types of lines and expansions mean.
-use Rattle.std.specs.Prelude.{◌≡◌, ℕ, List, [], ◌∷◌, ◌++◌, map, drop, Option, Some, None, Vec}
+use Rattle.std.specs.Prelude.{◌≡◌, ℕ, List, [], ◌∷◌, ◌++◌, map, drop, Option, Some, None}
 use Rattle.std.specs.List.{flat_map}
 use Rattle.std.specs.Str.Lines.{lines}
-use Rattle.std.specs.Global.{Global}
-use Rattle.vax_macro.specs.Lines as specs
-use Rattle.vax_macro.specs.Lines.{SourceLine, Reading, numbered}
-use Rattle.vax_macro.specs.Templates.{BodyLine}
+use Rattle.vax_macro.specs.Lines.{SourceLine, Remainder, Reading, numbered}
 use Rattle.vax_macro.specs.Directives.{expansion, copies}
 use Rattle.vax_macro.specs.TemplateViews.{line_view, texts_view}
 use Rattle.vax_macro.specs.declared.line_types.SourceLine as code_line
@@ -17,11 +14,11 @@ use Rattle.vax_macro.specs.declared.line_types.Lines as code_lines
 abbrev pub line_of : code_line.SourceLine → SourceLine
 line_of l = record { number = l.number; depth = l.depth; text = l.text.items }
 
-abbrev pub remainder_of : code_remainder.Remainder → SourceLine
-remainder_of l = record { number = l.number; depth = l.depth; text = l.text.items }
+abbrev pub remainder_of : code_remainder.Remainder → Remainder
+remainder_of l = record { number = l.number; depth = l.depth; text = l.text.items; labelled = l.labelled }
 
 abbrev pub reading_of : code_reading.Reading → Reading
-reading_of r = record { number = r.number; depth = r.depth; text = r.text.items; parts = texts_view r.parts }
+reading_of r = record { number = r.number; depth = r.depth; text = r.text.items; parts = texts_view r.parts; labelled = r.labelled }
 
 -- the lines of a whole copy in these texts
 abbrev pub copy_in : code_frame.Frame → List (List ℕ) → List SourceLine

@@ -1,5 +1,5 @@
 -- How lines are read, with those that continue them.
-use Rattle.std.specs.Prelude.{◌≡◌, ℕ, ◌+◌, ◌<◌, ◌≤◌, List, ◌∷◌, ◌++◌, length, Option}
+use Rattle.std.specs.Prelude.{◌≡◌, ℕ, ◌+◌, ◌*◌, ◌<◌, ◌≤◌, List, ◌∷◌, ◌++◌, length, Option, if◌then◌else◌}
 use Rattle.vax_lex.specs.Tokens.{pieces_of}
 use Rattle.vax_lex.specs.declared.value.Value.{Value}
 use Rattle.vax_macro.specs.Expansion.{Stepped, Faults, Ends, line_step, read_on, joined_with, next_line_step, unclosed}
@@ -9,13 +9,17 @@ use Rattle.vax_macro.specs.Rest.{Rest}
 use Rattle.vax_macro.specs.declared.line_types.Joined.{Joined}
 use Rattle.vax_macro.specs.declared.line_types.Joined.TheVariants as joins
 use Rattle.vax_macro.specs.declared.line_types.Read.{Read}
+use Rattle.vax_macro.specs.declared.line_types.Reading as code_reading
 use Rattle.vax_macro.specs.declared.line_types.Read.TheVariants as reads
 
--- a line behind the text so far: the whole, or it is continued
+-- a line behind the text so far: the whole, or it is continued, or what is joined is too long
 abbrev pub Puts : Joined → Reading → List ℕ → Reading → Type 0
-Puts joins.Whole r part after = (whole more : Reading → Stepped) → joined_with r (r.text ++ part) part (dash_in (pieces_of (r.text ++ part))) whole more ≡ whole after
-Puts joins.More r part after = (whole more : Reading → Stepped) → joined_with r (r.text ++ part) part (dash_in (pieces_of (r.text ++ part))) whole more ≡ more after
-Puts (joins.Fault number kind) r part after = ⊥
+Puts joins.Whole r part after =
+    (place : ℕ) (whole more : Reading → Stepped) → joined_with place r (r.text ++ part) part (dash_in (pieces_of (r.text ++ part))) whole more ≡ whole after
+Puts joins.More r part after =
+    (place : ℕ) (whole more : Reading → Stepped) → joined_with place r (r.text ++ part) part (dash_in (pieces_of (r.text ++ part))) whole more ≡ more after
+Puts (joins.Fault number kind) r part after =
+    (place : ℕ) (whole more : Reading → Stepped) → joined_with place r (r.text ++ part) part (dash_in (pieces_of (r.text ++ part))) whole more ≡ Faults number place kind
 
 -- a line that is whole, goes on with these lines, or has a fault
 abbrev pub Joins : (List ℕ → Option Value) → Joined → List SourceLine → Reading → Rest → Stepped → Type 0
@@ -50,8 +54,12 @@ IsCounted (reads.Line line) before after = (before < after) × (after ≤ 100000
 IsCounted (reads.Fault number kind) before after = Unit {0}
 IsCounted reads.Nothing before after = Unit {0}
 
--- what is left after a line was taken is less, by its length at least
+-- what a line may leave to be read again
+abbrev pub left_of : code_reading.Reading → ℕ
+left_of line = length line.text.items * 2 + (if line.labelled then 0 else 1)
+
+-- what is left after a line was taken is less, by that at least
 abbrev pub Spares : Read → (before after : ℕ) → Type 0
-Spares (reads.Line line) before after = after + length line.text.items < before
+Spares (reads.Line line) before after = after + left_of line < before
 Spares (reads.Fault number kind) before after = Unit {0}
 Spares reads.Nothing before after = Unit {0}

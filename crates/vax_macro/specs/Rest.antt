@@ -1,6 +1,6 @@
 -- What is left to open of a source.
-use Rattle.std.specs.Prelude.{ℕ, ◌+◌, ◌-◌, ◌*◌, Bool, List, [], length, Option, Some, None}
-use Rattle.vax_macro.specs.Lines.{SourceLine, source_lines}
+use Rattle.std.specs.Prelude.{ℕ, ◌+◌, ◌-◌, ◌*◌, Bool, List, [], length, Option, Some, None, if◌then◌else◌}
+use Rattle.vax_macro.specs.Lines.{SourceLine, Remainder, source_lines}
 use Rattle.vax_macro.specs.Templates.{Formals, Template}
 
 -- where a condition, a macro or a repeat begins: the number of its line, and how many lines were read with it
@@ -34,7 +34,7 @@ pub record OpenCondition : Type 0 where
 -- many lines were read.
 pub record Rest : Type 0 where
   pub lines : List SourceLine
-  pub again : Option SourceLine
+  pub again : Option Remainder
   pub macros : List ℕ → Option Template
   pub collecting : Option Pending
   pub conditions : List OpenCondition
@@ -46,9 +46,9 @@ abbrev pub started : List ℕ → Rest
 started source = record { lines = source_lines source; again = None; macros = λ name. None; collecting = None; conditions = []; made = 0; read = 0 }
 
 -- What it may take at most to come to an end, as a line that is read has at most 1,024 bytes.
-abbrev pub weight : Option SourceLine → ℕ
+abbrev pub weight : Option Remainder → ℕ
 weight None = 0
-weight (Some line) = length line.text + 1
+weight (Some line) = length line.text * 2 + (if line.labelled then 1 else 2)
 
 abbrev pub work : Rest → ℕ
-work rest = (100000 - rest.read) * 1026 + weight rest.again
+work rest = (100000 - rest.read) * 2051 + weight rest.again

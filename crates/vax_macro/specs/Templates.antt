@@ -1,6 +1,6 @@
 -- What macros and repeats keep of their lines, and what stands in their place (VAX MACRO and Instruction Set Reference
 -- Manual, "Macro arguments", "Created local labels" and "String concatenation").
-use Rattle.std.specs.Prelude.{ℕ, suc, ◌+◌, ◌-◌, Bool, false, true, ◌&&◌, ◌==◌, nat_lt, List, [], ◌∷◌, ◌++◌, length, take, drop, map, set, replicate, Option, Some, None, unwrap_or, is_some, slice_index, slice_get, decimal, codes, if◌then◌else◌}
+use Rattle.std.specs.Prelude.{ℕ, ◌+◌, ◌-◌, Bool, false, true, ◌&&◌, ◌==◌, nat_lt, List, [], ◌∷◌, ◌++◌, length, take, drop, map, set, replicate, Option, Some, None, unwrap_or, is_some, slice_index, slice_get, decimal, codes, if◌then◌else◌}
 use Rattle.vax_lex.specs.Characters.{canonical_name}
 use Rattle.vax_lex.specs.Words.{names_of}
 use Rattle.vax_lex.specs.declared.token.Span.{Span}

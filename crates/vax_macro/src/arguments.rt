@@ -110,7 +110,7 @@ pub(crate) fn name_length(text: &[u8]) -> usize
 
 /// How many bytes stand before the first blank or comma.
 #[tactic(auto, using(crate::proofs::Runs::runs))]
-fn bare_length(text: &[u8]) -> usize
+pub(crate) fn bare_length(text: &[u8]) -> usize
     ensures value { result ≡ prefix_len is_no_separator text.now }
     ensures bound { result ≤ length text.now }
 {

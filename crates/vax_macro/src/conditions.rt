@@ -1,10 +1,10 @@
 // Conditions, and counts of repeats.
 
-ghost use Rattle.std.specs.Prelude.{◌≡◌, ◌+◌, ◌-◌, ◌<◌, ◌≤◌, ◌^◌, [], unwrap_or, All, length, drop, take, map, option_map, IfOk, IfSome, OnOk};
+ghost use Rattle.std.specs.Prelude.{◌≡◌, ◌+◌, ◌-◌, ◌<◌, ◌≤◌, ◌^◌, [], List, ℕ, unwrap_or, All, length, drop, take, map, option_map, IfOk, IfSome, OnOk};
 ghost use Rattle.std.specs.List.{list_any, list_all, prefix_len};
 ghost use Rattle.vax_lex.specs.Characters.{canonical_name};
 ghost use Rattle.vax_lex.specs.Tokens.{IsPieceOf};
-ghost use Rattle.vax_macro.specs.Conditions.{token_of, depth_behind, comma_in, has_wide, absolute, unless_wide, number_in, comparison_holds, condition_named, is_defined, as_wanted, defined_name, defined_in, is_blank_text, blank_arguments, same_arguments, condition_on, no_condition, named_condition, condition_in, at_comma, second_argument, comma_behind, comma_behind_two, guarded_pieces, guarded_text, ends_by, guarded_on, guarded_in};
+ghost use Rattle.vax_macro.specs.Conditions.{token_of, depth_behind, comma_in, has_wide, absolute, unless_wide, number_in, comparison_holds, condition_named, is_defined, as_wanted, defined_name, defined_in, is_blank_text, blank_arguments, same_arguments, condition_on, no_condition, named_condition, behind_name, name_end, condition_in, at_comma, second_argument, comma_behind, comma_behind_two, guarded_pieces, guarded_text, ends_by, guarded_on, guarded_in};
 ghost use Rattle.vax_macro.specs.ArgumentViews.{argument_view, taken_view, lent_view, lent_arguments};
 ghost use Rattle.vax_macro.specs.ConditionViews.{comparison_view, condition_view, guarded_view, Decides, same};
 
@@ -111,7 +111,7 @@ fn depth_behind(depth: usize, kind: PieceKind) -> usize
 }
 
 /// Where the first comma stands outside brackets.
-fn comma_in(pieces: &[Piece]) -> Option<usize>
+pub(crate) fn comma_in(pieces: &[Piece]) -> Option<usize>
     ensures value { result ≡ comma_in pieces.now }
     ensures bound { IfSome result (λ k. k < length pieces.now) }
 {
@@ -391,6 +391,21 @@ fn named_condition(text: &[u8], piece: Piece) -> Option<Condition>
     }
 }
 
+/// The pieces behind a condition's name that ends at a place, and the place from which they are read.
+#[tactic(auto, using(crate::proofs::Tokens::parts))]
+fn behind_name(end: u32, pieces: &[Piece]) -> (&[Piece], usize)
+    ensures pieces { result.0.now ≡ behind_name end pieces.now }
+    ensures place { result.1 ≡ name_end end pieces.now }
+    ensures within { (line : List ℕ) → All (IsPieceOf line) pieces.now → All (IsPieceOf line) result.0.now }
+{
+    match pieces.split_first() {
+        Some((first, rest)) if is_mark_piece(b',', first.kind) && first.start == end => {
+            (rest, first.end as usize)
+        }
+        _ => (pieces, end as usize),
+    }
+}
+
 /// Whether the condition holds whose name and operands these pieces are.
 #[tactic(auto, using(crate::proofs::Tokens::parts), unfolding(crate::specs::Conditions::condition_in))]
 pub(crate) fn condition_in<N: Names>(
@@ -405,8 +420,9 @@ pub(crate) fn condition_in<N: Names>(
     let Some((first, rest)) = pieces.split_first() else {
         return Err(Refusal::Fault(FaultKind::Count));
     };
+    let (operands, at) = behind_name(first.end, rest);
     match named_condition(text, *first) {
-        Some(condition) => condition_on(alloc, names, text, condition, first.end as usize, rest),
+        Some(condition) => condition_on(alloc, names, text, condition, at, operands),
         None => Err(Refusal::Fault(no_condition(pieces))),
     }
 }
@@ -595,8 +611,9 @@ pub(crate) fn guarded_in<N: Names>(
     let Some((first, rest)) = pieces.split_first() else {
         return Err(Refusal::Fault(FaultKind::Count));
     };
+    let (operands, at) = behind_name(first.end, rest);
     match named_condition(text, *first) {
-        Some(condition) => guarded_on(alloc, names, text, condition, first.end as usize, rest),
+        Some(condition) => guarded_on(alloc, names, text, condition, at, operands),
         None => Err(Refusal::Fault(no_condition(pieces))),
     }
 }

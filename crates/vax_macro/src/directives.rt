@@ -1,32 +1,32 @@
 // What the lines of a source do.
 
-ghost use Rattle.std.specs.Prelude.{◌≡◌, ◌+◌, ◌-◌, ◌<◌, ◌≤◌, ◌^◌, ◌++◌, ◌∷◌, [], ◌==◌, All, length, map, drop, position, option_map, IfOk, IfSome, OnOk};
+ghost use Rattle.std.specs.Prelude.{◌≡◌, ◌+◌, ◌-◌, ◌<◌, ◌≤◌, ◌^◌, ◌++◌, ◌∷◌, [], ◌==◌, All, length, map, drop, option_map, IfOk, IfSome, OnOk};
 ghost use Rattle.std.specs.List.{flat_map};
 ghost use Rattle.vax_lex.specs.Characters.{canonical_name};
 ghost use Rattle.vax_lex.specs.Tokens.{IsPieceOf};
-ghost use Rattle.vax_macro.specs.Directives.{begins, ends, nested_after, finished, collect, is_skipping, open_condition, begin_condition, switched, at_condition, switch, switch_condition, end_condition, skip, guard, with_pending, begin_copies, begin_repeat, begin_macro, listed, only_name, iterated_in, begin_arguments, begin_characters, call, direct, read_word, read_operator, read, done, is_deep, opening, operands_fault, expansion, copies, one_formal, behind_comma, is_parted, macro_formals, argument_texts, character_texts, count_of};
+ghost use Rattle.vax_macro.specs.Directives.{begins, ends, nested_after, finished, collect, is_skipping, open_condition, begin_condition, switched, at_condition, switch, switch_condition, end_condition, skip, guard, with_pending, begin_copies, begin_repeat, begin_macro, listed, is_named, end_fault, body_fault, iterated_in, begin_arguments, begin_characters, call, direct, read_word, read_operator, read, done, is_deep, opening, operands_fault, expansion, copies, one_formal, behind_comma, is_parted, macro_formals, argument_texts, character_texts, count_of};
 ghost use Rattle.vax_macro.specs.Heads.{code_from};
-ghost use Rattle.vax_macro.specs.ArgumentViews.{arguments_view};
+ghost use Rattle.vax_macro.specs.ArgumentViews.{arguments_view, lent_view};
 ghost use Rattle.vax_macro.specs.ConditionViews.{Decides, iterated_view, listed_view};
 ghost use Rattle.vax_macro.specs.HeadViews.{word_view, head_view};
 ghost use Rattle.vax_macro.specs.LineViews.{reading_of, lines_of, frame_lines, opened_lines};
 ghost use Rattle.vax_macro.specs.TemplateViews.{template_view, formals_view, texts_view};
 ghost use Rattle.vax_macro.specs.View.{use_view, pending_view, opening_of, condition_view, macros_of, rest_in, Acts};
 
-use crate::arguments::{AnyName, Argument, arguments, behind_blanks, closing, name_length};
-use crate::conditions::Refusal;
+use crate::arguments::{AnyName, Argument, arguments, bare_length, behind_blanks, closing};
+use crate::conditions::{Refusal, comma_in};
 use crate::counts::one_more;
 use crate::error::{FaultKind, NoMemory};
-use crate::heads::{Word, code_from, has_bad, has_unprintable};
+use crate::heads::{Word, code_from, has_bad, has_unprintable, piece_text};
 use crate::line_types::{Frame, Reading};
-use crate::names::{are_blanks, begins_with, behind, copied, is_name};
+use crate::names::{begins_with, behind, copied, is_name};
 use crate::state_types::{Begin, Use};
 use crate::template_types::{Formal, Formals, Template};
 use crate::templates::{canonical, formals_of};
 use std::alloc::Global;
 use std::collections::VecDeque;
 use std::rc::Rc;
-use vax_lex::{Piece, is_blank};
+use vax_lex::{Piece, is_blank, spells};
 
 /// Whether a line begins a body of such a use within it.
 fn begins(use_of: &Use, word: Word) -> bool
@@ -87,6 +87,56 @@ pub(crate) fn operands_fault(pieces: &[Piece], operands: &[Piece]) -> Option<Fau
         None
     } else {
         Some(FaultKind::Count)
+    }
+}
+
+/// Whether the one operand of an `.ENDM` is the name of the macro that ends here, if one does.
+fn is_named(text: &[u8], name: Option<&[u8]>, operands: &[Piece]) -> bool
+    ensures { result ≡ is_named text.now (lent_view name.entry) operands.now }
+{
+    let Some(name) = name else {
+        return false;
+    };
+    match operands {
+        [piece] => spells(name, piece_text(text, *piece)),
+        _ => false,
+    }
+}
+
+/// The fault of the operands of an `.ENDM`, if they have one.
+pub(crate) fn end_fault(
+    text: &[u8],
+    name: Option<&[u8]>,
+    pieces: &[Piece],
+    operands: &[Piece],
+) -> Option<FaultKind>
+    ensures { result ≡ end_fault text.now (lent_view name.entry) pieces.now operands.now }
+{
+    if has_bad(pieces) {
+        Some(FaultKind::Token)
+    } else if operands.is_empty() {
+        None
+    } else if comma_in(operands).is_some() {
+        Some(FaultKind::Count)
+    } else if is_named(text, name, operands) {
+        None
+    } else {
+        Some(FaultKind::Form)
+    }
+}
+
+/// The fault of a line that ends a body, if it has one.
+pub(crate) fn body_fault(
+    use_of: &Use,
+    text: &[u8],
+    pieces: &[Piece],
+    operands: &[Piece],
+) -> Option<FaultKind>
+    ensures { result ≡ body_fault (use_view use_of.now) text.now pieces.now operands.now }
+{
+    match use_of {
+        Use::Macro { name, .. } => end_fault(text, Some(name), pieces, operands),
+        Use::Copies(_) | Use::Each { .. } => operands_fault(pieces, operands),
     }
 }
 
@@ -250,7 +300,7 @@ pub(crate) fn macro_formals(alloc: Global, text: &[u8]) -> Result<Option<Formals
     formals_of(alloc, arguments)
 }
 
-/// The text in brackets behind the comma of an `.IRP`.
+/// The text in brackets behind the formal argument of an `.IRP`.
 #[tactic(auto, unfolding(crate::specs::Directives::listed))]
 fn listed(text: &[u8]) -> Result<&[u8], FaultKind>
     ensures { listed_view result ≡ listed text.now }
@@ -272,26 +322,6 @@ fn listed(text: &[u8]) -> Result<&[u8], FaultKind>
     }
 }
 
-/// The name that a text is, perhaps with blanks behind it.
-fn only_name(text: &[u8]) -> Option<&[u8]>
-    ensures { option_map (λ s. canonical_name s.now) result ≡ only_name text.now }
-{
-    let (name, rest) = text.split_at(name_length(text));
-    if is_name(name) && are_blanks(rest) {
-        Some(name)
-    } else {
-        None
-    }
-}
-
-/// Where the first comma stands in a text.
-fn comma_place(text: &[u8]) -> Option<usize>
-    ensures value { result ≡ position (λ b. b == 44) text.now }
-    ensures bound { IfSome result (λ k. k < length text.now) }
-{
-    text.iter().position(|byte| *byte == b',')
-}
-
 /// The formal argument of an `.IRP` or `.IRPC`, and the text for it.
 #[tactic(auto, unfolding(crate::specs::Directives::iterated_in))]
 pub(crate) fn iterated_in(
@@ -305,17 +335,18 @@ pub(crate) fn iterated_in(
     if has_unprintable(&line.text, operands) {
         return Err(Refusal::Fault(FaultKind::Token));
     }
-    let text = operand_text(line, operands, at);
-    let Some(comma) = comma_place(text) else {
+    let text = behind_blanks(operand_text(line, operands, at));
+    let (name, rest) = text.split_at(bare_length(text));
+    if rest.is_empty() {
         return Err(Refusal::Fault(FaultKind::Count));
-    };
-    let text_for = match listed(behind_blanks(&text[comma + 1..])) {
+    }
+    let text_for = match listed(behind_comma(rest)) {
         Ok(found) => found,
         Err(kind) => return Err(Refusal::Fault(kind)),
     };
-    let Some(name) = only_name(behind_blanks(&text[..comma])) else {
+    if !is_name(name) {
         return Err(Refusal::Fault(FaultKind::Form));
-    };
+    }
     let name = canonical(alloc, name)?;
     let kept = copied(alloc, text_for)?;
     Ok((name, kept))

@@ -54,10 +54,10 @@ impl Expander {
     ghost use Rattle.vax_lex.specs.declared.value.Value.{Value};
     ghost use Rattle.vax_lex.specs.Tokens.{pieces_of};
     ghost use Rattle.vax_macro.specs.Directives.{done};
-    ghost use Rattle.vax_macro.specs.Expansion.{AtEnd, step, line_step, opened, cut, unclosed};
+    ghost use Rattle.vax_macro.specs.Expansion.{AtEnd, step, line_step, opened, cut, behind_label, unclosed};
     ghost use Rattle.vax_macro.specs.Heads.{head_in};
     ghost use Rattle.vax_macro.specs.LineViews.{reading_of};
-    ghost use Rattle.vax_macro.specs.Readings.{Reads, Spares};
+    ghost use Rattle.vax_macro.specs.Readings.{Reads, Spares, left_of};
     ghost use Rattle.vax_macro.specs.View.{opening_of, rest_in, Acts};
     ghost use Rattle.vax_macro.specs.Expanders.{rest_of, error_of, unclosed_of, read_of, Does, Opens, Shrinks};
 
@@ -90,7 +90,7 @@ impl Expander {
     }
 
     /// What is left of the line just read, or the next one.
-    #[tactic(auto, unfolding(crate::specs::Expansion::step))]
+    #[tactic(auto, using(crate::proofs::Lessening::read_again, crate::proofs::Lessening::left_at_most), unfolding(crate::specs::Expansion::step))]
     fn take_line(&mut self) -> Result<Read, NoMemory>
         ensures exact { IfOk result (λ r. (names : List ℕ → Option Value) → Reads names r (rest_of self.new) (step names (rest_of self.old))) }
         ensures again { self.new.again ≡ None }
@@ -125,11 +125,12 @@ impl Expander {
     }
 
     /// What is behind a place of a line is read as a line of its own. The head of a line takes a byte at least.
+    #[tactic(auto, using(crate::proofs::Lessening::cut_less))]
     fn cut(&mut self, line: &Reading, at: usize) -> Result<(), NoMemory>
         ensures rest { OnOk result (rest_of self.new ≡ record (rest_of self.old) { again = Some (cut at (reading_of line.now)) }) }
         ensures error { self.new.error ≡ self.old.error }
         ensures unclosed { self.new.unclosed ≡ self.old.unclosed }
-        ensures fewer { OnOk result (weight (rest_of self.new).again ≤ length line.now.text.items) }
+        ensures fewer { OnOk result (weight (rest_of self.new).again ≤ left_of line.now) }
     {
         if at == 0 || line.text.is_empty() {
             return Err(NoMemory);
@@ -139,6 +140,28 @@ impl Expander {
             number: line.number,
             depth: line.depth,
             text,
+            labelled: false,
+        });
+        Ok(())
+    }
+
+    /// A line is read again without its label, which it hands out once.
+    #[tactic(auto, using(crate::proofs::Lessening::label_less))]
+    fn hand_out_label(&mut self, line: &Reading) -> Result<(), NoMemory>
+        ensures rest { OnOk result (rest_of self.new ≡ record (rest_of self.old) { again = Some (behind_label (reading_of line.now)) }) }
+        ensures error { self.new.error ≡ self.old.error }
+        ensures unclosed { self.new.unclosed ≡ self.old.unclosed }
+        ensures fewer { OnOk result (weight (rest_of self.new).again ≤ left_of line.now) }
+    {
+        if line.labelled {
+            return Err(NoMemory);
+        }
+        let text = copied(self.alloc, &line.text)?;
+        self.again = Some(Remainder {
+            number: line.number,
+            depth: line.depth,
+            text,
+            labelled: true,
         });
         Ok(())
     }
@@ -166,7 +189,7 @@ impl Expander {
         ensures exact { IfOk result (λ s. Does s self.new (line_step (N.meaning names.now) (reading_of line) (rest_of self.old))) }
         ensures error { self.new.error ≡ self.old.error }
         ensures unclosed { self.new.unclosed ≡ self.old.unclosed }
-        ensures fewer { IfOk result (λ s. work (rest_of self.new) ≤ work (rest_of self.old) + length line.text.items) }
+        ensures fewer { IfOk result (λ s. work (rest_of self.new) ≤ work (rest_of self.old) + left_of line) }
     {
         let done = self.act(names, &line)?;
         match done {
@@ -180,7 +203,7 @@ impl Expander {
                 Ok(Step::Goes)
             }
             Done::Label(at) => {
-                self.cut(&line, at)?;
+                self.hand_out_label(&line)?;
                 let text = copied(self.alloc, part(&line.text, 0, at))?;
                 Ok(Step::Says(Line {
                     number: line.number,

@@ -175,7 +175,7 @@ fn word_of(name: &[u8]) -> Word
         Word::Macro
     } else if spells(b".ENDM", name) {
         Word::EndMacro
-    } else if spells(b".REPT", name) {
+    } else if spells(b".REPT", name) || spells(b".REPEAT", name) {
         Word::Repeat
     } else if spells(b".IRP", name) {
         Word::RepeatArguments

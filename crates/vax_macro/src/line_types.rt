@@ -18,22 +18,24 @@ pub(crate) struct SourceLine {
     pub(crate) text: Vec<u8>,
 }
 
-/// What is left of a line that was read.
+/// What is left of a line that was read: all of it, where its label was handed out, or the statement of an `.IIF`.
 #[derive(Drop)]
 pub(crate) struct Remainder {
     pub(crate) number: u32,
     pub(crate) depth: u32,
     pub(crate) text: Vec<u8>,
+    pub(crate) labelled: bool,
     ghost short: { length text.items ≤ 1024 },
 }
 
-/// A line as it was read: its text, continuations joined, and the lines that it was.
+/// A line as it was read: its text, continuations joined, the lines that it was, and whether its label was handed out.
 #[derive(Drop)]
 pub(crate) struct Reading {
     pub(crate) number: u32,
     pub(crate) depth: u32,
     pub(crate) text: Vec<u8>,
     pub(crate) parts: Vec<Vec<u8>>,
+    pub(crate) labelled: bool,
     ghost short: { length text.items ≤ 1024 },
     ghost short_parts: { All (λ t. length t.items ≤ 1024) parts.items } by { Prim.hlevel props },
 }

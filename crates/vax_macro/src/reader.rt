@@ -1,7 +1,7 @@
 // Lines as they are read, with those that continue them.
 
-ghost use Rattle.std.specs.Prelude.{◌≡◌, ◌+◌, ◌<◌, ◌≤◌, ◌++◌, [], ℕ, All, IfOk, length};
-ghost use Rattle.vax_macro.specs.Lines.{dash_in};
+ghost use Rattle.std.specs.Prelude.{◌≡◌, ◌+◌, ◌<◌, ◌≤◌, ◌++◌, [], ℕ, All, IfOk, length, false};
+ghost use Rattle.vax_macro.specs.Lines.{dash_in, before_dash};
 ghost use Rattle.vax_macro.specs.LineViews.{line_of, lines_of, reading_of, remainder_of};
 ghost use Rattle.vax_macro.specs.Expansion.{whole};
 ghost use Rattle.vax_macro.specs.Readings.{Puts, IsJoined, IsWithin, IsRead, IsCounted};
@@ -36,6 +36,16 @@ fn dash_in(pieces: &[Piece]) -> Option<usize>
     }
 }
 
+/// What stands before the `-` that is last on a line, or all where there is none.
+fn before_dash(text: &[u8], dash: Option<usize>) -> &[u8]
+    ensures { result.now ≡ before_dash text.now dash }
+{
+    match dash {
+        Some(dash) => part(text, 0, dash),
+        None => text,
+    }
+}
+
 /// The text of a line behind one that was continued.
 fn joined(alloc: Global, before: &[u8], text: &[u8]) -> Result<Vec<u8>, NoMemory>
     ensures { IfOk result (λ v. v.items ≡ before.now ++ text.now) }
@@ -48,34 +58,34 @@ fn joined(alloc: Global, before: &[u8], text: &[u8]) -> Result<Vec<u8>, NoMemory
 impl Reading {
     /// No line so far.
     fn new(alloc: Global, number: u32, depth: u32) -> Reading
-        ensures { reading_of result ≡ record { number = number; depth = depth; text = []; parts = [] } }
+        ensures { reading_of result ≡ record { number = number; depth = depth; text = []; parts = []; labelled = false } }
     {
         Reading {
             number,
             depth,
             text: Vec::new(alloc),
             parts: Vec::new(alloc),
+            labelled: false,
         }
     }
 
-    /// Puts a line behind the text.
+    /// Puts a line behind the text: up to its last `-`, where it is continued.
     fn put(&mut self, alloc: Global, line: Vec<u8>) -> Result<Joined, NoMemory>
-        requires { length self.old.text.items + length line.items ≤ 1024 }
+        requires { length line.items ≤ 1024 }
         ensures { IfOk result (λ j. Puts j (reading_of self.old) line.items (reading_of self.new)) }
     {
         let text = joined(alloc, &self.text, &line)?;
         let found = pieces(alloc, &text).map_err(|_| NoMemory)?;
         let dash = dash_in(&found);
+        let kept = before_dash(&text, dash);
+        if kept.len() > LONGEST {
+            return Ok(Joined::Fault(self.number, FaultKind::Token));
+        }
+        self.text = copied(alloc, kept)?;
         self.parts.push(line).map_err(|_| NoMemory)?;
         match dash {
-            Some(dash) => {
-                self.text = copied(alloc, part(&text, 0, dash))?;
-                Ok(Joined::More)
-            }
-            None => {
-                self.text = text;
-                Ok(Joined::Whole)
-            }
+            Some(_) => Ok(Joined::More),
+            None => Ok(Joined::Whole),
         }
     }
 
@@ -93,9 +103,6 @@ impl Reading {
         if *read > LIMIT {
             return Ok(Joined::Fault(line.number, FaultKind::Lines));
         }
-        if self.text.len() + line.text.len() > LONGEST {
-            return Ok(Joined::Fault(self.number, FaultKind::Token));
-        }
         let joined = self.put(alloc, line.text)?;
         Ok(joined)
     }
@@ -109,6 +116,7 @@ pub(crate) fn whole(alloc: Global, left: Remainder) -> Result<Reading, NoMemory>
         number,
         depth,
         text,
+        labelled,
     } = left;
     let mut parts = Vec::new(alloc);
     let copy = copied(alloc, &text)?;
@@ -118,6 +126,7 @@ pub(crate) fn whole(alloc: Global, left: Remainder) -> Result<Reading, NoMemory>
         depth,
         text,
         parts,
+        labelled,
     })
 }
 

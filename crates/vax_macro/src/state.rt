@@ -17,8 +17,9 @@ ghost use Rattle.vax_macro.specs.View.{use_view, pending_view, condition_view, m
 use crate::arguments::{NoKeyword, arguments, behind_blanks, name_length};
 use crate::conditions::{Refusal, condition_in, guarded_in, number_in};
 use crate::directives::{
-    argument_texts, begin_at, call_frame, character_texts, copies_each, copies_of, count_of, ends,
-    iterated_in, macro_formals, nested_after, one_formal, operand_text, operands_fault, shared,
+    argument_texts, begin_at, body_fault, call_frame, character_texts, copies_each, copies_of,
+    count_of, end_fault, ends, iterated_in, macro_formals, nested_after, one_formal, operand_text,
+    operands_fault, shared,
 };
 use crate::error::{FaultKind, NoMemory};
 use crate::heads::{Head, Word, has_unprintable, piece_text, word_in};
@@ -42,9 +43,9 @@ pub(crate) struct Parsed<'a> {
 }
 
 impl Parsed<'_> {
-    ghost use Rattle.std.specs.Prelude.{◌≡◌, ◌==◌, not};
+    ghost use Rattle.std.specs.Prelude.{◌≡◌, None};
     ghost use Rattle.vax_macro.specs.Heads.{word_in};
-    ghost use Rattle.vax_macro.specs.Directives.{operands_fault};
+    ghost use Rattle.vax_macro.specs.Directives.{operands_fault, end_fault, has_label};
     ghost use Rattle.vax_macro.specs.HeadViews.{word_view};
     ghost use Rattle.vax_macro.specs.View.{line_in, head_in, operands_at, unless};
 
@@ -83,11 +84,21 @@ impl Parsed<'_> {
         }
     }
 
-    /// Whether a label stands before.
-    fn has_label(&self) -> bool
-        ensures { result ≡ not ((head_in self.now).label_end == 0) }
+    /// What an `.ENDM` does that ends no macro.
+    fn unless_named(&self, done: Done) -> Done
+        ensures { result ≡ unless (end_fault (line_in self.now).text None self.now.pieces.now (head_in self.now).operands) done }
     {
-        self.head.label_end != 0
+        match end_fault(&self.line.text, None, self.pieces, self.operands()) {
+            Some(kind) => Done::Fails(kind),
+            None => done,
+        }
+    }
+
+    /// Whether a label stands before that was not handed out yet.
+    fn has_label(&self) -> bool
+        ensures { result ≡ has_label (line_in self.now) (head_in self.now) }
+    {
+        !self.line.labelled && self.head.label_end != 0
     }
 }
 
@@ -246,11 +257,17 @@ impl State {
                 self.collecting = Some(pending);
                 return Ok(Done::Label(parsed.head.label_end));
             }
-            let done = parsed.unless_operands(Done::Goes);
-            if let Done::Goes = done {
-                self.finish(alloc, pending)?;
+            let text = &parsed.line.text;
+            if let Some(kind) = body_fault(
+                &pending.use_of,
+                text,
+                parsed.pieces,
+                parsed.operands(),
+            ) {
+                return Ok(Done::Fails(kind));
             }
-            return Ok(done);
+            self.finish(alloc, pending)?;
+            return Ok(Done::Goes);
         }
         let nested = nested_after(&pending.use_of, word, pending.nested)?;
         let Pending {
@@ -583,9 +600,8 @@ impl State {
     {
         match word {
             Word::Macro => self.begin_macro(alloc, parsed),
-            Word::EndMacro | Word::EndRepeat => {
-                Ok(parsed.unless_operands(Done::Fails(FaultKind::Nesting)))
-            }
+            Word::EndMacro => Ok(parsed.unless_named(Done::Fails(FaultKind::Nesting))),
+            Word::EndRepeat => Ok(parsed.unless_operands(Done::Fails(FaultKind::Nesting))),
             Word::Repeat => self.begin_repeat(alloc, names, parsed),
             Word::RepeatArguments => self.begin_arguments(alloc, parsed),
             Word::RepeatCharacters => self.begin_characters(alloc, parsed),

@@ -102,6 +102,9 @@ impl Keywords for Formals {
     ghost is_keyword = { λ fs name. is_formal (formals_view fs) name };
 
     fn is_keyword(&self, alloc: Global, name: &[u8]) -> Result<bool, NoMemory> {
+        if !is_name(name) {
+            return Ok(false);
+        }
         let name = canonical(alloc, name)?;
         Ok(self.index_of(&name).is_some())
     }

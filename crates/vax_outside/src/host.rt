@@ -1,13 +1,15 @@
 //! The files, streams and page file of the system. They tell no content, and count what fails.
 //!
-//! Nothing says that the system does what it is asked: this is the trusted edge.
+//! Nothing says that the system does what it is asked: this is the trusted edge. A clause on what an object holds, or
+//! on the files that there are, says nothing of these.
 ghost use Rattle.std.specs.Prelude.{◌≡◌, ◌≤◌, IfOk, None, length};
 
 use crate::faults::raised;
 use crate::{Chan, Failed, Files, FilesFault, PageFile, Sink};
 use std::alloc::Global;
-use std::fs::{File, OpenOptions};
+use std::fs::File;
 use std::io::{ErrorKind, Print, Read, Write};
+use std::os::fd::AsFd;
 use std::os::unix::fs::FileExt;
 use std::{fs, rt};
 
@@ -16,6 +18,38 @@ const RECORD_NAME: &str = "vax.rec";
 
 /// The file of the blocks.
 const PAGES_NAME: &str = "vax.pag";
+
+/// The device that stands in for a standard stream.
+const NULL_NAME: &str = "/dev/null";
+
+/// How often a file is tried to be made anew, where another program makes one of its name each time.
+const TRIES: u32 = 16;
+
+/// What stands in for a standard stream that was closed when the program started: the null device, open for reading, so
+/// that reading the stream gives the end and writing to it fails. Nothing stands in for one that is open.
+///
+/// The system gives a file the lowest number that is free. So the three streams are asked for in their order, before any
+/// file is opened, and what stands in is kept to the end: then no file has the number of a stream.
+pub fn stand_in<S: AsFd, R: rt::Files>(stream: &S, rt: &R) -> Result<Option<R::File>, Failed> {
+    if stream.as_fd().try_clone_to_owned().is_ok() {
+        return Ok(None);
+    }
+    fs::open(rt, NULL_NAME).map(Some).map_err(|_| Failed)
+}
+
+/// A new file of this name, in the place of the one that there was. Whoever has that one open keeps it.
+fn make_anew<R: rt::Files>(rt: &R, name: &str) -> Option<R::File> {
+    for _ in 0..TRIES {
+        // Whether the name is free now is what the next call finds.
+        let _ = fs::remove_file(rt, name);
+        match File::create_new(rt, name) {
+            Ok(file) => return Some(file),
+            Err(e) if e.kind() == ErrorKind::AlreadyExists => {}
+            Err(_) => return None,
+        }
+    }
+    None
+}
 
 /// The system's files.
 #[derive(Drop)]
@@ -72,7 +106,7 @@ impl<R: rt::Files> Files for HostFiles<R> {
 }
 
 /// The system's output: Out is standard output, Report standard error, and Record the file `vax.rec`, which the first
-/// write to it opens and empties.
+/// write to it makes anew.
 #[derive(Drop)]
 pub struct HostSink<O, E, R: rt::Files> {
     out: O,
@@ -100,7 +134,7 @@ impl<O: Print, E: Print, R: rt::Files> HostSink<O, E, R> {
         ensures { self.new.faults ≡ self.old.faults }
     {
         if self.record_file.is_none() {
-            self.record_file = fs::create(&self.rt, RECORD_NAME).ok();
+            self.record_file = make_anew(&self.rt, RECORD_NAME);
         }
         match &mut self.record_file {
             Some(file) => file.write(bytes).ok(),
@@ -130,22 +164,12 @@ impl<O: Print, E: Print, R: rt::Files> Sink for HostSink<O, E, R> {
     }
 }
 
-/// The page file `vax.pag`, which the first call opens and empties. Block `n` is its bytes from `512 * n` on.
+/// The page file `vax.pag`, which the first call makes anew. Block `n` is its bytes from `512 * n` on.
 #[derive(Drop)]
 pub struct HostPages<R> {
     rt: R,
     file: Option<File>,
     faults: u64,
-}
-
-fn open_pages<R: rt::Files<File = File>>(rt: &R) -> Option<File> {
-    OpenOptions::new()
-        .read(true)
-        .write(true)
-        .create(true)
-        .truncate(true)
-        .open(rt, PAGES_NAME)
-        .ok()
 }
 
 /// Where a block begins in the file.
@@ -169,7 +193,7 @@ impl<R: rt::Files<File = File>> HostPages<R> {
         ensures { self.new.faults ≡ self.old.faults }
     {
         if self.file.is_none() {
-            self.file = open_pages(&self.rt);
+            self.file = make_anew(&self.rt, PAGES_NAME);
         }
     }
 }

@@ -16,7 +16,7 @@ mod text;
 mod traits;
 
 pub use fails::Fail;
-pub use host::{HostFiles, HostPages, HostSink};
+pub use host::{HostFiles, HostPages, HostSink, stand_in};
 pub use mem_files::MemFiles;
 pub use mem_pages::MemPages;
 pub use mem_sink::MemSink;

@@ -342,3 +342,12 @@ next_in (x ∷ xs) = refl
 pub next_is : (s : Store) → option_map (λ placed. placed.page) (slice_get s.lists.modified 0) ≡ first (paging s).modified
 unfolding paging
 next_is s = next_in s.lists.modified
+
+-- the resident pages
+
+pub residents_pages : (s : Store) → pages_of s.lists.order ≡ (paging s).order
+unfolding paging
+residents_pages s = refl
+
+pub residents_count : (s : Store) → length s.lists.order ≡ length (paging s).order
+residents_count s = sym (pages-length s.lists.order) ∙ ap length (residents_pages s)

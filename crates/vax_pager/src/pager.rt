@@ -1,5 +1,5 @@
 //! The pager.
-ghost use Rattle.std.specs.Prelude.{◌≡◌, ◌<◌, ◌≤◌, IfOk, OnOk, OnErr, IfSome, true, false, length, is_some};
+ghost use Rattle.std.specs.Prelude.{◌≡◌, ◌<◌, ◌≤◌, IfOk, OnOk, OnErr, IfSome, true, false, length, is_some, take};
 ghost use Rattle.std.specs.Option.{option_map};
 ghost use Rattle.vax_outside.specs.Faults.{Rose};
 ghost use Rattle.vax_pager.specs.Store.{IsSound};
@@ -215,6 +215,16 @@ impl Pager {
         ensures { result ≡ is_listed page (pages self.now).order }
     {
         self.store.is_resident(page)
+    }
+
+    /// Writes the resident pages, in order of service, and answers how many these are. It takes time in these alone.
+    pub fn residents(&self, cells: &mut [u32]) -> usize
+        requires room { 32768 ≤ length cells.old }
+        ensures count { result ≡ length (pages self.now).order }
+        ensures few { result ≤ 32768 }
+        ensures pages { take result cells.new ≡ (pages self.now).order }
+    {
+        self.store.residents(cells)
     }
 
     /// How many pages may be in frames.

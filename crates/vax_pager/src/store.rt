@@ -1,7 +1,7 @@
 //! The parts of a pager, and its steps.
 ghost use Rattle.vax_pager.specs.Paging.{bytes_in};
 ghost use Rattle.vax_pager.specs.Frames.{dirty_frame};
-ghost use Rattle.std.specs.Prelude.{◌≡◌, ◌<◌, ◌≤◌, ◌+◌, ℕ, true, false, length, IfOk, IfSome, OnOk, Some, None, [], is_some, nat_lt, replicate, slice_get, slice_index, slice_index_or};
+ghost use Rattle.std.specs.Prelude.{◌≡◌, ◌<◌, ◌≤◌, ◌+◌, ℕ, true, false, length, IfOk, IfSome, OnOk, Some, None, [], is_some, nat_lt, replicate, slice_get, slice_index, slice_index_or, take};
 
 use crate::counts::{lowered_if, raised, raised_if};
 use crate::marks::Marks;
@@ -307,6 +307,17 @@ impl Store {
             Some(placed) => placed.page,
             None => unreachable!(),
         }
+    }
+
+    /// Writes the resident pages, in order of service, and answers how many these are.
+    pub(crate) fn residents(&self, cells: &mut [u32]) -> usize
+        requires sound { IsSound 0 self.now }
+        requires room { 32768 ≤ length cells.old }
+        ensures count { result ≡ length (paging self.now).order }
+        ensures few { result ≤ 32768 }
+        ensures pages { take result cells.new ≡ (paging self.now).order }
+    {
+        self.lists.residents(cells)
     }
 
     /// Whether an area has the page.

@@ -1,15 +1,14 @@
 -- What a turn takes of a schedule, by its two kinds of lines.
 use Rattle.std.proofs.Common.{◌≡◌, ◌<◌, ◌≤◌, ℕ, ◌+◌, ◌-◌, ◌%◌, ◌^◌, ◌==◌, Bool, true, false, List, [], ◌∷◌, ◌++◌, map, length, take, drop, get_or, min, zero, suc, Option, Some, None, refl, sym, ap, ◌∙◌, arith, length-append, nat_lt, nat_le, subst}
 use Rattle.std.proofs.lemmas.Bool.Decides.{nat_tests}
-use Rattle.std.proofs.lemmas.List.{take-append-drop, length-map, length-drop, length-take, get_or-take, get_or-drop}
-use Rattle.std.proofs.lemmas.List.Elements.{filter-append}
-use Rattle.std.specs.List.{filter, filter_map, list_all}
+use Rattle.std.proofs.lemmas.List.{length-map, length-drop, get_or-drop}
+use Rattle.std.specs.List.{filter, filter_map}
 use Rattle.std.specs.Prelude.{slice_get}
 use Rattle.std.specs.List.Sorted.{IsPartitionPoint}
-use Rattle.vax_sched.specs.Due.{IsGap, due, fixed_now, fixed_target, repeated_now, repeated_target}
-use Rattle.vax_sched.specs.Kept.{IsKept, fixed_in, repeated_in, is_proper, is_divisor, Ascends}
+use Rattle.vax_sched.specs.Due.{IsGap, due, fixed_now, fixed_target, repeated_now, repeated_target, targets_of}
+use Rattle.vax_sched.specs.Kept.{IsKept, fixed_in, repeated_in, Ascends}
 use Rattle.vax_sched.specs.declared.rule.Target.{Target}
-use Rattle.vax_sched.specs.declared.rule.Target.TheVariants.{Page, All}
+use Rattle.vax_sched.specs.declared.rule.Target.TheVariants.{Page}
 use Rattle.vax_sched.specs.declared.rule.Fixed.{Fixed}
 use Rattle.vax_sched.specs.declared.rule.Repeated.{Repeated}
 use Rattle.vax_sched.specs.declared.rule.Rule.{Rule}
@@ -240,6 +239,14 @@ due_second now rs fixed fs ns repeated ps t i r kept n f s p l e =
     ∙ sym (get_second (fixed_targets t fixed) (repeated_targets t repeated) i (omega (arith, count)))
     ∙ ap (λ l. slice_get l i) (sym (due-kept rs fixed repeated t kept))
     ∙ ap (λ l. slice_get (due l t) i) (sym n)
+
+-- all targets, the lines for the turn first
+pub due_all : (now rs : List Rule) (fixed fs ns : List Fixed) (repeated ps : List Repeated) (t : ℕ) (all : List Target) → IsKept rs fixed repeated → now ≡ rs → fs ≡ fixed → ns ≡ fixed_now t fs → ps ≡ repeated → all ≡ targets_of t ns ps → all ≡ due now t
+due_all now rs fixed fs ns repeated ps t all kept n f s p e =
+    e ∙ ap (λ l. map (λ rule. Page rule.page) l ++ repeated_targets t ps) (s ∙ ap (fixed_now t) f)
+    ∙ ap (λ l. fixed_targets t fixed ++ repeated_targets t l) p
+    ∙ sym (due-kept rs fixed repeated t kept)
+    ∙ ap (λ l. due l t) (sym n)
 
 -- a gap of both kinds where the lists are equal
 pub gap_of : (now rs : List Rule) (fixed fs : List Fixed) (repeated ps : List Repeated) (turn a b g : ℕ) → IsKept rs fixed repeated → now ≡ rs → fs ≡ fixed → ps ≡ repeated → IsGap (λ t. fixed_now t fs) turn a → IsGap (λ t. repeated_now t ps) turn b → g ≡ min a b → IsGap (due now) turn g

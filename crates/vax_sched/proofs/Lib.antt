@@ -1,6 +1,3 @@
-pub mod LineLaws
-pub mod WordLaws
-pub mod NumberLaws
 pub mod DueLaws
 pub mod ReadLaws
 pub mod KeptLaws

@@ -10,11 +10,12 @@ use Rattle.std.proofs.lemmas.List.{take-map, get_or-map, length-map}
 use Rattle.std.proofs.lemmas.List.Folds.{list_all-append, list_any_none}
 use Rattle.std.proofs.lemmas.List.Elements.{filter_map-append}
 use Rattle.vax_outside.specs.Hex.{hex, hex_digit}
-use Rattle.vax_sched.specs.Lines.{Text, lines, begun}
-use Rattle.vax_sched.specs.Words.{words, longer, is_trimmed, is_word_byte}
+use Rattle.vax_lines.specs.Lines.{Text, lines, begun}
+use Rattle.vax_lines.specs.Words.{words, longer, is_trimmed, is_word_byte}
 use Rattle.std.specs.Str.{bytes_eq}
-use Rattle.vax_sched.specs.Rules.{number, number_in, are_digits, page, page_at, target, rule_of, is_silent, line_of, Reading, silent, says, readings, rule_in, rules}
-use Rattle.vax_sched.proofs.WordLaws.{words-longer, words-alone}
+use Rattle.vax_lines.specs.Numbers.{number, number_in, are_digits}
+use Rattle.vax_sched.specs.Rules.{page, page_at, target, rule_of, is_silent, line_of, Reading, silent, says, readings, rule_in, rules}
+use Rattle.vax_lines.proofs.WordLaws.{words-longer, words-alone}
 use Rattle.vax_sched.specs.Printed.{page_text, target_text, at_line, each_line, rule_line, printed}
 use Rattle.vax_sched.specs.Kept.{is_proper, is_page}
 use Rattle.vax_sched.specs.declared.rule.Target.{Target}

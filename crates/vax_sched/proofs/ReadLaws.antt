@@ -5,7 +5,7 @@ use Rattle.std.proofs.lemmas.List.{take_more, take_all, length-drop, length-take
 use Rattle.std.proofs.lemmas.List.Elements.{filter_map-append, All-push}
 use Rattle.std.specs.List.{filter_map, All}
 use Rattle.vax_space.specs.declared.Area.{Area}
-use Rattle.vax_sched.specs.Lines.{Text, lines}
+use Rattle.vax_lines.specs.Lines.{Text, lines}
 use Rattle.vax_sched.specs.Rules.{Reading, silent, says, malformed, line_of, readings, rule_in, rules}
 use Rattle.vax_sched.specs.Kept.{is_late_reading}
 use Rattle.vax_sched.specs.Faults.{fault_of, fault_at, is_placed, is_late, rule_fault, PassesTo, IsRead, IsFirst, ArePlaced}

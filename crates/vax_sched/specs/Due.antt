@@ -1,5 +1,5 @@
 -- What a schedule asks of a turn.
-use Rattle.std.specs.Prelude.{◌≡◌, ◌<◌, ℕ, ◌+◌, ◌%◌, ◌^◌, ◌==◌, List, [], ◌++◌, length, Option, None, Some, if◌then◌else◌}
+use Rattle.std.specs.Prelude.{◌≡◌, ◌<◌, ℕ, ◌+◌, ◌%◌, ◌^◌, ◌==◌, List, [], ◌++◌, length, map, Option, None, Some, if◌then◌else◌}
 use Rattle.std.specs.List.{filter, filter_map}
 use Rattle.vax_sched.specs.declared.rule.Target.{Target}
 use Rattle.vax_sched.specs.declared.rule.Target.TheVariants.{Page}
@@ -29,6 +29,10 @@ fixed_now turn rules = filter (λ rule. rule.turn == turn) rules
 -- the `each` lines whose number divides a turn
 abbrev pub repeated_now : ℕ → List Repeated → List Repeated
 repeated_now turn rules = filter (λ rule. turn % rule.turns == 0) rules
+
+-- the targets of `at` lines for a turn, then of those `each` lines whose number divides it
+abbrev pub targets_of : ℕ → List Fixed → List Repeated → List Target
+targets_of turn fixed repeated = map (λ rule. Page rule.page) fixed ++ map (λ rule. rule.target) (repeated_now turn repeated)
 
 -- Nothing is asked of the turns of a gap that begins at a turn, and something of the turn behind it unless that is the last number of 64 bits.
 pub record IsGap {A : Type 0} (asks : ℕ → List A) (turn gap : ℕ) : Type 0 where

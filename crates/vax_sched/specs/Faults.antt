@@ -3,7 +3,7 @@ use Rattle.std.specs.Prelude.{◌≡◌, ◌<◌, ℕ, ◌+◌, Bool, true, fals
 use Rattle.std.specs.List.{list_any, All}
 use Rattle.vax_space.specs.declared.Area.{Area}
 use Rattle.vax_space.specs.Areas.{area_of}
-use Rattle.vax_sched.specs.Lines.{Text}
+use Rattle.vax_lines.specs.Lines.{Text}
 use Rattle.vax_sched.specs.Rules.{Reading, silent, says, malformed, readings, rules}
 use Rattle.vax_sched.specs.declared.rule.Target.{Target}
 use Rattle.vax_sched.specs.declared.rule.Target.TheVariants.{Page, All as Every}

@@ -1,5 +1,3 @@
-pub mod Lines
-pub mod Words
 pub mod Rules
 pub mod Views
 pub mod Kept

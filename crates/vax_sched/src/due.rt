@@ -6,6 +6,71 @@ ghost use Rattle.vax_sched.specs.Due.{IsGap, fixed_now, repeated_now};
 ghost use Rattle.vax_sched.specs.Kept.{Ascends, is_divisor};
 
 use crate::rule::{Fixed, Repeated, Target};
+use std::marker::Model;
+
+/// The targets of a turn that are still to come, in order. Contracts see their list.
+#[derive(Drop)]
+pub struct Targets<'a> {
+    turn: u64,
+    /// `at` lines for the turn.
+    fixed: &'a [Fixed],
+    /// `each` lines, whose numbers divide the turn or don't.
+    repeated: &'a [Repeated],
+}
+
+impl<'a> Model for Targets<'a> {
+    ghost use Rattle.std.specs.Prelude.{◌≡◌, true, List};
+    ghost use Rattle.std.specs.List.{list_all};
+    ghost use Rattle.vax_sched.specs.declared.rule.Target.{Target};
+    ghost use Rattle.vax_sched.specs.Due.{targets_of};
+    ghost use Rattle.vax_sched.specs.Kept.{is_divisor};
+
+    ghost Value = { List Target };
+
+    ghost view = { λ t. targets_of t.turn t.fixed.now t.repeated.now };
+
+    ghost invariant = { λ t. list_all is_divisor t.repeated.now ≡ true };
+}
+
+impl<'a> Targets<'a> {
+    ghost use Rattle.vax_sched.specs.Due.{targets_of};
+
+    /// The targets of a turn: these `at` lines are for it, and the `each` lines may be.
+    pub(crate) fn new(turn: u64, fixed: &'a [Fixed], repeated: &'a [Repeated]) -> Targets<'a>
+        requires { list_all is_divisor repeated.now ≡ true }
+        ensures { result ≡ targets_of turn fixed.entry.now repeated.entry.now }
+    {
+        Targets {
+            turn,
+            fixed,
+            repeated,
+        }
+    }
+}
+
+impl<'a> Iterator for Targets<'a> {
+    ghost use Rattle.std.specs.Iterator.{YieldsFirst, item_count};
+
+    type Item = Target;
+
+    ghost next_gives = { YieldsFirst (λ targets. targets) };
+
+    ghost remaining = { item_count (λ targets. targets) };
+
+    fn next(&mut self) -> Option<Target> {
+        if let Some((rule, rest)) = self.fixed.split_first() {
+            self.fixed = rest;
+            return Some(Target::Page(rule.page));
+        }
+        while let Some((rule, rest)) = self.repeated.split_first() {
+            self.repeated = rest;
+            if self.turn % rule.turns == 0 {
+                return Some(rule.target);
+            }
+        }
+        None
+    }
+}
 
 /// How many of the rules, which ascend, are for an earlier turn.
 fn count_before(rules: &[Fixed], turn: u64) -> usize

@@ -6,13 +6,12 @@
 
 mod due;
 mod line;
-mod lines;
 mod print;
 mod reader;
 mod rule;
 mod schedule;
-mod words;
 
+pub use due::Targets;
 pub use print::push_at;
 pub use reader::{SchedError, read};
 pub use rule::{Fixed, Repeated, Rule, Target};

@@ -4,10 +4,10 @@ ghost use Rattle.vax_sched.specs.Faults.{ArePlaced, Reads};
 ghost use Rattle.vax_sched.specs.Rules.{readings};
 
 use crate::line::line_of;
-use crate::lines::next_line;
 use crate::schedule::Schedule;
 use std::alloc::{AllocError, Global};
 use thiserror::Error;
+use vax_lines::next_line;
 use vax_space::Space;
 
 /// Why a text is no schedule of a space.

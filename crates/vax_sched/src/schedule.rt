@@ -9,7 +9,7 @@ ghost use Rattle.vax_sched.specs.Printed.{printed};
 ghost use Rattle.vax_sched.specs.Rules.{rule_in};
 ghost use Rattle.vax_sched.specs.Views.{reading};
 
-use crate::due::{fixed_gap, fixed_now, repeated_at, repeated_gap};
+use crate::due::{Targets, fixed_gap, fixed_now, repeated_at, repeated_gap};
 use crate::line::Line;
 use crate::print::text_of;
 use crate::rule::{Fixed, Repeated, Rule, Target};
@@ -73,6 +73,13 @@ impl Schedule {
             Some(rule) => Some(Target::Page(rule.page)),
             None => repeated_at(&self.repeated, turn, place - fixed.len()),
         }
+    }
+
+    /// The targets that are due at a turn, in the order of [`Schedule::due`]. All of them take time in the lines, not each of them.
+    pub fn targets(&self, turn: u64) -> Targets<'_>
+        ensures { result ≡ due self.now turn }
+    {
+        Targets::new(turn, fixed_now(&self.fixed, turn), &self.repeated)
     }
 
     /// The text of the schedule, without comments and blank lines. Read again it is the same schedule.

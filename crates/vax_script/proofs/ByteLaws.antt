@@ -1,7 +1,7 @@
 -- Bytes of two digits each, one after the other.
 use Rattle.std.proofs.Common.{◌≡◌, ℕ, ◌+◌, ◌*◌, List, [], ◌∷◌, ◌++◌, length, Option, None, Some, option_map, refl, sym, ap, ◌∙◌, append_assoc, append-nil, arith}
 use Rattle.std.proofs.lemmas.List.{length-append}
-use Rattle.vax_script.specs.Lines.{Text}
+use Rattle.vax_lines.specs.Lines.{Text}
 use Rattle.vax_script.specs.Numbers.{byte, bytes}
 
 one_more : (found : List ℕ) (b : ℕ) (more : Option (List ℕ)) → option_map (λ xs. (found ++ b ∷ []) ++ xs) more ≡ option_map (λ xs. found ++ xs) (option_map (λ xs. b ∷ xs) more)

@@ -1,4 +1,1 @@
-pub mod LineLaws
-pub mod WordLaws
-pub mod NumberLaws
 pub mod ByteLaws

@@ -2,9 +2,10 @@
 use Rattle.std.specs.Prelude.{◌<◌, ◌≤◌, ℕ, ◌^◌, ◌==◌, ◌||◌, Bool, List, [], ◌∷◌, length, codes, map, Option, None, Some, option_map, if◌then◌else◌}
 use Rattle.std.specs.List.{list_all}
 use Rattle.std.specs.Str.{str_eq_ignore_ascii_case}
-use Rattle.vax_script.specs.Lines.{Text, lines}
-use Rattle.vax_script.specs.Words.{words, is_trimmed}
-use Rattle.vax_script.specs.Numbers.{number, register, longword, some_bytes}
+use Rattle.vax_lines.specs.Lines.{Text, lines}
+use Rattle.vax_lines.specs.Words.{words, is_trimmed}
+use Rattle.vax_lines.specs.Numbers.{number}
+use Rattle.vax_script.specs.Numbers.{register, longword, some_bytes}
 use Rattle.vax_script.specs.declared.request.Command.{Command}
 use Rattle.vax_script.specs.declared.request.Command.TheVariants as command
 use Rattle.vax_script.specs.declared.request.Request.{Request}

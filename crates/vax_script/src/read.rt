@@ -2,13 +2,14 @@
 ghost use Rattle.std.specs.Prelude.{◌≡◌, ◌||◌, ◌==◌, IfSome};
 ghost use Rattle.std.specs.List.{list_all};
 ghost use Rattle.std.specs.Str.{str_eq_ignore_ascii_case};
-ghost use Rattle.vax_script.specs.Words.{words};
+ghost use Rattle.vax_lines.specs.Words.{words};
 ghost use Rattle.vax_script.specs.Requests.{IsProper, IsProperLine, alone, asked_by, command_of, deposited, else_by, examined, is_blank, line_of, put_at, put_in, request_of, shown_at, shown_from, stepped};
-ghost use Rattle.vax_script.specs.Numbers.{longword, number, register, some_bytes};
+ghost use Rattle.vax_lines.specs.Numbers.{number};
+ghost use Rattle.vax_script.specs.Numbers.{longword, register, some_bytes};
 
-use crate::numbers::{longword, number, register, some_bytes};
+use crate::numbers::{longword, register, some_bytes};
 use crate::request::{Command, Line, Request};
-use crate::words::{is_trimmed, next_word};
+use vax_lines::{is_trimmed, next_word, number};
 
 /// How many bytes `EXAMINE` shows where its line doesn't say.
 const SHOWN: u8 = 4;

@@ -51,7 +51,7 @@ fn paint(codes: &mut [u8], area: &Area)
 }
 
 /// The protection codes of all pages.
-pub fn code_table(alloc: Global, areas: &[Area]) -> Result<Vec<u8>, NoMemory>
+pub(crate) fn code_table(alloc: Global, areas: &[Area]) -> Result<Vec<u8>, NoMemory>
     requires { IsSpace areas.now }
     ensures { IfOk result (λ codes. spec.Maps codes.items areas.now) }
 {

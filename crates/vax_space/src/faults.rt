@@ -37,7 +37,7 @@ fn fault_of(area: &Area, low: u32, place: u32) -> Option<SpaceError>
 }
 
 /// The fault of the first area at fault.
-pub fn first_fault(areas: &[Area]) -> Option<SpaceError>
+pub(crate) fn first_fault(areas: &[Area]) -> Option<SpaceError>
     ensures none { IfNone result (spec.IsSpace areas.now) }
     ensures some { IfSome result (spec.IsFirstFault areas.now) }
 {

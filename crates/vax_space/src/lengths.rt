@@ -20,7 +20,7 @@ fn end_in_program(area: &Area) -> u32
 
 /// The page after the last that an area of P0 has.
 #[tactic(auto, using(crate::proofs::Extents::program_small))]
-pub fn program_end(areas: &[Area]) -> u32
+pub(crate) fn program_end(areas: &[Area]) -> u32
     requires { IsSpace areas.now }
     ensures end { result ≡ spec.program_end areas.now }
     ensures within { result ≤ 0x8000 }
@@ -45,7 +45,7 @@ fn start_in_control(area: &Area) -> u32
 
 /// The first page that an area of P1 has, or the region's end.
 #[tactic(auto, using(crate::proofs::Extents::control_large, crate::proofs::Extents::control_small))]
-pub fn control_start(areas: &[Area]) -> u32
+pub(crate) fn control_start(areas: &[Area]) -> u32
     requires { IsSpace areas.now }
     ensures start { result ≡ spec.control_start areas.now }
     ensures low { 0x3F8000 ≤ result }
@@ -60,7 +60,7 @@ pub fn control_start(areas: &[Area]) -> u32
 
 /// Whether the page lies past the length of its region.
 #[tactic(auto, unfolding(crate::specs::Reference::is_past_region))]
-pub fn is_past_region(areas: &[Area], page: u32) -> bool
+pub(crate) fn is_past_region(areas: &[Area], page: u32) -> bool
     requires { IsSpace areas.now }
     ensures { result ≡ spec.is_past_region areas.now page }
 {

@@ -6,7 +6,7 @@ ghost use Rattle.vax_space.specs.Faults.{IsSpace};
 use crate::{Access, Area, PAGES, allows};
 
 /// The area that has a page.
-pub fn area_of(areas: &[Area], page: u32) -> Option<&Area>
+pub(crate) fn area_of(areas: &[Area], page: u32) -> Option<&Area>
     ensures area { option_copied result ≡ spec.area_of areas.now page }
     ensures has { IfSome result (λ area. spec.has_page area.now page ≡ true) }
 {
@@ -19,7 +19,7 @@ pub fn area_of(areas: &[Area], page: u32) -> Option<&Area>
 }
 
 /// A page's rank among the pages that some mode may write: kernel mode may write what any other mode may.
-pub fn block_of(areas: &[Area], page: u32) -> Option<u32>
+pub(crate) fn block_of(areas: &[Area], page: u32) -> Option<u32>
     requires { IsSpace areas.now }
     ensures rank { result ≡ spec.block_of areas.now page }
     ensures page { IfSome result (λ block. spec.page_of_block areas.now block ≡ Some page) }

@@ -19,7 +19,7 @@ pub const NO_AREA: u8 = 1;
 
 /// The protection code in bits 30:27.
 #[inline]
-pub fn prot_in(entry: u32) -> u8
+pub(crate) fn prot_in(entry: u32) -> u8
     ensures value { result ≡ spec.prot_in entry }
     ensures small { result ≤ 15 }
 {
@@ -28,7 +28,7 @@ pub fn prot_in(entry: u32) -> u8
 
 /// The page frame number in bits 20:0.
 #[inline]
-pub fn frame_in(entry: u32) -> u32
+pub(crate) fn frame_in(entry: u32) -> u32
     ensures value { result ≡ spec.frame_in entry }
     ensures small { result < 2 ^ 21 }
 {
@@ -36,7 +36,7 @@ pub fn frame_in(entry: u32) -> u32
 }
 
 #[inline]
-pub fn entry_with(valid: bool, prot: u8, modified: bool, frame: u32) -> u32
+pub(crate) fn entry_with(valid: bool, prot: u8, modified: bool, frame: u32) -> u32
     requires prot { prot ≤ 15 }
     requires frame { frame < 2 ^ 21 }
     ensures { result ≡ spec.entry_with valid prot modified frame }
@@ -49,7 +49,7 @@ pub fn entry_with(valid: bool, prot: u8, modified: bool, frame: u32) -> u32
 /// What an entry says of its page.
 #[inline]
 #[tactic(auto, unfolding(crate::specs::Entry::said_by))]
-pub fn said_by(entry: u32) -> Walk
+pub(crate) fn said_by(entry: u32) -> Walk
     ensures value { result ≡ spec.said_by entry }
     ensures small { IfSome (prot_said result) (λ prot. prot ≤ 15) }
 {
@@ -70,7 +70,7 @@ pub fn said_by(entry: u32) -> Walk
 /// The frame that the entry of an absent page remembers.
 #[inline]
 #[tactic(auto, unfolding(crate::specs::Entry::kept_by))]
-pub fn kept_by(entry: u32) -> Option<u32>
+pub(crate) fn kept_by(entry: u32) -> Option<u32>
     ensures value { result ≡ spec.kept_by entry }
     ensures small { IfSome result (λ frame. frame < 2 ^ 21) }
 {
@@ -84,7 +84,7 @@ pub fn kept_by(entry: u32) -> Option<u32>
 /// The entry at a place, counted in longwords.
 #[inline]
 #[tactic(auto, unfolding(crate::specs::Entry::entry_at))]
-pub fn entry_at(bytes: &[u8], place: usize) -> u32
+pub(crate) fn entry_at(bytes: &[u8], place: usize) -> u32
     requires { 4 * place + 4 ≤ length bytes.now }
     ensures { result ≡ spec.entry_at bytes.now place }
 {
@@ -93,7 +93,7 @@ pub fn entry_at(bytes: &[u8], place: usize) -> u32
 
 /// Writes the entry at a place, and leaves all others.
 #[inline]
-pub fn put_entry(bytes: &mut [u8], place: usize, entry: u32)
+pub(crate) fn put_entry(bytes: &mut [u8], place: usize, entry: u32)
     requires { 4 * place + 4 ≤ length bytes.old }
     ensures size { length bytes.new ≡ length bytes.old }
     ensures entries { (n : ℕ) → spec.entry_at bytes.new n ≡ changed (spec.entry_at bytes.old) place entry n }

@@ -192,7 +192,7 @@ fn first_bytes(
 }
 
 /// The memory of a space's tables, all pages absent.
-pub fn new_memory(alloc: Global, space: &Space) -> Result<Memory, NoMemory>
+pub(crate) fn new_memory(alloc: Global, space: &Space) -> Result<Memory, NoMemory>
     ensures sound { IfOk result IsSound }
     ensures walked { IfOk result (λ memory. walked_in memory ≡ mapped space.now all_absent) }
     ensures kept { IfOk result (λ memory. kept_in memory ≡ none_kept) }

@@ -105,10 +105,10 @@ fn clear<P: Port>(txn: &mut Txn<P>, size: Size) -> Result<Flow, CutShort>
 
 /// TST.
 #[inline(always)]
-#[tactic(auto, unfolding(vax_flat::specs::Integer::test))]
+#[tactic(auto, unfolding(vax_flat::specs::Integer::test_value))]
 fn test<P: Port>(txn: &mut Txn<P>, size: Size) -> Result<Flow, CutShort>
     requires { 5 ≤ room txn.old }
-    ensures exact { Does P.view (integer.test size) result txn.old txn.new }
+    ensures exact { Does P.view (integer.test_value size) result txn.old txn.new }
     ensures keeps { Keeps P.view P.since 5 txn.old txn.new }
 {
     let x = next_value(txn, size)?;

@@ -5,4 +5,4 @@ use Rattle.vax_asm_data.proofs.items.fix.Goals as goal
 
 pub returns-then-count-gt-MOST_ITEMS : goal.returns-then-count-gt-MOST_ITEMS
 returns-then-count-gt-MOST_ITEMS c =
-    sym (items_too_many c.args.size (site_seen c.args.site) c.args.count (filling_of c.args.filling) (standing_of c.args.standing.now) c.if-count-gt-MOST_ITEMS.true)
+    sym (items_too_many c.args.kind (site_seen c.args.site) c.args.count (filling_of c.args.filling) (standing_of c.args.standing.now) c.if-count-gt-MOST_ITEMS.true)

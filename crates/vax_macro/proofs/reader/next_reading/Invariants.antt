@@ -1,4 +1,4 @@
-use Rattle.std.proofs.Common.{◌≡◌, ◌<◌, ◌-◌, ℕ, List}
+use Rattle.std.proofs.Common.{◌<◌, ◌-◌, ℕ, List}
 use Rattle.std.specs.Prelude.{Option}
 use Rattle.vax_lex.specs.declared.value.Value.{Value}
 use Rattle.vax_macro.specs.Expansion.{next_line_step}

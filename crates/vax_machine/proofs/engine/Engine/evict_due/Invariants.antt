@@ -1,4 +1,4 @@
-use Rattle.std.proofs.Common.{◌≡◌, ◌≤◌, ◌-◌, ◌+◌, length, take}
+use Rattle.std.proofs.Common.{◌≡◌, ◌+◌, length, take}
 use Rattle.vax_pager.specs.Meaning.{pages}
 use Rattle.vax_sched.specs.Due.{due}
 use Rattle.vax_machine.specs.Machine.{IsSound}
@@ -11,13 +11,8 @@ abbrev pub invariant-loop-target : goal.invariant-loop-target
 invariant-loop-target g l = record {
   sound : IsSound l.self;
   still : Still l.fn.self l.self;
-  turn : l.turn ≡ l.fn.self.turns + 1;
-  within : l.place ≤ length (due l.schedule l.turn);
   writes : StillWrites l.fn.held l.held (g.K.Sink.contents l.fn.sink) (g.K.Sink.contents l.sink);
-  at : (o : Origin) → (p : Paged) → Follows o p l.fn.self (g.F.PageFile.contents l.fn.file) (g.K.Sink.contents l.fn.sink) l.fn.held → Follows o (all_evicted (all_named (pages l.fn.self.pager).areas (take l.place (due l.schedule l.turn))) p) l.self (g.F.PageFile.contents l.file) (g.K.Sink.contents l.sink) l.held;
+  at : (o : Origin) → (p : Paged) → Follows o p l.fn.self (g.F.PageFile.contents l.fn.file) (g.K.Sink.contents l.fn.sink) l.fn.held → Follows o (all_evicted (all_named (pages l.fn.self.pager).areas (take (length l.yielded) (due l.fn.schedule (l.fn.self.turns + 1)))) p) l.self (g.F.PageFile.contents l.file) (g.K.Sink.contents l.sink) l.held;
   quiet : g.F.PageFile.faults l.file ≡ g.F.PageFile.faults l.fn.file;
   written : g.K.Sink.faults l.sink ≡ g.K.Sink.faults l.fn.sink;
 }
-
-abbrev pub decreases-loop-target : goal.decreases-loop-target
-decreases-loop-target g l = length (due l.schedule l.turn) - l.place

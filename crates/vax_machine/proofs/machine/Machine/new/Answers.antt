@@ -6,10 +6,8 @@ use Rattle.vax_machine.specs.Meaning.{starts_at}
 use Rattle.vax_machine.proofs.Beginning.{fresh_areas, fresh_begun, fresh_pins, fresh_sound, started}
 use Rattle.vax_machine.proofs.machine.Machine.new.Goals as goal
 
-pub invariant_of-result : goal.invariant_of-result
-invariant_of-result c = record {
-  sound = record { pages = fresh_sound (pages c.in_ok-pager.pager) c.args.space c.args.frames c.in_ok-pager.ensures.pages c.requires.some; unsent = ap (λ (t : Term). t.out) c.new-cpu.ensures.term ∙ c.new-2.ensures.out };
-}
+pub invariant_of-result-clause-sound : goal.invariant_of-result-clause-sound
+invariant_of-result-clause-sound c = record { pages = fresh_sound (pages c.in_ok-pager.pager) c.args.space c.args.frames c.in_ok-pager.ensures.pages c.requires.some; unsent = ap (λ (t : Term). t.out) c.new-cpu.ensures.term ∙ c.new-2.ensures.out }
 
 pub returns-clause-start : goal.returns-clause-start
 returns-clause-start c = λ file. record {

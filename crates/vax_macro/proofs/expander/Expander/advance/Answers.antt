@@ -1,6 +1,6 @@
-use Rattle.std.proofs.Common.{◌≡◌, ◌<◌, ◌-◌, ℕ, refl, ap, subst, sym, ◌∙◌, arith}
-use Rattle.std.specs.Prelude.{Option, Some, None, option_map}
-use Rattle.vax_macro.specs.Expansion.{Stepped, Steps, Says, Faults, Ends, Opened, AtEnd, step, behind, opened}
+use Rattle.std.proofs.Common.{◌≡◌, ◌<◌, ◌-◌, refl, ap, subst, sym, ◌∙◌, arith}
+use Rattle.std.specs.Prelude.{Option, None, option_map}
+use Rattle.vax_macro.specs.Expansion.{Stepped, Steps, Says, Faults, Ends, Opened, step, behind, opened}
 use Rattle.vax_macro.specs.Expanders.{rest_of, statement_of, FaultIs, Opens}
 use Rattle.vax_macro.specs.Rest.{work}
 use Rattle.vax_macro.specs.View.{opening_of}

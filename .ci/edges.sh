@@ -1,0 +1,185 @@
+#!/usr/bin/env bash
+# edges.sh VAX: what a built program does at its edges, where no proof says it: with standard streams closed, with two runs in one folder, and by each
+# exit status. It works in a folder of its own, tells each case that isn't as it must be, and ends with 'N passed, M failed'.
+set -u
+if [ $# -ne 1 ] || [ ! -x "$1" ]; then
+  echo 'use: edges.sh VAX' >&2
+  exit 2
+fi
+vax=$(readlink -f "$1")
+examples=$(cd "$(dirname "$0")/../examples" && pwd) || exit 2
+work=$(mktemp -d) || exit 2
+trap 'rm -rf "$work"' EXIT
+cd "$work" || exit 2
+cp "$examples"/*.mar .
+
+passed=0
+failed=0
+
+# expect WHAT WANTED FOUND
+expect() {
+  if [ "$2" = "$3" ]; then
+    passed=$((passed + 1))
+  else
+    failed=$((failed + 1))
+    printf 'failed: %s\n  wanted: %s\n  found:  %s\n' "$1" "$2" "$3"
+  fi
+}
+
+# answer WORDS..: the status of a call, and the first line on standard error
+answer() {
+  "$vax" "$@" </dev/null >out 2>err
+  echo "$? $(head -n 1 err)"
+}
+
+# same FILE FILE: whether both are there and hold the same
+same() {
+  if cmp -s "$1" "$2"; then echo same; else echo "$1 differs from $2"; fi
+}
+
+# ---- A run by itself, which the others are compared with ----
+
+paged=(run large.mar number.mar --frames 64)
+expect 'a paged run' '0 ENDING HALT' "$(answer "${paged[@]}" --record on)"
+expect 'the sum of a paged run' '327692800 25473' "$(tr '\n' ' ' <out | sed 's/ *$//')"
+for file in out err vax.pag vax.rec; do mv "$file" "lone.$file"; done
+
+# ---- Exit statuses ----
+
+cp literals.mar program.mar
+printf 'START: FROB R1\n.END START\n' >wrong.mar
+printf '.PSECT CODE\nSTART: JSB ELSEWHERE\nHALT\n.END START\n' >unlinked.mar
+printf 'VAXI' >short.img
+head -c 4194305 /dev/zero >large.bin
+printf 'at 1 80000200\nat 1 FFFFFE00\n' >faulty.txt
+printf 'EXAMINE R1\nNEXT\nCONTINUE\n' >script.txt
+mkdir directory
+long=$(printf '%0300d' 0)
+
+expect 'a bare run' '0 ENDING HALT' "$(answer bare program.mar)"
+expect 'a run' '0 ENDING HALT' "$(answer run hello.mar)"
+expect 'a workload' '0 ENDING HALT' "$(answer work)"
+expect 'an image' '0 ' "$(answer build program.mar --base bare)"
+mv out program.img
+expect 'a run of the image' '0 ENDING HALT' "$(answer bare program.img)"
+expect 'a listing' '0 ' "$(answer list program.mar --base bare)"
+expect 'a console' '0 R1 00000000' "$(answer console program.mar --base bare --script script.txt)"
+expect 'help' '0 ' "$(answer --help)"
+expect 'a run up to its steps' '0 ENDING STEPS' "$(answer bare program.mar --steps 1)"
+expect 'no words' '1 vax: usage' "$(answer)"
+expect 'no such command' '1 vax: usage' "$(answer fly program.mar)"
+expect 'no such option' '1 vax: usage' "$(answer bare program.mar --base bare)"
+expect 'no file' '2 vax: missing NONE' "$(answer bare NONE)"
+expect 'no schedule' '2 vax: missing NONE' "$(answer bare program.mar --schedule NONE)"
+expect 'a file too large' '3 vax: large large.bin' "$(answer bare large.bin)"
+expect 'a source' '4 vax: source 1 line 1 fault 2' "$(answer bare wrong.mar)"
+expect "a system's source" '4 vax: source 0 line 1 fault 2' "$(answer run hello.mar --system wrong.mar)"
+expect 'a link' '5 vax: link fault 1 ELSEWHERE' "$(answer bare unlinked.mar)"
+expect 'a schedule' '6 vax: schedule line 2 fault 2' "$(answer bare program.mar --schedule faulty.txt)"
+expect 'an image' '7 vax: image place 4 fault 8' "$(answer bare short.img)"
+expect 'turns' '8 ENDING TURNS' "$(answer bare program.mar --turns 1)"
+expect 'turns of a console' '8 R1 00000000' "$(answer console program.mar --base bare --script script.txt --turns 1)"
+expect 'a directory' '10 vax: read' "$(answer bare directory)"
+expect 'a name behind a file' '10 vax: read' "$(answer bare program.mar/x)"
+expect 'a name too long' '10 vax: read' "$(answer bare "$long")"
+expect 'a word that is no text' '10 ' "$(answer bare $'\xff')"
+expect 'memory' '12 vax: memory' "$(ulimit -v 16000; answer bare program.mar --frames 32768)"
+
+mkdir vax.pag vax.rec
+expect 'a page file that is a directory' '9 ENDING PAGEFAULT' "$(answer "${paged[@]}")"
+expect 'the same, where no page needs it' '0 ENDING HALT' "$(answer bare program.mar)"
+expect 'a record that is a directory' '11 ' "$(answer bare program.mar --record on --schedule <(echo 'at 3 80000200'))"
+rmdir vax.pag vax.rec
+
+"$vax" run hello.mar >/dev/full 2>err
+expect 'output to a full disk' 11 $?
+"$vax" run hello.mar 2>/dev/full >out
+expect 'a report to a full disk' 11 $?
+"$vax" bare NONE 2>/dev/full
+expect 'a refusal to a full disk' 11 $?
+"$vax" build program.mar --base bare >/dev/full 2>err
+expect 'an image to a full disk' 11 $?
+exec 3> >(:)
+wait $!
+"$vax" run hello.mar >&3 2>err
+expect 'output to a closed pipe' 11 $?
+exec 3>&-
+
+# ---- Closed streams ----
+
+# without STREAMS WORDS..: a call without these of its streams 0, 1 and 2
+without() (
+  streams=$1
+  shift
+  exec </dev/null >out 2>err
+  case $streams in *0*) exec <&- ;; esac
+  case $streams in *1*) exec >&- ;; esac
+  case $streams in *2*) exec 2>&- ;; esac
+  exec "$vax" "$@"
+)
+
+# kept STREAMS: what the files of a run hold that isn't theirs, and what isn't in a stream that was open
+kept() {
+  [ -e vax.pag ] && grep -qaE 'ENDING|327692800' vax.pag && echo 'vax.pag has what was sent'
+  [ -e vax.rec ] && grep -qavE '^at [0-9]+ [0-9A-F]{8}$' vax.rec && echo 'vax.rec has what was sent'
+  case $1 in *1*) ;; *) same lone.out out ;; esac
+  case $1 in *1* | *2*) ;; *) same lone.err err ;; esac
+}
+
+for streams in 0 1 2 01 02 12 012; do
+  case $streams in
+  *1* | *2*) wanted=11 ;;
+  *) wanted=0 ;;
+  esac
+  case $streams in
+  0) clean='same same ' ;;
+  2 | 02) clean='same ' ;;
+  *) clean='' ;;
+  esac
+  rm -f vax.pag vax.rec
+  without "$streams" "${paged[@]}"
+  expect "a paged run without $streams" "$wanted $clean" "$? $(kept "$streams" | tr '\n' ' ')"
+  without "$streams" "${paged[@]}" --record on
+  expect "a recorded run without $streams" "$wanted $clean" "$? $(kept "$streams" | tr '\n' ' ')"
+  case $streams in *2*) wanted=11 ;; *) wanted=0 ;; esac
+  without "$streams" bare program.mar
+  expect "a run that sends nothing, without $streams" $wanted $?
+  case $streams in *1*) wanted=11 ;; *) wanted=0 ;; esac
+  without "$streams" build program.mar --base bare
+  expect "an image without $streams" $wanted $?
+  [ $wanted = 11 ] || expect "an image without $streams, its bytes" same "$(same program.img out)"
+  without "$streams" --help
+  expect "help without $streams" $wanted $?
+  case $streams in *2*) wanted=11 ;; *) wanted=2 ;; esac
+  without "$streams" bare NONE
+  expect "no file, without $streams" $wanted $?
+done
+
+# ---- A run's files are its own ----
+
+# What another program has open, or another name has, stays as it was.
+echo other >other
+rm -f vax.pag vax.rec
+ln other vax.pag
+ln -s other vax.rec
+expect 'a run over the files of another' '0 ENDING HALT' "$(answer "${paged[@]}" --record on)"
+expect 'what the other had' other "$(cat other)"
+expect 'the page file made anew' same "$(same lone.vax.pag vax.pag)"
+expect 'the record made anew' same "$(same lone.vax.rec vax.rec)"
+
+for pair in {1..40}; do
+  "$vax" "${paged[@]}" --record on </dev/null >out.1 2>err.1 &
+  first=$!
+  "$vax" "${paged[@]}" --record on </dev/null >out.2 2>err.2 &
+  second=$!
+  wait $first
+  found="$?"
+  wait $second
+  found="$found $?"
+  for n in 1 2; do found="$found $(same lone.out out.$n) $(same lone.err err.$n)"; done
+  found="$found $(same lone.vax.pag vax.pag) $(same lone.vax.rec vax.rec)"
+  expect "pair $pair in one folder" '0 0 same same same same same same' "$found"
+done
+
+echo "$passed passed, $failed failed"
+[ "$failed" -eq 0 ]

@@ -1,0 +1,58 @@
+//! Names as statements define and use them.
+use std::test::Fail;
+use vax_asm_names::*;
+
+#[test]
+fn numbers_names_as_they_appear(rt: HostRuntime) -> Result<(), Fail> {
+    let alloc = rt.alloc();
+    let mut table = NameTable::new(alloc);
+    assert!(rt; table.number(b"START") == None);
+    table.add(alloc, b"START", 0)?;
+    table.add(alloc, b"COUNT", 1)?;
+    assert!(rt; table.number(b"START") == Some(0));
+    assert!(rt; table.number(b"COUNT") == Some(1));
+    assert!(rt; table.number(b"STAR") == None);
+    table.make_global(1);
+    assert!(rt; !table.names()[0].global);
+    assert!(rt; table.names()[1].global);
+    assert!(rt; table.names()[1].text.as_slice() == b"COUNT".as_slice());
+    Ok(())
+}
+
+#[test]
+fn tells_which_definition_a_use_means(rt: HostRuntime) -> Result<(), Fail> {
+    let alloc = rt.alloc();
+    let mut table = NameTable::new(alloc);
+    // used before it is defined: its first definition to come
+    table.add(alloc, b"X", 7)?;
+    assert!(rt; table.names()[0].defined_by == DefinedBy::Nothing);
+    table.assign(0, 8)?;
+    assert!(rt; table.names()[0].definition == 7);
+    table.assign(0, 8)?;
+    assert!(rt; table.names()[0].definition == 8);
+    // a name that is assigned to is no label, and the other way round
+    assert!(rt; table.label(0) == Err(Duplicate));
+    table.add(alloc, b"L", 9)?;
+    table.label(1)?;
+    assert!(rt; table.label(1) == Err(Duplicate));
+    assert!(rt; table.assign(1, 10) == Err(Duplicate));
+    assert!(rt; table.names()[1].definition == 9);
+    assert!(rt; table.names()[1].defined_by == DefinedBy::Label);
+    Ok(())
+}
+
+#[test]
+fn keeps_local_labels_in_their_block(rt: HostRuntime) -> Result<(), Fail> {
+    let alloc = rt.alloc();
+    let mut table = NameTable::new(alloc);
+    assert!(rt; table.use_local(alloc, b"10$", 3)?.definition == 3);
+    assert!(rt; table.use_local(alloc, b"10$", 4)?.definition == 3);
+    assert!(rt; table.label_local(alloc, b"10$", 4)?.definition == 3);
+    assert!(rt; table.label_local(alloc, b"10$", 4) == Err(LabelError::Duplicate));
+    assert!(rt; table.label_local(alloc, b"20$", 5)?.definition == 5);
+    assert!(rt; table.local(b"20$").is_some());
+    table.begin_block(alloc);
+    assert!(rt; table.local(b"10$") == None);
+    assert!(rt; table.label_local(alloc, b"10$", 6)?.definition == 6);
+    Ok(())
+}

@@ -1,0 +1,49 @@
+//! Sections as `.PSECT` and `.ALIGN` make them.
+use std::test::Fail;
+use vax_asm_sections::*;
+
+const NOTHING_SAID: Attributes = Attributes {
+    align: None,
+    write: None,
+};
+
+#[test]
+fn builds_sections(rt: HostRuntime) -> Result<(), Fail> {
+    let alloc = rt.alloc();
+    let mut layout: Layout<u8> = Layout::new(alloc)?;
+    layout.put(3, Piece::Bytes(b"abc".to_vec(alloc)?))?;
+    let code = Attributes {
+        align: Some(2),
+        write: Some(false),
+    };
+    layout.select(alloc, b"CODE", code)?;
+    assert!(rt; layout.number() == 1);
+    layout.put(1, Piece::Field(7))?;
+    layout.align(3)?;
+    assert!(rt; layout.current().size == 8);
+    assert!(rt; layout.current().align == 3);
+    layout.select(alloc, b"DATA", NOTHING_SAID)?;
+    assert!(rt; layout.sections().len() == 3);
+    // what `.ALIGN` made of it is not what was said first
+    layout.select(alloc, b"CODE", code)?;
+    assert!(rt; layout.number() == 1);
+    let other = Attributes {
+        align: Some(3),
+        write: None,
+    };
+    assert!(rt; layout.select(alloc, b"CODE", other) == Err(Refusal::Conflict));
+    layout.select(alloc, b"CODE", NOTHING_SAID)?;
+    assert!(rt; !layout.current().write);
+    Ok(())
+}
+
+#[test]
+fn refuses_what_is_too_long(rt: HostRuntime) -> Result<(), Fail> {
+    let alloc = rt.alloc();
+    let mut layout: Layout<u8> = Layout::new(alloc)?;
+    layout.put(1_048_576, Piece::Zeros(1_048_576))?;
+    assert!(rt; layout.put(1, Piece::Zeros(1)) == Err(Refusal::TooLong));
+    assert!(rt; layout.align(9) == Ok(()));
+    assert!(rt; layout.current().size == 1_048_576);
+    Ok(())
+}

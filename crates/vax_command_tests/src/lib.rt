@@ -1,0 +1,15 @@
+//! Tests of images, linking, the command line and whole commands.
+#![tactic(auto)]
+
+#[cfg(test)]
+mod guest;
+#[cfg(test)]
+mod image;
+#[cfg(test)]
+mod link;
+#[cfg(test)]
+mod program;
+#[cfg(test)]
+mod top;
+#[cfg(test)]
+mod words;

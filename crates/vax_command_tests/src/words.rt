@@ -1,0 +1,337 @@
+//! Words that are plain, and words that aren't.
+use std::test::Fail;
+use vax_cli::{
+    Base, Command, DumpItem, Dumps, Format, Names, Options, WordsError, about, command_of,
+};
+
+/// The words of a line, between single blanks; an empty line has none.
+fn words(rt: &HostRuntime, line: &str) -> Result<Vec<String>, Fail> {
+    let mut made = Vec::new(rt.alloc());
+    if !line.is_empty() {
+        for word in line.split(' ') {
+            made.push(String::from_str(rt.alloc(), word)?)?;
+        }
+    }
+    Ok(made)
+}
+
+fn names<'a>(all: &[&'a str]) -> Names<'a> {
+    let mut names = Names::new();
+    for name in all {
+        let _ = names.try_push(*name);
+    }
+    names
+}
+
+fn dumps(all: &[DumpItem]) -> Dumps {
+    let mut dumps = Dumps::new();
+    for item in all {
+        let _ = dumps.try_push(*item);
+    }
+    dumps
+}
+
+/// What is asked for where no word says it.
+fn usual<'a>() -> Options<'a> {
+    Options {
+        input: None,
+        system: None,
+        schedule: None,
+        frames: 256,
+        steps: 10_000_000,
+        turns: 1_000_000_000_000,
+        dumps: Dumps::new(),
+        recorded: false,
+    }
+}
+
+/// Plain words of `bare` that give one file, with the options that they ask for; clap reads them all.
+#[test]
+fn reads_options(rt: HostRuntime) -> Result<(), Fail> {
+    let rows: [(&str, Options); 7] = [
+        ("bare A", usual()),
+        (
+            "bare --input=B A --schedule S=T",
+            Options {
+                input: Some("B"),
+                schedule: Some("S=T"),
+                ..usual()
+            },
+        ),
+        (
+            "bare --steps=0 --frames 64 A --turns=1",
+            Options {
+                frames: 64,
+                steps: 0,
+                turns: 1,
+                ..usual()
+            },
+        ),
+        (
+            "bare A --steps 1000000000000000 --turns 1000000000000000 --frames=32768",
+            Options {
+                frames: 32_768,
+                steps: 1_000_000_000_000_000,
+                turns: 1_000_000_000_000_000,
+                ..usual()
+            },
+        ),
+        (
+            "bare --record on A",
+            Options {
+                recorded: true,
+                ..usual()
+            },
+        ),
+        ("bare --record=off A", usual()),
+        (
+            "bare A --dump 80000200:16,7fFFfe00:4096",
+            Options {
+                dumps: dumps(&[
+                    DumpItem {
+                        address: 0x8000_0200,
+                        count: 16,
+                    },
+                    DumpItem {
+                        address: 0x7FFF_FE00,
+                        count: 4_096,
+                    },
+                ]),
+                ..usual()
+            },
+        ),
+    ];
+    for (row, options) in rows {
+        let all = words(&rt, row)?;
+        let bare = Command::Bare {
+            files: names(&["A"]),
+            options,
+        };
+        assert!(rt; command_of(rt.alloc(), all.as_slice()) == Ok(bare), "{row}");
+    }
+    Ok(())
+}
+
+/// Plain words of each command; clap reads them all.
+#[test]
+fn reads_commands(rt: HostRuntime) -> Result<(), Fail> {
+    let rows: [(&str, Command); 11] = [
+        (
+            "run A B C D E F G H",
+            Command::Run {
+                files: names(&["A", "B", "C", "D", "E", "F", "G", "H"]),
+                options: usual(),
+            },
+        ),
+        (
+            "run B --system S A",
+            Command::Run {
+                files: names(&["B", "A"]),
+                options: Options {
+                    system: Some("S"),
+                    ..usual()
+                },
+            },
+        ),
+        (
+            "build A",
+            Command::Build {
+                files: names(&["A"]),
+                base: Base::User,
+                format: Format::First,
+            },
+        ),
+        (
+            "build --format=2 A --base bare",
+            Command::Build {
+                files: names(&["A"]),
+                base: Base::Bare,
+                format: Format::Second,
+            },
+        ),
+        (
+            "list --base user A",
+            Command::List {
+                files: names(&["A"]),
+                base: Base::User,
+            },
+        ),
+        (
+            "console A --script L --system=S",
+            Command::Console {
+                files: names(&["A"]),
+                base: Base::User,
+                script: "L",
+                options: Options {
+                    system: Some("S"),
+                    ..usual()
+                },
+            },
+        ),
+        (
+            "console --base=bare --script=L A --input I",
+            Command::Console {
+                files: names(&["A"]),
+                base: Base::Bare,
+                script: "L",
+                options: Options {
+                    input: Some("I"),
+                    ..usual()
+                },
+            },
+        ),
+        (
+            "work",
+            Command::Work {
+                seed: 1,
+                size: 100,
+                options: usual(),
+            },
+        ),
+        (
+            "work --seed 4294967295 --size=5000",
+            Command::Work {
+                seed: 4_294_967_295,
+                size: 5_000,
+                options: usual(),
+            },
+        ),
+        (
+            "work --size 1 --seed=0 --record on",
+            Command::Work {
+                seed: 0,
+                size: 1,
+                options: Options {
+                    recorded: true,
+                    ..usual()
+                },
+            },
+        ),
+        ("work --help", Command::About),
+    ];
+    for (row, command) in rows {
+        let all = words(&rt, row)?;
+        assert!(rt;
+            command_of(rt.alloc(), all.as_slice()) == Ok(command),
+            "{row}"
+        );
+    }
+    Ok(())
+}
+
+#[test]
+fn refuses_other_words(rt: HostRuntime) -> Result<(), Fail> {
+    let rows: [&str; 47] = [
+        "",
+        "boot A",
+        "bare",
+        "bare A B C D E F G H I",
+        "bare A --system S",
+        "bare A --seed 1",
+        "bare A --frames 63",
+        "bare A --frames 32769",
+        "bare A --frames 64 --frames 64",
+        "bare A --turns 0",
+        "bare A --turns=1000000000000001",
+        "bare A --schedule",
+        "bare A --input",
+        "bare A --input=",
+        "bare A --input=-",
+        "bare A --input --steps=1",
+        "bare A --input B --input=C",
+        "bare A --steps 1000000000000001",
+        "bare A --steps 18446744073709551616",
+        "bare A --steps +1",
+        "bare A --steps 1x",
+        "bare A --steps 007",
+        "bare A --record ON",
+        "bare A --dump 80000200",
+        "bare A --dump 80000200:0",
+        "bare A --dump 80000200:4097",
+        "bare A --dump 80000200:016",
+        "bare A --dump 8000200:16",
+        "bare A --dump +8000200:16",
+        "bare A --dump 80000200:16,",
+        "bare A --dump ,80000200:16",
+        "bare A --dump 00000000:1,00000001:1,00000002:1,00000003:1,00000004:1,00000005:1,00000006:1,00000007:1,00000008:1,00000009:1,0000000A:1,0000000B:1,0000000C:1,0000000D:1,0000000E:1,0000000F:1,00000010:1",
+        "bare A --help",
+        "bare -h",
+        "bare A -- B",
+        "bare -",
+        "bare ",
+        "run A --base bare",
+        "build A --format 3",
+        "build A --steps 1",
+        "list A --base system",
+        "list A --format 1",
+        "console A",
+        "console A --script L --dump 00000200:4",
+        "console A --script L --base bare --system S",
+        "work A",
+        "work --size 5001",
+    ];
+    for row in rows {
+        let all = words(&rt, row)?;
+        assert!(rt;
+            matches!(
+                command_of(rt.alloc(), all.as_slice()),
+                Err(WordsError::Usage)
+            ),
+            "{row}"
+        );
+    }
+    Ok(())
+}
+
+fn has_all(parts: &[&str], text: &str) -> bool {
+    parts.iter().all(|part| text.contains(*part))
+}
+
+#[test]
+fn shows_help(rt: HostRuntime) -> Result<(), Fail> {
+    let rows: [(&str, &[&str]); 8] = [
+        (
+            "--help",
+            &[
+                "Usage: vax <COMMAND>",
+                "  bare ",
+                "  work ",
+                "vax run HELLO.MAR",
+            ],
+        ),
+        (
+            "bare --help",
+            &[
+                "Usage: vax bare [OPTIONS] <FILE>...",
+                "vax bare COUNT.MAR --steps 5000",
+                "docs/MACHINE.md",
+            ],
+        ),
+        (
+            "run --help",
+            &["Usage: vax run [OPTIONS] <FILE>...", "--system <FILE>"],
+        ),
+        ("build --help", &["--base <user|bare>", "--format <1|2>"]),
+        ("list --help", &["--base <user|bare>"]),
+        ("console --help", &["--script <FILE>"]),
+        (
+            "work --help",
+            &["Usage: vax work [OPTIONS]\n", "--seed <N>", "--size <N>"],
+        ),
+        ("--version", &["vax 0.1.0\n"]),
+    ];
+    for (row, parts) in rows {
+        let all = words(&rt, row)?;
+        assert!(rt;
+            command_of(rt.alloc(), all.as_slice()) == Ok(Command::About),
+            "{row}"
+        );
+        let Ok(shown) = about(rt.alloc(), all.as_slice()) else {
+            panic!(rt; "{row}");
+        };
+        assert!(rt; !shown.as_str().contains("-h,"), "{shown}");
+        assert!(rt; !shown.as_str().contains("  help"), "{shown}");
+        assert!(rt; has_all(parts, shown.as_str()), "{shown}");
+    }
+    Ok(())
+}

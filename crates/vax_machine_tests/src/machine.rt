@@ -1,0 +1,264 @@
+//! Machines over page files in memory. Expected values are worked by hand.
+use std::alloc::Global;
+use std::process::Abort;
+use std::test::Fail;
+use vax_flat::Ending;
+use vax_machine::{Applied, Event, Limits, Machine, RunEnd};
+use vax_outside::{Chan, MemPages, MemSink};
+use vax_pager::PageFault;
+use vax_sched::{Schedule, read};
+use vax_space::{Area, Bytes, Space};
+use vax_word::{Core, Psl};
+
+/// So many pages, from page 0 on, which begin with these bytes and which every mode may write.
+fn pages(alloc: Global, count: u32, bytes: &[u8]) -> Result<Space, Fail> {
+    let mut areas = Vec::new(alloc);
+    areas.push(Area {
+        first: 0,
+        pages: count,
+        prot: 4,
+        bytes: Bytes::from(bytes.to_vec(alloc)?),
+    })?;
+    Ok(Space::new(alloc, areas)?)
+}
+
+/// Pages 0 to 7.
+fn space(alloc: Global, bytes: &[u8]) -> Result<Space, Fail> {
+    pages(alloc, 8, bytes)
+}
+
+/// A machine over a space, with registers of 0 in kernel mode and 64 frames.
+fn machine_over(alloc: Global, space: Space) -> Result<Machine, Fail> {
+    let core = Core {
+        regs: [0; 16],
+        psl: Psl(0x001F_0000),
+        stacks: [0; 5],
+        sisr: 0,
+        iccs: 0,
+        clock: 0,
+    };
+    Ok(Machine::new(alloc, space, core, Vec::new(alloc), 64)?)
+}
+
+/// A machine over eight pages.
+fn machine(alloc: Global, bytes: &[u8]) -> Result<Machine, Fail> {
+    machine_over(alloc, space(alloc, bytes)?)
+}
+
+/// MOVL #89ABCDEF,@#400, MOVL @#400,R1 and HALT.
+const PROGRAM: &[u8] = &[
+    0xD0, 0x8F, 0xEF, 0xCD, 0xAB, 0x89, 0x9F, 0, 4, 0, 0, 0xD0, 0x9F, 0, 4, 0, 0, 0x51, 0,
+];
+
+/// Runs for at most 100 steps and 100 attempts.
+fn run_up(
+    machine: &mut Machine,
+    schedule: &Schedule,
+    file: &mut MemPages,
+    sink: &mut MemSink,
+) -> RunEnd {
+    let limits = Limits {
+        steps: 100,
+        turns: 100,
+        listed: true,
+    };
+    machine.run(&limits, schedule, file, sink)
+}
+
+/// Runs the program to its end, with so many attempts and so many evictions of pinned pages.
+fn run_program<R: Abort>(
+    rt: &R,
+    alloc: Global,
+    schedule: &Schedule,
+    turns: u64,
+    spoiled: u64,
+) -> Result<(), Fail> {
+    let mut machine = machine(alloc, PROGRAM)?;
+    let mut file = MemPages::new(alloc, 8, 100, Vec::new(alloc))?;
+    let mut sink = MemSink::new(alloc, [100; 3], 100, Vec::new(alloc))?;
+    let end = run_up(&mut machine, schedule, &mut file, &mut sink);
+    assert!(rt; end == RunEnd::Ended(Ending::Halt));
+    assert!(rt; [machine.steps(), machine.turns(), machine.spoiled()] == [3, turns, spoiled]);
+    assert!(rt; machine.core().regs.get(1) == Some(&0x89AB_CDEF));
+    assert!(rt; [machine.units(), machine.taken()] == [0, 0]);
+    assert!(rt; sink.bytes(Chan::Out).is_empty());
+    Ok(())
+}
+
+#[test]
+fn runs_to_an_ending(rt: HostRuntime) -> Result<(), Fail> {
+    let alloc = rt.alloc();
+    run_program(&rt, alloc, &Schedule::new(alloc), 5, 0)?;
+    let evicting = read(alloc, b"at 3 00000000\n", &space(alloc, &[])?)?;
+    run_program(&rt, alloc, &evicting, 6, 1)
+}
+
+#[test]
+fn events_one_by_one(rt: HostRuntime) -> Result<(), Fail> {
+    let alloc = rt.alloc();
+    // NOP, MOVB #1,@#600 and HALT.
+    let mut machine = machine(alloc, &[1, 0x90, 1, 0x9F, 0, 6, 0, 0, 0])?;
+    let mut file = MemPages::new(alloc, 8, 100, Vec::new(alloc))?;
+    let rows = [
+        (Event::Serve, Applied::Nothing),
+        (Event::Attempt, Applied::Absent(0)),
+        (Event::Serve, Applied::Served(None)),
+        (Event::Serve, Applied::Nothing),
+        (Event::Attempt, Applied::Stepped(None)),
+        (Event::Attempt, Applied::Absent(3)),
+        (Event::Evict(3), Applied::Nothing),
+        (Event::Evict(0), Applied::Evicted),
+        (Event::Serve, Applied::Served(None)),
+        (Event::Attempt, Applied::Absent(0)),
+        (Event::Serve, Applied::Served(None)),
+        (Event::Attempt, Applied::Stepped(None)),
+        (Event::Flush(3), Applied::Flushed),
+        (Event::Flush(3), Applied::Nothing),
+        (Event::Attempt, Applied::Ended(Ending::Halt)),
+        (Event::Attempt, Applied::Ended(Ending::Halt)),
+    ];
+    for (event, answer) in rows {
+        assert!(rt; machine.apply(event, &mut file) == answer);
+    }
+    assert!(rt; [machine.steps(), machine.turns(), machine.counts().written] == [3, 6, 1]);
+    assert!(rt; machine.ended() == Some(Ending::Halt));
+    assert!(rt; machine.peek(0x600, &mut file) == Ok(Some(1)));
+    assert!(rt; machine.next_flush().is_none());
+    Ok(())
+}
+
+#[test]
+fn lists_evictions(rt: HostRuntime) -> Result<(), Fail> {
+    let alloc = rt.alloc();
+    // MOVL #5,R1 and HALT; every page is made absent before the second and the fourth attempt.
+    let mut machine = machine(alloc, &[0xD0, 5, 0x51, 0])?;
+    let schedule = read(alloc, b"each 2 all\n", &space(alloc, &[])?)?;
+    let mut file = MemPages::new(alloc, 8, 100, Vec::new(alloc))?;
+    let mut sink = MemSink::new(alloc, [100; 3], 7, Vec::new(alloc))?;
+    let end = run_up(&mut machine, &schedule, &mut file, &mut sink);
+    assert!(rt; end == RunEnd::Ended(Ending::Halt));
+    assert!(rt; [machine.turns(), machine.counts().written] == [5, 0]);
+    assert!(rt; sink.bytes(Chan::Record) == b"at 2 00000000\nat 4 00000000\n".as_slice());
+    Ok(())
+}
+
+#[test]
+fn changes_registers(rt: HostRuntime) -> Result<(), Fail> {
+    let alloc = rt.alloc();
+    let mut machine = machine(alloc, PROGRAM)?;
+    if !machine.is_open() {
+        machine.set_reg(3, 0xCAFE);
+    }
+    assert!(rt; machine.core().regs.get(3) == Some(&0xCAFE));
+    Ok(())
+}
+
+/// Changes two bytes; no string instruction is open.
+fn change(
+    machine: &mut Machine,
+    addr: u32,
+    bytes: &[u8; 2],
+    file: &mut MemPages,
+) -> Result<bool, PageFault> {
+    if machine.is_open() {
+        return Ok(false);
+    }
+    machine.poke(addr, bytes, file)
+}
+
+/// Writes to pages 1 to 64, so that no other page has a frame; the answer tells whether each write was made.
+fn fill_frames(machine: &mut Machine, file: &mut MemPages) -> bool {
+    let mut filled = true;
+    for page in 1..65u32 {
+        filled = change(machine, page * 512, &[9, 9], file) == Ok(true) && filled;
+    }
+    filled
+}
+
+#[test]
+fn shows_and_changes(rt: HostRuntime) -> Result<(), Fail> {
+    let alloc = rt.alloc();
+    let mut machine = machine(alloc, PROGRAM)?;
+    let mut file = MemPages::new(alloc, 8, 100, Vec::new(alloc))?;
+    assert!(rt; change(&mut machine, 0x3FF, &[1, 2], &mut file) == Ok(true));
+    assert!(rt; change(&mut machine, 0xFFF, &[5, 6], &mut file) == Ok(false));
+    let mut cells = [None; 3];
+    assert!(rt; machine.dump(0x3FE, &mut cells, &mut file) == Ok(()));
+    assert!(rt; cells == [Some(0), Some(1), Some(2)]);
+    assert!(rt; machine.dump(0xFFE, &mut cells, &mut file) == Ok(()));
+    assert!(rt; cells == [Some(0), Some(0), None]);
+    Ok(())
+}
+
+/// A machine whose page 0 begins with two bytes 7 and has no frame, with a page file of which one later call fails.
+fn without_frame(
+    alloc: Global,
+    fail: vax_outside::Fail,
+) -> Result<(Machine, MemPages, bool), Fail> {
+    let mut machine = machine_over(alloc, pages(alloc, 128, &[])?)?;
+    let mut fails = Vec::new(alloc);
+    fails.push(fail)?;
+    let mut file = MemPages::new(alloc, 128, 300, fails)?;
+    let changed = change(&mut machine, 0, &[7, 7], &mut file) == Ok(true);
+    let evicted = machine.apply(Event::Evict(0), &mut file) == Applied::Evicted;
+    let filled = fill_frames(&mut machine, &mut file);
+    Ok((machine, file, changed && evicted && filled))
+}
+
+#[test]
+fn shows_nothing_where_a_read_fails(rt: HostRuntime) -> Result<(), Fail> {
+    let (mut machine, mut file, fine) = without_frame(rt.alloc(), vax_outside::Fail::Read(1))?;
+    assert!(rt; fine);
+    let mut cells = [None; 2];
+    assert!(rt; machine.dump(0, &mut cells, &mut file) == Err(PageFault));
+    assert!(rt; machine.dump(0, &mut cells, &mut file) == Ok(()));
+    assert!(rt; cells == [Some(7), Some(7)]);
+    Ok(())
+}
+
+/// A change of page 0 fails and changes nothing; it is made later.
+fn fails_once<R: Abort>(rt: &R, alloc: Global, fail: vax_outside::Fail) -> Result<(), Fail> {
+    let (mut machine, mut file, fine) = without_frame(alloc, fail)?;
+    assert!(rt; fine);
+    assert!(rt; change(&mut machine, 0, &[8, 8], &mut file) == Err(PageFault));
+    assert!(rt; machine.peek(0, &mut file) == Ok(Some(7)));
+    assert!(rt; change(&mut machine, 0, &[8, 8], &mut file) == Ok(true));
+    assert!(rt; machine.peek(0, &mut file) == Ok(Some(8)));
+    Ok(())
+}
+
+#[test]
+fn changes_nothing_where_a_call_fails(rt: HostRuntime) -> Result<(), Fail> {
+    // The page's own block isn't read, or that of the page that makes room isn't written.
+    fails_once(&rt, rt.alloc(), vax_outside::Fail::Read(1))?;
+    fails_once(&rt, rt.alloc(), vax_outside::Fail::Write(2))
+}
+
+#[test]
+fn writes_what_makes_room(rt: HostRuntime) -> Result<(), Fail> {
+    let alloc = rt.alloc();
+    // MOVC5 #0,@#0,#1,#35840,@#400 fills pages 2 to 71; then MOVB #2,@#400 and HALT.
+    let program = [
+        0x2C, 0, 0x9F, 0, 0, 0, 0, 1, 0x8F, 0, 0x8C, 0x9F, 0, 4, 0, 0, 0x90, 2, 0x9F, 0, 4, 0, 0, 0,
+    ];
+    let mut machine = machine_over(alloc, pages(alloc, 128, &program)?)?;
+    let mut file = MemPages::new(alloc, 128, 300, Vec::new(alloc))?;
+    let mut sink = MemSink::new(alloc, [3000; 3], 100, Vec::new(alloc))?;
+    let limits = Limits {
+        steps: 100,
+        turns: 1000,
+        listed: true,
+    };
+    let end = machine.run(&limits, &Schedule::new(alloc), &mut file, &mut sink);
+    assert!(rt; end == RunEnd::Ended(Ending::Halt));
+    // Page 0 and 70 pages come, then page 0 again, which made room, and page 2. So 9 make room; page 0 isn't written, since nothing was written to it.
+    let counts = machine.counts();
+    assert!(rt; [counts.served, counts.evicted] == [73, 9]);
+    assert!(rt; file.writes().len() == 8);
+    for (_, block) in file.writes() {
+        assert!(rt; [block[0], block[511]] == [1, 1]);
+    }
+    // `at 132 00000000` and the like.
+    assert!(rt; sink.bytes(Chan::Record).len() == 9 * 16);
+    Ok(())
+}
