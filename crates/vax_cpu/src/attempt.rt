@@ -10,7 +10,7 @@ ghost use Rattle.vax_flat.specs.Step.{finished, handed_over, leaf, ticked, deliv
 ghost use Rattle.vax_flat.specs.Parts.{begun_part, part, part_step, later, later_step};
 ghost use Rattle.vax_undo.specs.FirstPart.{NothingOpen};
 ghost use Rattle.vax_undo.specs.Rooms.{room_of_beginning, room_of_end, room_of_step, room_of_tick};
-ghost use Rattle.vax_undo.specs.Transaction.{bare, present, room, state_of, told, undone, with_state, IsReady, IsSame, Keeps, KeepsUnlessDone};
+ghost use Rattle.vax_undo.specs.Transaction.{bare, present, room, told, undone, IsReady, IsSame, Keeps, KeepsUnlessDone, Does, Updates, seen};
 ghost use Rattle.vax_x_str.specs.Ends.{ClosesIfDone};
 ghost use Rattle.vax_cpu.specs.Tried.{IsFinal, IsLast, IsTried, KeepsClosed, KeepsClosedLater, KeepsTime, LeadsBack, Made, UnlessDone, came, is_done, put_again, start_by, tree_of, with_registers};
 ghost use Rattle.vax_cpu.specs.Attempt.{open_after};
@@ -46,7 +46,9 @@ pub(crate) enum Tried {
 fn take_interrupt<P: Port>(txn: &mut Txn<P>, level: u8, other: &mut Result<Flow, CutShort>) -> bool
     requires of_level { IsLevel level }
     requires room { room_of_beginning ≤ room txn.old }
-    ensures exact { Follows (λ next. interrupt level (present P.view txn.old).state (λ how s. next (flow_of_delivery how) s)) (present P.view txn.old) (told txn.new (came result other.new)) (present P.view txn.new) }
+    ensures exact { Does P.view
+        (λ s next. interrupt level s (λ how s. next (flow_of_delivery how) s))
+        (came result other.new) txn.old txn.new }
     ensures keeps { Keeps P.view P.since room_of_beginning txn.old txn.new }
 {
     match interrupt(txn, level) {
@@ -64,8 +66,9 @@ fn begin<P: Port>(
     scratch: &mut Scratch,
 ) -> bool
     requires { room_of_beginning ≤ room txn.old }
-    ensures exact { Follows (begun_part (present P.view txn.old).state) (present P.view txn.old) (told txn.new (came result other.new)) (present P.view txn.new) }
-    ensures keeps { KeepsUnlessDone P.view P.since room_of_beginning (came result other.new) txn.old txn.new }
+    ensures exact { Does P.view begun_part (came result other.new) txn.old txn.new }
+    ensures keeps { KeepsUnlessDone P.view P.since room_of_beginning
+        (came result other.new) txn.old txn.new }
     ensures same { IsSame P.since txn.old txn.new }
 {
     let level = requested(txn);
@@ -80,7 +83,7 @@ fn begin<P: Port>(
 #[tactic(auto, unfolding(vax_flat::specs::Step::handed_over))]
 fn hand_over<P: Port>(txn: &mut Txn<P>, how: Delivery) -> Result<Flow, CutShort>
     requires { room_of_tick ≤ room txn.old }
-    ensures exact { Follows (handed_over how (present P.view txn.old).state) (present P.view txn.old) (told txn.new result) (present P.view txn.new) }
+    ensures exact { Does P.view (handed_over how) result txn.old txn.new }
     ensures keeps { Keeps P.view P.since room_of_tick txn.old txn.new }
     ensures last { IsLast result }
 {
@@ -98,7 +101,7 @@ fn hand_over<P: Port>(txn: &mut Txn<P>, how: Delivery) -> Result<Flow, CutShort>
 #[tactic(auto, unfolding(vax_flat::specs::Step::delivered))]
 fn deliver_and_tick<P: Port>(txn: &mut Txn<P>, exception: Exception) -> Result<Flow, CutShort>
     requires { room_of_end ≤ room txn.old }
-    ensures exact { Follows (delivered exception (present P.view txn.old).state) (present P.view txn.old) (told txn.new result) (present P.view txn.new) }
+    ensures exact { Does P.view (delivered exception) result txn.old txn.new }
     ensures keeps { Keeps P.view P.since room_of_end txn.old txn.new }
     ensures last { IsLast result }
 {
@@ -110,7 +113,7 @@ fn deliver_and_tick<P: Port>(txn: &mut Txn<P>, exception: Exception) -> Result<F
 #[inline]
 fn complete<P: Port>(txn: &mut Txn<P>)
     requires { room_of_end ≤ room txn.old }
-    ensures exact { present P.view txn.new ≡ with_state (present P.view txn.old) (ticked (present P.view txn.old).state) }
+    ensures exact { Updates P.view ticked txn.old txn.new }
     ensures keeps { Keeps P.view P.since room_of_end txn.old txn.new }
 {
     tick(txn);
@@ -122,11 +125,14 @@ fn complete<P: Port>(txn: &mut Txn<P>)
 #[tactic(auto, using(vax_undo::proofs::Left::always, vax_undo::proofs::Left::kept_through, vax_undo::proofs::Left::left_then, crate::proofs::Attempts::closes), unfolding(vax_flat::specs::Step::finished, vax_flat::specs::Step::delivered))]
 fn finish<P: Port>(txn: &mut Txn<P>, flow: Flow) -> Result<Flow, CutShort>
     requires { room_of_end ≤ room txn.old }
-    ensures exact { Follows (finished flow (present P.view txn.old).state) (present P.view txn.old) (told txn.new result) (present P.view txn.new) }
-    ensures keeps { (count : ℕ) → (start : _) → KeepsUnlessDone P.view P.since count (Ok flow) start txn.old → KeepsUnlessDone P.view P.since (count + room_of_end) result start txn.new }
+    ensures exact { Does P.view (finished flow) result txn.old txn.new }
+    ensures keeps { (count : ℕ) → (start : _) →
+        KeepsUnlessDone P.view P.since count (Ok flow) start txn.old
+        → KeepsUnlessDone P.view P.since (count + room_of_end) result start txn.new }
     ensures same { IsSame P.since txn.old txn.new }
     ensures last { IsLast result }
-    ensures closed { ClosesIfDone (Ok flow) txn.old.core.now.psl → ClosesIfDone result txn.new.core.now.psl }
+    ensures closed { ClosesIfDone (Ok flow) txn.old.core.now.psl
+        → ClosesIfDone result txn.new.core.now.psl }
 {
     match flow {
         Flow::Done => {
@@ -149,8 +155,9 @@ fn work<P: Port>(
     scratch: &mut Scratch,
 ) -> bool
     requires { room_of_step ≤ room txn.old }
-    ensures exact { Follows (part (present P.view txn.old).state) (present P.view txn.old) (told txn.new (came result other.new)) (present P.view txn.new) }
-    ensures keeps { KeepsUnlessDone P.view P.since room_of_step (came result other.new) txn.old txn.new }
+    ensures exact { Does P.view part (came result other.new) txn.old txn.new }
+    ensures keeps { KeepsUnlessDone P.view P.since room_of_step
+        (came result other.new) txn.old txn.new }
     ensures same { IsSame P.since txn.old txn.new }
     ensures last { IsLast (came result other.new) }
     ensures done { result ≡ is_done (came result other.new) }
@@ -169,7 +176,7 @@ fn work<P: Port>(
 #[inline(never)]
 fn work_once<P: Port>(txn: &mut Txn<P>, scratch: &mut Scratch) -> Result<Flow, CutShort>
     requires { room_of_step ≤ room txn.old }
-    ensures exact { Follows (part (present P.view txn.old).state) (present P.view txn.old) (told txn.new result) (present P.view txn.new) }
+    ensures exact { Does P.view part result txn.old txn.new }
     ensures keeps { KeepsUnlessDone P.view P.since room_of_step result txn.old txn.new }
     ensures same { IsSame P.since txn.old txn.new }
     ensures last { IsLast result }
@@ -191,7 +198,7 @@ fn work_later<P: Port>(
     scratch: &mut Scratch,
 ) -> Result<Flow, CutShort>
     requires { room_of_step ≤ room txn.old }
-    ensures exact { Follows (later opcode (present P.view txn.old).state) (present P.view txn.old) (told txn.new result) (present P.view txn.new) }
+    ensures exact { Does P.view (later opcode) result txn.old txn.new }
     ensures keeps { KeepsUnlessDone P.view P.since room_of_step result txn.old txn.new }
     ensures same { IsSame P.since txn.old txn.new }
     ensures last { IsLast result }
@@ -206,7 +213,7 @@ fn work_later<P: Port>(
 #[tactic(auto, using(vax_undo::proofs::Left::always))]
 fn work_delivery<P: Port>(txn: &mut Txn<P>, exception: Exception) -> Result<Flow, CutShort>
     requires { room_of_end ≤ room txn.old }
-    ensures exact { Follows (delivered exception (present P.view txn.old).state) (present P.view txn.old) (told txn.new result) (present P.view txn.new) }
+    ensures exact { Does P.view (delivered exception) result txn.old txn.new }
     ensures keeps { KeepsUnlessDone P.view P.since room_of_end result txn.old txn.new }
     ensures same { IsSame P.since txn.old txn.new }
     ensures last { IsLast result }
@@ -220,14 +227,23 @@ fn conclude<P: Port>(txn: Txn<P>, work: Result<Flow, CutShort>) -> Tried
     requires last { IsLast work }
     requires ready { UnlessDone work (IsReady P.view txn) }
     requires unsent { UnlessDone work ((undone P.view txn).state.sent ≡ None) }
-    ensures tried { (old : Present) → (tree : State → (Flow → State → Accesses Leaf) → Accesses Leaf) → Follows (tree old.state) old (told txn.entry work) (present P.view txn.entry) → LeadsBack P.view old work txn.entry → IsTried (λ s. tree s leaf) old result (record { state = state_of txn.exit.0.now txn.exit.1.0.now; view = P.view txn.exit.1.1.0.now }) }
+    ensures tried { (old : Present) →
+        (tree : State → (Flow → State → Accesses Leaf) → Accesses Leaf) →
+        Follows (tree old.state) old (told txn.entry work) (present P.view txn.entry)
+        → LeadsBack P.view old work txn.entry
+        → IsTried (λ s. tree s leaf) old result
+        (seen P.view txn.exit.0.now txn.exit.1.0.now txn.exit.1.1.0.now) }
     ensures completed { (sent : Option ℕ) → result ≡ Tried.Step sent → work ≡ Ok Flow.Done }
     ensures unsent { txn.exit.1.0.now.out ≡ None }
     ensures input { txn.exit.1.0.now.input ≡ txn.entry.term.now.input }
-    ensures clock { UnlessDone work ((undone P.view txn.entry).state.core.clock ≤ 999) → txn.entry.core.now.clock ≤ 999 → KeepsTime txn.exit.0.now.clock result }
-    ensures closed { UnlessDone work (NothingOpen (undone P.view txn.entry).state.core.psl) → ClosesIfDone work txn.entry.core.now.psl → KeepsClosed txn.exit.0.now.psl result }
-    ensures kept { (sent : Option ℕ) → result ≡ Tried.Step sent → txn.exit.0.now ≡ txn.entry.core.now }
-    ensures since { (start : P) → P.since start txn.entry.port.now → P.since start txn.exit.1.1.0.now }
+    ensures clock { UnlessDone work ((undone P.view txn.entry).state.core.clock ≤ 999)
+        → txn.entry.core.now.clock ≤ 999 → KeepsTime txn.exit.0.now.clock result }
+    ensures closed { UnlessDone work (NothingOpen (undone P.view txn.entry).state.core.psl)
+        → ClosesIfDone work txn.entry.core.now.psl → KeepsClosed txn.exit.0.now.psl result }
+    ensures kept { (sent : Option ℕ) → result ≡ Tried.Step sent
+        → txn.exit.0.now ≡ txn.entry.core.now }
+    ensures since { (start : P) → P.since start txn.entry.port.now
+        → P.since start txn.exit.1.1.0.now }
 {
     let why = txn.why();
     match work {
@@ -267,7 +283,8 @@ pub(crate) fn try_step<P: Port>(
     scratch: &mut Scratch,
 ) -> Tried
     requires { term.old.out ≡ None }
-    ensures tried { IsTried part_step (record { state = state_of core.old term.old; view = P.view port.old }) result (record { state = state_of core.new term.new; view = P.view port.new }) }
+    ensures tried { IsTried part_step (seen P.view core.old term.old port.old) result
+        (seen P.view core.new term.new port.new) }
     ensures unsent { term.new.out ≡ None }
     ensures input { term.new.input ≡ term.old.input }
     ensures clock { core.old.clock ≤ 999 → KeepsTime core.new.clock result }
@@ -290,7 +307,8 @@ fn try_delivery<P: Port>(
 ) -> Tried
     requires { term.old.out ≡ None }
     ensures quiet { IsFinal result }
-    ensures tried { IsTried (whole_delivery exception) (record { state = state_of core.old term.old; view = P.view port.old }) result (record { state = state_of core.new term.new; view = P.view port.new }) }
+    ensures tried { IsTried (whole_delivery exception) (seen P.view core.old term.old port.old)
+        result (seen P.view core.new term.new port.new) }
     ensures unsent { term.new.out ≡ None }
     ensures input { term.new.input ≡ term.old.input }
     ensures clock { core.old.clock ≤ 999 → KeepsTime core.new.clock result }
@@ -312,7 +330,8 @@ fn try_later<P: Port>(
     scratch: &mut Scratch,
 ) -> Tried
     requires { term.old.out ≡ None }
-    ensures tried { IsTried (later_step opcode) (record { state = state_of core.old term.old; view = P.view port.old }) result (record { state = state_of core.new term.new; view = P.view port.new }) }
+    ensures tried { IsTried (later_step opcode) (seen P.view core.old term.old port.old) result
+        (seen P.view core.new term.new port.new) }
     ensures unsent { term.new.out ≡ None }
     ensures input { term.new.input ≡ term.old.input }
     ensures clock { core.old.clock ≤ 999 → KeepsTime core.new.clock result }
@@ -336,7 +355,9 @@ pub(crate) fn settle<P: Port>(
     requires { term.old.out ≡ None }
     ensures kept { IsFinal tried → result ≡ tried }
     ensures quiet { IsFinal result }
-    ensures made { (tree : State → Accesses Leaf) → (old : Present) → IsTried tree old tried (record { state = state_of core.old term.old; view = P.view port.old }) → Made tree old.state.core old result (record { state = state_of core.new term.new; view = P.view port.new }) }
+    ensures made { (tree : State → Accesses Leaf) → (old : Present) →
+        IsTried tree old tried (seen P.view core.old term.old port.old)
+        → Made tree old.state.core old result (seen P.view core.new term.new port.new) }
     ensures unsent { term.new.out ≡ None }
     ensures input { term.new.input ≡ term.old.input }
     ensures clock { KeepsTime core.old.clock tried → KeepsTime core.new.clock result }
@@ -360,7 +381,10 @@ fn deliver_from<P: Port>(
 ) -> Tried
     requires { term.old.out ≡ None }
     ensures quiet { IsFinal result }
-    ensures delivered { (mid : Present) × IsTried (whole_delivery exception) (with_registers start (record { state = state_of core.old term.old; view = P.view port.old })) result mid × (record { state = state_of core.new term.new; view = P.view port.new } ≡ put_again core.old result mid) }
+    ensures delivered { (mid : Present) ×
+        IsTried (whole_delivery exception)
+        (with_registers start (seen P.view core.old term.old port.old)) result mid
+        × (seen P.view core.new term.new port.new ≡ put_again core.old result mid) }
     ensures unsent { term.new.out ≡ None }
     ensures input { term.new.input ≡ term.old.input }
     ensures clock { core.old.clock ≤ 999 → start.clock ≤ 999 → KeepsTime core.new.clock result }
@@ -391,11 +415,16 @@ fn settle_later<P: Port>(
 ) -> Tried
     requires { term.old.out ≡ None }
     ensures quiet { IsFinal result }
-    ensures made { (tree : State → Accesses Leaf) → (old : Present) → IsTried tree old tried (record { state = state_of core.old term.old; view = P.view port.old }) → Made tree start old result (record { state = state_of core.new term.new; view = P.view port.new }) }
+    ensures made { (tree : State → Accesses Leaf) → (old : Present) →
+        IsTried tree old tried (seen P.view core.old term.old port.old)
+        → Made tree start old result (seen P.view core.new term.new port.new) }
     ensures unsent { term.new.out ≡ None }
     ensures input { term.new.input ≡ term.old.input }
-    ensures clock { KeepsTime core.old.clock tried → start.clock ≤ 999 → KeepsTime core.new.clock result }
-    ensures closed { NothingOpen start.psl → ((sent : Option ℕ) → tried ≡ Tried.Step sent → NothingOpen core.old.psl) → KeepsClosedLater core.new.psl result }
+    ensures clock { KeepsTime core.old.clock tried → start.clock ≤ 999
+        → KeepsTime core.new.clock result }
+    ensures closed { NothingOpen start.psl
+        → ((sent : Option ℕ) → tried ≡ Tried.Step sent → NothingOpen core.old.psl)
+        → KeepsClosedLater core.new.psl result }
     ensures since { (start : P) → P.since start port.old → P.since start port.new }
 {
     match tried {
@@ -419,11 +448,14 @@ pub(crate) fn try_once<P: Port>(
 ) -> Tried
     requires { term.old.out ≡ None }
     ensures quiet { IsFinal result }
-    ensures made { Made (tree_of latch) (start_by latch core.old) (record { state = state_of core.old term.old; view = P.view port.old }) result (record { state = state_of core.new term.new; view = P.view port.new }) }
+    ensures made { Made (tree_of latch) (start_by latch core.old)
+        (seen P.view core.old term.old port.old) result (seen P.view core.new term.new port.new) }
     ensures unsent { term.new.out ≡ None }
     ensures input { term.new.input ≡ term.old.input }
-    ensures clock { core.old.clock ≤ 999 → (start_by latch core.old).clock ≤ 999 → KeepsTime core.new.clock result }
-    ensures closed { NothingOpen (start_by latch core.old).psl → NothingOpen (start_by (open_after latch result) core.new).psl }
+    ensures clock { core.old.clock ≤ 999 → (start_by latch core.old).clock ≤ 999
+        → KeepsTime core.new.clock result }
+    ensures closed { NothingOpen (start_by latch core.old).psl
+        → NothingOpen (start_by (open_after latch result) core.new).psl }
     ensures since { (start : P) → P.since start port.old → P.since start port.new }
 {
     match latch {
@@ -456,7 +488,8 @@ pub(crate) fn try_steps<P: Port>(
 ) -> Several
     requires unsent { term.old.out ≡ None }
     requires some { 1 ≤ most }
-    ensures ran { (mid : Present) × Ran result.steps (record { state = state_of core.old term.old; view = P.view port.old }) mid × IsTried part_step mid result.last (record { state = state_of core.new term.new; view = P.view port.new }) }
+    ensures ran { (mid : Present) × Ran result.steps (seen P.view core.old term.old port.old) mid
+        × IsTried part_step mid result.last (seen P.view core.new term.new port.new) }
     ensures few { result.steps < most }
     ensures all { result.last ≡ Tried.Step None → result.steps + 1 ≡ most }
     ensures unsent { term.new.out ≡ None }

@@ -127,7 +127,9 @@ impl Cpu {
     /// clock counts to 999. First part done is clear where no instruction is open.
     pub fn attempt<P: Port>(&mut self, port: &mut P) -> Attempt
         requires unsent { self.old.term.out ≡ None }
-        ensures attempted { (place : Place) → IsAt self.old place → StandsFor (P.view port.old) (machine_at place).memory → Attempted (P.view port.old) place result self.new (P.view port.new) }
+        ensures attempted { (place : Place) → IsAt self.old place
+            → StandsFor (P.view port.old) (machine_at place).memory
+            → Attempted (P.view port.old) place result self.new (P.view port.new) }
         ensures before { IsAsBefore result self.old (P.view port.old) self.new (P.view port.new) }
         ensures absent { StopsInside result (P.view port.old) }
         ensures latch { IsOpenAfter result self.old.latch self.new.latch }
@@ -156,12 +158,22 @@ impl Cpu {
     pub fn attempts<P: Port>(&mut self, port: &mut P, most: u64) -> Batch
         requires unsent { self.old.term.out ≡ None }
         requires some { 1 ≤ most }
-        ensures steps { self.old.latch ≡ None → (memory : List Area) → (output : List ℕ) → StandsFor (P.view port.old) memory → AreAttempts (P.view port.old) (flat_of self.old memory output) result.steps result.last self.new (P.view port.new) }
-        ensures within { IsSome self.old.latch → (place : Place) → IsAt self.old place → StandsFor (P.view port.old) (machine_at place).memory → IsOneAttempt (P.view port.old) place result.steps result.last self.new (P.view port.new) }
-        ensures before { result.steps ≡ 0 → IsAsBefore result.last self.old (P.view port.old) self.new (P.view port.new) }
+        ensures steps { self.old.latch ≡ None → (memory : List Area) → (output : List ℕ) →
+            StandsFor (P.view port.old) memory
+            → AreAttempts (P.view port.old) (flat_of self.old memory output) result.steps
+            result.last self.new (P.view port.new) }
+        ensures within { IsSome self.old.latch → (place : Place) → IsAt self.old place
+            → StandsFor (P.view port.old) (machine_at place).memory
+            → IsOneAttempt (P.view port.old) place result.steps result.last self.new
+            (P.view port.new) }
+        ensures before { result.steps ≡ 0
+            → IsAsBefore result.last self.old (P.view port.old) self.new (P.view port.new) }
         ensures absent { StopsInside result.last (P.view port.old) }
         ensures few { result.steps < most }
-        ensures all { self.old.latch ≡ None → (memory : List Area) → (output : List ℕ) → StandsFor (P.view port.old) memory → result.last ≡ Attempt.Step None → (result.steps + 1 ≡ most) ⊎ Raises (run result.steps (flat_of self.old memory output)) }
+        ensures all { self.old.latch ≡ None → (memory : List Area) → (output : List ℕ) →
+            StandsFor (P.view port.old) memory → result.last ≡ Attempt.Step None
+            → (result.steps + 1 ≡ most)
+            ⊎ Raises (run result.steps (flat_of self.old memory output)) }
         ensures latch { IsOpenAfter result.last self.old.latch self.new.latch }
         ensures unsent { self.new.term.out ≡ None }
         ensures input { self.new.term.input ≡ self.old.term.input }

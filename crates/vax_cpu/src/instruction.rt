@@ -1,10 +1,9 @@
 //! The instruction at PC, by the action that the table gives its opcode, and the later parts of a string instruction.
 ghost use Rattle.std.specs.Prelude.{◌≡◌, ◌≤◌};
 ghost use Rattle.vax_flat.specs.Instruction.{acted_part, acted_part_if, first_part};
-ghost use Rattle.vax_flat.specs.OverPort.{Follows};
 ghost use Rattle.vax_flat.specs.StringParts.{resumed};
 ghost use Rattle.vax_undo.specs.Rooms.{room_of_beginning, room_of_instruction};
-ghost use Rattle.vax_undo.specs.Transaction.{present, room, told, IsSame, KeepsUnlessDone};
+ghost use Rattle.vax_undo.specs.Transaction.{room, IsSame, KeepsUnlessDone, Does};
 ghost use Rattle.vax_cpu.specs.Tried.{came, is_done};
 ghost use Rattle.vax_x_str.specs.Ends.{ClosesIfDone};
 
@@ -39,8 +38,9 @@ fn act_any<P: Port>(
     scratch: &mut Scratch,
 ) -> bool
     requires { room_of_instruction ≤ room txn.old }
-    ensures exact { Follows (acted_part action (present P.view txn.old).state) (present P.view txn.old) (told txn.new (came result other.new)) (present P.view txn.new) }
-    ensures keeps { KeepsUnlessDone P.view P.since room_of_instruction (came result other.new) txn.old txn.new }
+    ensures exact { Does P.view (acted_part action) (came result other.new) txn.old txn.new }
+    ensures keeps { KeepsUnlessDone P.view P.since room_of_instruction
+        (came result other.new) txn.old txn.new }
     ensures same { IsSame P.since txn.old txn.new }
 {
     match action {
@@ -64,8 +64,9 @@ fn act<P: Port>(
     scratch: &mut Scratch,
 ) -> bool
     requires { room_of_instruction ≤ room txn.old }
-    ensures exact { Follows (acted_part action (present P.view txn.old).state) (present P.view txn.old) (told txn.new (came result other.new)) (present P.view txn.new) }
-    ensures keeps { KeepsUnlessDone P.view P.since room_of_instruction (came result other.new) txn.old txn.new }
+    ensures exact { Does P.view (acted_part action) (came result other.new) txn.old txn.new }
+    ensures keeps { KeepsUnlessDone P.view P.since room_of_instruction
+        (came result other.new) txn.old txn.new }
     ensures same { IsSame P.since txn.old txn.new }
 {
     match action {
@@ -85,8 +86,9 @@ fn act_if<P: Port>(
     scratch: &mut Scratch,
 ) -> bool
     requires { room_of_instruction ≤ room txn.old }
-    ensures exact { Follows (acted_part_if action (present P.view txn.old).state) (present P.view txn.old) (told txn.new (came result other.new)) (present P.view txn.new) }
-    ensures keeps { KeepsUnlessDone P.view P.since room_of_instruction (came result other.new) txn.old txn.new }
+    ensures exact { Does P.view (acted_part_if action) (came result other.new) txn.old txn.new }
+    ensures keeps { KeepsUnlessDone P.view P.since room_of_instruction
+        (came result other.new) txn.old txn.new }
     ensures same { IsSame P.since txn.old txn.new }
 {
     match action {
@@ -104,8 +106,9 @@ pub fn execute<P: Port>(
     scratch: &mut Scratch,
 ) -> bool
     requires { room_of_beginning ≤ room txn.old }
-    ensures exact { Follows (first_part (present P.view txn.old).state) (present P.view txn.old) (told txn.new (came result other.new)) (present P.view txn.new) }
-    ensures keeps { KeepsUnlessDone P.view P.since room_of_beginning (came result other.new) txn.old txn.new }
+    ensures exact { Does P.view first_part (came result other.new) txn.old txn.new }
+    ensures keeps { KeepsUnlessDone P.view P.since room_of_beginning
+        (came result other.new) txn.old txn.new }
     ensures same { IsSame P.since txn.old txn.new }
 {
     match fetch(txn, 1) {
@@ -123,7 +126,7 @@ pub(crate) fn resume<P: Port>(
     scratch: &mut Scratch,
 ) -> Result<Flow, CutShort>
     requires { room_of_beginning ≤ room txn.old }
-    ensures exact { Follows (resumed opcode (present P.view txn.old).state) (present P.view txn.old) (told txn.new result) (present P.view txn.new) }
+    ensures exact { Does P.view (resumed opcode) result txn.old txn.new }
     ensures keeps { KeepsUnlessDone P.view P.since room_of_beginning result txn.old txn.new }
     ensures same { IsSame P.since txn.old txn.new }
     ensures closed { ClosesIfDone result txn.new.core.now.psl }

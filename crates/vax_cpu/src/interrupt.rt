@@ -3,7 +3,7 @@ ghost use Rattle.std.specs.Prelude.{◌≡◌, ◌<◌, ◌≤◌};
 ghost use Rattle.vax_x_sys.specs.Frames.{IsLevel};
 ghost use Rattle.vax_flat.specs.Step.{highest, level, ticked};
 ghost use Rattle.vax_undo.specs.Rooms.{room_of_tick};
-ghost use Rattle.vax_undo.specs.Transaction.{present, room, Keeps, with_state};
+ghost use Rattle.vax_undo.specs.Transaction.{present, room, Keeps, Updates};
 
 use vax_undo::{Port, Txn};
 
@@ -51,7 +51,7 @@ pub(crate) fn requested<P: Port>(txn: &Txn<P>) -> u8
 #[tactic(auto, unfolding(vax_flat::specs::Step::ticked))]
 pub(crate) fn tick<P: Port>(txn: &mut Txn<P>)
     requires { room_of_tick ≤ room txn.old }
-    ensures exact { present P.view txn.new ≡ with_state (present P.view txn.old) (ticked (present P.view txn.old).state) }
+    ensures exact { Updates P.view ticked txn.old txn.new }
     ensures keeps { Keeps P.view P.since room_of_tick txn.old txn.new }
 {
     let timer = txn.iccs();

@@ -2,10 +2,9 @@
 ghost use Rattle.std.specs.Prelude.{◌≡◌, ℕ, ◌+◌, ◌<◌, ◌≤◌, Ok, length, take, OnErr, OnOk};
 ghost use Rattle.std.specs.List.{position_or_len};
 ghost use Rattle.vax_strpart.specs.Kernels.{is_escape, translated};
-ghost use Rattle.vax_flat.specs.OverPort.{Follows, Performs};
 ghost use Rattle.vax_flat.specs.StringEscape as escaping;
 ghost use Rattle.vax_flat.specs.StringMove as moving;
-ghost use Rattle.vax_undo.specs.Transaction.{present, room, told, IsLeft, IsLeftOpen, Keeps, KeepsUnlessDone};
+ghost use Rattle.vax_undo.specs.Transaction.{room, IsLeft, IsLeftOpen, Keeps, KeepsUnlessDone, Acts, Does};
 ghost use Rattle.vax_x_str.specs.Ends.{IsPartEnd};
 
 use crate::compare::room_up;
@@ -46,7 +45,7 @@ fn escaped_low(p: &Progress, count: u16) -> [u32; 6]
 fn finish_escape<P: Port>(txn: &mut Txn<P>, p: &Progress, count: u16, escape: bool) -> Flow
     requires within { count ≤ moving.moved_count p.now }
     requires room { 7 ≤ room txn.old }
-    ensures exact { Follows (escaping.escaped p.now count escape (present P.view txn.old).state) (present P.view txn.old) (Ok result) (present P.view txn.new) }
+    ensures exact { Does P.view (escaping.escaped p.now count escape) (Ok result) txn.old txn.new }
     ensures ends { IsPartEnd result }
     ensures keeps { Keeps P.view P.since 7 txn.old txn.new }
 {
@@ -91,7 +90,7 @@ fn source_room(p: &Progress) -> u16
 fn write_some<P: Port>(txn: &mut Txn<P>, addr: u32, from: &[u8]) -> Result<(), CutShort>
     requires few { length from.now ≤ 512 }
     requires room { 33 ≤ room txn.old }
-    ensures exact { Performs (escaping.written_some addr from.now (present P.view txn.old).state) (present P.view txn.old) (told txn.new result) (present P.view txn.new) }
+    ensures exact { Acts P.view (escaping.written_some addr from.now) result txn.old txn.new }
     ensures keeps { OnErr result (Keeps P.view P.since 33 txn.old txn.new) }
     ensures left { OnOk result (IsLeftOpen P.view P.since 33 txn.old txn.new) }
     ensures completed { OnOk result (IsLeft P.since 33 txn.old txn.new) }
@@ -108,7 +107,8 @@ fn close_escape<P: Port>(txn: &mut Txn<P>, p: &Progress, count: u16, space: u16,
     requires read { count ≤ len }
     requires within { p.now.done + len ≤ moving.moved_count p.now }
     requires room { 8 ≤ room txn.old }
-    ensures exact { Follows (escaping.escape_close p.now count space len (present P.view txn.old).state) (present P.view txn.old) (Ok result) (present P.view txn.new) }
+    ensures exact { Does P.view (escaping.escape_close p.now count space len)
+        (Ok result) txn.old txn.new }
     ensures ends { IsPartEnd result }
     ensures keeps { KeepsUnlessDone P.view P.since 8 (Ok result) txn.old txn.new }
 {
@@ -134,7 +134,8 @@ fn translate_before(bytes: &mut [u8], table: &[u8; 256], escape: u8) -> usize
     ensures exact { result ≡ position_or_len (is_escape table.now escape) bytes.old }
     ensures within { result ≤ length bytes.old }
     ensures length { length bytes.new ≡ length bytes.old }
-    ensures translated { (count : ℕ) → count ≤ result → take count bytes.new ≡ translated table.now (take count bytes.old) }
+    ensures translated { (count : ℕ) → count ≤ result
+        → take count bytes.new ≡ translated table.now (take count bytes.old) }
 {
     let len = bytes.len();
     translate_until(bytes, table, escape).unwrap_or(len)
@@ -152,7 +153,8 @@ fn end_escape<P: Port>(
     requires few { length bytes.old ≤ 512 }
     requires within { p.now.done + length bytes.old ≤ moving.moved_count p.now }
     requires room { 41 ≤ room txn.old }
-    ensures exact { Follows (escaping.escape_end p.now space bytes.old table.now (present P.view txn.old).state) (present P.view txn.old) (told txn.new result) (present P.view txn.new) }
+    ensures exact { Does P.view (escaping.escape_end p.now space bytes.old table.now)
+        result txn.old txn.new }
     ensures keeps { KeepsUnlessDone P.view P.since 41 result txn.old txn.new }
 {
     let _numbers = *p;
@@ -181,7 +183,8 @@ fn escape_run<P: Port>(
     requires few { length buffer.old ≤ 512 }
     requires within { p.now.done + length buffer.old ≤ moving.moved_count p.now }
     requires room { 41 ≤ room txn.old }
-    ensures exact { Follows (escaping.escape_run p.now (length buffer.old) space (present P.view txn.old).state) (present P.view txn.old) (told txn.new result) (present P.view txn.new) }
+    ensures exact { Does P.view (escaping.escape_run p.now (length buffer.old) space)
+        result txn.old txn.new }
     ensures keeps { KeepsUnlessDone P.view P.since 41 result txn.old txn.new }
 {
     let source = p.addr1.wrapping_add(u32::from(p.done));
@@ -205,7 +208,7 @@ pub(crate) fn escape_part<P: Port>(
 ) -> Result<Flow, CutShort>
     requires done { p.now.done ≤ moving.moved_count p.now }
     requires room { 41 ≤ room txn.old }
-    ensures exact { Follows (escaping.escape_part p.now (present P.view txn.old).state) (present P.view txn.old) (told txn.new result) (present P.view txn.new) }
+    ensures exact { Does P.view (escaping.escape_part p.now) result txn.old txn.new }
     ensures keeps { KeepsUnlessDone P.view P.since 41 result txn.old txn.new }
 {
     let whole = moved_count(p);
@@ -231,7 +234,7 @@ pub(crate) fn start_escape<P: Port>(
 ) -> Result<Flow, CutShort>
     requires done { p.now.done ≤ moving.moved_count p.now }
     requires room { 41 ≤ room txn.old }
-    ensures exact { Follows (escaping.escape_start p.now (present P.view txn.old).state) (present P.view txn.old) (told txn.new result) (present P.view txn.new) }
+    ensures exact { Does P.view (escaping.escape_start p.now) result txn.old txn.new }
     ensures keeps { KeepsUnlessDone P.view P.since 41 result txn.old txn.new }
 {
     if is_escape_reserved(p) {

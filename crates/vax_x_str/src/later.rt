@@ -1,6 +1,5 @@
 //! Later parts of instructions, by the registers and the opcode alone.
 ghost use Rattle.std.specs.Prelude.{◌≡◌, ◌≤◌};
-ghost use Rattle.vax_flat.specs.OverPort.{Follows};
 ghost use Rattle.vax_flat.specs.String.{from_registers};
 ghost use Rattle.vax_flat.specs.StringCompare.{compare_part, pairs_of};
 ghost use Rattle.vax_flat.specs.StringEscape.{escape_part};
@@ -8,7 +7,7 @@ ghost use Rattle.vax_flat.specs.StringMatch.{match_part};
 ghost use Rattle.vax_flat.specs.StringMove.{move_part, moved_count};
 ghost use Rattle.vax_flat.specs.StringParts.{done_within, resumed};
 ghost use Rattle.vax_flat.specs.StringSearch.{scan_part, search_part};
-ghost use Rattle.vax_undo.specs.Transaction.{present, room, told, KeepsUnlessDone};
+ghost use Rattle.vax_undo.specs.Transaction.{room, KeepsUnlessDone, Does};
 ghost use Rattle.vax_x_str.specs.Ends.{ClosesIfDone};
 
 use crate::registers::continue_from;
@@ -38,7 +37,7 @@ fn resume_search<P: Port>(
     scratch: &mut Scratch,
 ) -> Result<Flow, CutShort>
     requires { 10 ≤ room txn.old }
-    ensures exact { Follows (from_registers op (search_part equal) (present P.view txn.old).state) (present P.view txn.old) (told txn.new result) (present P.view txn.new) }
+    ensures exact { Does P.view (from_registers op (search_part equal)) result txn.old txn.new }
     ensures closed { ClosesIfDone result txn.new.core.now.psl }
     ensures keeps { KeepsUnlessDone P.view P.since 10 result txn.old txn.new }
 {
@@ -55,7 +54,7 @@ fn resume_scan<P: Port>(
     scratch: &mut Scratch,
 ) -> Result<Flow, CutShort>
     requires { 10 ≤ room txn.old }
-    ensures exact { Follows (from_registers op (scan_part some) (present P.view txn.old).state) (present P.view txn.old) (told txn.new result) (present P.view txn.new) }
+    ensures exact { Does P.view (from_registers op (scan_part some)) result txn.old txn.new }
     ensures closed { ClosesIfDone result txn.new.core.now.psl }
     ensures keeps { KeepsUnlessDone P.view P.since 10 result txn.old txn.new }
 {
@@ -71,7 +70,9 @@ fn resume_compare<P: Port>(
     scratch: &mut Scratch,
 ) -> Result<Flow, CutShort>
     requires { 10 ≤ room txn.old }
-    ensures exact { Follows (from_registers op (λ p s next. compare_part (done_within (pairs_of p) p) s next) (present P.view txn.old).state) (present P.view txn.old) (told txn.new result) (present P.view txn.new) }
+    ensures exact { Does P.view
+        (from_registers op (λ p s next. compare_part (done_within (pairs_of p) p) s next))
+        result txn.old txn.new }
     ensures closed { ClosesIfDone result txn.new.core.now.psl }
     ensures keeps { KeepsUnlessDone P.view P.since 10 result txn.old txn.new }
 {
@@ -89,7 +90,9 @@ fn resume_compare<P: Port>(
 #[tactic(auto, using(vax_undo::proofs::Left::behind, crate::proofs::Left::closes))]
 fn resume_match<P: Port>(txn: &mut Txn<P>, op: u8) -> Result<Flow, CutShort>
     requires { 10 ≤ room txn.old }
-    ensures exact { Follows (from_registers op (λ p s next. match_part (done_within p.len1 p) s next) (present P.view txn.old).state) (present P.view txn.old) (told txn.new result) (present P.view txn.new) }
+    ensures exact { Does P.view
+        (from_registers op (λ p s next. match_part (done_within p.len1 p) s next))
+        result txn.old txn.new }
     ensures closed { ClosesIfDone result txn.new.core.now.psl }
     ensures keeps { KeepsUnlessDone P.view P.since 10 result txn.old txn.new }
 {
@@ -106,7 +109,9 @@ fn resume_move<P: Port>(
     scratch: &mut Scratch,
 ) -> Result<Flow, CutShort>
     requires { 43 ≤ room txn.old }
-    ensures exact { Follows (from_registers op (λ p s next. move_part by_table (done_within p.len2 p) s next) (present P.view txn.old).state) (present P.view txn.old) (told txn.new result) (present P.view txn.new) }
+    ensures exact { Does P.view
+        (from_registers op (λ p s next. move_part by_table (done_within p.len2 p) s next))
+        result txn.old txn.new }
     ensures closed { ClosesIfDone result txn.new.core.now.psl }
     ensures keeps { KeepsUnlessDone P.view P.since 43 result txn.old txn.new }
 {
@@ -124,7 +129,9 @@ fn resume_move<P: Port>(
 #[tactic(auto, using(vax_undo::proofs::Left::behind, crate::proofs::Left::closes))]
 fn resume_escape<P: Port>(txn: &mut Txn<P>, op: u8, scratch: &mut Scratch) -> Result<Flow, CutShort>
     requires { 43 ≤ room txn.old }
-    ensures exact { Follows (from_registers op (λ p s next. escape_part (done_within (moved_count p) p) s next) (present P.view txn.old).state) (present P.view txn.old) (told txn.new result) (present P.view txn.new) }
+    ensures exact { Does P.view
+        (from_registers op (λ p s next. escape_part (done_within (moved_count p) p) s next))
+        result txn.old txn.new }
     ensures closed { ClosesIfDone result txn.new.core.now.psl }
     ensures keeps { KeepsUnlessDone P.view P.since 43 result txn.old txn.new }
 {
@@ -149,7 +156,7 @@ pub fn resume<P: Port>(
     scratch: &mut Scratch,
 ) -> Result<Flow, CutShort>
     requires { 43 ≤ room txn.old }
-    ensures exact { Follows (resumed opcode (present P.view txn.old).state) (present P.view txn.old) (told txn.new result) (present P.view txn.new) }
+    ensures exact { Does P.view (resumed opcode) result txn.old txn.new }
     ensures closed { ClosesIfDone result txn.new.core.now.psl }
     ensures keeps { KeepsUnlessDone P.view P.since 43 result txn.old txn.new }
 {

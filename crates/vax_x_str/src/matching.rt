@@ -1,8 +1,7 @@
 //! MATCHC.
 ghost use Rattle.std.specs.Prelude.{◌≡◌, ◌<◌, ◌≤◌, ◌==◌, ◌&&◌, nat_le, not, IfOk};
-ghost use Rattle.vax_flat.specs.OverPort.{Follows};
 ghost use Rattle.vax_flat.specs.StringMatch as matching;
-ghost use Rattle.vax_undo.specs.Transaction.{present, room, told, Keeps, KeepsUnlessDone};
+ghost use Rattle.vax_undo.specs.Transaction.{present, room, Keeps, KeepsUnlessDone, Does};
 
 use crate::registers::{complete, leave_rest, low_registers};
 use vax_flat::Flow;
@@ -28,7 +27,7 @@ fn match_codes(found: bool) -> Codes
 fn be_matched<P: Port>(txn: &mut Txn<P>, p: &Progress) -> Result<Flow, CutShort>
     requires fits { p.now.len1 ≤ p.now.len2 }
     requires room { 7 ≤ room txn.old }
-    ensures exact { Follows (matching.matched p.now (present P.view txn.old).state) (present P.view txn.old) (told txn.new result) (present P.view txn.new) }
+    ensures exact { Does P.view (matching.matched p.now) result txn.old txn.new }
     ensures keeps { Keeps P.view P.since 7 txn.old txn.new }
 {
     let old = low_registers(txn);
@@ -48,7 +47,7 @@ fn be_matched<P: Port>(txn: &mut Txn<P>, p: &Progress) -> Result<Flow, CutShort>
 #[tactic(auto, unfolding(vax_flat::specs::StringMatch::unmatched))]
 fn be_unmatched<P: Port>(txn: &mut Txn<P>, p: &Progress) -> Result<Flow, CutShort>
     requires { 7 ≤ room txn.old }
-    ensures exact { Follows (matching.unmatched p.now (present P.view txn.old).state) (present P.view txn.old) (told txn.new result) (present P.view txn.new) }
+    ensures exact { Does P.view (matching.unmatched p.now) result txn.old txn.new }
     ensures keeps { Keeps P.view P.since 7 txn.old txn.new }
 {
     let old = low_registers(txn);
@@ -67,7 +66,7 @@ fn be_unmatched<P: Port>(txn: &mut Txn<P>, p: &Progress) -> Result<Flow, CutShor
 #[tactic(auto, using(vax_undo::proofs::Left::always))]
 fn end_match<P: Port>(txn: &mut Txn<P>, p: &Progress, units: u32) -> Result<Flow, CutShort>
     requires { 8 ≤ room txn.old }
-    ensures exact { Follows (matching.match_end p.now units (present P.view txn.old).state) (present P.view txn.old) (told txn.new result) (present P.view txn.new) }
+    ensures exact { Does P.view (matching.match_end p.now units) result txn.old txn.new }
     ensures keeps { KeepsUnlessDone P.view P.since 8 result txn.old txn.new }
 {
     if p.len2 < p.len1 {
@@ -97,7 +96,7 @@ fn at_next_place(p: &Progress) -> Progress
 fn compare_one<P: Port>(txn: &mut Txn<P>, p: &Progress) -> Result<Progress, CutShort>
     requires some { p.now.done < p.now.len1 }
     requires fits { p.now.len1 ≤ p.now.len2 }
-    ensures exact { Follows (matching.match_unit p.now (present P.view txn.old).state) (present P.view txn.old) (told txn.new result) (present P.view txn.new) }
+    ensures exact { Does P.view (matching.match_unit p.now) result txn.old txn.new }
     ensures done { IfOk result (λ rest. rest.done ≤ rest.len1) }
     ensures same { present P.view txn.new ≡ present P.view txn.old }
     ensures keeps { Keeps P.view P.since 0 txn.old txn.new }
@@ -127,7 +126,8 @@ fn is_near(p: &Progress, first: u32, second: u32) -> bool
 
 /// Whether a unit remains, and lies in these pages.
 fn has_unit(p: &Progress, first: u32, second: u32) -> bool
-    ensures { result ≡ (nat_le p.now.len1 p.now.len2 && (not (p.now.done == p.now.len1) && matching.is_near first second p.now)) }
+    ensures { result ≡ (nat_le p.now.len1 p.now.len2 && (not (p.now.done == p.now.len1)
+        && matching.is_near first second p.now)) }
 {
     p.len1 <= p.len2 && p.done != p.len1 && is_near(p, first, second)
 }
@@ -141,7 +141,8 @@ fn match_within<P: Port>(
 ) -> Result<Flow, CutShort>
     requires done { p.now.done ≤ p.now.len1 }
     requires room { 8 ≤ room txn.old }
-    ensures exact { Follows (matching.match_on 512 0 first second p.now (present P.view txn.old).state) (present P.view txn.old) (told txn.new result) (present P.view txn.new) }
+    ensures exact { Does P.view (matching.match_on 512 0 first second p.now)
+        result txn.old txn.new }
     ensures keeps { KeepsUnlessDone P.view P.since 8 result txn.old txn.new }
 {
     let mut rest = *p;
@@ -158,7 +159,7 @@ fn match_within<P: Port>(
 pub(crate) fn match_part<P: Port>(txn: &mut Txn<P>, p: &Progress) -> Result<Flow, CutShort>
     requires done { p.now.done ≤ p.now.len1 }
     requires room { 8 ≤ room txn.old }
-    ensures exact { Follows (matching.match_part p.now (present P.view txn.old).state) (present P.view txn.old) (told txn.new result) (present P.view txn.new) }
+    ensures exact { Does P.view (matching.match_part p.now) result txn.old txn.new }
     ensures keeps { KeepsUnlessDone P.view P.since 8 result txn.old txn.new }
 {
     let done = u32::from(p.done);

@@ -1,11 +1,8 @@
 //! MOVC3, MOVC5 and MOVTC.
 ghost use Rattle.std.specs.Prelude.{◌≡◌, ℕ, ◌+◌, ◌-◌, ◌/◌, ◌%◌, ◌<◌, ◌≤◌, List, Ok, length, min};
-ghost use Rattle.vax_flat.specs.Accesses.{Accesses, Leaf};
-ghost use Rattle.vax_flat.specs.OverPort.{Follows, Performs, goes_on, over_port};
-ghost use Rattle.vax_flat.specs.State.{State};
 ghost use Rattle.vax_flat.specs.String as text;
 ghost use Rattle.vax_flat.specs.StringMove as moving;
-ghost use Rattle.vax_undo.specs.Transaction.{present, room, told, Keeps, KeepsUnlessDone};
+ghost use Rattle.vax_undo.specs.Transaction.{present, room, Keeps, KeepsUnlessDone, Acts, Does, Passes};
 ghost use Rattle.vax_x_str.specs.Ends.{IsPartEnd};
 
 use crate::compare::room_up;
@@ -56,7 +53,8 @@ pub(crate) fn check_move<P: Port>(
     p: &Progress,
     written: u16,
 ) -> Result<(), CutShort>
-    ensures exact { Performs (moving.move_checked by_table p.now written (present P.view txn.old).state) (present P.view txn.old) (told txn.new result) (present P.view txn.new) }
+    ensures exact { Acts P.view (moving.move_checked by_table p.now written)
+        result txn.old txn.new }
     ensures same { present P.view txn.new ≡ present P.view txn.old }
     ensures keeps { Keeps P.view P.since 0 txn.old txn.new }
 {
@@ -142,7 +140,7 @@ fn moved_low(by_table: bool, p: &Progress) -> [u32; 6]
 #[tactic(auto, unfolding(vax_flat::specs::StringMove::moved, vax_flat::specs::String::completed))]
 fn finish_move<P: Port>(txn: &mut Txn<P>, by_table: bool, p: &Progress) -> Flow
     requires { 7 ≤ room txn.old }
-    ensures exact { Follows (moving.moved by_table p.now (present P.view txn.old).state) (present P.view txn.old) (Ok result) (present P.view txn.new) }
+    ensures exact { Does P.view (moving.moved by_table p.now) (Ok result) txn.old txn.new }
     ensures ends { IsPartEnd result }
     ensures keeps { Keeps P.view P.since 7 txn.old txn.new }
 {
@@ -156,7 +154,7 @@ fn finish_move<P: Port>(txn: &mut Txn<P>, by_table: bool, p: &Progress) -> Flow
 fn end_move<P: Port>(txn: &mut Txn<P>, by_table: bool, p: &Progress, count: u16) -> Flow
     requires within { p.now.done + count ≤ p.now.len2 }
     requires room { 8 ≤ room txn.old }
-    ensures exact { Follows (moving.move_end by_table p.now count (present P.view txn.old).state) (present P.view txn.old) (Ok result) (present P.view txn.new) }
+    ensures exact { Does P.view (moving.move_end by_table p.now count) (Ok result) txn.old txn.new }
     ensures ends { IsPartEnd result }
     ensures keeps { KeepsUnlessDone P.view P.since 8 (Ok result) txn.old txn.new }
 {
@@ -182,7 +180,8 @@ fn apply_table<P: Port>(
     bytes: &mut [u8],
     table: &mut [u8; 256],
 ) -> Result<(), CutShort>
-    ensures exact { (next : List ℕ → State → Accesses Leaf) → over_port (moving.table_applied by_table p.now bytes.old (present P.view txn.old).state next) (present P.view txn.old).view ≡ goes_on (told txn.new result) (present P.view txn.new).view.marked (λ _. over_port (next bytes.new (present P.view txn.new).state) (present P.view txn.new).view) }
+    ensures exact { Passes P.view (moving.table_applied by_table p.now bytes.old)
+        (λ next _. next bytes.new) result txn.old txn.new }
     ensures length { length bytes.new ≡ length bytes.old }
     ensures same { present P.view txn.new ≡ present P.view txn.old }
     ensures keeps { Keeps P.view P.since 0 txn.old txn.new }
@@ -207,7 +206,8 @@ fn move_run<P: Port>(
     requires few { length buffer.old ≤ 512 }
     requires within { p.now.done + length buffer.old ≤ moving.moved_count p.now }
     requires room { 41 ≤ room txn.old }
-    ensures exact { Follows (moving.move_run by_table p.now (length buffer.old) (present P.view txn.old).state) (present P.view txn.old) (told txn.new result) (present P.view txn.new) }
+    ensures exact { Does P.view (moving.move_run by_table p.now (length buffer.old))
+        result txn.old txn.new }
     ensures keeps { KeepsUnlessDone P.view P.since 41 result txn.old txn.new }
 {
     let _numbers = *p;
@@ -245,7 +245,8 @@ fn fill_run<P: Port>(
     requires one_page { (p.now.addr2 + p.now.done) % 4294967296 % 512 + length buffer.old ≤ 512 }
     requires within { p.now.done + length buffer.old ≤ p.now.len2 }
     requires room { 8 ≤ room txn.old }
-    ensures exact { Follows (moving.fill_run by_table p.now (length buffer.old) (present P.view txn.old).state) (present P.view txn.old) (told txn.new result) (present P.view txn.new) }
+    ensures exact { Does P.view (moving.fill_run by_table p.now (length buffer.old))
+        result txn.old txn.new }
     ensures keeps { KeepsUnlessDone P.view P.since 8 result txn.old txn.new }
 {
     let _numbers = *p;
@@ -266,7 +267,7 @@ pub(crate) fn move_part<P: Port>(
 ) -> Result<Flow, CutShort>
     requires done { p.now.done ≤ p.now.len2 }
     requires room { 41 ≤ room txn.old }
-    ensures exact { Follows (moving.move_part by_table p.now (present P.view txn.old).state) (present P.view txn.old) (told txn.new result) (present P.view txn.new) }
+    ensures exact { Does P.view (moving.move_part by_table p.now) result txn.old txn.new }
     ensures keeps { KeepsUnlessDone P.view P.since 41 result txn.old txn.new }
 {
     if p.done == p.len2 {
@@ -296,7 +297,7 @@ pub(crate) fn start_move<P: Port>(
 ) -> Result<Flow, CutShort>
     requires done { p.now.done ≤ p.now.len2 }
     requires room { 41 ≤ room txn.old }
-    ensures exact { Follows (moving.move_start by_table p.now (present P.view txn.old).state) (present P.view txn.old) (told txn.new result) (present P.view txn.new) }
+    ensures exact { Does P.view (moving.move_start by_table p.now) result txn.old txn.new }
     ensures keeps { KeepsUnlessDone P.view P.since 41 result txn.old txn.new }
 {
     if is_reserved(by_table, p) {

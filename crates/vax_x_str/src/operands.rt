@@ -1,15 +1,27 @@
 //! The operands of an instruction, as the progress at its start.
 ghost use Rattle.std.specs.Prelude.{◌≡◌, ◌+◌, ◌-◌, ◌%◌, ◌^◌, ◌<◌, ◌≤◌, IfOk};
 ghost use Rattle.vax_flat.specs.Operand.{plus};
-ghost use Rattle.vax_flat.specs.OverPort.{Follows};
 ghost use Rattle.vax_flat.specs.StringOperands as operands;
-ghost use Rattle.vax_undo.specs.Transaction.{present, room, told, Keeps};
+ghost use Rattle.vax_undo.specs.Transaction.{room, Keeps, Does};
 
 use crate::registers::begin_anew;
 use vax_operand::{next_address, next_value};
 use vax_strpart::Progress;
 use vax_undo::{CutShort, Port, Txn};
 use vax_word::Size;
+
+/// What an instruction with no operand begins from.
+const NOTHING: Progress = Progress {
+    op: 0,
+    len1: 0,
+    addr1: 0,
+    byte: 0,
+    len2: 0,
+    addr2: 0,
+    table: 0,
+    done: 0,
+    delta: 0,
+};
 
 /// The instruction's length, where PC was past its opcode and is past its operands.
 fn length_between(from: u32, to: u32) -> u8
@@ -45,7 +57,7 @@ fn address_in(addr: u32) -> u32
 #[tactic(auto, unfolding(vax_flat::specs::StringOperands::next_word))]
 fn next_length<P: Port>(txn: &mut Txn<P>) -> Result<u16, CutShort>
     requires { 4 ≤ room txn.old }
-    ensures exact { Follows (operands.next_word (present P.view txn.old).state) (present P.view txn.old) (told txn.new result) (present P.view txn.new) }
+    ensures exact { Does P.view operands.next_word result txn.old txn.new }
     ensures keeps { Keeps P.view P.since 4 txn.old txn.new }
 {
     let value = next_value(txn, Size::W)?;
@@ -56,7 +68,7 @@ fn next_length<P: Port>(txn: &mut Txn<P>) -> Result<u16, CutShort>
 #[tactic(auto, unfolding(vax_flat::specs::StringOperands::next_byte))]
 fn next_byte<P: Port>(txn: &mut Txn<P>) -> Result<u8, CutShort>
     requires { 4 ≤ room txn.old }
-    ensures exact { Follows (operands.next_byte (present P.view txn.old).state) (present P.view txn.old) (told txn.new result) (present P.view txn.new) }
+    ensures exact { Does P.view operands.next_byte result txn.old txn.new }
     ensures keeps { Keeps P.view P.since 4 txn.old txn.new }
 {
     let value = next_value(txn, Size::B)?;
@@ -67,7 +79,7 @@ fn next_byte<P: Port>(txn: &mut Txn<P>) -> Result<u8, CutShort>
 #[tactic(auto, unfolding(vax_flat::specs::StringOperands::next_longword))]
 fn next_place<P: Port>(txn: &mut Txn<P>) -> Result<u32, CutShort>
     requires { 4 ≤ room txn.old }
-    ensures exact { Follows (operands.next_longword (present P.view txn.old).state) (present P.view txn.old) (told txn.new result) (present P.view txn.new) }
+    ensures exact { Does P.view operands.next_longword result txn.old txn.new }
     ensures keeps { Keeps P.view P.since 4 txn.old txn.new }
 {
     let addr = next_address(txn, Size::B)?;
@@ -78,25 +90,22 @@ fn next_place<P: Port>(txn: &mut Txn<P>) -> Result<u32, CutShort>
 #[tactic(auto, unfolding(vax_flat::specs::StringOperands::search_operands, vax_flat::specs::StringOperands::length_of))]
 pub(crate) fn search_operands<P: Port>(txn: &mut Txn<P>, op: u8) -> Result<Progress, CutShort>
     requires { 13 ≤ room txn.old }
-    ensures exact { Follows (operands.search_operands op (present P.view txn.old).state) (present P.view txn.old) (told txn.new result) (present P.view txn.new) }
+    ensures exact { Does P.view (operands.search_operands op) result txn.old txn.new }
     ensures keeps { Keeps P.view P.since 13 txn.old txn.new }
 {
     let from = txn.reg(15);
-    let character = next_byte(txn)?;
-    let len = next_length(txn)?;
-    let addr = next_place(txn)?;
+    let byte = next_byte(txn)?;
+    let len1 = next_length(txn)?;
+    let addr1 = next_place(txn)?;
     let delta = length_between(from, txn.reg(15));
     begin_anew(txn);
     Ok(Progress {
         op,
-        len1: len,
-        addr1: addr,
-        byte: character,
-        len2: 0,
-        addr2: 0,
-        table: 0,
-        done: 0,
+        len1,
+        addr1,
+        byte,
         delta,
+        ..NOTHING
     })
 }
 
@@ -104,26 +113,24 @@ pub(crate) fn search_operands<P: Port>(txn: &mut Txn<P>, op: u8) -> Result<Progr
 #[tactic(auto, unfolding(vax_flat::specs::StringOperands::scan_operands, vax_flat::specs::StringOperands::length_of))]
 pub(crate) fn scan_operands<P: Port>(txn: &mut Txn<P>, op: u8) -> Result<Progress, CutShort>
     requires { 17 ≤ room txn.old }
-    ensures exact { Follows (operands.scan_operands op (present P.view txn.old).state) (present P.view txn.old) (told txn.new result) (present P.view txn.new) }
+    ensures exact { Does P.view (operands.scan_operands op) result txn.old txn.new }
     ensures keeps { Keeps P.view P.since 17 txn.old txn.new }
 {
     let from = txn.reg(15);
-    let len = next_length(txn)?;
-    let addr = next_place(txn)?;
+    let len1 = next_length(txn)?;
+    let addr1 = next_place(txn)?;
     let table = next_place(txn)?;
-    let mask = next_byte(txn)?;
+    let byte = next_byte(txn)?;
     let delta = length_between(from, txn.reg(15));
     begin_anew(txn);
     Ok(Progress {
         op,
-        len1: len,
-        addr1: addr,
-        byte: mask,
-        len2: 0,
-        addr2: 0,
+        len1,
+        addr1,
+        byte,
         table,
-        done: 0,
         delta,
+        ..NOTHING
     })
 }
 
@@ -131,26 +138,24 @@ pub(crate) fn scan_operands<P: Port>(txn: &mut Txn<P>, op: u8) -> Result<Progres
 #[tactic(auto, unfolding(vax_flat::specs::StringOperands::equal_operands, vax_flat::specs::StringOperands::length_of))]
 pub(crate) fn equal_operands<P: Port>(txn: &mut Txn<P>, op: u8) -> Result<Progress, CutShort>
     requires { 13 ≤ room txn.old }
-    ensures exact { Follows (operands.equal_operands op (present P.view txn.old).state) (present P.view txn.old) (told txn.new result) (present P.view txn.new) }
+    ensures exact { Does P.view (operands.equal_operands op) result txn.old txn.new }
     ensures fresh { IfOk result (λ p. p.done ≡ 0) }
     ensures keeps { Keeps P.view P.since 13 txn.old txn.new }
 {
     let from = txn.reg(15);
     let len = next_length(txn)?;
-    let first = next_place(txn)?;
-    let second = next_place(txn)?;
+    let addr1 = next_place(txn)?;
+    let addr2 = next_place(txn)?;
     let delta = length_between(from, txn.reg(15));
     begin_anew(txn);
     Ok(Progress {
         op,
         len1: len,
-        addr1: first,
-        byte: 0,
+        addr1,
         len2: len,
-        addr2: second,
-        table: 0,
-        done: 0,
+        addr2,
         delta,
+        ..NOTHING
     })
 }
 
@@ -158,28 +163,27 @@ pub(crate) fn equal_operands<P: Port>(txn: &mut Txn<P>, op: u8) -> Result<Progre
 #[tactic(auto, unfolding(vax_flat::specs::StringOperands::filled_operands, vax_flat::specs::StringOperands::length_of))]
 pub(crate) fn filled_operands<P: Port>(txn: &mut Txn<P>, op: u8) -> Result<Progress, CutShort>
     requires { 21 ≤ room txn.old }
-    ensures exact { Follows (operands.filled_operands op (present P.view txn.old).state) (present P.view txn.old) (told txn.new result) (present P.view txn.new) }
+    ensures exact { Does P.view (operands.filled_operands op) result txn.old txn.new }
     ensures fresh { IfOk result (λ p. p.done ≡ 0) }
     ensures keeps { Keeps P.view P.since 21 txn.old txn.new }
 {
     let from = txn.reg(15);
     let len1 = next_length(txn)?;
-    let first = next_place(txn)?;
-    let fill = next_byte(txn)?;
+    let addr1 = next_place(txn)?;
+    let byte = next_byte(txn)?;
     let len2 = next_length(txn)?;
-    let second = next_place(txn)?;
+    let addr2 = next_place(txn)?;
     let delta = length_between(from, txn.reg(15));
     begin_anew(txn);
     Ok(Progress {
         op,
         len1,
-        addr1: first,
-        byte: fill,
+        addr1,
+        byte,
         len2,
-        addr2: second,
-        table: 0,
-        done: 0,
+        addr2,
         delta,
+        ..NOTHING
     })
 }
 
@@ -187,29 +191,29 @@ pub(crate) fn filled_operands<P: Port>(txn: &mut Txn<P>, op: u8) -> Result<Progr
 #[tactic(auto, unfolding(vax_flat::specs::StringOperands::translated_operands, vax_flat::specs::StringOperands::length_of))]
 pub(crate) fn translated_operands<P: Port>(txn: &mut Txn<P>, op: u8) -> Result<Progress, CutShort>
     requires { 25 ≤ room txn.old }
-    ensures exact { Follows (operands.translated_operands op (present P.view txn.old).state) (present P.view txn.old) (told txn.new result) (present P.view txn.new) }
+    ensures exact { Does P.view (operands.translated_operands op) result txn.old txn.new }
     ensures fresh { IfOk result (λ p. p.done ≡ 0) }
     ensures keeps { Keeps P.view P.since 25 txn.old txn.new }
 {
     let from = txn.reg(15);
     let len1 = next_length(txn)?;
-    let first = next_place(txn)?;
+    let addr1 = next_place(txn)?;
     let byte = next_byte(txn)?;
     let table = next_place(txn)?;
     let len2 = next_length(txn)?;
-    let second = next_place(txn)?;
+    let addr2 = next_place(txn)?;
     let delta = length_between(from, txn.reg(15));
     begin_anew(txn);
     Ok(Progress {
         op,
         len1,
-        addr1: first,
+        addr1,
         byte,
         len2,
-        addr2: second,
+        addr2,
         table,
-        done: 0,
         delta,
+        ..NOTHING
     })
 }
 
@@ -217,26 +221,24 @@ pub(crate) fn translated_operands<P: Port>(txn: &mut Txn<P>, op: u8) -> Result<P
 #[tactic(auto, unfolding(vax_flat::specs::StringOperands::match_operands, vax_flat::specs::StringOperands::length_of))]
 pub(crate) fn match_operands<P: Port>(txn: &mut Txn<P>, op: u8) -> Result<Progress, CutShort>
     requires { 17 ≤ room txn.old }
-    ensures exact { Follows (operands.match_operands op (present P.view txn.old).state) (present P.view txn.old) (told txn.new result) (present P.view txn.new) }
+    ensures exact { Does P.view (operands.match_operands op) result txn.old txn.new }
     ensures fresh { IfOk result (λ p. p.done ≡ 0) }
     ensures keeps { Keeps P.view P.since 17 txn.old txn.new }
 {
     let from = txn.reg(15);
     let len1 = next_length(txn)?;
-    let first = next_place(txn)?;
+    let addr1 = next_place(txn)?;
     let len2 = next_length(txn)?;
-    let second = next_place(txn)?;
+    let addr2 = next_place(txn)?;
     let delta = length_between(from, txn.reg(15));
     begin_anew(txn);
     Ok(Progress {
         op,
         len1,
-        addr1: first,
-        byte: 0,
+        addr1,
         len2,
-        addr2: second,
-        table: 0,
-        done: 0,
+        addr2,
         delta,
+        ..NOTHING
     })
 }

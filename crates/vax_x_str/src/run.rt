@@ -1,11 +1,8 @@
 //! Runs of bytes, in the current access mode.
 ghost use Rattle.std.specs.Prelude.{◌≡◌, ℕ, ◌+◌, ◌-◌, ◌/◌, ◌%◌, ◌<◌, ◌≤◌, List, length, OnErr, OnOk};
-ghost use Rattle.vax_flat.specs.Accesses.{Accesses, Leaf};
-ghost use Rattle.vax_flat.specs.OverPort.{Performs, goes_on, over_port};
-ghost use Rattle.vax_flat.specs.State.{State};
 ghost use Rattle.vax_flat.specs.String.{read_run_at, read_span, write_run_at};
 ghost use Rattle.vax_flat.specs.StringMove.{pieces_of, write_high_last, write_low_last, write_pieces, write_span};
-ghost use Rattle.vax_undo.specs.Transaction.{present, room, told, IsLeft, IsLeftOpen, Keeps};
+ghost use Rattle.vax_undo.specs.Transaction.{present, room, IsLeft, IsLeftOpen, Keeps, Acts, Passes};
 
 use vax_flat::Cut;
 use vax_operand::write;
@@ -20,7 +17,8 @@ pub(crate) fn read_run<P: Port>(
 ) -> Result<(), CutShort>
     requires some { 1 ≤ length into.old }
     requires one_page { addr % 512 + length into.old ≤ 512 }
-    ensures exact { (next : List ℕ → State → Accesses Leaf) → over_port (read_run_at addr (length into.old) (present P.view txn.old).state next) (present P.view txn.old).view ≡ goes_on (told txn.new result) (present P.view txn.new).view.marked (λ _. over_port (next into.new (present P.view txn.new).state) (present P.view txn.new).view) }
+    ensures exact { Passes P.view (read_run_at addr (length into.old)) (λ next _. next into.new)
+        result txn.old txn.new }
     ensures same { present P.view txn.new ≡ present P.view txn.old }
     ensures keeps { Keeps P.view P.since 0 txn.old txn.new }
 {
@@ -40,7 +38,8 @@ pub(crate) fn read_span<P: Port>(
 ) -> Result<(), CutShort>
     requires some { 1 ≤ length into.old }
     requires few { length into.old ≤ 512 }
-    ensures exact { (next : List ℕ → State → Accesses Leaf) → over_port (read_span addr (length into.old) (present P.view txn.old).state next) (present P.view txn.old).view ≡ goes_on (told txn.new result) (present P.view txn.new).view.marked (λ _. over_port (next into.new (present P.view txn.new).state) (present P.view txn.new).view) }
+    ensures exact { Passes P.view (read_span addr (length into.old)) (λ next _. next into.new)
+        result txn.old txn.new }
     ensures same { present P.view txn.new ≡ present P.view txn.old }
     ensures keeps { Keeps P.view P.since 0 txn.old txn.new }
 {
@@ -58,7 +57,7 @@ pub(crate) fn read_span<P: Port>(
 pub(crate) fn write_run<P: Port>(txn: &mut Txn<P>, addr: u32, from: &[u8]) -> Result<(), CutShort>
     requires some { 1 ≤ length from.now }
     requires one_page { addr % 512 + length from.now ≤ 512 }
-    ensures exact { Performs (write_run_at addr from.now (present P.view txn.old).state) (present P.view txn.old) (told txn.new result) (present P.view txn.new) }
+    ensures exact { Acts P.view (write_run_at addr from.now) result txn.old txn.new }
     ensures keeps { OnErr result (Keeps P.view P.since 0 txn.old txn.new) }
     ensures left { OnOk result (IsLeftOpen P.view P.since 0 txn.old txn.new) }
     ensures completed { OnOk result (IsLeft P.since 0 txn.old txn.new) }
@@ -76,7 +75,7 @@ fn write_few<P: Port>(txn: &mut Txn<P>, addr: u32, from: &[u8]) -> Result<(), Cu
     requires some { 1 ≤ length from.now }
     requires few { length from.now ≤ 8 }
     requires room { 1 ≤ room txn.old }
-    ensures exact { Performs (write_run_at addr from.now (present P.view txn.old).state) (present P.view txn.old) (told txn.new result) (present P.view txn.new) }
+    ensures exact { Acts P.view (write_run_at addr from.now) result txn.old txn.new }
     ensures keeps { Keeps P.view P.since 1 txn.old txn.new }
 {
     let value = number_of(from);
@@ -89,7 +88,8 @@ fn write_pieces<P: Port>(txn: &mut Txn<P>, addr: u32, from: &[u8]) -> Result<(),
     requires some { 1 ≤ length from.now }
     requires few { length from.now ≤ 256 }
     requires room { (length from.now + 7) / 8 ≤ room txn.old }
-    ensures exact { Performs (write_pieces (pieces_of from.now) addr from.now (present P.view txn.old).state) (present P.view txn.old) (told txn.new result) (present P.view txn.new) }
+    ensures exact { Acts P.view (write_pieces (pieces_of from.now) addr from.now)
+        result txn.old txn.new }
     ensures keeps { Keeps P.view P.since ((length from.now + 7) / 8) txn.old txn.new }
 {
     if from.len() <= 8 {
@@ -107,7 +107,7 @@ fn write_high_last<P: Port>(txn: &mut Txn<P>, addr: u32, from: &[u8]) -> Result<
     requires beyond { 512 < addr % 512 + length from.now }
     requires smaller { 256 ≤ addr % 512 }
     requires room { 33 ≤ room txn.old }
-    ensures exact { Performs (write_high_last addr from.now (present P.view txn.old).state) (present P.view txn.old) (told txn.new result) (present P.view txn.new) }
+    ensures exact { Acts P.view (write_high_last addr from.now) result txn.old txn.new }
     ensures keeps { OnErr result (Keeps P.view P.since 33 txn.old txn.new) }
     ensures left { OnOk result (IsLeftOpen P.view P.since 33 txn.old txn.new) }
     ensures completed { OnOk result (IsLeft P.since 33 txn.old txn.new) }
@@ -125,7 +125,7 @@ fn write_low_last<P: Port>(txn: &mut Txn<P>, addr: u32, from: &[u8]) -> Result<(
     requires beyond { 512 < addr % 512 + length from.now }
     requires smaller { addr % 512 < 256 }
     requires room { 33 ≤ room txn.old }
-    ensures exact { Performs (write_low_last addr from.now (present P.view txn.old).state) (present P.view txn.old) (told txn.new result) (present P.view txn.new) }
+    ensures exact { Acts P.view (write_low_last addr from.now) result txn.old txn.new }
     ensures keeps { OnErr result (Keeps P.view P.since 33 txn.old txn.new) }
     ensures left { OnOk result (IsLeftOpen P.view P.since 33 txn.old txn.new) }
     ensures completed { OnOk result (IsLeft P.since 33 txn.old txn.new) }
@@ -143,7 +143,7 @@ pub(crate) fn write_span<P: Port>(txn: &mut Txn<P>, addr: u32, from: &[u8]) -> R
     requires some { 1 ≤ length from.now }
     requires few { length from.now ≤ 512 }
     requires room { 33 ≤ room txn.old }
-    ensures exact { Performs (write_span addr from.now (present P.view txn.old).state) (present P.view txn.old) (told txn.new result) (present P.view txn.new) }
+    ensures exact { Acts P.view (write_span addr from.now) result txn.old txn.new }
     ensures keeps { OnErr result (Keeps P.view P.since 33 txn.old txn.new) }
     ensures left { OnOk result (IsLeftOpen P.view P.since 33 txn.old txn.new) }
     ensures completed { OnOk result (IsLeft P.since 33 txn.old txn.new) }

@@ -1,6 +1,6 @@
 use Rattle.std.proofs.Common.{subst}
 use Rattle.vax_flat.specs.OverPort.{Present}
-use Rattle.vax_undo.specs.Transaction.{state_of}
+use Rattle.vax_undo.specs.Transaction.{seen}
 use Rattle.vax_cpu.specs.declared.attempt.Tried.{Tried}
 use Rattle.vax_cpu.specs.Tried.{IsTried}
 use Rattle.vax_cpu.proofs.Settled.{first_delivered, first_made}
@@ -9,8 +9,8 @@ use Rattle.vax_cpu.proofs.attempt.settle.Goals as goal
 
 pub returns-in-Event-clause-made : goal.returns-in-Event-clause-made
 returns-in-Event-clause-made g c = λ tree old is.
-    let now : Present = record { state = state_of c.args.core.now c.args.term.now; view = g.P.Port.view c.args.port.now } in
-    let new : Present = record { state = state_of c.try_delivery.new.core c.try_delivery.new.term; view = g.P.Port.view c.try_delivery.new.port } in
+    let now : Present = seen g.P.Port.view c.args.core.now c.args.term.now c.args.port.now in
+    let new : Present = seen g.P.Port.view c.try_delivery.new.core c.try_delivery.new.term c.try_delivery.new.port in
     first_delivered tree old now new c.in-Event.exception c.try_delivery.result (subst (λ (t : Tried). IsTried tree old t now) c.in-Event.is is) c.try_delivery.ensures.tried
 
 pub returns-in_default-clause-made : goal.returns-in_default-clause-made

@@ -1,6 +1,6 @@
 use Rattle.std.proofs.Common.{subst}
 use Rattle.vax_flat.specs.OverPort.{Present}
-use Rattle.vax_undo.specs.Transaction.{state_of}
+use Rattle.vax_undo.specs.Transaction.{seen}
 use Rattle.vax_cpu.specs.declared.attempt.Tried.{Tried}
 use Rattle.vax_cpu.specs.Tried.{IsTried}
 use Rattle.vax_cpu.proofs.Attempts.{step_closed_later}
@@ -10,13 +10,13 @@ use Rattle.vax_cpu.proofs.attempt.settle_later.Goals as goal
 
 pub returns-in-Event-clause-made : goal.returns-in-Event-clause-made
 returns-in-Event-clause-made g c = λ tree old is.
-    let now : Present = record { state = state_of c.args.core.now c.args.term.now; view = g.P.Port.view c.args.port.now } in
+    let now : Present = seen g.P.Port.view c.args.core.now c.args.term.now c.args.port.now in
     let d = c.deliver_from.ensures.delivered in
     later_delivered tree c.args.start old now d.0 _ c.in-Event.exception c.deliver_from.result (subst (λ (t : Tried). IsTried tree old t now) c.in-Event.is is) d.1 d.2
 
 pub returns-in-Ended-clause-made : goal.returns-in-Ended-clause-made
 returns-in-Ended-clause-made g c = λ tree old is.
-    let now : Present = record { state = state_of c.args.core.now c.args.term.now; view = g.P.Port.view c.args.port.now } in
+    let now : Present = seen g.P.Port.view c.args.core.now c.args.term.now c.args.port.now in
     later_ended tree old now c.args.start c.args.tried _ c.in-Ended.is is
 
 pub returns-in_default-clause-made : goal.returns-in_default-clause-made

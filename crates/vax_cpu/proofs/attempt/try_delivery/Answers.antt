@@ -3,13 +3,13 @@ use Rattle.vax_flat.specs.OverPort.{Present, Follows}
 use Rattle.vax_flat.specs.Step.{delivered, whole_delivery}
 use Rattle.vax_undo.specs.FirstPart.{NothingOpen}
 use Rattle.vax_undo.specs.Rooms.{room_of_end}
-use Rattle.vax_undo.specs.Transaction.{bare, present, state_of, told}
+use Rattle.vax_undo.specs.Transaction.{bare, present, told, seen}
 use Rattle.vax_cpu.proofs.Attempts.{clock_at, clock_unless, closed_at, closed_unless, closes_through, leads_back, quiet_final, tried_at}
 use Rattle.vax_cpu.proofs.attempt.try_delivery.Goals as goal
 
 pub returns-clause-tried : goal.returns-clause-tried
 returns-clause-tried g c =
-    let old : Present = record { state = state_of c.args.core.now c.args.term.now; view = g.P.Port.view c.args.port.now } in
+    let old : Present = seen g.P.Port.view c.args.core.now c.args.term.now c.args.port.now in
     tried_at (whole_delivery c.args.exception) old c.conclude.result (record { state = _; view = _ }) _ _ (search rules) (search rules)
     (c.conclude.ensures.tried old (delivered c.args.exception)
     (subst (λ (p : Present). Follows ((delivered c.args.exception) p.state) p (told c.work_delivery-done.new.txn c.work_delivery-done.result) (present g.P.Port.view c.work_delivery-done.new.txn)) c.begin-txn.ensures.present c.work_delivery-done.ensures.exact)
@@ -17,7 +17,7 @@ returns-clause-tried g c =
 
 pub returns-clause-quiet : goal.returns-clause-quiet
 returns-clause-quiet g c =
-    let old : Present = record { state = state_of c.args.core.now c.args.term.now; view = g.P.Port.view c.args.port.now } in
+    let old : Present = seen g.P.Port.view c.args.core.now c.args.term.now c.args.port.now in
     quiet_final c.args.exception old (record { state = _; view = _ }) c.conclude.result
     (c.conclude.ensures.tried old (delivered c.args.exception)
     (subst (λ (p : Present). Follows ((delivered c.args.exception) p.state) p (told c.work_delivery-done.new.txn c.work_delivery-done.result) (present g.P.Port.view c.work_delivery-done.new.txn)) c.begin-txn.ensures.present c.work_delivery-done.ensures.exact)

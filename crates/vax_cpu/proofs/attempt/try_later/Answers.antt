@@ -6,13 +6,13 @@ use Rattle.vax_undo.specs.FirstPart.{NothingOpen}
 use Rattle.vax_flat.specs.OverPort.{Present, Follows}
 use Rattle.vax_flat.specs.Parts.{later, later_step}
 use Rattle.vax_undo.specs.Rooms.{room_of_step}
-use Rattle.vax_undo.specs.Transaction.{bare, present, state_of, told}
+use Rattle.vax_undo.specs.Transaction.{bare, present, told, seen}
 use Rattle.vax_cpu.proofs.Attempts.{clock_at, clock_unless, closed_at, leads_back, tried_at}
 use Rattle.vax_cpu.proofs.attempt.try_later.Goals as goal
 
 pub returns-clause-tried : goal.returns-clause-tried
 returns-clause-tried g c =
-    let old : Present = record { state = state_of c.args.core.now c.args.term.now; view = g.P.Port.view c.args.port.now } in
+    let old : Present = seen g.P.Port.view c.args.core.now c.args.term.now c.args.port.now in
     tried_at (later_step c.args.opcode) old c.conclude.result (record { state = _; view = _ }) _ _ (search rules) (search rules)
     (c.conclude.ensures.tried old (later c.args.opcode)
     (subst (λ (p : Present). Follows ((later c.args.opcode) p.state) p (told c.work_later-done.new.txn c.work_later-done.result) (present g.P.Port.view c.work_later-done.new.txn)) c.begin-txn.ensures.present c.work_later-done.ensures.exact)

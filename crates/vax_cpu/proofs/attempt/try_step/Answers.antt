@@ -3,13 +3,13 @@ use Rattle.vax_flat.specs.OverPort.{Present, Follows}
 use Rattle.vax_flat.specs.Parts.{part, part_step}
 use Rattle.vax_undo.specs.FirstPart.{NothingOpen}
 use Rattle.vax_undo.specs.Rooms.{room_of_step}
-use Rattle.vax_undo.specs.Transaction.{bare, present, state_of, told}
+use Rattle.vax_undo.specs.Transaction.{bare, present, told, seen}
 use Rattle.vax_cpu.proofs.Attempts.{clock_at, clock_unless, closed_at, closed_unless, closes_through, leads_back, tried_at}
 use Rattle.vax_cpu.proofs.attempt.try_step.Goals as goal
 
 pub returns-clause-tried : goal.returns-clause-tried
 returns-clause-tried g c =
-    let old : Present = record { state = state_of c.args.core.now c.args.term.now; view = g.P.Port.view c.args.port.now } in
+    let old : Present = seen g.P.Port.view c.args.core.now c.args.term.now c.args.port.now in
     tried_at part_step old c.conclude.result (record { state = _; view = _ }) _ _ (search rules) (search rules)
     (c.conclude.ensures.tried old part
     (subst (λ (p : Present). Follows (part p.state) p (told c.work_once-done.new.txn c.work_once-done.result) (present g.P.Port.view c.work_once-done.new.txn)) c.begin-txn.ensures.present c.work_once-done.ensures.exact)

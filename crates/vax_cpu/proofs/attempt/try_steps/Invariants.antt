@@ -1,13 +1,13 @@
 use Rattle.std.proofs.Common.{◌≡◌, ◌-◌, ◌<◌, ◌≤◌, None}
 use Rattle.vax_undo.specs.FirstPart.{NothingOpen}
-use Rattle.vax_undo.specs.Transaction.{bare, present, undone, room, state_of, IsReady}
+use Rattle.vax_undo.specs.Transaction.{bare, present, undone, room, IsReady, seen}
 use Rattle.vax_cpu.specs.Batch.{Ran}
 use Rattle.vax_cpu.proofs.attempt.try_steps.Given as goal
 
 -- the steps so far were completed, and the log is that of a transaction that has just begun
 abbrev pub invariant-loop-steps : goal.invariant-loop-steps
 invariant-loop-steps g l = record {
-  ran : Ran l.steps (record { state = state_of l.fn.core l.fn.term; view = g.P.Port.view l.fn.port }) (present g.P.Port.view l.txn);
+  ran : Ran l.steps (seen g.P.Port.view l.fn.core l.fn.term l.fn.port) (present g.P.Port.view l.txn);
   few : l.steps < l.most;
   undone : undone g.P.Port.view l.txn ≡ bare (present g.P.Port.view l.txn);
   room : room l.txn ≡ 96;

@@ -2,7 +2,7 @@ use Rattle.std.specs.Prelude.{IfSome}
 use Rattle.std.proofs.Common.{Option, Some, sym, ap, subst, ◌∙◌, refl}
 use Rattle.vax_flat.specs.OverPort.{Present}
 use Rattle.vax_flat.specs.Parts.{part_step}
-use Rattle.vax_undo.specs.Transaction.{state_of}
+use Rattle.vax_undo.specs.Transaction.{seen}
 use Rattle.vax_cpu.specs.declared.cpu.Attempt.{Attempt}
 use Rattle.vax_cpu.specs.declared.cpu.Cpu.{Cpu}
 use Rattle.vax_cpu.specs.Attempt.{flat_of, StopsInside}
@@ -24,7 +24,7 @@ returns-clause-steps g c = λ closed memory output st.
 
 pub returns-clause-absent : goal.returns-clause-absent
 returns-clause-absent g c =
-    let new : Present = record { state = state_of c.settle-last.new.core c.settle-last.new.term; view = g.P.Port.view c.settle-last.new.port } in
+    let new : Present = seen g.P.Port.view c.settle-last.new.core c.settle-last.new.term c.settle-last.new.port in
     let ran = c.try_steps-several.ensures.ran in
     subst (λ (o : Option Attempt). IfSome o (λ a. StopsInside a (g.P.Port.view c.args.port.now))) c.answer_of.ensures
     (inside_batch c.try_steps-several.result.steps ran.0.state.core _ ran.0 new c.settle-last.result ran.1 (c.settle-last.ensures.made part_step ran.0 ran.2))
