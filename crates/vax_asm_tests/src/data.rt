@@ -89,6 +89,10 @@ const BYTES: Directive = Directive::Data(DataKind::Number(Size::B));
 
 const WORDS: Directive = Directive::Data(DataKind::Number(Size::W));
 
+const SIGNED_BYTES: Directive = Directive::Data(DataKind::Signed(Size::B));
+
+const SIGNED_WORDS: Directive = Directive::Data(DataKind::Signed(Size::W));
+
 const LONGWORDS: Directive = Directive::Space(Size::L);
 
 #[test]
@@ -96,7 +100,11 @@ fn lays_out_items(rt: HostRuntime) -> Result<(), Fail> {
     let rows = [
         (BYTES, ".BYTE 1, -128, 255", Ok(3)),
         (WORDS, ".WORD 2[3], X", Ok(8)),
-        (Directive::Data(DataKind::Number(Size::Q)), ".QUAD 1[0]", Ok(0)),
+        (
+            Directive::Data(DataKind::Number(Size::Q)),
+            ".QUAD 1[0]",
+            Ok(0),
+        ),
         (Directive::Addresses, ".ADDRESS X, Y+2", Ok(8)),
         (BYTES, ".BYTE", Err(FaultKind::Count)),
         (BYTES, ".BYTE 256, 1", Err(FaultKind::Range)),
@@ -112,6 +120,24 @@ fn lays_out_items(rt: HostRuntime) -> Result<(), Fail> {
         (BYTES, ".BYTE 1[X/0]", Err(FaultKind::Undefined)),
         (WORDS, ".WORD 1[600000]", Err(FaultKind::Large)),
         (Directive::Addresses, ".ADDRESS X[2]", Err(FaultKind::Form)),
+    ];
+    test_alone(&rt, rt.alloc(), &rows)
+}
+
+#[test]
+fn lays_out_signed_items(rt: HostRuntime) -> Result<(), Fail> {
+    let rows = [
+        (SIGNED_BYTES, ".SIGNED_BYTE -128, 127, X", Ok(3)),
+        (SIGNED_BYTES, ".SIGNED_BYTE -1[3]", Ok(3)),
+        (SIGNED_WORDS, ".SIGNED_WORD -32768, 32767[2]", Ok(6)),
+        (SIGNED_BYTES, ".SIGNED_BYTE 128", Err(FaultKind::Range)),
+        (SIGNED_BYTES, ".SIGNED_BYTE -129", Err(FaultKind::Range)),
+        (SIGNED_WORDS, ".SIGNED_WORD 32768", Err(FaultKind::Range)),
+        (SIGNED_WORDS, ".SIGNED_WORD -32769", Err(FaultKind::Range)),
+        (SIGNED_BYTES, ".SIGNED_BYTE .", Err(FaultKind::Form)),
+        (SIGNED_WORDS, ".SIGNED_WORD .+2", Err(FaultKind::Form)),
+        (SIGNED_BYTES, ".SIGNED_BYTE", Err(FaultKind::Count)),
+        (SIGNED_BYTES, ".SIGNED_BYTE 1[N]", Err(FaultKind::Undefined)),
     ];
     test_alone(&rt, rt.alloc(), &rows)
 }

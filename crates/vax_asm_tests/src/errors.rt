@@ -13,11 +13,7 @@ use vax_lex::{ExprError, LexError};
 use vax_macro::{FaultKind, MacroError, NoMemory};
 
 /// The texts of errors of one type.
-fn test_texts<E: Display>(
-    rt: &impl Abort,
-    alloc: Global,
-    rows: &[(E, &str)],
-) -> Result<(), Fail> {
+fn test_texts<E: Display>(rt: &impl Abort, alloc: Global, rows: &[(E, &str)]) -> Result<(), Fail> {
     for (error, text) in rows {
         let shown = format!(in alloc; "{error}")?;
         assert!(rt; shown.as_str() == *text, "{text}: {shown}");
@@ -106,10 +102,7 @@ fn tells_errors_of_modules(rt: HostRuntime) -> Result<(), Fail> {
     ];
     test_texts(&rt, alloc, &sections)?;
     let statements = [
-        (
-            Refused::Fault(FaultKind::Count),
-            "wrong number of operands",
-        ),
+        (Refused::Fault(FaultKind::Count), "wrong number of operands"),
         (Refused::NoMemory, "out of memory"),
     ];
     test_texts(&rt, alloc, &statements)?;

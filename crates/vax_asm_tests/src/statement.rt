@@ -158,6 +158,20 @@ fn reads_operands_of_directives(rt: HostRuntime) -> Result<(), Fail> {
     let directives = [
         (".long", Some(Directive::Data(DataKind::Number(Size::L)))),
         (".noshow", Some(Directive::Listing)),
+        (".SBTTL", Some(Directive::Listing)),
+        (".subtitle", Some(Directive::Listing)),
+        (".BLKL", Some(Directive::Space(Size::L))),
+        (".blka", Some(Directive::Space(Size::L))),
+        (".BYTE", Some(Directive::Data(DataKind::Number(Size::B)))),
+        (
+            ".SIGNED_BYTE",
+            Some(Directive::Data(DataKind::Signed(Size::B))),
+        ),
+        (
+            ".Signed_Word",
+            Some(Directive::Data(DataKind::Signed(Size::W))),
+        ),
+        (".SIGNED_LONG", None),
         ("MOVL", None),
     ];
     for (name, directive) in directives {

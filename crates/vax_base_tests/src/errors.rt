@@ -14,10 +14,7 @@ fn tells_errors(rt: HostRuntime) -> Result<(), Fail> {
             SpaceError::Range(0),
             "area 0 has no page, or pages outside the regions",
         ),
-        (
-            SpaceError::Prot(63),
-            "area 63 has no valid protection code",
-        ),
+        (SpaceError::Prot(63), "area 63 has no valid protection code"),
         (
             SpaceError::Length(4_294_967_295),
             "area 4294967295 has more bytes than its pages hold",
