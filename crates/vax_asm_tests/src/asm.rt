@@ -79,6 +79,17 @@ fn fault_of(alloc: Global, source: &[u8]) -> (u32, u8) {
 }
 
 #[test]
+fn writes_signed_items(rt: HostRuntime) -> Result<(), Fail> {
+    let source = b".SIGNED_BYTE -1[3],X,127\n.SIGNED_WORD -32768,X\n.BLKA\n.BYTE 255\nX=-2\n";
+    let module = assemble(rt.alloc(), source)?;
+    let bytes = [
+        0xFF, 0xFF, 0xFF, 0xFE, 0x7F, 0x00, 0x80, 0xFE, 0xFF, 0, 0, 0, 0, 0xFF,
+    ];
+    assert!(rt; bytes_of(&module, 0) == bytes.as_slice());
+    Ok(())
+}
+
+#[test]
 fn tells_the_first_fault(rt: HostRuntime) -> Result<(), Fail> {
     let alloc = rt.alloc();
     // A macro that skips bytes: 127 are within a branch's reach, 128 aren't.
@@ -87,7 +98,7 @@ fn tells_the_first_fault(rt: HostRuntime) -> Result<(), Fail> {
     assert!(rt; fault_of(alloc, skip) == (0, 0));
     let far = b".MACRO SKIP N,?L\nBRB L\n.BLKB N\nL:\n.ENDM\nBEGIN: SKIP 128\n.END BEGIN\n";
     assert!(rt; fault_of(alloc, far) == (6, 7));
-    let rows: [(&[u8], (u32, u8)); 24] = [
+    let rows: [(&[u8], (u32, u8)); 35] = [
         (b"NOP\n?\n\x01\n", (2, 4)),
         (b"NOP\n\x01\n", (2, 1)),
         (b"FROB R1\n", (1, 2)),
@@ -112,6 +123,20 @@ fn tells_the_first_fault(rt: HostRuntime) -> Result<(), Fail> {
         (b"A: NOP\nX=X\nA:\n", (2, 4)),
         (b".BLKB 1048577\n", (1, 11)),
         (b".LONG X\nX=5/Y\nY=0\n", (2, 7)),
+        (b".SIGNED_BYTE 128\n", (1, 7)),
+        (
+            b".SIGNED_BYTE -1[3],-128,127\n.SIGNED_WORD -32768,32767\n",
+            (0, 0),
+        ),
+        (b"NOP\n.SIGNED_BYTE X\nX=128\n", (2, 7)),
+        (b"NOP\n.SIGNED_BYTE X\nX=-128\n", (0, 0)),
+        (b".SIGNED_WORD X\nX=-32769\n", (1, 7)),
+        (b".SIGNED_WORD X\nX:\n", (1, 4)),
+        (b".SIGNED_BYTE E\n", (1, 4)),
+        (b".SIGNED_WORD E+1\n.EXTERNAL E\n", (1, 4)),
+        (b".SUBTITLE a table of words\n.SBTTL the same\n", (0, 0)),
+        (b".BLKA X\n", (1, 5)),
+        (b".BLKA 2,3\n", (1, 3)),
     ];
     for (source, fault) in rows {
         assert!(rt; fault_of(alloc, source) == fault);

@@ -6,6 +6,7 @@ use std::process::Abort;
 use std::rc::Rc;
 use std::test::Fail;
 use vax_asm_data::*;
+use vax_asm_encode::DataKind;
 use vax_asm_first::{FaultKind, Origin, Refused, Standing};
 use vax_lex::{Token, Value, scan};
 use vax_word::Size;
@@ -15,7 +16,7 @@ const ORIGIN: Origin = Origin { line: 1, place: 1 };
 /// What a directive does, as the tests call it.
 #[derive(Clone, Copy)]
 enum Directive {
-    Data(Size),
+    Data(DataKind),
     Addresses,
     Text(TextForm),
     Space(Size),
@@ -39,7 +40,7 @@ fn stated(
     let operands = &tokens[1..];
     let line = Rc::new(alloc, text.to_vec(alloc)?)?;
     let done = match directive {
-        Directive::Data(size) => data(standing, alloc, ORIGIN, &line, size, operands),
+        Directive::Data(kind) => data(standing, alloc, ORIGIN, &line, kind, operands),
         Directive::Addresses => addresses(standing, alloc, ORIGIN, &line, operands),
         Directive::Text(form) => vax_asm_data::text(standing, alloc, ORIGIN, &line, form, operands),
         Directive::Space(size) => space(standing, alloc, ORIGIN, &line, size, operands),
@@ -84,9 +85,13 @@ fn test_alone(
     Ok(())
 }
 
-const BYTES: Directive = Directive::Data(Size::B);
+const BYTES: Directive = Directive::Data(DataKind::Number(Size::B));
 
-const WORDS: Directive = Directive::Data(Size::W);
+const WORDS: Directive = Directive::Data(DataKind::Number(Size::W));
+
+const SIGNED_BYTES: Directive = Directive::Data(DataKind::Signed(Size::B));
+
+const SIGNED_WORDS: Directive = Directive::Data(DataKind::Signed(Size::W));
 
 const LONGWORDS: Directive = Directive::Space(Size::L);
 
@@ -95,7 +100,11 @@ fn lays_out_items(rt: HostRuntime) -> Result<(), Fail> {
     let rows = [
         (BYTES, ".BYTE 1, -128, 255", Ok(3)),
         (WORDS, ".WORD 2[3], X", Ok(8)),
-        (Directive::Data(Size::Q), ".QUAD 1[0]", Ok(0)),
+        (
+            Directive::Data(DataKind::Number(Size::Q)),
+            ".QUAD 1[0]",
+            Ok(0),
+        ),
         (Directive::Addresses, ".ADDRESS X, Y+2", Ok(8)),
         (BYTES, ".BYTE", Err(FaultKind::Count)),
         (BYTES, ".BYTE 256, 1", Err(FaultKind::Range)),
@@ -104,13 +113,31 @@ fn lays_out_items(rt: HostRuntime) -> Result<(), Fail> {
         (BYTES, ".BYTE 1[N]", Err(FaultKind::Undefined)),
         (BYTES, ".BYTE 1[-1]", Err(FaultKind::Range)),
         (
-            Directive::Data(Size::L),
+            Directive::Data(DataKind::Number(Size::L)),
             ".LONG X+X/0",
             Err(FaultKind::Range),
         ),
         (BYTES, ".BYTE 1[X/0]", Err(FaultKind::Undefined)),
         (WORDS, ".WORD 1[600000]", Err(FaultKind::Large)),
         (Directive::Addresses, ".ADDRESS X[2]", Err(FaultKind::Form)),
+    ];
+    test_alone(&rt, rt.alloc(), &rows)
+}
+
+#[test]
+fn lays_out_signed_items(rt: HostRuntime) -> Result<(), Fail> {
+    let rows = [
+        (SIGNED_BYTES, ".SIGNED_BYTE -128, 127, X", Ok(3)),
+        (SIGNED_BYTES, ".SIGNED_BYTE -1[3]", Ok(3)),
+        (SIGNED_WORDS, ".SIGNED_WORD -32768, 32767[2]", Ok(6)),
+        (SIGNED_BYTES, ".SIGNED_BYTE 128", Err(FaultKind::Range)),
+        (SIGNED_BYTES, ".SIGNED_BYTE -129", Err(FaultKind::Range)),
+        (SIGNED_WORDS, ".SIGNED_WORD 32768", Err(FaultKind::Range)),
+        (SIGNED_WORDS, ".SIGNED_WORD -32769", Err(FaultKind::Range)),
+        (SIGNED_BYTES, ".SIGNED_BYTE .", Err(FaultKind::Form)),
+        (SIGNED_WORDS, ".SIGNED_WORD .+2", Err(FaultKind::Form)),
+        (SIGNED_BYTES, ".SIGNED_BYTE", Err(FaultKind::Count)),
+        (SIGNED_BYTES, ".SIGNED_BYTE 1[N]", Err(FaultKind::Undefined)),
     ];
     test_alone(&rt, rt.alloc(), &rows)
 }

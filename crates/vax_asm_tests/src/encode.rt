@@ -145,6 +145,37 @@ fn fills_fields(rt: HostRuntime) {
             number(u64::MAX),
         ),
         (
+            Field::Signed(Size::B),
+            (0, 0),
+            Value::Absolute(127),
+            number(127),
+        ),
+        (
+            Field::Signed(Size::B),
+            (0, 0),
+            Value::Absolute(128),
+            Err(FieldFault::Range),
+        ),
+        (
+            Field::Signed(Size::B),
+            (0, 0),
+            Value::Absolute(-128),
+            number(0x80),
+        ),
+        (
+            Field::Signed(Size::W),
+            (0, 0),
+            Value::Absolute(-32768),
+            number(0x8000),
+        ),
+        (
+            Field::Signed(Size::W),
+            (0, 0),
+            Value::Absolute(32768),
+            Err(FieldFault::Range),
+        ),
+        (Field::Signed(Size::W), (0, 0), place, Err(FieldFault::Form)),
+        (
             displacement,
             (0, 0),
             Value::Absolute(32768),

@@ -1,7 +1,7 @@
 //! What the first pass keeps.
 use std::rc::Rc;
 use std::test::Fail;
-use vax_asm_encode::Field;
+use vax_asm_encode::{DataKind, Field};
 use vax_asm_first::*;
 use vax_asm_sections::Piece;
 use vax_lex::{ExprError, Value, scan};
@@ -44,7 +44,7 @@ fn tells_expressions_where_they_stand(rt: HostRuntime) -> Result<(), Fail> {
         origin: Origin { line: 4, place: 2 },
         at: 8,
         content: Content::Data {
-            size: Size::B,
+            kind: DataKind::Number(Size::B),
             count: 1,
         },
         filling: Filling::Later(early.expression),

@@ -5,6 +5,7 @@ use std::alloc::Global;
 use std::process::Abort;
 use std::rc::Rc;
 use std::test::Fail;
+use vax_asm_encode::DataKind;
 use vax_asm_first::{
     Assignment, Content, FaultKind, Filling, Fixup, Origin, Refused, Standing, first_circle,
 };
@@ -304,7 +305,7 @@ fn tells_the_faults_of_sections(rt: HostRuntime) -> Result<(), Fail> {
 /// Whether a section holds a word alone, with a value.
 fn holds_word(pieces: &[Piece<Fixup>], value: Value) -> bool {
     let word = Content::Data {
-        size: Size::W,
+        kind: DataKind::Number(Size::W),
         count: 1,
     };
     match pieces {

@@ -110,7 +110,7 @@ fn value(rt: &impl Abort, alloc: Global, line: &str) -> Result<Result<Value, Exp
     Ok(evaluate(line.as_bytes(), tokens.as_slice(), &Symbols))
 }
 
-static LINES: [(&str, &str); 75] = [
+static LINES: [(&str, &str); 83] = [
     ("", ""),
     ("   ", ""),
     ("; all comment", ""),
@@ -195,6 +195,18 @@ static LINES: [(&str, &str); 75] = [
         "L: .IIF EQ 0, .ASCII /;/",
         "L ': .IIF EQ =0 ', .ASCII \"/;/",
     ),
+    // A comma that touches the name of a condition parts it from its argument.
+    (".IIF EQ,0,.ASCII /;/", ".IIF EQ ', =0 ', .ASCII \"/;/"),
+    (".IIF B,,.ASCII /;/", ".IIF B ', ', .ASCII \"/;/"),
+    (".IIF B,.ASCII /;/", ".IIF B ', .ASCII '/"),
+    (".IIF NB ,.ASCII /;/", ".IIF NB ', .ASCII \"/;/"),
+    (
+        ".IIF IDN, a,a,.ASCII /;/",
+        ".IIF IDN ', a ', a ', .ASCII \"/;/",
+    ),
+    (".IIF IDN,a,.ASCII /;/", ".IIF IDN ', a ', .ASCII '/"),
+    (".IIF NB<a>,.ASCII /;/", ".IIF NB '< a '> ', .ASCII \"/;/"),
+    (".IIF EQ-1,.ASCII /;/", ".IIF EQ '- =1 ', .ASCII \"/;/"),
     (
         "ABCDEFGHIJKLMNOPQRSTUVWXYZ012345",
         "ABCDEFGHIJKLMNOPQRSTUVWXYZ01234 =5",

@@ -12,6 +12,8 @@ mod disasm;
 #[cfg(test)]
 mod encode;
 #[cfg(test)]
+mod errors;
+#[cfg(test)]
 mod first;
 #[cfg(test)]
 mod instruction;

@@ -9,7 +9,7 @@ ghost use Rattle.vax_asm_values.specs.View.{written_of};
 use std::alloc::Global;
 use std::rc::Rc;
 use std::test::Fail;
-use vax_asm_encode::{Base, Operand, may_stand};
+use vax_asm_encode::{Base, DataKind, Operand, may_stand};
 use vax_asm_first::{Assignment, Content, Fixup, Origin, Standing, Told, Transfer, filling_of};
 use vax_asm_second::*;
 use vax_asm_sections::{Attributes, Piece};
@@ -82,7 +82,7 @@ fn put_longs(
     requires short { length text.now ≤ 1024 }
 {
     let content = Content::Data {
-        size: Size::L,
+        kind: DataKind::Number(Size::L),
         count,
     };
     put(standing, alloc, line, 4 * count, content, text)

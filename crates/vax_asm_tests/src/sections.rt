@@ -37,6 +37,24 @@ fn builds_sections(rt: HostRuntime) -> Result<(), Fail> {
     Ok(())
 }
 
+/// However many sections there are, each is found again, and the one without a name among them.
+#[test]
+fn finds_sections_by_their_names(rt: HostRuntime) -> Result<(), Fail> {
+    let alloc = rt.alloc();
+    let mut layout: Layout<u8> = Layout::new(alloc)?;
+    for number in 0..100u8 {
+        let name = [b'S', b'0' + number / 10, b'0' + number % 10];
+        layout.select(alloc, &name, NOTHING_SAID)?;
+        assert!(rt; layout.number() == 1 + number as usize);
+    }
+    layout.select(alloc, b"S42", NOTHING_SAID)?;
+    assert!(rt; layout.number() == 43);
+    layout.select(alloc, b"", NOTHING_SAID)?;
+    assert!(rt; layout.number() == 0);
+    assert!(rt; layout.sections().len() == 101);
+    Ok(())
+}
+
 #[test]
 fn refuses_what_is_too_long(rt: HostRuntime) -> Result<(), Fail> {
     let alloc = rt.alloc();

@@ -3,7 +3,7 @@ ghost use Rattle.std.specs.Prelude.{◌≤◌, length};
 
 use std::alloc::Global;
 use std::test::Fail;
-use vax_asm_encode::{Base, Operand};
+use vax_asm_encode::{Base, DataKind, Operand};
 use vax_asm_statement::*;
 use vax_isa::Narrow;
 use vax_lex::{ExprError, Token, Value, scan};
@@ -156,8 +156,22 @@ fn chooses_sizes(rt: HostRuntime) {
 fn reads_operands_of_directives(rt: HostRuntime) -> Result<(), Fail> {
     let alloc = rt.alloc();
     let directives = [
-        (".long", Some(Directive::Data(Size::L))),
+        (".long", Some(Directive::Data(DataKind::Number(Size::L)))),
         (".noshow", Some(Directive::Listing)),
+        (".SBTTL", Some(Directive::Listing)),
+        (".subtitle", Some(Directive::Listing)),
+        (".BLKL", Some(Directive::Space(Size::L))),
+        (".blka", Some(Directive::Space(Size::L))),
+        (".BYTE", Some(Directive::Data(DataKind::Number(Size::B)))),
+        (
+            ".SIGNED_BYTE",
+            Some(Directive::Data(DataKind::Signed(Size::B))),
+        ),
+        (
+            ".Signed_Word",
+            Some(Directive::Data(DataKind::Signed(Size::W))),
+        ),
+        (".SIGNED_LONG", None),
         ("MOVL", None),
     ];
     for (name, directive) in directives {

@@ -2,6 +2,7 @@
 //! instruction summary), and what names are found.
 
 use std::process::Abort;
+use std::test::Fail;
 use vax_isa::{Letter, OperandKind, Row, by_code, by_name};
 
 /// The names by opcode, sixteen a line. The empty text stands for a reserved opcode.
@@ -184,18 +185,55 @@ fn names_in_either_case(rt: HostRuntime) {
     test_codes(&rt, &rows);
 }
 
+/// Other names of instructions, and the names that their rows have.
+static ALIASES: [(&str, &str); 13] = [
+    ("BNEQU", "BNEQ"),
+    ("BEQLU", "BEQL"),
+    ("BGEQU", "BCC"),
+    ("BLSSU", "BCS"),
+    ("CLRF", "CLRL"),
+    ("CLRD", "CLRQ"),
+    ("CLRG", "CLRQ"),
+    ("MOVAF", "MOVAL"),
+    ("MOVAD", "MOVAQ"),
+    ("MOVAG", "MOVAQ"),
+    ("PUSHAF", "PUSHAL"),
+    ("PUSHAD", "PUSHAQ"),
+    ("PUSHAG", "PUSHAQ"),
+];
+
 #[test]
-fn aliases(rt: HostRuntime) {
+fn aliases(rt: HostRuntime) -> Result<(), Fail> {
+    for (alias, name) in &ALIASES {
+        // the row has the first name, whichever it was found by
+        let row = by_name(name);
+        assert!(rt; row.is_some_and(|row| row.name == *name), "{name}");
+        assert!(rt; by_name(alias) == row, "{alias}");
+        let small = alias.to_ascii_lowercase(rt.alloc())?;
+        assert!(rt; by_name(small.as_str()) == row, "{small}");
+    }
     let rows = [
         ("BNEQU", Some(0x12)),
         ("BEQLU", Some(0x13)),
         ("BGEQU", Some(0x1E)),
         ("BLSSU", Some(0x1F)),
         ("blssu", Some(0x1F)),
+        ("CLRF", Some(0xD4)),
+        ("clrd", Some(0x7C)),
+        ("ClrG", Some(0x7C)),
+        ("movaf", Some(0xDE)),
+        ("MOVAD", Some(0x7E)),
+        ("MOVAG", Some(0x7E)),
+        ("PUSHAF", Some(0xDF)),
+        ("pushad", Some(0x7F)),
+        ("PUSHAG", Some(0x7F)),
+        // what works on floating point alone is none of them
+        ("TSTF", None),
+        ("MOVF", None),
+        ("CLRH", None),
     ];
     test_codes(&rt, &rows);
-    // the row has the first name, whichever it was found by
-    assert!(rt; by_name("bgequ").map(|row| row.name) == Some("BCC"));
+    Ok(())
 }
 
 #[test]

@@ -4,6 +4,8 @@
 #[cfg(test)]
 mod arithmetic;
 #[cfg(test)]
+mod errors;
+#[cfg(test)]
 mod host;
 #[cfg(test)]
 mod isa;

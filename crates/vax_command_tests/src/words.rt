@@ -313,7 +313,7 @@ fn shows_help(rt: HostRuntime) -> Result<(), Fail> {
         ),
         ("build --help", &["--base <user|bare>", "--format <1|2>"]),
         ("list --help", &["--base <user|bare>"]),
-        ("console --help", &["--script <FILE>"]),
+        ("console --help", &["--script <FILE>", "CONTINUE and SHOW"]),
         (
             "work --help",
             &["Usage: vax work [OPTIONS]\n", "--seed <N>", "--size <N>"],

@@ -142,6 +142,24 @@ fn lists_evictions(rt: HostRuntime) -> Result<(), Fail> {
     Ok(())
 }
 
+/// Pages 0, 5 and 2 are served in this order and go in that of their addresses.
+#[test]
+fn evicts_in_the_order_of_pages(rt: HostRuntime) -> Result<(), Fail> {
+    let alloc = rt.alloc();
+    // MOVB #1,@#A00, MOVB #1,@#400 and HALT; all pages are made absent before the sixth attempt.
+    let program = [0x90, 1, 0x9F, 0, 10, 0, 0, 0x90, 1, 0x9F, 0, 4, 0, 0, 0];
+    let mut machine = machine(alloc, &program)?;
+    let schedule = read(alloc, b"each 6 all\n", &space(alloc, &[])?)?;
+    let mut file = MemPages::new(alloc, 8, 100, Vec::new(alloc))?;
+    let mut sink = MemSink::new(alloc, [100; 3], 100, Vec::new(alloc))?;
+    let end = run_up(&mut machine, &schedule, &mut file, &mut sink);
+    assert!(rt; end == RunEnd::Ended(Ending::Halt));
+    assert!(rt; [machine.counts().evicted, machine.counts().written] == [3, 2]);
+    let record = b"at 6 00000000\nat 6 00000400\nat 6 00000A00\n";
+    assert!(rt; sink.bytes(Chan::Record) == record.as_slice());
+    Ok(())
+}
+
 #[test]
 fn changes_registers(rt: HostRuntime) -> Result<(), Fail> {
     let alloc = rt.alloc();

@@ -38,6 +38,12 @@ fn tells_what_is_due(rt: HostRuntime) -> Result<(), Fail> {
         for (place, target) in targets.iter().enumerate() {
             assert!(rt; schedule.due(turn, place as u32) == *target);
         }
+        // all of them in one walk
+        let mut due = schedule.targets(turn);
+        for target in targets {
+            assert!(rt; due.next() == target);
+        }
+        assert!(rt; due.next().is_none());
     }
     Ok(())
 }
