@@ -1,6 +1,6 @@
 //! Tables of lines and expressions, with what the rules give for them.
 
-ghost use Rattle.std.specs.Prelude.{Some, None, pos, negsuc, codes, if◌then◌else◌};
+ghost use Rattle.std.specs.Prelude.{◌≡◌, Some, None, pos, negsuc, codes, if◌then◌else◌};
 ghost use Rattle.std.specs.Str.{bytes_eq};
 ghost use Rattle.vax_lex.specs.declared.value.Value.TheVariants.{Absolute, Section, External};
 
