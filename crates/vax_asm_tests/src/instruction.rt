@@ -1,5 +1,5 @@
 //! Statements of instructions. The bytes are the manual's.
-ghost use Rattle.std.specs.Prelude.{◌<◌, ◌+◌, ◌^◌, IfOk};
+ghost use Rattle.std.specs.Prelude.{◌<◌, ◌≤◌, ◌+◌, ◌^◌, IfOk};
 ghost use Rattle.vax_asm_encode.specs.Bytes.{HoldsIn};
 
 use std::alloc::Global;
@@ -61,12 +61,14 @@ fn number_in(
 }
 
 /// Where the field of an operand begins that begins at a place.
-fn field_at(operand: Operand, at: u32) -> u32 {
+fn field_at(operand: Operand, at: u32) -> u32
+    requires { at + 6 < 2 ^ 32 }
+    ensures { result ≤ at + 2 }
+{
     match operand {
         Operand::Branch => at,
-        Operand::Indexed(_, _) => at.saturating_add(2),
-        Operand::Literal | Operand::Register(_) | Operand::Immediate | Operand::Memory(_) =>
-            at.saturating_add(1),
+        Operand::Indexed(_, _) => at + 2,
+        Operand::Literal | Operand::Register(_) | Operand::Immediate | Operand::Memory(_) => at + 1,
     }
 }
 
