@@ -22,11 +22,13 @@ fn space(alloc: Global) -> Result<Space, Fail> {
 fn calls(rt: HostRuntime) -> Result<(), Fail> {
     let tables = Tables::new(rt.alloc(), &space(rt.alloc())?)?;
     let mut buffer = Buffer::new();
-    // how many walks found their page in the buffer
-    for (page, hits) in [(1, 0), (1, 1), (0x81, 1), (1, 1)] {
-        assert!(rt; buffer.walk(page, &tables) == Walk::Absent { prot: 12 });
-        assert!(rt; buffer.hits() == hits);
-    }
+    assert!(rt; buffer.walk(1, &tables) == Walk::Absent { prot: 12 });
+    assert!(rt; buffer.hits() == 0);
+    assert!(rt; buffer.walk(1, &tables) == Walk::Absent { prot: 12 });
+    assert!(rt; buffer.hits() == 1);
+    assert!(rt; buffer.walk(0x81, &tables) == Walk::Absent { prot: 12 });
+    assert!(rt; buffer.walk(1, &tables) == Walk::Absent { prot: 12 });
+    assert!(rt; buffer.hits() == 1);
     assert!(rt; buffer.walk(0, &tables) == Walk::Outside { length: false });
     assert!(rt; buffer.frame_at_once(1, 0, Access::Read) == None);
     Ok(())
