@@ -13,7 +13,7 @@ use vax_isa::{Letter, OperandKind, Row, by_code, by_name};
 use vax_lex::{Names, Value, evaluate, scan};
 
 /// Bytes and where they stand, with the length and the text of the instruction that they are.
-const FORMS: [(&[u8], u32, u8, &str); 17] = [
+const DECODED: [(&[u8], u32, u8, &str); 17] = [
     (&[0xD0, 5, 0x51, 0], 0x8000_0200, 3, "MOVL S^#^X05,R1"),
     (&[0], 0, 1, "HALT"),
     (&[0xD4, 0x5C], 0, 2, "CLRL AP"),
@@ -60,7 +60,7 @@ const FORMS: [(&[u8], u32, u8, &str); 17] = [
 
 #[test]
 fn decodes_forms(rt: HostRuntime) {
-    for (bytes, addr, length, text) in FORMS {
+    for (bytes, addr, length, text) in DECODED {
         let decoded = decode(bytes, addr);
         assert!(rt;
             matches!(&decoded, Some(d) if d.length == length && d.text.as_str() == text),
