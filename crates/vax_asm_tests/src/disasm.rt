@@ -13,48 +13,53 @@ use vax_isa::{Letter, OperandKind, Row, by_code, by_name};
 use vax_lex::{Names, Value, evaluate, scan};
 
 /// Bytes and where they stand, with the length and the text of the instruction that they are.
-const DECODED: [(&[u8], u32, u8, &str); 17] = [
-    (&[0xD0, 5, 0x51, 0], 0x8000_0200, 3, "MOVL S^#^X05,R1"),
-    (&[0], 0, 1, "HALT"),
-    (&[0xD4, 0x5C], 0, 2, "CLRL AP"),
-    (&[0xB0, 0x8F, 0x34, 0x12, 0x6D], 0, 5, "MOVW I^#^X1234,(FP)"),
+const DECODED: [(&[u8], u32, u8, &[u8]); 17] = [
+    (&[0xD0, 5, 0x51, 0], 0x8000_0200, 3, b"MOVL S^#^X05,R1"),
+    (&[0], 0, 1, b"HALT"),
+    (&[0xD4, 0x5C], 0, 2, b"CLRL AP"),
+    (
+        &[0xB0, 0x8F, 0x34, 0x12, 0x6D],
+        0,
+        5,
+        b"MOVW I^#^X1234,(FP)",
+    ),
     (
         &[0x7D, 0x8F, 1, 2, 3, 4, 5, 6, 7, 0xF8, 0x7E],
         0,
         11,
-        "MOVQ I^#^XF807060504030201,-(SP)",
+        b"MOVQ I^#^XF807060504030201,-(SP)",
     ),
-    (&[0x90, 0x81, 0x92], 0, 3, "MOVB (R1)+,@(R2)+"),
+    (&[0x90, 0x81, 0x92], 0, 3, b"MOVB (R1)+,@(R2)+"),
     (
         &[0x17, 0x9F, 0x78, 0x56, 0x34, 0x92],
         0,
         6,
-        "JMP @#^X92345678",
+        b"JMP @#^X92345678",
     ),
-    (&[0xD5, 0xA1, 0xFB], 0, 3, "TSTL B^-5(R1)"),
-    (&[0xD5, 0xB1, 0x7F], 0, 3, "TSTL @B^127(R1)"),
-    (&[0xD5, 0xCF, 0, 0x80], 0, 4, "TSTL W^-32768(PC)"),
+    (&[0xD5, 0xA1, 0xFB], 0, 3, b"TSTL B^-5(R1)"),
+    (&[0xD5, 0xB1, 0x7F], 0, 3, b"TSTL @B^127(R1)"),
+    (&[0xD5, 0xCF, 0, 0x80], 0, 4, b"TSTL W^-32768(PC)"),
     (
         &[0xD5, 0xFB, 0, 0, 0, 0x80],
         0,
         6,
-        "TSTL @L^-2147483648(R11)",
+        b"TSTL @L^-2147483648(R11)",
     ),
     (
         &[0xD5, 0x4B, 0xFB, 0, 0, 0, 0x80],
         0,
         7,
-        "TSTL @L^-2147483648(R11)[R11]",
+        b"TSTL @L^-2147483648(R11)[R11]",
     ),
-    (&[0xD5, 0x42, 0x61], 0, 3, "TSTL (R1)[R2]"),
-    (&[0x11, 0xFE], 0, 2, "BRB ^X00000000"),
-    (&[0x31, 0xFB, 0xFF], 0, 3, "BRW ^XFFFFFFFE"),
-    (&[0x1F, 0x10], 0x8000_0200, 2, "BCS ^X80000212"),
+    (&[0xD5, 0x42, 0x61], 0, 3, b"TSTL (R1)[R2]"),
+    (&[0x11, 0xFE], 0, 2, b"BRB ^X00000000"),
+    (&[0x31, 0xFB, 0xFF], 0, 3, b"BRW ^XFFFFFFFE"),
+    (&[0x1F, 0x10], 0x8000_0200, 2, b"BCS ^X80000212"),
     (
         &[0xE0, 3, 0x52, 0xFC],
         0xFFFF_FFFE,
         4,
-        "BBS S^#^X03,R2,^XFFFFFFFE",
+        b"BBS S^#^X03,R2,^XFFFFFFFE",
     ),
 ];
 
@@ -63,8 +68,8 @@ fn decodes_forms(rt: HostRuntime) {
     for (bytes, addr, length, text) in DECODED {
         let decoded = decode(bytes, addr);
         assert!(rt;
-            matches!(&decoded, Some(d) if d.length == length && d.text.as_str() == text),
-            "{text}"
+            matches!(&decoded, Some(d) if d.length == length && d.text.as_str().as_bytes() == text),
+            "the instruction of {length} bytes at {addr:08X}"
         );
     }
 }
