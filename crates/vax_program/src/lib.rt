@@ -1,6 +1,7 @@
 //! From the files of a program to its image.
 //!
-//! A program is an image that stands alone in its file, or one to eight sources, each of which is assembled and which are then linked.
+//! A program is an image or an executable that stands alone in its file, or one to eight sources, each of which is assembled and which are
+//! then linked.
 //! [`read_parts`] finds which, or the first fault of a source or of an image's file; [`link_parts`] gives the image, or what the linker found.
 #![tactic(auto)]
 

@@ -4,19 +4,27 @@ ghost use Rattle.std.specs.Prelude.{◌≡◌, ◌≤◌, ◌+◌, ◌∷◌, []
 ghost use Rattle.vax_image.specs.Image.{IsImage};
 ghost use Rattle.vax_image.specs.Reading.{image_of};
 ghost use Rattle.vax_module.specs.Formed.{Formed};
-ghost use Rattle.vax_program.specs.Program.{as_parts, from_image, is_image, modules_of, parts_of, same_base};
+ghost use Rattle.vax_elf.specs.Reading as elf;
+ghost use Rattle.vax_program.specs.Program.{as_parts, for_base, from_executable, from_image, is_image, is_linked, modules_of, parts_of, same_base};
 ghost use Rattle.vax_program.specs.View.{Answers, IsSound, base_of, parts_seen, texts};
 
 use crate::types::{Parts, ProgramError, Refusal};
 use std::alloc::Global;
 use vax_asm::{AsmError, assemble};
-use vax_image::{BASE, Base, ImageError, read};
+use vax_elf::{ElfError, is_executable};
+use vax_image::{BASE, Base, Image, ImageError, read};
 use vax_module::Module;
 
 /// Where the base stands in an image's file.
 const BASE_PLACE: u32 = 6;
 
-/// An image stands among several files.
+/// Where an executable says at which address it begins.
+const ENTRY_PLACE: u32 = 24;
+
+/// An executable is one for another base.
+const OTHER_BASE: u8 = 34;
+
+/// A linked program stands among several files.
 const NOT_ALONE: u8 = 11;
 
 /// Whether a file is one of an image, by its first four bytes.
@@ -24,6 +32,13 @@ fn is_image(file: &[u8]) -> bool
     ensures { result ≡ is_image file.now }
 {
     file.starts_with(b"VAXI")
+}
+
+/// Whether a file is one of a linked program.
+fn is_linked(file: &[u8]) -> bool
+    ensures { result ≡ is_linked file.now }
+{
+    is_image(file) || is_executable(file)
 }
 
 fn same_base(a: Base, b: Base) -> bool
@@ -36,6 +51,19 @@ fn same_base(a: Base, b: Base) -> bool
     }
 }
 
+/// A linked program, if it is one for this base; else a fault at the field that tells its base.
+fn for_base(base: Base, place: u32, kind: u8, image: Image) -> Result<Parts, ProgramError>
+    requires { IsImage image }
+    ensures parts { Answers parts_seen result (for_base base place kind image) }
+    ensures sound { IfOk result IsSound }
+    ensures base { IfOk result (λ p. base_of p ≡ base) }
+{
+    if same_base(base, image.base) {
+        return Ok(Parts::Image(image));
+    }
+    Err(ProgramError::Refused(Refusal::Image { place, kind }))
+}
+
 /// The image in a file.
 fn read_image(alloc: Global, base: Base, file: &[u8]) -> Result<Parts, ProgramError>
     ensures parts { Answers parts_seen result (from_image base (image_of file.now)) }
@@ -43,11 +71,7 @@ fn read_image(alloc: Global, base: Base, file: &[u8]) -> Result<Parts, ProgramEr
     ensures base { IfOk result (λ p. base_of p ≡ base) }
 {
     match read(alloc, file) {
-        Ok(image) if same_base(base, image.base) => Ok(Parts::Image(image)),
-        Ok(_) => Err(ProgramError::Refused(Refusal::Image {
-            place: BASE_PLACE,
-            kind: BASE,
-        })),
+        Ok(image) => for_base(base, BASE_PLACE, BASE, image),
         Err(ImageError::Fault { place, kind }) => Err(ProgramError::Refused(Refusal::Image {
             place,
             kind,
@@ -56,12 +80,28 @@ fn read_image(alloc: Global, base: Base, file: &[u8]) -> Result<Parts, ProgramEr
     }
 }
 
+/// The image in an executable.
+fn read_executable(alloc: Global, base: Base, file: &[u8]) -> Result<Parts, ProgramError>
+    ensures parts { Answers parts_seen result (from_executable base (elf.image_of file.now)) }
+    ensures sound { IfOk result IsSound }
+    ensures base { IfOk result (λ p. base_of p ≡ base) }
+{
+    match vax_elf::read(alloc, file) {
+        Ok(image) => for_base(base, ENTRY_PLACE, OTHER_BASE, image),
+        Err(ElfError::Fault { place, kind }) => Err(ProgramError::Refused(Refusal::Image {
+            place,
+            kind: kind.code(),
+        })),
+        Err(ElfError::NoMemory) => Err(ProgramError::NoMemory),
+    }
+}
+
 /// The module of a source among several files.
 fn module_of(alloc: Global, file: u8, source: &[u8]) -> Result<Module, ProgramError>
     ensures modules { Answers (λ m. m ∷ []) result (modules_of file (source.now ∷ [])) }
     ensures formed { IfOk result Formed }
 {
-    if is_image(source) {
+    if is_linked(source) {
         return Err(ProgramError::Refused(Refusal::Image {
             place: 0,
             kind: NOT_ALONE,
@@ -96,10 +136,11 @@ fn read_sources(alloc: Global, first: u8, files: &[Vec<u8>]) -> Result<Vec<Modul
     Ok(modules)
 }
 
-/// The parts of a program for a base, whose files are numbered from `first` on: an image that stands alone, or sources.
+/// The parts of a program for a base, whose files are numbered from `first` on: an image or an executable that
+/// stands alone, or sources.
 ///
-/// [`Refusal::Source`] with the first fault of the first source that has one; [`Refusal::Image`] with the first fault of an image's file, also
-/// where it is one for another base, or where it stands among several files; [`ProgramError::NoMemory`] where memory is refused.
+/// [`Refusal::Source`] with the first fault of the first source that has one; [`Refusal::Image`] with the first fault of an
+/// image's or an executable's file, also where it is one for another base, or where it stands among several files; [`ProgramError::NoMemory`] where memory is refused.
 #[tactic(auto, unfolding(crate::specs::Program::parts_of))]
 pub fn read_parts(
     alloc: Global,
@@ -117,6 +158,9 @@ pub fn read_parts(
     if let [file] = files {
         if is_image(file) {
             return read_image(alloc, base, file);
+        }
+        if is_executable(file) {
+            return read_executable(alloc, base, file);
         }
     }
     let list = read_sources(alloc, first, files)?;

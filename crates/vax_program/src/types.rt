@@ -8,7 +8,7 @@ use vax_space::Bytes;
 /// What the files of a program are.
 #[derive(Drop)]
 pub enum Parts {
-    /// An image that stands alone.
+    /// A linked program that stands alone.
     Image(Image),
     /// Sources, 1 to 8, each assembled, which are linked for a base.
     Modules { base: Base, list: Vec<Module> },
@@ -23,7 +23,7 @@ pub enum Refusal {
     /// What the linker found, by its number: 1 and 2 with a name, 5 with the address of the field.
     #[error("link fault {kind}")]
     Link { kind: u8, name: Bytes, address: u32 },
-    /// The first fault of an image's file, by the offset of its field and its kind.
+    /// The first fault of an image's or an executable's file, by the offset of its field and its kind: 1 to 12 and 20 to 34.
     #[error("image place {place} fault {kind}")]
     Image { place: u32, kind: u8 },
 }
