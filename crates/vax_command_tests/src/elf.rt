@@ -74,14 +74,17 @@ fn has_areas(image: &Image, file: &[u8]) -> bool {
     let [text, data] = image.areas.as_slice() else {
         return false;
     };
+    let (Some(first), Some(second)) = (file.get(0x200..0x400), file.get(0x400..)) else {
+        return false;
+    };
     text.first == 1
         && text.pages == 1
         && text.prot == 15
-        && text.bytes.as_slice() == &file[0x200..0x400]
+        && text.bytes.as_slice() == first
         && data.first == 2
         && data.pages == 3
         && data.prot == 4
-        && data.bytes.as_slice() == &file[0x400..]
+        && data.bytes.as_slice() == second
 }
 
 #[test]
