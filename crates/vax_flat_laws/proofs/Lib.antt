@@ -1,0 +1,11 @@
+pub mod Longwords
+pub mod Entering
+pub mod Handling
+pub mod Changing
+pub mod Requesting
+pub mod Processing
+pub mod Stacking
+pub mod Queueing
+pub mod Fielding
+pub mod Fitting
+pub mod Concluding

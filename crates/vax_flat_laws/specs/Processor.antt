@@ -1,0 +1,29 @@
+-- The registers of the processor, as MTPR leaves them and MFPR reads them (VAX Architecture Reference Manual, processor registers).
+use Rattle.std.specs.Prelude.{◌≡◌, ◌≢◌, ℕ, ◌/◌, ◌%◌, ◌^◌, List, [], ◌∷◌}
+use Rattle.vax_word.specs.declared.Psl.{Psl}
+use Rattle.vax_flat.specs.State.{State}
+use Rattle.vax_flat.specs.Accesses.{Accesses, Leaf}
+use Rattle.vax_flat.specs.System.{set_processor, get_processor}
+
+-- a value is written to one register, and then another is read, of which the value alone counts
+abbrev pub read_after : ℕ → ℕ → ℕ → State → (ℕ → Accesses Leaf) → Accesses Leaf
+read_after written value read s next = set_processor written value s (λ how t. get_processor read t (λ x u. next x))
+
+-- the registers that can be read: the stack pointers, IPL, SISR, ICCS, RXCS, RXDB and TXCS
+abbrev pub readable : List ℕ
+readable = 0 ∷ 1 ∷ 2 ∷ 3 ∷ 4 ∷ 18 ∷ 21 ∷ 24 ∷ 32 ∷ 33 ∷ 34 ∷ []
+
+-- those that can be written: the stack pointers, IPL, SIRR, SISR, ICCS, RXCS, TXCS, TXDB, TBIA and TBIS
+abbrev pub writable : List ℕ
+writable = 0 ∷ 1 ∷ 2 ∷ 3 ∷ 4 ∷ 18 ∷ 20 ∷ 21 ∷ 24 ∷ 32 ∷ 34 ∷ 35 ∷ 57 ∷ 58 ∷ []
+
+-- a number is none of these
+abbrev pub IsNoneOf : List ℕ → ℕ → Type 0
+IsNoneOf [] number = Unit {0}
+IsNoneOf (n ∷ ns) number = (number ≢ n) × IsNoneOf ns number
+
+-- a status with another priority, and all else as it was
+pub record IsAtLevel (level : ℕ) (before after : Psl) : Type 0 where
+  pub level_is : after.0 / 2 ^ 16 % 2 ^ 5 ≡ level
+  pub low : after.0 % 2 ^ 16 ≡ before.0 % 2 ^ 16
+  pub high : after.0 / 2 ^ 21 ≡ before.0 / 2 ^ 21
