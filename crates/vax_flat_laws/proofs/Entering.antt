@@ -160,7 +160,7 @@ entered_comes values vector interrupt psl s next memory x end m fit few refuses 
 
 -- ---- the vector
 
-vector_read : (offset : ℕ) (s : State) (next : Option ℕ → State → Accesses Leaf) (memory : List Area) (w : Option Violation) → violation memory (2 ^ 31 + offset) 4 0 Read ≡ w →
+pub vector_read : (offset : ℕ) (s : State) (next : Option ℕ → State → Accesses Leaf) (memory : List Area) (w : Option Violation) → violation memory (2 ^ 31 + offset) 4 0 Read ≡ w →
     outcome_of (vectored offset s next) memory ≡ chosen w (outcome_of (next None s) memory) (outcome_of (next (Some (vector_at memory offset)) s) memory)
 unfolding vectored asked read_in outcome_of
 vector_read offset s next memory (Some w) e = ap (λ x. outcome_of (if is_allowed x then read_in (2 ^ 31 + offset) 4 0 s (λ vector u. next (Some vector) u) else next None s) memory) e

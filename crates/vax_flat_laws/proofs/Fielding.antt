@@ -1,13 +1,13 @@
 -- Fields that are put and read back, and compared.
-use Rattle.std.proofs.Common.{◌≡◌, ◌≢◌, ℕ, suc, zero, ◌+◌, ◌-◌, ◌*◌, ◌/◌, ◌%◌, ◌^◌, ◌<◌, ◌≤◌, ◌⊎◌, ◌==◌, Bool, true, false, List, [], ◌∷◌, ◌++◌, length, take, drop, get_or, refl, ap, sym, subst, ◌∙◌, arith, inl, inr, length-append, length-drop, length-take}
+use Rattle.std.proofs.Common.{◌≡◌, ◌≢◌, ℕ, suc, zero, ◌+◌, ◌-◌, ◌*◌, ◌/◌, ◌%◌, ◌^◌, ◌<◌, ◌≤◌, ◌⊎◌, ◌==◌, Bool, true, false, List, [], ◌∷◌, ◌++◌, length, take, drop, get_or, refl, ap, sym, subst, ◌∙◌, arith, inl, inr, length-append, length-drop, length-take, None}
 use Rattle.std.specs.Prelude.{replicate, nat_le, if◌then◌else◌}
 use Rattle.std.specs.Int.{from_bool}
 use Rattle.std.proofs.Math.Nat.{mod-eq_of_lt, pow-suc}
-use Rattle.std.proofs.lemmas.Bool.{cases_Bool, cases_eq, eq-eqb, ne_eqb}
+use Rattle.std.proofs.lemmas.Bool.{cases_Bool, cases_eq, eq-eqb, ne_eqb, le-ltb}
 use Rattle.std.proofs.lemmas.Bool.Decides.{nat_tests}
 use Rattle.std.proofs.lemmas.List.{length-set, get_or-set_same, get_or-set_other}
 use Rattle.std.proofs.lemmas.Nat.{mod-pow-add}
-use Rattle.vax_space.specs.declared.Access.TheVariants.{Read}
+use Rattle.vax_space.specs.declared.Access.TheVariants.{Read, Write}
 use Rattle.vax_space.specs.declared.Area.{Area}
 use Rattle.vax_space.specs.Reference.{violation}
 use Rattle.vax_word.specs.declared.Size.TheVariants.{L}
@@ -19,17 +19,19 @@ use Rattle.vax_flat.specs.declared.Flow.TheVariants as flow
 use Rattle.vax_flat.specs.declared.Holder.{Holder}
 use Rattle.vax_flat.specs.declared.Operand.{Operand}
 use Rattle.vax_flat.specs.declared.Operand.TheVariants as operand
-use Rattle.vax_flat.specs.Memory.{byte_at, number}
+use Rattle.vax_flat.specs.Memory.{byte_at, number, written, IsWhole}
 use Rattle.vax_flat.specs.State.{State, register, with_register, with_conditions, mode}
 use Rattle.vax_flat.specs.Accesses.{Accesses, Leaf, Went}
-use Rattle.vax_flat.specs.Outcome.{Ends, Raised, outcome_of}
-use Rattle.vax_flat.specs.Operand.{read_at, register_value}
+use Rattle.vax_flat.specs.Outcome.{Ends, Raised, outcome_of, unless_violated, Outcome}
+use Rattle.vax_flat.specs.Operand.{read_at, register_value, write_at, plus}
 use Rattle.vax_flat.specs.Rows.{value_at, stored, with_value, answered, settled, flow_of, carry_of}
-use Rattle.vax_flat.specs.Field.{bits_of, number_of, part, with_part, holder, is_reserved_field, held, put, field_bits, widened, extracted, compared_field, inserted}
+use Rattle.vax_flat.specs.Field.{bits_of, number_of, part, with_part, holder, is_reserved_field, held, put, field_bits, widened, extracted, compared_field, inserted, bytes_before}
 use Rattle.vax_flat.specs.Step.{leaf}
 use Rattle.vax_flat_laws.specs.Places.{put_and_extracted}
-use Rattle.vax_flat_laws.proofs.Longwords.{decided}
+use Rattle.vax_flat_laws.proofs.Longwords.{decided, allowed, bytes_pow, number_written}
 use Rattle.vax_flat_laws.proofs.Queueing.{codes_set}
+use Rattle.std.proofs.Math.Path.{fun_ext}
+use Rattle.vax_flat.proofs.Memory.{byte_at-written}
 
 -- ---- bits
 
@@ -146,34 +148,36 @@ width_of position size = if nat_le (position + size) 32 then 4 else 8
 width_is : (position size : ℕ) → (width_of position size ≡ 4) ⊎ (width_of position size ≡ 8)
 width_is position size = elim (cases_Bool (nat_le (position + size) 32)) [ inl so ↦ inl (rw so refl) | inr isnt ↦ inr (rw isnt refl) ]
 
-pow_bytes : (width : ℕ) → (width ≡ 4) ⊎ (width ≡ 8) → 256 ^ width ≡ 2 ^ (8 * width)
-pow_bytes width (inl e) = rw e refl
-pow_bytes width (inr e) = rw e refl
-
--- what holds a field in registers
-module _ (source position size n width : ℕ) (s : State) (full : length s.core.regs ≡ 16) (few : n < 15) (is : (width ≡ 4) ⊎ (width ≡ 8)) (fits : position + size ≤ 8 * width) where
+-- what holds a field, as a number
+module _ (source first size width x : ℕ) (fits : first + size ≤ 8 * width) where
   abbrev old_bits : List Bool
-  old_bits = bits_of (8 * width) (register_value width n s)
+  old_bits = bits_of (8 * width) x
 
   abbrev new_bits : List Bool
-  new_bits = with_part position (bits_of size source) old_bits
+  new_bits = with_part first (bits_of size source) old_bits
 
-  room : position + length (bits_of size source) ≤ length old_bits
-  room = rw (length_of size source, length_of (8 * width) (register_value width n s)) fits
+  room : first + length (bits_of size source) ≤ length old_bits
+  room = rw (length_of size source, length_of (8 * width) x) fits
 
   long : length new_bits ≡ 8 * width
-  long = length_with position (bits_of size source) old_bits room ∙ length_of (8 * width) (register_value width n s)
+  long = length_with first (bits_of size source) old_bits room ∙ length_of (8 * width) x
 
-  small : number_of new_bits < 256 ^ width
-  small = subst (λ x. number_of new_bits < x) (ap (λ k. 2 ^ k) long ∙ sym (pow_bytes width is)) (number_below new_bits)
+  pub new_small : number_of new_bits < 256 ^ width
+  new_small = subst (λ y. number_of new_bits < y) (ap (λ k. 2 ^ k) long ∙ sym (bytes_pow width)) (number_below new_bits)
 
-  pub bits_back : part position size (bits_of (8 * width) (register_value width n (with_value width n (number_of new_bits) s))) ≡ bits_of size source
-  bits_back =
-      ap (λ v. part position size (bits_of (8 * width) v)) (value_back width n (number_of new_bits) s full few is small)
-      ∙ (ap (λ k. part position size (bits_of k (number_of new_bits))) (sym long)
-      ∙ (ap (part position size) (bits_of_number new_bits)
-      ∙ (ap (λ k. part position k new_bits) (sym (length_of size source))
-      ∙ part_back position (bits_of size source) old_bits room)))
+  pub new_part : part first size (bits_of (8 * width) (number_of new_bits)) ≡ bits_of size source
+  new_part =
+      ap (λ k. part first size (bits_of k (number_of new_bits))) (sym long)
+      ∙ (ap (part first size) (bits_of_number new_bits)
+      ∙ (ap (λ k. part first k new_bits) (sym (length_of size source))
+      ∙ part_back first (bits_of size source) old_bits room))
+
+bits_back : (source position size n width : ℕ) (s : State) → length s.core.regs ≡ 16 → n < 15 → (width ≡ 4) ⊎ (width ≡ 8) → position + size ≤ 8 * width →
+    part position size (bits_of (8 * width) (register_value width n (with_value width n (number_of (with_part position (bits_of size source) (bits_of (8 * width) (register_value width n s)))) s))) ≡ bits_of size source
+bits_back source position size n width s full few is fits =
+    let x = register_value width n s in
+    ap (λ v. part position size (bits_of (8 * width) v)) (value_back width n _ s full few is (new_small source position size width x fits))
+    ∙ new_part source position size width x fits
 
 reserved_room : (position size n : ℕ) → is_reserved_field position size (operand.FieldRegister n) ≡ false → size ≢ 0 → position + size ≤ 8 * width_of position size
 unfolding is_reserved_field
@@ -194,6 +198,56 @@ field_read source position size n s next full few fine =
           (ap (λ bits. next (widened false bits)) (bits_back source position size n (width_of position size) s full few (width_is position size) (reserved_room position size n fine some))
           ∙ ap next (widened_zero size source))
     ]
+
+-- ---- memory
+
+module _ (source position size addr : ℕ) (s : State) (memory end : List Area) (x : Leaf) (next : ℕ → Accesses Leaf) (whole : IsWhole memory) (some : 0 < size) (few : size ≤ 32)
+    (came : outcome_of (put_and_extracted source position size (operand.Memory addr) s next) memory ≡ Ends x end) where
+  abbrev place : ℕ
+  place = plus addr (bytes_before position)
+
+  abbrev bytes : ℕ
+  bytes = (position % 8 + size + 7) / 8
+
+  abbrev before_it : ℕ
+  before_it = number (byte_at memory) place bytes
+
+  abbrev stored_number : ℕ
+  stored_number = number_of (with_part (position % 8) (bits_of size source) (bits_of (8 * bytes) before_it))
+
+  abbrev behind_it : List Area
+  behind_it = written memory place bytes stored_number
+
+  abbrev reading : Outcome Leaf
+  reading = outcome_of (next (widened false (part (position % 8) size (bits_of (8 * bytes) (number (byte_at behind_it) place bytes))))) behind_it
+
+  puts : unless_violated (violation memory place bytes (mode s) Read) (unless_violated (violation memory place bytes (mode s) Write) (unless_violated (violation behind_it place bytes (mode s) Read) reading)) ≡ Ends x end
+  unfolding inserted field_bits held put holder value_at stored read_at write_at is_reserved_field outcome_of
+  puts = rw (le-ltb 32 size few, ne_eqb size 0 (λ h. omega arith)) at came
+
+  c0 : (violation memory place bytes (mode s) Read ≡ None) × (unless_violated (violation memory place bytes (mode s) Write) (unless_violated (violation behind_it place bytes (mode s) Read) reading) ≡ Ends x end)
+  c0 = allowed (violation memory place bytes (mode s) Read) _ x end puts
+
+  c1 : (violation memory place bytes (mode s) Write ≡ None) × (unless_violated (violation behind_it place bytes (mode s) Read) reading ≡ Ends x end)
+  c1 = allowed (violation memory place bytes (mode s) Write) _ x end c0.1
+
+  c2 : (violation behind_it place bytes (mode s) Read ≡ None) × (reading ≡ Ends x end)
+  c2 = allowed (violation behind_it place bytes (mode s) Read) _ x end c1.1
+
+  fits_in : position % 8 + size ≤ 8 * bytes
+  fits_in = omega arith
+
+  number_there : number (byte_at behind_it) place bytes ≡ stored_number
+  number_there =
+      ap (λ f. number f place bytes) (fun_ext λ here. byte_at-written memory place bytes stored_number here (mode s) Write whole c1.0)
+      ∙ (number_written (byte_at memory) place bytes stored_number (omega arith) (omega arith)
+      ∙ mod-eq_of_lt (new_small source (position % 8) size bytes before_it fits_in))
+
+  pub memory_read : outcome_of (next (source % 2 ^ size)) behind_it ≡ Ends x end
+  memory_read =
+      ap (λ value. outcome_of (next value) behind_it) (sym (widened_zero size source))
+      ∙ (ap (λ bits. outcome_of (next (widened false bits)) behind_it) (sym (new_part source (position % 8) size bytes before_it fits_in))
+      ∙ (ap (λ n. outcome_of (next (widened false (part (position % 8) size (bits_of (8 * bytes) n)))) behind_it) (sym number_there) ∙ c2.1))
 
 -- ---- CMPV
 

@@ -17,7 +17,7 @@ use Rattle.vax_flat.specs.System.{pointer, is_refused, return_from, return_excep
 use Rattle.vax_flat.specs.Step.{leaf}
 use Rattle.vax_flat.specs.Returned.{AreThere, behind}
 use Rattle.vax_flat_laws.specs.Machines.{IsMachine, AreWords, without}
-use Rattle.vax_flat_laws.specs.Handlers.{vector_at, ends_there, asks_interrupt_stack, level_by, stack_by, IsAtHandler, IsConsistent, Returns}
+use Rattle.vax_flat_laws.specs.Handlers.{vector_at, ends_there, asks_interrupt_stack, level_by, stack_by, IsAtHandler, IsConsistent, Returns, MayFollow}
 use Rattle.vax_flat_laws.proofs.Longwords.{behind_more, behind_is, there_behind}
 use Rattle.vax_flat_laws.proofs.Entering.{IsEntered, IsRaised, IsInterrupted, Refuses, taken, goes_to, taken_full, taken_others, served_untouched, served_machine, delivery_comes, interrupt_comes}
 
@@ -172,25 +172,20 @@ unfolding return_exception return_from read_at outcome_of
 rei_comes memory h pc bits there fine = rw (there.0, there.1, there.2.0, there.2.1, fine) refl
 
 -- a consistent status isn't refused to a handler that may go back to it
-pub record MayReturn (old new : Psl) : Type 0 where
-  pub inner : mode_of old ≤ mode_of new
-  pub stack : on_interrupt_stack new ≡ true → on_interrupt_stack old ≡ true
-  pub level : ipl_of new ≤ ipl_of old
-
 pub may_return : (current previous level : ℕ) (interrupt : Bool) (new : Psl) → current < 4 → previous < 4 → level < 32 → current ≤ mode_of new → (on_interrupt_stack new ≡ true → interrupt ≡ true) → ipl_of new ≤ level →
-    MayReturn (status current previous level interrupt) new
+    MayFollow (status current previous level interrupt) new
 may_return c p l i new hc hp hl inner stack level =
     let f = status_fields c p l i hc hp hl in
     record {
-      inner = subst (λ x. x ≤ mode_of new) (sym f.current_is) inner;
+      mode = subst (λ x. x ≤ mode_of new) (sym f.current_is) inner;
       stack = λ h. f.stack_is ∙ stack h;
       level = subst (λ x. ipl_of new ≤ x) (sym f.level_is) level;
     }
 
-is_taken_back : (old new : Psl) → IsConsistent new → MayReturn old new → is_refused old new ≡ false
+pub is_taken_back : (old new : Psl) → IsConsistent new → MayFollow old new → is_refused old new ≡ false
 unfolding is_refused
 is_taken_back old new c may =
-    let inner : nat_lt (mode_of new) (mode_of old) ≡ false = le-ltb (mode_of new) (mode_of old) may.inner in
+    let inner : nat_lt (mode_of new) (mode_of old) ≡ false = le-ltb (mode_of new) (mode_of old) may.mode in
     let previous : nat_lt (prev_of new) (mode_of new) ≡ false = le-ltb (prev_of new) (mode_of new) c.previous in
     let level : nat_lt (ipl_of old) (ipl_of new) ≡ false = le-ltb (ipl_of old) (ipl_of new) may.level in
     rw (inner, previous, level, stack_fits, stack_sound, level_sound, c.middle_clear, c.between_clear, c.high_clear, c.trace_clear, c.part_clear) refl
@@ -214,7 +209,7 @@ is_taken_back old new c may =
 
 -- a handler on another stack, or on the same, once it has taken its values off
 module _ (s : State) (values : List ℕ) (memory : List Area) (handler to bottom current previous level : ℕ) (interrupt : Bool) (full : length s.core.regs ≡ 16) (five : length s.core.stacks ≡ 5) (small : bottom < 2 ^ 32)
-    (hc : current < 4) (hp : previous < 4) (hl : level < 32) (goes : cond interrupt 4 current ≡ to) (consistent : IsConsistent s.core.psl) (may : MayReturn (status current previous level interrupt) s.core.psl)
+    (hc : current < 4) (hp : previous < 4) (hl : level < 32) (goes : cond interrupt 4 current ≡ to) (consistent : IsConsistent s.core.psl) (may : MayFollow (status current previous level interrupt) s.core.psl)
     (there : AreThere memory current bottom (reverse (s.core.psl.0 ∷ register s 15 ∷ values) ++ [])) (above : behind (suc (suc (length values))) bottom ≡ register (taken to s) 14) where
   abbrev new : Psl
   new = status current previous level interrupt

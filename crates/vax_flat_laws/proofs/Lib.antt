@@ -2,9 +2,11 @@ pub mod Longwords
 pub mod Entering
 pub mod Handling
 pub mod Changing
+pub mod Endings
 pub mod Requesting
 pub mod Processing
 pub mod Stacking
+pub mod Maximum
 pub mod Queueing
 pub mod Fielding
 pub mod Fitting

@@ -17,6 +17,8 @@ use Rattle.vax_flat.proofs.Alike.{violation-alike}
 use Rattle.vax_flat.proofs.Bytes.{is_within, put-outside}
 use Rattle.vax_flat.proofs.Memory.{byte_at-written, layout-written}
 use Rattle.vax_flat_laws.specs.Machines.{AreApart, way}
+use Rattle.std.proofs.Math.Nat.{pow-suc}
+use Rattle.std.proofs.lemmas.Nat.{pow-add, mod-pow-add}
 
 -- a range is allowed, or violates
 pub decided : (v : Option Violation) → (v ≡ None) ⊎ ((w : Violation) × (v ≡ Some w))
@@ -116,3 +118,36 @@ module _ (memory : List Area) (m a x : ℕ) (whole : IsWhole memory) (small : a 
   pub there_more : (ys : List ℕ) → x < 2 ^ 32 → 4 + 4 * length ys ≤ 2 ^ 32 → AreThere memory m (plus a 4) ys → AreThere (written memory a 4 x) m a (x ∷ ys)
   there_more ys fits near t =
       (readable a (writable_is_readable memory a 4 m fine), ap (λ f. number f a 4) bytes_are ∙ read_back (byte_at memory) a x small fits, there_stays ys 4 (omega arith) near t)
+
+-- ---- numbers of any width
+
+number_same : (f g : ℕ → ℕ) (a n : ℕ) → a < 2 ^ 32 → ((k : ℕ) → k < n → f (plus a k) ≡ g (plus a k)) → number f a n ≡ number g a n
+unfolding number
+number_same f g a zero small h = refl
+number_same f g a (suc n) small h =
+    let here : plus a 0 ≡ a = omega arith in
+    let first : f a ≡ g a = ap f (sym here) ∙ (h 0 (omega arith) ∙ ap g here) in
+    let rest : number f (after a) n ≡ number g (after a) n =
+    number_same f g (after a) n (omega arith) (λ k l. let e : plus (after a) k ≡ plus a (suc k) = omega arith in ap f e ∙ (h (suc k) (omega arith) ∙ ap g (sym e))) in
+    (λ i. first i + 256 * rest i)
+
+pub bytes_pow : (width : ℕ) → 256 ^ width ≡ 2 ^ (8 * width)
+bytes_pow zero = refl
+bytes_pow (suc width) =
+    let e : 8 * suc width ≡ 8 * width + 8 = omega arith in
+    pow-suc 256 width ∙ (ap (λ x. x * 256) (bytes_pow width) ∙ (sym (pow-add 2 (8 * width) 8) ∙ ap (λ k. 2 ^ k) (sym e)))
+
+bytes_split : (v n : ℕ) → v % 256 ^ suc n ≡ (v / 256 % 256 ^ n) * 256 + v % 256
+bytes_split v n =
+    let e : 8 * suc n ≡ 8 * n + 8 = omega arith in
+    ap (λ m. v % m) (bytes_pow (suc n) ∙ ap (λ k. 2 ^ k) e) ∙ (mod-pow-add v (8 * n) 8 ∙ ap (λ m. (v / 256 % m) * 256 + v % 256) (sym (bytes_pow n)))
+
+pub number_written : (f : ℕ → ℕ) (a n v : ℕ) → a < 2 ^ 32 → n < 2 ^ 32 → number (put f a n v) a n ≡ v % 256 ^ n
+unfolding number
+number_written f a zero v small few = omega arith
+number_written f a (suc n) v small few =
+    let rest : number (put f a (suc n) v) (after a) n ≡ number (put f (after a) n (v / 256)) (after a) n =
+    number_same (put f a (suc n) v) (put f (after a) n (v / 256)) (after a) n (omega arith) (λ k h. next_byte f a n v (plus (after a) k) (λ e. omega arith)) in
+    let both = rest ∙ number_written f (after a) n (v / 256) (omega arith) (omega arith) in
+    let split = bytes_split v n in
+    (λ i. first_byte f a n v i + 256 * both i) ∙ omega arith

@@ -1,18 +1,18 @@
 -- MFPR after MTPR.
-use Rattle.std.proofs.Common.{◌≡◌, ◌≢◌, ℕ, suc, zero, ◌+◌, ◌-◌, ◌*◌, ◌/◌, ◌%◌, ◌^◌, ◌<◌, ◌≤◌, ◌==◌, Option, Some, length, refl, ap, sym, ◌∙◌, arith, inl, inr}
-use Rattle.std.specs.Prelude.{not, ◌&&◌}
+use Rattle.std.proofs.Common.{◌≡◌, ◌≢◌, ℕ, suc, zero, ◌+◌, ◌-◌, ◌*◌, ◌/◌, ◌%◌, ◌^◌, ◌<◌, ◌≤◌, ◌==◌, Option, Some, length, refl, ap, sym, ◌∙◌, arith, inl, inr, List, [], ◌∷◌, None}
+use Rattle.std.specs.Prelude.{slice_get, map, nat_lt, if◌then◌else◌, not, ◌&&◌, slice_index}
 use Rattle.std.specs.Int.{bit_at, from_bool}
-use Rattle.std.proofs.lemmas.Bool.{cases_eq, eq-eqb, ne_eqb, le-leb, lt-leb}
+use Rattle.std.proofs.lemmas.Bool.{cases_lt, lt-ltb, le-ltb, cases_eq, eq-eqb, ne_eqb, le-leb, lt-leb}
 use Rattle.std.proofs.lemmas.List.{get_or-set_same, get_or-set_other}
 use Rattle.vax_word.specs.Status.{ipl_of}
 use Rattle.vax_flat.specs.declared.Exception.TheVariants.{Operand}
 use Rattle.vax_flat.specs.declared.Flow.{Flow}
 use Rattle.vax_flat.specs.declared.Flow.TheVariants as flow
-use Rattle.vax_flat.specs.State.{State}
+use Rattle.vax_flat.specs.State.{with_taken, State}
 use Rattle.vax_flat.specs.Accesses.{Accesses, Leaf, Raises}
 use Rattle.vax_flat.specs.Delivery.{stack_in_use}
 use Rattle.vax_flat.specs.System.{pointer, with_pointer, with_priority, clock_set, set_processor, get_processor}
-use Rattle.vax_flat_laws.specs.Processor.{read_after, readable, writable, IsNoneOf, IsAtLevel}
+use Rattle.vax_flat_laws.specs.Processor.{AllEqual, read_after, readable, writable, IsNoneOf, IsAtLevel}
 
 -- a stack's pointer, be it in use or not
 pointer_back : (n value : ℕ) (s : State) → n ≤ 4 → length s.core.regs ≡ 16 → length s.core.stacks ≡ 5 → pointer n (with_pointer n value s) ≡ value
@@ -115,3 +115,39 @@ none_writable number value s next n =
     let m = n.1.1.1.1.1 in
     let l = m.1.1.1.1 in
     rw (lt-leb number 4 high, ne_eqb number 18 m.0, ne_eqb number 20 m.1.0, ne_eqb number 21 m.1.1.0, ne_eqb number 24 m.1.1.1.0, ne_eqb number 32 l.0, ne_eqb number 34 l.1.0, ne_eqb number 35 l.1.1.0, ne_eqb number 57 l.1.1.1.0, ne_eqb number 58 l.1.1.1.1.0) refl
+
+-- ---- the console
+
+there : (xs : List ℕ) (i : ℕ) → i < length xs → slice_get xs i ≡ Some (slice_index xs i)
+there [] i h = absurd (omega arith)
+there (x ∷ xs) zero h = refl
+there (x ∷ xs) (suc i) h = there xs i (omega arith)
+
+gone : (xs : List ℕ) (i : ℕ) → length xs ≤ i → slice_get xs i ≡ None
+gone [] i h = refl
+gone (x ∷ xs) zero h = absurd (omega arith)
+gone (x ∷ xs) (suc i) h = gone xs i (omega arith)
+
+pub input_ready : (s : State) (next : ℕ → State → Accesses Leaf) → get_processor 32 s next ≡ next (if nat_lt s.taken (length s.input) then 128 else 0) s
+unfolding get_processor
+input_ready s next =
+    elim (cases_lt s.taken (length s.input)) [
+      | inl left ↦ rw (lt-ltb s.taken (length s.input) left, there s.input s.taken left) refl
+      | inr over ↦ rw (le-ltb s.taken (length s.input) over, gone s.input s.taken over) refl
+    ]
+
+pub input_taken : (s : State) (next : ℕ → State → Accesses Leaf) → s.taken < length s.input → get_processor 33 s next ≡ next (slice_index s.input s.taken) (with_taken s (s.taken + 1))
+unfolding get_processor
+input_taken s next left = rw (there s.input s.taken left) refl
+
+pub input_empty : (s : State) (next : ℕ → State → Accesses Leaf) → length s.input ≤ s.taken → get_processor 33 s next ≡ next 0 s
+unfolding get_processor
+input_empty s next over = rw (gone s.input s.taken over) refl
+
+pub output_ready : (s : State) (next : ℕ → State → Accesses Leaf) → get_processor 34 s next ≡ next 128 s
+unfolding get_processor
+output_ready s next = refl
+
+pub written_quietly : (value : ℕ) (s : State) (next : Flow → State → Accesses Leaf) → AllEqual (map (λ n. set_processor n value s next) (32 ∷ 34 ∷ 57 ∷ 58 ∷ [])) (next flow.Done s)
+unfolding set_processor
+written_quietly value s next = (refl, (refl, (refl, (refl, tt))))

@@ -1,11 +1,15 @@
 -- Where a delivery leads, and where REI leads from there (VAX Architecture Reference Manual, exceptions and interrupts).
-use Rattle.std.specs.Prelude.{◌≡◌, ℕ, ◌+◌, ◌-◌, ◌/◌, ◌%◌, ◌^◌, ◌<◌, ◌≤◌, Bool, true, false, ◌==◌, ◌||◌, if◌then◌else◌, min, List}
+use Rattle.std.specs.Prelude.{◌≡◌, ℕ, ◌+◌, ◌-◌, ◌/◌, ◌%◌, ◌^◌, ◌<◌, ◌≤◌, Bool, true, false, ◌==◌, ◌||◌, if◌then◌else◌, min, Some, None, List}
+use Rattle.vax_space.specs.declared.Access.TheVariants.{Read}
 use Rattle.vax_space.specs.declared.Area.{Area}
+use Rattle.vax_space.specs.declared.Violation.{Violation}
+use Rattle.vax_space.specs.Reference.{violation}
 use Rattle.vax_word.specs.declared.Psl.{Psl}
 use Rattle.vax_word.specs.Status.{field, is_one, mode_of, prev_of, ipl_of}
 use Rattle.vax_isa.specs.declared.actions.AccessMode.{AccessMode}
 use Rattle.vax_isa.specs.Actions.{mode_number}
 use Rattle.vax_flat.specs.declared.Delivery.{Delivery}
+use Rattle.vax_flat.specs.declared.Ending.{Ending}
 use Rattle.vax_flat.specs.declared.Exception.{Exception}
 use Rattle.vax_flat.specs.declared.Flow.TheVariants as flow
 use Rattle.vax_flat.specs.State.{State, register, mode, priority}
@@ -59,6 +63,12 @@ pub record IsConsistent (psl : Psl) : Type 0 where
   pub trace_clear : is_one psl.0 4 ≡ false
   pub part_clear : is_one psl.0 27 ≡ false
 
+-- a status may follow another by REI
+pub record MayFollow (old new : Psl) : Type 0 where
+  pub mode : mode_of old ≤ mode_of new
+  pub stack : on_interrupt_stack new ≡ true → on_interrupt_stack old ≡ true
+  pub level : ipl_of new ≤ ipl_of old
+
 -- PC, the status, every stack's pointer and the other registers are as they were
 pub record IsBack (s t : State) : Type 0 where
   pub control : register t 15 ≡ register s 15
@@ -109,3 +119,15 @@ IsInterruptedTo level s memory t =
 abbrev pub IsChangedTo : AccessMode → State → List Area → State → Type 0
 IsChangedTo target s memory t =
     IsAtHandler (vector_at memory (change_vector target)) (min (mode_number target) (mode s)) (mode s) (priority s) false t
+
+-- the longword of the system control block at an offset may be read, or not
+abbrev pub HasVector : ℕ → List Area → Type 0
+HasVector offset memory = violation memory (2 ^ 31 + offset) 4 0 Read ≡ None
+
+pub record IsBarred (offset : ℕ) (memory : List Area) : Type 0 where
+  pub found : Violation
+  pub is : violation memory (2 ^ 31 + offset) 4 0 Read ≡ Some found
+
+-- a tree ends the run, and leaves state and memory
+abbrev pub EndsRun : Accesses Leaf → List Area → Ending → State → Type 0
+EndsRun tree memory e s = outcome_of tree memory ≡ Ends (Went (flow.Ended e) s) memory

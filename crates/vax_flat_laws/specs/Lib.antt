@@ -5,5 +5,6 @@ pub mod Processor
 pub mod Places
 pub mod Tables
 pub mod Leaving
+pub mod Maximal
 pub mod Dummies
 pub mod Steps

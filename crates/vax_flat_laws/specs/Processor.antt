@@ -27,3 +27,8 @@ pub record IsAtLevel (level : ℕ) (before after : Psl) : Type 0 where
   pub level_is : after.0 / 2 ^ 16 % 2 ^ 5 ≡ level
   pub low : after.0 % 2 ^ 16 ≡ before.0 % 2 ^ 16
   pub high : after.0 / 2 ^ 21 ≡ before.0 / 2 ^ 21
+
+-- each of these trees is that one
+abbrev pub AllEqual : List (Accesses Leaf) → Accesses Leaf → Type 0
+AllEqual [] tree = Unit {0}
+AllEqual (t ∷ ts) tree = (t ≡ tree) × AllEqual ts tree

@@ -4,6 +4,7 @@
 
 mod deliveries;
 mod fields;
+mod maximal;
 mod operands;
 mod parts;
 mod processor;
@@ -13,11 +14,17 @@ mod stacks;
 mod steps;
 mod tables;
 
-pub use crate::deliveries::{deliveries_enter_handlers, rei_undoes_deliveries};
+pub use crate::deliveries::{
+    deliveries_enter_handlers, deliveries_may_end_the_run, rei_refuses_all_others,
+    rei_undoes_deliveries,
+};
 pub use crate::fields::{comparisons_follow_extraction, fields_are_read_back};
+pub use crate::maximal::parts_are_maximal;
 pub use crate::operands::operands_fit;
 pub use crate::parts::{parts_end_with_their_pages, parts_write_their_units};
-pub use crate::processor::{registers_are_read_back, registers_are_these, registers_stay_apart};
+pub use crate::processor::{
+    consoles_are_read, registers_are_read_back, registers_are_these, registers_stay_apart,
+};
 pub use crate::queues::{probes_keep_the_carry, removals_tell_emptiness, removals_undo_insertions};
 pub use crate::requests::{
     clocks_count_steps, interrupts_take_their_request, the_highest_request_is_taken,

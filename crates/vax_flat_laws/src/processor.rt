@@ -1,13 +1,13 @@
 //! The registers of the processor (VAX Architecture Reference Manual, processor registers; MTPR, MFPR).
-ghost use Rattle.std.specs.Prelude.{◌≡◌, ◌≢◌, ◌+◌, ◌-◌, ◌*◌, ◌%◌, ◌^◌, ◌<◌, ◌≤◌, ℕ, Option, Some, length};
+ghost use Rattle.std.specs.Prelude.{◌≡◌, ◌≢◌, ◌+◌, ◌-◌, ◌*◌, ◌%◌, ◌^◌, ◌<◌, ◌≤◌, [], ◌∷◌, ℕ, Option, Some, if◌then◌else◌, length, map, nat_lt, slice_index};
 ghost use Rattle.std.specs.Int.{bit_at};
 ghost use Rattle.vax_flat.specs.declared.Exception.TheVariants.{Operand};
 ghost use Rattle.vax_flat.specs.declared.Flow.{Flow};
-ghost use Rattle.vax_flat.specs.declared.Flow.TheVariants.{Clocked};
+ghost use Rattle.vax_flat.specs.declared.Flow.TheVariants.{Clocked, Done};
 ghost use Rattle.vax_flat.specs.Accesses.{Accesses, Leaf, Raises};
-ghost use Rattle.vax_flat.specs.State.{State};
+ghost use Rattle.vax_flat.specs.State.{State, with_taken};
 ghost use Rattle.vax_flat.specs.System.{get_processor, set_processor, with_priority};
-ghost use Rattle.vax_flat_laws.specs.Processor.{IsAtLevel, IsNoneOf, read_after, readable, writable};
+ghost use Rattle.vax_flat_laws.specs.Processor.{AllEqual, IsAtLevel, IsNoneOf, read_after, readable, writable};
 
 /// MFPR reads what MTPR wrote: a stack's pointer as it is, be it in use or not; five bits of the priority; bits 15:1 of the requests; of the clock
 /// bit 6, and bit 7 as it was unless a 1 was written there.
@@ -33,6 +33,20 @@ pub fn registers_stay_apart()
         set_processor 24 value s (λ how t. next how t.core.clock) ≡ next Clocked 0 }
     ensures output { (value : ℕ) → (s : State) → (next : Option ℕ → Accesses Leaf) →
         set_processor 35 value s (λ how t. next t.sent) ≡ next (Some (value % 2 ^ 8)) }
+{}
+
+/// The console's registers: input is ready where bytes are left, its data is the next of these, which is then taken, or 0; output is always
+/// ready. To write what tells these, or the translation buffer's registers, does nothing.
+pub fn consoles_are_read()
+    ensures ready { (s : State) → (next : ℕ → State → Accesses Leaf) →
+        get_processor 32 s next ≡ next (if nat_lt s.taken (length s.input) then 128 else 0) s }
+    ensures taken { (s : State) → (next : ℕ → State → Accesses Leaf) → s.taken < length s.input →
+        get_processor 33 s next ≡ next (slice_index s.input s.taken) (with_taken s (s.taken + 1)) }
+    ensures empty { (s : State) → (next : ℕ → State → Accesses Leaf) → length s.input ≤ s.taken →
+        get_processor 33 s next ≡ next 0 s }
+    ensures sender { (s : State) → (next : ℕ → State → Accesses Leaf) → get_processor 34 s next ≡ next 128 s }
+    ensures quiet { (value : ℕ) → (s : State) → (next : Flow → State → Accesses Leaf) →
+        AllEqual (map (λ n. set_processor n value s next) (32 ∷ 34 ∷ 57 ∷ 58 ∷ [])) (next Done s) }
 {}
 
 /// Every other number is a reserved operand.

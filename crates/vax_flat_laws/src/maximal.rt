@@ -1,0 +1,31 @@
+//! How far a part of a string instruction goes (what the VAX Architecture Reference Manual leaves to the processor, first part done).
+ghost use Rattle.std.specs.Prelude.{◌+◌, ◌^◌, ◌<◌, ◌≤◌, ℕ, Bool, List};
+ghost use Rattle.vax_space.specs.declared.Area.{Area};
+ghost use Rattle.vax_strpart.specs.declared.packing.Progress.{Progress};
+ghost use Rattle.vax_flat.specs.Outcome.{outcome_of};
+ghost use Rattle.vax_flat.specs.State.{State};
+ghost use Rattle.vax_flat.specs.Step.{leaf};
+ghost use Rattle.vax_flat.specs.String.{suspended};
+ghost use Rattle.vax_flat.specs.StringCompare.{compare_part};
+ghost use Rattle.vax_flat.specs.StringMove.{move_part, moved_count};
+ghost use Rattle.vax_flat.specs.StringSearch.{search_part, searched};
+ghost use Rattle.vax_flat_laws.specs.Maximal.{IfLeft, IsMovePlain, IsPlain, LeavesPart, compare_needs, fill_needs, move_needs, never, search_needs, turns_to_fills};
+
+/// A part of LOCC, SKPC, CMPC3, CMPC5, MOVC3, MOVC5 or MOVTC that leaves something goes as far as it may: to 512 units, to the first fill behind what is
+/// moved, or to the first unit that needs a page which its first doesn't. The registers are then those of a progress with as many more units done.
+pub fn parts_are_maximal()
+    ensures search { (equal : Bool) → (p : Progress) → (s : State) → (memory : List Area) → p.addr1 < 2 ^ 32 →
+        IfLeft (LeavesPart (search_needs p) never (λ made. suspended (searched p made) s))
+        (outcome_of (search_part equal p s leaf) memory) }
+    ensures compare { (p : Progress) → (s : State) → (memory : List Area) → IsPlain p →
+        IfLeft (LeavesPart (compare_needs p) never (λ made. suspended (record p { done = p.done + made }) s))
+        (outcome_of (compare_part p s leaf) memory) }
+    ensures moves { (translate : Bool) → (p : Progress) → (s : State) → (memory : List Area) → IsMovePlain p →
+        p.done < moved_count p →
+        IfLeft (LeavesPart (move_needs p) (turns_to_fills p) (λ made. suspended (record p { done = p.done + made }) s))
+        (outcome_of (move_part translate p s leaf) memory) }
+    ensures fills { (translate : Bool) → (p : Progress) → (s : State) → (memory : List Area) →
+        moved_count p ≤ p.done → p.done < p.len2 →
+        IfLeft (LeavesPart (fill_needs p) never (λ made. suspended (record p { done = p.done + made }) s))
+        (outcome_of (move_part translate p s leaf) memory) }
+{}
