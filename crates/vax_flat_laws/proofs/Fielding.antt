@@ -1,6 +1,6 @@
 -- Fields that are put and read back, and compared.
 use Rattle.std.proofs.Common.{◌≡◌, ◌≢◌, ℕ, suc, zero, ◌+◌, ◌-◌, ◌*◌, ◌/◌, ◌%◌, ◌^◌, ◌<◌, ◌≤◌, ◌⊎◌, ◌==◌, Bool, true, false, List, [], ◌∷◌, ◌++◌, length, take, drop, get_or, refl, ap, sym, subst, ◌∙◌, arith, inl, inr, length-append, length-drop, length-take, None}
-use Rattle.std.specs.Prelude.{replicate, nat_le, if◌then◌else◌}
+use Rattle.std.specs.Prelude.{replicate, nat_le, if◌then◌else◌, not}
 use Rattle.std.specs.Int.{from_bool}
 use Rattle.std.proofs.Math.Nat.{mod-eq_of_lt, pow-suc}
 use Rattle.std.proofs.lemmas.Bool.{cases_Bool, cases_eq, eq-eqb, ne_eqb, le-ltb}
@@ -25,9 +25,9 @@ use Rattle.vax_flat.specs.Accesses.{Accesses, Leaf, Went}
 use Rattle.vax_flat.specs.Outcome.{Ends, Raised, outcome_of, unless_violated, Outcome}
 use Rattle.vax_flat.specs.Operand.{read_at, register_value, write_at, plus}
 use Rattle.vax_flat.specs.Rows.{value_at, stored, with_value, answered, settled, flow_of, carry_of}
-use Rattle.vax_flat.specs.Field.{bits_of, number_of, part, with_part, holder, is_reserved_field, held, put, field_bits, widened, extracted, compared_field, inserted, bytes_before}
+use Rattle.vax_flat.specs.Field.{bits_of, number_of, part, with_part, holder, is_reserved_field, held, put, field_bits, widened, extracted, compared_field, inserted, bytes_before, before_first}
 use Rattle.vax_flat.specs.Step.{leaf}
-use Rattle.vax_flat_laws.specs.Places.{put_and_extracted}
+use Rattle.vax_flat_laws.specs.Places.{put_and_extracted, IsFirstBit}
 use Rattle.vax_flat_laws.proofs.Longwords.{decided, allowed, bytes_pow, number_written}
 use Rattle.vax_flat_laws.proofs.Queueing.{codes_set}
 use Rattle.std.proofs.Math.Path.{fun_ext}
@@ -248,6 +248,24 @@ module _ (source position size addr : ℕ) (s : State) (memory end : List Area) 
       ap (λ value. outcome_of (next value) behind_it) (sym (widened_zero size source))
       ∙ (ap (λ bits. outcome_of (next (widened false bits)) behind_it) (sym (new_part source (position % 8) size bytes before_it fits_in))
       ∙ (ap (λ n. outcome_of (next (widened false (part (position % 8) size (bits_of (8 * bytes) n)))) behind_it) (sym number_there) ∙ c2.1))
+
+-- ---- FFS, FFC
+
+later : (set bit : Bool) (bits : List Bool) (k : ℕ) → bit ≡ not set → ((j : ℕ) → j < k → get_or bits j set ≡ not set) → (j : ℕ) → j < suc k → get_or (bit ∷ bits) j set ≡ not set
+later set bit bits k other before zero h = other
+later set bit bits k other before (suc j) h = before j (omega arith)
+
+pub first_bit : (set : Bool) (bits : List Bool) → IsFirstBit set bits (before_first set bits)
+unfolding before_first
+first_bit set [] = record { few = omega arith; before = λ j h. absurd (omega arith); here = λ h. absurd (omega arith) }
+first_bit true (true ∷ bits) = record { few = omega arith; before = λ j h. absurd (omega arith); here = λ h. refl }
+first_bit false (false ∷ bits) = record { few = omega arith; before = λ j h. absurd (omega arith); here = λ h. refl }
+first_bit true (false ∷ bits) =
+    let rest = first_bit true bits in
+    record { few = (let f = rest.few in omega arith); before = later true false bits (before_first true bits) refl rest.before; here = λ h. rest.here (omega arith) }
+first_bit false (true ∷ bits) =
+    let rest = first_bit false bits in
+    record { few = (let f = rest.few in omega arith); before = later false true bits (before_first false bits) refl rest.before; here = λ h. rest.here (omega arith) }
 
 -- ---- CMPV
 

@@ -6,6 +6,7 @@ pub mod Endings
 pub mod Requesting
 pub mod Processing
 pub mod Stacking
+pub mod Statuses
 pub mod Maximum
 pub mod Queueing
 pub mod Fielding

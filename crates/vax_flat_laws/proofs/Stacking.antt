@@ -201,6 +201,24 @@ popped_back mask s u memory end m came =
     let top : behind (length ns) (register (with_register s 14 p.bottom) 14) ≡ register s 14 = ap (behind (length ns)) sp ∙ (ap (λ n. behind n p.bottom) (sym long) ∙ p.above) in
     ends_so mask s u end p.memory m.registers p.bottom (behind (length ns) (register (with_register s 14 p.bottom) 14)) top (sym out ∙ p.goes_on)
 
+-- ---- what PUSHR leaves
+
+pub pushed_there : (mask : ℕ) (s t : State) (memory end : List Area) → IsMachine s memory → outcome_of (registers_pushed mask s leaf) memory ≡ Ends (Went flow.Done t) end → AreThere end (mode s) (register t 14) (map (register s) (named 15 mask))
+unfolding registers_pushed saved outcome_of
+pushed_there mask s t memory end m came =
+    let ns = named 15 mask in
+    let xs = map (register s) (reverse ns) in
+    let few = few_named 15 mask in
+    let long : length xs ≡ length ns = length-map (reverse ns) (register s) ∙ length-reverse ns in
+    let p = laid xs [] (register s 14) s (λ top u. leaf flow.Done (with_register u 14 top)) memory (Went flow.Done t) end m.whole (words_of s (reverse ns) m.words) (m.words 14) (omega arith) tt came in
+    let up : reverse xs ++ [] ≡ map (register s) ns = append-nil (reverse xs) ∙ (ap reverse (turned_map (register s) ns) ∙ reverse-reverse (map (register s) ns)) in
+    let g = p.goes_on in
+    let same : with_register s 14 p.bottom ≡ t = cc in
+    let last : p.memory ≡ end = cc in
+    let sp : p.bottom ≡ register t 14 = sym (get_or-set_same s.core.regs 14 p.bottom 0 (let f = m.registers in omega arith)) ∙ ap (λ u. register u 14) same in
+    subst (λ a. AreThere end (mode s) a (map (register s) ns)) sp
+    (subst (λ n. AreThere n (mode s) p.bottom (map (register s) ns)) last (subst (AreThere p.memory (mode s) p.bottom) up p.there))
+
 -- ---- the count of arguments
 
 low_of : (f : ℕ → ℕ) (a : ℕ) → f a < 256 → number f a 4 % 2 ^ 8 ≡ f a

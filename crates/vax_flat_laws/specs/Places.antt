@@ -1,5 +1,5 @@
 -- What stands in a field, a queue and on a stack, once it was put there.
-use Rattle.std.specs.Prelude.{◌≡◌, ℕ, ◌+◌, ◌-◌, ◌^◌, ◌<◌, ◌&&◌, Bool, not, false, List}
+use Rattle.std.specs.Prelude.{◌≡◌, ℕ, ◌+◌, ◌-◌, ◌^◌, ◌<◌, ◌&&◌, Bool, not, false, List, ◌≤◌, length, slice_index_or}
 use Rattle.vax_word.specs.declared.Codes.{Codes}
 use Rattle.vax_space.specs.declared.Area.{Area}
 use Rattle.vax_space.specs.Reference.{violation}
@@ -61,3 +61,9 @@ probe_codes writing mode length base memory carry = record {
   v = false;
   c = carry;
 }
+
+-- the first of these bits that is so, or their number where none is
+pub record IsFirstBit (set : Bool) (bits : List Bool) (k : ℕ) : Type 0 where
+  pub few : k ≤ length bits
+  pub before : (j : ℕ) → j < k → slice_index_or bits j set ≡ not set
+  pub here : k < length bits → slice_index_or bits k (not set) ≡ set

@@ -1,9 +1,10 @@
 -- The registers of the processor, as MTPR leaves them and MFPR reads them (VAX Architecture Reference Manual, processor registers).
-use Rattle.std.specs.Prelude.{◌≡◌, ◌≢◌, ℕ, ◌/◌, ◌%◌, ◌^◌, List, [], ◌∷◌}
+use Rattle.std.specs.Prelude.{◌≡◌, ◌≢◌, ℕ, ◌/◌, ◌%◌, ◌^◌, List, [], ◌∷◌, ◌-◌, ◌<◌, min, max}
 use Rattle.vax_word.specs.declared.Psl.{Psl}
 use Rattle.vax_flat.specs.State.{State}
 use Rattle.vax_flat.specs.Accesses.{Accesses, Leaf}
 use Rattle.vax_flat.specs.System.{set_processor, get_processor}
+use Rattle.std.specs.Int.{bit_at}
 
 -- a value is written to one register, and then another is read, of which the value alone counts
 abbrev pub read_after : ℕ → ℕ → ℕ → State → (ℕ → Accesses Leaf) → Accesses Leaf
@@ -32,3 +33,19 @@ pub record IsAtLevel (level : ℕ) (before after : Psl) : Type 0 where
 abbrev pub AllEqual : List (Accesses Leaf) → Accesses Leaf → Type 0
 AllEqual [] tree = Unit {0}
 AllEqual (t ∷ ts) tree = (t ≡ tree) × AllEqual ts tree
+
+-- the bits of a status word that a mask sets, and that it clears
+pub record HasSet (mask : ℕ) (before after : Psl) : Type 0 where
+  pub bits : (k : ℕ) → bit_at after.0 k ≡ max (bit_at before.0 k) (bit_at mask k)
+
+pub record HasCleared (mask : ℕ) (before after : Psl) : Type 0 where
+  pub bits : (k : ℕ) → k < 32 → bit_at after.0 k ≡ min (bit_at before.0 k) (1 - bit_at mask k)
+
+-- a procedure's status by its entry mask: bit 15 enables decimal and bit 14 integer overflow; floating underflow and the codes are 0; all else is kept
+pub record IsEntryStatus (mask : ℕ) (before after : Psl) : Type 0 where
+  pub decimal : bit_at after.0 7 ≡ bit_at mask 15
+  pub integer : bit_at after.0 5 ≡ bit_at mask 14
+  pub underflow : bit_at after.0 6 ≡ 0
+  pub codes : after.0 % 2 ^ 4 ≡ 0
+  pub trace : bit_at after.0 4 ≡ bit_at before.0 4
+  pub high : after.0 / 2 ^ 8 ≡ before.0 / 2 ^ 8 % 2 ^ 24

@@ -9,11 +9,11 @@ ghost use Rattle.vax_flat.specs.declared.Operand.TheVariants.{FieldRegister, Mem
 ghost use Rattle.vax_flat.specs.Accesses.{Accesses, Leaf};
 ghost use Rattle.vax_flat.specs.Memory.{IsWhole};
 ghost use Rattle.vax_flat.specs.Outcome.{Ends, outcome_of};
-ghost use Rattle.vax_flat.specs.Field.{compared_field, extracted, is_reserved_field, part, with_part};
+ghost use Rattle.vax_flat.specs.Field.{before_first, compared_field, extracted, is_reserved_field, part, with_part};
 ghost use Rattle.vax_flat.specs.State.{State, register};
 ghost use Rattle.vax_flat.specs.Step.{leaf};
 ghost use Rattle.vax_flat_laws.specs.Handlers.{ComesTo};
-ghost use Rattle.vax_flat_laws.specs.Places.{put_and_extracted};
+ghost use Rattle.vax_flat_laws.specs.Places.{IsFirstBit, put_and_extracted};
 
 /// EXTZV reads what INSV wrote, in registers and in memory: the source's low bits, as many as the field has. Of all bits that hold a field, a part that is put is
 /// read back, and those beside it stay.
@@ -38,4 +38,9 @@ pub fn comparisons_follow_extraction()
         ComesTo (extracted signed position size base (Register n) s leaf) memory t end →
         ComesTo (compared_field signed position size base source s leaf) memory u after →
         codes_of u.core.psl ≡ compared L (register t n) source }
+{}
+
+/// FFS and FFC count the bits before the first that is 1, or 0, or all where none is.
+pub fn first_bits_are_found()
+    ensures { (set : Bool) → (bits : List Bool) → IsFirstBit set bits (before_first set bits) }
 {}
