@@ -8,6 +8,7 @@ pub mod Processing
 pub mod Stacking
 pub mod Statuses
 pub mod Maximum
+pub mod Reading
 pub mod Queueing
 pub mod Fielding
 pub mod Fitting

@@ -1,6 +1,7 @@
 -- The rule of parts, apart from how many units the definitions give a part (what the VAX Architecture Reference Manual leaves to the processor, first
 -- part done): a part goes on to 512 units, or to the first that needs a page which its first unit doesn't.
 use Rattle.std.specs.Prelude.{◌≡◌, ℕ, ◌+◌, ◌-◌, ◌^◌, ◌<◌, ◌≤◌, ◌⊎◌, ◌==◌, Bool, true, false, ◌++◌, nat_lt, if◌then◌else◌, List, [], ◌∷◌}
+use Rattle.vax_space.specs.declared.Area.{Area}
 use Rattle.vax_space.specs.Reference.{page_of}
 use Rattle.vax_strpart.specs.declared.packing.Progress.{Progress}
 use Rattle.vax_flat.specs.declared.Flow.TheVariants as flow
@@ -81,3 +82,8 @@ pub record IsPlain (p : Progress) : Type 0 where
 pub record IsMovePlain (p : Progress) : Type 0 where
   pub first : p.addr1 + moved_count p ≤ 2 ^ 32
   pub second : p.addr2 + moved_count p ≤ 2 ^ 32
+
+-- memory is as it was, where a tree comes to its end
+abbrev pub IsKept : List Area → Outcome Leaf → Type 0
+IsKept memory (Ends x after) = after ≡ memory
+IsKept memory (Raised e) = Unit {0}

@@ -22,7 +22,7 @@ pub use crate::deliveries::{
 pub use crate::fields::{
     comparisons_follow_extraction, fields_are_read_back, first_bits_are_found,
 };
-pub use crate::maximal::parts_are_maximal;
+pub use crate::maximal::{parts_are_maximal, searches_write_nothing};
 pub use crate::operands::operands_fit;
 pub use crate::parts::{parts_end_with_their_pages, parts_write_their_units};
 pub use crate::processor::{

@@ -6,10 +6,11 @@ ghost use Rattle.vax_flat.specs.Outcome.{outcome_of};
 ghost use Rattle.vax_flat.specs.State.{State};
 ghost use Rattle.vax_flat.specs.Step.{leaf};
 ghost use Rattle.vax_flat.specs.String.{suspended};
-ghost use Rattle.vax_flat.specs.StringCompare.{compare_part};
+ghost use Rattle.vax_flat.specs.StringCompare.{compare_part, whole_compare};
+ghost use Rattle.vax_flat.specs.StringMatch.{match_part, whole_match};
 ghost use Rattle.vax_flat.specs.StringMove.{move_part, moved_count};
-ghost use Rattle.vax_flat.specs.StringSearch.{search_part, searched};
-ghost use Rattle.vax_flat_laws.specs.Maximal.{IfLeft, IsMovePlain, IsPlain, LeavesPart, compare_needs, fill_needs, move_needs, never, search_needs, turns_to_fills};
+ghost use Rattle.vax_flat.specs.StringSearch.{scan_part, search_part, searched, whole_scan, whole_search};
+ghost use Rattle.vax_flat_laws.specs.Maximal.{IfLeft, IsKept, IsMovePlain, IsPlain, LeavesPart, compare_needs, fill_needs, move_needs, never, search_needs, turns_to_fills};
 
 /// A part of LOCC, SKPC, CMPC3, CMPC5, MOVC3, MOVC5 or MOVTC that leaves something goes as far as it may: to 512 units, to the first fill behind what is
 /// moved, or to the first unit that needs a page which its first doesn't. The registers are then those of a progress with as many more units done.
@@ -28,4 +29,19 @@ pub fn parts_are_maximal()
         moved_count p ≤ p.done → p.done < p.len2 →
         IfLeft (LeavesPart (fill_needs p) never (λ made. suspended (record p { done = p.done + made }) s))
         (outcome_of (move_part translate p s leaf) memory) }
+{}
+
+/// LOCC, SKPC, SCANC, SPANC, CMPC3, CMPC5 and MATCHC write nothing, neither as wholes nor in a part: memory with any of their units done is that of the
+/// start.
+pub fn searches_write_nothing()
+    ensures wholes { (memory : List Area) → (s : State) → (p : Progress) → (choice : Bool) →
+        IsKept memory (outcome_of (whole_search choice p s leaf) memory)
+        × IsKept memory (outcome_of (whole_scan choice p s leaf) memory)
+        × IsKept memory (outcome_of (whole_compare p s leaf) memory)
+        × IsKept memory (outcome_of (whole_match p s leaf) memory) }
+    ensures parts { (memory : List Area) → (s : State) → (p : Progress) → (choice : Bool) →
+        IsKept memory (outcome_of (search_part choice p s leaf) memory)
+        × IsKept memory (outcome_of (scan_part choice p s leaf) memory)
+        × IsKept memory (outcome_of (compare_part p s leaf) memory)
+        × IsKept memory (outcome_of (match_part p s leaf) memory) }
 {}
