@@ -4,6 +4,7 @@ pub mod Handling
 pub mod Changing
 pub mod Endings
 pub mod Requesting
+pub mod Scanning
 pub mod Processing
 pub mod Stacking
 pub mod Statuses

@@ -1,10 +1,12 @@
 -- The rule of parts, apart from how many units the definitions give a part (what the VAX Architecture Reference Manual leaves to the processor, first
 -- part done): a part goes on to 512 units, or to the first that needs a page which its first unit doesn't.
-use Rattle.std.specs.Prelude.{◌≡◌, ℕ, ◌+◌, ◌-◌, ◌^◌, ◌<◌, ◌≤◌, ◌⊎◌, ◌==◌, Bool, true, false, ◌++◌, nat_lt, if◌then◌else◌, List, [], ◌∷◌}
+use Rattle.std.specs.Prelude.{◌≡◌, ℕ, ◌+◌, ◌-◌, ◌^◌, ◌<◌, ◌≤◌, ◌⊎◌, ◌==◌, Bool, not, true, false, ◌++◌, nat_lt, if◌then◌else◌, List, [], ◌∷◌}
+use Rattle.vax_space.specs.declared.Access.TheVariants.{Read}
 use Rattle.vax_space.specs.declared.Area.{Area}
-use Rattle.vax_space.specs.Reference.{page_of}
+use Rattle.vax_space.specs.Reference.{may_access, page_of}
 use Rattle.vax_strpart.specs.declared.packing.Progress.{Progress}
 use Rattle.vax_flat.specs.declared.Flow.TheVariants as flow
+use Rattle.vax_flat.specs.Memory.{byte_at}
 use Rattle.vax_flat.specs.State.{State}
 use Rattle.vax_flat.specs.Accesses.{Leaf, Went, Found}
 use Rattle.vax_flat.specs.Operand.{plus}
@@ -48,6 +50,11 @@ never made = false
 -- a search: a byte of the string
 abbrev pub search_needs : Progress → ℕ → List ℕ
 search_needs p j = page_of (plus p.addr1 j) ∷ []
+
+-- a scan: the same, up to a byte whose table byte may not be read
+abbrev pub entry_barred : Progress → ℕ → List Area → ℕ → Bool
+entry_barred p mode memory made =
+    not (may_access memory (page_of (plus p.table (byte_at memory (plus p.addr1 made)))) mode Read)
 
 -- a comparison: a byte of each string that isn't exhausted
 abbrev pub compare_needs : Progress → ℕ → List ℕ

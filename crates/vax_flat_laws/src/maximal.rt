@@ -2,22 +2,28 @@
 ghost use Rattle.std.specs.Prelude.{◌+◌, ◌^◌, ◌<◌, ◌≤◌, ℕ, Bool, List};
 ghost use Rattle.vax_space.specs.declared.Area.{Area};
 ghost use Rattle.vax_strpart.specs.declared.packing.Progress.{Progress};
+ghost use Rattle.vax_flat.specs.Memory.{byte_at};
+ghost use Rattle.vax_flat.specs.Port.{AreBytes};
 ghost use Rattle.vax_flat.specs.Outcome.{outcome_of};
-ghost use Rattle.vax_flat.specs.State.{State};
+ghost use Rattle.vax_flat.specs.State.{State, mode};
 ghost use Rattle.vax_flat.specs.Step.{leaf};
 ghost use Rattle.vax_flat.specs.String.{suspended};
 ghost use Rattle.vax_flat.specs.StringCompare.{compare_part, whole_compare};
 ghost use Rattle.vax_flat.specs.StringMatch.{match_part, whole_match};
 ghost use Rattle.vax_flat.specs.StringMove.{move_part, moved_count};
 ghost use Rattle.vax_flat.specs.StringSearch.{scan_part, search_part, searched, whole_scan, whole_search};
-ghost use Rattle.vax_flat_laws.specs.Maximal.{IfLeft, IsKept, IsMovePlain, IsPlain, LeavesPart, compare_needs, fill_needs, move_needs, never, search_needs, turns_to_fills};
+ghost use Rattle.vax_flat_laws.specs.Maximal.{IfLeft, entry_barred, IsKept, IsMovePlain, IsPlain, LeavesPart, compare_needs, fill_needs, move_needs, never, search_needs, turns_to_fills};
 
-/// A part of LOCC, SKPC, CMPC3, CMPC5, MOVC3, MOVC5 or MOVTC that leaves something goes as far as it may: to 512 units, to the first fill behind what is
-/// moved, or to the first unit that needs a page which its first doesn't. The registers are then those of a progress with as many more units done.
+/// A part of LOCC, SKPC, SCANC, SPANC, CMPC3, CMPC5, MOVC3, MOVC5 or MOVTC that leaves something goes as far as it may: to 512 units, to the first fill
+/// behind what is moved, to a byte whose table byte may not be read, or to the first unit that needs a page which its first doesn't. The registers are then those of a progress with as many more units done.
 pub fn parts_are_maximal()
     ensures search { (equal : Bool) → (p : Progress) → (s : State) → (memory : List Area) → p.addr1 < 2 ^ 32 →
         IfLeft (LeavesPart (search_needs p) never (λ made. suspended (searched p made) s))
         (outcome_of (search_part equal p s leaf) memory) }
+    ensures scan { (some : Bool) → (p : Progress) → (s : State) → (memory : List Area) → AreBytes (byte_at memory) →
+        p.addr1 < 2 ^ 32 → p.table < 2 ^ 32 →
+        IfLeft (LeavesPart (search_needs p) (entry_barred p (mode s) memory) (λ made. suspended (searched p made) s))
+        (outcome_of (scan_part some p s leaf) memory) }
     ensures compare { (p : Progress) → (s : State) → (memory : List Area) → IsPlain p →
         IfLeft (LeavesPart (compare_needs p) never (λ made. suspended (record p { done = p.done + made }) s))
         (outcome_of (compare_part p s leaf) memory) }
