@@ -1,6 +1,9 @@
 -- At every place within a step the units that are done and those that are left come to the same.
-use Rattle.std.proofs.Common.{◌≡◌, ℕ, ◌+◌, ◌<◌, ◌≤◌, ◌^◌, Bool, true, false, Option, Some, None, List, [], ◌∷◌, slice_index, slice_set, refl, sym, ap, subst, ◌∙◌, arith}
-use Rattle.std.specs.Prelude.{nat_lt, if◌then◌else◌}
+use Rattle.std.proofs.Common.{◌≡◌, ℕ, ◌+◌, ◌<◌, ◌≤◌, ◌^◌, Bool, true, false, Option, Some, None, List, [], ◌∷◌, slice_index, slice_set, refl, sym, ap, subst, ◌∙◌, inl, inr, arith}
+use Rattle.std.specs.Prelude.{if◌then◌else◌}
+use Rattle.std.proofs.lemmas.Bool.{cases_Bool, true≢false}
+use Rattle.vax_flat.specs.StringMove.{move_start}
+use Rattle.vax_flat.specs.StringEscape.{escape_start}
 use Rattle.vax_space.specs.declared.Access.TheVariants.{Read}
 use Rattle.vax_space.specs.declared.Area.{Area}
 use Rattle.vax_space.specs.declared.Violation.{Violation}
@@ -17,7 +20,7 @@ use Rattle.vax_flat.specs.declared.Exception.TheVariants as exception
 use Rattle.vax_flat.specs.declared.Flow.{Flow}
 use Rattle.vax_flat.specs.declared.Flow.TheVariants as flow
 use Rattle.vax_flat.specs.Memory.{byte_at, number}
-use Rattle.vax_flat.specs.State.{State, mode, priority, register}
+use Rattle.vax_flat.specs.State.{State, mode, register}
 use Rattle.vax_flat.specs.Accesses.{Accesses, Leaf, Went}
 use Rattle.vax_flat.specs.Evaluation.{taken, next_operands}
 use Rattle.vax_flat.specs.Outcome.{Outcome, Ends, Raised, outcome_of, unless_violated}
@@ -43,7 +46,7 @@ use Rattle.vax_flat.proofs.StringState.{unpacked_suspended}
 use Rattle.vax_flat.proofs.StringGoing.{IsSound, Completed, Leaving, Failing, fin}
 use Rattle.vax_flat.proofs.StringBeginning.{family_of, opcode_of, IsFresh, Begins, Stopping, Going, fresh, starts}
 use Rattle.vax_flat_units.specs.Units.{Counts, units_left}
-use Rattle.vax_flat_units.specs.Places.{text_operands, tells, tells_if, told, units_of}
+use Rattle.vax_flat_units.specs.Places.{is_interrupted, is_reserved_by, units_at_start, instruction_units, text_operands, tells, tells_if, told, units_of}
 use Rattle.vax_flat_units.proofs.Families.{units_by, left_is, first_right}
 use Rattle.vax_flat_units.proofs.Bounds.{units_few}
 
@@ -98,12 +101,30 @@ begun_ready : (s : State) (regs : List ℕ) → IsAtAddress regs → IsReady (be
 unfolding operands.sixteen
 begun_ready s regs good = record { full = refl; pc = good.pc; clear = omega arith }
 
-tells_it : (memory : List Area) (p : Progress) (s : State) → told (outcome_of (tells memory p s) memory) ≡ units_left p.op p memory
+tells_it : (memory : List Area) (p : Progress) (s : State) → told (outcome_of (tells memory p s) memory) ≡ units_at_start p memory
 unfolding outcome_of
 tells_it memory p s = refl
 
-told_by : (t : Text) (p : Progress) (s : State) (memory : List Area) → IsFresh t p → told (outcome_of (tells memory p s) memory) ≡ units_by (family_of t) p memory
-told_by t p s memory f = tells_it memory p s ∙ (ap (λ opcode. units_left opcode p memory) f.op ∙ left_is t p memory)
+told_by : (t : Text) (p : Progress) (s : State) (memory : List Area) → IsFresh t p → told (outcome_of (tells memory p s) memory) ≡ (if is_reserved_by p.op p then 0 else units_by (family_of t) p memory)
+told_by t p s memory f = tells_it memory p s ∙ ap (λ n. if is_reserved_by p.op p then 0 else n) (ap (λ opcode. units_left opcode p memory) f.op ∙ left_is t p memory)
+
+-- a move that is reserved raises its exception
+by_opcode : (t : Text) (p : Progress) → IsFresh t p → is_reserved_by p.op p ≡ true → is_reserved_by (opcode_of t) p ≡ true
+by_opcode t p f so = sym (ap (λ opcode. is_reserved_by opcode p) f.op) ∙ so
+
+reserved_raises : (t : Text) (p : Progress) (s : State) (memory : List Area) → is_reserved_by (opcode_of t) p ≡ true → outcome_of (first_by t p s fin) memory ≡ Raised exception.Operand
+unfolding first_by move_start escape_start outcome_of
+reserved_raises text.Move p s memory so = absurd (true≢false (sym so))
+reserved_raises text.MoveFilled p s memory so = absurd (true≢false (sym so))
+reserved_raises text.MoveTranslated p s memory so = rw so refl
+reserved_raises text.MoveTranslatedUntil p s memory so = rw so refl
+reserved_raises text.Compare p s memory so = absurd (true≢false (sym so))
+reserved_raises text.CompareFilled p s memory so = absurd (true≢false (sym so))
+reserved_raises text.Locate p s memory so = absurd (true≢false (sym so))
+reserved_raises text.Skip p s memory so = absurd (true≢false (sym so))
+reserved_raises text.Scan p s memory so = absurd (true≢false (sym so))
+reserved_raises text.Span p s memory so = absurd (true≢false (sym so))
+reserved_raises text.Match p s memory so = absurd (true≢false (sym so))
 
 -- the first part of a step: it leaves nothing, or some units, and the others are left
 pub data IsFirst (m : Flat) (total : ℕ) : Outcome Leaf → Type 0 where
@@ -135,11 +156,16 @@ module _ (m : Flat) where
           let ready = begun_ready (state_of m) more fine in
           let f = fresh t u xs (with_regs (state_of m) more) in
           let part : outcome_of (text_part t u fin) m.memory ≡ outcome_of (first_by t p v fin) m.memory = ap (λ tree. outcome_of tree m.memory) (part_takes t u fin) ∙ is _ in
-          let total : told (outcome_of (text_operands t u (tells m.memory)) m.memory) ≡ units_by (family_of t) p m.memory =
+          let total : told (outcome_of (text_operands t u (tells m.memory)) m.memory) ≡ (if is_reserved_by p.op p then 0 else units_by (family_of t) p m.memory) =
           ap told (ap (λ tree. outcome_of tree m.memory) (operands_taken t u (tells m.memory)) ∙ is _) ∙ told_by t p v m.memory f in
           subst (IsFirst m _) (sym part)
           (subst (λ n. IsFirst m n (outcome_of (first_by t p v fin) m.memory)) (sym total)
-          (begins_first t p v (units_by (family_of t) p m.memory) (outcome_of (first_by t p v fin) m.memory) f.op ready refl refl (starts t p v m.memory ready f).begins_so (first_right t p v m.memory ready f)))
+          (elim (cases_Bool (is_reserved_by p.op p)) [
+            | inl so ↦
+                rw so (subst (IsFirst m 0) (sym (reserved_raises t p v m.memory (by_opcode t p f so))) (Whole (Raised exception.Operand) tt))
+            | inr isnt ↦
+                rw isnt (begins_first t p v (units_by (family_of t) p m.memory) (outcome_of (first_by t p v fin) m.memory) f.op ready refl refl (starts t p v m.memory ready f).begins_so (first_right t p v m.memory ready f))
+          ]))
 
   act_first : (a : Option Action) (regs : List ℕ) → IsAtAddress regs → IsFirst m (told (outcome_of (tells_if a m.memory (with_regs (state_of m) regs)) m.memory)) (outcome_of (acted_part_if a (with_regs (state_of m) regs) fin) m.memory)
   unfolding acted_part acted_part_if outcome_of
@@ -163,8 +189,8 @@ module _ (m : Flat) where
   opcode_past : IsAtAddress (slice_set m.core.regs 15 (plus (slice_index m.core.regs 15) 1))
   opcode_past = record { pc = set_read m.core.regs 15 (plus (slice_index m.core.regs 15) 1) (omega arith) }
 
-  instruction_first : IsFirst m (units_of m) (outcome_of (first_part (state_of m) fin) m.memory)
-  unfolding first_part units_of
+  instruction_first : IsFirst m (instruction_units m) (outcome_of (first_part (state_of m) fin) m.memory)
+  unfolding first_part instruction_units
   instruction_first = rw (fetched_is (λ opcode s. tells_if (action_of opcode) m.memory s), fetched_is (λ opcode s. acted_part_if (action_of opcode) s fin)) (by (violation m.memory (slice_index m.core.regs 15) 1 (mode (state_of m)) Read))
     where
       by : (v : Option Violation) → IsFirst m (told (from_violation (λ opcode s. tells_if (action_of opcode) m.memory s) v)) (from_violation (λ opcode s. acted_part_if (action_of opcode) s fin) v)
@@ -172,10 +198,10 @@ module _ (m : Flat) where
       by None = act_first (action_of (number (byte_at m.memory) (slice_index m.core.regs 15) 1)) _ opcode_past
 
   pub first_is : IsFirst m (units_of m) (outcome_at (At m))
-  unfolding part begun_part
-  first_is = by (nat_lt (priority (state_of m)) (level m.core))
+  unfolding part begun_part units_of
+  first_is = by (is_interrupted m)
     where
-      by : (b : Bool) → IsFirst m (units_of m) (outcome_of (if b then interrupt (level m.core) (state_of m) (λ how s. fin (flow_of_delivery how) s) else first_part (state_of m) fin) m.memory)
+      by : (b : Bool) → IsFirst m (if b then 0 else instruction_units m) (outcome_of (if b then interrupt (level m.core) (state_of m) (λ how s. fin (flow_of_delivery how) s) else first_part (state_of m) fin) m.memory)
       by true = Whole _ (interrupt_begins _ leaves_no_part [] 2 fin (λ how t h memory. fin_whole [] how t h memory) (level m.core) (state_of m) m.memory)
       by false = instruction_first
 
@@ -191,9 +217,13 @@ module _ (m : Flat) where
       by (Gives xs more fine is) =
           let p = begins t u xs (with_regs (state_of m) more) in
           let f = fresh t u xs (with_regs (state_of m) more) in
-          let total : told (outcome_of (text_operands t u (tells m.memory)) m.memory) ≡ units_by (family_of t) p m.memory =
+          let total : told (outcome_of (text_operands t u (tells m.memory)) m.memory) ≡ (if is_reserved_by p.op p then 0 else units_by (family_of t) p m.memory) =
           ap told (ap (λ tree. outcome_of tree m.memory) (operands_taken t u (tells m.memory)) ∙ is _) ∙ told_by t p (begun (with_regs (state_of m) more)) m.memory f in
-          subst (λ n. n < 2 ^ 32) (sym total) (units_few (family_of t) p m.memory f.proper.len1 f.proper.len2)
+          subst (λ n. n < 2 ^ 32) (sym total)
+          (elim (cases_Bool (is_reserved_by p.op p)) [
+            | inl so ↦ rw so (omega arith)
+            | inr isnt ↦ rw isnt (units_few (family_of t) p m.memory f.proper.len1 f.proper.len2)
+          ])
 
   act_few : (a : Option Action) (regs : List ℕ) → IsAtAddress regs → told (outcome_of (tells_if a m.memory (with_regs (state_of m) regs)) m.memory) < 2 ^ 32
   unfolding outcome_of
@@ -206,10 +236,23 @@ module _ (m : Flat) where
   act_few (Some (action.Text t)) regs good = text_few t regs good
   act_few None regs good = omega arith
 
-  pub few : units_of m < 2 ^ 32
-  unfolding units_of
-  few = rw (fetched_is (λ opcode s. tells_if (action_of opcode) m.memory s)) (by (violation m.memory (slice_index m.core.regs 15) 1 (mode (state_of m)) Read))
+  instruction_few : instruction_units m < 2 ^ 32
+  unfolding instruction_units
+  instruction_few = rw (fetched_is (λ opcode s. tells_if (action_of opcode) m.memory s)) (by (violation m.memory (slice_index m.core.regs 15) 1 (mode (state_of m)) Read))
     where
       by : (v : Option Violation) → told (from_violation (λ opcode s. tells_if (action_of opcode) m.memory s) v) < 2 ^ 32
       by (Some v) = omega arith
       by None = act_few (action_of (number (byte_at m.memory) (slice_index m.core.regs 15) 1)) _ opcode_past
+
+  pub few : units_of m < 2 ^ 32
+  unfolding units_of
+  few = by (is_interrupted m)
+    where
+      by : (b : Bool) → (if b then 0 else instruction_units m) < 2 ^ 32
+      by true = omega arith
+      by false = instruction_few
+
+  -- a step that takes an interrupt has none
+  pub interrupted_has_none : is_interrupted m ≡ true → units_of m ≡ 0
+  unfolding units_of
+  interrupted_has_none so = rw so refl

@@ -1,19 +1,19 @@
 -- Units at worked rows, as the manual says of each instruction what it does byte by byte.
-use Rattle.std.proofs.Common.{◌≡◌, None, ℕ, ◌++◌, List, [], ◌∷◌, replicate, refl}
+use Rattle.std.proofs.Common.{◌≡◌, Bool, true, false, None, ℕ, ◌++◌, List, [], ◌∷◌, replicate, refl}
 use Rattle.vax_space.specs.declared.Area.{Area}
 use Rattle.vax_space.specs.Areas.{area_of, has_page, prot_of}
 use Rattle.vax_space.specs.Protection.{allows, right_of}
-use Rattle.vax_word.specs.Status.{mode_of}
+use Rattle.vax_word.specs.Status.{mode_of, ipl_of}
 use Rattle.vax_flat.specs.Memory.{byte_at, bytes_from, number}
 use Rattle.vax_flat.specs.Operand.{next_operand, specified, fetched, read_at, formed, in_memory, in_register, addressed, at_address, literal, is_reserved, form_of}
 use Rattle.vax_flat.specs.Outcome.{outcome_of}
 use Rattle.vax_flat.specs.Rows.{read_value, address_value, value_of, address_in}
-use Rattle.vax_flat.specs.Step.{Flat}
+use Rattle.vax_flat.specs.Step.{Flat, level, highest}
 use Rattle.vax_flat.specs.StringOperands.{search_operands, equal_operands, filled_operands, match_operands, next_word, next_byte, next_longword, sixteen}
 use Rattle.vax_space.specs.Reference.{violation, may_access}
 use Rattle.vax_isa.specs.Rows.{action_of, with_opcode}
 use Rattle.vax_isa.specs.Instructions.{instructions}
-use Rattle.vax_flat_units.specs.Places.{units_of, text_operands}
+use Rattle.vax_flat_units.specs.Places.{units_of, instruction_units, is_reserved_by, text_operands}
 use Rattle.vax_flat.specs.StringMatch.{places_of}
 use Rattle.vax_flat_units.specs.Units.{to_first, search_units, scan_units, pair_units, compare_units, move_units, escape_units, place_units, stands_at, places_units, match_units, units_left}
 
@@ -90,5 +90,13 @@ at_start : (units_of (at_pc (0x3A ∷ 0x8F ∷ 0x42 ∷ 0x04 ∷ 0x61 ∷ [])) �
     × (units_of (at_pc (0x39 ∷ 0x02 ∷ 0x63 ∷ 0x04 ∷ 0x61 ∷ [])) ≡ 6)
     × (units_of (at_pc (0x01 ∷ [])) ≡ 0)
     × (units_of (at_pc (0x3A ∷ 0x8F ∷ 0x42 ∷ 0x04 ∷ 0x51 ∷ [])) ≡ 0)
-unfolding units_of text_operands outcome_of search_operands equal_operands filled_operands match_operands next_word next_byte next_longword read_value address_value value_of address_in next_operand specified fetched read_at formed in_memory in_register addressed at_address literal is_reserved form_of action_of with_opcode instructions sixteen units_left search_units compare_units pair_units move_units match_units places_units place_units stands_at places_of to_first byte_at bytes_from has_page number violation may_access prot_of area_of allows right_of mode_of
+unfolding units_of instruction_units level highest ipl_of text_operands outcome_of search_operands equal_operands filled_operands match_operands next_word next_byte next_longword read_value address_value value_of address_in next_operand specified fetched read_at formed in_memory in_register addressed at_address literal is_reserved form_of action_of with_opcode instructions sixteen units_left search_units compare_units pair_units move_units match_units places_units place_units stands_at places_of to_first byte_at bytes_from has_page number violation may_access prot_of area_of allows right_of mode_of
 at_start = (refl, refl, refl, refl, refl, refl)
+
+-- MOVTC to a destination in which its table begins, and MOVTUC to one that begins in its source, raise a reserved operand; to one that is their
+-- source, or that has no bytes, neither does
+abbrev reserved : ℕ → ℕ → ℕ → ℕ → ℕ → Bool
+reserved opcode len1 addr1 len2 addr2 = is_reserved_by opcode (record { op = opcode; len1 = len1; addr1 = addr1; byte = 0; len2 = len2; addr2 = addr2; table = 512; done = 0; delta = 6 })
+
+overlapping : (reserved 0x2E 4 0 4 510 ≡ true) × (reserved 0x2E 4 0 2 510 ≡ false) × (reserved 0x2E 0 0 4 510 ≡ false) × (reserved 0x2F 4 0 4 2 ≡ true) × (reserved 0x2F 4 0 4 0 ≡ false) × (reserved 0x2C 4 0 4 510 ≡ false)
+overlapping = (refl, refl, refl, refl, refl, refl)

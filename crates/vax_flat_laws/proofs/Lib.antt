@@ -1,0 +1,16 @@
+pub mod Longwords
+pub mod Entering
+pub mod Handling
+pub mod Changing
+pub mod Endings
+pub mod Requesting
+pub mod Scanning
+pub mod Processing
+pub mod Stacking
+pub mod Statuses
+pub mod Maximum
+pub mod Reading
+pub mod Queueing
+pub mod Fielding
+pub mod Fitting
+pub mod Concluding

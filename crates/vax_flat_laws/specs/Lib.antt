@@ -1,0 +1,10 @@
+pub mod Machines
+pub mod Handlers
+pub mod Requests
+pub mod Processor
+pub mod Places
+pub mod Tables
+pub mod Leaving
+pub mod Maximal
+pub mod Dummies
+pub mod Steps
