@@ -1,5 +1,5 @@
 -- What the code's types mean.
-use Rattle.std.specs.Prelude.{◌≡◌, ℕ, map, Option, option_map, Result, Ok, Err}
+use Rattle.std.specs.Prelude.{◌≡◌, ℕ, map, Option, option_map, Result, Ok, Err, IfOk}
 use Rattle.vax_asm_sections.specs.Layout.{Part, Zeros, Bytes, Field, Section, Sections}
 use Rattle.vax_asm_sections.specs.View.{sections_of}
 use Rattle.vax_asm_sections.specs.declared.types.Layout.{Layout}
@@ -70,11 +70,27 @@ Changes (Ok done) before after r = r ≡ Ok after
 Changes (Err (Fault kind)) before after r = (r ≡ Err kind) × (after ≡ before)
 Changes (Err NoMemory) before after r = Unit {0}
 
+-- The call leaves what a statement states from what stood before, or has its fault.
+abbrev pub States : (standing.Standing → Result standing.Standing FaultKind) → Result Unit Refused → (old new : Standing) → Type 0
+States meant result old new = Stands result (standing_of new) (meant (standing_of old))
+
+-- The call leaves what stood before with a change, or has its fault, and then all is as before.
+abbrev pub Alters : (standing.Standing → Result standing.Standing FaultKind) → Result Unit Refused → (old new : Standing) → Type 0
+Alters meant result old new = Changes result (standing_of old) (standing_of new) (meant (standing_of old))
+
+-- nothing but the scope changes
+abbrev pub ChangesScope : (old new : Standing) → Type 0
+ChangesScope old new = standing_of new ≡ standing.with_scope (scope_of new.scope) (standing_of old)
+
 abbrev pub site_seen : Site → progress.Site
 site_seen s = record { origin = s.origin; line = s.line.now.value.items; here = s.here }
 
 abbrev pub progress_of : Option FaultKind → Standing → progress.Progress
 progress_of fault s = record { fault = fault; standing = standing_of s }
+
+-- The call leaves what a part of a statement adds to what stood before, up to a fault; memory may be refused at any time.
+abbrev pub Advances : {E : Type 0} → (standing.Standing → progress.Progress) → Result (Option FaultKind) E → (old new : Standing) → Type 0
+Advances meant result old new = IfOk result (λ f. progress_of f new ≡ meant (standing_of old))
 
 abbrev pub counted_of : Result ℕ FaultKind → Scope → progress.Counted
 counted_of n s = record { number = n; scope = s }

@@ -38,7 +38,8 @@ fn step(alloc: Global, assignment: &Assignment) -> Result<Step, NoMemory>
 /// One more step.
 #[tactic(auto, using(crate::proofs::Waiting::step_added))]
 fn add_step(alloc: Global, list: &mut Vec<Step>, assignment: &Assignment) -> Result<(), NoMemory>
-    ensures { OnOk result (map step_of list.new.items ≡ map step_of list.old.items ++ step_by (assignment_of assignment.now) ∷ []) }
+    ensures { OnOk result (map step_of list.new.items
+        ≡ map step_of list.old.items ++ step_by (assignment_of assignment.now) ∷ []) }
 {
     let more = step(alloc, assignment)?;
     list.push(more).map_err(|_| NoMemory)?;
@@ -48,7 +49,8 @@ fn add_step(alloc: Global, list: &mut Vec<Step>, assignment: &Assignment) -> Res
 /// The assignments as steps.
 #[tactic(auto, using(crate::proofs::Waiting::steps_step))]
 fn steps(alloc: Global, assignments: &[Assignment]) -> Result<Vec<Step>, NoMemory>
-    ensures { IfOk result (λ v. map step_of v.items ≡ steps_by (map assignment_of assignments.now)) }
+    ensures { IfOk result (λ v. map step_of v.items
+        ≡ steps_by (map assignment_of assignments.now)) }
 {
     let mut list = Vec::new(alloc);
     for assignment in assignments {

@@ -6,7 +6,7 @@ ghost use Rattle.vax_lex.specs.Tokens.{IsTokenOf};
 ghost use Rattle.vax_asm_first.specs.Fixups.{filling_by};
 ghost use Rattle.vax_asm_first.specs.Progress.{added, counted, site_of};
 ghost use Rattle.vax_asm_first.specs.Standing.{with_scope};
-ghost use Rattle.vax_asm_first.specs.View.{counted_of, filling_of, part_seen, progress_of, site_seen, standing_of};
+ghost use Rattle.vax_asm_first.specs.View.{counted_of, filling_of, part_seen, progress_of, site_seen, standing_of, Advances, ChangesScope};
 ghost use Rattle.vax_asm_scope.specs.Kept.{scope_of};
 ghost use Rattle.vax_asm_values.specs.View.{written_of};
 
@@ -33,7 +33,8 @@ pub fn site_of<'a>(
     line: &'a Rc<Vec<u8>>,
     standing: &Standing,
 ) -> Result<Site<'a>, NoMemory>
-    ensures { IfOk result (λ s. site_seen s ≡ site_of origin line.now.value.items (standing_of standing.now)) }
+    ensures { IfOk result (λ s. site_seen s
+        ≡ site_of origin line.now.value.items (standing_of standing.now)) }
 {
     let here = standing.here()?;
     Ok(Site { origin, line, here })
@@ -56,7 +57,7 @@ pub fn add(
     size: u32,
     piece: Piece<Fixup>,
 ) -> Result<Option<FaultKind>, NoMemory>
-    ensures { IfOk result (λ f. progress_of f standing.new ≡ added size (part_seen (part_of piece)) (standing_of standing.old)) }
+    ensures { Advances (added size (part_seen (part_of piece))) result standing.old standing.new }
 {
     match standing.put(size, piece) {
         Ok(()) => Ok(None),
@@ -74,8 +75,10 @@ pub fn counted(
     tokens: Option<&[Token]>,
 ) -> Result<Result<u64, FaultKind>, NoMemory>
     requires { IfSome tokens (λ t. All (IsTokenOf site.line.now.value.items) t.now) }
-    ensures number { IfOk result (λ n. counted_of n (scope_of standing.new.scope) ≡ counted (site_seen site.entry) (option_map (λ t. t.now) tokens.entry) (scope_of standing.old.scope)) }
-    ensures same { OnOk result (standing_of standing.new ≡ with_scope (scope_of standing.new.scope) (standing_of standing.old)) }
+    ensures number { IfOk result (λ n. counted_of n (scope_of standing.new.scope)
+        ≡ counted (site_seen site.entry)
+        (option_map (λ t. t.now) tokens.entry) (scope_of standing.old.scope)) }
+    ensures same { OnOk result (ChangesScope standing.old standing.new) }
 {
     let Some(tokens) = tokens else {
         return Ok(Ok(1));

@@ -6,7 +6,7 @@ ghost use Rattle.vax_asm_sections.specs.View.{part_of};
 ghost use Rattle.vax_lex.specs.Grammar.{symbols_of};
 ghost use Rattle.vax_lex.specs.Tokens.{IsTokenOf};
 ghost use Rattle.vax_asm_first.specs.Standing.{at_start, here_in, told, unless_certain, with_scope, with_sections};
-ghost use Rattle.vax_asm_first.specs.View.{standing_of, sections_in, told_of, part_seen, Changes};
+ghost use Rattle.vax_asm_first.specs.View.{standing_of, told_of, part_seen, Alters, ChangesScope};
 ghost use Rattle.vax_asm_scope.specs.Kept.{scope_of};
 ghost use Rattle.vax_asm_values.specs.Certain.{certain};
 ghost use Rattle.vax_asm_values.specs.Values.{Means, Worked, value_of};
@@ -28,7 +28,8 @@ fn settled(
     expression: &Expression,
     value: Result<Value, ExprError>,
 ) -> Result<Value, ExprError>
-    ensures { result ≡ unless_certain (certain (value_of (scope_of scope.now).sources) (written_of expression.now)) value }
+    ensures { result ≡ unless_certain (certain (value_of (scope_of scope.now).sources)
+        (written_of expression.now)) value }
 {
     match value {
         Err(ExprError::Unknown) => match scope.certain_fault(expression) {
@@ -81,10 +82,12 @@ impl Standing {
         here: Value,
     ) -> Result<Told, NoMemory>
         requires { All (IsTokenOf line.now.value.items) tokens.now }
-        ensures told { IfOk result (λ t. told_of t (scope_of self.new.scope) ≡ told here (symbols_of line.now.value.items tokens.now) (scope_of self.old.scope)) }
-        ensures same { OnOk result (standing_of self.new ≡ with_scope (scope_of self.new.scope) (standing_of self.old)) }
+        ensures told { IfOk result (λ t. told_of t (scope_of self.new.scope)
+            ≡ told here (symbols_of line.now.value.items tokens.now) (scope_of self.old.scope)) }
+        ensures same { OnOk result (ChangesScope self.old self.new) }
         // Its names mean definitions that there are.
-        ensures means { IfOk result (λ t. Means (length (scope_of self.new.scope).sources) (Worked (written_of t.expression))) }
+        ensures means { IfOk result (λ t. Means (length (scope_of self.new.scope).sources)
+            (Worked (written_of t.expression))) }
     {
         let expression = self.scope.expression(alloc, line, tokens, here)?;
         let value = self.scope.evaluate(&expression);
@@ -102,7 +105,8 @@ impl Standing {
     /// [`Refused::NoMemory`] where memory is refused.
     #[tactic(auto, using(crate::proofs::Seeing::put_stands, crate::proofs::Seeing::put_fails))]
     pub fn put(&mut self, size: u32, piece: Piece<Fixup>) -> Result<(), Refused>
-        ensures { Changes result (standing_of self.old) (standing_of self.new) (with_sections (standing_of self.old) (put size (part_seen (part_of piece)) (sections_in self.old.layout))) }
+        ensures { Alters (λ s. with_sections s (put size (part_seen (part_of piece)) s.sections))
+            result self.old self.new }
     {
         match self.layout.put(size, piece) {
             Ok(()) => Ok(()),
@@ -118,7 +122,8 @@ impl Standing {
     #[tactic(auto, using(crate::proofs::Seeing::align_stands, crate::proofs::Seeing::align_fails))]
     pub fn align(&mut self, align: u8) -> Result<(), Refused>
         requires { align ≤ 9 }
-        ensures { Changes result (standing_of self.old) (standing_of self.new) (with_sections (standing_of self.old) (aligned align (sections_in self.old.layout))) }
+        ensures { Alters (λ s. with_sections s (aligned align s.sections))
+            result self.old self.new }
     {
         match self.layout.align(align) {
             Ok(()) => Ok(()),

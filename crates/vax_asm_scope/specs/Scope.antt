@@ -163,10 +163,14 @@ abbrev pub external_names : List table.Name → List (List ℕ)
 external_names [] = []
 external_names (n ∷ names) = if is_undefined n then n.text ∷ external_names names else external_names names
 
+-- what an external name of this number is given
+abbrev pub external_at : ℕ → Source
+external_at i = Given (External i (pos 0))
+
 abbrev pub with_externals : ℕ → List table.Name → List Source → List Source
 with_externals i [] sources = sources
 with_externals i (n ∷ names) sources =
-    if is_undefined n then with_externals (i + 1) names (with_source n.definition (Given (External i (pos 0))) sources)
+    if is_undefined n then with_externals (i + 1) names (with_source n.definition (external_at i) sources)
     else with_externals i names sources
 
 abbrev pub closed : Scope → Scope

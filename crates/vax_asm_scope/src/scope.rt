@@ -65,7 +65,8 @@ impl Scope {
     ///
     /// [`ExprError`] as for `vax_lex`'s `evaluate`.
     pub fn evaluate(&self, expression: &Expression) -> Result<Value, ExprError>
-        ensures { result ≡ worth (value_of (scope_of self.now).sources) (written_of expression.now) }
+        ensures { result
+            ≡ worth (value_of (scope_of self.now).sources) (written_of expression.now) }
     {
         self.tables.definitions.evaluate(expression)
     }
@@ -74,7 +75,8 @@ impl Scope {
     ///
     /// [`ExprError`] as for `vax_lex`'s `certain_fault`.
     pub fn certain_fault(&self, expression: &Expression) -> Option<ExprError>
-        ensures { result ≡ certain (value_of (scope_of self.now).sources) (written_of expression.now) }
+        ensures { result
+            ≡ certain (value_of (scope_of self.now).sources) (written_of expression.now) }
     {
         self.tables.definitions.certain_fault(expression)
     }
@@ -96,8 +98,10 @@ impl Scope {
 
     /// A name appears, which is no local label. It is told which definition a use of it means here.
     pub fn appear(&mut self, alloc: Global, text: &[u8]) -> Result<usize, NoMemory>
-        ensures definition { IfOk result (λ d. d ≡ definition_at (entry text.now (scope_of self.old))) }
-        ensures scope { OnOk result (scope_of self.new ≡ (entry text.now (scope_of self.old)).scope) }
+        ensures definition { IfOk result (λ d. d
+            ≡ definition_at (entry text.now (scope_of self.old))) }
+        ensures scope { OnOk result (scope_of self.new
+            ≡ (entry text.now (scope_of self.old)).scope) }
     {
         let Scope { tables, .. } = mem::replace(self, Scope::new(alloc));
         let mut tables = tables;
@@ -117,12 +121,18 @@ impl Scope {
         here: Value,
     ) -> Result<Expression, NoMemory>
         requires { All (IsTokenOf line.now.value.items) tokens.now }
-        ensures expression { IfOk result (λ e. written_of e ≡ record { symbols = symbols_of line.now.value.items tokens.now; names = (bound here (symbols_of line.now.value.items tokens.now) (scope_of self.old)).names }) }
-        ensures scope { OnOk result (scope_of self.new ≡ (bound here (symbols_of line.now.value.items tokens.now) (scope_of self.old)).scope) }
+        ensures expression { let symbols = symbols_of line.now.value.items tokens.now in
+            IfOk result (λ e. written_of e ≡ record {
+            symbols = symbols; names = (bound here symbols (scope_of self.old)).names }) }
+        ensures scope { OnOk result (scope_of self.new
+            ≡ (bound here (symbols_of line.now.value.items tokens.now) (scope_of self.old)).scope) }
         // Its names are those that are terms of the expression that the tokens spell.
-        ensures tree { IfOk result (λ w. (e : Tree) → symbols_of line.now.value.items tokens.now ≡ spelling e → map (λ m. m.name) (written_of w).names ≡ names_of e) }
+        ensures tree { IfOk result (λ w. (e : Tree) →
+            symbols_of line.now.value.items tokens.now ≡ spelling e →
+            map (λ m. m.name) (written_of w).names ≡ names_of e) }
         // They mean definitions that there are.
-        ensures means { IfOk result (λ e. Means (length (scope_of self.new).sources) (Worked (written_of e))) }
+        ensures means { IfOk result
+            (λ e. Means (length (scope_of self.new).sources) (Worked (written_of e))) }
     {
         let Scope { tables, .. } = mem::replace(self, Scope::new(alloc));
         let mut tables = tables;
@@ -138,7 +148,8 @@ impl Scope {
     /// [`LabelError::Duplicate`] where the name has a definition, and all is as before then; [`LabelError::NoMemory`] where
     /// memory is refused.
     pub fn label(&mut self, alloc: Global, text: &[u8], value: Value) -> Result<(), LabelError>
-        ensures { Labels result (scope_of self.old) (scope_of self.new) (labelled text.now value (scope_of self.old)) }
+        ensures { Labels result
+            (scope_of self.old) (scope_of self.new) (labelled text.now value (scope_of self.old)) }
     {
         let Scope { tables, .. } = mem::replace(self, Scope::new(alloc));
         let mut tables = tables;
@@ -166,7 +177,8 @@ impl Scope {
         expression: Expression,
     ) -> Result<usize, LabelError>
         requires { Means (length (scope_of self.old).sources) (Worked (written_of expression)) }
-        ensures scope { Defines result (scope_of self.new) (assigned text.now (written_of expression) (scope_of self.old)) }
+        ensures scope { Defines result
+            (scope_of self.new) (assigned text.now (written_of expression) (scope_of self.old)) }
         ensures definition { IfOk result (λ d. d ≡ definition_of text.now (scope_of self.new)) }
     {
         let Scope { tables, .. } = mem::replace(self, Scope::new(alloc));
@@ -186,7 +198,8 @@ impl Scope {
         text: &[u8],
         value: Value,
     ) -> Result<(), LabelError>
-        ensures { Labels result (scope_of self.old) (scope_of self.new) (labelled_locally text.now value (scope_of self.old)) }
+        ensures { Labels result (scope_of self.old)
+            (scope_of self.new) (labelled_locally text.now value (scope_of self.old)) }
     {
         let Scope { tables, .. } = mem::replace(self, Scope::new(alloc));
         let mut tables = tables;
@@ -227,7 +240,8 @@ impl Scope {
     /// The source is read: each name that nothing has defined is another module's. They are told in the order in which
     /// they first appeared, and each means the external with its place in that list.
     pub fn close(&mut self, alloc: Global) -> Result<Vec<Vec<u8>>, NoMemory>
-        ensures externals { IfOk result (λ names. texts_of names ≡ external_names (scope_of self.old).names.all) }
+        ensures externals { IfOk result (λ names. texts_of names
+            ≡ external_names (scope_of self.old).names.all) }
         ensures scope { OnOk result (scope_of self.new ≡ closed (scope_of self.old)) }
     {
         let Scope { tables, .. } = mem::replace(self, Scope::new(alloc));

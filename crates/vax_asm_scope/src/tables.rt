@@ -1,15 +1,14 @@
 // Names, and what they mean where they stand.
 
-ghost use Rattle.std.specs.Prelude.{◌≡◌, ◌<◌, ◌++◌, ◌∷◌, [], if◌then◌else◌, pos, All, IfOk, OnOk, codes, length, map};
+ghost use Rattle.std.specs.Prelude.{◌≡◌, ◌<◌, ◌++◌, ◌∷◌, [], if◌then◌else◌, All, IfOk, OnOk, codes, length, map};
 ghost use Rattle.std.specs.Str.{bytes_eq};
 ghost use Rattle.vax_lex.specs.Grammar.{symbol_of, symbols_of};
 ghost use Rattle.vax_lex.specs.Tokens.{IsTokenOf};
 ghost use Rattle.vax_asm_names.specs.View.{name_of};
-ghost use Rattle.vax_lex.specs.declared.value.Value.TheVariants.{External};
-ghost use Rattle.vax_asm_scope.specs.Scope.{is_local, undefined_by, with_externals, external_names};
+ghost use Rattle.vax_asm_scope.specs.Scope.{is_local, undefined_by, external_at, with_externals, external_names};
 ghost use Rattle.vax_asm_scope.specs.View.{texts_of};
 ghost use Rattle.vax_asm_values.specs.Definitions.{sources_of};
-ghost use Rattle.vax_asm_values.specs.Values.{Given, with_source};
+ghost use Rattle.vax_asm_values.specs.Values.{with_source};
 
 use crate::place::{Place, behind, is_dot, kept_text};
 use std::alloc::Global;
@@ -55,8 +54,11 @@ fn add_external(
     text: &[u8],
     externals: &mut Vec<Vec<u8>>,
 ) -> Result<(), NoMemory>
-    ensures sources { OnOk result (sources_of definitions.new ≡ with_source definition (Given (External (length (texts_of externals.old)) (pos 0))) (sources_of definitions.old)) }
-    ensures externals { OnOk result (texts_of externals.new ≡ texts_of externals.old ++ text.now ∷ []) }
+    ensures sources { OnOk result (sources_of definitions.new
+        ≡ with_source definition (external_at (length (texts_of externals.old)))
+        (sources_of definitions.old)) }
+    ensures externals { OnOk result (texts_of externals.new
+        ≡ texts_of externals.old ++ text.now ∷ []) }
 {
     let index = u32::try_from(externals.len()).map_err(|_| NoMemory)?;
     let text = text.to_vec(alloc).map_err(|_| NoMemory)?;
@@ -75,8 +77,11 @@ fn close_name(
     text: &[u8],
     externals: &mut Vec<Vec<u8>>,
 ) -> Result<(), NoMemory>
-    ensures sources { OnOk result (sources_of definitions.new ≡ (if undefined then with_source definition (Given (External (length (texts_of externals.old)) (pos 0))) (sources_of definitions.old) else sources_of definitions.old)) }
-    ensures externals { OnOk result (texts_of externals.new ≡ texts_of externals.old ++ (if undefined then text.now ∷ [] else [])) }
+    ensures sources { OnOk result (sources_of definitions.new
+        ≡ (if undefined then with_source definition (external_at (length (texts_of externals.old)))
+        (sources_of definitions.old) else sources_of definitions.old)) }
+    ensures externals { OnOk result (texts_of externals.new
+        ≡ texts_of externals.old ++ (if undefined then text.now ∷ [] else [])) }
 {
     if !undefined {
         return Ok(());
@@ -93,7 +98,8 @@ fn close_all(
     names: &[Name],
 ) -> Result<Vec<Vec<u8>>, NoMemory>
     ensures externals { IfOk result (λ v. texts_of v ≡ external_names (map name_of names.now)) }
-    ensures sources { OnOk result (sources_of definitions.new ≡ with_externals 0 (map name_of names.now) (sources_of definitions.old)) }
+    ensures sources { OnOk result (sources_of definitions.new
+        ≡ with_externals 0 (map name_of names.now) (sources_of definitions.old)) }
 {
     let mut externals = Vec::new(alloc);
     for name in names {
@@ -135,7 +141,8 @@ impl Tables {
     /// The number of a name. One that appears for the first time gets a definition that is to come.
     pub(crate) fn entry(&mut self, alloc: Global, text: &[u8]) -> Result<usize, NoMemory>
         ensures number { IfOk result (λ i. i ≡ (entry text.now (scope_in self.old)).number) }
-        ensures scope { OnOk result (scope_in self.new ≡ (entry text.now (scope_in self.old)).scope) }
+        ensures scope { OnOk result (scope_in self.new
+            ≡ (entry text.now (scope_in self.old)).scope) }
         ensures within { IfOk result (λ i. i < length (scope_in self.new).names.all) }
     {
         if let Some(number) = self.names.number(text) {
@@ -178,8 +185,10 @@ impl Tables {
 
     /// What a local label means.
     fn local_meaning(&mut self, alloc: Global, text: &[u8]) -> Result<usize, NoMemory>
-        ensures definition { IfOk result (λ d. d ≡ (mean_local text.now (scope_in self.old) ((scope_in self.old).names.locals text.now)).definition) }
-        ensures scope { OnOk result (scope_in self.new ≡ (mean_local text.now (scope_in self.old) ((scope_in self.old).names.locals text.now)).scope) }
+        ensures definition { IfOk result (λ d. d ≡ (mean_local text.now (scope_in self.old)
+            ((scope_in self.old).names.locals text.now)).definition) }
+        ensures scope { OnOk result (scope_in self.new ≡ (mean_local text.now (scope_in self.old)
+            ((scope_in self.old).names.locals text.now)).scope) }
     {
         if let Some(local) = self.names.local(text) {
             return Ok(local.definition);
@@ -191,8 +200,10 @@ impl Tables {
 
     /// What `.` means.
     fn place_meaning(&mut self, alloc: Global, here: Value) -> Result<usize, NoMemory>
-        ensures definition { IfOk result (λ d. d ≡ (mean_here here (scope_in self.old)).definition) }
-        ensures scope { OnOk result (scope_in self.new ≡ (mean_here here (scope_in self.old)).scope) }
+        ensures definition { IfOk result (λ d. d
+            ≡ (mean_here here (scope_in self.old)).definition) }
+        ensures scope { OnOk result (scope_in self.new
+            ≡ (mean_here here (scope_in self.old)).scope) }
     {
         let definition = self.definitions.open(alloc)?;
         self.definitions.give(alloc, definition, here)?;
@@ -201,8 +212,10 @@ impl Tables {
 
     /// What a name means where it stands.
     fn meaning(&mut self, alloc: Global, text: &[u8], here: Value) -> Result<usize, NoMemory>
-        ensures definition { IfOk result (λ d. d ≡ (mean here text.now (scope_in self.old)).definition) }
-        ensures scope { OnOk result (scope_in self.new ≡ (mean here text.now (scope_in self.old)).scope) }
+        ensures definition { IfOk result (λ d. d
+            ≡ (mean here text.now (scope_in self.old)).definition) }
+        ensures scope { OnOk result (scope_in self.new
+            ≡ (mean here text.now (scope_in self.old)).scope) }
     {
         if is_dot(text) {
             return self.place_meaning(alloc, here);
@@ -223,7 +236,8 @@ impl Tables {
         text: &[u8],
         here: Value,
     ) -> Result<(), NoMemory>
-        ensures { OnOk result (bound_in found.new self.new ≡ bind here text.now (bound_in found.old self.old)) }
+        ensures { OnOk result (bound_in found.new self.new
+            ≡ bind here text.now (bound_in found.old self.old)) }
     {
         let definition = self.meaning(alloc, text, here)?;
         let name = text.to_vec(alloc).map_err(|_| NoMemory)?;
@@ -244,7 +258,9 @@ impl Tables {
         here: Value,
     ) -> Result<(), NoMemory>
         requires { IsTokenOf line.now token }
-        ensures { OnOk result (bound_in found.new self.new ≡ bind_all here (bound_in found.old self.old) (used_by (place_of place) (symbol_of line.now token))) }
+        ensures { OnOk result (bound_in found.new self.new
+            ≡ bind_all here (bound_in found.old self.old) (used_by (place_of place)
+            (symbol_of line.now token))) }
     {
         match (place, token.kind) {
             (Place::Term, TokenKind::Name) => {
@@ -266,7 +282,8 @@ impl Tables {
         here: Value,
     ) -> Result<Vec<Meaning>, NoMemory>
         requires { All (IsTokenOf line.now) tokens.now }
-        ensures { IfOk result (λ found. bound_in found self.new ≡ bound here (symbols_of line.now tokens.now) (scope_in self.old)) }
+        ensures { IfOk result (λ found. bound_in found self.new
+            ≡ bound here (symbols_of line.now tokens.now) (scope_in self.old)) }
     {
         let mut found = Vec::new(alloc);
         let mut place = Place::Term;
@@ -285,7 +302,8 @@ impl Tables {
         text: &[u8],
         value: Value,
     ) -> Result<(), LabelError>
-        ensures { Labels result (scope_in self.old) (scope_in self.new) (labelled text.now value (scope_in self.old)) }
+        ensures { Labels result
+            (scope_in self.old) (scope_in self.new) (labelled text.now value (scope_in self.old)) }
     {
         let Ok(number) = self.entry(alloc, text) else {
             return Err(LabelError::NoMemory);
@@ -309,7 +327,9 @@ impl Tables {
         expression: Expression,
     ) -> Result<(), NoMemory>
         requires { Means (length (scope_in self.old).sources) (Worked (written_of expression)) }
-        ensures { OnOk result (scope_in self.new ≡ record (scope_in self.old) { sources = with_source definition (kept (written_of expression) value) (scope_in self.old).sources }) }
+        ensures { OnOk result (scope_in self.new ≡ record (scope_in self.old)
+            { sources = with_source definition (kept (written_of expression) value)
+            (scope_in self.old).sources }) }
     {
         match value {
             Ok(value) => self.definitions.give(alloc, definition, value)?,
@@ -327,7 +347,8 @@ impl Tables {
         expression: Expression,
     ) -> Result<usize, LabelError>
         requires { Means (length (scope_in self.old).sources) (Worked (written_of expression)) }
-        ensures scope { Defines result (scope_in self.new) (assigned text.now (written_of expression) (scope_in self.old)) }
+        ensures scope { Defines result
+            (scope_in self.new) (assigned text.now (written_of expression) (scope_in self.old)) }
         ensures definition { IfOk result (λ d. d ≡ definition_of text.now (scope_in self.new)) }
     {
         let Ok(number) = self.entry(alloc, text) else {
@@ -355,7 +376,8 @@ impl Tables {
         text: &[u8],
         value: Value,
     ) -> Result<(), LabelError>
-        ensures { Labels result (scope_in self.old) (scope_in self.new) (labelled_locally text.now value (scope_in self.old)) }
+        ensures { Labels result (scope_in self.old)
+            (scope_in self.new) (labelled_locally text.now value (scope_in self.old)) }
     {
         let fresh = self.definitions.count();
         let local = self.names.label_local(alloc, text, fresh)?;
@@ -370,7 +392,8 @@ impl Tables {
 
     /// The next definition is to come, if this is its number.
     fn open_if_fresh(&mut self, alloc: Global, definition: usize) -> Result<(), NoMemory>
-        ensures { OnOk result (scope_in self.new ≡ record (scope_in self.old) { sources = opened_if_fresh definition (scope_in self.old).sources }) }
+        ensures { OnOk result (scope_in self.new ≡ record (scope_in self.old)
+            { sources = opened_if_fresh definition (scope_in self.old).sources }) }
     {
         if definition == self.definitions.count() {
             self.definitions.open(alloc)?;
@@ -389,7 +412,8 @@ impl Tables {
 
     /// Each name that nothing has defined is another module's. They are told in the order in which they first appeared.
     pub(crate) fn close(&mut self, alloc: Global) -> Result<Vec<Vec<u8>>, NoMemory>
-        ensures externals { IfOk result (λ names. texts_of names ≡ external_names (scope_in self.old).names.all) }
+        ensures externals { IfOk result (λ names. texts_of names
+            ≡ external_names (scope_in self.old).names.all) }
         ensures scope { OnOk result (scope_in self.new ≡ closed (scope_in self.old)) }
     {
         close_all(&mut self.definitions, alloc, self.names.names())

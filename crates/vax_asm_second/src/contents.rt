@@ -48,7 +48,8 @@ pub(crate) fn before_field(content: Content) -> u32
 /// Writes a number so many times.
 #[tactic(auto, using(crate::proofs::Repeating::repeat_more, crate::proofs::Repeating::repeat_done))]
 fn write_data(out: &mut Vec<u8>, size: Size, count: u32, number: u64) -> Result<(), NoMemory>
-    ensures { OnOk result (out.new.items ≡ out.old.items ++ repeat count (low_bytes (bytes_of size) number)) }
+    ensures { OnOk result (out.new.items
+        ≡ out.old.items ++ repeat count (low_bytes (bytes_of size) number)) }
 {
     let width = size.bytes() as u8;
     for _ in 0..count {

@@ -52,7 +52,8 @@ fn unknown(undefined: bool) -> Option<FaultKind>
 
 /// The fault of an expression without a value. None where what is at fault is a definition that it rests on.
 fn fault_of_error(scope: &Scope, expression: &Expression, error: ExprError) -> Option<FaultKind>
-    ensures { result ≡ fault_of_error (scope_of scope.now).sources (written_of expression.now) error }
+    ensures { result
+        ≡ fault_of_error (scope_of scope.now).sources (written_of expression.now) error }
 {
     match error {
         ExprError::Form => Some(FaultKind::Form),
@@ -90,7 +91,8 @@ pub(crate) fn fault_at(origin: Origin, kind: Option<FaultKind>) -> Option<Fault>
 
 /// The fault of an assignment.
 fn fault_of(scope: &Scope, assignment: &Assignment) -> Option<Fault>
-    ensures { result ≡ first_of (fault_at assignment.now.origin (kind_of (value_in (scope_of scope.now).sources (assignment_of assignment.now).written))) }
+    ensures { result ≡ first_of (fault_at assignment.now.origin
+        (kind_of (value_in (scope_of scope.now).sources (assignment_of assignment.now).written))) }
 {
     match value_in(scope, &assignment.expression) {
         Ok(_) => None,
@@ -101,7 +103,8 @@ fn fault_of(scope: &Scope, assignment: &Assignment) -> Option<Fault>
 /// The first fault of assignments.
 #[tactic(auto, using(crate::proofs::Order::assignment_seen, crate::proofs::Order::assignments_seen))]
 pub(crate) fn assigned_fault(scope: &Scope, assignments: &[Assignment]) -> Option<Fault>
-    ensures { result ≡ first_of (assigned_faults (scope_of scope.now).sources (map assignment_of assignments.now)) }
+    ensures { result ≡ first_of (assigned_faults
+        (scope_of scope.now).sources (map assignment_of assignments.now)) }
 {
     let mut found = None;
     for assignment in assignments {

@@ -4,9 +4,8 @@ ghost use Rattle.std.specs.Prelude.{◌≡◌, ◌≤◌, ◌<◌, ◌+◌, ◌^
 ghost use Rattle.vax_asm_second.specs.Contents.{before_field};
 ghost use Rattle.vax_asm_second.specs.Faults.{first, first_of, fault_at};
 ghost use Rattle.vax_asm_second.specs.Laid.{linked, fixed, output, outputs, laid, section_of as laid_section};
-ghost use Rattle.vax_asm_second.specs.View.{known_of};
-ghost use Rattle.vax_asm_sections.specs.View.{part_of, section_of};
-ghost use Rattle.vax_asm_first.specs.View.{fixup_of, part_seen, section_seen};
+ghost use Rattle.vax_asm_second.specs.View.{known_of, seen_part, seen_parts, seen_section, seen_sections};
+ghost use Rattle.vax_asm_first.specs.View.{fixup_of};
 
 use crate::contents::{add_relocs, before_field, field_in, write_content};
 use crate::faults::{fault_at, first, value_filled};
@@ -73,7 +72,8 @@ impl Found {
         link: Option<Link>,
     ) -> Result<(), NoMemory>
         requires { at + 6 < 2 ^ 32 }
-        ensures relocs { OnOk result (self.new.relocs.items ≡ self.old.relocs.items ++ linked (known_of known.entry) content section at link) }
+        ensures relocs { OnOk result (self.new.relocs.items
+            ≡ self.old.relocs.items ++ linked (known_of known.entry) content section at link) }
         ensures fault { self.new.fault ≡ self.old.fault }
     {
         let Some(Link { kind, target }) = link else {
@@ -108,9 +108,14 @@ impl Found {
         section: u32,
         fixup: &Fixup,
     ) -> Result<(), NoMemory>
-        ensures bytes { OnOk result (out.new.items ≡ out.old.items ++ (fixed (known_of known.entry) section (length out.old.items) (fixup_of fixup.now)).bytes) }
-        ensures relocs { OnOk result (self.new.relocs.items ≡ self.old.relocs.items ++ (fixed (known_of known.entry) section (length out.old.items) (fixup_of fixup.now)).relocs) }
-        ensures fault { OnOk result (self.new.fault ≡ first self.old.fault (first_of (fixed (known_of known.entry) section (length out.old.items) (fixup_of fixup.now)).faults)) }
+        ensures bytes { OnOk result (out.new.items ≡ out.old.items ++ (fixed (known_of known.entry)
+            section (length out.old.items) (fixup_of fixup.now)).bytes) }
+        ensures relocs { OnOk result (self.new.relocs.items
+            ≡ self.old.relocs.items ++ (fixed (known_of known.entry) section (length out.old.items)
+            (fixup_of fixup.now)).relocs) }
+        ensures fault { OnOk result (self.new.fault
+            ≡ first self.old.fault (first_of (fixed (known_of known.entry)
+            section (length out.old.items) (fixup_of fixup.now)).faults)) }
     {
         let content = fixup.content;
         let at = place_behind(out)?;
@@ -138,9 +143,14 @@ impl Found {
         section: u32,
         piece: &Piece<Fixup>,
     ) -> Result<(), NoMemory>
-        ensures bytes { OnOk result (out.new.items ≡ out.old.items ++ (output (known_of known.entry) section (length out.old.items) (part_seen (part_of piece.now))).bytes) }
-        ensures relocs { OnOk result (self.new.relocs.items ≡ self.old.relocs.items ++ (output (known_of known.entry) section (length out.old.items) (part_seen (part_of piece.now))).relocs) }
-        ensures fault { OnOk result (self.new.fault ≡ first self.old.fault (first_of (output (known_of known.entry) section (length out.old.items) (part_seen (part_of piece.now))).faults)) }
+        ensures bytes { OnOk result (out.new.items ≡ out.old.items ++ (output (known_of known.entry)
+            section (length out.old.items) (seen_part piece.now)).bytes) }
+        ensures relocs { OnOk result (self.new.relocs.items
+            ≡ self.old.relocs.items ++ (output (known_of known.entry) section (length out.old.items)
+            (seen_part piece.now)).relocs) }
+        ensures fault { OnOk result (self.new.fault
+            ≡ first self.old.fault (first_of (output (known_of known.entry)
+            section (length out.old.items) (seen_part piece.now)).faults)) }
     {
         match piece {
             Piece::Zeros(count) => {
@@ -167,9 +177,12 @@ impl Found {
         section: u32,
         pieces: &[Piece<Fixup>],
     ) -> Result<Vec<u8>, NoMemory>
-        ensures bytes { IfOk result (λ b. b.items ≡ (outputs (known_of known.entry) section 0 (map part_seen (map part_of pieces.now))).bytes) }
-        ensures relocs { OnOk result (self.new.relocs.items ≡ self.old.relocs.items ++ (outputs (known_of known.entry) section 0 (map part_seen (map part_of pieces.now))).relocs) }
-        ensures fault { OnOk result (self.new.fault ≡ first self.old.fault (first_of (outputs (known_of known.entry) section 0 (map part_seen (map part_of pieces.now))).faults)) }
+        ensures bytes { IfOk result (λ b. b.items
+            ≡ (outputs (known_of known.entry) section 0 (seen_parts pieces.now)).bytes) }
+        ensures relocs { OnOk result (self.new.relocs.items ≡ self.old.relocs.items
+            ++ (outputs (known_of known.entry) section 0 (seen_parts pieces.now)).relocs) }
+        ensures fault { OnOk result (self.new.fault ≡ first self.old.fault (first_of
+            (outputs (known_of known.entry) section 0 (seen_parts pieces.now)).faults)) }
     {
         let mut out = Vec::new(alloc);
         for piece in pieces {
@@ -186,9 +199,12 @@ impl Found {
         number: u32,
         building: &Building<Fixup>,
     ) -> Result<Section, NoMemory>
-        ensures section { IfOk result (λ s. s ≡ laid_section (section_seen (section_of building.now)) (outputs (known_of known.entry) number 0 (section_seen (section_of building.now)).parts).bytes) }
-        ensures relocs { OnOk result (self.new.relocs.items ≡ self.old.relocs.items ++ (outputs (known_of known.entry) number 0 (section_seen (section_of building.now)).parts).relocs) }
-        ensures fault { OnOk result (self.new.fault ≡ first self.old.fault (first_of (outputs (known_of known.entry) number 0 (section_seen (section_of building.now)).parts).faults)) }
+        ensures section { IfOk result (λ s. s ≡ laid_section (seen_section building.now)
+            (outputs (known_of known.entry) number 0 (seen_section building.now).parts).bytes) }
+        ensures relocs { OnOk result (self.new.relocs.items ≡ self.old.relocs.items
+            ++ (outputs (known_of known.entry) number 0 (seen_section building.now).parts).relocs) }
+        ensures fault { OnOk result (self.new.fault ≡ first self.old.fault (first_of
+            (outputs (known_of known.entry) number 0 (seen_section building.now).parts).faults)) }
     {
         let name = building.name.to_vec(alloc).map_err(|_| NoMemory)?;
         let bytes = self.write_pieces(alloc, known, number, &building.pieces)?;
@@ -208,9 +224,12 @@ impl Found {
         known: Known<'_>,
         sections: &[Building<Fixup>],
     ) -> Result<Vec<Section>, NoMemory>
-        ensures sections { IfOk result (λ v. v.items ≡ (laid (known_of known.entry) 0 (map section_seen (map section_of sections.now))).sections) }
-        ensures relocs { OnOk result (self.new.relocs.items ≡ self.old.relocs.items ++ (laid (known_of known.entry) 0 (map section_seen (map section_of sections.now))).relocs) }
-        ensures fault { OnOk result (self.new.fault ≡ first self.old.fault (first_of (laid (known_of known.entry) 0 (map section_seen (map section_of sections.now))).faults)) }
+        ensures sections { IfOk result (λ v. v.items
+            ≡ (laid (known_of known.entry) 0 (seen_sections sections.now)).sections) }
+        ensures relocs { OnOk result (self.new.relocs.items ≡ self.old.relocs.items
+            ++ (laid (known_of known.entry) 0 (seen_sections sections.now)).relocs) }
+        ensures fault { OnOk result (self.new.fault ≡ first self.old.fault (first_of
+            (laid (known_of known.entry) 0 (seen_sections sections.now)).faults)) }
     {
         let mut list = Vec::new(alloc);
         for (i, building) in sections.iter().enumerate() {

@@ -7,12 +7,11 @@ ghost use Rattle.vax_asm_second.specs.Faults.{first_of, assigned_faults, unclose
 ghost use Rattle.vax_asm_second.specs.Laid as specs;
 ghost use Rattle.vax_asm_second.specs.Laid.{laid};
 ghost use Rattle.vax_asm_second.specs.Modules.{symbol, global_symbol, transfer_symbol, faults, module_of, filled_in};
-ghost use Rattle.vax_asm_second.specs.View.{known_of, Lays, Fills};
-ghost use Rattle.vax_asm_sections.specs.View.{section_of};
+ghost use Rattle.vax_asm_second.specs.View.{known_of, seen_sections, Lays, Fills};
 ghost use Rattle.vax_macro.specs.View.{opening_of};
 ghost use Rattle.vax_module.specs.Formed.{Formed, Precedes};
 ghost use Rattle.vax_asm_names.specs.View.{name_of};
-ghost use Rattle.vax_asm_first.specs.View.{assignment_of, section_seen, standing_of, transfer_of};
+ghost use Rattle.vax_asm_first.specs.View.{assignment_of, standing_of, transfer_of};
 ghost use Rattle.vax_asm_scope.specs.Scope.{is_undefined};
 ghost use Rattle.vax_asm_scope.specs.View.{texts_of};
 
@@ -94,7 +93,8 @@ impl Known<'_> {
     /// The names that other modules may use and this one defines.
     #[tactic(auto, using(crate::proofs::Steps::name_added, crate::proofs::Steps::names_added))]
     fn globals(self, alloc: Global, names: &[Name]) -> Result<Vec<Symbol>, NoMemory>
-        ensures { IfOk result (λ v. v.items ≡ filter_map (global_symbol (known_of self.entry)) (map name_of names.now)) }
+        ensures { IfOk result (λ v. v.items
+            ≡ filter_map (global_symbol (known_of self.entry)) (map name_of names.now)) }
     {
         let mut list = Vec::new(alloc);
         for name in names {
@@ -106,7 +106,8 @@ impl Known<'_> {
 
     /// The name at which the program begins.
     fn transfer(self, alloc: Global, transfer: Option<Transfer>) -> Result<Option<Symbol>, NoMemory>
-        ensures { IfOk result (λ s. s ≡ option_and_then (transfer_symbol (known_of self.entry)) (option_map transfer_of transfer)) }
+        ensures { IfOk result (λ s. s ≡ option_and_then (transfer_symbol (known_of self.entry))
+            (option_map transfer_of transfer)) }
     {
         let Some(Transfer { name, definition }) = transfer else {
             return Ok(None);
@@ -124,7 +125,9 @@ impl Known<'_> {
         externals: Vec<Vec<u8>>,
         transfer: Option<Transfer>,
     ) -> Result<Module, NoMemory>
-        ensures { IfOk result (λ m. (l : specs.Laid) → laid.sections.items ≡ l.sections → laid.relocs.items ≡ l.relocs → m ≡ module_of (known_of self.entry) l (map name_of names.now) (texts_of externals) (option_map transfer_of transfer)) }
+        ensures { IfOk result (λ m. (l : specs.Laid) → laid.sections.items ≡ l.sections →
+            laid.relocs.items ≡ l.relocs → m ≡ module_of (known_of self.entry)
+            l (map name_of names.now) (texts_of externals) (option_map transfer_of transfer)) }
     {
         let globals = self.globals(alloc, names)?;
         let externals = as_bytes(alloc, externals)?;
@@ -146,7 +149,8 @@ fn other_fault(
     assignments: &[Assignment],
     unclosed: Option<Begin>,
 ) -> Option<Fault>
-    ensures { result ≡ first_of (assigned_faults (known_of known.entry).sources (map assignment_of assignments.now) ++ unclosed_faults (option_map opening_of unclosed)) }
+    ensures { result ≡ first_of (assigned_faults (known_of known.entry).sources
+        (map assignment_of assignments.now) ++ unclosed_faults (option_map opening_of unclosed)) }
 {
     first(
         assigned_fault(known.scope, assignments),
@@ -163,7 +167,9 @@ fn lay(
     assignments: &[Assignment],
     unclosed: Option<Begin>,
 ) -> Result<Laid, FillError>
-    ensures { Lays result (laid (known_of known.entry) 0 (map section_seen (map section_of sections.now))) (first_of (faults (known_of known.entry) (map section_seen (map section_of sections.now)) (map assignment_of assignments.now) (option_map opening_of unclosed))) }
+    ensures { Lays result (laid (known_of known.entry) 0 (seen_sections sections.now))
+        (first_of (faults (known_of known.entry) (seen_sections sections.now)
+        (map assignment_of assignments.now) (option_map opening_of unclosed))) }
 {
     let mut found = Found {
         relocs: Vec::new(alloc),
@@ -192,7 +198,8 @@ pub fn fill_in(
     assignments: &[Assignment],
     unclosed: Option<Begin>,
 ) -> Result<Module, FillError>
-    ensures module { Fills result (filled_in (standing_of standing) (map assignment_of assignments.now) (option_map opening_of unclosed)) }
+    ensures module { Fills result (filled_in (standing_of standing)
+        (map assignment_of assignments.now) (option_map opening_of unclosed)) }
     // The linker may join it to others.
     ensures formed { IfOk result Formed }
     // Its relocations stand in the order of section and place.

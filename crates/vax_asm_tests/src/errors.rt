@@ -10,7 +10,8 @@ use vax_asm_names::{Duplicate, LabelError};
 use vax_asm_second::{Fault, FillError};
 use vax_asm_sections::Refusal;
 use vax_lex::{ExprError, LexError};
-use vax_macro::{FaultKind, MacroError, NoMemory};
+use vax_macro::{FaultKind, MacroError};
+use vax_space::NoMemory;
 
 /// The texts of errors of one type.
 fn test_texts<E: Display>(rt: &impl Abort, alloc: Global, rows: &[(E, &str)]) -> Result<(), Fail> {

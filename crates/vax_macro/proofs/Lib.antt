@@ -9,3 +9,4 @@ pub mod Tokens
 pub mod Begins
 pub mod Steps
 pub mod Lessening
+pub mod Within

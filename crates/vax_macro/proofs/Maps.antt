@@ -63,3 +63,6 @@ macro_updates bs m n rc h = same_function _ _ (λ name.
 -- no macros
 pub no_macros : (m : BTreeMap (Vec ℕ Global) (Rc code_template.Template Global)) → m.entries ≡ [] → macros_of m ≡ (λ name. None)
 no_macros m e = same_function _ _ (λ n. rw e refl)
+
+pub no_macro : (m : BTreeMap (Vec ℕ Global) (Rc code_template.Template Global)) (name : List ℕ) → m.entries ≡ [] → None ≡ macros_of m name
+no_macro m name e = rw e refl

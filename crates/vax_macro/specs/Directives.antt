@@ -39,6 +39,18 @@ abbrev pub copies : ℕ → List SourceLine → List SourceLine
 copies zero lines = []
 copies (suc n) lines = lines ++ copies n lines
 
+-- an expansion for each of these texts
+abbrev pub expansions : List BodyLine → ℕ → ℕ → List (List ℕ) → List SourceLine
+expansions lines number depth texts = flat_map (λ text. expansion lines number depth (text ∷ [])) texts
+
+-- lines come before all that are left to open
+abbrev pub with_lines : List SourceLine → Rest → Rest
+with_lines lines rest = record rest { lines = lines ++ rest.lines }
+
+-- a macro is at a name
+abbrev pub with_macro : List ℕ → Template → Rest → Rest
+with_macro name t rest = record rest { macros = with_entry name (Some t) rest.macros }
+
 -- expansions and conditions that a line stands in
 abbrev pub is_deep : Reading → Rest → Bool
 is_deep line rest = nat_le 64 (line.depth + length rest.conditions)
@@ -70,13 +82,20 @@ ends _ _ = false
 abbrev pub nested_after : Use → Word → ℕ → ℕ
 nested_after u word n = if begins u word then n + 1 else (if ends u word then n - 1 else n)
 
+-- so many copies of these lines
+abbrev pub line_copies : ℕ → List (List ℕ) → ℕ → ℕ → List SourceLine
+line_copies count lines number depth = copies count (expansion (template no_formals lines).lines number depth [])
+
+-- a copy of these lines for each text of a formal argument
+abbrev pub lines_for_each : List ℕ → List (List ℕ) → ℕ → ℕ → List (List ℕ) → List SourceLine
+lines_for_each name lines number depth texts = expansions (template (one_formal name) lines).lines number depth texts
+
 -- a macro is defined; the copies of a repeat come next
 unfoldable pub finished : Pending → Rest → Rest
 finished p rest = elim p.use_of [
-  | macro_body name fs ↦ record rest { macros = with_entry name (Some (template fs p.lines)) rest.macros }
-  | copies_of n ↦ record rest { lines = copies n (expansion (template no_formals p.lines).lines p.begin.number p.depth []) ++ rest.lines }
-  | copy_each name texts ↦
-      record rest { lines = flat_map (λ text. expansion (template (one_formal name) p.lines).lines p.begin.number p.depth (text ∷ [])) texts ++ rest.lines }
+  | macro_body name fs ↦ with_macro name (template fs p.lines) rest
+  | copies_of n ↦ with_lines (line_copies n p.lines p.begin.number p.depth) rest
+  | copy_each name texts ↦ with_lines (lines_for_each name p.lines p.begin.number p.depth texts) rest
 ]
 
 -- The fault of a directive that has no operands, if it has some.

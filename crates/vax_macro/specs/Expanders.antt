@@ -1,8 +1,9 @@
 -- What an expander means.
-use Rattle.std.specs.Prelude.{◌≡◌, ℕ, ◌<◌, Option, Some, None, option_map, Result, Ok, Err}
+use Rattle.std.specs.Prelude.{◌≡◌, ℕ, ◌<◌, List, Option, Some, None, option_map, Result, Ok, Err}
+use Rattle.vax_lex.specs.declared.value.Value.{Value}
 use Rattle.vax_macro.specs.Rest.{Opening, Rest, work}
 use Rattle.vax_macro.specs.Directives.{Statement}
-use Rattle.vax_macro.specs.Expansion.{Stepped, Steps, Says, Faults, Ends, Opened, Given, Faulty, AtEnd}
+use Rattle.vax_macro.specs.Expansion.{Stepped, Steps, Says, Faults, Ends, Opened, Given, Faulty, AtEnd, opened}
 use Rattle.vax_macro.specs.LineViews.{remainder_of}
 use Rattle.vax_macro.specs.View.{rest_in, opening_of}
 use Rattle.vax_macro.specs.declared.error.FaultKind.{FaultKind}
@@ -49,6 +50,10 @@ Opens (Ok (Some line)) after o = (left : ℕ) × (work (rest_of after) < left) �
 Opens (Ok None) after o = o ≡ AtEnd None
 Opens (Err errors.NoMemory) after o = Unit {0}
 Opens (Err (errors.Fault number kind)) after o = FaultIs (unclosed_of after) after.read number kind o
+
+-- what was answered is what comes next of what was left to open, in steps enough
+abbrev pub OpensNext : (List ℕ → Option Value) → Result (Option Line) MacroError → (old new : Expander) → Type 0
+OpensNext names result old new = (steps : ℕ) → work (rest_of old) < steps → Opens result new (opened steps names (rest_of old))
 
 -- a step that goes on, or gives a statement, takes some of what is left
 abbrev pub Shrinks : Step → ℕ → ℕ → Type 0

@@ -1,5 +1,5 @@
 -- What the expander's types mean.
-use Rattle.std.specs.Prelude.{◌≡◌, ℕ, List, map, Option, Some, None, option_map, Vec}
+use Rattle.std.specs.Prelude.{◌≡◌, ℕ, List, map, Option, Some, None, option_map, Result, IfOk, Vec}
 use Rattle.std.specs.BTreeMap.{BTreeMap}
 use Rattle.std.specs.Global.{Global}
 use Rattle.std.specs.declared.rc.Rc.{Rc}
@@ -63,6 +63,14 @@ Acts dones.Gives read after d = d ≡ Gives (rest_in read after)
 Acts (dones.Again at) read after d = d ≡ Again at (rest_in read after)
 Acts (dones.Label at) read after d = d ≡ Label at (rest_in read after)
 Acts (dones.Fails kind) read after d = d ≡ Fails kind
+
+-- a call changes what is left to open so, wherever so many lines were read
+abbrev pub Becomes : (Rest → Rest) → (old new : code_state.State) → Type 0
+Becomes change old new = (read : ℕ) → rest_in read new ≡ change (rest_in read old)
+
+-- a call does to what is left to open what a line that is read means there; memory may be refused at any time
+abbrev pub Obeys : {E : Type 0} → (p : code_parsed.Parsed) → (code_parsed.Parsed → Rest → directives.Done) → Result code_done.Done E → (old new : code_state.State) → Type 0
+Obeys p meant result old new = IfOk result (λ d. Acts d p.read new (meant p (rest_in p.read old)))
 
 -- a line that is read, and its head
 abbrev pub line_in : code_parsed.Parsed → Reading

@@ -7,10 +7,10 @@ ghost use Rattle.vax_macro.specs.Names.{is_name};
 ghost use Rattle.vax_macro.specs.Arguments.{is_no_separator, behind_blanks, closing, taken, depth_after, argument, following, arguments_from, arguments};
 ghost use Rattle.vax_macro.specs.ArgumentViews.{argument_view, arguments_view, taken_view, taking_view, following_view, owned_view, lent_view, IsShorter};
 
-use crate::error::NoMemory;
 use crate::names::{begins_with, behind, copied};
 use std::alloc::Global;
 use vax_lex::{is_blank, is_name_character};
+use vax_space::NoMemory;
 
 /// The names that may stand before `=` in an argument.
 pub(crate) trait Keywords {
@@ -187,7 +187,8 @@ fn take_argument<'a, K: Keywords>(
     keywords: &K,
     text: &'a [u8],
 ) -> Result<Option<Taking<'a>>, NoMemory>
-    ensures value { IfOk result (λ o. option_map taking_view o ≡ argument (K.is_keyword keywords.now) text.now) }
+    ensures value { IfOk result
+        (λ o. option_map taking_view o ≡ argument (K.is_keyword keywords.now) text.now) }
     ensures shorter { IfOk result (λ o. IfSome o (λ t. length t.rest.now ≤ length text.now)) }
 {
     let (name, rest) = text.split_at(name_length(text));
@@ -251,7 +252,8 @@ fn kept(alloc: Global, found: &Taking<'_>) -> Result<Argument, NoMemory>
 
 /// Adds an argument.
 fn add(alloc: Global, found: &mut Vec<Argument>, taking: &Taking<'_>) -> Result<(), NoMemory>
-    ensures { OnOk result (arguments_view found.new ≡ arguments_view found.old ++ (taking_view taking.now).argument ∷ []) }
+    ensures { OnOk result (arguments_view found.new
+        ≡ arguments_view found.old ++ (taking_view taking.now).argument ∷ []) }
 {
     let argument = kept(alloc, taking)?;
     found.push(argument).map_err(|_| NoMemory)
@@ -263,7 +265,8 @@ fn arguments_in<K: Keywords>(
     keywords: &K,
     text: &[u8],
 ) -> Result<Option<Vec<Argument>>, NoMemory>
-    ensures { IfOk result (λ o. option_map arguments_view o ≡ arguments_from (length text.now + 1) (K.is_keyword keywords.now) text.now) }
+    ensures { IfOk result (λ o. option_map arguments_view o
+        ≡ arguments_from (length text.now + 1) (K.is_keyword keywords.now) text.now) }
 {
     let mut found = Vec::new(alloc);
     let mut rest = text;
@@ -288,7 +291,8 @@ pub(crate) fn arguments<K: Keywords>(
     keywords: &K,
     text: &[u8],
 ) -> Result<Option<Vec<Argument>>, NoMemory>
-    ensures { IfOk result (λ o. option_map arguments_view o ≡ arguments (K.is_keyword keywords.now) text.now) }
+    ensures { IfOk result
+        (λ o. option_map arguments_view o ≡ arguments (K.is_keyword keywords.now) text.now) }
 {
     let rest = behind_blanks(text);
     if rest.is_empty() {

@@ -9,7 +9,7 @@ ghost use Rattle.vax_macro.specs.ArgumentViews.{argument_view, taken_view, lent_
 ghost use Rattle.vax_macro.specs.ConditionViews.{comparison_view, condition_view, guarded_view, Decides, same};
 
 use crate::arguments::{Argument, NoKeyword, Taken, arguments, behind_blanks, take_text};
-use crate::error::{FaultKind, NoMemory};
+use crate::error::FaultKind;
 use crate::heads::{
     code_end, code_from, has_bad, has_unprintable, is_mark_piece, is_name_piece, is_wide,
     piece_text,
@@ -19,6 +19,7 @@ use std::alloc::Global;
 use vax_lex::{
     CanonicalName, ExprError, Names, Piece, PieceKind, Token, TokenKind, Value, evaluate, spells,
 };
+use vax_space::NoMemory;
 
 /// How a number is compared with 0.
 #[derive(Clone, Copy, PartialEq, Eq)]
@@ -344,7 +345,8 @@ fn condition_on<N: Names>(
     pieces: &[Piece],
 ) -> Result<bool, Refusal>
     requires { All (IsPieceOf text.now) pieces.now }
-    ensures { Decides same result (condition_on (N.meaning names.now) text.now (condition_view condition) at pieces.now) }
+    ensures { Decides same result
+        (condition_on (N.meaning names.now) text.now (condition_view condition) at pieces.now) }
 {
     match condition {
         Condition::Compares(comparison) => {
@@ -396,7 +398,8 @@ fn named_condition(text: &[u8], piece: Piece) -> Option<Condition>
 fn behind_name(end: u32, pieces: &[Piece]) -> (&[Piece], usize)
     ensures pieces { result.0.now ≡ behind_name end pieces.now }
     ensures place { result.1 ≡ name_end end pieces.now }
-    ensures within { (line : List ℕ) → All (IsPieceOf line) pieces.now → All (IsPieceOf line) result.0.now }
+    ensures within { (line : List ℕ) →
+        All (IsPieceOf line) pieces.now → All (IsPieceOf line) result.0.now }
 {
     match pieces.split_first() {
         Some((first, rest)) if is_mark_piece(b',', first.kind) && first.start == end => {
@@ -486,7 +489,9 @@ fn guarded_pieces<N: Names>(
     pieces: &[Piece],
 ) -> Result<Guarded, Refusal>
     requires { All (IsPieceOf text.now) pieces.now }
-    ensures { Decides guarded_view result (guarded_pieces (N.meaning names.now) text.now (condition_view condition) at pieces.now (comma_in pieces.now)) }
+    ensures { Decides guarded_view result
+        (guarded_pieces (N.meaning names.now) text.now (condition_view condition) at pieces.now
+        (comma_in pieces.now)) }
 {
     let Some(comma) = comma_in(pieces) else {
         let kind = if has_bad(pieces) {
@@ -532,7 +537,9 @@ fn guarded_text<N: Names>(
 ) -> Result<Guarded, Refusal>
     requires pieces { All (IsPieceOf text.now) pieces.now }
     requires small { IfOk comma (λ k. k < 2 ^ 63) }
-    ensures { Decides guarded_view result (guarded_text (N.meaning names.now) text.now (condition_view condition) at pieces.now comma) }
+    ensures { Decides guarded_view result
+        (guarded_text (N.meaning names.now) text.now (condition_view condition) at pieces.now
+        comma) }
 {
     match comma {
         Ok(comma) => {
@@ -563,7 +570,8 @@ fn guarded_on<N: Names>(
     pieces: &[Piece],
 ) -> Result<Guarded, Refusal>
     requires { All (IsPieceOf text.now) pieces.now }
-    ensures { Decides guarded_view result (guarded_on (N.meaning names.now) text.now (condition_view condition) at pieces.now) }
+    ensures { Decides guarded_view result
+        (guarded_on (N.meaning names.now) text.now (condition_view condition) at pieces.now) }
 {
     let end = code_end(pieces);
     match condition {

@@ -2,7 +2,7 @@
 
 ghost use Rattle.std.specs.Prelude.{◌≡◌, ◌+◌, IfOk};
 
-use crate::error::NoMemory;
+use vax_space::NoMemory;
 
 /// One more. A source has at most 100,000 lines that are read, of at most 1,024 bytes each, so that none of its counts
 /// comes near 2^32; one that did is answered like what there is no room for.

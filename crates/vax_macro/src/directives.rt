@@ -1,10 +1,9 @@
 // What the lines of a source do.
 
 ghost use Rattle.std.specs.Prelude.{◌≡◌, ◌+◌, ◌-◌, ◌<◌, ◌≤◌, ◌^◌, ◌++◌, ◌∷◌, [], ◌==◌, All, length, map, drop, option_map, IfOk, IfSome, OnOk};
-ghost use Rattle.std.specs.List.{flat_map};
 ghost use Rattle.vax_lex.specs.Characters.{canonical_name};
 ghost use Rattle.vax_lex.specs.Tokens.{IsPieceOf};
-ghost use Rattle.vax_macro.specs.Directives.{begins, ends, nested_after, finished, collect, is_skipping, open_condition, begin_condition, switched, at_condition, switch, switch_condition, end_condition, skip, guard, with_pending, begin_copies, begin_repeat, begin_macro, listed, is_named, end_fault, body_fault, iterated_in, begin_arguments, begin_characters, call, direct, read_word, read_operator, read, done, is_deep, opening, operands_fault, expansion, copies, one_formal, behind_comma, is_parted, macro_formals, argument_texts, character_texts, count_of};
+ghost use Rattle.vax_macro.specs.Directives.{begins, ends, nested_after, finished, collect, is_skipping, open_condition, begin_condition, switched, at_condition, switch, switch_condition, end_condition, skip, guard, with_pending, begin_copies, begin_repeat, begin_macro, listed, is_named, end_fault, body_fault, iterated_in, begin_arguments, begin_characters, call, direct, read_word, read_operator, read, done, is_deep, opening, operands_fault, expansion, expansions, copies, one_formal, behind_comma, is_parted, macro_formals, argument_texts, character_texts, count_of};
 ghost use Rattle.vax_macro.specs.Heads.{code_from};
 ghost use Rattle.vax_macro.specs.ArgumentViews.{arguments_view, lent_view};
 ghost use Rattle.vax_macro.specs.ConditionViews.{Decides, iterated_view, listed_view};
@@ -16,7 +15,7 @@ ghost use Rattle.vax_macro.specs.View.{use_view, pending_view, opening_of, condi
 use crate::arguments::{AnyName, Argument, arguments, bare_length, behind_blanks, closing};
 use crate::conditions::{Refusal, comma_in};
 use crate::counts::one_more;
-use crate::error::{FaultKind, NoMemory};
+use crate::error::FaultKind;
 use crate::heads::{Word, code_from, has_bad, has_unprintable, piece_text};
 use crate::line_types::{Frame, Reading};
 use crate::names::{begins_with, behind, copied, is_name};
@@ -27,6 +26,7 @@ use std::alloc::Global;
 use std::collections::VecDeque;
 use std::rc::Rc;
 use vax_lex::{Piece, is_blank, spells};
+use vax_space::NoMemory;
 
 /// Whether a line begins a body of such a use within it.
 fn begins(use_of: &Use, word: Word) -> bool
@@ -142,7 +142,8 @@ pub(crate) fn body_fault(
 
 /// These texts, each in a list of its own.
 fn each_alone(alloc: Global, texts: Vec<Vec<u8>>) -> Result<VecDeque<Vec<Vec<u8>>>, NoMemory>
-    ensures { IfOk result (λ v. map texts_view v.items ≡ map (λ text. text ∷ []) (texts_view texts)) }
+    ensures { IfOk result
+        (λ v. map texts_view v.items ≡ map (λ text. text ∷ []) (texts_view texts)) }
 {
     let mut others = VecDeque::new(alloc);
     for text in texts {
@@ -168,7 +169,8 @@ pub(crate) fn copies_each(
     number: u32,
     depth: u32,
 ) -> Result<Option<Frame>, NoMemory>
-    ensures { IfOk result (λ o. opened_lines o ≡ flat_map (λ text. expansion (template_view template).lines number depth (text ∷ [])) (texts_view texts)) }
+    ensures { IfOk result (λ o. opened_lines o
+        ≡ expansions (template_view template).lines number depth (texts_view texts)) }
 {
     let mut others = each_alone(alloc, texts)?;
     let Some(first) = others.pop_front() else {
@@ -195,7 +197,8 @@ pub(crate) fn copies_of(
     number: u32,
     depth: u32,
 ) -> Result<Option<Frame>, NoMemory>
-    ensures { IfOk result (λ o. opened_lines o ≡ copies count (expansion (template_view template).lines number depth [])) }
+    ensures { IfOk result (λ o. opened_lines o
+        ≡ copies count (expansion (template_view template).lines number depth [])) }
 {
     if count == 0 {
         return Ok(None);
@@ -221,7 +224,8 @@ pub(crate) fn call_frame(
     number: u32,
     depth: u32,
 ) -> Frame
-    ensures { frame_lines result ≡ expansion (template_view template.value).lines number depth (texts_view texts) }
+    ensures { frame_lines result
+        ≡ expansion (template_view template.value).lines number depth (texts_view texts) }
 {
     Frame {
         template,

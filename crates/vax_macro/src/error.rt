@@ -53,11 +53,6 @@ impl FaultKind {
     }
 }
 
-/// Memory was refused.
-#[derive(Clone, Copy, Debug, PartialEq, Eq, thiserror::Error)]
-#[error("out of memory")]
-pub struct NoMemory;
-
 /// Why an expander gives no statement.
 #[derive(Clone, Copy, Debug, PartialEq, Eq, thiserror::Error)]
 pub enum MacroError {

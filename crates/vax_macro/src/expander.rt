@@ -1,8 +1,9 @@
 // The expander.
 
 ghost use Rattle.std.specs.Prelude.{◌≡◌, ◌+◌, ◌<◌, ◌≤◌, ◌++◌, ◌∷◌, [], ℕ, None, Some, IfOk, IfErr, IfSome, OnOk, length, option_map};
+ghost use Rattle.vax_lex.specs.Tokens.{pieces_of};
 
-use crate::error::{FaultKind, MacroError, NoMemory};
+use crate::error::{FaultKind, MacroError};
 use crate::heads::head_in;
 use crate::line_types::{Lines, Read, Reading, Remainder};
 use crate::names::{behind, copied, part};
@@ -10,15 +11,18 @@ use crate::reader::{next_reading, whole};
 use crate::state_types::{Begin, Done, OpenCondition, State};
 use std::alloc::Global;
 use std::collections::{BTreeMap, VecDeque};
-use vax_lex::{Names, pieces};
+use vax_lex::{Names, Piece, pieces};
+use vax_space::NoMemory;
 
-/// A statement: the number of its line in the source, or of the outermost call, and its text of at most 1,024 bytes,
-/// continuations joined.
+/// A statement: the number of its line in the source, or of the outermost call, its text of at most 1,024 bytes,
+/// continuations joined, and the pieces of the text.
 #[derive(Drop)]
 pub struct Line {
     pub number: u32,
     pub text: Vec<u8>,
+    pub pieces: Vec<Piece>,
     pub ghost short: { length text.items ≤ 1024 },
+    pub ghost cut: { pieces.items ≡ pieces_of text.items },
 }
 
 /// A source that is being expanded: what is left to open of it, and the error that was answered, if one was.
@@ -52,14 +56,13 @@ impl Expander {
     ghost use Rattle.vax_macro.specs.Rest.{started, work, weight};
     ghost use Rattle.std.specs.Prelude.{List, Option};
     ghost use Rattle.vax_lex.specs.declared.value.Value.{Value};
-    ghost use Rattle.vax_lex.specs.Tokens.{pieces_of};
     ghost use Rattle.vax_macro.specs.Directives.{done};
-    ghost use Rattle.vax_macro.specs.Expansion.{AtEnd, step, line_step, opened, cut, behind_label, unclosed};
+    ghost use Rattle.vax_macro.specs.Expansion.{AtEnd, step, line_step, cut, behind_label, unclosed};
     ghost use Rattle.vax_macro.specs.Heads.{head_in};
     ghost use Rattle.vax_macro.specs.LineViews.{reading_of};
     ghost use Rattle.vax_macro.specs.Readings.{Reads, Spares, left_of};
     ghost use Rattle.vax_macro.specs.View.{opening_of, rest_in, Acts};
-    ghost use Rattle.vax_macro.specs.Expanders.{rest_of, error_of, unclosed_of, read_of, Does, Opens, Shrinks};
+    ghost use Rattle.vax_macro.specs.Expanders.{rest_of, error_of, unclosed_of, read_of, Does, Opens, OpensNext, Shrinks};
 
     /// A source of which nothing was opened.
     #[tactic(auto, using(crate::proofs::Begins::fresh))]
@@ -92,11 +95,13 @@ impl Expander {
     /// What is left of the line just read, or the next one.
     #[tactic(auto, using(crate::proofs::Lessening::read_again, crate::proofs::Lessening::left_at_most), unfolding(crate::specs::Expansion::step))]
     fn take_line(&mut self) -> Result<Read, NoMemory>
-        ensures exact { IfOk result (λ r. (names : List ℕ → Option Value) → Reads names r (rest_of self.new) (step names (rest_of self.old))) }
+        ensures exact { IfOk result (λ r. (names : List ℕ → Option Value) →
+            Reads names r (rest_of self.new) (step names (rest_of self.old))) }
         ensures again { self.new.again ≡ None }
         ensures error { self.new.error ≡ self.old.error }
         ensures unclosed { self.new.unclosed ≡ self.old.unclosed }
-        ensures fewer { IfOk result (λ r. Spares r (work (rest_of self.old)) (work (rest_of self.new))) }
+        ensures fewer { IfOk result
+            (λ r. Spares r (work (rest_of self.old)) (work (rest_of self.new))) }
     {
         match self.again.take() {
             Some(left) => {
@@ -113,7 +118,8 @@ impl Expander {
     /// The first begin that has no end.
     #[tactic(auto, using(crate::proofs::Begins::outermost))]
     fn first_begin(&self) -> Option<Begin>
-        ensures { option_map opening_of result ≡ unclosed (rest_of self.now).conditions (rest_of self.now).collecting }
+        ensures { option_map opening_of result
+            ≡ unclosed (rest_of self.now).conditions (rest_of self.now).collecting }
     {
         match self.state.conditions.back() {
             Some(condition) => Some(begin_of(condition)),
@@ -127,7 +133,8 @@ impl Expander {
     /// What is behind a place of a line is read as a line of its own. The head of a line takes a byte at least.
     #[tactic(auto, using(crate::proofs::Lessening::cut_less))]
     fn cut(&mut self, line: &Reading, at: usize) -> Result<(), NoMemory>
-        ensures rest { OnOk result (rest_of self.new ≡ record (rest_of self.old) { again = Some (cut at (reading_of line.now)) }) }
+        ensures rest { OnOk result (rest_of self.new
+            ≡ record (rest_of self.old) { again = Some (cut at (reading_of line.now)) }) }
         ensures error { self.new.error ≡ self.old.error }
         ensures unclosed { self.new.unclosed ≡ self.old.unclosed }
         ensures fewer { OnOk result (weight (rest_of self.new).again ≤ left_of line.now) }
@@ -148,7 +155,8 @@ impl Expander {
     /// A line is read again without its label, which it hands out once.
     #[tactic(auto, using(crate::proofs::Lessening::label_less))]
     fn hand_out_label(&mut self, line: &Reading) -> Result<(), NoMemory>
-        ensures rest { OnOk result (rest_of self.new ≡ record (rest_of self.old) { again = Some (behind_label (reading_of line.now)) }) }
+        ensures rest { OnOk result (rest_of self.new
+            ≡ record (rest_of self.old) { again = Some (behind_label (reading_of line.now)) }) }
         ensures error { self.new.error ≡ self.old.error }
         ensures unclosed { self.new.unclosed ≡ self.old.unclosed }
         ensures fewer { OnOk result (weight (rest_of self.new).again ≤ left_of line.now) }
@@ -168,17 +176,19 @@ impl Expander {
 
     /// What a line changes.
     fn act<N: Names>(&mut self, names: &N, line: &Reading) -> Result<Done, NoMemory>
-        ensures exact { IfOk result (λ d. Acts d self.old.read self.new.state (done (N.meaning names.now) (reading_of line.now) (pieces_of line.now.text.items) (head_in (pieces_of line.now.text.items)) (rest_in self.old.read self.old.state))) }
+        ensures exact { let pieces = pieces_of line.now.text.items in
+            IfOk result (λ d. Acts d self.old.read self.new.state
+            (done (N.meaning names.now) (reading_of line.now) pieces (head_in pieces)
+            (rest_in self.old.read self.old.state))) }
         ensures read { self.new.read ≡ self.old.read }
         ensures again { self.new.again ≡ self.old.again }
         ensures error { self.new.error ≡ self.old.error }
         ensures unclosed { self.new.unclosed ≡ self.old.unclosed }
     {
-        let found = pieces(self.alloc, &line.text).map_err(|_| NoMemory)?;
-        let head = head_in(&found);
+        let head = head_in(&line.pieces);
         let done = self
             .state
-            .act(self.alloc, names, line, &found, head, self.read)?;
+            .act(self.alloc, names, line, &line.pieces, head, self.read)?;
         Ok(done)
     }
 
@@ -186,17 +196,28 @@ impl Expander {
     #[tactic(auto, unfolding(crate::specs::Expansion::line_step))]
     fn carry_out<N: Names>(&mut self, names: &N, line: Reading) -> Result<Step, NoMemory>
         requires { self.old.again ≡ None }
-        ensures exact { IfOk result (λ s. Does s self.new (line_step (N.meaning names.now) (reading_of line) (rest_of self.old))) }
+        ensures exact { IfOk result (λ s. Does s self.new
+            (line_step (N.meaning names.now) (reading_of line) (rest_of self.old))) }
         ensures error { self.new.error ≡ self.old.error }
         ensures unclosed { self.new.unclosed ≡ self.old.unclosed }
-        ensures fewer { IfOk result (λ s. work (rest_of self.new) ≤ work (rest_of self.old) + left_of line) }
+        ensures fewer { IfOk result
+            (λ s. work (rest_of self.new) ≤ work (rest_of self.old) + left_of line) }
     {
         let done = self.act(names, &line)?;
         match done {
             Done::Goes => Ok(Step::Goes),
             Done::Gives => {
-                let Reading { number, text, .. } = line;
-                Ok(Step::Says(Line { number, text }))
+                let Reading {
+                    number,
+                    text,
+                    pieces,
+                    ..
+                } = line;
+                Ok(Step::Says(Line {
+                    number,
+                    text,
+                    pieces,
+                }))
             }
             Done::Again(at) => {
                 self.cut(&line, at)?;
@@ -205,9 +226,11 @@ impl Expander {
             Done::Label(at) => {
                 self.hand_out_label(&line)?;
                 let text = copied(self.alloc, part(&line.text, 0, at))?;
+                let pieces = pieces(self.alloc, &text).map_err(|_| NoMemory)?;
                 Ok(Step::Says(Line {
                     number: line.number,
                     text,
+                    pieces,
                 }))
             }
             Done::Fails(kind) => Ok(Step::Faults(line.number, kind)),
@@ -216,10 +239,12 @@ impl Expander {
 
     /// One step.
     fn step<N: Names>(&mut self, names: &N) -> Result<Step, NoMemory>
-        ensures exact { IfOk result (λ s. Does s self.new (step (N.meaning names.now) (rest_of self.old))) }
+        ensures exact { IfOk result
+            (λ s. Does s self.new (step (N.meaning names.now) (rest_of self.old))) }
         ensures error { self.new.error ≡ self.old.error }
         ensures unclosed { self.new.unclosed ≡ self.old.unclosed }
-        ensures fewer { IfOk result (λ s. Shrinks s (work (rest_of self.old)) (work (rest_of self.new))) }
+        ensures fewer { IfOk result
+            (λ s. Shrinks s (work (rest_of self.old)) (work (rest_of self.new))) }
     {
         match self.take_line()? {
             Read::Line(line) => {
@@ -251,10 +276,11 @@ impl Expander {
 
     /// The next statement of a source in which no error was found so far.
     fn advance<N: Names>(&mut self, names: &N) -> Result<Option<Line>, MacroError>
-        ensures opens { (steps : ℕ) → work (rest_of self.old) < steps → Opens result self.new (opened steps (N.meaning names.now) (rest_of self.old)) }
+        ensures opens { OpensNext (N.meaning names.now) result self.old self.new }
         ensures error { self.new.error ≡ self.old.error }
         ensures short { IfOk result (λ o. IfSome o (λ line. length line.text.items ≤ 1024)) }
-        ensures fewer { IfOk result (λ o. IfSome o (λ line. work (rest_of self.new) < work (rest_of self.old))) }
+        ensures fewer { IfOk result
+            (λ o. IfSome o (λ line. work (rest_of self.new) < work (rest_of self.old))) }
     {
         self.unclosed = None;
         'steps: loop {
@@ -274,15 +300,18 @@ impl Expander {
     /// later call answers the same one.
     pub fn next<N: Names>(&mut self, names: &N) -> Result<Option<Line>, MacroError>
         // What the definition gives with steps enough.
-        ensures opens { error_of self.old ≡ None → (steps : ℕ) → work (rest_of self.old) < steps → Opens result self.new (opened steps (N.meaning names.now) (rest_of self.old)) }
+        ensures opens { error_of self.old ≡ None
+            → OpensNext (N.meaning names.now) result self.old self.new }
         // After an error, the same error and nothing else.
-        ensures again { IfSome (error_of self.old) (λ e. (result ≡ Err e) × (self.new ≡ self.old)) }
+        ensures again { IfSome (error_of self.old)
+            (λ e. (result ≡ Err e) × (self.new ≡ self.old)) }
         ensures kept { IfErr result (λ e. error_of self.new ≡ Some e) }
         ensures none { OnOk result (error_of self.new ≡ None) }
         // A statement's text may be scanned.
         ensures short { IfOk result (λ o. IfSome o (λ line. length line.text.items ≤ 1024)) }
         // A statement takes a step.
-        ensures fewer { IfOk result (λ o. IfSome o (λ line. work (rest_of self.new) < work (rest_of self.old))) }
+        ensures fewer { IfOk result
+            (λ o. IfSome o (λ line. work (rest_of self.new) < work (rest_of self.old))) }
     {
         if let Some(error) = self.error {
             return Err(error);

@@ -21,6 +21,6 @@ mod state_types;
 mod template_types;
 mod templates;
 
-pub use error::{FaultKind, MacroError, NoMemory};
+pub use error::{FaultKind, MacroError};
 pub use expander::{Expander, Line};
 pub use state_types::Begin;

@@ -1,7 +1,8 @@
 // The types of lines and expansions.
 
-ghost use Rattle.std.specs.Prelude.{◌≤◌, All, length};
+ghost use Rattle.std.specs.Prelude.{◌≡◌, ◌≤◌, All, length};
 ghost use Rattle.std.proofs.Props.{props};
+ghost use Rattle.vax_lex.specs.Tokens.{pieces_of};
 
 use crate::error::FaultKind;
 use crate::template_types::Template;
@@ -28,15 +29,18 @@ pub(crate) struct Remainder {
     ghost short: { length text.items ≤ 1024 },
 }
 
-/// A line as it was read: its text, continuations joined, the lines that it was, and whether its label was handed out.
+/// A line as it was read: its text, continuations joined, the pieces of the text, the lines that it was, and whether its
+/// label was handed out.
 #[derive(Drop)]
 pub(crate) struct Reading {
     pub(crate) number: u32,
     pub(crate) depth: u32,
     pub(crate) text: Vec<u8>,
+    pub(crate) pieces: Vec<Piece>,
     pub(crate) parts: Vec<Vec<u8>>,
     pub(crate) labelled: bool,
     ghost short: { length text.items ≤ 1024 },
+    ghost cut: { pieces.items ≡ pieces_of text.items },
     ghost short_parts: { All (λ t. length t.items ≤ 1024) parts.items } by { Prim.hlevel props },
 }
 

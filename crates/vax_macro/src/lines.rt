@@ -7,11 +7,11 @@ ghost use Rattle.std.specs.Str.Lines.{lines, strip_carriage_return};
 ghost use Rattle.vax_macro.specs.LineViews.{frame_lines, source_of, lines_of, Takes, line_of};
 
 use crate::counts::one_more;
-use crate::error::NoMemory;
 use crate::line_types::{Frame, Lines, SourceLine};
 use crate::names::{behind, copied};
 use crate::templates::rewritten;
 use std::alloc::Global;
+use vax_space::NoMemory;
 
 /// How many bytes stand before the first line feed.
 fn line_length(text: &[u8]) -> usize

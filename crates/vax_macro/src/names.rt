@@ -8,9 +8,9 @@ ghost use Rattle.vax_lex.specs.Characters.{is_blank, is_name_character};
 ghost use Rattle.vax_macro.specs.Names.{is_name};
 ghost use Rattle.vax_macro.specs.Arguments.{begins_with};
 
-use crate::error::NoMemory;
 use std::alloc::Global;
 use vax_lex::{is_blank, is_name_character};
+use vax_space::NoMemory;
 
 /// Whether a text is a name of 1 to 31 characters, and not `.`.
 pub(crate) fn is_name(text: &[u8]) -> bool

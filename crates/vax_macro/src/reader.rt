@@ -1,18 +1,20 @@
 // Lines as they are read, with those that continue them.
 
-ghost use Rattle.std.specs.Prelude.{◌≡◌, ◌+◌, ◌<◌, ◌≤◌, ◌++◌, [], ℕ, All, IfOk, length, false};
-ghost use Rattle.vax_macro.specs.Lines.{dash_in, before_dash};
+ghost use Rattle.std.specs.Prelude.{◌≡◌, ◌+◌, ◌<◌, ◌≤◌, ◌++◌, [], ℕ, All, IfOk, OnOk, length, take, false};
+ghost use Rattle.vax_lex.specs.Tokens.{pieces_of};
+ghost use Rattle.vax_macro.specs.Lines.{dash_in, with_part};
 ghost use Rattle.vax_macro.specs.LineViews.{line_of, lines_of, reading_of, remainder_of};
 ghost use Rattle.vax_macro.specs.Expansion.{whole};
 ghost use Rattle.vax_macro.specs.Readings.{Puts, IsJoined, IsWithin, IsRead, IsCounted};
 
 use crate::counts::one_more;
-use crate::error::{FaultKind, NoMemory};
+use crate::error::FaultKind;
 use crate::heads::is_mark_piece;
 use crate::line_types::{Joined, Lines, Read, Reading, Remainder, SourceLine};
 use crate::names::{copied, part};
 use std::alloc::Global;
 use vax_lex::{Piece, pieces};
+use vax_space::NoMemory;
 
 /// The longest line, in bytes.
 const LONGEST: usize = 1024;
@@ -36,14 +38,11 @@ fn dash_in(pieces: &[Piece]) -> Option<usize>
     }
 }
 
-/// What stands before the `-` that is last on a line, or all where there is none.
-fn before_dash(text: &[u8], dash: Option<usize>) -> &[u8]
-    ensures { result.now ≡ before_dash text.now dash }
+/// What stands before the `-` that is last on a line.
+fn before(text: &[u8], dash: usize) -> &[u8]
+    ensures { result.now ≡ take dash text.now }
 {
-    match dash {
-        Some(dash) => part(text, 0, dash),
-        None => text,
-    }
+    part(text, 0, dash)
 }
 
 /// The text of a line behind one that was continued.
@@ -57,42 +56,64 @@ fn joined(alloc: Global, before: &[u8], text: &[u8]) -> Result<Vec<u8>, NoMemory
 
 impl Reading {
     /// No line so far.
+    #[tactic(auto, using(crate::proofs::Within::nothing_cut))]
     fn new(alloc: Global, number: u32, depth: u32) -> Reading
-        ensures { reading_of result ≡ record { number = number; depth = depth; text = []; parts = []; labelled = false } }
+        ensures { reading_of result
+            ≡ record { number = number; depth = depth; text = []; parts = []; labelled = false } }
     {
         Reading {
             number,
             depth,
             text: Vec::new(alloc),
+            pieces: Vec::new(alloc),
             parts: Vec::new(alloc),
             labelled: false,
         }
     }
 
+    /// Puts a line behind the text, which it makes this one with these pieces.
+    fn keep(&mut self, text: Vec<u8>, pieces: Vec<Piece>, line: Vec<u8>) -> Result<(), NoMemory>
+        requires short { length text.items ≤ 1024 }
+        requires cut { pieces.items ≡ pieces_of text.items }
+        requires part { length line.items ≤ 1024 }
+        ensures { OnOk result
+            (reading_of self.new ≡ with_part (reading_of self.old) text.items line.items) }
+    {
+        self.text = text;
+        self.pieces = pieces;
+        self.parts.push(line).map_err(|_| NoMemory)
+    }
+
     /// Puts a line behind the text: up to its last `-`, where it is continued.
     fn put(&mut self, alloc: Global, line: Vec<u8>) -> Result<Joined, NoMemory>
         requires { length line.items ≤ 1024 }
-        ensures { IfOk result (λ j. Puts j (reading_of self.old) line.items (reading_of self.new)) }
+        ensures { IfOk result
+            (λ j. Puts j (reading_of self.old) line.items (reading_of self.new)) }
     {
         let text = joined(alloc, &self.text, &line)?;
         let found = pieces(alloc, &text).map_err(|_| NoMemory)?;
-        let dash = dash_in(&found);
-        let kept = before_dash(&text, dash);
+        let Some(dash) = dash_in(&found) else {
+            if text.len() > LONGEST {
+                return Ok(Joined::Fault(self.number, FaultKind::Token));
+            }
+            self.keep(text, found, line)?;
+            return Ok(Joined::Whole);
+        };
+        let kept = before(&text, dash);
         if kept.len() > LONGEST {
             return Ok(Joined::Fault(self.number, FaultKind::Token));
         }
-        self.text = copied(alloc, kept)?;
-        self.parts.push(line).map_err(|_| NoMemory)?;
-        match dash {
-            Some(_) => Ok(Joined::More),
-            None => Ok(Joined::Whole),
-        }
+        let kept = copied(alloc, kept)?;
+        let found = pieces(alloc, &kept).map_err(|_| NoMemory)?;
+        self.keep(kept, found, line)?;
+        Ok(Joined::More)
     }
 
     /// Reads a line behind the text.
     #[tactic(auto, unfolding(crate::specs::Expansion::read_on))]
     fn join(&mut self, alloc: Global, line: SourceLine, read: &mut u32) -> Result<Joined, NoMemory>
-        ensures exact { IfOk result (λ j. IsJoined j (reading_of self.old) (line_of line) (reading_of self.new) read.old read.new) }
+        ensures exact { IfOk result (λ j. IsJoined j (reading_of self.old) (line_of line)
+            (reading_of self.new) read.old read.new) }
         ensures more { IfOk result (λ j. read.old < read.new) }
         ensures within { IfOk result (λ j. IsWithin j read.new) }
     {
@@ -118,6 +139,7 @@ pub(crate) fn whole(alloc: Global, left: Remainder) -> Result<Reading, NoMemory>
         text,
         labelled,
     } = left;
+    let pieces = pieces(alloc, &text).map_err(|_| NoMemory)?;
     let mut parts = Vec::new(alloc);
     let copy = copied(alloc, &text)?;
     parts.push(copy).map_err(|_| NoMemory)?;
@@ -125,6 +147,7 @@ pub(crate) fn whole(alloc: Global, left: Remainder) -> Result<Reading, NoMemory>
         number,
         depth,
         text,
+        pieces,
         parts,
         labelled,
     })
@@ -137,7 +160,8 @@ pub(crate) fn next_reading(
     lines: &mut Lines,
     read: &mut u32,
 ) -> Result<Read, NoMemory>
-    ensures exact { IfOk result (λ r. IsRead r (lines_of lines.old) (lines_of lines.new) read.old read.new) }
+    ensures exact { IfOk result
+        (λ r. IsRead r (lines_of lines.old) (lines_of lines.new) read.old read.new) }
     ensures counted { IfOk result (λ r. IsCounted r read.old read.new) }
 {
     let next = lines.next(alloc)?;

@@ -4,15 +4,14 @@ ghost use Rattle.std.specs.Prelude.{◌≡◌, ◌+◌, ◌-◌, ◌<◌, ◌≤
 ghost use Rattle.std.specs.Bool.{OnFalse};
 ghost use Rattle.vax_lex.specs.Tokens.{IsPieceOf};
 ghost use Rattle.vax_macro.specs.Heads.{word_in, piece_text};
-ghost use Rattle.vax_macro.specs.Templates.{no_formals, template as made_of};
-ghost use Rattle.vax_macro.specs.Directives.{finished, expansion, copies, one_formal, collect, is_skipping, open_condition, begin_condition, switch_condition, end_condition, skip, guard, with_pending, begin_copies, begin_repeat, begin_macro, begin_arguments, begin_characters, call, direct, read_word, read_operator, read, done, is_deep, condition_fault};
+ghost use Rattle.vax_macro.specs.Templates.{template as made_of};
+ghost use Rattle.vax_macro.specs.Directives.{finished, line_copies, lines_for_each, with_lines, with_macro, collect, is_skipping, open_condition, begin_condition, switch_condition, end_condition, skip, guard, with_pending, begin_copies, begin_repeat, begin_macro, begin_arguments, begin_characters, call, direct, read_word, read_operator, read, done, is_deep, condition_fault};
 ghost use Rattle.vax_macro.specs.Names.{with_entry};
 ghost use Rattle.vax_lex.specs.Characters.{canonical_name};
 ghost use Rattle.vax_macro.specs.HeadViews.{word_view, head_view};
-ghost use Rattle.vax_macro.specs.LineViews.{reading_of, lines_of, opened_lines};
+ghost use Rattle.vax_macro.specs.LineViews.{reading_of, opened_lines};
 ghost use Rattle.vax_macro.specs.TemplateViews.{template_view, formals_view, texts_view};
-ghost use Rattle.std.specs.List.{flat_map};
-ghost use Rattle.vax_macro.specs.View.{use_view, pending_view, condition_view, macros_of, rest_in, Acts, line_in, head_in, operands_at};
+ghost use Rattle.vax_macro.specs.View.{use_view, pending_view, condition_view, macros_of, rest_in, Acts, Becomes, Obeys, line_in, head_in, operands_at};
 
 use crate::arguments::{NoKeyword, arguments, behind_blanks, name_length};
 use crate::conditions::{Refusal, condition_in, guarded_in, number_in};
@@ -21,7 +20,7 @@ use crate::directives::{
     count_of, end_fault, ends, iterated_in, macro_formals, nested_after, one_formal, operand_text,
     operands_fault, shared,
 };
-use crate::error::{FaultKind, NoMemory};
+use crate::error::FaultKind;
 use crate::heads::{Head, Word, has_unprintable, piece_text, word_in};
 use crate::line_types::{Frame, Reading};
 use crate::names::{copied, is_name};
@@ -32,6 +31,7 @@ use std::alloc::Global;
 use std::collections::BTreeMap;
 use std::rc::Rc;
 use vax_lex::{Names, Piece};
+use vax_space::NoMemory;
 
 /// A line that is read: its pieces and its head, and how many lines were read with it.
 #[derive(Clone, Copy)]
@@ -76,7 +76,8 @@ impl Parsed<'_> {
 
     /// What a directive without operands does.
     fn unless_operands(&self, done: Done) -> Done
-        ensures { result ≡ unless (operands_fault self.now.pieces.now (head_in self.now).operands) done }
+        ensures { result
+            ≡ unless (operands_fault self.now.pieces.now (head_in self.now).operands) done }
     {
         match operands_fault(self.pieces, self.operands()) {
             Some(kind) => Done::Fails(kind),
@@ -86,7 +87,8 @@ impl Parsed<'_> {
 
     /// What an `.ENDM` does that ends no macro.
     fn unless_named(&self, done: Done) -> Done
-        ensures { result ≡ unless (end_fault (line_in self.now).text None self.now.pieces.now (head_in self.now).operands) done }
+        ensures { result ≡ unless (end_fault (line_in self.now).text None
+            self.now.pieces.now (head_in self.now).operands) done }
     {
         match end_fault(&self.line.text, None, self.pieces, self.operands()) {
             Some(kind) => Done::Fails(kind),
@@ -106,7 +108,8 @@ impl Parsed<'_> {
 fn add_all(alloc: Global, lines: &mut Vec<Vec<u8>>, parts: &[Vec<u8>]) -> Result<(), NoMemory>
     requires lines { All (λ t. length t.items ≤ 1024) lines.old.items }
     requires parts { All (λ t. length t.items ≤ 1024) parts.now }
-    ensures exact { OnOk result (texts_view lines.new ≡ texts_view lines.old ++ map (λ t. t.items) parts.now) }
+    ensures exact { OnOk result
+        (texts_view lines.new ≡ texts_view lines.old ++ map (λ t. t.items) parts.now) }
     ensures short { OnOk result (All (λ t. length t.items ≤ 1024) lines.new.items) }
 {
     for part in parts {
@@ -123,7 +126,8 @@ fn put_macro(
     name: Vec<u8>,
     template: Rc<Template>,
 ) -> Result<(), NoMemory>
-    ensures { OnOk result (macros_of macros.new ≡ with_entry name.items (Some (template_view template.value)) (macros_of macros.old)) }
+    ensures { OnOk result (macros_of macros.new
+        ≡ with_entry name.items (Some (template_view template.value)) (macros_of macros.old)) }
 {
     match macros.insert(name, template) {
         Ok(_) => Ok(()),
@@ -134,7 +138,8 @@ fn put_macro(
 impl State {
     #[tactic(auto, using(crate::proofs::Begins::condition_count))]
     fn is_deep(&self, line: &Reading) -> bool
-        ensures value { result ≡ nat_le 64 (line.now.depth + length (map condition_view self.now.conditions.items)) }
+        ensures value { result
+            ≡ nat_le 64 (line.now.depth + length (map condition_view self.now.conditions.items)) }
         ensures shallow { OnFalse result (line.now.depth < 64) }
     {
         line.depth as usize + self.conditions.len() >= 64
@@ -142,7 +147,8 @@ impl State {
 
     /// Defines a macro.
     fn define(&mut self, alloc: Global, name: Vec<u8>, template: Template) -> Result<(), NoMemory>
-        ensures { OnOk result ((read : ℕ) → rest_in read self.new ≡ record (rest_in read self.old) { macros = with_entry name.items (Some (template_view template)) (macros_of self.old.macros) }) }
+        ensures { OnOk result
+            (Becomes (with_macro name.items (template_view template)) self.old self.new) }
     {
         let template = Rc::new(alloc, template).map_err(|_| NoMemory)?;
         put_macro(&mut self.macros, name, template)
@@ -150,7 +156,7 @@ impl State {
 
     /// The lines of an expansion come next, if there is one.
     fn open_frame(&mut self, frame: Option<Frame>) -> Result<(), NoMemory>
-        ensures { OnOk result ((read : ℕ) → rest_in read self.new ≡ record (rest_in read self.old) { lines = opened_lines frame ++ lines_of self.old.lines }) }
+        ensures { OnOk result (Becomes (with_lines (opened_lines frame)) self.old self.new) }
     {
         match frame {
             Some(frame) => self.lines.open(frame),
@@ -167,7 +173,9 @@ impl State {
         lines: Vec<Vec<u8>>,
     ) -> Result<(), NoMemory>
         requires { All (λ t. length t.items ≤ 1024) lines.items }
-        ensures { OnOk result ((read : ℕ) → rest_in read self.new ≡ record (rest_in read self.old) { macros = with_entry name.items (Some (made_of (formals_view formals) (texts_view lines))) (macros_of self.old.macros) }) }
+        ensures { OnOk result
+            (Becomes (with_macro name.items (made_of (formals_view formals) (texts_view lines)))
+            self.old self.new) }
     {
         let kept = template(alloc, formals, lines)?;
         self.define(alloc, name, kept)?;
@@ -184,7 +192,9 @@ impl State {
         depth: u32,
     ) -> Result<(), NoMemory>
         requires { All (λ t. length t.items ≤ 1024) lines.items }
-        ensures { OnOk result ((read : ℕ) → rest_in read self.new ≡ record (rest_in read self.old) { lines = copies count (expansion (made_of no_formals (texts_view lines)).lines number depth []) ++ lines_of self.old.lines }) }
+        ensures { OnOk result
+            (Becomes (with_lines (line_copies count (texts_view lines) number depth))
+            self.old self.new) }
     {
         let kept = template(alloc, Formals::new(alloc), lines)?;
         let frame = copies_of(alloc, kept, count, number, depth)?;
@@ -203,7 +213,9 @@ impl State {
         depth: u32,
     ) -> Result<(), NoMemory>
         requires { All (λ t. length t.items ≤ 1024) lines.items }
-        ensures { OnOk result ((read : ℕ) → rest_in read self.new ≡ record (rest_in read self.old) { lines = flat_map (λ text. expansion (made_of (one_formal formal.items) (texts_view lines)).lines number depth (text ∷ [])) (texts_view texts) ++ lines_of self.old.lines }) }
+        ensures { OnOk result
+            (Becomes (with_lines (lines_for_each formal.items (texts_view lines) number depth
+            (texts_view texts))) self.old self.new) }
     {
         let formals = one_formal(alloc, formal)?;
         let kept = template(alloc, formals, lines)?;
@@ -215,7 +227,7 @@ impl State {
     /// A macro is defined; the copies of a repeat come next.
     #[tactic(auto, unfolding(crate::specs::Directives::finished))]
     fn finish(&mut self, alloc: Global, pending: Pending) -> Result<(), NoMemory>
-        ensures { OnOk result ((read : ℕ) → rest_in read self.new ≡ finished (pending_view pending) (rest_in read self.old)) }
+        ensures { OnOk result (Becomes (finished (pending_view pending)) self.old self.new) }
     {
         let Pending {
             use_of,
@@ -249,7 +261,9 @@ impl State {
         parsed: Parsed<'_>,
     ) -> Result<Done, NoMemory>
         requires { All (IsPieceOf parsed.line.now.text.items) parsed.pieces.now }
-        ensures { IfOk result (λ d. Acts d parsed.entry.read self.new (collect (pending_view pending) (line_in parsed.entry) parsed.entry.pieces.now (head_in parsed.entry) (rest_in parsed.entry.read self.old))) }
+        ensures { Obeys parsed.entry
+            (λ p. collect (pending_view pending) (line_in p) p.pieces.now (head_in p))
+            result self.old self.new }
     {
         let word = parsed.word();
         if pending.nested == 0 && ends(&pending.use_of, word) {
@@ -304,7 +318,8 @@ impl State {
         outer: bool,
         holds: bool,
     ) -> Result<Done, NoMemory>
-        ensures { IfOk result (λ d. Acts d read self.new (open_condition (reading_of line.now) outer holds (rest_in read self.old))) }
+        ensures { IfOk result (λ d. Acts d read self.new
+            (open_condition (reading_of line.now) outer holds (rest_in read self.old))) }
     {
         if self.is_deep(line) {
             return Ok(Done::Fails(FaultKind::Depth));
@@ -328,7 +343,9 @@ impl State {
         parsed: Parsed<'_>,
     ) -> Result<Done, NoMemory>
         requires { All (IsPieceOf parsed.line.now.text.items) parsed.pieces.now }
-        ensures { IfOk result (λ d. Acts d parsed.entry.read self.new (begin_condition (N.meaning names.now) (line_in parsed.entry) (head_in parsed.entry) (rest_in parsed.entry.read self.old))) }
+        ensures { Obeys parsed.entry
+            (λ p. begin_condition (N.meaning names.now) (line_in p) (head_in p))
+            result self.old self.new }
     {
         match condition_in(alloc, names, &parsed.line.text, parsed.operands()) {
             Ok(holds) => self.open_condition(parsed.line, parsed.read, true, holds),
@@ -339,7 +356,8 @@ impl State {
 
     /// Whether the operands of `.IFF`, `.IFT`, `.IFTF` or `.ENDC` have a fault here.
     fn condition_fault(&self, parsed: Parsed<'_>) -> Option<FaultKind>
-        ensures { result ≡ condition_fault parsed.entry.pieces.now (head_in parsed.entry) (map condition_view self.now.conditions.items) }
+        ensures { result ≡ condition_fault parsed.entry.pieces.now (head_in parsed.entry)
+            (map condition_view self.now.conditions.items) }
     {
         match self.conditions.front() {
             Some(condition) => {
@@ -358,7 +376,9 @@ impl State {
 
     #[tactic(auto, unfolding(crate::specs::Directives::switch_condition))]
     fn switch_condition(&mut self, parsed: Parsed<'_>, word: Word) -> Result<Done, NoMemory>
-        ensures { IfOk result (λ d. Acts d parsed.entry.read self.new (switch_condition (word_view word) parsed.entry.pieces.now (head_in parsed.entry) (rest_in parsed.entry.read self.old))) }
+        ensures { Obeys parsed.entry
+            (λ p. switch_condition (word_view word) p.pieces.now (head_in p))
+            result self.old self.new }
     {
         if let Some(kind) = self.condition_fault(parsed) {
             return Ok(Done::Fails(kind));
@@ -384,7 +404,9 @@ impl State {
 
     #[tactic(auto, unfolding(crate::specs::Directives::end_condition))]
     fn end_condition(&mut self, parsed: Parsed<'_>) -> Done
-        ensures { Acts result parsed.entry.read self.new (end_condition parsed.entry.pieces.now (head_in parsed.entry) (rest_in parsed.entry.read self.old)) }
+        ensures { Acts result parsed.entry.read self.new
+            (end_condition parsed.entry.pieces.now (head_in parsed.entry)
+            (rest_in parsed.entry.read self.old)) }
     {
         if let Some(kind) = self.condition_fault(parsed) {
             return Done::Fails(kind);
@@ -396,7 +418,8 @@ impl State {
     /// A line of skipped text.
     #[tactic(auto, unfolding(crate::specs::Directives::skip))]
     fn skip(&mut self, parsed: Parsed<'_>) -> Result<Done, NoMemory>
-        ensures { IfOk result (λ d. Acts d parsed.entry.read self.new (skip (line_in parsed.entry) parsed.entry.pieces.now (head_in parsed.entry) (rest_in parsed.entry.read self.old))) }
+        ensures { Obeys parsed.entry (λ p. skip (line_in p) p.pieces.now (head_in p))
+            result self.old self.new }
     {
         match parsed.word() {
             Word::If => self.open_condition(parsed.line, parsed.read, false, false),
@@ -416,7 +439,8 @@ impl State {
         parsed: Parsed<'_>,
     ) -> Result<Done, NoMemory>
         requires { All (IsPieceOf parsed.line.now.text.items) parsed.pieces.now }
-        ensures { IfOk result (λ d. Acts d parsed.entry.read self.now (guard (N.meaning names.now) (line_in parsed.entry) (head_in parsed.entry) (rest_in parsed.entry.read self.now))) }
+        ensures { Obeys parsed.entry (λ p. guard (N.meaning names.now) (line_in p) (head_in p))
+            result self.now self.now }
     {
         match guarded_in(alloc, names, &parsed.line.text, parsed.operands()) {
             Ok(guarded) => {
@@ -432,7 +456,9 @@ impl State {
     }
 
     fn begin(&mut self, alloc: Global, use_of: Use, parsed: Parsed<'_>, depth: u32)
-        ensures { rest_in parsed.entry.read self.new ≡ with_pending (use_view use_of) (line_in parsed.entry) depth (rest_in parsed.entry.read self.old) }
+        ensures { rest_in parsed.entry.read self.new
+            ≡ with_pending (use_view use_of) (line_in parsed.entry) depth
+            (rest_in parsed.entry.read self.old) }
     {
         self.collecting = Some(Pending {
             use_of,
@@ -444,7 +470,9 @@ impl State {
     }
 
     fn begin_copies(&mut self, alloc: Global, use_of: Use, parsed: Parsed<'_>) -> Done
-        ensures { Acts result parsed.entry.read self.new (begin_copies (use_view use_of) (line_in parsed.entry) (rest_in parsed.entry.read self.old)) }
+        ensures { Acts result parsed.entry.read self.new
+            (begin_copies (use_view use_of) (line_in parsed.entry)
+            (rest_in parsed.entry.read self.old)) }
     {
         if self.is_deep(parsed.line) {
             return Done::Fails(FaultKind::Depth);
@@ -461,7 +489,9 @@ impl State {
         parsed: Parsed<'_>,
     ) -> Result<Done, NoMemory>
         requires { All (IsPieceOf parsed.line.now.text.items) parsed.pieces.now }
-        ensures { IfOk result (λ d. Acts d parsed.entry.read self.new (begin_repeat (N.meaning names.now) (line_in parsed.entry) (head_in parsed.entry) (rest_in parsed.entry.read self.old))) }
+        ensures { Obeys parsed.entry
+            (λ p. begin_repeat (N.meaning names.now) (line_in p) (head_in p))
+            result self.old self.new }
     {
         match number_in(alloc, names, &parsed.line.text, parsed.operands()) {
             Ok(number) => match count_of(number) {
@@ -475,7 +505,8 @@ impl State {
 
     #[tactic(auto, unfolding(crate::specs::Directives::begin_macro))]
     fn begin_macro(&mut self, alloc: Global, parsed: Parsed<'_>) -> Result<Done, NoMemory>
-        ensures { IfOk result (λ d. Acts d parsed.entry.read self.new (begin_macro (line_in parsed.entry) (head_in parsed.entry) (operands_at parsed.entry) (rest_in parsed.entry.read self.old))) }
+        ensures { Obeys parsed.entry (λ p. begin_macro (line_in p) (head_in p) (operands_at p))
+            result self.old self.new }
     {
         if has_unprintable(&parsed.line.text, parsed.operands()) {
             return Ok(Done::Fails(FaultKind::Token));
@@ -502,7 +533,8 @@ impl State {
 
     #[tactic(auto, unfolding(crate::specs::Directives::begin_arguments))]
     fn begin_arguments(&mut self, alloc: Global, parsed: Parsed<'_>) -> Result<Done, NoMemory>
-        ensures { IfOk result (λ d. Acts d parsed.entry.read self.new (begin_arguments (line_in parsed.entry) (head_in parsed.entry) (operands_at parsed.entry) (rest_in parsed.entry.read self.old))) }
+        ensures { Obeys parsed.entry (λ p. begin_arguments (line_in p) (head_in p) (operands_at p))
+            result self.old self.new }
     {
         let found = iterated_in(alloc, parsed.line, parsed.operands(), parsed.operands_at());
         match found {
@@ -520,7 +552,8 @@ impl State {
 
     #[tactic(auto, unfolding(crate::specs::Directives::begin_characters))]
     fn begin_characters(&mut self, alloc: Global, parsed: Parsed<'_>) -> Result<Done, NoMemory>
-        ensures { IfOk result (λ d. Acts d parsed.entry.read self.new (begin_characters (line_in parsed.entry) (head_in parsed.entry) (operands_at parsed.entry) (rest_in parsed.entry.read self.old))) }
+        ensures { Obeys parsed.entry (λ p. begin_characters (line_in p) (head_in p) (operands_at p))
+            result self.old self.new }
     {
         let found = iterated_in(alloc, parsed.line, parsed.operands(), parsed.operands_at());
         match found {
@@ -534,14 +567,19 @@ impl State {
     }
 
     /// The macro of a name.
+    #[tactic(auto, using(crate::proofs::Maps::no_macro))]
     fn called(
         &self,
         alloc: Global,
         text: &[u8],
         operator: Piece,
     ) -> Result<Option<Rc<Template>>, NoMemory>
-        ensures { IfOk result (λ o. option_map (λ rc. template_view rc.value) o ≡ macros_of self.now.macros (canonical_name (piece_text text.now operator))) }
+        ensures { IfOk result (λ o. option_map (λ rc. template_view rc.value) o
+            ≡ macros_of self.now.macros (canonical_name (piece_text text.now operator))) }
     {
+        if self.macros.is_empty() {
+            return Ok(None);
+        }
         let name = canonical(alloc, piece_text(text, operator))?;
         match self.macros.get(name.as_slice()) {
             Some(template) => {
@@ -560,7 +598,9 @@ impl State {
         parsed: Parsed<'_>,
     ) -> Result<Done, NoMemory>
         requires { All (IsPieceOf parsed.line.now.text.items) parsed.pieces.now }
-        ensures { IfOk result (λ d. Acts d parsed.entry.read self.new (call (template_view template.value) (line_in parsed.entry) (head_in parsed.entry) (operands_at parsed.entry) (rest_in parsed.entry.read self.old))) }
+        ensures { Obeys parsed.entry
+            (λ p. call (template_view template.value) (line_in p) (head_in p) (operands_at p))
+            result self.old self.new }
     {
         if has_unprintable(&parsed.line.text, parsed.operands()) {
             return Ok(Done::Fails(FaultKind::Token));
@@ -596,7 +636,9 @@ impl State {
         parsed: Parsed<'_>,
     ) -> Result<Done, NoMemory>
         requires { All (IsPieceOf parsed.line.now.text.items) parsed.pieces.now }
-        ensures { IfOk result (λ d. Acts d parsed.entry.read self.new (direct (N.meaning names.now) (word_view word) (line_in parsed.entry) parsed.entry.pieces.now (head_in parsed.entry) (operands_at parsed.entry) (rest_in parsed.entry.read self.old))) }
+        ensures { Obeys parsed.entry
+            (λ p. direct (N.meaning names.now) (word_view word) (line_in p) p.pieces.now (head_in p)
+            (operands_at p)) result self.old self.new }
     {
         match word {
             Word::Macro => self.begin_macro(alloc, parsed),
@@ -624,7 +666,9 @@ impl State {
         parsed: Parsed<'_>,
     ) -> Result<Done, NoMemory>
         requires { All (IsPieceOf parsed.line.now.text.items) parsed.pieces.now }
-        ensures { IfOk result (λ d. Acts d parsed.entry.read self.new (read (N.meaning names.now) (line_in parsed.entry) parsed.entry.pieces.now (head_in parsed.entry) (rest_in parsed.entry.read self.old))) }
+        ensures { Obeys parsed.entry
+            (λ p. read (N.meaning names.now) (line_in p) p.pieces.now (head_in p))
+            result self.old self.new }
     {
         let Some(operator) = parsed.head.operator else {
             return Ok(Done::Gives);
@@ -662,7 +706,9 @@ impl State {
         read: u32,
     ) -> Result<Done, NoMemory>
         requires { All (IsPieceOf line.now.text.items) pieces.now }
-        ensures { IfOk result (λ d. Acts d read self.new (done (N.meaning names.now) (reading_of line.now) pieces.now (head_view pieces.now head) (rest_in read self.old))) }
+        ensures { IfOk result (λ d. Acts d read self.new
+            (done (N.meaning names.now) (reading_of line.now) pieces.now (head_view pieces.now head)
+            (rest_in read self.old))) }
     {
         let parsed = Parsed {
             line,

@@ -13,13 +13,13 @@ ghost use Rattle.vax_macro.specs.TemplateViews.{by_name, formal_view, formals_vi
 
 use crate::arguments::{Argument, Keywords};
 use crate::counts::one_more;
-use crate::error::NoMemory;
 use crate::names::{begins_with, behind, copied, is_name, part};
 use crate::template_types::{BodyLine, Formal, Formals, Giving, Slot, Template};
 use itoa::Buffer;
 use std::alloc::Global;
 use std::collections::BTreeMap;
 use vax_lex::{Span, names};
+use vax_space::NoMemory;
 
 /// How many zeros stand before.
 #[tactic(auto, using(crate::proofs::Runs::runs))]
@@ -59,7 +59,8 @@ fn put_place(
     name: Vec<u8>,
     place: usize,
 ) -> Result<(), NoMemory>
-    ensures { OnOk result (by_name index.new ≡ with_entry name.items (Some place) (by_name index.old)) }
+    ensures { OnOk result
+        (by_name index.new ≡ with_entry name.items (Some place) (by_name index.old)) }
 {
     let Ok(_) = index.insert(name, place) else {
         return Err(NoMemory);
@@ -90,7 +91,8 @@ impl Formals {
     #[tactic(auto, using(crate::proofs::Slots::one_more))]
     pub(crate) fn add(&mut self, formal: Formal, name: Vec<u8>) -> Result<(), NoMemory>
         requires { name.items ≡ formal.name.items }
-        ensures { OnOk result (formals_view self.new ≡ with_formal (formals_view self.old) (formal_view formal)) }
+        ensures { OnOk result
+            (formals_view self.new ≡ with_formal (formals_view self.old) (formal_view formal)) }
     {
         let place = self.list.len();
         self.list.push(formal).map_err(|_| NoMemory)?;
@@ -169,8 +171,11 @@ fn formal_of(alloc: Global, argument: Argument) -> Result<Option<Formal>, NoMemo
 
 /// Adds the formal argument that an argument of `.MACRO` is; false where it is none, or there is one of its name.
 fn add_formal(alloc: Global, formals: &mut Formals, argument: Argument) -> Result<bool, NoMemory>
-    ensures added { IfOk result (λ b. OnTrue b (added (formals_view formals.old) (formal_of (argument_view argument)) ≡ Some (formals_view formals.new))) }
-    ensures refused { IfOk result (λ b. OnFalse b (added (formals_view formals.old) (formal_of (argument_view argument)) ≡ None)) }
+    ensures added { IfOk result (λ b. OnTrue b
+        (added (formals_view formals.old) (formal_of (argument_view argument))
+        ≡ Some (formals_view formals.new))) }
+    ensures refused { IfOk result (λ b. OnFalse b
+        (added (formals_view formals.old) (formal_of (argument_view argument)) ≡ None)) }
 {
     let Some(formal) = formal_of(alloc, argument)? else {
         return Ok(false);
@@ -188,7 +193,8 @@ pub(crate) fn formals_of(
     alloc: Global,
     arguments: Vec<Argument>,
 ) -> Result<Option<Formals>, NoMemory>
-    ensures { IfOk result (λ o. option_map formals_view o ≡ formals_from no_formals (arguments_view arguments)) }
+    ensures { IfOk result
+        (λ o. option_map formals_view o ≡ formals_from no_formals (arguments_view arguments)) }
 {
     let mut formals = Formals::new(alloc);
     for argument in arguments {
@@ -202,7 +208,8 @@ pub(crate) fn formals_of(
 
 /// Adds the place of a name, if it is that of a formal argument.
 fn add_slot(slots: &mut Vec<Slot>, span: Span, formal: Option<usize>) -> Result<(), NoMemory>
-    ensures { OnOk result (slots.new.items ≡ slots.old.items ++ with_slot (slot_at span formal) []) }
+    ensures { OnOk result
+        (slots.new.items ≡ slots.old.items ++ with_slot (slot_at span formal) []) }
 {
     if let Some(formal) = formal {
         slots
@@ -231,7 +238,8 @@ fn slots_in(
     text: &[u8],
     spans: &[Span],
 ) -> Result<Vec<Slot>, NoMemory>
-    ensures { IfOk result (λ v. v.items ≡ slots_in (formals_view formals.now).index text.now spans.now) }
+    ensures { IfOk result
+        (λ v. v.items ≡ slots_in (formals_view formals.now).index text.now spans.now) }
 {
     let mut slots = Vec::new(alloc);
     for span in spans {
@@ -245,7 +253,8 @@ fn slots_in(
 #[tactic(auto, unfolding(crate::specs::Templates::body_line))]
 fn body_line(alloc: Global, formals: &Formals, text: Vec<u8>) -> Result<BodyLine, NoMemory>
     requires { length text.items ≤ 1024 }
-    ensures { IfOk result (λ l. line_view l ≡ body_line (formals_view formals.now).index text.items) }
+    ensures { IfOk result
+        (λ l. line_view l ≡ body_line (formals_view formals.now).index text.items) }
 {
     let spans = names(alloc, &text).map_err(|_| NoMemory)?;
     let slots = slots_in(alloc, formals, &text, &spans)?;
@@ -255,7 +264,8 @@ fn body_line(alloc: Global, formals: &Formals, text: Vec<u8>) -> Result<BodyLine
 /// Adds a line of a body.
 #[tactic(auto, using(crate::proofs::Slots::line_added))]
 fn add_line(lines: &mut Vec<BodyLine>, line: BodyLine) -> Result<(), NoMemory>
-    ensures { OnOk result (map line_view lines.new.items ≡ map line_view lines.old.items ++ line_view line ∷ []) }
+    ensures { OnOk result
+        (map line_view lines.new.items ≡ map line_view lines.old.items ++ line_view line ∷ []) }
 {
     match lines.push(line) {
         Ok(_) => Ok(()),
@@ -281,7 +291,8 @@ pub(crate) fn template(
     texts: Vec<Vec<u8>>,
 ) -> Result<Template, NoMemory>
     requires { All (λ t. length t.items ≤ 1024) texts.items }
-    ensures { IfOk result (λ t. template_view t ≡ template (formals_view formals) (texts_view texts)) }
+    ensures { IfOk result
+        (λ t. template_view t ≡ template (formals_view formals) (texts_view texts)) }
 {
     let mut lines = Vec::new(alloc);
     for text in texts {
@@ -341,7 +352,8 @@ fn add_replaced(
     at: usize,
     slot: Slot,
 ) -> Result<(), NoMemory>
-    ensures { OnOk result (made.new.items ≡ made.old.items ++ replaced (map (λ t. t.items) texts.now) text.now at slot) }
+    ensures { OnOk result (made.new.items
+        ≡ made.old.items ++ replaced (map (λ t. t.items) texts.now) text.now at slot) }
 {
     let end = cut_before(text, at, slot.start as usize);
     made.extend_from_slice(part(text, at, end))
@@ -356,7 +368,8 @@ pub(crate) fn rewritten(
     texts: &[Vec<u8>],
     line: &BodyLine,
 ) -> Result<Vec<u8>, NoMemory>
-    ensures { IfOk result (λ v. v.items ≡ rewritten (map (λ t. t.items) texts.now) (line_view line.now)) }
+    ensures { IfOk result
+        (λ v. v.items ≡ rewritten (map (λ t. t.items) texts.now) (line_view line.now)) }
 {
     let mut made = Vec::new(alloc);
     let mut at = 0;
@@ -388,7 +401,8 @@ fn keyword_index(
     formals: &Formals,
     keyword: Option<&[u8]>,
 ) -> Result<Option<usize>, NoMemory>
-    ensures { IfOk result (λ o. o ≡ keyword_index (formals_view formals.now) (lent_view keyword.entry)) }
+    ensures { IfOk result
+        (λ o. o ≡ keyword_index (formals_view formals.now) (lent_view keyword.entry)) }
 {
     match keyword {
         Some(keyword) => {
@@ -431,8 +445,11 @@ impl Giving {
 
     /// Gives a text to a formal argument, or to the next one; false where there is none.
     fn give(&mut self, place: Option<usize>, text: Option<Vec<u8>>) -> bool
-        ensures given { OnTrue result (given_to place (owned_view text) (giving_view self.old) ≡ Some (giving_view self.new)) }
-        ensures full { OnFalse result (given_to place (owned_view text) (giving_view self.old) ≡ None) }
+        ensures given { OnTrue result
+            (given_to place (owned_view text) (giving_view self.old)
+            ≡ Some (giving_view self.new)) }
+        ensures full { OnFalse result
+            (given_to place (owned_view text) (giving_view self.old) ≡ None) }
     {
         match place {
             Some(place) => {
@@ -457,7 +474,8 @@ pub(crate) fn assigned(
     formals: &Formals,
     arguments: Vec<Argument>,
 ) -> Result<Option<Vec<Option<Vec<u8>>>>, NoMemory>
-    ensures { IfOk result (λ o. option_map given_view o ≡ assigned (formals_view formals.now) (arguments_view arguments)) }
+    ensures { IfOk result (λ o. option_map given_view o
+        ≡ assigned (formals_view formals.now) (arguments_view arguments)) }
 {
     let texts = nothing_given(alloc, formals.list.len())?;
     let mut giving = Giving { next: 0, texts };
@@ -478,7 +496,9 @@ fn fill(
     text: Option<Vec<u8>>,
     made: &mut u32,
 ) -> Result<Vec<u8>, NoMemory>
-    ensures filled { IfOk result (λ v. (next : ℕ → Filled) → filled_with made.old (formal_view formal.now) (owned_view text) next ≡ with_text v.items (next made.new)) }
+    ensures filled { IfOk result (λ v. (next : ℕ → Filled) →
+        filled_with made.old (formal_view formal.now) (owned_view text) next
+        ≡ with_text v.items (next made.new)) }
 {
     match text {
         Some(text) => Ok(text),
@@ -502,7 +522,8 @@ pub(crate) fn filled(
     given: Vec<Option<Vec<u8>>>,
     made: &mut u32,
 ) -> Result<Vec<Vec<u8>>, NoMemory>
-    ensures { IfOk result (λ v. filled made.old (map formal_view formals.now) (given_view given) ≡ record { texts = texts_view v; made = made.new }) }
+    ensures { IfOk result (λ v. filled made.old (map formal_view formals.now) (given_view given)
+        ≡ record { texts = texts_view v; made = made.new }) }
 {
     let mut texts = Vec::new(alloc);
     let mut place = 0;
