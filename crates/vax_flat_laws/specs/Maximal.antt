@@ -70,6 +70,10 @@ move_needs p j = page_of (plus p.addr1 (moved_index p j)) ∷ page_of (plus p.ad
 abbrev pub turns_to_fills : Progress → ℕ → Bool
 turns_to_fills p made = p.done + made == moved_count p
 
+-- a move up to a byte that escapes: the same, from the first on
+abbrev pub escape_needs : Progress → ℕ → List ℕ
+escape_needs p j = page_of (plus p.addr1 (p.done + j)) ∷ page_of (plus p.addr2 (p.done + j)) ∷ []
+
 -- a fill: a byte of the destination
 abbrev pub fill_needs : Progress → ℕ → List ℕ
 fill_needs p j = page_of (plus p.addr2 (p.done + j)) ∷ []
