@@ -8,6 +8,7 @@ pub mod Scanning
 pub mod Processing
 pub mod Stacking
 pub mod Statuses
+pub mod Matching
 pub mod Maximum
 pub mod Reading
 pub mod Queueing

@@ -1,7 +1,7 @@
 -- Parts are as long as the rule of parts lets them be.
-use Rattle.std.proofs.Common.{◌≡◌, ◌≢◌, ℕ, suc, zero, ◌+◌, ◌-◌, ◌/◌, ◌%◌, ◌^◌, ◌<◌, ◌≤◌, ◌⊎◌, ◌==◌, Bool, true, false, min, Option, Some, None, List, [], ◌∷◌, ◌++◌, length, refl, ap, sym, subst, ◌∙◌, arith, inl, inr}
-use Rattle.std.specs.Prelude.{if◌then◌else◌, nat_le, take, drop}
-use Rattle.std.proofs.lemmas.Bool.{cases_Bool, cases_eq, cases_lt, eq-eqb, ne_eqb, eqb-false, lt-ltb, le-ltb, leb-true, leb-false}
+use Rattle.std.proofs.Common.{◌≡◌, ◌≢◌, ℕ, suc, zero, ◌+◌, ◌-◌, ◌/◌, ◌%◌, ◌^◌, ◌<◌, ◌≤◌, ◌⊎◌, ◌==◌, Bool, true, false, min, Option, Some, None, List, [], ◌∷◌, ◌++◌, length, refl, ap, sym, subst, ◌∙◌, arith, inl, inr, length-append}
+use Rattle.std.specs.Prelude.{nat_lt, if◌then◌else◌, nat_le, take, drop, ◌&&◌}
+use Rattle.std.proofs.lemmas.Bool.{ltb-false, cases_Bool, cases_eq, cases_lt, eq-eqb, ne_eqb, eqb-false, lt-ltb, le-ltb, leb-true, leb-false, and_cases}
 use Rattle.std.proofs.lemmas.Bool.Decides.{nat_tests}
 use Rattle.vax_space.specs.declared.Access.{Access}
 use Rattle.vax_space.specs.declared.Access.TheVariants.{Read, Write}
@@ -22,7 +22,9 @@ use Rattle.vax_flat.specs.StringSearch.{located, searched, search_room, if_found
 use Rattle.vax_flat.specs.StringCompare.{behind, differs, equals, first_of, second_of, pairs_of, first_page, string_room, compare_room, filled_run, first_read, first_checked, compare_end, compare_run, compare_part}
 use Rattle.vax_flat.specs.StringMove.{moved_count, is_backward, moved, lowest, run_room, move_room, move_end, table_applied, write_pieces, write_high_last, write_low_last, write_span, move_run, fill_room, fill_run, move_part}
 use Rattle.vax_flat.proofs.StringSearch.{length_run}
-use Rattle.vax_flat_laws.specs.Maximal.{AreAmong, IsAmong, IsMaximal, IfLeft, LeavesPart, never, page_in, search_needs, compare_needs, move_needs, turns_to_fills, fill_needs, IsPlain, IsMovePlain}
+use Rattle.vax_flat_laws.specs.Maximal.{AreAmong, IsAmong, IsMaximal, IfLeft, LeavesPart, never, page_in, search_needs, compare_needs, move_needs, turns_to_fills, fill_needs, IsPlain, IsMovePlain, escape_needs}
+use Rattle.vax_flat.specs.StringEscape.{escaped, escape_room, source_room, written_some, escape_close, escape_end, escape_run, escape_part}
+use Rattle.std.proofs.lemmas.List.Sums.{prefix_len-le-length}
 
 -- ---- what is left where a tree grows by an access
 
@@ -431,6 +433,55 @@ some_down : (x page : ℕ) → 1 ≤ room_down x page
 unfolding room_down
 some_down x page = elim (cases_Bool (x / 512 == page + 1)) [ inl so ↦ rw so (omega arith) | inr isnt ↦ rw isnt (omega arith) ]
 
+-- upward from two addresses, so many units at most
+module _ (x y n : ℕ) (needs : ℕ → List ℕ) (turns : ℕ → Bool) (some : n ≢ 0) (needs_at : (j : ℕ) → j < n → needs j ≡ (x + j) / 512 ∷ (y + j) / 512 ∷ []) (turned : (k : ℕ) → k ≡ n → turns k ≡ true) where
+  abbrev pub rooms_up : ℕ
+  rooms_up = min (min 512 n) (min (room_up x (y / 512)) (room_up y (x / 512)))
+
+  first_up : needs 0 ≡ x / 512 ∷ y / 512 ∷ []
+  first_up =
+      let e1 : x + 0 ≡ x = omega arith in
+      let e2 : y + 0 ≡ y = omega arith in
+      needs_at 0 (omega arith) ∙ (λ i. e1 i / 512 ∷ e2 i / 512 ∷ [])
+
+  beyond_up : ((rooms_up ≡ room_up x (y / 512)) × (room_up x (y / 512) < 512)) ⊎ ((rooms_up ≡ room_up y (x / 512)) × (room_up y (x / 512) < 512)) → rooms_up < n → AreAmong (needs rooms_up) (needs 0) → ⊥
+  beyond_up (inl first) inside among =
+      let a : AreAmong ((x + rooms_up) / 512 ∷ (y + rooms_up) / 512 ∷ []) (x / 512 ∷ y / 512 ∷ []) =
+      subst (λ ps. AreAmong ((x + rooms_up) / 512 ∷ (y + rooms_up) / 512 ∷ []) ps) first_up (subst (λ qs. AreAmong qs (needs 0)) (needs_at rooms_up inside) among) in
+      let out = past x (y / 512) first.1 in
+      let e : (x + rooms_up) / 512 ≡ (x + room_up x (y / 512)) / 512 = ap (λ k. (x + k) / 512) first.0 in
+      neither_page _ _ _ (λ h. out.0 (sym e ∙ h)) (λ h. out.1 (sym e ∙ h)) a.0
+  beyond_up (inr second) inside among =
+      let a : AreAmong ((x + rooms_up) / 512 ∷ (y + rooms_up) / 512 ∷ []) (x / 512 ∷ y / 512 ∷ []) =
+      subst (λ ps. AreAmong ((x + rooms_up) / 512 ∷ (y + rooms_up) / 512 ∷ []) ps) first_up (subst (λ qs. AreAmong qs (needs 0)) (needs_at rooms_up inside) among) in
+      let out = past y (x / 512) second.1 in
+      let e : (y + rooms_up) / 512 ≡ (y + room_up y (x / 512)) / 512 = ap (λ k. (y + k) / 512) second.0 in
+      neither_page _ _ _ (λ h. out.1 (sym e ∙ h)) (λ h. out.0 (sym e ∙ h)) a.1.0
+
+  pub maximal_up : IsMaximal needs turns rooms_up
+  maximal_up =
+      let l = least n (room_up x (y / 512)) (room_up y (x / 512)) some (some_up x (y / 512)) (some_up y (x / 512)) in
+      record {
+        few = l.1;
+        near = λ j h.
+            let inside : j < n = (let k = l.2 in omega arith) in
+            subst (λ qs. AreAmong qs (needs 0)) (sym (needs_at j inside))
+            (subst (λ ps. AreAmong ((x + j) / 512 ∷ (y + j) / 512 ∷ []) ps) (sym first_up) (
+              either_page _ _ _ (elim (reach x (y / 512) j (let k = l.3 in omega arith)) [ inl same ↦ inl same | inr next ↦ inr next.0 ]),
+              (either_page _ _ _ (elim (reach y (x / 512) j (let k = l.4 in omega arith)) [ inl same ↦ inr same | inr next ↦ inl next.0 ]), tt),
+            ));
+        full =
+            elim l.5 [
+              | inl top ↦ inl top
+              | inr (inl all) ↦ inr (inl (turned rooms_up all))
+              | inr (inr which) ↦
+                  elim (cases_lt rooms_up n) [
+                    | inr over ↦ inr (inl (turned rooms_up (let k = l.2 in omega arith)))
+                    | inl inside ↦ inr (inr (λ among. beyond_up which inside among))
+                  ]
+            ];
+      }
+
 module _ (p : Progress) (plain : IsMovePlain p) (left_some : p.done < moved_count p) where
   abbrev n : ℕ
   n = moved_count p - p.done
@@ -458,51 +509,8 @@ module _ (p : Progress) (plain : IsMovePlain p) (left_some : p.done < moved_coun
         let e2 : plus p.addr2 (p.done + j) ≡ y + j = (let f = plain.second in omega arith) in
         rw (forward, e1, e2) refl
 
-    first_forward : move_needs p 0 ≡ x / 512 ∷ y / 512 ∷ []
-    first_forward =
-        let e1 : x + 0 ≡ x = omega arith in
-        let e2 : y + 0 ≡ y = omega arith in
-        needs_forward 0 (omega arith) ∙ (λ i. e1 i / 512 ∷ e2 i / 512 ∷ [])
-
-    beyond_forward : ((up ≡ room_up x (y / 512)) × (room_up x (y / 512) < 512)) ⊎ ((up ≡ room_up y (x / 512)) × (room_up y (x / 512) < 512)) → up < n → AreAmong (move_needs p up) (move_needs p 0) → ⊥
-    beyond_forward (inl first) inside among =
-        let a : AreAmong ((x + up) / 512 ∷ (y + up) / 512 ∷ []) (x / 512 ∷ y / 512 ∷ []) =
-        subst (λ ps. AreAmong ((x + up) / 512 ∷ (y + up) / 512 ∷ []) ps) first_forward (subst (λ qs. AreAmong qs (move_needs p 0)) (needs_forward up inside) among) in
-        let out = past x (y / 512) first.1 in
-        let e : (x + up) / 512 ≡ (x + room_up x (y / 512)) / 512 = ap (λ k. (x + k) / 512) first.0 in
-        neither_page _ _ _ (λ h. out.0 (sym e ∙ h)) (λ h. out.1 (sym e ∙ h)) a.0
-    beyond_forward (inr second) inside among =
-        let a : AreAmong ((x + up) / 512 ∷ (y + up) / 512 ∷ []) (x / 512 ∷ y / 512 ∷ []) =
-        subst (λ ps. AreAmong ((x + up) / 512 ∷ (y + up) / 512 ∷ []) ps) first_forward (subst (λ qs. AreAmong qs (move_needs p 0)) (needs_forward up inside) among) in
-        let out = past y (x / 512) second.1 in
-        let e : (y + up) / 512 ≡ (y + room_up y (x / 512)) / 512 = ap (λ k. (y + k) / 512) second.0 in
-        neither_page _ _ _ (λ h. out.1 (sym e ∙ h)) (λ h. out.0 (sym e ∙ h)) a.1.0
-
     maximal_forward : IsMaximal (move_needs p) (turns_to_fills p) up
-    maximal_forward =
-        let ra = room_up x (y / 512) in
-        let rb = room_up y (x / 512) in
-        let l = least n ra rb (λ e. omega arith) (some_up x (y / 512)) (some_up y (x / 512)) in
-        record {
-          few = l.1;
-          near = λ j h.
-              let inside : j < n = (let k = l.2 in omega arith) in
-              subst (λ qs. AreAmong qs (move_needs p 0)) (sym (needs_forward j inside))
-              (subst (λ ps. AreAmong ((x + j) / 512 ∷ (y + j) / 512 ∷ []) ps) (sym first_forward) (
-                either_page _ _ _ (elim (reach x (y / 512) j (let k = l.3 in omega arith)) [ inl same ↦ inl same | inr next ↦ inr next.0 ]),
-                (either_page _ _ _ (elim (reach y (x / 512) j (let k = l.4 in omega arith)) [ inl same ↦ inr same | inr next ↦ inl next.0 ]), tt),
-              ));
-          full =
-              elim l.5 [
-                | inl top ↦ inl top
-                | inr (inl all) ↦ inr (inl (eq-eqb (p.done + up) (moved_count p) (omega arith)))
-                | inr (inr which) ↦
-                    elim (cases_lt up n) [
-                      | inr over ↦ inr (inl (eq-eqb (p.done + up) (moved_count p) (let k = l.2 in omega arith)))
-                      | inl inside ↦ inr (inr (λ among. beyond_forward which inside among))
-                    ]
-              ];
-        }
+    maximal_forward = maximal_up x y n (move_needs p) (turns_to_fills p) (λ e. omega arith) needs_forward (λ k e. eq-eqb (p.done + k) (moved_count p) (omega arith))
 
   module _ (back : is_backward p ≡ true) where
     abbrev u : ℕ
@@ -632,3 +640,93 @@ fill_left translate p s none some =
     (so_write_run P _ _ s _ (so_end P translate p (fill_room p) s (λ more.
     let max_is = fill_maximal p some more in
     record { some = max_is.0; maximal = max_is.1; state = refl })))
+
+-- ---- MOVTUC
+
+so_read_long : (P : ℕ → State → Type 0) (addr len : ℕ) (s : State) (next : List ℕ → State → Accesses Leaf) → ((bytes : List ℕ) → length bytes ≡ len → So P (next bytes s)) → So P (read_span addr len s next)
+unfolding read_span
+so_read_long P addr len s next q =
+    so_by P (nat_le len (to_page_end addr)) _ _ (λ all. so_read_run P addr len s next q)
+    (λ part_of. let less = leb-false len (to_page_end addr) part_of in
+    so_read_run P addr (to_page_end addr) s _ (λ low l. so_read_run P _ _ s _ (λ high h. q (low ++ high) (length-append low high ∙ omega (arith, l, h)))))
+
+so_escaped : (P : ℕ → State → Type 0) (p : Progress) (count : ℕ) (escape : Bool) (s : State) → So P (escaped p count escape s leaf)
+unfolding escaped completed
+so_escaped P p count escape s = so_done P _
+
+module _ (p : Progress) (s : State) (plain : IsMovePlain p) (some_left : p.done < moved_count p) where
+  abbrev E : ℕ → State → Type 0
+  E = LeavesPart (escape_needs p) (turns_to_fills p) (λ made. suspended (record p { done = p.done + made }) s)
+
+  abbrev x1 : ℕ
+  x1 = p.addr1 + p.done
+
+  abbrev y1 : ℕ
+  y1 = p.addr2 + p.done
+
+  abbrev units : ℕ
+  units = moved_count p - p.done
+
+  e_first : plus p.addr1 p.done ≡ x1
+  e_first = let f = plain.first in omega arith
+
+  e_second : plus p.addr2 p.done ≡ y1
+  e_second = let f = plain.second in omega arith
+
+  room_is : escape_room p ≡ min (min 512 units) (min (room_up x1 (y1 / 512)) (room_up y1 (x1 / 512)))
+  unfolding escape_room
+  room_is = rw (e_first, e_second) refl
+
+  source_is : source_room p ≡ min (min 512 units) (min (room_up x1 (y1 / 512)) (room_up y1 (x1 / 512) + 1))
+  unfolding source_room
+  source_is = rw (e_first, e_second) refl
+
+  more_source : escape_room p ≤ source_room p
+  more_source = let a = room_is in let b = source_is in omega arith
+
+  needs_escape : (j : ℕ) → j < units → escape_needs p j ≡ (x1 + j) / 512 ∷ (y1 + j) / 512 ∷ []
+  needs_escape j h =
+      let e1 : plus p.addr1 (p.done + j) ≡ x1 + j = (let f = plain.first in omega arith) in
+      let e2 : plus p.addr2 (p.done + j) ≡ y1 + j = (let f = plain.second in omega arith) in
+      rw (e1, e2) refl
+
+  escape_maximal : IsMaximal (escape_needs p) (turns_to_fills p) (escape_room p)
+  escape_maximal =
+      subst (IsMaximal (escape_needs p) (turns_to_fills p)) (sym room_is)
+      (maximal_up x1 y1 units (escape_needs p) (turns_to_fills p) (λ e. omega arith) needs_escape (λ k e. eq-eqb (p.done + k) (moved_count p) (omega arith)))
+
+  some_room : 1 ≤ escape_room p
+  some_room = subst (λ k. 1 ≤ k) (sym room_is) (least units (room_up x1 (y1 / 512)) (room_up y1 (x1 / 512)) (λ e. omega arith) (some_up x1 (y1 / 512)) (some_up y1 (x1 / 512))).0
+
+  -- what is left has no byte that escapes in its room
+  moved_room : (count len : ℕ) → count ≤ len → len ≡ source_room p → (nat_le count (escape_room p) && nat_lt count len) ≡ false → min count (escape_room p) ≡ escape_room p
+  moved_room count len few is none =
+      let m = more_source in
+      elim (and_cases (nat_le count (escape_room p)) (nat_lt count len) none) [
+        | inl over ↦ let h = leb-false count (escape_room p) over in omega arith
+        | inr all ↦ let h = ltb-false count len all in omega arith
+      ]
+
+  so_close : (count len : ℕ) → count ≤ len → len ≡ source_room p → So E (escape_close p count (escape_room p) len s leaf)
+  unfolding leaves
+  so_close count len few is =
+      so_by E (nat_le count (escape_room p) && nat_lt count len) _ _ (λ here. so_escaped E p _ true s)
+      (λ none. so_by E (p.done + min count (escape_room p) == moved_count p) _ _ (λ all. so_escaped E p _ false s)
+      (λ more.
+      let e = moved_room count len few is none in
+      so_left E p.op (min count (escape_room p)) (suspended (record p { done = p.done + min count (escape_room p) }) s) (record {
+        some = subst (λ k. 1 ≤ k) (sym e) some_room;
+        maximal = subst (IsMaximal (escape_needs p) (turns_to_fills p)) (sym e) escape_maximal;
+        state = refl;
+      })))
+
+  so_some : (addr : ℕ) (bytes : List ℕ) (next : State → Accesses Leaf) → So E (next s) → So E (written_some addr bytes s next)
+  unfolding written_some
+  so_some addr bytes next q = so_if E (length bytes == 0) _ _ q (so_write_span E addr bytes s next q)
+
+  pub escape_left : So E (escape_part p s leaf)
+  unfolding escape_part escape_run escape_end
+  escape_left =
+      rw (ne_eqb p.done (moved_count p) (λ e. omega arith))
+      (so_read_span E _ 1 s _ (λ first. so_read_span E p.table 256 s _ (λ table. so_if E _ _ _ (so_escaped E p p.done true s)
+      (so_read_long E _ (source_room p) s _ (λ bytes long. so_some _ _ _ (so_close _ (length bytes) (prefix_len-le-length _ bytes) long))))))

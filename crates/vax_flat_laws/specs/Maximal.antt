@@ -1,6 +1,6 @@
 -- The rule of parts, apart from how many units the definitions give a part (what the VAX Architecture Reference Manual leaves to the processor, first
 -- part done): a part goes on to 512 units, or to the first that needs a page which its first unit doesn't.
-use Rattle.std.specs.Prelude.{◌≡◌, ℕ, ◌+◌, ◌-◌, ◌^◌, ◌<◌, ◌≤◌, ◌⊎◌, ◌==◌, Bool, not, true, false, ◌++◌, nat_lt, if◌then◌else◌, List, [], ◌∷◌}
+use Rattle.std.specs.Prelude.{◌≡◌, ℕ, suc, zero, ◌+◌, ◌-◌, ◌^◌, ◌<◌, ◌≤◌, ◌⊎◌, ◌==◌, Bool, not, true, false, ◌++◌, nat_lt, if◌then◌else◌, List, [], ◌∷◌}
 use Rattle.vax_space.specs.declared.Access.TheVariants.{Read}
 use Rattle.vax_space.specs.declared.Area.{Area}
 use Rattle.vax_space.specs.Reference.{may_access, page_of}
@@ -70,9 +70,29 @@ move_needs p j = page_of (plus p.addr1 (moved_index p j)) ∷ page_of (plus p.ad
 abbrev pub turns_to_fills : Progress → ℕ → Bool
 turns_to_fills p made = p.done + made == moved_count p
 
+-- a move up to a byte that escapes: the same, from the first on
+abbrev pub escape_needs : Progress → ℕ → List ℕ
+escape_needs p j = page_of (plus p.addr1 (p.done + j)) ∷ page_of (plus p.addr2 (p.done + j)) ∷ []
+
 -- a fill: a byte of the destination
 abbrev pub fill_needs : Progress → ℕ → List ℕ
 fill_needs p j = page_of (plus p.addr2 (p.done + j)) ∷ []
+
+-- a match: a byte of the object and one of the string, which are the next where they agree, and else the first at the next place
+abbrev pub after_unit : Progress → List Area → Progress
+after_unit p memory =
+    if byte_at memory (plus p.addr1 p.done) == byte_at memory (plus p.addr2 p.done)
+    then record p { done = p.done + 1 }
+    else record p { len2 = p.len2 - 1; addr2 = plus p.addr2 1; done = 0 }
+
+abbrev pub after_units : Progress → List Area → ℕ → Progress
+after_units p memory zero = p
+after_units p memory (suc units) = after_unit (after_units p memory units) memory
+
+abbrev pub match_needs : Progress → List Area → ℕ → List ℕ
+match_needs p memory j =
+    let q = after_units p memory j in
+    page_of (plus q.addr1 q.done) ∷ page_of (plus q.addr2 q.done) ∷ []
 
 -- what a part of so many units leaves
 pub record LeavesPart (needs : ℕ → List ℕ) (turns : ℕ → Bool) (after : ℕ → State) (made : ℕ) (t : State) : Type 0 where

@@ -9,12 +9,13 @@ ghost use Rattle.vax_flat.specs.State.{State, mode};
 ghost use Rattle.vax_flat.specs.Step.{leaf};
 ghost use Rattle.vax_flat.specs.String.{suspended};
 ghost use Rattle.vax_flat.specs.StringCompare.{compare_part, whole_compare};
+ghost use Rattle.vax_flat.specs.StringEscape.{escape_part};
 ghost use Rattle.vax_flat.specs.StringMatch.{match_part, whole_match};
 ghost use Rattle.vax_flat.specs.StringMove.{move_part, moved_count};
 ghost use Rattle.vax_flat.specs.StringSearch.{scan_part, search_part, searched, whole_scan, whole_search};
-ghost use Rattle.vax_flat_laws.specs.Maximal.{IfLeft, entry_barred, IsKept, IsMovePlain, IsPlain, LeavesPart, compare_needs, fill_needs, move_needs, never, search_needs, turns_to_fills};
+ghost use Rattle.vax_flat_laws.specs.Maximal.{IfLeft, after_units, match_needs, entry_barred, escape_needs, IsKept, IsMovePlain, IsPlain, LeavesPart, compare_needs, fill_needs, move_needs, never, search_needs, turns_to_fills};
 
-/// A part of LOCC, SKPC, SCANC, SPANC, CMPC3, CMPC5, MOVC3, MOVC5 or MOVTC that leaves something goes as far as it may: to 512 units, to the first fill
+/// A part of a string instruction that leaves something goes as far as it may: to 512 units, to the first fill
 /// behind what is moved, to a byte whose table byte may not be read, or to the first unit that needs a page which its first doesn't. The registers are then those of a progress with as many more units done.
 pub fn parts_are_maximal()
     ensures search { (equal : Bool) → (p : Progress) → (s : State) → (memory : List Area) → p.addr1 < 2 ^ 32 →
@@ -31,6 +32,12 @@ pub fn parts_are_maximal()
         p.done < moved_count p →
         IfLeft (LeavesPart (move_needs p) (turns_to_fills p) (λ made. suspended (record p { done = p.done + made }) s))
         (outcome_of (move_part translate p s leaf) memory) }
+    ensures escape { (p : Progress) → (s : State) → (memory : List Area) → IsMovePlain p → p.done < moved_count p →
+        IfLeft (LeavesPart (escape_needs p) (turns_to_fills p) (λ made. suspended (record p { done = p.done + made }) s))
+        (outcome_of (escape_part p s leaf) memory) }
+    ensures matching { (p : Progress) → (s : State) → (memory : List Area) →
+        IfLeft (LeavesPart (match_needs p memory) never (λ made. suspended (after_units p memory made) s))
+        (outcome_of (match_part p s leaf) memory) }
     ensures fills { (translate : Bool) → (p : Progress) → (s : State) → (memory : List Area) →
         moved_count p ≤ p.done → p.done < p.len2 →
         IfLeft (LeavesPart (fill_needs p) never (λ made. suspended (record p { done = p.done + made }) s))
