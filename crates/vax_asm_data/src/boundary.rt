@@ -4,7 +4,7 @@ ghost use Rattle.std.specs.Prelude.{◌≡◌, ◌≤◌, ◌<◌, ◌^◌, All,
 ghost use Rattle.vax_asm_data.specs.Data.{align_stated, boundary, boundary_named, boundary_of, even_stated, power, room, space_stated, unless_here};
 ghost use Rattle.vax_lex.specs.Tokens.{IsTokenOf};
 ghost use Rattle.vax_asm_first.specs.Standing.{with_scope};
-ghost use Rattle.vax_asm_first.specs.View.{counted_of, site_seen, standing_of, Stands};
+ghost use Rattle.vax_asm_first.specs.View.{counted_of, site_seen, standing_of, Stands, ChangesScope, States};
 ghost use Rattle.vax_asm_scope.specs.Kept.{scope_of};
 
 use std::alloc::Global;
@@ -23,7 +23,8 @@ const MOST_BYTES: u64 = 16_777_216;
 /// Room for so many of this size.
 #[tactic(auto, using(crate::proofs::Limits::room_too_large, crate::proofs::Limits::bytes_fit))]
 fn make_room(standing: &mut Standing, size: Size, count: u64) -> Result<(), Refused>
-    ensures { Stands result (standing_of standing.new) (room size (standing_of standing.old) (Ok count)) }
+    ensures { Stands result
+        (standing_of standing.new) (room size (standing_of standing.old) (Ok count)) }
 {
     if count > MOST_BYTES {
         return Err(Refused::Fault(FaultKind::Large));
@@ -48,7 +49,8 @@ pub fn space(
 ) -> Result<(), Refused>
     requires tokens { All (IsTokenOf line.now.value.items) operands.now }
     requires few { length operands.now < 2 ^ 32 }
-    ensures { Stands result (standing_of standing.new) (space_stated size origin line.now.value.items operands.now (standing_of standing.old)) }
+    ensures { States (space_stated size origin line.now.value.items operands.now)
+        result standing.old standing.new }
 {
     let Ok(found) = parts(alloc, operands) else {
         return Err(Refused::NoMemory);
@@ -126,9 +128,11 @@ fn boundary(
     tokens: &[Token],
 ) -> Result<Result<u8, FaultKind>, NoMemory>
     requires { All (IsTokenOf site.line.now.value.items) tokens.now }
-    ensures number { IfOk result (λ n. counted_of n (scope_of standing.new.scope) ≡ boundary (site_seen site.entry) tokens.now (boundary_named site.entry.line.now.value.items tokens.now) (scope_of standing.old.scope)) }
+    ensures number { IfOk result (λ n. counted_of n (scope_of standing.new.scope)
+        ≡ boundary (site_seen site.entry) tokens.now
+        (boundary_named site.entry.line.now.value.items tokens.now) (scope_of standing.old.scope)) }
     ensures few { IfOk result (λ n. IfOk n (λ k. k ≤ 9)) }
-    ensures same { OnOk result (standing_of standing.new ≡ with_scope (scope_of standing.new.scope) (standing_of standing.old)) }
+    ensures same { OnOk result (ChangesScope standing.old standing.new) }
 {
     if let Some(power) = boundary_named(site.line, tokens) {
         return Ok(Ok(power));
@@ -154,7 +158,8 @@ pub fn align(
 ) -> Result<(), Refused>
     requires tokens { All (IsTokenOf line.now.value.items) operands.now }
     requires few { length operands.now < 2 ^ 32 }
-    ensures { Stands result (standing_of standing.new) (align_stated origin line.now.value.items operands.now (standing_of standing.old)) }
+    ensures { States (align_stated origin line.now.value.items operands.now)
+        result standing.old standing.new }
 {
     let Ok(found) = parts(alloc, operands) else {
         return Err(Refused::NoMemory);
@@ -177,7 +182,7 @@ pub fn align(
 /// [`Refused`] as for [`align`].
 #[tactic(auto, unfolding(crate::specs::Data::even_stated))]
 pub fn even(standing: &mut Standing, operands: &[Token]) -> Result<(), Refused>
-    ensures { Stands result (standing_of standing.new) (even_stated operands.now (standing_of standing.old)) }
+    ensures { States (even_stated operands.now) result standing.old standing.new }
 {
     if !operands.is_empty() {
         return Err(Refused::Fault(FaultKind::Count));

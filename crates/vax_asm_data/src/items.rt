@@ -4,7 +4,7 @@ ghost use Rattle.std.specs.Prelude.{◌≡◌, ◌<◌, ◌^◌, ℕ, List, All,
 ghost use Rattle.vax_asm_data.specs.Data.{fixed, item_as, item_stated, items_stated, data_stated, addresses_stated};
 ghost use Rattle.vax_lex.specs.Tokens.{IsTokenOf};
 ghost use Rattle.vax_asm_first.specs.Progress.{begun, site_of};
-ghost use Rattle.vax_asm_first.specs.View.{filling_of, progress_of, site_seen, standing_of, Stands};
+ghost use Rattle.vax_asm_first.specs.View.{filling_of, progress_of, site_seen, standing_of, Stands, Advances, States};
 ghost use Rattle.vax_asm_statement.specs.Items.{item_seen, whole};
 ghost use Rattle.vax_asm_statement.specs.Parts.{parts};
 ghost use Rattle.vax_asm_statement.specs.Within.{ItemWithin};
@@ -35,7 +35,8 @@ fn fix(
     count: u64,
     filling: Filling,
 ) -> Result<Option<FaultKind>, NoMemory>
-    ensures { IfOk result (λ f. progress_of f standing.new ≡ fixed kind (site_seen site.entry) count (filling_of filling) (standing_of standing.old)) }
+    ensures { Advances (fixed kind (site_seen site.entry) count (filling_of filling))
+        result standing.old standing.new }
 {
     if count > MOST_ITEMS {
         return Ok(Some(FaultKind::Large));
@@ -59,7 +60,8 @@ fn state_item(
     item: Item<'_>,
 ) -> Result<Option<FaultKind>, NoMemory>
     requires { ItemWithin site.line.now.value.items (item_seen item) }
-    ensures { IfOk result (λ f. progress_of f standing.new ≡ item_stated kind (site_seen site.entry) (item_seen item.entry) (standing_of standing.old)) }
+    ensures { Advances (item_stated kind (site_seen site.entry) (item_seen item.entry))
+        result standing.old standing.new }
 {
     let here = uses_place(site.line, item.expression);
     let told = standing.tell(alloc, site.line, item.expression, site.here)?;
@@ -79,7 +81,8 @@ fn state_item(
 fn read_as<'a>(once: bool, part: &'a [Token]) -> Item<'a>
     ensures item { item_seen result ≡ item_as once part.now }
     // It is made of these tokens.
-    ensures within { (line : List ℕ) → All (IsTokenOf line) part.now → ItemWithin line (item_seen result) }
+    ensures within { (line : List ℕ) →
+        All (IsTokenOf line) part.now → ItemWithin line (item_seen result) }
 {
     if once {
         Item {
@@ -101,7 +104,8 @@ fn state_part(
     part: &[Token],
 ) -> Result<Option<FaultKind>, NoMemory>
     requires { All (IsTokenOf site.line.now.value.items) part.now }
-    ensures { IfOk result (λ f. progress_of f standing.new ≡ item_stated kind (site_seen site.entry) (item_as once part.now) (standing_of standing.old)) }
+    ensures { Advances (item_stated kind (site_seen site.entry) (item_as once part.now))
+        result standing.old standing.new }
 {
     let item = read_as(once, part);
     state_item(standing, alloc, site, kind, item)
@@ -116,7 +120,8 @@ pub fn item(
     tokens: &[Token],
 ) -> Result<Option<FaultKind>, NoMemory>
     requires { All (IsTokenOf site.line.now.value.items) tokens.now }
-    ensures { IfOk result (λ f. progress_of f standing.new ≡ item_stated kind (site_seen site.entry) (whole tokens.now) (standing_of standing.old)) }
+    ensures { Advances (item_stated kind (site_seen site.entry) (whole tokens.now))
+        result standing.old standing.new }
 {
     state_part(standing, alloc, site, kind, true, tokens)
 }
@@ -133,7 +138,9 @@ fn state_items(
 ) -> Result<Option<FaultKind>, NoMemory>
     requires tokens { All (IsTokenOf site.line.now.value.items) operands.now }
     requires few { length operands.now < 2 ^ 32 }
-    ensures { IfOk result (λ f. progress_of f standing.new ≡ items_stated kind (site_seen site.entry) (map (item_as once) (parts operands.now)) (begun (standing_of standing.old))) }
+    ensures { IfOk result (λ f. progress_of f standing.new
+        ≡ items_stated kind (site_seen site.entry) (map (item_as once)
+        (parts operands.now)) (begun (standing_of standing.old))) }
 {
     let list = parts(alloc, operands).map_err(|_| NoMemory)?;
     let mut fault = None;
@@ -156,7 +163,9 @@ fn state(
 ) -> Result<Option<FaultKind>, NoMemory>
     requires tokens { All (IsTokenOf line.now.value.items) operands.now }
     requires few { length operands.now < 2 ^ 32 }
-    ensures { IfOk result (λ f. progress_of f standing.new ≡ items_stated kind (site_of origin line.now.value.items (standing_of standing.old)) (map (item_as once) (parts operands.now)) (begun (standing_of standing.old))) }
+    ensures { IfOk result (λ f. progress_of f standing.new
+        ≡ items_stated kind (site_of origin line.now.value.items (standing_of standing.old))
+        (map (item_as once) (parts operands.now)) (begun (standing_of standing.old))) }
 {
     let site = site_of(origin, line, standing)?;
     state_items(standing, alloc, site, kind, once, operands)
@@ -179,7 +188,8 @@ pub fn data(
 ) -> Result<(), Refused>
     requires tokens { All (IsTokenOf line.now.value.items) operands.now }
     requires few { length operands.now < 2 ^ 32 }
-    ensures { Stands result (standing_of standing.new) (data_stated kind origin line.now.value.items operands.now (standing_of standing.old)) }
+    ensures { States (data_stated kind origin line.now.value.items operands.now)
+        result standing.old standing.new }
 {
     if operands.is_empty() {
         return Err(Refused::Fault(FaultKind::Count));
@@ -204,7 +214,8 @@ pub fn addresses(
 ) -> Result<(), Refused>
     requires tokens { All (IsTokenOf line.now.value.items) operands.now }
     requires few { length operands.now < 2 ^ 32 }
-    ensures { Stands result (standing_of standing.new) (addresses_stated origin line.now.value.items operands.now (standing_of standing.old)) }
+    ensures { States (addresses_stated origin line.now.value.items operands.now)
+        result standing.old standing.new }
 {
     if operands.is_empty() {
         return Err(Refused::Fault(FaultKind::Count));

@@ -5,7 +5,7 @@ ghost use Rattle.vax_asm_data.specs.Data.{before_pieces, behind_pieces, characte
 ghost use Rattle.vax_asm_data.specs.View.{ending_of};
 ghost use Rattle.vax_lex.specs.Tokens.{IsTokenOf};
 ghost use Rattle.vax_asm_first.specs.Progress.{site_of};
-ghost use Rattle.vax_asm_first.specs.View.{progress_of, site_seen, standing_of, Stands};
+ghost use Rattle.vax_asm_first.specs.View.{progress_of, site_seen, standing_of, Stands, Advances, States};
 ghost use Rattle.vax_asm_statement.specs.Items.{piece_seen};
 ghost use Rattle.vax_asm_statement.specs.Within.{PieceWithin};
 
@@ -77,7 +77,8 @@ fn state_piece(
     piece: Piece<'_>,
 ) -> Result<Option<FaultKind>, NoMemory>
     requires { PieceWithin site.line.now.value.items (piece_seen piece) }
-    ensures { IfOk result (λ f. progress_of f standing.new ≡ piece_stated (site_seen site.entry) (piece_seen piece.entry) (standing_of standing.old)) }
+    ensures { Advances (piece_stated (site_seen site.entry) (piece_seen piece.entry))
+        result standing.old standing.new }
 {
     match piece {
         Piece::Characters(token) => {
@@ -100,7 +101,8 @@ fn state_pieces(
     pieces: &[Piece<'_>],
 ) -> Result<Option<FaultKind>, NoMemory>
     requires { All (PieceWithin site.line.now.value.items) (map piece_seen pieces.now) }
-    ensures { IfOk result (λ f. progress_of f standing.new ≡ pieces_stated (site_seen site.entry) (map piece_seen pieces.now) (progress_of before standing.old)) }
+    ensures { IfOk result (λ f. progress_of f standing.new ≡ pieces_stated (site_seen site.entry)
+        (map piece_seen pieces.now) (progress_of before standing.old)) }
 {
     let mut fault = before;
     for piece in pieces {
@@ -116,7 +118,7 @@ fn state_count(
     alloc: Global,
     count: Option<u8>,
 ) -> Result<Option<FaultKind>, NoMemory>
-    ensures { IfOk result (λ f. progress_of f standing.new ≡ count_stated count (standing_of standing.old)) }
+    ensures { Advances (count_stated count) result standing.old standing.new }
 {
     let Some(count) = count else {
         return Ok(Some(FaultKind::Range));
@@ -134,7 +136,9 @@ fn state_front(
     pieces: &[Piece<'_>],
 ) -> Result<Option<FaultKind>, NoMemory>
     requires { All (PieceWithin line.now) (map piece_seen pieces.now) }
-    ensures { IfOk result (λ f. progress_of f standing.new ≡ before_pieces (ending_of form) (pieces_length line.now (map piece_seen pieces.now)) (standing_of standing.old)) }
+    ensures { Advances
+        (before_pieces (ending_of form) (pieces_length line.now (map piece_seen pieces.now)))
+        result standing.old standing.new }
 {
     match form {
         TextForm::Plain | TextForm::ZeroLast => Ok(None),
@@ -148,7 +152,8 @@ fn state_end(
     form: TextForm,
     fault: Option<FaultKind>,
 ) -> Result<Option<FaultKind>, NoMemory>
-    ensures { IfOk result (λ f. progress_of f standing.new ≡ behind_pieces (ending_of form) (progress_of fault standing.old)) }
+    ensures { IfOk result (λ f. progress_of f standing.new
+        ≡ behind_pieces (ending_of form) (progress_of fault standing.old)) }
 {
     match form {
         TextForm::Plain | TextForm::CountFirst => Ok(fault),
@@ -166,7 +171,9 @@ fn state_text(
     pieces: &[Piece<'_>],
 ) -> Result<Option<FaultKind>, NoMemory>
     requires { All (PieceWithin line.now.value.items) (map piece_seen pieces.now) }
-    ensures { IfOk result (λ f. progress_of f standing.new ≡ text_parts (ending_of form) (site_of origin line.now.value.items (standing_of standing.old)) (map piece_seen pieces.now) (standing_of standing.old)) }
+    ensures { IfOk result (λ f. progress_of f standing.new ≡ text_parts (ending_of form)
+        (site_of origin line.now.value.items (standing_of standing.old))
+        (map piece_seen pieces.now) (standing_of standing.old)) }
 {
     let site = site_of(origin, line, standing)?;
     let front = state_front(standing, alloc, form, line, pieces)?;
@@ -191,7 +198,8 @@ pub fn text(
 ) -> Result<(), Refused>
     requires tokens { All (IsTokenOf line.now.value.items) operands.now }
     requires few { length operands.now < 2 ^ 32 }
-    ensures { Stands result (standing_of standing.new) (text_stated (ending_of form) origin line.now.value.items operands.now (standing_of standing.old)) }
+    ensures { States (text_stated (ending_of form) origin line.now.value.items operands.now)
+        result standing.old standing.new }
 {
     if operands.is_empty() {
         return Err(Refused::Fault(FaultKind::Count));

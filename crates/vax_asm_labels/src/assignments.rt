@@ -3,9 +3,9 @@
 ghost use Rattle.std.specs.Prelude.{◌≡◌, All, IfOk, OnOk, length, map, option_map, true};
 ghost use Rattle.vax_lex.specs.Tokens.{IsTokenOf};
 ghost use Rattle.vax_asm_labels.specs.Naming.{assigned_by, assignment_stated, fault_of, name_assigned, named_assignment, waiting, waiting_as, waiting_by, with_waiting};
-ghost use Rattle.vax_asm_labels.specs.View.{Waits};
+ghost use Rattle.vax_asm_labels.specs.View.{Leaves};
 ghost use Rattle.vax_asm_first.specs.Progress.{done_by};
-ghost use Rattle.vax_asm_first.specs.View.{assignment_of, site_seen, standing_of, told_of, Stands};
+ghost use Rattle.vax_asm_first.specs.View.{assignment_of, site_seen, standing_of, told_of, Stands, States};
 ghost use Rattle.vax_asm_scope.specs.Kept.{scope_of};
 ghost use Rattle.vax_asm_scope.specs.Scope.{assigned};
 ghost use Rattle.vax_asm_statement.specs.Tokens.{is_name_token};
@@ -38,7 +38,8 @@ fn fault_of(value: Result<Value, ExprError>) -> Option<FaultKind>
 
 /// What is assigned, once more, where it has no value yet.
 fn waiting(alloc: Global, told: &Told) -> Result<Option<Expression>, NoMemory>
-    ensures { IfOk result (λ o. option_map written_of o ≡ waiting told.now.value (written_of told.now.expression)) }
+    ensures { IfOk result (λ o. option_map written_of o
+        ≡ waiting told.now.value (written_of told.now.expression)) }
 {
     match told.value {
         Ok(_) => Ok(None),
@@ -56,7 +57,9 @@ fn keep(
     definition: usize,
     waiting: Option<Expression>,
 ) -> Result<(), NoMemory>
-    ensures { OnOk result (map assignment_of assignments.new.items ≡ with_waiting (waiting_as origin definition (option_map written_of waiting)) (map assignment_of assignments.old.items)) }
+    ensures { OnOk result (map assignment_of assignments.new.items
+        ≡ with_waiting (waiting_as origin definition (option_map written_of waiting))
+        (map assignment_of assignments.old.items)) }
 {
     let Some(expression) = waiting else {
         return Ok(());
@@ -81,9 +84,14 @@ fn define(
     name: &[u8],
     told: Told,
 ) -> Result<(), Refused>
-    requires { Means (length (scope_of standing.old.scope).sources) (Worked (written_of told.expression)) }
-    ensures stands { Stands result (standing_of standing.new) (assigned_by global name.now (standing_of standing.old) (assigned name.now (written_of told.expression) (scope_of standing.old.scope))) }
-    ensures waits { Waits result (map assignment_of assignments.old.items) (map assignment_of assignments.new.items) (waiting_by origin name.now (told_of told (scope_of standing.old.scope)) (assigned name.now (written_of told.expression) (scope_of standing.old.scope))) }
+    requires { Means (length (scope_of standing.old.scope).sources)
+        (Worked (written_of told.expression)) }
+    ensures stands { Stands result
+        (standing_of standing.new) (assigned_by global name.now (standing_of standing.old)
+        (assigned name.now (written_of told.expression) (scope_of standing.old.scope))) }
+    ensures waits { Leaves (waiting_by origin name.now (told_of told (scope_of standing.old.scope))
+        (assigned name.now (written_of told.expression) (scope_of standing.old.scope)))
+        result assignments.old assignments.new }
 {
     let Ok(waiting) = waiting(alloc, &told) else {
         return Err(Refused::NoMemory);
@@ -113,8 +121,12 @@ fn assign(
     tokens: &[Token],
 ) -> Result<Option<FaultKind>, NoMemory>
     requires { All (IsTokenOf site.line.now.value.items) tokens.now }
-    ensures result { IfOk result (λ f. done_by f (standing_of standing.new) ≡ (name_assigned (site_seen site.entry) global name.now tokens.now (standing_of standing.old)).result) }
-    ensures waiting { OnOk result (map assignment_of assignments.new.items ≡ with_waiting (name_assigned (site_seen site.entry) global name.now tokens.now (standing_of standing.old)).waiting (map assignment_of assignments.old.items)) }
+    ensures result { IfOk result (λ f. done_by f (standing_of standing.new)
+        ≡ (name_assigned (site_seen site.entry)
+        global name.now tokens.now (standing_of standing.old)).result) }
+    ensures waiting { OnOk result (map assignment_of assignments.new.items
+        ≡ with_waiting (name_assigned (site_seen site.entry) global name.now tokens.now
+        (standing_of standing.old)).waiting (map assignment_of assignments.old.items)) }
 {
     standing.scope.appear(alloc, name)?;
     let told = standing.tell(alloc, site.line, tokens, site.here)?;
@@ -145,8 +157,11 @@ fn assign_named(
     tokens: &[Token],
 ) -> Result<(), Refused>
     requires { All (IsTokenOf site.line.now.value.items) tokens.now }
-    ensures stands { Stands result (standing_of standing.new) (named_assignment (site_seen site.entry) global name.now tokens.now (standing_of standing.old)).result }
-    ensures waits { Waits result (map assignment_of assignments.old.items) (map assignment_of assignments.new.items) (named_assignment (site_seen site.entry) global name.now tokens.now (standing_of standing.old)).waiting }
+    ensures stands { States
+        (λ s. (named_assignment (site_seen site.entry) global name.now tokens.now s).result)
+        result standing.old standing.new }
+    ensures waits { Leaves (named_assignment (site_seen site.entry) global name.now tokens.now
+        (standing_of standing.old)).waiting result assignments.old assignments.new }
 {
     if is_place(name) {
         return Err(Refused::Fault(FaultKind::UnknownOperator));
@@ -182,8 +197,11 @@ pub fn assignment(
     requires within { IsTokenOf line.now.value.items name }
     requires name { is_name_token name ≡ true }
     requires tokens { All (IsTokenOf line.now.value.items) expression.now }
-    ensures stands { Stands result (standing_of standing.new) (assignment_stated origin line.now.value.items name global expression.now (standing_of standing.old)).result }
-    ensures waits { Waits result (map assignment_of assignments.old.items) (map assignment_of assignments.new.items) (assignment_stated origin line.now.value.items name global expression.now (standing_of standing.old)).waiting }
+    ensures stands { States
+        (λ s. (assignment_stated origin line.now.value.items name global expression.now s).result)
+        result standing.old standing.new }
+    ensures waits { Leaves (assignment_stated origin line.now.value.items name global expression.now
+        (standing_of standing.old)).waiting result assignments.old assignments.new }
 {
     let name = kept(line, name);
     let Ok(site) = site_of(origin, line, standing) else {

@@ -5,7 +5,7 @@ ghost use Rattle.vax_lex.specs.KeptNames.{kept_name};
 ghost use Rattle.vax_lex.specs.Tokens.{IsTokenOf};
 ghost use Rattle.vax_asm_labels.specs.Naming.{appears, begins_at, end_stated, entry_by, entry_named, entry_stated, named, names_from, names_stated, symbol_stated};
 ghost use Rattle.vax_asm_first.specs.Progress.{after_change, done_by};
-ghost use Rattle.vax_asm_first.specs.View.{progress_of, site_seen, standing_of, Stands};
+ghost use Rattle.vax_asm_first.specs.View.{progress_of, site_seen, standing_of, Stands, States};
 ghost use Rattle.vax_asm_scope.specs.Kept.{scope_of};
 ghost use Rattle.vax_asm_statement.specs.Parts.{parts};
 
@@ -28,7 +28,8 @@ fn state_label(
     alloc: Global,
     name: &[u8],
 ) -> Result<Option<FaultKind>, NoMemory>
-    ensures { IfOk result (λ f. progress_of f standing.new ≡ after_change (standing_of standing.old) (symbol_stated true name.now (standing_of standing.old))) }
+    ensures { IfOk result (λ f. progress_of f standing.new ≡ after_change (standing_of standing.old)
+        (symbol_stated true name.now (standing_of standing.old))) }
 {
     match define(standing, alloc, true, name) {
         Ok(()) => Ok(None),
@@ -46,7 +47,8 @@ fn state_entry(
     mask: &[Token],
 ) -> Result<Option<FaultKind>, NoMemory>
     requires { All (IsTokenOf site.line.now.value.items) mask.now }
-    ensures { IfOk result (λ f. done_by f (standing_of standing.new) ≡ entry_named (site_seen site.entry) (Some name.now) mask.now (standing_of standing.old)) }
+    ensures { IfOk result (λ f. done_by f (standing_of standing.new)
+        ≡ entry_named (site_seen site.entry) (Some name.now) mask.now (standing_of standing.old)) }
 {
     let fault = state_label(standing, alloc, name)?;
     let found = item(standing, alloc, site, DataKind::Number(Size::W), mask)?;
@@ -62,7 +64,8 @@ fn enter(
     mask: &[Token],
 ) -> Result<(), Refused>
     requires { All (IsTokenOf site.line.now.value.items) mask.now }
-    ensures { Stands result (standing_of standing.new) (entry_named (site_seen site.entry) (option_map kept_name name) mask.now (standing_of standing.old)) }
+    ensures { States (entry_named (site_seen site.entry) (option_map kept_name name) mask.now)
+        result standing.old standing.new }
 {
     let Some(name) = name else {
         return Err(Refused::Fault(FaultKind::Form));
@@ -90,7 +93,8 @@ pub fn entry(
 ) -> Result<(), Refused>
     requires tokens { All (IsTokenOf line.now.value.items) operands.now }
     requires few { length operands.now < 2 ^ 32 }
-    ensures { Stands result (standing_of standing.new) (entry_stated origin line.now.value.items operands.now (standing_of standing.old)) }
+    ensures { States (entry_stated origin line.now.value.items operands.now)
+        result standing.old standing.new }
 {
     let Ok(found) = parts(alloc, operands) else {
         return Err(Refused::NoMemory);
@@ -127,7 +131,8 @@ fn appear_all(
 ) -> Result<bool, NoMemory>
     requires tokens { All (IsTokenOf line.now) operands.now }
     requires few { length operands.now < 2 ^ 32 }
-    ensures { IfOk result (λ all. (if all then Some (scope_of scope.new) else None) ≡ names_from global line.now (parts operands.now) (Some (scope_of scope.old))) }
+    ensures { IfOk result (λ all. (if all then Some (scope_of scope.new) else None)
+        ≡ names_from global line.now (parts operands.now) (Some (scope_of scope.old))) }
 {
     let Ok(list) = parts(alloc, operands) else {
         return Err(NoMemory);
@@ -156,7 +161,7 @@ pub fn names(
 ) -> Result<(), Refused>
     requires tokens { All (IsTokenOf line.now) operands.now }
     requires few { length operands.now < 2 ^ 32 }
-    ensures { Stands result (standing_of standing.new) (names_stated global line.now operands.now (standing_of standing.old)) }
+    ensures { States (names_stated global line.now operands.now) result standing.old standing.new }
 {
     if operands.is_empty() {
         return Err(Refused::Fault(FaultKind::Count));
@@ -174,7 +179,7 @@ fn begin_at(
     alloc: Global,
     name: Option<CanonicalName>,
 ) -> Result<(), Refused>
-    ensures { Stands result (standing_of standing.new) (begins_at (option_map kept_name name) (standing_of standing.old)) }
+    ensures { States (begins_at (option_map kept_name name)) result standing.old standing.new }
 {
     let Some(name) = name else {
         return Err(Refused::Fault(FaultKind::Form));
@@ -202,7 +207,7 @@ pub fn end(
 ) -> Result<(), Refused>
     requires tokens { All (IsTokenOf line.now) operands.now }
     requires few { length operands.now < 2 ^ 32 }
-    ensures { Stands result (standing_of standing.new) (end_stated line.now operands.now (standing_of standing.old)) }
+    ensures { States (end_stated line.now operands.now) result standing.old standing.new }
 {
     let Ok(found) = parts(alloc, operands) else {
         return Err(Refused::NoMemory);

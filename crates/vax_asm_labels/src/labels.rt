@@ -3,7 +3,7 @@
 ghost use Rattle.std.specs.Prelude.{◌≡◌, OnOk, true};
 ghost use Rattle.vax_lex.specs.Tokens.{IsTokenOf};
 ghost use Rattle.vax_asm_labels.specs.Naming.{label_stated, local_stated, named_label, shared, symbol_stated};
-ghost use Rattle.vax_asm_first.specs.View.{standing_of, Changes};
+ghost use Rattle.vax_asm_first.specs.View.{standing_of, Changes, Alters};
 ghost use Rattle.vax_asm_scope.specs.Kept.{scope_of};
 ghost use Rattle.vax_asm_statement.specs.Tokens.{is_name_token};
 
@@ -36,7 +36,7 @@ pub(crate) fn define(
     global: bool,
     name: &[u8],
 ) -> Result<(), Refused>
-    ensures { Changes result (standing_of standing.old) (standing_of standing.new) (symbol_stated global name.now (standing_of standing.old)) }
+    ensures { Alters (symbol_stated global name.now) result standing.old standing.new }
 {
     let Ok(here) = standing.here() else {
         return Err(Refused::NoMemory);
@@ -60,7 +60,7 @@ fn define_local(
     global: bool,
     name: &[u8],
 ) -> Result<(), Refused>
-    ensures { Changes result (standing_of standing.old) (standing_of standing.new) (local_stated global name.now (standing_of standing.old)) }
+    ensures { Alters (local_stated global name.now) result standing.old standing.new }
 {
     if global {
         return Err(Refused::Fault(FaultKind::Form));
@@ -81,7 +81,7 @@ fn define_named(
     global: bool,
     name: &[u8],
 ) -> Result<(), Refused>
-    ensures { Changes result (standing_of standing.old) (standing_of standing.new) (named_label global name.now (standing_of standing.old)) }
+    ensures { Alters (named_label global name.now) result standing.old standing.new }
 {
     if is_place(name) {
         return Err(Refused::Fault(FaultKind::Form));
@@ -107,7 +107,7 @@ pub fn label(
 ) -> Result<(), Refused>
     requires within { IsTokenOf line.now label.name }
     requires name { is_name_token label.name ≡ true }
-    ensures { Changes result (standing_of standing.old) (standing_of standing.new) (label_stated line.now label (standing_of standing.old)) }
+    ensures { Alters (label_stated line.now label) result standing.old standing.new }
 {
     let name = kept(line, label.name);
     define_named(standing, alloc, label.global, name.as_bytes())

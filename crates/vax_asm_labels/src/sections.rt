@@ -5,7 +5,7 @@ ghost use Rattle.vax_lex.specs.KeptNames.{kept_name};
 ghost use Rattle.vax_lex.specs.Tokens.{IsTokenOf};
 ghost use Rattle.vax_asm_labels.specs.Naming.{attribute_at, attributes_from, nothing_said, same, section_by, section_chosen, section_stated, with_align, with_attribute, with_write};
 ghost use Rattle.vax_asm_labels.specs.Within.{Within};
-ghost use Rattle.vax_asm_first.specs.View.{standing_of, Stands};
+ghost use Rattle.vax_asm_first.specs.View.{standing_of, Stands, States};
 ghost use Rattle.vax_asm_statement.specs.Directives.{attribute_of};
 ghost use Rattle.vax_asm_statement.specs.Parts.{parts};
 
@@ -80,7 +80,8 @@ fn with_attribute(attribute: Option<Attribute>, said: Option<Attributes>) -> Opt
 #[tactic(auto, using(crate::proofs::Attributes::attribute_step))]
 fn attributes_of(line: &[u8], operands: &[&[Token]]) -> Option<Attributes>
     requires { All (λ o. All (IsTokenOf line.now) o.now) operands.now }
-    ensures { result ≡ attributes_from line.now (map (λ o. o.now) operands.now) (Some nothing_said) }
+    ensures { result
+        ≡ attributes_from line.now (map (λ o. o.now) operands.now) (Some nothing_said) }
 {
     let mut said = Some(Attributes {
         align: None,
@@ -101,7 +102,8 @@ fn choose(
     attributes: Option<Attributes>,
 ) -> Result<(), Refused>
     requires { IfSome attributes Within }
-    ensures { Stands result (standing_of standing.new) (section_chosen (option_map kept_name name) attributes (standing_of standing.old)) }
+    ensures { States (section_chosen (option_map kept_name name) attributes)
+        result standing.old standing.new }
 {
     let Some(name) = name else {
         return Err(Refused::Fault(FaultKind::Form));
@@ -133,7 +135,7 @@ pub fn section(
 ) -> Result<(), Refused>
     requires tokens { All (IsTokenOf line.now) operands.now }
     requires few { length operands.now < 2 ^ 32 }
-    ensures { Stands result (standing_of standing.new) (section_stated line.now operands.now (standing_of standing.old)) }
+    ensures { States (section_stated line.now operands.now) result standing.old standing.new }
 {
     let Ok(found) = parts(alloc, operands) else {
         return Err(Refused::NoMemory);
