@@ -3,7 +3,7 @@ ghost use Rattle.std.specs.Prelude.{◌≡◌, ◌≤◌, ◌==◌, IfOk, OnErr,
 ghost use Rattle.std.specs.FinMap.{get};
 ghost use Rattle.std.specs.Option.{option_map};
 ghost use Rattle.vax_outside.specs.Blocks.{CountsRead, GivesBlock, PutsBlock, zeroed};
-ghost use Rattle.vax_outside.specs.Faults.{Rose};
+ghost use Rattle.vax_outside.specs.Faults.{CountsFailure};
 
 use crate::fails::{is_read_named, is_write_named};
 use crate::faults::raised;
@@ -102,9 +102,7 @@ impl PageFile for MemPages {
         ensures ok { OnOk result (CountsRead (Some (file_of self.old)) (Some (file_of self.new))) }
         ensures err { OnErr result (Some (file_of self.new) ≡ Some (file_of self.old)) }
         ensures unread { OnErr result (into.new ≡ into.old) }
-        ensures later { faults_of self.old ≤ faults_of self.new }
-        ensures cause { OnErr result (Rose (faults_of self.old) (faults_of self.new)) }
-        ensures quiet { OnOk result (faults_of self.new ≡ faults_of self.old) }
+        ensures counts { CountsFailure (is_err result) (faults_of self.old) (faults_of self.new) }
         ensures failed { is_err result ≡ read_fails self.old n }
         ensures limits { limits_of self.new ≡ limits_of self.old }
         ensures calls { calls_of self.new ≡ read_more (calls_of self.old) }
@@ -124,9 +122,7 @@ impl PageFile for MemPages {
     fn write_block(&mut self, n: u32, from: &[u8; 512]) -> Result<(), Failed>
         ensures ok { OnOk result (PutsBlock n from.now (Some (file_of self.old)) (Some (file_of self.new))) }
         ensures err { OnErr result (Some (file_of self.new) ≡ Some (file_of self.old)) }
-        ensures later { faults_of self.old ≤ faults_of self.new }
-        ensures cause { OnErr result (Rose (faults_of self.old) (faults_of self.new)) }
-        ensures quiet { OnOk result (faults_of self.new ≡ faults_of self.old) }
+        ensures counts { CountsFailure (is_err result) (faults_of self.old) (faults_of self.new) }
         ensures failed { is_err result ≡ write_fails self.old n }
         ensures limits { limits_of self.new ≡ limits_of self.old }
         ensures calls { calls_of self.new ≡ write_more (calls_of self.old) }
