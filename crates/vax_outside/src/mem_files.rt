@@ -60,7 +60,8 @@ impl Files for MemFiles {
         ensures answer { AnswersRead result (Some (directory_of self.old)) name.now limit }
         ensures bound { IfOk result (λ bytes. length bytes.items ≤ limit) }
         ensures same { directory_of self.new ≡ directory_of self.old }
-        ensures counts { CountsFailure (is_failed result) (faults_of self.old) (faults_of self.new) }
+        ensures counts { CountsFailure (is_failed result) (faults_of self.old)
+            (faults_of self.new) }
         ensures failed { is_failed result ≡ next_fails self.old }
         ensures fails { fails_of self.new ≡ fails_of self.old }
         ensures calls { calls_of self.new ≡ raised (calls_of self.old) }

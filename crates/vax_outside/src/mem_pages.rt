@@ -38,7 +38,8 @@ impl MemPages {
         fails: Vec<Fail>,
     ) -> Result<MemPages, NoMemory>
         ensures file { IfOk result (λ m. file_of m ≡ zeroed blocks) }
-        ensures limits { IfOk result (λ m. limits_of m ≡ record { blocks = blocks; writes = writes; fails = fails.items }) }
+        ensures limits { IfOk result
+            (λ m. limits_of m ≡ record { blocks = blocks; writes = writes; fails = fails.items }) }
         ensures calls { IfOk result (λ m. calls_of m ≡ record { all = 0; reads = 0; writes = 0 }) }
         ensures faults { IfOk result (λ m. faults_of m ≡ 0) }
     {
@@ -120,7 +121,8 @@ impl PageFile for MemPages {
     }
 
     fn write_block(&mut self, n: u32, from: &[u8; 512]) -> Result<(), Failed>
-        ensures ok { OnOk result (PutsBlock n from.now (Some (file_of self.old)) (Some (file_of self.new))) }
+        ensures ok { OnOk result
+            (PutsBlock n from.now (Some (file_of self.old)) (Some (file_of self.new))) }
         ensures err { OnErr result (Some (file_of self.new) ≡ Some (file_of self.old)) }
         ensures counts { CountsFailure (is_err result) (faults_of self.old) (faults_of self.new) }
         ensures failed { is_err result ≡ write_fails self.old n }

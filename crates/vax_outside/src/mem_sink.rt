@@ -31,7 +31,8 @@ impl Channel {
 
     /// Appends as many of the bytes as there is room for, at most `most`.
     fn append(&mut self, bytes: &[u8], most: u32) -> usize
-        ensures count { result ≡ min (min most (length bytes.now)) (self.old.room - length self.old.bytes.items) }
+        ensures count { result ≡ min (min most (length bytes.now))
+            (self.old.room - length self.old.bytes.items) }
         ensures bytes { self.new.bytes.items ≡ self.old.bytes.items ++ take result bytes.now }
         ensures room { self.new.room ≡ self.old.room }
     {
@@ -100,7 +101,8 @@ impl MemSink {
 
     fn append(&mut self, chan: Chan, bytes: &[u8]) -> usize
         ensures count { result ≡ taken self.old chan (length bytes.now) }
-        ensures bytes { Grew (Some (channels_of self.old)) (Some (channels_of self.new)) (only chan (take result bytes.now)) }
+        ensures bytes { Grew (Some (channels_of self.old)) (Some (channels_of self.new))
+            (only chan (take result bytes.now)) }
         ensures limits { limits_of self.new ≡ limits_of self.old }
         ensures calls { calls_of self.new ≡ calls_of self.old }
         ensures faults { faults_of self.new ≡ faults_of self.old }
@@ -124,7 +126,8 @@ impl Sink for MemSink {
         requires { 0 < length bytes.now }
         ensures some { IfOk result (λ n. 1 ≤ n) }
         ensures bound { IfOk result (λ n. n ≤ length bytes.now) }
-        ensures ok { IfOk result (λ n. Grew (Some (channels_of self.old)) (Some (channels_of self.new)) (only chan (take n bytes.now))) }
+        ensures ok { IfOk result (λ n. Grew (Some (channels_of self.old))
+            (Some (channels_of self.new)) (only chan (take n bytes.now))) }
         ensures err { OnErr result (Some (channels_of self.new) ≡ Some (channels_of self.old)) }
         ensures counts { CountsFailure (is_err result) (faults_of self.old) (faults_of self.new) }
         ensures failed { is_err result ≡ next_fails self.old chan }

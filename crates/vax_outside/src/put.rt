@@ -7,8 +7,10 @@ use crate::{Chan, Failed, Sink};
 
 /// Writes all the bytes to a channel. After a failure a prefix of them was written.
 pub fn put_all<K: Sink>(sink: &mut K, chan: Chan, bytes: &[u8]) -> Result<(), Failed>
-    ensures ok { OnOk result (Grew (K.contents sink.old) (K.contents sink.new) (only chan bytes.now)) }
-    ensures prefix { OnErr result (GrewByPrefix (K.contents sink.old) (K.contents sink.new) (only chan bytes.now)) }
+    ensures ok { OnOk result
+        (Grew (K.contents sink.old) (K.contents sink.new) (only chan bytes.now)) }
+    ensures prefix { OnErr result
+        (GrewByPrefix (K.contents sink.old) (K.contents sink.new) (only chan bytes.now)) }
     ensures counts { CountsFailure (is_err result) (K.faults sink.old) (K.faults sink.new) }
 {
     let mut rest = bytes;

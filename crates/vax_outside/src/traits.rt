@@ -62,7 +62,8 @@ pub trait Sink {
         requires { 0 < length bytes.now }
         ensures some { IfOk result (λ n. 1 ≤ n) }
         ensures bound { IfOk result (λ n. n ≤ length bytes.now) }
-        ensures ok { IfOk result (λ n. Grew (contents self.old) (contents self.new) (only chan (take n bytes.now))) }
+        ensures ok { IfOk result
+            (λ n. Grew (contents self.old) (contents self.new) (only chan (take n bytes.now))) }
         ensures err { OnErr result (contents self.new ≡ contents self.old) }
         ensures counts { CountsFailure (is_err result) (faults self.old) (faults self.new) };
 }
