@@ -18,6 +18,7 @@ use Rattle.vax_machine.proofs.Running.{pinned_or, served_pins}
 use Rattle.vax_machine.proofs.Touching.{missed}
 use Rattle.vax_machine.proofs.Tracking.{fewer_pinned, many_evicted}
 use Rattle.vax_machine.specs.Events.{FollowsRun, GoesOn, Happen, IsTouching}
+use Rattle.vax_machine.specs.Laws.{Run, state_at}
 use Rattle.vax_machine.specs.Machine.{Applies, Evicts, Flushes, Goes, Keeping, KeepsPlace, Means, Serves, Tries, keeping, residence, tried}
 use Rattle.vax_machine.specs.Paged.{Paged, all_evicted, all_named, attempted, attempted_by, fresh, marked, paged, place_after, steps_after, unless_ended}
 use Rattle.vax_machine.specs.Residence.{Residence, eased, is_resident, unpinned}
@@ -281,9 +282,8 @@ unfolding run
 turns_go areas asks count b start is =
     paged_follows areas asks count b b.steps start (record { made = 0; steps = omega arith; goes = subst (λ (z : Place). GoesBy start z) (sym is) refl })
 
-pub turns_follow : (areas : List Area) (asks : ℕ → List Target) (count frames : ℕ) (start : Flat) → GoesBy (run (paged areas asks count (fresh frames start)).steps start) (paged areas asks count (fresh frames start)).place
-turns_follow areas asks count frames start =
-    let p = paged areas asks count (fresh frames start) in
-    let g = turns_go areas asks count (fresh frames start) start refl in
-    let e : g.made ≡ p.steps = let s = g.steps in omega (arith, s) in
-    subst (λ (n : ℕ). GoesBy (run n start) p.place) e g.goes
+pub turns_follow : (r : Run) (n : ℕ) → GoesBy (run (state_at r n).steps r.start) (state_at r n).place
+turns_follow r n =
+    let g = turns_go r.areas r.asks n (fresh r.frames r.start) r.start refl in
+    let e : g.made ≡ (state_at r n).steps = let s = g.steps in omega (arith, s) in
+    subst (λ (steps : ℕ). GoesBy (run steps r.start) (state_at r n).place) e g.goes

@@ -1,7 +1,7 @@
 use Rattle.std.proofs.Common.{◌≡◌, ap, arith, refl, true}
 use Rattle.std.specs.Prelude.{is_some}
 use Rattle.vax_machine.proofs.Between.{served_and_listed}
-use Rattle.vax_machine.proofs.Outputs.{writes_nothing}
+use Rattle.vax_machine.proofs.Outputs.{counts_none, writes_nothing}
 use Rattle.vax_machine.proofs.Passing.{gone_on, in_silence, passed_on, served_on}
 use Rattle.vax_machine.proofs.Serving.{gone_several, quiet, stepped}
 use Rattle.vax_machine.specs.Machine.{Keeping}
@@ -56,5 +56,5 @@ returns-in_default g c =
       gone = gone_several c.args.self.now c.attempts.new.self c.args.most c.attempts.result c.requires.steps (omega (arith, low)) c.attempts.ensures.tried;
       goes_on = c.attempts.ensures.goes_on;
       writes = writes_nothing _ _;
-      counts = (refl, refl);
+      counts = counts_none refl refl;
     }

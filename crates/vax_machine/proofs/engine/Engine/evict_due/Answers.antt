@@ -7,7 +7,7 @@ use Rattle.vax_sched.specs.declared.rule.Target.{Target}
 use Rattle.vax_machine.specs.Paged.{all_evicted, all_named, named}
 use Rattle.vax_machine.specs.Turn.{EvictedAll, Follows}
 use Rattle.vax_machine.proofs.Evicting.{all_lists, failed_list, next_list, none_yet, one_more, told}
-use Rattle.vax_machine.proofs.Outputs.{counts_like, err_like, then_counts, then_writes, writes_nothing}
+use Rattle.vax_machine.proofs.Outputs.{counts_like, counts_none, err_like, then_counts, then_writes, writes_nothing}
 use Rattle.vax_machine.proofs.Tracking.{still_itself, then_still}
 use Rattle.vax_machine.proofs.engine.Engine.evict_due.Goals as goal
 
@@ -49,8 +49,8 @@ loop-target-preserved g c = record {
       subst (λ (n : ℕ). Follows o (all_evicted (all_named (pages c.args.self.now.pager).areas (take n (due c.args.schedule.now (c.args.self.now.turns + 1)))) p) c.evict_target.new.self (g.F.PageFile.contents c.evict_target.new.file) (g.K.Sink.contents c.evict_target.new.sink) c.evict_target.new.held) (one_more c.loop-target.yielded c.in-Some.target)
       (next_list (named (pages c.args.self.now.pager).areas) (due c.args.schedule.now (c.args.self.now.turns + 1)) (length c.loop-target.yielded) c.in-Some.target (told (due c.args.schedule.now (c.args.self.now.turns + 1)) (length c.loop-target.yielded) c.in-Some.target (YieldsList-turn (YieldsList-from_first (λ (x : Target). x) (λ (t : List Target). t) (due c.args.schedule.now (c.args.self.now.turns + 1)) (cc (c.into_iter-target-iterator.ensures.into_iter_gives, c.targets-target-items.ensures))) c.loop-target.yielded _ c.loop-target.yielded_by _ _ c.in-Some.target c.in-Some.is c.next.ensures.steps)) o p _ _ _ _
       (subst (λ (z : List Area). Follows o (all_evicted (named z c.in-Some.target) (all_evicted (all_named (pages c.args.self.now.pager).areas (take (length c.loop-target.yielded) (due c.args.schedule.now (c.args.self.now.turns + 1)))) p)) c.evict_target.new.self (g.F.PageFile.contents c.evict_target.new.file) (g.K.Sink.contents c.evict_target.new.sink) c.evict_target.new.held) c.loop-target.invariant.still.areas b));
-  quiet = c.in_ok-evict_target.ensures.counts.0 ∙ c.loop-target.invariant.quiet;
-  written = c.in_ok-evict_target.ensures.counts.1 ∙ c.loop-target.invariant.written;
+  quiet = c.in_ok-evict_target.ensures.counts.file.quiet ∙ c.loop-target.invariant.quiet;
+  written = c.in_ok-evict_target.ensures.counts.sink.quiet ∙ c.loop-target.invariant.written;
 }
 
 pub returns-clause-sound : goal.returns-clause-sound
@@ -68,4 +68,4 @@ pub returns-clause-writes : goal.returns-clause-writes
 returns-clause-writes g c = c.loop-target.invariant.writes
 
 pub returns-clause-counts : goal.returns-clause-counts
-returns-clause-counts g c = (c.loop-target.invariant.quiet, c.loop-target.invariant.written)
+returns-clause-counts g c = counts_none c.loop-target.invariant.quiet c.loop-target.invariant.written

@@ -84,8 +84,8 @@ loop-end-preserved g c = record {
       goes_further c.args.limits.now _ c.args.schedule.now (begun c.args.self.now place) _ c.loop-end.self _ _ _ _ r (begins_bounded c.args.self.now _ place c.facts.ensures.paging c.facts.ensures.space m pins) c.facts.ensures.space c.several_turns.new.self _ _ _
       (subst (λ (z : List Area). AreMade c.args.limits.now o z c.args.schedule.now p c.several_turns.new.self (g.F.PageFile.contents c.several_turns.new.file) (g.K.Sink.contents c.several_turns.new.sink) c.several_turns.new.held) c.loop-end.invariant.areas (c.in-Ok.ensures.done o p r.follows here));
   goes_on = λ b. c.in-Ok.ensures.goes_on;
-  quiet = c.in-Ok.ensures.counts.0 ∙ c.loop-end.invariant.quiet;
-  written = c.in-Ok.ensures.counts.1 ∙ c.loop-end.invariant.written;
+  quiet = c.in-Ok.ensures.counts.file.quiet ∙ c.loop-end.invariant.quiet;
+  written = c.in-Ok.ensures.counts.sink.quiet ∙ c.loop-end.invariant.written;
   only = then_wrote _ _ _ _ c.loop-end.invariant.only (subst (λ (b : Bool). OnlyWrote b (g.K.Sink.contents c.loop-end.sink) (g.K.Sink.contents c.several_turns.new.sink)) c.loop-end.invariant.listed c.several_turns.ensures.writes.only);
 }
 
