@@ -40,3 +40,7 @@ pub record FollowsRun (m : Engine) (file : Option BlockFile) (start : Flat) : Ty
   pub means : Means m file place
   pub goes : GoesBy (run m.steps start) place
   pub touching : IsTouching (keeping m) place
+
+-- where the machine with its file followed the run from a start, it does so afterwards
+abbrev pub KeepsRun : Engine → Option BlockFile → Engine → Option BlockFile → Type 0
+KeepsRun old before new after = (start : Flat) → FollowsRun old before start → FollowsRun new after start

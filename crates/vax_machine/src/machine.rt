@@ -42,7 +42,7 @@ impl Machine {
     ghost use Rattle.vax_pager.specs.Poking.{OnlyRead};
     ghost use Rattle.vax_machine.specs.Console.{AreShown, Deposits, DepositsRegister, IsBetween, ShowsMemory, StopsBetween, cpu_with_register, let_go};
     ghost use Rattle.vax_machine.specs.Machine.{Applies, HasSpent, KeepsPlace, Means, Moves, has_failed, keeping, residence};
-    ghost use Rattle.vax_machine.specs.Events.{KeepsPins};
+    ghost use Rattle.vax_machine.specs.Events.{FollowsRun, KeepsPins, KeepsRun};
     ghost use Rattle.vax_machine.specs.Meaning.{engine, flat_start, memory_of, units_of};
     ghost use Rattle.vax_machine.specs.Paged.{fresh};
     ghost use Rattle.vax_machine.specs.Residence.{is_resident};
@@ -66,6 +66,8 @@ impl Machine {
             → Means (engine m) (Some file) (At (flat_start core space input.items))) }
         ensures begun { IfOk result (λ m. begun (engine m) (At (flat_start core space input.items))
             ≡ fresh frames (flat_start core space input.items)) }
+        ensures follows { IfOk result (λ m. (file : BlockFile)
+            → FollowsRun (engine m) (Some file) (flat_start core space input.items)) }
         ensures kept { IfOk result (λ m. (keeping (engine m)).areas ≡ space) }
         ensures between { IfOk result (λ m. IsBetween (engine m)) }
     {
@@ -125,6 +127,8 @@ impl Machine {
         ensures ends { RunsTo result limits.now schedule.now
             (system_of (engine self.old) (F.contents file.old) (K.contents sink.old))
             (system_of (engine self.new) (F.contents file.new) (K.contents sink.new)) }
+        ensures follows { KeepsRun (engine self.old) (F.contents file.old) (engine self.new)
+            (F.contents file.new) }
         ensures between { StopsBetween result → IsBetween (engine self.old)
             → IsBetween (engine self.new) }
         ensures later { F.faults file.old ≤ F.faults file.new }

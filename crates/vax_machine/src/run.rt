@@ -35,6 +35,7 @@ impl Engine {
     ghost use Rattle.vax_pager.specs.Meaning.{pages};
     ghost use Rattle.vax_sched.specs.Due.{due};
     ghost use Rattle.vax_machine.specs.Console.{IsBetween, MayGoOn, StopsBetween};
+    ghost use Rattle.vax_machine.specs.Events.{KeepsRun};
     ghost use Rattle.vax_machine.specs.Machine.{IsSound};
     ghost use Rattle.vax_machine.specs.Paged.{Paged, all_named, evicted, named, stops};
     ghost use Rattle.vax_machine.specs.Run.{RunsTo, Tracks, system_of};
@@ -81,6 +82,7 @@ impl Engine {
             (underway_of self.old (F.contents file.old) (K.contents sink.old) held.old)
             (underway_of self.new (F.contents file.new) (K.contents sink.new) held.new) }
         ensures still { Still self.old self.new }
+        ensures follows { KeepsRun self.old (F.contents file.old) self.new (F.contents file.new) }
         ensures writes { StillWrites held.old held.new (K.contents sink.old) (K.contents sink.new) }
         ensures counts { Counts result (F.faults file.old) (F.faults file.new) (K.faults sink.old)
             (K.faults sink.new) }
@@ -108,6 +110,7 @@ impl Engine {
             (underway_of self.old (F.contents file.old) (K.contents sink.old) held.old)
             (underway_of self.new (F.contents file.new) (K.contents sink.new) held.new) }
         ensures still { Still self.old self.new }
+        ensures follows { KeepsRun self.old (F.contents file.old) self.new (F.contents file.new) }
         ensures writes { StillWrites held.old held.new (K.contents sink.old) (K.contents sink.new) }
         ensures counts { Counts result (F.faults file.old) (F.faults file.new) (K.faults sink.old)
             (K.faults sink.new) }
@@ -124,7 +127,7 @@ impl Engine {
         ensures few { result ≤ 32768 }
         ensures pages { take result found.new
             ≡ filter (λ page. is_listed page (pages self.now.pager).order)
-                (flat_map pages_of (pages self.now.pager).areas) }
+            (flat_map pages_of (pages self.now.pager).areas) }
     {
         self.facts();
         let count = self.pager.residents(found);
@@ -148,6 +151,7 @@ impl Engine {
             (underway_of self.old (F.contents file.old) (K.contents sink.old) held.old)
             (underway_of self.new (F.contents file.new) (K.contents sink.new) held.new) }
         ensures still { Still self.old self.new }
+        ensures follows { KeepsRun self.old (F.contents file.old) self.new (F.contents file.new) }
         ensures writes { StillWrites held.old held.new (K.contents sink.old) (K.contents sink.new) }
         ensures counts { Counts result (F.faults file.old) (F.faults file.new) (K.faults sink.old)
             (K.faults sink.new) }
@@ -173,6 +177,7 @@ impl Engine {
             (underway_of self.old (F.contents file.old) (K.contents sink.old) held.old)
             (underway_of self.new (F.contents file.new) (K.contents sink.new) held.new) }
         ensures still { Still self.old self.new }
+        ensures follows { KeepsRun self.old (F.contents file.old) self.new (F.contents file.new) }
         ensures writes { StillWrites held.old held.new (K.contents sink.old) (K.contents sink.new) }
         ensures counts { Counts result (F.faults file.old) (F.faults file.new) (K.faults sink.old)
             (K.faults sink.new) }
@@ -201,6 +206,7 @@ impl Engine {
             (underway_of self.old (F.contents file.old) (K.contents sink.old) held.old)
             (underway_of self.new (F.contents file.new) (K.contents sink.new) held.new) }
         ensures still { Still self.old self.new }
+        ensures follows { KeepsRun self.old (F.contents file.old) self.new (F.contents file.new) }
         ensures writes { StillWrites held.old held.new (K.contents sink.old) (K.contents sink.new) }
         ensures counts { Counts result (F.faults file.old) (F.faults file.new) (K.faults sink.old)
             (K.faults sink.new) }
@@ -231,6 +237,7 @@ impl Engine {
             (underway_of self.new (F.contents file.new) (K.contents sink.new) held.new) }
         ensures gone { HasGone most self.old self.new }
         ensures goes_on { MayGoOn (self.old.steps + most) self.new }
+        ensures follows { KeepsRun self.old (F.contents file.old) self.new (F.contents file.new) }
         ensures writes { StillWrites held.old held.new (K.contents sink.old) (K.contents sink.new) }
         ensures counts { Counts result (F.faults file.old) (F.faults file.new) (K.faults sink.old)
             (K.faults sink.new) }
@@ -260,6 +267,7 @@ impl Engine {
         ensures served { ServesWanted result
             (underway_of self.old (F.contents file.old) (K.contents sink.old) held.old)
             (underway_of self.new (F.contents file.new) (K.contents sink.new) held.new) }
+        ensures follows { KeepsRun self.old (F.contents file.old) self.new (F.contents file.new) }
         ensures writes { StillWrites held.old held.new (K.contents sink.old) (K.contents sink.new) }
         ensures counts { Counts result (F.faults file.old) (F.faults file.new) (K.faults sink.old)
             (K.faults sink.new) }
@@ -312,6 +320,7 @@ impl Engine {
         ensures some { OnOk result (self.old.turns < self.new.turns) }
         ensures areas { OnOk result ((pages self.new.pager).areas ≡ (pages self.old.pager).areas) }
         ensures goes_on { OnOk result (MayGoOn limits.now.steps self.new) }
+        ensures follows { KeepsRun self.old (F.contents file.old) self.new (F.contents file.new) }
         ensures writes { StillWrites held.old held.new (K.contents sink.old) (K.contents sink.new) }
         ensures counts { Counts result (F.faults file.old) (F.faults file.new) (K.faults sink.old)
             (K.faults sink.new) }
@@ -364,6 +373,7 @@ impl Engine {
         ensures ends { RunsTo result limits.now schedule.now
             (system_of self.old (F.contents file.old) (K.contents sink.old))
             (system_of self.new (F.contents file.new) (K.contents sink.new)) }
+        ensures follows { KeepsRun self.old (F.contents file.old) self.new (F.contents file.new) }
         ensures between { StopsBetween result → IsBetween self.old → IsBetween self.new }
         ensures later { F.faults file.old ≤ F.faults file.new }
         ensures sunk { K.faults sink.old ≤ K.faults sink.new }

@@ -2,6 +2,7 @@ use Rattle.std.proofs.Common.{◌≡◌, ℕ, Some, arith, refl, subst, true}
 use Rattle.std.specs.Prelude.{is_some}
 use Rattle.vax_space.specs.Areas.{area_of}
 use Rattle.vax_pager.specs.Meaning.{pages}
+use Rattle.vax_machine.proofs.Following.{evict_follows}
 use Rattle.vax_machine.proofs.Listing.{evict_away, evict_cut, evict_listed}
 use Rattle.vax_outside.proofs.Counting.{counts_still, still_on}
 use Rattle.vax_machine.proofs.Attempts.{not_failed}
@@ -49,6 +50,13 @@ returns-in_default g c = record {
   sound = c.evict.ensures.sound;
   done = λ o p f. evict_away o p c.args.self.now c.evict.new.self _ _ _ _ c.args.page f _ c.evict.ensures.applies c.evict.ensures.moves c.in_default.not-Failed c.in_default.not-Evicted;
   still = still_evict c.args.self.now c.evict.new.self _ _ _ c.evict.ensures.applies.0;
+  follows = evict_follows c.args.page c.args.self.now c.evict.new.self _ _ c.evict.result c.evict.ensures.applies;
   writes = writes_nothing _ _;
   counts = counts_none (still_on (not_failed c.evict.result c.in_default.not-Failed) c.evict.ensures.counts) refl;
 }
+
+pub returns-in-Failed-clause-follows : goal.returns-in-Failed-clause-follows
+returns-in-Failed-clause-follows g c = evict_follows c.args.page c.args.self.now c.evict.new.self _ _ c.evict.result c.evict.ensures.applies
+
+pub returns-in-Evicted-clause-follows : goal.returns-in-Evicted-clause-follows
+returns-in-Evicted-clause-follows g c = evict_follows c.args.page c.args.self.now c.evict.new.self _ _ c.evict.result c.evict.ensures.applies
