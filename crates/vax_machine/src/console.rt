@@ -7,7 +7,7 @@ ghost use Rattle.vax_outside.specs.Blocks.{BlockFile};
 ghost use Rattle.vax_outside.specs.Faults.{CountsFailure};
 ghost use Rattle.vax_pager.specs.Meaning.{pages};
 ghost use Rattle.vax_pager.specs.Paging.{Keeps, StandsWith};
-ghost use Rattle.vax_pager.specs.Poking.{OnlyRead};
+ghost use Rattle.vax_pager.specs.Poking.{OnlyRead, WritesBlocks};
 ghost use Rattle.vax_machine.specs.Console.{AreShown, IsPageOf, IsThereIn, cell_in, memory_from};
 
 use crate::engine::Engine;
@@ -134,6 +134,8 @@ impl Engine {
             (violation (keeping self.old).areas addr (length bytes.now) 0 Access.Write)) }
         ensures cpu { self.new.cpu ≡ self.old.cpu }
         ensures deposits { Deposits result addr bytes.now self.old (F.contents file.old) self.new
+            (F.contents file.new) }
+        ensures writes { WritesBlocks (keeping self.old).areas (F.contents file.old)
             (F.contents file.new) }
         ensures counts { CountsFailure (is_err result) (F.faults file.old) (F.faults file.new) }
     {

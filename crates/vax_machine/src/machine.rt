@@ -39,7 +39,7 @@ impl Machine {
     ghost use Rattle.vax_flat.specs.Step.{Flat};
     ghost use Rattle.vax_pager.specs.Calls.{IsByte};
     ghost use Rattle.vax_pager.specs.Listing.{first};
-    ghost use Rattle.vax_pager.specs.Poking.{OnlyRead};
+    ghost use Rattle.vax_pager.specs.Poking.{OnlyRead, WritesBlocks};
     ghost use Rattle.vax_machine.specs.Console.{AreShown, Deposits, DepositsRegister, IsBetween, ShowsMemory, StopsBetween, cpu_with_register, let_go};
     ghost use Rattle.vax_machine.specs.Machine.{Applies, HasSpent, KeepsPlace, Means, Moves, has_failed, keeping, residence};
     ghost use Rattle.vax_machine.specs.Events.{FollowsRun, KeepsPins, KeepsRun};
@@ -272,6 +272,8 @@ impl Machine {
         ensures cpu { (engine self.new).cpu ≡ (engine self.old).cpu }
         ensures deposits { Deposits result addr bytes.now (engine self.old) (F.contents file.old)
             (engine self.new) (F.contents file.new) }
+        ensures writes { WritesBlocks (keeping (engine self.old)).areas (F.contents file.old)
+            (F.contents file.new) }
         ensures counts { CountsFailure (is_err result) (F.faults file.old) (F.faults file.new) }
     {
         self.engine.poke(addr, bytes, file)

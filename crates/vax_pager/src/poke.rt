@@ -17,7 +17,7 @@ impl Store {
     ghost use Rattle.vax_flat.specs.Outcome.{is_allowed};
     ghost use Rattle.vax_pager.specs.Listing.{is_listed};
     ghost use Rattle.vax_pager.specs.Paging.{Keeps};
-    ghost use Rattle.vax_pager.specs.Poking.{BringsIn, IsPage, OnlyRead, Pokes, StaysAlike, WritesThere};
+    ghost use Rattle.vax_pager.specs.Poking.{BringsIn, IsPage, MarksNone, OnlyRead, Pokes, StaysAlike, WritesThere};
     ghost use Rattle.vax_pager.specs.Store.{IsSound, paging};
 
     /// The bytes of a page, resident or not.
@@ -58,6 +58,8 @@ impl Store {
         requires pins { length (paging self.old).pinned < (paging self.old).frames }
         ensures sound { IsSound 0 self.new }
         ensures alike { StaysAlike (paging self.old) (paging self.new) }
+        ensures marks { MarksNone (paging self.old) (F.contents file.old) (paging self.new)
+            (F.contents file.new) }
         ensures brings { OnOk result (BringsIn page (paging self.old) (paging self.new)) }
         ensures counts { CountsFailure (is_err result) (F.faults file.old) (F.faults file.new) }
         ensures keeps { Keeps (paging self.old) (F.contents file.old) (paging self.new)
@@ -84,6 +86,8 @@ impl Store {
         requires frames { 3 ≤ (paging self.old).frames }
         ensures sound { IsSound 0 self.new }
         ensures alike { StaysAlike (paging self.old) (paging self.new) }
+        ensures marks { MarksNone (paging self.old) (F.contents file.old) (paging self.new)
+            (F.contents file.new) }
         ensures low { OnOk result (is_listed low (paging self.new).order ≡ true) }
         ensures high { OnOk result (is_listed high (paging self.new).order ≡ true) }
         ensures counts { CountsFailure (is_err result) (F.faults file.old) (F.faults file.new) }

@@ -3,6 +3,7 @@ use Rattle.std.specs.Prelude.{is_some}
 use Rattle.vax_space.specs.declared.Area.{Area}
 use Rattle.vax_space.specs.Areas.{area_of}
 use Rattle.vax_outside.proofs.Counting.{counts_then}
+use Rattle.vax_pager.proofs.Marking.{then_none}
 use Rattle.vax_pager.proofs.Poking.{both_here, pins_in, then_alike}
 use Rattle.vax_pager.proofs.store.Store.bring_both.Goals as goal
 
@@ -65,3 +66,12 @@ returns-clause-high g c = both_here c.args.low c.args.high _ _ _ _ c.in_ok-bring
 
 pub returns-clause-keeps : goal.returns-clause-keeps
 returns-clause-keeps g c = λ memory st. c.bring_in-3.ensures.keeps memory (c.bring_in-2.ensures.keeps memory (c.bring_in.ensures.keeps memory st))
+
+pub returns-in_err-bring_in-2-clause-marks : goal.returns-in_err-bring_in-2-clause-marks
+returns-in_err-bring_in-2-clause-marks g c = then_none _ _ _ _ _ _ c.bring_in.ensures.marks c.bring_in-2.ensures.marks
+
+pub returns-in_err-bring_in-3-clause-marks : goal.returns-in_err-bring_in-3-clause-marks
+returns-in_err-bring_in-3-clause-marks g c = then_none _ _ _ _ _ _ (then_none _ _ _ _ _ _ c.bring_in.ensures.marks c.bring_in-2.ensures.marks) c.bring_in-3.ensures.marks
+
+pub returns-clause-marks : goal.returns-clause-marks
+returns-clause-marks g c = then_none _ _ _ _ _ _ (then_none _ _ _ _ _ _ c.bring_in.ensures.marks c.bring_in-2.ensures.marks) c.bring_in-3.ensures.marks
