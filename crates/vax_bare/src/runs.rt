@@ -1,7 +1,7 @@
 //! Runs.
-ghost use Rattle.std.specs.Prelude.{◌≡◌, ◌+◌, ◌<◌, ◌≤◌, ℕ, List, [], None, IfOk, OnErr, OnOk};
+ghost use Rattle.std.specs.Prelude.{is_err, ◌≡◌, ◌+◌, ◌<◌, ◌≤◌, ℕ, List, [], None, IfOk, OnErr, OnOk};
 ghost use Rattle.vax_space.specs.declared.Area.{Area};
-ghost use Rattle.vax_outside.specs.Faults.{Rose};
+ghost use Rattle.vax_outside.specs.Faults.{CountsFailure};
 ghost use Rattle.vax_flat.specs.Port.{StandsFor};
 ghost use Rattle.vax_flat.specs.Memory.{AllResident};
 ghost use Rattle.vax_cpu.specs.Attempt.{flat_of};
@@ -33,11 +33,13 @@ pub fn run<P: Port, K: Sink>(
     requires unsent { cpu.old.term.out ≡ None }
     requires resident { AllResident (P.view port.old).resident (P.view port.old).areas }
     requires meant { (memory : List Area) × StandsFor (P.view port.old) memory }
-    ensures ok { (memory : List Area) → StandsFor (P.view port.old) memory → IfOk result (λ stopped. IsRun limit (flat_of cpu.old memory []) cpu.new (P.view port.new) (K.contents sink.old) (K.contents sink.new) stopped) }
-    ensures err { (memory : List Area) → StandsFor (P.view port.old) memory → OnErr result (IsCutShort limit (flat_of cpu.old memory []) (K.contents sink.old) (K.contents sink.new)) }
-    ensures later { K.faults sink.old ≤ K.faults sink.new }
-    ensures cause { OnErr result (Rose (K.faults sink.old) (K.faults sink.new)) }
-    ensures quiet { OnOk result (K.faults sink.new ≡ K.faults sink.old) }
+    ensures ok { (memory : List Area) → StandsFor (P.view port.old) memory
+        → IfOk result (IsRun limit (flat_of cpu.old memory []) cpu.new (P.view port.new)
+        (K.contents sink.old) (K.contents sink.new)) }
+    ensures err { (memory : List Area) → StandsFor (P.view port.old) memory
+        → OnErr result (IsCutShort limit (flat_of cpu.old memory [])
+        (K.contents sink.old) (K.contents sink.new)) }
+    ensures counts { CountsFailure (is_err result) (K.faults sink.old) (K.faults sink.new) }
 {
     let mut steps = 0;
     while steps < limit {

@@ -66,6 +66,13 @@ next_removed next after prior = slice_set next prior after
 abbrev pub before_removed : List ℕ → ℕ → ℕ → List ℕ
 before_removed before after prior = slice_set before after prior
 
+-- the links after a frame was taken out from between its two neighbours
+abbrev pub next_without : List ℕ → List ℕ → ℕ → List ℕ
+next_without next before frame = next_removed next (slice_index next frame) (slice_index before frame)
+
+abbrev pub before_without : List ℕ → List ℕ → ℕ → List ℕ
+before_without next before frame = before_removed before (slice_index next frame) (slice_index before frame)
+
 -- the circles from the end a over these nodes, and from the end b over those
 pub record AreCircles (next before : List ℕ) (limit a b : ℕ) (xs ys : List ℕ) : Type 0 where
   pub next_size : length next ≡ limit + 2

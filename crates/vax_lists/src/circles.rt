@@ -1,6 +1,6 @@
 //! Frames in two lists, doubly linked.
 ghost use Rattle.std.specs.Prelude.{◌≡◌, ◌+◌, ◌-◌, ◌<◌, ◌≤◌, ◌∷◌, ◌++◌, true, [], length, drop, map, take, slice_get, slice_index, IfOk, IfSome};
-ghost use Rattle.vax_lists.specs.Links.{Away, before_appended, before_removed, is_in, next_appended, next_removed, omit, with_first, with_second};
+ghost use Rattle.vax_lists.specs.Links.{Away, before_appended, before_without, is_in, next_appended, next_without, omit, with_first, with_second};
 
 use std::alloc::Global;
 use std::marker::Model;
@@ -22,8 +22,10 @@ impl Links {
         requires last { slice_index self.old.before.items end < length self.old.next.items }
         requires size { length self.old.before.items ≡ length self.old.next.items }
         requires small { length self.old.next.items ≤ 65536 }
-        ensures next { self.new.next.items ≡ next_appended self.old.next.items (slice_index self.old.before.items end) end frame }
-        ensures before { self.new.before.items ≡ before_appended self.old.before.items (slice_index self.old.before.items end) end frame }
+        ensures next { self.new.next.items
+            ≡ next_appended self.old.next.items (slice_index self.old.before.items end) end frame }
+        ensures before { self.new.before.items ≡ before_appended self.old.before.items
+            (slice_index self.old.before.items end) end frame }
     {
         let last = self.before[end as usize];
         self.next[last as usize] = frame as u16;
@@ -39,8 +41,10 @@ impl Links {
         requires next { slice_index self.old.next.items frame < length self.old.next.items }
         requires before { slice_index self.old.before.items frame < length self.old.next.items }
         requires size { length self.old.before.items ≡ length self.old.next.items }
-        ensures next { self.new.next.items ≡ next_removed self.old.next.items (slice_index self.old.next.items frame) (slice_index self.old.before.items frame) }
-        ensures before { self.new.before.items ≡ before_removed self.old.before.items (slice_index self.old.next.items frame) (slice_index self.old.before.items frame) }
+        ensures next { self.new.next.items
+            ≡ next_without self.old.next.items self.old.before.items frame }
+        ensures before { self.new.before.items
+            ≡ before_without self.old.next.items self.old.before.items frame }
     {
         let next = self.next[frame as usize];
         let before = self.before[frame as usize];

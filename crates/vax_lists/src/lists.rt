@@ -1,7 +1,7 @@
 //! The resident, the kept and the modified pages of a pager.
-ghost use Rattle.std.specs.Prelude.{◌≡◌, ◌≢◌, ◌≤◌, ◌<◌, ◌+◌, ◌-◌, ℕ, None, Some, [], IfOk, OnOk, OnErr, drop, is_some, slice_get, length, option_map, take};
+ghost use Rattle.std.specs.Prelude.{is_err, ◌≡◌, ◌≢◌, ◌≤◌, ◌<◌, ◌+◌, ◌-◌, ℕ, None, Some, [], IfOk, OnOk, OnErr, drop, is_some, slice_get, length, option_map, take};
 ghost use Rattle.vax_outside.specs.Blocks.{PutsBlock};
-ghost use Rattle.vax_outside.specs.Faults.{Rose};
+ghost use Rattle.vax_outside.specs.Faults.{CountsFailure};
 ghost use Rattle.vax_lists.specs.Lines.{EachOnce, appended, frame_in, with_kept, with_modified, with_order, without, pages_of};
 
 use crate::circles::Circles;
@@ -44,7 +44,8 @@ impl Lists {
     /// No page, and room for the frames below `frames`, at most 32,768.
     pub fn new(alloc: Global, frames: u32) -> Result<Lists, NoMemory>
         requires few { frames ≤ 32768 }
-        ensures { IfOk result (λ lists. lists ≡ record { order = []; kept = []; modified = []; limit = frames }) }
+        ensures { IfOk result
+            (λ lists. lists ≡ record { order = []; kept = []; modified = []; limit = frames }) }
     {
         let held = Circles::new(alloc, frames)?;
         let modified = Circles::new(alloc, frames)?;
@@ -87,7 +88,8 @@ impl Lists {
         requires below { frame < self.old.limit }
         requires there { frame_in self.old.order page ≡ Some frame }
         requires new { frame_in self.old.kept page ≡ None }
-        ensures moved { self.new ≡ with_kept (with_order self.old (without page self.old.order)) (appended self.old.kept page frame) }
+        ensures moved { self.new ≡ with_kept (with_order self.old (without page self.old.order))
+            (appended self.old.kept page frame) }
         ensures fewer { length self.new.order + 1 ≡ length self.old.order }
     {
         let _ = page;
@@ -101,7 +103,8 @@ impl Lists {
         requires below { frame < self.old.limit }
         requires there { frame_in self.old.kept page ≡ Some frame }
         requires new { frame_in self.old.order page ≡ None }
-        ensures moved { self.new ≡ with_order (with_kept self.old (without page self.old.kept)) (appended self.old.order page frame) }
+        ensures moved { self.new ≡ with_order (with_kept self.old (without page self.old.kept))
+            (appended self.old.order page frame) }
         ensures fewer { length self.new.kept + 1 ≡ length self.old.kept }
     {
         let _ = page;
@@ -152,13 +155,13 @@ impl Lists {
         file: &mut F,
     ) -> Result<(), Failed>
         requires there { frame_in self.old.modified page ≡ Some frame }
-        ensures wrote { OnOk result (PutsBlock block bytes.now (F.contents file.old) (F.contents file.new)) }
-        ensures modified { OnOk result (self.new ≡ with_modified self.old (without page self.old.modified)) }
+        ensures wrote { OnOk result
+            (PutsBlock block bytes.now (F.contents file.old) (F.contents file.new)) }
+        ensures modified { OnOk result
+            (self.new ≡ with_modified self.old (without page self.old.modified)) }
         ensures err { OnErr result (self.new ≡ self.old) }
         ensures unwritten { OnErr result (F.contents file.new ≡ F.contents file.old) }
-        ensures later { F.faults file.old ≤ F.faults file.new }
-        ensures cause { OnErr result (Rose (F.faults file.old) (F.faults file.new)) }
-        ensures quiet { OnOk result (F.faults file.new ≡ F.faults file.old) }
+        ensures counts { CountsFailure (is_err result) (F.faults file.old) (F.faults file.new) }
     {
         match file.write_block(block, bytes) {
             Ok(()) => {
@@ -224,7 +227,8 @@ impl Lists {
     pub fn is_among_last(&self, page: u32, frame: u32, count: u32) -> bool
         requires there { frame_in self.now.order page ≡ Some frame }
         requires few { count ≤ length self.now.order }
-        ensures { result ≡ is_some (frame_in (drop (length self.now.order - count) self.now.order) page) }
+        ensures { result ≡ is_some
+            (frame_in (drop (length self.now.order - count) self.now.order) page) }
     {
         let _ = page;
         self.held.is_among_last(frame, count)

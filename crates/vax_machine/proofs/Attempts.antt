@@ -30,11 +30,11 @@ use Rattle.vax_pager.specs.Steps.{OnlyWritten, settled}
 use Rattle.vax_pager.specs.declared.pager.Pager.{Pager}
 use Rattle.vax_pager.proofs.Turned.{port_stands, stands_settled, stands_turned}
 use Rattle.vax_machine.specs.Conclusion.{Concludes, applied_of, eased_pages}
-use Rattle.vax_machine.specs.Machine.{AreSound, Goes, HasEnded, HasParted, HasStepped, HasTried, IsThere, IsTry, Keeping, Means, Tries, keeping, tried}
+use Rattle.vax_machine.specs.Machine.{AreSound, Goes, HasEnded, HasParted, HasStepped, HasTried, IsThere, IsTry, Keeping, Means, Tries, has_failed, keeping, tried}
 use Rattle.vax_machine.specs.Residence.{Residence, residence_of, unpinned, eased}
 use Rattle.vax_machine.specs.declared.engine.Engine.{Engine}
 use Rattle.vax_machine.specs.declared.event.Applied.{Applied}
-use Rattle.vax_machine.specs.declared.event.Applied.TheVariants.{Absent, Ended, Failed, Parted, Stepped}
+use Rattle.vax_machine.specs.declared.event.Applied.TheVariants.{Absent, Ended, Evicted, Failed, Flushed, Nothing, Parted, Served, Stepped}
 
 stands_same_bytes : (before after : View) (memory : List Area) → after ≡ with_marks before after.marked → StandsFor before memory → StandsFor after memory
 stands_same_bytes before after memory e st = rw e (record { areas = st.areas; bytes = st.bytes; whole = st.whole })
@@ -269,3 +269,14 @@ tries_running e old result new none t = subst (λ (z : Option Ending). Tries z o
 pub no_failure : (e : Option Ending) (old : Engine) (result : Applied) (new : Engine) → Tries e old result new → result ≡ Failed → ⊥
 no_failure (Some x) old result new t f = let bad : Ended x ≡ Failed = sym t.0 ∙ f in cc
 no_failure None old result new t f = subst IsTry f t.answer
+
+pub not_failed : (result : Applied) → (result ≡ Failed → ⊥) → has_failed result ≡ false
+not_failed (Stepped sent) other = refl
+not_failed Parted other = refl
+not_failed (Absent page) other = refl
+not_failed (Ended x) other = refl
+not_failed (Served v) other = refl
+not_failed Evicted other = refl
+not_failed Flushed other = refl
+not_failed Nothing other = refl
+not_failed Failed other = absurd (other refl)

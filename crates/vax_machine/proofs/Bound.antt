@@ -26,6 +26,7 @@ use Rattle.vax_machine.proofs.Lists.{still_out}
 use Rattle.vax_machine.proofs.Halting.{paged_more}
 use Rattle.vax_machine.proofs.Touching.{few_pins, fewer_pins, missed, page_small}
 use Rattle.vax_machine.proofs.Tracking.{many_evicted}
+use Rattle.vax_machine.specs.Laws.{HasFewTurns, IsCounted, IsIdle, IsProper, IsSoonAfter, Run, state_at}
 use Rattle.vax_machine.specs.Paged.{Paged, all_evicted, all_named, attempted, attempted_by, evicted, fresh, marked, paged, place_after, unless_ended}
 use Rattle.vax_machine.specs.Residence.{Residence, is_resident, served, taken_out, victim, without_victim}
 use Rattle.vax_machine.specs.Run.{FewTurns}
@@ -454,31 +455,33 @@ few_cut areas b p front turns space h made missed low =
           ]
     ]
 
-fresh_bounded : (areas : List Area) (frames : ℕ) (start : Flat) → layout start.memory ≡ layout areas → IsBounded areas (fresh frames start) (fresh frames start)
-unfolding is_listed AreOnce
-fresh_bounded areas frames start e =
-    begun_bounded areas (fresh frames start) e (record { touched = λ page k. let no : false ≡ true = k in cc }) tt (λ page k. let no : false ≡ true = k in cc) (λ page k. let no : false ≡ true = k in cc)
+-- where a run begins
 
-pub turns_bounded : (areas : List Area) (asks : ℕ → List Target) (count frames : ℕ) (start : Flat) → IsSpace areas → layout start.memory ≡ layout areas → (paged areas asks count (fresh frames start)).residence.spoiled < 2 ^ 64 - 1 → (paged areas asks count (fresh frames start)).turns ≤ 41 * (paged areas asks count (fresh frames start)).parts + 40 + (paged areas asks count (fresh frames start)).residence.spoiled
-turns_bounded areas asks count frames start space e low =
-    let p = paged areas asks count (fresh frames start) in
-    let first = fresh frames start in
-    let h = paged_bounded areas asks count first first space (fresh_bounded areas frames start e) in
+fresh_bounded : (r : Run) → IsProper r → IsBounded r.areas (fresh r.frames r.start) (fresh r.frames r.start)
+unfolding is_listed AreOnce
+fresh_bounded r proper =
+    begun_bounded r.areas (fresh r.frames r.start) proper.memory (record { touched = λ page k. let no : false ≡ true = k in cc }) tt (λ page k. let no : false ≡ true = k in cc) (λ page k. let no : false ≡ true = k in cc)
+
+run_bounded : (r : Run) (n : ℕ) → IsProper r → IsBounded r.areas (fresh r.frames r.start) (state_at r n)
+run_bounded r n proper = paged_bounded r.areas r.asks n (fresh r.frames r.start) (fresh r.frames r.start) proper.space (fresh_bounded r proper)
+
+pub turns_bounded : (r : Run) (n : ℕ) → IsProper r → IsCounted (state_at r n) → HasFewTurns (state_at r n)
+turns_bounded r n proper low =
+    let h = run_bounded r n proper in
     let few = h.turns low in
-    let pins = pins_of areas first p h in
+    let pins = pins_of r.areas (fresh r.frames r.start) (state_at r n) h in
     omega (arith, few, pins)
 
 -- as long as no part is completed
 
-pub parts_end : (areas : List Area) (asks : ℕ → List Target) (count more frames : ℕ) (start : Flat) → IsSpace areas → layout start.memory ≡ layout areas → (paged areas asks (more + count) (fresh frames start)).parts ≡ (paged areas asks count (fresh frames start)).parts → (paged areas asks (more + count) (fresh frames start)).residence.spoiled < 2 ^ 64 - 1 → (paged areas asks (more + count) (fresh frames start)).turns + (paged areas asks count (fresh frames start)).residence.spoiled ≤ (paged areas asks count (fresh frames start)).turns + 40 + (paged areas asks (more + count) (fresh frames start)).residence.spoiled
-parts_end areas asks count more frames start space e parts low =
-    let first = fresh frames start in
-    let b = paged areas asks count first in
-    let h = paged_bounded areas asks count first first space (fresh_bounded areas frames start e) in
-    let begun = begun_bounded areas b h.memory h.pins h.once h.held h.small in
-    let k = subst (λ (z : Paged). IsBounded areas b z) (paged_more areas asks more count first) (paged_bounded areas asks more b b space begun) in
+pub parts_end : (r : Run) (n more : ℕ) → IsProper r → IsCounted (state_at r (more + n)) → (state_at r (more + n)).parts ≡ (state_at r n).parts → IsSoonAfter (state_at r n) (state_at r (more + n))
+parts_end r n more proper low parts =
+    let b = state_at r n in
+    let h = run_bounded r n proper in
+    let begun = begun_bounded r.areas b h.memory h.pins h.once h.held h.small in
+    let k = subst (λ (z : Paged). IsBounded r.areas b z) (paged_more r.areas r.asks more n (fresh r.frames r.start)) (paged_bounded r.areas r.asks more b b proper.space begun) in
     let few = k.turns low in
-    let pins = pins_of areas b (paged areas asks (more + count) first) k in
+    let pins = pins_of r.areas b (state_at r (more + n)) k in
     omega (arith, few, pins, parts)
 
 -- with nothing due no pinned page is evicted
@@ -497,10 +500,10 @@ attempted_unspoiled p =
     let m = first_missing (is_resident p.residence) (touches_at p.place) in
     unless_unspoiled (machine_at p.place).ending p (attempted_by m (marked p)) (attempt_unspoiled (marked p) m)
 
-pub never_spoiled : (areas : List Area) (asks : ℕ → List Target) (count frames : ℕ) (start : Flat) → ((turn : ℕ) → asks turn ≡ []) → (paged areas asks count (fresh frames start)).residence.spoiled ≡ 0
+pub never_spoiled : (r : Run) (n : ℕ) → IsIdle r → (state_at r n).residence.spoiled ≡ 0
 unfolding paged all_evicted
-never_spoiled areas asks zero frames start none = refl
-never_spoiled areas asks (suc count) frames start none =
-    let q = paged areas asks count (fresh frames start) in
-    ap (λ (ts : List Target). (attempted (all_evicted (all_named areas ts) q)).residence.spoiled) (none (q.turns + 1))
-    ∙ (attempted_unspoiled q ∙ never_spoiled areas asks count frames start none)
+never_spoiled r zero idle = refl
+never_spoiled r (suc n) idle =
+    let q = state_at r n in
+    ap (λ (ts : List Target). (attempted (all_evicted (all_named r.areas ts) q)).residence.spoiled) (idle (q.turns + 1))
+    ∙ (attempted_unspoiled q ∙ never_spoiled r n idle)

@@ -5,6 +5,7 @@ use Rattle.std.specs.List.{flat_map}
 use Rattle.std.proofs.lemmas.Grind.{flat_map-append}
 use Rattle.vax_outside.specs.Blocks.{BlockFile}
 use Rattle.vax_outside.specs.Channels.{Channels, Grew, GrewByPrefix, append, nothing}
+use Rattle.vax_outside.proofs.Counting.{counts_still}
 use Rattle.vax_outside.proofs.Growth.{append-nothing, channels_assoc, grew_more, grew_nothing, prefix_in}
 use Rattle.vax_flat.specs.Parts.{machine_at}
 use Rattle.vax_flat.specs.Step.{with_byte_sent}
@@ -199,7 +200,10 @@ unwritten (Err Page) (Err Write) part rest before more after old new l e h = cc
 unwritten (Err Write) (Err Page) part rest before more after old new l e h = absurd h
 unwritten (Err Write) (Err Write) part rest before more after old new l e h = prefix_in old old new nothing part rest (append before more) e (grew_nothing old) h
 
--- the counts of faults, one call after the other
+-- the counts of failures, one call after the other
+
+pub counts_none : {file_before file_now sink_before sink_now : ℕ} → file_now ≡ file_before → sink_now ≡ sink_before → Counts (Ok tt) file_before file_now sink_before sink_now
+counts_none file sink = record { file = counts_still refl file; sink = counts_still refl sink }
 
 pub counts_like : (r q : Result (Unit {0}) Fault) (a b x y : ℕ) → IsErrLike r q → Counts q a b x y → Counts r a b x y
 counts_like (Ok u) (Ok v) a b x y l h = absurd l

@@ -129,13 +129,7 @@ turns_stay old new None result x = ap (λ (k : Keeping). k.turns) x.1
 turns_stay old new (Some page) result (inl x) = ap (λ (k : Keeping). k.turns) x.1
 turns_stay old new (Some page) result (inr x) = ap (λ (k : Keeping). k.turns) x.1
 
--- the sink's count of faults never falls
-pub sink_later : (r : Result (Unit {0}) Fault) (n a b : ℕ) → Counts r n n a b → a ≤ b
-sink_later (Ok x) n a b h = let e = h.1 in omega (arith, e)
-sink_later (Err Page) n a b h = let e = h.1 in omega (arith, e)
-sink_later (Err Write) n a b h = h.1.later
-
 -- what is held back wasn't written
 pub finish_lost : (end : RunEnd) (e : Fault) (left : Channels) (old new : Option Channels) (n a b : ℕ) → Puts (Err e) left old new → Counts (Err e) n n a b → Finishes end WriteFault left old new (Rose a b)
 finish_lost end Page left old new n a b p k = absurd p
-finish_lost end Write left old new n a b p k = inr (refl, p, k.1.rose)
+finish_lost end Write left old new n a b p k = inr (refl, p, k.sink.cause)

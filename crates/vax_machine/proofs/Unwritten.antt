@@ -21,6 +21,7 @@ use Rattle.vax_flat.proofs.Memory.{place_within}
 use Rattle.vax_pager.specs.Listing.{is_listed}
 use Rattle.vax_sched.specs.declared.rule.Target.{Target}
 use Rattle.vax_machine.specs.Blocks.{last_written, or_bytes}
+use Rattle.vax_machine.specs.Laws.{IsAsWritten, Run, state_at}
 use Rattle.vax_machine.specs.Paged.{Eviction, Paged, all_evicted, all_named, attempted, attempted_by, cleaned, cleaned_of, evicted, eviction_of, evictions_of, fresh, marked, page_bytes, paged, place_after, some_if, unless_ended}
 use Rattle.vax_machine.specs.Residence.{is_resident, victim}
 
@@ -293,6 +294,8 @@ kept_fresh : (frames : ℕ) (m : Flat) → AreKept m.memory (fresh frames m)
 unfolding last_written
 kept_fresh frames m = record { kept = λ page small clean. refl }
 
-pub writes_suffice : (areas : List Area) (asks : ℕ → List Target) (count frames : ℕ) (start : Flat) (pages : List ℕ) (page : ℕ) → page < 2 ^ 23 → (all_evicted pages (paged areas asks count (fresh frames start))).modified page ≡ false → page_bytes (machine_at (all_evicted pages (paged areas asks count (fresh frames start))).place).memory page ≡ last_written page (page_bytes start.memory page) (all_evicted pages (paged areas asks count (fresh frames start))).evictions
-writes_suffice areas asks count frames start pages page small clean =
-    (kept_all start.memory pages (paged areas asks count (fresh frames start)) (kept_paged start.memory areas asks count (fresh frames start) (kept_fresh frames start))).kept page small clean
+pub writes_suffice : (r : Run) (n : ℕ) (absent : List ℕ) (page : ℕ) → page < 2 ^ 23 → IsAsWritten r.start page (all_evicted absent (state_at r n))
+writes_suffice r n absent page small clean =
+    let first = kept_fresh r.frames r.start in
+    let there = kept_paged r.start.memory r.areas r.asks n (fresh r.frames r.start) first in
+    (kept_all r.start.memory absent (state_at r n) there).kept page small clean

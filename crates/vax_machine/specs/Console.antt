@@ -5,7 +5,7 @@ use Rattle.vax_space.specs.Areas.{area_of}
 use Rattle.vax_space.specs.Reference.{page_of}
 use Rattle.vax_outside.specs.Blocks.{BlockFile}
 use Rattle.vax_flat.specs.Memory.{after, byte_at, written_run}
-use Rattle.vax_flat.specs.Parts.{At}
+use Rattle.vax_flat.specs.Parts.{Place, At, machine_at}
 use Rattle.vax_flat.specs.Step.{Flat}
 use Rattle.vax_cpu.specs.declared.cpu.Cpu.{Cpu}
 use Rattle.vax_pager.specs.declared.calls.PageFault.{PageFault}
@@ -33,10 +33,19 @@ unfoldable pub AreShown : List Area → ℕ → List (Option ℕ) → Type 0
 AreShown areas addr [] = Unit {0}
 AreShown areas addr (cell ∷ cells) = (is_some cell ≡ is_some (area_of areas (page_of addr))) × AreShown areas (after addr) cells
 
+-- the bytes of a page are there exactly where an area has it
+abbrev pub IsThereIn : List Area → ℕ → Option (List ℕ) → Type 0
+IsThereIn areas page bytes = is_some bytes ≡ is_some (area_of areas page)
+
 -- the byte at an address, of the bytes of its page
 abbrev pub cell_in : Option (List ℕ) → ℕ → Option ℕ
 cell_in None addr = None
 cell_in (Some bytes) addr = Some (slice_index bytes (addr % 512))
+
+-- these are the bytes of memory of each place for which the machine stands
+abbrev pub ShowsMemory : Engine → Option BlockFile → ℕ → ℕ → List (Option ℕ) → Type 0
+ShowsMemory m file addr count cells =
+    (place : Place) → Means m file place → cells ≡ memory_from (machine_at place).memory addr count
 
 -- no page is pinned, and none is wanted
 abbrev pub let_go : Keeping → Keeping
@@ -67,7 +76,12 @@ cpu_with_register n value cpu = record cpu { core = record cpu.core { regs = sli
 abbrev pub with_register : ℕ → ℕ → Flat → Flat
 with_register n value m = record m { core = record m.core { regs = slice_set m.core.regs n value } }
 
--- so were bytes of its memory
+-- so it was in each flat machine for which the machine stands
+abbrev pub DepositsRegister : ℕ → ℕ → Engine → Engine → Type 0
+DepositsRegister n value old new =
+    (file : Option BlockFile) → (m : Flat) → Means old file (At m) → Means new file (At (with_register n value m))
+
+-- bytes of its memory were changed
 abbrev pub with_bytes : ℕ → List ℕ → Flat → Flat
 with_bytes addr bytes m = record m { memory = written_run m.memory addr bytes }
 

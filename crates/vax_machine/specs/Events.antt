@@ -3,11 +3,12 @@ use Rattle.std.specs.Prelude.{◌≡◌, ◌+◌, ℕ, true, Option, Some, List,
 use Rattle.vax_outside.specs.Blocks.{BlockFile}
 use Rattle.vax_flat.specs.Parts.{Place, GoesBy, touches_at}
 use Rattle.vax_flat.specs.Step.{Flat, run}
-use Rattle.vax_machine.specs.Machine.{Applies, Keeping, Means, keeping}
+use Rattle.vax_machine.specs.Machine.{Applies, Keeping, Means, keeping, residence}
 use Rattle.vax_machine.specs.Paged.{Paged}
 use Rattle.vax_machine.specs.Touched.{PinsTouched, is_touched}
 use Rattle.vax_machine.specs.declared.engine.Engine.{Engine}
 use Rattle.vax_machine.specs.declared.event.Applied.{Applied}
+use Rattle.vax_machine.specs.declared.event.Applied.TheVariants.{Absent}
 use Rattle.vax_machine.specs.declared.event.Event.{Event}
 
 -- these events happen to a machine and what its page file tells, one after the other
@@ -22,6 +23,11 @@ pub record GoesOn (first : ℕ) (start : Flat) (p : Paged) : Type 0 where
   pub steps : p.steps ≡ first + made
   pub goes : GoesBy (run made start) p.place
 
+-- an attempt that misses a page keeps what is resident and pinned, where it touches each page that is pinned
+abbrev pub KeepsPins : Engine → Option BlockFile → Applied → Engine → Type 0
+KeepsPins old before result new =
+    (place : Place) → Means old before place → PinsTouched (residence old) place → (page : ℕ) → result ≡ Absent page → residence new ≡ residence old
+
 -- the attempt that comes touches each page that is pinned, and the one that is wanted
 pub record IsTouching (k : Keeping) (place : Place) : Type 0 where
   pub pins : PinsTouched k.residence place
@@ -34,3 +40,7 @@ pub record FollowsRun (m : Engine) (file : Option BlockFile) (start : Flat) : Ty
   pub means : Means m file place
   pub goes : GoesBy (run m.steps start) place
   pub touching : IsTouching (keeping m) place
+
+-- where the machine with its file followed the run from a start, it does so afterwards
+abbrev pub KeepsRun : Engine → Option BlockFile → Engine → Option BlockFile → Type 0
+KeepsRun old before new after = (start : Flat) → FollowsRun old before start → FollowsRun new after start

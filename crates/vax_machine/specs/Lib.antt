@@ -6,6 +6,7 @@ pub mod Touched
 pub mod Paged
 pub mod Events
 pub mod Blocks
+pub mod Laws
 pub mod Writing
 pub mod Run
 pub mod Turn

@@ -1,5 +1,5 @@
 -- What a machine means, and what each event makes of it.
-use Rattle.std.specs.Prelude.{ℕ, ◌≡◌, ◌+◌, ◌<◌, ◌≤◌, ◌==◌, ◌⊎◌, if◌then◌else◌, Bool, true, false, Option, Some, None, is_some, List, length}
+use Rattle.std.specs.Prelude.{ℕ, ◌≡◌, ◌+◌, ◌-◌, ◌^◌, ◌<◌, ◌≤◌, ◌==◌, ◌⊎◌, if◌then◌else◌, Bool, true, false, Option, Some, None, is_some, List, length}
 use Rattle.vax_space.specs.declared.Area.{Area}
 use Rattle.vax_space.specs.Areas.{area_of}
 use Rattle.vax_outside.specs.Blocks.{BlockFile}
@@ -232,3 +232,12 @@ Spends Evicted old new = Rises 0 old new
 Spends Flushed old new = Rises 0 old new
 Spends Nothing old new = Rises 0 old new
 Spends Failed old new = Rises 0 old new
+
+-- as long as the turns and the evictions of pinned pages haven't been counted up to their last values
+abbrev pub HasSpent : Applied → Keeping → Keeping → Type 0
+HasSpent result old new = old.turns < 2 ^ 64 - 1 → old.residence.spoiled < 2 ^ 64 - 1 → Spends result old new
+
+-- a call of the page file failed
+abbrev pub has_failed : Applied → Bool
+has_failed Failed = true
+has_failed result = false

@@ -2,6 +2,7 @@
 use Rattle.std.specs.Prelude.{ℕ, Option, Some, None, List, []}
 use Rattle.vax_word.specs.declared.Core.{Core}
 use Rattle.vax_space.specs.declared.Area.{Area}
+use Rattle.vax_flat.specs.Start.{start_memory}
 use Rattle.vax_flat.specs.Step.{Flat}
 use Rattle.vax_cpu.specs.declared.cpu.Open.{Open}
 use Rattle.vax_pager.specs.Meaning.{pages}
@@ -22,3 +23,7 @@ units_of (Some latched) = latched.units
 -- the flat machine at the start
 abbrev pub starts_at : Core → List Area → List ℕ → Flat
 starts_at core memory input = record { core = core; memory = memory; input = input; taken = 0; output = []; ending = None }
+
+-- over a space
+abbrev pub flat_start : Core → List Area → List ℕ → Flat
+flat_start core space input = starts_at core (start_memory space) input

@@ -4,11 +4,13 @@ use Rattle.vax_space.specs.declared.Area.{Area}
 use Rattle.vax_outside.specs.Blocks.{BlockFile}
 use Rattle.vax_outside.specs.Channels.{Channels}
 use Rattle.vax_flat.specs.Parts.{Place}
+use Rattle.vax_pager.specs.Meaning.{pages}
 use Rattle.vax_sched.specs.Due.{due}
 use Rattle.vax_sched.specs.declared.rule.Rule.{Rule}
 use Rattle.vax_machine.specs.Blocks.{Moved, MovedFirst, MovedUpTo}
 use Rattle.vax_machine.specs.Machine.{Means, modified_of, residence}
 use Rattle.vax_machine.specs.Paged.{Paged, Why, ByEnding, BySteps, ByTurns, all_evicted, all_named, paged, stops}
+use Rattle.vax_machine.specs.Touched.{PinsTouched}
 use Rattle.vax_machine.specs.Writing.{Origin, Wrote, WrotePart}
 use Rattle.vax_machine.specs.declared.engine.Engine.{Engine}
 use Rattle.vax_machine.specs.declared.event.Limits.{Limits}
@@ -91,3 +93,18 @@ Ends limits areas rules b before Steps m file old new = IsWhole limits areas rul
 Ends limits areas rules b before Turns m file old new = IsWhole limits areas rules b Turns before m file old new
 Ends limits areas rules b before PageFault m file old new = IsCut limits areas rules b before m file old new
 Ends limits areas rules b before WriteFault m file old new = IsLost limits areas rules b before file old new
+
+-- a machine with what its page file and the channels tell
+pub record System : Type 0 where
+  pub machine : Engine
+  pub file : Option BlockFile
+  pub channels : Option Channels
+
+abbrev pub system_of : Engine → Option BlockFile → Option Channels → System
+system_of machine file channels = record { machine = machine; file = file; channels = channels }
+
+-- a run: from whatever place the machine stands for, where the attempt that comes touches each page that is pinned
+abbrev pub RunsTo : RunEnd → Limits → List Rule → System → System → Type 0
+RunsTo result limits rules s t =
+    (place : Place) → Means s.machine s.file place → PinsTouched (residence s.machine) place
+    → Ends limits (pages s.machine.pager).areas rules (begun s.machine place) s.file result t.machine t.file s.channels t.channels

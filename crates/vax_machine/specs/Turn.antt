@@ -12,7 +12,8 @@ use Rattle.vax_machine.specs.Blocks.{Moved, MovedFirst, MovedUpTo}
 use Rattle.vax_machine.specs.Machine.{KeepsPlace, Means, Serves, ServesAs, keeping, residence}
 use Rattle.vax_machine.specs.Paged.{Paged, Why, all_evicted, all_named, attempted, paged, stops}
 use Rattle.vax_machine.specs.Residence.{is_resident}
-use Rattle.vax_machine.specs.Run.{Runs, Tracks, why_of}
+use Rattle.vax_machine.specs.Run.{Runs, System, Tracks, system_of, why_of}
+use Rattle.vax_machine.specs.Touched.{PinsTouched}
 use Rattle.vax_machine.specs.Writing.{Origin, Passed, Sends, WrotePart, held_in, listed_by, output_of}
 use Rattle.vax_machine.specs.declared.engine.Engine.{Engine}
 use Rattle.vax_machine.specs.declared.event.Applied.TheVariants as applied
@@ -202,3 +203,37 @@ pub record Reached (limits : Limits) (o : Origin) (areas : List Area) (rules : L
   pub made : ℕ
   pub goes : Runs limits areas rules o.at made
   pub follows : Follows o (paged areas (due rules) made o.at) m file now left
+
+-- a system within a run, with what is held back
+pub record Underway : Type 0 where
+  pub system : System
+  pub held : Held
+
+abbrev pub underway_of : Engine → Option BlockFile → Option Channels → Held → Underway
+underway_of machine file channels held = record { system = system_of machine file channels; held = held }
+
+-- it is where this paged run is
+abbrev pub IsWithin : Origin → Paged → Underway → Type 0
+IsWithin o p s = Follows o p s.system.machine s.system.file s.system.channels s.held
+
+-- these pages are made absent, in order
+abbrev pub MakesAbsent : Result (Unit {0}) Fault → List ℕ → Underway → Underway → Type 0
+MakesAbsent result absent s t =
+    (o : Origin) → (p : Paged) → IsWithin o p s → EvictedAll result o absent p t.system.machine t.system.file t.system.channels t.held
+
+-- at most so many attempts are made, and the page that the last one missed is served
+abbrev pub MakesAttempts : Result (Unit {0}) Fault → ℕ → Underway → Underway → Type 0
+MakesAttempts result most s t =
+    (o : Origin) → (p : Paged) → IsWithin o p s → PinsTouched p.residence p.place
+    → AttemptsDone result most o p t.system.machine t.system.file t.system.channels t.held
+
+-- turns are made
+abbrev pub MakesTurns : Result (Unit {0}) Fault → Limits → List Rule → Underway → Underway → Type 0
+MakesTurns result limits rules s t =
+    (o : Origin) → (p : Paged) → IsWithin o p s → PinsTouched p.residence p.place
+    → TurnsMade result limits o (pages s.system.machine.pager).areas rules p t.system.machine t.system.file t.system.channels t.held
+
+-- the page that is wanted is served, and the one that made room is listed
+abbrev pub ServesWanted : Result (Unit {0}) Fault → Underway → Underway → Type 0
+ServesWanted result s t =
+    ServesAndLists result s.system.machine s.system.file s.held s.system.channels t.system.machine t.system.file t.held t.system.channels

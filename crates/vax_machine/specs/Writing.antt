@@ -1,10 +1,10 @@
 -- What a run writes: the bytes that the program sends go to Out, and the lines of the evictions to Record, where they are listed.
-use Rattle.std.specs.Prelude.{ℕ, ◌≡◌, ◌≤◌, Bool, false, if◌then◌else◌, Option, Some, None, Result, Ok, Err, List, [], ◌∷◌}
+use Rattle.std.specs.Prelude.{ℕ, ◌≡◌, Bool, true, false, if◌then◌else◌, Option, Some, None, Result, Ok, Err, List, [], ◌∷◌}
 use Rattle.std.specs.List.{flat_map}
 use Rattle.vax_space.specs.declared.Area.{Area}
 use Rattle.vax_outside.specs.Blocks.{BlockFile}
 use Rattle.vax_outside.specs.Channels.{Channels, Grew, GrewByPrefix, append, nothing, only}
-use Rattle.vax_outside.specs.Faults.{Rose}
+use Rattle.vax_outside.specs.Faults.{CountsFailure}
 use Rattle.vax_outside.specs.declared.traits.Chan.TheVariants.{Out, Record}
 use Rattle.vax_flat.specs.Parts.{machine_at}
 use Rattle.vax_sched.specs.Printed.{at_line}
@@ -76,16 +76,22 @@ pub record StillWrites (before after : Held) (old new : Option Channels) : Type 
   pub listed : after.listed ≡ before.listed
   pub only : OnlyWrote before.listed old new
 
--- a count of faults rose
-pub record HasFailed (before now : ℕ) : Type 0 where
-  pub later : before ≤ now
-  pub rose : Rose before now
+-- a call of the page file failed
+abbrev pub is_page_fault : Result (Unit {0}) Fault → Bool
+is_page_fault (Ok x) = false
+is_page_fault (Err Page) = true
+is_page_fault (Err Write) = false
 
--- the counts of faults of the page file and of the sink, before and now: where a call failed its own rose, and the others stay
-abbrev pub Counts : Result (Unit {0}) Fault → ℕ → ℕ → ℕ → ℕ → Type 0
-Counts (Ok x) file_before file_now sink_before sink_now = (file_now ≡ file_before) × (sink_now ≡ sink_before)
-Counts (Err Page) file_before file_now sink_before sink_now = HasFailed file_before file_now × (sink_now ≡ sink_before)
-Counts (Err Write) file_before file_now sink_before sink_now = (file_now ≡ file_before) × HasFailed sink_before sink_now
+-- a write failed
+abbrev pub is_write_fault : Result (Unit {0}) Fault → Bool
+is_write_fault (Ok x) = false
+is_write_fault (Err Page) = false
+is_write_fault (Err Write) = true
+
+-- what turns do to the counts of failures of the page file and of the sink
+pub record Counts (result : Result (Unit {0}) Fault) (file_before file_now sink_before sink_now : ℕ) : Type 0 where
+  pub file : CountsFailure (is_page_fault result) file_before file_now
+  pub sink : CountsFailure (is_write_fault result) sink_before sink_now
 
 -- where a run begins: the paged run, the areas of its memory, what the page file and the channels hold, and whether evictions are listed
 pub record Origin : Type 0 where

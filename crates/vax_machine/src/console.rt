@@ -1,14 +1,14 @@
 //! What a console asks of a machine: bytes shown, and bytes and registers changed.
-ghost use Rattle.std.specs.Prelude.{◌≡◌, ◌≢◌, ℕ, ◌%◌, ◌+◌, ◌<◌, ◌≤◌, ◌^◌, List, Option, None, IfOk, IfSome, OnOk, OnErr, false, is_some, length};
+ghost use Rattle.std.specs.Prelude.{is_err, ◌≡◌, ◌≢◌, ℕ, ◌%◌, ◌+◌, ◌<◌, ◌≤◌, ◌^◌, List, Option, None, IfOk, IfSome, OnOk, OnErr, false, is_some, length};
 ghost use Rattle.vax_space.specs.declared.Area.{Area};
 ghost use Rattle.vax_space.specs.Areas.{area_of};
 ghost use Rattle.vax_space.specs.Reference.{page_of};
 ghost use Rattle.vax_outside.specs.Blocks.{BlockFile};
-ghost use Rattle.vax_outside.specs.Faults.{Rose};
+ghost use Rattle.vax_outside.specs.Faults.{CountsFailure};
 ghost use Rattle.vax_pager.specs.Meaning.{pages};
 ghost use Rattle.vax_pager.specs.Paging.{Keeps, StandsWith};
-ghost use Rattle.vax_pager.specs.Poking.{OnlyRead};
-ghost use Rattle.vax_machine.specs.Console.{AreShown, IsPageOf, cell_in, memory_from};
+ghost use Rattle.vax_pager.specs.Poking.{OnlyRead, WritesBlocks};
+ghost use Rattle.vax_machine.specs.Console.{AreShown, IsPageOf, IsThereIn, cell_in, memory_from};
 
 use crate::engine::Engine;
 use vax_outside::PageFile;
@@ -25,12 +25,14 @@ fn page_at<F: PageFile>(
 ) -> Result<Option<[u8; 512]>, PageFault>
     ensures same { pages pager.new ≡ pages pager.old }
     ensures reads { OnlyRead (F.contents file.old) (F.contents file.new) }
-    ensures keeps { Keeps (pages pager.old) (F.contents file.old) (pages pager.new) (F.contents file.new) }
-    ensures none { (is_other ≡ false → is_some at_hand.now ≡ is_some (area_of (pages pager.old).areas (page_of addr))) → IfOk result (λ r. is_some r ≡ is_some (area_of (pages pager.old).areas (page_of addr))) }
-    ensures bytes { (memory : List Area) → StandsWith (pages pager.old) (F.contents file.old) memory → (is_other ≡ false → IfSome at_hand.now (IsPageOf memory (page_of addr))) → IfOk result (λ r. IfSome r (IsPageOf memory (page_of addr))) }
-    ensures later { F.faults file.old ≤ F.faults file.new }
-    ensures cause { OnErr result (Rose (F.faults file.old) (F.faults file.new)) }
-    ensures quiet { OnOk result (F.faults file.new ≡ F.faults file.old) }
+    ensures keeps { Keeps (pages pager.old) (F.contents file.old) (pages pager.new)
+        (F.contents file.new) }
+    ensures none { (is_other ≡ false → IsThereIn (pages pager.old).areas (page_of addr) at_hand.now)
+        → IfOk result (IsThereIn (pages pager.old).areas (page_of addr)) }
+    ensures bytes { (memory : List Area) → StandsWith (pages pager.old) (F.contents file.old) memory
+        → (is_other ≡ false → IfSome at_hand.now (IsPageOf memory (page_of addr)))
+        → IfOk result (λ r. IfSome r (IsPageOf memory (page_of addr))) }
+    ensures counts { CountsFailure (is_err result) (F.faults file.old) (F.faults file.new) }
 {
     if is_other {
         pager.page(addr / PAGE_BYTES, file)
@@ -56,13 +58,14 @@ fn show<F: PageFile>(
     requires few { length cells.old < 2 ^ 32 }
     ensures same { pages pager.new ≡ pages pager.old }
     ensures reads { OnlyRead (F.contents file.old) (F.contents file.new) }
-    ensures keeps { Keeps (pages pager.old) (F.contents file.old) (pages pager.new) (F.contents file.new) }
+    ensures keeps { Keeps (pages pager.old) (F.contents file.old) (pages pager.new)
+        (F.contents file.new) }
     ensures len { length cells.new ≡ length cells.old }
     ensures none { OnOk result (AreShown (pages pager.old).areas addr cells.new) }
-    ensures bytes { OnOk result ((memory : List Area) → StandsWith (pages pager.old) (F.contents file.old) memory → cells.new ≡ memory_from memory addr (length cells.old)) }
-    ensures later { F.faults file.old ≤ F.faults file.new }
-    ensures cause { OnErr result (Rose (F.faults file.old) (F.faults file.new)) }
-    ensures quiet { OnOk result (F.faults file.new ≡ F.faults file.old) }
+    ensures bytes { OnOk result ((memory : List Area)
+        → StandsWith (pages pager.old) (F.contents file.old) memory
+        → cells.new ≡ memory_from memory addr (length cells.old)) }
+    ensures counts { CountsFailure (is_err result) (F.faults file.old) (F.faults file.new) }
 {
     let mut page = None;
     for place in 0..cells.len() {
@@ -88,7 +91,7 @@ impl Engine {
     ghost use Rattle.vax_flat.specs.Outcome.{is_allowed};
     ghost use Rattle.vax_flat.specs.Parts.{At, Place, machine_at};
     ghost use Rattle.vax_flat.specs.Step.{Flat};
-    ghost use Rattle.vax_machine.specs.Console.{Deposits, cpu_with_register, let_go, with_register};
+    ghost use Rattle.vax_machine.specs.Console.{Deposits, DepositsRegister, ShowsMemory, cpu_with_register, let_go};
     ghost use Rattle.vax_machine.specs.Machine.{IsSound, KeepsPlace, Means, keeping};
 
     /// Fills cells with the bytes of memory from an address on, None where no area has one.
@@ -108,10 +111,9 @@ impl Engine {
         ensures means { KeepsPlace self.old (F.contents file.old) self.new (F.contents file.new) }
         ensures len { length cells.new ≡ length cells.old }
         ensures none { OnOk result (AreShown (keeping self.old).areas addr cells.new) }
-        ensures bytes { OnOk result ((place : Place) → Means self.old (F.contents file.old) place → cells.new ≡ memory_from (machine_at place).memory addr (length cells.old)) }
-        ensures later { F.faults file.old ≤ F.faults file.new }
-        ensures cause { OnErr result (Rose (F.faults file.old) (F.faults file.new)) }
-        ensures quiet { OnOk result (F.faults file.new ≡ F.faults file.old) }
+        ensures bytes { OnOk result
+            (ShowsMemory self.old (F.contents file.old) addr (length cells.old) cells.new) }
+        ensures counts { CountsFailure (is_err result) (F.faults file.old) (F.faults file.new) }
     {
         show(&mut self.pager, addr, cells, file)
     }
@@ -128,12 +130,14 @@ impl Engine {
         requires some { 1 ≤ length bytes.now }
         requires few { length bytes.now ≤ 64 }
         ensures sound { IsSound self.new }
-        ensures answer { IfOk result (λ r. r ≡ is_allowed (violation (keeping self.old).areas addr (length bytes.now) 0 Access.Write)) }
+        ensures answer { IfOk result (λ r. r ≡ is_allowed
+            (violation (keeping self.old).areas addr (length bytes.now) 0 Access.Write)) }
         ensures cpu { self.new.cpu ≡ self.old.cpu }
-        ensures deposits { Deposits result addr bytes.now self.old (F.contents file.old) self.new (F.contents file.new) }
-        ensures later { F.faults file.old ≤ F.faults file.new }
-        ensures cause { OnErr result (Rose (F.faults file.old) (F.faults file.new)) }
-        ensures quiet { OnOk result (F.faults file.new ≡ F.faults file.old) }
+        ensures deposits { Deposits result addr bytes.now self.old (F.contents file.old) self.new
+            (F.contents file.new) }
+        ensures writes { WritesBlocks (keeping self.old).areas (F.contents file.old)
+            (F.contents file.new) }
+        ensures counts { CountsFailure (is_err result) (F.faults file.old) (F.faults file.new) }
     {
         match self.pager.poke(addr, bytes, file) {
             Ok(false) => Ok(false),
@@ -156,7 +160,7 @@ impl Engine {
         ensures sound { IsSound self.new }
         ensures cpu { self.new.cpu ≡ cpu_with_register n value self.old.cpu }
         ensures keeps { keeping self.new ≡ let_go (keeping self.old) }
-        ensures deposits { (file : Option BlockFile) → (m : Flat) → Means self.old file (At m) → Means self.new file (At (with_register n value m)) }
+        ensures deposits { DepositsRegister n value self.old self.new }
     {
         self.pager.settle();
         self.wanted = None;

@@ -1,7 +1,7 @@
 //! A processor over a pager, with what a run counts.
 ghost use Rattle.std.specs.Prelude.{◌≡◌, ◌≢◌, ℕ, ◌+◌, ◌-◌, ◌<◌, ◌≤◌, ◌^◌, Option, None, Some, is_some, true};
 ghost use Rattle.vax_outside.specs.Blocks.{BlockFile};
-ghost use Rattle.vax_outside.specs.Faults.{Rose, raised};
+ghost use Rattle.vax_outside.specs.Faults.{CountsFailure, raised};
 ghost use Rattle.vax_pager.specs.Meaning.{pages};
 ghost use Rattle.vax_machine.specs.Conclusion.{eased_pages, settled_after};
 
@@ -63,7 +63,8 @@ impl Engine {
     ghost use Rattle.vax_machine.specs.Conclusion.{Concludes};
     ghost use Rattle.vax_machine.specs.Batch.{HasTriedSeveral};
     ghost use Rattle.vax_machine.specs.Console.{MayGoOn};
-    ghost use Rattle.vax_machine.specs.Machine.{Applies, IsSound, Means, Moves, Spends, keeping, residence};
+    ghost use Rattle.vax_machine.specs.Machine.{Applies, HasSpent, IsSound, Moves, has_failed, keeping};
+    ghost use Rattle.vax_machine.specs.Events.{KeepsPins};
     ghost use Rattle.vax_machine.specs.declared.event.Event.TheVariants as event;
 
     /// What is so of every machine's memory.
@@ -79,7 +80,8 @@ impl Engine {
     pub(crate) fn attempt(&mut self) -> Applied
         requires sound { IsSound self.old }
         ensures sound { IsSound self.new }
-        ensures applies { (file : Option BlockFile) → Applies event.Attempt self.old file result self.new file }
+        ensures applies { (file : Option BlockFile)
+            → Applies event.Attempt self.old file result self.new file }
     {
         if let Some(ending) = self.ended {
             return Applied::Ended(ending);
@@ -146,12 +148,13 @@ impl Engine {
     pub(crate) fn serve<F: PageFile>(&mut self, file: &mut F) -> Applied
         requires sound { IsSound self.old }
         ensures sound { IsSound self.new }
-        ensures applies { Applies event.Serve self.old (F.contents file.old) result self.new (F.contents file.new) }
-        ensures moves { Moves event.Serve self.old (F.contents file.old) result self.new (F.contents file.new) }
-        ensures inside { (page : ℕ) → result ≡ Applied.Served (Some page) → is_some (area_of (pages self.new.pager).areas page) ≡ true }
-        ensures later { F.faults file.old ≤ F.faults file.new }
-        ensures cause { result ≡ Applied.Failed → Rose (F.faults file.old) (F.faults file.new) }
-        ensures quiet { result ≢ Applied.Failed → F.faults file.new ≡ F.faults file.old }
+        ensures applies { Applies event.Serve self.old (F.contents file.old) result self.new
+            (F.contents file.new) }
+        ensures moves { Moves event.Serve self.old (F.contents file.old) result self.new
+            (F.contents file.new) }
+        ensures inside { (page : ℕ) → result ≡ Applied.Served (Some page)
+            → is_some (area_of (pages self.new.pager).areas page) ≡ true }
+        ensures counts { CountsFailure (has_failed result) (F.faults file.old) (F.faults file.new) }
     {
         match self.wanted {
             None => Applied::Nothing,
@@ -172,12 +175,13 @@ impl Engine {
     pub(crate) fn evict<F: PageFile>(&mut self, page: u32, file: &mut F) -> Applied
         requires sound { IsSound self.old }
         ensures sound { IsSound self.new }
-        ensures applies { Applies (event.Evict page) self.old (F.contents file.old) result self.new (F.contents file.new) }
-        ensures moves { Moves (event.Evict page) self.old (F.contents file.old) result self.new (F.contents file.new) }
-        ensures inside { result ≡ Applied.Evicted → is_some (area_of (pages self.new.pager).areas page) ≡ true }
-        ensures later { F.faults file.old ≤ F.faults file.new }
-        ensures cause { result ≡ Applied.Failed → Rose (F.faults file.old) (F.faults file.new) }
-        ensures quiet { result ≢ Applied.Failed → F.faults file.new ≡ F.faults file.old }
+        ensures applies { Applies (event.Evict page) self.old (F.contents file.old) result self.new
+            (F.contents file.new) }
+        ensures moves { Moves (event.Evict page) self.old (F.contents file.old) result self.new
+            (F.contents file.new) }
+        ensures inside { result ≡ Applied.Evicted
+            → is_some (area_of (pages self.new.pager).areas page) ≡ true }
+        ensures counts { CountsFailure (has_failed result) (F.faults file.old) (F.faults file.new) }
     {
         self.pager.facts();
         if !self.pager.has(page) {
@@ -199,11 +203,11 @@ impl Engine {
     pub(crate) fn flush<F: PageFile>(&mut self, page: u32, file: &mut F) -> Applied
         requires sound { IsSound self.old }
         ensures sound { IsSound self.new }
-        ensures applies { Applies (event.Flush page) self.old (F.contents file.old) result self.new (F.contents file.new) }
-        ensures moves { Moves (event.Flush page) self.old (F.contents file.old) result self.new (F.contents file.new) }
-        ensures later { F.faults file.old ≤ F.faults file.new }
-        ensures cause { result ≡ Applied.Failed → Rose (F.faults file.old) (F.faults file.new) }
-        ensures quiet { result ≢ Applied.Failed → F.faults file.new ≡ F.faults file.old }
+        ensures applies { Applies (event.Flush page) self.old (F.contents file.old) result self.new
+            (F.contents file.new) }
+        ensures moves { Moves (event.Flush page) self.old (F.contents file.old) result self.new
+            (F.contents file.new) }
+        ensures counts { CountsFailure (has_failed result) (F.faults file.old) (F.faults file.new) }
     {
         self.pager.facts();
         if !self.pager.has(page) {
@@ -225,13 +229,13 @@ impl Engine {
     pub(crate) fn apply<F: PageFile>(&mut self, event: Event, file: &mut F) -> Applied
         requires sound { IsSound self.old }
         ensures sound { IsSound self.new }
-        ensures applies { Applies event self.old (F.contents file.old) result self.new (F.contents file.new) }
-        ensures moves { Moves event self.old (F.contents file.old) result self.new (F.contents file.new) }
-        ensures unsettled { (place : Place) → Means self.old (F.contents file.old) place → PinsTouched (residence self.old) place → (page : ℕ) → result ≡ Applied.Absent page → residence self.new ≡ residence self.old }
-        ensures spends { self.old.turns < 2 ^ 64 - 1 → (residence self.old).spoiled < 2 ^ 64 - 1 → Spends result (keeping self.old) (keeping self.new) }
-        ensures later { F.faults file.old ≤ F.faults file.new }
-        ensures cause { result ≡ Applied.Failed → Rose (F.faults file.old) (F.faults file.new) }
-        ensures quiet { result ≢ Applied.Failed → F.faults file.new ≡ F.faults file.old }
+        ensures applies { Applies event self.old (F.contents file.old) result self.new
+            (F.contents file.new) }
+        ensures moves { Moves event self.old (F.contents file.old) result self.new
+            (F.contents file.new) }
+        ensures unsettled { KeepsPins self.old (F.contents file.old) result self.new }
+        ensures spends { HasSpent result (keeping self.old) (keeping self.new) }
+        ensures counts { CountsFailure (has_failed result) (F.faults file.old) (F.faults file.new) }
     {
         self.facts();
         match event {

@@ -34,7 +34,8 @@ fn put<K: Sink>(sink: &mut K, chan: Chan, bytes: &[u8]) -> Result<(), Fault>
 /// Writes bytes to Out where another has no room beside them, and holds none then.
 fn make_space<K: Sink>(bytes: &mut ArrayVec<u8, 512>, sink: &mut K) -> Result<(), Fault>
     ensures space { OnOk result (length bytes.new.items < 512) }
-    ensures passes { Passed result (only Out bytes.old.items) nothing (only Out bytes.new.items) (K.contents sink.old) (K.contents sink.new) }
+    ensures passes { Passed result (only Out bytes.old.items) nothing (only Out bytes.new.items)
+        (K.contents sink.old) (K.contents sink.new) }
     ensures counts { (file : ℕ) → Counts result file file (K.faults sink.old) (K.faults sink.new) }
 {
     if bytes.is_full() {
@@ -47,7 +48,8 @@ fn make_space<K: Sink>(bytes: &mut ArrayVec<u8, 512>, sink: &mut K) -> Result<()
 /// Writes lines to Record where another has no room beside them, and holds none then.
 fn make_room<K: Sink>(lines: &mut Text, sink: &mut K) -> Result<(), Fault>
     ensures room { OnOk result (length lines.new + 33 ≤ 512) }
-    ensures passes { Passed result (only Record lines.old) nothing (only Record lines.new) (K.contents sink.old) (K.contents sink.new) }
+    ensures passes { Passed result (only Record lines.old) nothing (only Record lines.new)
+        (K.contents sink.old) (K.contents sink.new) }
     ensures counts { (file : ℕ) → Counts result file file (K.faults sink.old) (K.faults sink.new) }
 {
     if lines.as_slice().len() > MOST_LINES {
@@ -74,9 +76,11 @@ impl Held {
 
     /// Holds a byte more for Out, if one was sent, and writes those that are held first where there is no room.
     pub fn send<K: Sink>(&mut self, sent: Option<u8>, sink: &mut K) -> Result<(), Fault>
-        ensures passes { Passed result (held_in self.old) (sent_by sent) (held_in self.new) (K.contents sink.old) (K.contents sink.new) }
+        ensures passes { Passed result (held_in self.old) (sent_by sent) (held_in self.new)
+            (K.contents sink.old) (K.contents sink.new) }
         ensures still { StillWrites self.old self.new (K.contents sink.old) (K.contents sink.new) }
-        ensures counts { (file : ℕ) → Counts result file file (K.faults sink.old) (K.faults sink.new) }
+        ensures counts { (file : ℕ)
+            → Counts result file file (K.faults sink.old) (K.faults sink.new) }
     {
         match sent {
             None => Ok(()),
@@ -86,9 +90,11 @@ impl Held {
 
     /// Holds a byte more for Out.
     fn hold<K: Sink>(&mut self, byte: u8, sink: &mut K) -> Result<(), Fault>
-        ensures passes { Passed result (held_in self.old) (sent_by (Some byte)) (held_in self.new) (K.contents sink.old) (K.contents sink.new) }
+        ensures passes { Passed result (held_in self.old) (sent_by (Some byte)) (held_in self.new)
+            (K.contents sink.old) (K.contents sink.new) }
         ensures still { StillWrites self.old self.new (K.contents sink.old) (K.contents sink.new) }
-        ensures counts { (file : ℕ) → Counts result file file (K.faults sink.old) (K.faults sink.new) }
+        ensures counts { (file : ℕ)
+            → Counts result file file (K.faults sink.old) (K.faults sink.new) }
     {
         make_space(&mut self.bytes, sink)?;
         self.bytes.push(byte);
@@ -99,9 +105,12 @@ impl Held {
     /// written first where there is no room.
     pub fn list<K: Sink>(&mut self, turn: u64, page: u32, sink: &mut K) -> Result<(), Fault>
         requires small { page < 2 ^ 23 }
-        ensures passes { Passed result (held_in self.old) (listed_by self.old.listed turn (Some page)) (held_in self.new) (K.contents sink.old) (K.contents sink.new) }
+        ensures passes { Passed result (held_in self.old)
+            (listed_by self.old.listed turn (Some page)) (held_in self.new)
+            (K.contents sink.old) (K.contents sink.new) }
         ensures still { StillWrites self.old self.new (K.contents sink.old) (K.contents sink.new) }
-        ensures counts { (file : ℕ) → Counts result file file (K.faults sink.old) (K.faults sink.new) }
+        ensures counts { (file : ℕ)
+            → Counts result file file (K.faults sink.old) (K.faults sink.new) }
     {
         if self.listed {
             make_room(&mut self.lines, sink)?;
@@ -112,8 +121,10 @@ impl Held {
 
     /// Writes the lines that are held, where evictions are listed.
     fn write_lines<K: Sink>(&self, sink: &mut K) -> Result<(), Fault>
-        ensures puts { Puts result (only Record (if self.now.listed then self.now.lines else [])) (K.contents sink.old) (K.contents sink.new) }
-        ensures counts { (file : ℕ) → Counts result file file (K.faults sink.old) (K.faults sink.new) }
+        ensures puts { Puts result (only Record (if self.now.listed then self.now.lines else []))
+            (K.contents sink.old) (K.contents sink.new) }
+        ensures counts { (file : ℕ)
+            → Counts result file file (K.faults sink.old) (K.faults sink.new) }
     {
         if self.listed {
             put(sink, Chan::Record, self.lines.as_slice())
@@ -126,7 +137,8 @@ impl Held {
     pub fn write<K: Sink>(&self, sink: &mut K) -> Result<(), Fault>
         ensures puts { Puts result (held_in self.now) (K.contents sink.old) (K.contents sink.new) }
         ensures still { StillWrites self.now self.now (K.contents sink.old) (K.contents sink.new) }
-        ensures counts { (file : ℕ) → Counts result file file (K.faults sink.old) (K.faults sink.new) }
+        ensures counts { (file : ℕ)
+            → Counts result file file (K.faults sink.old) (K.faults sink.new) }
     {
         put(sink, Chan::Out, &self.bytes)?;
         self.write_lines(sink)

@@ -1,7 +1,7 @@
 //! The machine as callers have it.
-ghost use Rattle.std.specs.Prelude.{◌≡◌, ◌≢◌, ◌-◌, ◌≤◌, ◌<◌, ◌^◌, ◌⊎◌, ℕ, List, Option, Some, None, IfOk, IfSome, OnErr, OnOk, is_some, true, false, length};
+ghost use Rattle.std.specs.Prelude.{is_err, ◌≡◌, ◌≢◌, ◌-◌, ◌≤◌, ◌<◌, ◌^◌, ◌⊎◌, ℕ, List, Option, Some, None, IfOk, IfSome, OnErr, OnOk, is_some, true, false, length};
 ghost use Rattle.vax_outside.specs.Blocks.{BlockFile};
-ghost use Rattle.vax_outside.specs.Faults.{Rose};
+ghost use Rattle.vax_outside.specs.Faults.{CountsFailure, Rose};
 ghost use Rattle.vax_machine.specs.Machine.{IsSound};
 
 use crate::engine::Engine;
@@ -39,13 +39,14 @@ impl Machine {
     ghost use Rattle.vax_flat.specs.Step.{Flat};
     ghost use Rattle.vax_pager.specs.Calls.{IsByte};
     ghost use Rattle.vax_pager.specs.Listing.{first};
-    ghost use Rattle.vax_pager.specs.Poking.{OnlyRead};
-    ghost use Rattle.vax_machine.specs.Console.{AreShown, Deposits, IsBetween, StopsBetween, cpu_with_register, let_go, memory_from, with_register};
-    ghost use Rattle.vax_machine.specs.Machine.{Applies, KeepsPlace, Means, Moves, Spends, keeping, residence};
-    ghost use Rattle.vax_machine.specs.Meaning.{engine, memory_of, starts_at, units_of};
+    ghost use Rattle.vax_pager.specs.Poking.{OnlyRead, WritesBlocks};
+    ghost use Rattle.vax_machine.specs.Console.{AreShown, Deposits, DepositsRegister, IsBetween, ShowsMemory, StopsBetween, cpu_with_register, let_go};
+    ghost use Rattle.vax_machine.specs.Machine.{Applies, HasSpent, KeepsPlace, Means, Moves, has_failed, keeping, residence};
+    ghost use Rattle.vax_machine.specs.Events.{FollowsRun, KeepsPins, KeepsRun};
+    ghost use Rattle.vax_machine.specs.Meaning.{engine, flat_start, memory_of, units_of};
     ghost use Rattle.vax_machine.specs.Paged.{fresh};
     ghost use Rattle.vax_machine.specs.Residence.{is_resident};
-    ghost use Rattle.vax_machine.specs.Run.{Ends, begun};
+    ghost use Rattle.vax_machine.specs.Run.{RunsTo, begun, system_of};
     ghost use Rattle.vax_machine.specs.Touched.{PinsTouched};
     ghost use Rattle.vax_machine.specs.Writing.{OnlyWrote};
 
@@ -61,8 +62,12 @@ impl Machine {
         requires some { 64 ≤ frames }
         requires few { frames ≤ 32768 }
         requires short { length input.items ≤ 4194304 }
-        ensures start { IfOk result (λ m. (file : BlockFile) → Means (engine m) (Some file) (At (starts_at core (start_memory space) input.items))) }
-        ensures begun { IfOk result (λ m. begun (engine m) (At (starts_at core (start_memory space) input.items)) ≡ fresh frames (starts_at core (start_memory space) input.items)) }
+        ensures start { IfOk result (λ m. (file : BlockFile)
+            → Means (engine m) (Some file) (At (flat_start core space input.items))) }
+        ensures begun { IfOk result (λ m. begun (engine m) (At (flat_start core space input.items))
+            ≡ fresh frames (flat_start core space input.items)) }
+        ensures follows { IfOk result (λ m. (file : BlockFile)
+            → FollowsRun (engine m) (Some file) (flat_start core space input.items)) }
         ensures kept { IfOk result (λ m. (keeping (engine m)).areas ≡ space) }
         ensures between { IfOk result (λ m. IsBetween (engine m)) }
     {
@@ -92,13 +97,14 @@ impl Machine {
     /// calls no file. Attempts less pins less evictions of pinned pages rise by at most 41 where a part is completed, by 1 where a page is missed, and
     /// fall by 1 where it is served.
     pub fn apply<F: PageFile>(&mut self, event: Event, file: &mut F) -> Applied
-        ensures applies { Applies event (engine self.old) (F.contents file.old) result (engine self.new) (F.contents file.new) }
-        ensures moves { Moves event (engine self.old) (F.contents file.old) result (engine self.new) (F.contents file.new) }
-        ensures unsettled { (place : Place) → Means (engine self.old) (F.contents file.old) place → PinsTouched (residence (engine self.old)) place → (page : ℕ) → result ≡ Applied.Absent page → residence (engine self.new) ≡ residence (engine self.old) }
-        ensures spends { (engine self.old).turns < 2 ^ 64 - 1 → (residence (engine self.old)).spoiled < 2 ^ 64 - 1 → Spends result (keeping (engine self.old)) (keeping (engine self.new)) }
-        ensures later { F.faults file.old ≤ F.faults file.new }
-        ensures cause { result ≡ Applied.Failed → Rose (F.faults file.old) (F.faults file.new) }
-        ensures quiet { result ≢ Applied.Failed → F.faults file.new ≡ F.faults file.old }
+        ensures applies { Applies event (engine self.old) (F.contents file.old) result
+            (engine self.new) (F.contents file.new) }
+        ensures moves { Moves event (engine self.old) (F.contents file.old) result (engine self.new)
+            (F.contents file.new) }
+        ensures unsettled { KeepsPins (engine self.old) (F.contents file.old) result
+            (engine self.new) }
+        ensures spends { HasSpent result (keeping (engine self.old)) (keeping (engine self.new)) }
+        ensures counts { CountsFailure (has_failed result) (F.faults file.old) (F.faults file.new) }
     {
         self.engine.apply(event, file)
     }
@@ -118,13 +124,19 @@ impl Machine {
     ) -> RunEnd
         requires few_steps { limits.now.steps < 2 ^ 64 }
         requires few_turns { limits.now.turns < 2 ^ 64 - 2 }
-        ensures ends { (place : Place) → Means (engine self.old) (F.contents file.old) place → PinsTouched (residence (engine self.old)) place → Ends limits.now (keeping (engine self.old)).areas schedule.now (begun (engine self.old) place) (F.contents file.old) result (engine self.new) (F.contents file.new) (K.contents sink.old) (K.contents sink.new) }
-        ensures between { StopsBetween result → IsBetween (engine self.old) → IsBetween (engine self.new) }
+        ensures ends { RunsTo result limits.now schedule.now
+            (system_of (engine self.old) (F.contents file.old) (K.contents sink.old))
+            (system_of (engine self.new) (F.contents file.new) (K.contents sink.new)) }
+        ensures follows { KeepsRun (engine self.old) (F.contents file.old) (engine self.new)
+            (F.contents file.new) }
+        ensures between { StopsBetween result → IsBetween (engine self.old)
+            → IsBetween (engine self.new) }
         ensures later { F.faults file.old ≤ F.faults file.new }
         ensures sunk { K.faults sink.old ≤ K.faults sink.new }
         ensures fault { result ≡ RunEnd.PageFault → Rose (F.faults file.old) (F.faults file.new) }
         ensures cause { result ≡ RunEnd.WriteFault → Rose (K.faults sink.old) (K.faults sink.new) }
-        ensures unfailed { result ≢ RunEnd.PageFault → result ≢ RunEnd.WriteFault → F.faults file.new ≡ F.faults file.old }
+        ensures unfailed { result ≢ RunEnd.PageFault → result ≢ RunEnd.WriteFault
+            → F.faults file.new ≡ F.faults file.old }
         ensures written { result ≢ RunEnd.WriteFault → K.faults sink.new ≡ K.faults sink.old }
         ensures only { OnlyWrote limits.now.listed (K.contents sink.old) (K.contents sink.new) }
     {
@@ -195,17 +207,18 @@ impl Machine {
 
     /// A byte of memory, with no change of what is resident; none exactly where no area has it.
     pub fn peek<F: PageFile>(&mut self, addr: u32, file: &mut F) -> Result<Option<u8>, PageFault>
-        ensures none { IfOk result (λ r. is_some r ≡ is_some (area_of (memory_of self.old).areas (page_of addr))) }
-        ensures byte { IfOk result (λ r. IfSome r (IsByte (memory_of self.old) (F.contents file.old) addr)) }
+        ensures none { IfOk result
+            (λ r. is_some r ≡ is_some (area_of (memory_of self.old).areas (page_of addr))) }
+        ensures byte { IfOk result
+            (λ r. IfSome r (IsByte (memory_of self.old) (F.contents file.old) addr)) }
         ensures cpu { (engine self.new).cpu ≡ (engine self.old).cpu }
         ensures keeps { keeping (engine self.new) ≡ keeping (engine self.old) }
         ensures same { memory_of self.new ≡ memory_of self.old }
         ensures reads { OnlyRead (F.contents file.old) (F.contents file.new) }
-        ensures means { KeepsPlace (engine self.old) (F.contents file.old) (engine self.new) (F.contents file.new) }
+        ensures means { KeepsPlace (engine self.old) (F.contents file.old) (engine self.new)
+            (F.contents file.new) }
         ensures err { OnErr result (F.contents file.new ≡ F.contents file.old) }
-        ensures later { F.faults file.old ≤ F.faults file.new }
-        ensures cause { OnErr result (Rose (F.faults file.old) (F.faults file.new)) }
-        ensures quiet { OnOk result (F.faults file.new ≡ F.faults file.old) }
+        ensures counts { CountsFailure (is_err result) (F.faults file.old) (F.faults file.new) }
     {
         self.engine.pager.peek(addr, file)
     }
@@ -221,15 +234,15 @@ impl Machine {
         requires few { length cells.old < 2 ^ 32 }
         ensures len { length cells.new ≡ length cells.old }
         ensures none { OnOk result (AreShown (keeping (engine self.old)).areas addr cells.new) }
-        ensures bytes { OnOk result ((place : Place) → Means (engine self.old) (F.contents file.old) place → cells.new ≡ memory_from (machine_at place).memory addr (length cells.old)) }
+        ensures bytes { OnOk result
+            (ShowsMemory (engine self.old) (F.contents file.old) addr (length cells.old) cells.new) }
         ensures cpu { (engine self.new).cpu ≡ (engine self.old).cpu }
         ensures keeps { keeping (engine self.new) ≡ keeping (engine self.old) }
         ensures same { memory_of self.new ≡ memory_of self.old }
         ensures reads { OnlyRead (F.contents file.old) (F.contents file.new) }
-        ensures means { KeepsPlace (engine self.old) (F.contents file.old) (engine self.new) (F.contents file.new) }
-        ensures later { F.faults file.old ≤ F.faults file.new }
-        ensures cause { OnErr result (Rose (F.faults file.old) (F.faults file.new)) }
-        ensures quiet { OnOk result (F.faults file.new ≡ F.faults file.old) }
+        ensures means { KeepsPlace (engine self.old) (F.contents file.old) (engine self.new)
+            (F.contents file.new) }
+        ensures counts { CountsFailure (is_err result) (F.faults file.old) (F.faults file.new) }
     {
         self.engine.dump(addr, cells, file)
     }
@@ -254,12 +267,14 @@ impl Machine {
         requires closed { (engine self.old).cpu.latch ≡ None }
         requires some { 1 ≤ length bytes.now }
         requires few { length bytes.now ≤ 64 }
-        ensures answer { IfOk result (λ r. r ≡ is_allowed (violation (keeping (engine self.old)).areas addr (length bytes.now) 0 Access.Write)) }
+        ensures answer { IfOk result (λ r. r ≡ is_allowed
+            (violation (keeping (engine self.old)).areas addr (length bytes.now) 0 Access.Write)) }
         ensures cpu { (engine self.new).cpu ≡ (engine self.old).cpu }
-        ensures deposits { Deposits result addr bytes.now (engine self.old) (F.contents file.old) (engine self.new) (F.contents file.new) }
-        ensures later { F.faults file.old ≤ F.faults file.new }
-        ensures cause { OnErr result (Rose (F.faults file.old) (F.faults file.new)) }
-        ensures quiet { OnOk result (F.faults file.new ≡ F.faults file.old) }
+        ensures deposits { Deposits result addr bytes.now (engine self.old) (F.contents file.old)
+            (engine self.new) (F.contents file.new) }
+        ensures writes { WritesBlocks (keeping (engine self.old)).areas (F.contents file.old)
+            (F.contents file.new) }
+        ensures counts { CountsFailure (is_err result) (F.faults file.old) (F.faults file.new) }
     {
         self.engine.poke(addr, bytes, file)
     }
@@ -270,7 +285,7 @@ impl Machine {
         requires number { n < 16 }
         ensures cpu { (engine self.new).cpu ≡ cpu_with_register n value (engine self.old).cpu }
         ensures keeps { keeping (engine self.new) ≡ let_go (keeping (engine self.old)) }
-        ensures deposits { (file : Option BlockFile) → (m : Flat) → Means (engine self.old) file (At m) → Means (engine self.new) file (At (with_register n value m)) }
+        ensures deposits { DepositsRegister n value (engine self.old) (engine self.new) }
     {
         self.engine.set_reg(n, value);
     }

@@ -14,7 +14,8 @@ use vax_sched::{Schedule, Target};
 
 /// Writes what is held back, and ends so, or by a write fault.
 fn finish<K: Sink>(held: &Held, end: RunEnd, sink: &mut K) -> RunEnd
-    ensures done { Finishes end result (held_in held.now) (K.contents sink.old) (K.contents sink.new) (Rose (K.faults sink.old) (K.faults sink.new)) }
+    ensures done { Finishes end result (held_in held.now) (K.contents sink.old)
+        (K.contents sink.new) (Rose (K.faults sink.old) (K.faults sink.new)) }
     ensures only { OnlyWrote held.now.listed (K.contents sink.old) (K.contents sink.new) }
     ensures later { K.faults sink.old ≤ K.faults sink.new }
     ensures quiet { result ≢ RunEnd.WriteFault → K.faults sink.new ≡ K.faults sink.old }
@@ -34,11 +35,12 @@ impl Engine {
     ghost use Rattle.vax_pager.specs.Meaning.{pages};
     ghost use Rattle.vax_sched.specs.Due.{due};
     ghost use Rattle.vax_machine.specs.Console.{IsBetween, MayGoOn, StopsBetween};
-    ghost use Rattle.vax_machine.specs.Machine.{IsSound, Means, residence};
+    ghost use Rattle.vax_machine.specs.Events.{KeepsRun};
+    ghost use Rattle.vax_machine.specs.Machine.{IsSound};
     ghost use Rattle.vax_machine.specs.Paged.{Paged, all_named, evicted, named, stops};
-    ghost use Rattle.vax_machine.specs.Run.{Ends, Tracks, begun};
+    ghost use Rattle.vax_machine.specs.Run.{RunsTo, Tracks, system_of};
     ghost use Rattle.vax_machine.specs.Touched.{PinsTouched};
-    ghost use Rattle.vax_machine.specs.Turn.{AttemptsDone, EvictedAll, Follows, HasGone, IsStop, ServesAndLists, Still, TurnsMade, why_stopped};
+    ghost use Rattle.vax_machine.specs.Turn.{HasGone, IsStop, MakesAbsent, MakesAttempts, MakesTurns, ServesWanted, Still, underway_of, why_stopped};
     ghost use Rattle.vax_machine.specs.Writing.{Counts, Origin, Passed, StillWrites, listed_by};
 
     /// Lists a page, if one was made absent before the attempt that comes.
@@ -49,10 +51,14 @@ impl Engine {
         sink: &mut K,
     ) -> Result<(), Fault>
         requires turns { self.now.turns < 2 ^ 64 - 1 }
-        requires inside { (page : ℕ) → evicted ≡ Some page → is_some (area_of (pages self.now.pager).areas page) ≡ true }
-        ensures passes { Passed result (held_in held.old) (listed_by held.old.listed (self.now.turns + 1) evicted) (held_in held.new) (K.contents sink.old) (K.contents sink.new) }
+        requires inside { (page : ℕ) → evicted ≡ Some page
+            → is_some (area_of (pages self.now.pager).areas page) ≡ true }
+        ensures passes { Passed result (held_in held.old)
+            (listed_by held.old.listed (self.now.turns + 1) evicted) (held_in held.new)
+            (K.contents sink.old) (K.contents sink.new) }
         ensures writes { StillWrites held.old held.new (K.contents sink.old) (K.contents sink.new) }
-        ensures counts { (file : ℕ) → Counts result file file (K.faults sink.old) (K.faults sink.new) }
+        ensures counts { (file : ℕ)
+            → Counts result file file (K.faults sink.old) (K.faults sink.new) }
     {
         self.facts();
         match evicted {
@@ -72,10 +78,14 @@ impl Engine {
         requires sound { IsSound self.old }
         requires turns { self.old.turns < 2 ^ 64 - 1 }
         ensures sound { IsSound self.new }
-        ensures done { (o : Origin) → (p : Paged) → Follows o p self.old (F.contents file.old) (K.contents sink.old) held.old → EvictedAll result o (page ∷ []) p self.new (F.contents file.new) (K.contents sink.new) held.new }
+        ensures done { MakesAbsent result (page ∷ [])
+            (underway_of self.old (F.contents file.old) (K.contents sink.old) held.old)
+            (underway_of self.new (F.contents file.new) (K.contents sink.new) held.new) }
         ensures still { Still self.old self.new }
+        ensures follows { KeepsRun self.old (F.contents file.old) self.new (F.contents file.new) }
         ensures writes { StillWrites held.old held.new (K.contents sink.old) (K.contents sink.new) }
-        ensures counts { Counts result (F.faults file.old) (F.faults file.new) (K.faults sink.old) (K.faults sink.new) }
+        ensures counts { Counts result (F.faults file.old) (F.faults file.new) (K.faults sink.old)
+            (K.faults sink.new) }
     {
         self.facts();
         match self.evict(page, file) {
@@ -96,10 +106,14 @@ impl Engine {
         requires sound { IsSound self.old }
         requires turns { self.old.turns < 2 ^ 64 - 1 }
         ensures sound { IsSound self.new }
-        ensures done { (o : Origin) → (p : Paged) → Follows o p self.old (F.contents file.old) (K.contents sink.old) held.old → EvictedAll result o pages.now p self.new (F.contents file.new) (K.contents sink.new) held.new }
+        ensures done { MakesAbsent result pages.now
+            (underway_of self.old (F.contents file.old) (K.contents sink.old) held.old)
+            (underway_of self.new (F.contents file.new) (K.contents sink.new) held.new) }
         ensures still { Still self.old self.new }
+        ensures follows { KeepsRun self.old (F.contents file.old) self.new (F.contents file.new) }
         ensures writes { StillWrites held.old held.new (K.contents sink.old) (K.contents sink.new) }
-        ensures counts { Counts result (F.faults file.old) (F.faults file.new) (K.faults sink.old) (K.faults sink.new) }
+        ensures counts { Counts result (F.faults file.old) (F.faults file.new) (K.faults sink.old)
+            (K.faults sink.new) }
     {
         for page in pages {
             self.evict_one(*page, held, file, sink)?;
@@ -111,7 +125,9 @@ impl Engine {
     fn residents(&self, found: &mut [u32]) -> usize
         requires room { length found.old ≡ 32768 }
         ensures few { result ≤ 32768 }
-        ensures pages { take result found.new ≡ filter (λ page. is_listed page (pages self.now.pager).order) (flat_map pages_of (pages self.now.pager).areas) }
+        ensures pages { take result found.new
+            ≡ filter (λ page. is_listed page (pages self.now.pager).order)
+            (flat_map pages_of (pages self.now.pager).areas) }
     {
         self.facts();
         let count = self.pager.residents(found);
@@ -131,10 +147,14 @@ impl Engine {
         requires turns { self.old.turns < 2 ^ 64 - 1 }
         requires room { length found.old ≡ 32768 }
         ensures sound { IsSound self.new }
-        ensures done { (o : Origin) → (p : Paged) → Follows o p self.old (F.contents file.old) (K.contents sink.old) held.old → EvictedAll result o (flat_map pages_of (pages self.old.pager).areas) p self.new (F.contents file.new) (K.contents sink.new) held.new }
+        ensures done { MakesAbsent result (flat_map pages_of (pages self.old.pager).areas)
+            (underway_of self.old (F.contents file.old) (K.contents sink.old) held.old)
+            (underway_of self.new (F.contents file.new) (K.contents sink.new) held.new) }
         ensures still { Still self.old self.new }
+        ensures follows { KeepsRun self.old (F.contents file.old) self.new (F.contents file.new) }
         ensures writes { StillWrites held.old held.new (K.contents sink.old) (K.contents sink.new) }
-        ensures counts { Counts result (F.faults file.old) (F.faults file.new) (K.faults sink.old) (K.faults sink.new) }
+        ensures counts { Counts result (F.faults file.old) (F.faults file.new) (K.faults sink.old)
+            (K.faults sink.new) }
     {
         let count = self.residents(found);
         self.evict_pages(&found[..count], held, file, sink)
@@ -153,10 +173,14 @@ impl Engine {
         requires turns { self.old.turns < 2 ^ 64 - 1 }
         requires room { length found.old ≡ 32768 }
         ensures sound { IsSound self.new }
-        ensures done { (o : Origin) → (p : Paged) → Follows o p self.old (F.contents file.old) (K.contents sink.old) held.old → EvictedAll result o (named (pages self.old.pager).areas target) p self.new (F.contents file.new) (K.contents sink.new) held.new }
+        ensures done { MakesAbsent result (named (pages self.old.pager).areas target)
+            (underway_of self.old (F.contents file.old) (K.contents sink.old) held.old)
+            (underway_of self.new (F.contents file.new) (K.contents sink.new) held.new) }
         ensures still { Still self.old self.new }
+        ensures follows { KeepsRun self.old (F.contents file.old) self.new (F.contents file.new) }
         ensures writes { StillWrites held.old held.new (K.contents sink.old) (K.contents sink.new) }
-        ensures counts { Counts result (F.faults file.old) (F.faults file.new) (K.faults sink.old) (K.faults sink.new) }
+        ensures counts { Counts result (F.faults file.old) (F.faults file.new) (K.faults sink.old)
+            (K.faults sink.new) }
     {
         match target {
             Target::Page(page) => self.evict_one(page, held, file, sink),
@@ -177,10 +201,15 @@ impl Engine {
         requires turns { self.old.turns < 2 ^ 64 - 1 }
         requires room { length found.old ≡ 32768 }
         ensures sound { IsSound self.new }
-        ensures done { (o : Origin) → (p : Paged) → Follows o p self.old (F.contents file.old) (K.contents sink.old) held.old → EvictedAll result o (all_named (pages self.old.pager).areas (due schedule.now (self.old.turns + 1))) p self.new (F.contents file.new) (K.contents sink.new) held.new }
+        ensures done { MakesAbsent result
+            (all_named (pages self.old.pager).areas (due schedule.now (self.old.turns + 1)))
+            (underway_of self.old (F.contents file.old) (K.contents sink.old) held.old)
+            (underway_of self.new (F.contents file.new) (K.contents sink.new) held.new) }
         ensures still { Still self.old self.new }
+        ensures follows { KeepsRun self.old (F.contents file.old) self.new (F.contents file.new) }
         ensures writes { StillWrites held.old held.new (K.contents sink.old) (K.contents sink.new) }
-        ensures counts { Counts result (F.faults file.old) (F.faults file.new) (K.faults sink.old) (K.faults sink.new) }
+        ensures counts { Counts result (F.faults file.old) (F.faults file.new) (K.faults sink.old)
+            (K.faults sink.new) }
     {
         for target in schedule.targets(self.turns + 1) {
             self.evict_target(target, found, held, file, sink)?;
@@ -203,11 +232,15 @@ impl Engine {
         requires steps { self.old.steps + most < 2 ^ 64 }
         requires turns { self.old.turns + most < 2 ^ 64 - 1 }
         ensures sound { IsSound self.new }
-        ensures done { (o : Origin) → (p : Paged) → Follows o p self.old (F.contents file.old) (K.contents sink.old) held.old → PinsTouched p.residence p.place → AttemptsDone result most o p self.new (F.contents file.new) (K.contents sink.new) held.new }
+        ensures done { MakesAttempts result most
+            (underway_of self.old (F.contents file.old) (K.contents sink.old) held.old)
+            (underway_of self.new (F.contents file.new) (K.contents sink.new) held.new) }
         ensures gone { HasGone most self.old self.new }
         ensures goes_on { MayGoOn (self.old.steps + most) self.new }
+        ensures follows { KeepsRun self.old (F.contents file.old) self.new (F.contents file.new) }
         ensures writes { StillWrites held.old held.new (K.contents sink.old) (K.contents sink.new) }
-        ensures counts { Counts result (F.faults file.old) (F.faults file.new) (K.faults sink.old) (K.faults sink.new) }
+        ensures counts { Counts result (F.faults file.old) (F.faults file.new) (K.faults sink.old)
+            (K.faults sink.new) }
     {
         self.facts();
         match self.attempts(most) {
@@ -231,9 +264,13 @@ impl Engine {
         requires wanted { is_some self.old.wanted ≡ true }
         requires turns { self.old.turns < 2 ^ 64 - 1 }
         ensures sound { IsSound self.new }
-        ensures served { ServesAndLists result self.old (F.contents file.old) held.old (K.contents sink.old) self.new (F.contents file.new) held.new (K.contents sink.new) }
+        ensures served { ServesWanted result
+            (underway_of self.old (F.contents file.old) (K.contents sink.old) held.old)
+            (underway_of self.new (F.contents file.new) (K.contents sink.new) held.new) }
+        ensures follows { KeepsRun self.old (F.contents file.old) self.new (F.contents file.new) }
         ensures writes { StillWrites held.old held.new (K.contents sink.old) (K.contents sink.new) }
-        ensures counts { Counts result (F.faults file.old) (F.faults file.new) (K.faults sink.old) (K.faults sink.new) }
+        ensures counts { Counts result (F.faults file.old) (F.faults file.new) (K.faults sink.old)
+            (K.faults sink.new) }
     {
         match self.serve(file) {
             Applied::Failed => Err(Fault::Page),
@@ -275,14 +312,18 @@ impl Engine {
         requires few_turns { limits.now.turns < 2 ^ 64 - 2 }
         requires room { length found.old ≡ 32768 }
         ensures sound { IsSound self.new }
-        ensures done { (o : Origin) → (p : Paged) → Follows o p self.old (F.contents file.old) (K.contents sink.old) held.old → PinsTouched p.residence p.place → TurnsMade result limits.now o (pages self.old.pager).areas schedule.now p self.new (F.contents file.new) (K.contents sink.new) held.new }
+        ensures done { MakesTurns result limits.now schedule.now
+            (underway_of self.old (F.contents file.old) (K.contents sink.old) held.old)
+            (underway_of self.new (F.contents file.new) (K.contents sink.new) held.new) }
         ensures steps { OnOk result (self.new.steps ≤ limits.now.steps) }
         ensures turns { OnOk result (self.new.turns ≤ limits.now.turns) }
         ensures some { OnOk result (self.old.turns < self.new.turns) }
         ensures areas { OnOk result ((pages self.new.pager).areas ≡ (pages self.old.pager).areas) }
         ensures goes_on { OnOk result (MayGoOn limits.now.steps self.new) }
+        ensures follows { KeepsRun self.old (F.contents file.old) self.new (F.contents file.new) }
         ensures writes { StillWrites held.old held.new (K.contents sink.old) (K.contents sink.new) }
-        ensures counts { Counts result (F.faults file.old) (F.faults file.new) (K.faults sink.old) (K.faults sink.new) }
+        ensures counts { Counts result (F.faults file.old) (F.faults file.new) (K.faults sink.old)
+            (K.faults sink.new) }
     {
         self.evict_due(schedule, found, held, file, sink)?;
         let most = self.most_attempts(limits, schedule);
@@ -291,10 +332,13 @@ impl Engine {
 
     /// Why a run stops here, if it does.
     fn stopped(&self, limits: &Limits) -> Option<RunEnd>
-        ensures stops { (file : Option BlockFile) → (p : Paged) → Tracks self.now file p → stops limits.now.steps limits.now.turns p ≡ why_stopped result }
-        ensures none { result ≡ None → (self.now.ended ≡ None) × (self.now.steps < limits.now.steps) × (self.now.turns < limits.now.turns) }
+        ensures stops { (file : Option BlockFile) → (p : Paged) → Tracks self.now file p
+            → stops limits.now.steps limits.now.turns p ≡ why_stopped result }
+        ensures none { result ≡ None → (self.now.ended ≡ None) × (self.now.steps < limits.now.steps)
+            × (self.now.turns < limits.now.turns) }
         ensures whole { IfSome result IsStop }
-        ensures between { MayGoOn limits.now.steps self.now → IfSome result (λ end. StopsBetween end → IsBetween self.now) }
+        ensures between { MayGoOn limits.now.steps self.now
+            → IfSome result (λ end. StopsBetween end → IsBetween self.now) }
     {
         if let Some(ending) = self.ended {
             return Some(RunEnd::Ended(ending));
@@ -326,13 +370,17 @@ impl Engine {
         requires few_turns { limits.now.turns < 2 ^ 64 - 2 }
         requires room { length found.old ≡ 32768 }
         ensures sound { IsSound self.new }
-        ensures ends { (place : Place) → Means self.old (F.contents file.old) place → PinsTouched (residence self.old) place → Ends limits.now (pages self.old.pager).areas schedule.now (begun self.old place) (F.contents file.old) result self.new (F.contents file.new) (K.contents sink.old) (K.contents sink.new) }
+        ensures ends { RunsTo result limits.now schedule.now
+            (system_of self.old (F.contents file.old) (K.contents sink.old))
+            (system_of self.new (F.contents file.new) (K.contents sink.new)) }
+        ensures follows { KeepsRun self.old (F.contents file.old) self.new (F.contents file.new) }
         ensures between { StopsBetween result → IsBetween self.old → IsBetween self.new }
         ensures later { F.faults file.old ≤ F.faults file.new }
         ensures sunk { K.faults sink.old ≤ K.faults sink.new }
         ensures fault { result ≡ RunEnd.PageFault → Rose (F.faults file.old) (F.faults file.new) }
         ensures cause { result ≡ RunEnd.WriteFault → Rose (K.faults sink.old) (K.faults sink.new) }
-        ensures unfailed { result ≢ RunEnd.PageFault → result ≢ RunEnd.WriteFault → F.faults file.new ≡ F.faults file.old }
+        ensures unfailed { result ≢ RunEnd.PageFault → result ≢ RunEnd.WriteFault
+            → F.faults file.new ≡ F.faults file.old }
         ensures written { result ≢ RunEnd.WriteFault → K.faults sink.new ≡ K.faults sink.old }
         ensures only { OnlyWrote limits.now.listed (K.contents sink.old) (K.contents sink.new) }
     {

@@ -1,5 +1,5 @@
 -- What clauses read of a sink in memory.
-use Rattle.std.specs.Prelude.{ℕ, ◌-◌, Bool, ◌||◌, ◌==◌, List, length, min}
+use Rattle.std.specs.Prelude.{ℕ, ◌-◌, Bool, ◌||◌, ◌==◌, List, length, min, slice_index}
 use Rattle.std.specs.List.{list_any}
 use Rattle.vax_outside.specs.Channels.{Channels, bytes_on}
 use Rattle.vax_outside.specs.Fails.{names_write}
@@ -24,6 +24,10 @@ room limits Record = limits.recorded
 
 abbrev pub limits_of : MemSink → Limits
 limits_of m = record { out = m.out.room; report = m.report.room; recorded = m.recorded.room; most = m.most; fails = m.fails.items }
+
+-- of three rooms in the order of the channels
+abbrev pub limits_from : List ℕ → ℕ → List Fail → Limits
+limits_from room most fails = record { out = slice_index room 0; report = slice_index room 1; recorded = slice_index room 2; most = most; fails = fails }
 
 abbrev pub channels_of : MemSink → Channels
 channels_of m = record { out = m.out.bytes.items; report = m.report.bytes.items; recorded = m.recorded.bytes.items }

@@ -2,7 +2,7 @@
 ghost use Rattle.std.specs.Prelude.{◌≡◌, ◌≤◌, IfOk, IsErrOf, Some, false, length};
 ghost use Rattle.std.specs.Option.{option_map};
 ghost use Rattle.vax_outside.specs.Directory.{bytes_of, directory, AnswersRead, is_failed};
-ghost use Rattle.vax_outside.specs.Faults.{raised, Rose};
+ghost use Rattle.vax_outside.specs.Faults.{CountsFailure, raised};
 
 use crate::fails::is_read_named;
 use crate::faults::raised;
@@ -60,9 +60,8 @@ impl Files for MemFiles {
         ensures answer { AnswersRead result (Some (directory_of self.old)) name.now limit }
         ensures bound { IfOk result (λ bytes. length bytes.items ≤ limit) }
         ensures same { directory_of self.new ≡ directory_of self.old }
-        ensures later { faults_of self.old ≤ faults_of self.new }
-        ensures cause { IsErrOf result FilesFault.Failed → Rose (faults_of self.old) (faults_of self.new) }
-        ensures quiet { is_failed result ≡ false → faults_of self.new ≡ faults_of self.old }
+        ensures counts { CountsFailure (is_failed result) (faults_of self.old)
+            (faults_of self.new) }
         ensures failed { is_failed result ≡ next_fails self.old }
         ensures fails { fails_of self.new ≡ fails_of self.old }
         ensures calls { calls_of self.new ≡ raised (calls_of self.old) }

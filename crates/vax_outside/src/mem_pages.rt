@@ -3,7 +3,7 @@ ghost use Rattle.std.specs.Prelude.{◌≡◌, ◌≤◌, ◌==◌, IfOk, OnErr,
 ghost use Rattle.std.specs.FinMap.{get};
 ghost use Rattle.std.specs.Option.{option_map};
 ghost use Rattle.vax_outside.specs.Blocks.{CountsRead, GivesBlock, PutsBlock, zeroed};
-ghost use Rattle.vax_outside.specs.Faults.{Rose};
+ghost use Rattle.vax_outside.specs.Faults.{CountsFailure};
 
 use crate::fails::{is_read_named, is_write_named};
 use crate::faults::raised;
@@ -38,7 +38,8 @@ impl MemPages {
         fails: Vec<Fail>,
     ) -> Result<MemPages, NoMemory>
         ensures file { IfOk result (λ m. file_of m ≡ zeroed blocks) }
-        ensures limits { IfOk result (λ m. limits_of m ≡ record { blocks = blocks; writes = writes; fails = fails.items }) }
+        ensures limits { IfOk result
+            (λ m. limits_of m ≡ record { blocks = blocks; writes = writes; fails = fails.items }) }
         ensures calls { IfOk result (λ m. calls_of m ≡ record { all = 0; reads = 0; writes = 0 }) }
         ensures faults { IfOk result (λ m. faults_of m ≡ 0) }
     {
@@ -102,9 +103,7 @@ impl PageFile for MemPages {
         ensures ok { OnOk result (CountsRead (Some (file_of self.old)) (Some (file_of self.new))) }
         ensures err { OnErr result (Some (file_of self.new) ≡ Some (file_of self.old)) }
         ensures unread { OnErr result (into.new ≡ into.old) }
-        ensures later { faults_of self.old ≤ faults_of self.new }
-        ensures cause { OnErr result (Rose (faults_of self.old) (faults_of self.new)) }
-        ensures quiet { OnOk result (faults_of self.new ≡ faults_of self.old) }
+        ensures counts { CountsFailure (is_err result) (faults_of self.old) (faults_of self.new) }
         ensures failed { is_err result ≡ read_fails self.old n }
         ensures limits { limits_of self.new ≡ limits_of self.old }
         ensures calls { calls_of self.new ≡ read_more (calls_of self.old) }
@@ -122,11 +121,10 @@ impl PageFile for MemPages {
     }
 
     fn write_block(&mut self, n: u32, from: &[u8; 512]) -> Result<(), Failed>
-        ensures ok { OnOk result (PutsBlock n from.now (Some (file_of self.old)) (Some (file_of self.new))) }
+        ensures ok { OnOk result
+            (PutsBlock n from.now (Some (file_of self.old)) (Some (file_of self.new))) }
         ensures err { OnErr result (Some (file_of self.new) ≡ Some (file_of self.old)) }
-        ensures later { faults_of self.old ≤ faults_of self.new }
-        ensures cause { OnErr result (Rose (faults_of self.old) (faults_of self.new)) }
-        ensures quiet { OnOk result (faults_of self.new ≡ faults_of self.old) }
+        ensures counts { CountsFailure (is_err result) (faults_of self.old) (faults_of self.new) }
         ensures failed { is_err result ≡ write_fails self.old n }
         ensures limits { limits_of self.new ≡ limits_of self.old }
         ensures calls { calls_of self.new ≡ write_more (calls_of self.old) }

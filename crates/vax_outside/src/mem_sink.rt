@@ -1,7 +1,7 @@
 //! Output channels in memory.
 ghost use Rattle.std.specs.Prelude.{◌≡◌, ◌-◌, ◌<◌, ◌≤◌, ◌++◌, ℕ, [], length, take, min, is_err, slice_index, vec_capacity, IfOk, OnErr, OnOk, Some};
 ghost use Rattle.vax_outside.specs.Channels.{Grew, bytes_on, nothing, only};
-ghost use Rattle.vax_outside.specs.Faults.{raised, Rose};
+ghost use Rattle.vax_outside.specs.Faults.{CountsFailure, raised};
 
 use crate::fails::is_write_named;
 use crate::faults::raised;
@@ -31,7 +31,8 @@ impl Channel {
 
     /// Appends as many of the bytes as there is room for, at most `most`.
     fn append(&mut self, bytes: &[u8], most: u32) -> usize
-        ensures count { result ≡ min (min most (length bytes.now)) (self.old.room - length self.old.bytes.items) }
+        ensures count { result ≡ min (min most (length bytes.now))
+            (self.old.room - length self.old.bytes.items) }
         ensures bytes { self.new.bytes.items ≡ self.old.bytes.items ++ take result bytes.now }
         ensures room { self.new.room ≡ self.old.room }
     {
@@ -57,7 +58,7 @@ pub struct MemSink {
 }
 
 impl MemSink {
-    ghost use Rattle.vax_outside.specs.MemSink.{channels_of, limits_of, calls_of, faults_of, taken};
+    ghost use Rattle.vax_outside.specs.MemSink.{channels_of, limits_from, limits_of, calls_of, faults_of, taken};
 
     /// Empty channels with room for so many bytes of Out, Report and Record. A write takes at most `most` bytes. It
     /// fails exactly where `fails` names it or its channel's room is used up.
@@ -69,7 +70,7 @@ impl MemSink {
     ) -> Result<MemSink, NoMemory>
         requires { 1 ≤ most }
         ensures empty { IfOk result (λ m. channels_of m ≡ nothing) }
-        ensures limits { IfOk result (λ m. limits_of m ≡ record { out = slice_index room 0; report = slice_index room 1; recorded = slice_index room 2; most = most; fails = fails.items }) }
+        ensures limits { IfOk result (λ m. limits_of m ≡ limits_from room most fails.items) }
         ensures calls { IfOk result (λ m. calls_of m ≡ 0) }
         ensures faults { IfOk result (λ m. faults_of m ≡ 0) }
     {
@@ -100,7 +101,8 @@ impl MemSink {
 
     fn append(&mut self, chan: Chan, bytes: &[u8]) -> usize
         ensures count { result ≡ taken self.old chan (length bytes.now) }
-        ensures bytes { Grew (Some (channels_of self.old)) (Some (channels_of self.new)) (only chan (take result bytes.now)) }
+        ensures bytes { Grew (Some (channels_of self.old)) (Some (channels_of self.new))
+            (only chan (take result bytes.now)) }
         ensures limits { limits_of self.new ≡ limits_of self.old }
         ensures calls { calls_of self.new ≡ calls_of self.old }
         ensures faults { faults_of self.new ≡ faults_of self.old }
@@ -124,11 +126,10 @@ impl Sink for MemSink {
         requires { 0 < length bytes.now }
         ensures some { IfOk result (λ n. 1 ≤ n) }
         ensures bound { IfOk result (λ n. n ≤ length bytes.now) }
-        ensures ok { IfOk result (λ n. Grew (Some (channels_of self.old)) (Some (channels_of self.new)) (only chan (take n bytes.now))) }
+        ensures ok { IfOk result (λ n. Grew (Some (channels_of self.old))
+            (Some (channels_of self.new)) (only chan (take n bytes.now))) }
         ensures err { OnErr result (Some (channels_of self.new) ≡ Some (channels_of self.old)) }
-        ensures later { faults_of self.old ≤ faults_of self.new }
-        ensures cause { OnErr result (Rose (faults_of self.old) (faults_of self.new)) }
-        ensures quiet { OnOk result (faults_of self.new ≡ faults_of self.old) }
+        ensures counts { CountsFailure (is_err result) (faults_of self.old) (faults_of self.new) }
         ensures failed { is_err result ≡ next_fails self.old chan }
         ensures count { IfOk result (λ n. n ≡ taken self.old chan (length bytes.now)) }
         ensures limits { limits_of self.new ≡ limits_of self.old }

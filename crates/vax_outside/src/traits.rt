@@ -1,9 +1,9 @@
 //! The traits of the outside, and what their calls answer.
-ghost use Rattle.std.specs.Prelude.{◌≡◌, ◌<◌, ◌≤◌, ℕ, length, take, IfOk, OnErr, OnOk, IsErrOf, Option, false};
+ghost use Rattle.std.specs.Prelude.{is_err, ◌≡◌, ◌<◌, ◌≤◌, ℕ, length, take, IfOk, OnErr, OnOk, IsErrOf, Option, false};
 ghost use Rattle.vax_outside.specs.Blocks.{BlockFile, GivesBlock, CountsRead, PutsBlock};
 ghost use Rattle.vax_outside.specs.Channels.{Channels, Grew, only};
 ghost use Rattle.vax_outside.specs.Directory.{Directory, AnswersRead, is_failed};
-ghost use Rattle.vax_outside.specs.Faults.{Rose};
+ghost use Rattle.vax_outside.specs.Faults.{CountsFailure};
 
 use std::alloc::Global;
 
@@ -37,9 +37,7 @@ pub trait Files {
         ensures answer { AnswersRead result (contents self.old) name.now limit }
         ensures bound { IfOk result (λ bytes. length bytes.items ≤ limit) }
         ensures same { contents self.new ≡ contents self.old }
-        ensures later { faults self.old ≤ faults self.new }
-        ensures cause { IsErrOf result FilesFault.Failed → Rose (faults self.old) (faults self.new) }
-        ensures quiet { is_failed result ≡ false → faults self.new ≡ faults self.old };
+        ensures counts { CountsFailure (is_failed result) (faults self.old) (faults self.new) };
 }
 
 /// The output channels: the guest's output, the report, and the record of evicted pages.
@@ -64,11 +62,10 @@ pub trait Sink {
         requires { 0 < length bytes.now }
         ensures some { IfOk result (λ n. 1 ≤ n) }
         ensures bound { IfOk result (λ n. n ≤ length bytes.now) }
-        ensures ok { IfOk result (λ n. Grew (contents self.old) (contents self.new) (only chan (take n bytes.now))) }
+        ensures ok { IfOk result
+            (λ n. Grew (contents self.old) (contents self.new) (only chan (take n bytes.now))) }
         ensures err { OnErr result (contents self.new ≡ contents self.old) }
-        ensures later { faults self.old ≤ faults self.new }
-        ensures cause { OnErr result (Rose (faults self.old) (faults self.new)) }
-        ensures quiet { OnOk result (faults self.new ≡ faults self.old) };
+        ensures counts { CountsFailure (is_err result) (faults self.old) (faults self.new) };
 }
 
 /// A file of numbered blocks of 512 bytes.
@@ -86,15 +83,11 @@ pub trait PageFile {
         ensures ok { OnOk result (CountsRead (contents self.old) (contents self.new)) }
         ensures err { OnErr result (contents self.new ≡ contents self.old) }
         ensures unread { OnErr result (into.new ≡ into.old) }
-        ensures later { faults self.old ≤ faults self.new }
-        ensures cause { OnErr result (Rose (faults self.old) (faults self.new)) }
-        ensures quiet { OnOk result (faults self.new ≡ faults self.old) };
+        ensures counts { CountsFailure (is_err result) (faults self.old) (faults self.new) };
 
     /// Writes block `n`, and no other.
     fn write_block(&mut self, n: u32, from: &[u8; 512]) -> Result<(), Failed>
         ensures ok { OnOk result (PutsBlock n from.now (contents self.old) (contents self.new)) }
         ensures err { OnErr result (contents self.new ≡ contents self.old) }
-        ensures later { faults self.old ≤ faults self.new }
-        ensures cause { OnErr result (Rose (faults self.old) (faults self.new)) }
-        ensures quiet { OnOk result (faults self.new ≡ faults self.old) };
+        ensures counts { CountsFailure (is_err result) (faults self.old) (faults self.new) };
 }

@@ -13,4 +13,6 @@ pub mod Writable
 pub mod Apart
 pub mod Turned
 pub mod Pins
+pub mod Marking
 pub mod Poking
+pub mod Poked

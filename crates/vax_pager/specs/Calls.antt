@@ -7,7 +7,7 @@ use Rattle.vax_space.specs.Reference.{page_of}
 use Rattle.vax_flat.specs.Memory.{byte_at}
 use Rattle.vax_outside.specs.Blocks.{BlockFile, after_read, after_write}
 use Rattle.vax_pager.specs.Listing.{AreOnce, is_listed, first, first_outside}
-use Rattle.vax_pager.specs.Paging.{Paging, StandsWith, home}
+use Rattle.vax_pager.specs.Paging.{ComesFrom, Paging, StandsWith, home}
 use Rattle.vax_pager.specs.Steps.{flushed, released, taken_back, brought, forgotten, removed}
 
 unfoldable pub after_flush : ℕ → Paging → Paging
@@ -70,6 +70,14 @@ came Empty page bytes s = brought page bytes s
 came (OfKept old) page bytes s = brought page bytes (forgotten old s)
 came (OfVictim victim) page bytes s = brought page bytes (removed victim (after_flush victim s))
 came Nowhere page bytes s = s
+
+-- the frame that a page came into has the bytes that come from this file, unless its own frame was kept
+abbrev pub FillsFrame : ℕ → Paging → Option BlockFile → Paging → Type 0
+FillsFrame page s file t = is_listed page s.kept ≡ false → ComesFrom s file page (t.frame page)
+
+-- where the service of a page asks nothing of the file: the page has no block, and no modified page makes room
+abbrev pub WhereNoCall : ℕ → Paging → Type 0 → Type 0
+WhereNoCall page s fact = s.blocked page ≡ false → takes_modified (source page s) s ≡ false → fact
 
 -- what this did to the file
 abbrev pub file_after : Source → ℕ → Paging → Option BlockFile → Option BlockFile

@@ -1,12 +1,13 @@
 -- What a pager means, and the memory that it stands for with a page file.
-use Rattle.std.specs.Prelude.{ℕ, ◌≡◌, ◌*◌, ◌-◌, ◌%◌, Bool, true, not, ◌&&◌, ◌||◌, if◌then◌else◌, Option, Some, None, is_some, List, [], ◌++◌, take, drop, replicate, slice_index}
+use Rattle.std.specs.Prelude.{ℕ, ◌≡◌, ◌*◌, ◌-◌, ◌%◌, Bool, true, not, ◌&&◌, ◌||◌, if◌then◌else◌, Option, Some, None, is_some, Result, List, [], ◌++◌, take, drop, replicate, slice_index}
 use Rattle.std.specs.Option.{option_map}
 use Rattle.std.specs.FinMap.{get}
 use Rattle.vax_space.specs.declared.Area.{Area}
 use Rattle.vax_space.specs.Areas.{area_of, block_of}
 use Rattle.vax_space.specs.Reference.{page_of}
-use Rattle.vax_flat.specs.Memory.{byte_at, IsWhole}
-use Rattle.vax_flat.specs.Port.{View, layout}
+use Rattle.vax_flat.specs.declared.Stop.{Stop}
+use Rattle.vax_flat.specs.Memory.{byte_at, number, IsWhole}
+use Rattle.vax_flat.specs.Port.{View, first_absent, layout, loaded_by, stop_of, unless_cut, with_number}
 use Rattle.vax_outside.specs.Blocks.{BlockFile}
 use Rattle.vax_pager.specs.Listing.{is_listed}
 
@@ -49,6 +50,14 @@ view_of s = record {
   byte = λ addr. slice_index (s.frame (page_of addr)) (addr % 512);
   marked = λ page. is_listed page s.modified;
 }
+
+-- what a read answers of a range that may be read
+abbrev pub loaded_allowed : View → ℕ → ℕ → Result ℕ Stop
+loaded_allowed view addr n = loaded_by (stop_of None (first_absent view.resident addr n)) (number view.byte addr n)
+
+-- what a write leaves of a range that may be written
+abbrev pub stored_allowed : View → ℕ → ℕ → ℕ → View
+stored_allowed view addr n value = unless_cut (stop_of None (first_absent view.resident addr n)) view (with_number view addr n value)
 
 -- the bytes of a block that the file has
 abbrev pub block_in : BlockFile → Option ℕ → Option (List ℕ)

@@ -1,7 +1,8 @@
 -- What bytes that are written from outside make of a pager.
-use Rattle.std.specs.Prelude.{ℕ, ◌≡◌, ◌+◌, ◌*◌, ◌<◌, ◌≤◌, ◌||◌, Bool, true, false, Option, Result, Ok, Err, List, [], ◌∷◌, ◌++◌, length, slice_index}
+use Rattle.std.specs.Prelude.{ℕ, ◌≡◌, ◌+◌, ◌*◌, ◌<◌, ◌≤◌, ◌||◌, Bool, true, false, Option, Some, Result, Ok, Err, List, [], ◌∷◌, ◌++◌, length, slice_index}
 use Rattle.std.specs.Option.{option_map}
 use Rattle.vax_space.specs.declared.Area.{Area}
+use Rattle.vax_space.specs.Areas.{block_of}
 use Rattle.vax_space.specs.Reference.{page_of}
 use Rattle.vax_outside.specs.Blocks.{BlockFile}
 use Rattle.vax_flat.specs.Memory.{byte_at, written_run}
@@ -45,18 +46,45 @@ pub record WritesThere (s : Paging) (addr : ℕ) (bytes : List ℕ) (t : Paging)
   pub only : OnlyWritten s t
   pub marked : (page : ℕ) → is_listed page t.modified ≡ (is_listed page s.modified || is_in addr (length bytes) page)
 
--- the bytes are those of the memory, their pages are modified, and no page is pinned
+-- the block of a page of the space
+abbrev pub IsBlock : List Area → ℕ → Type 0
+IsBlock areas block = (page : ℕ) × (block_of areas page ≡ Some block)
+
+abbrev pub AreBlocks : List Area → List (ℕ × List ℕ) → Type 0
+AreBlocks areas [] = Unit {0}
+AreBlocks areas (w ∷ ws) = IsBlock areas w.0 × AreBlocks areas ws
+
+-- blocks of the space's pages were written, and no others
+pub record HasWritten (areas : List Area) (before after : BlockFile) : Type 0 where
+  pub made : List (ℕ × List ℕ)
+  pub is : after.writes ≡ before.writes ++ made
+  pub blocks : AreBlocks areas made
+
+-- where the file tells its writes
+abbrev pub WritesBlocks : List Area → Option BlockFile → Option BlockFile → Type 0
+WritesBlocks areas before after = (f : BlockFile) → before ≡ Some f → (g : BlockFile) × (after ≡ Some g) × HasWritten areas f g
+
+-- no page is modified that wasn't, and no block is written but those of the space's pages
+pub record MarksNone (s : Paging) (file : Option BlockFile) (t : Paging) (after : Option BlockFile) : Type 0 where
+  pub marked : (page : ℕ) → is_listed page t.modified ≡ true → is_listed page s.modified ≡ true
+  pub areas : t.areas ≡ s.areas
+  pub writes : WritesBlocks s.areas file after
+
+-- the bytes are those of the memory; their pages are modified, and no others that weren't; and no page is pinned
 pub record HasPoked (addr : ℕ) (bytes : List ℕ) (s : Paging) (file : Option BlockFile) (t : Paging) (after : Option BlockFile) : Type 0 where
   pub alike : StaysAlike s t
   pub unpinned : t.pinned ≡ []
   pub stands : (memory : List Area) → StandsWith s file memory → StandsWith t after (written_run memory addr bytes)
   pub marked : (page : ℕ) → is_in addr (length bytes) page ≡ true → is_listed page t.modified ≡ true
+  pub only : (page : ℕ) → is_listed page t.modified ≡ true → (is_listed page s.modified || is_in addr (length bytes) page) ≡ true
+  pub writes : WritesBlocks s.areas file after
 
--- every byte is as it was, and no page is pinned
+-- every byte is as it was, no page is modified that wasn't, and no page is pinned
 pub record HasFailed (s : Paging) (file : Option BlockFile) (t : Paging) (after : Option BlockFile) : Type 0 where
   pub alike : StaysAlike s t
   pub unpinned : t.pinned ≡ []
   pub keeps : Keeps s file t after
+  pub marks : MarksNone s file t after
 
 -- what writing these bytes comes to, where it isn't refused
 abbrev pub Pokes : Result Bool PageFault → ℕ → List ℕ → Paging → Option BlockFile → Paging → Option BlockFile → Type 0

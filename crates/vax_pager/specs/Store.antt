@@ -1,6 +1,8 @@
 -- The parts of a pager, and what they mean.
-use Rattle.std.specs.Prelude.{ℕ, ◌≡◌, ◌≢◌, ◌+◌, ◌<◌, ◌≤◌, Bool, true, false, if◌then◌else◌, Option, Some, None, is_some, List, [], ◌++◌, take, drop, ◌-◌, slice_index, slice_index_or, length}
+use Rattle.std.specs.Prelude.{ℕ, ◌≡◌, ◌≢◌, ◌+◌, ◌<◌, ◌≤◌, Bool, true, false, if◌then◌else◌, Option, Some, None, is_some, List, [], ◌++◌, take, drop, ◌-◌, ◌%◌, slice_index, slice_index_or, length}
 use Rattle.vax_space.specs.Areas.{block_of, prot_of}
+use Rattle.vax_space.specs.Reference.{page_of}
+use Rattle.vax_outside.specs.Faults.{raised}
 use Rattle.vax_table.specs.declared.Walk.{Walk}
 use Rattle.vax_table.specs.Mapping.{frame_of, is_inside, is_resident, prot_said}
 use Rattle.vax_table.specs.Tables.{walked, kept}
@@ -10,6 +12,7 @@ use Rattle.vax_lists.specs.Lines.{frame_in, pages_of}
 use Rattle.vax_pager.specs.declared.store.Store.{Store}
 use Rattle.vax_pager.specs.Marks.{has_mark}
 use Rattle.vax_pager.specs.Paging.{Paging}
+use Rattle.vax_pager.specs.Steps.{filled}
 use Rattle.vax_pager.specs.Frames.{held_by, dirty_frame}
 
 -- the frame that has a page
@@ -68,6 +71,15 @@ IsFine s page =
 -- the bytes of a list of which a part was overwritten
 abbrev pub overwritten : ℕ → List ℕ → List ℕ → List ℕ
 overwritten place xs old = take place old ++ (xs ++ drop (length xs) (drop place old))
+
+-- a page has these bytes from an address on
+abbrev pub with_bytes : ℕ → List ℕ → Paging → Paging
+with_bytes addr xs s = filled (page_of addr) (overwritten (addr % 512) xs (s.frame (page_of addr))) s
+
+-- a range within a page whose entry was in the buffer counts as a hit
+abbrev pub CountsHit : ℕ → ℕ → Store → Store → Type 0
+CountsHit addr n old new =
+    addr % 512 + n ≤ 512 → is_some (buffered old.buffer (page_of addr)) ≡ true → new.buffer.hits ≡ raised old.buffer.hits
 
 -- all of it, with so many frames that no page has
 pub record IsSound (spare : ℕ) (s : Store) : Type 0 where

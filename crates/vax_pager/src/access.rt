@@ -31,13 +31,13 @@ impl Store {
     ghost use Rattle.vax_tb.specs.Buffer.{raised_if};
     ghost use Rattle.vax_outside.specs.Faults.{raised};
     ghost use Rattle.vax_flat.specs.Memory.{bytes_from, number};
-    ghost use Rattle.vax_flat.specs.Port.{AreBytes, first_absent, loaded, loaded_by, stop, stop_of, stored, stored_run, unless_cut, with_number, with_run};
+    ghost use Rattle.vax_flat.specs.Port.{AreBytes, loaded, stop, stored, stored_run};
     ghost use Rattle.vax_undo.specs.Answers.{err_of, replaced};
     ghost use Rattle.vax_undo.specs.Blocks.{low_bytes};
     ghost use Rattle.vax_pager.specs.Listing.{is_listed};
-    ghost use Rattle.vax_pager.specs.Paging.{view_of};
-    ghost use Rattle.vax_pager.specs.Steps.{OnlyWritten, filled, touched, touched_page};
-    ghost use Rattle.vax_pager.specs.Store.{IsSound, held, overwritten, paging};
+    ghost use Rattle.vax_pager.specs.Paging.{loaded_allowed, stored_allowed, view_of};
+    ghost use Rattle.vax_pager.specs.Steps.{OnlyWritten, touched, touched_page};
+    ghost use Rattle.vax_pager.specs.Store.{CountsHit, IsSound, held, paging, with_bytes};
 
     /// The frame of a page, where it is resident. Its entry is in the buffer afterwards.
     #[inline]
@@ -49,7 +49,8 @@ impl Store {
         ensures held { IfSome result (λ frame. held self.new page ≡ Some frame) }
         ensures frames { held self.new ≡ held self.old }
         ensures entry { is_some (buffered self.new.buffer page) ≡ true }
-        ensures hits { self.new.buffer.hits ≡ raised_if (is_some (buffered self.old.buffer page)) self.old.buffer.hits }
+        ensures hits { self.new.buffer.hits
+            ≡ raised_if (is_some (buffered self.old.buffer page)) self.old.buffer.hits }
     {
         frame_of(self.buffer.walk(page, &self.tables))
     }
@@ -63,11 +64,15 @@ impl Store {
         ensures paging { paging self.new ≡ paging self.old }
         ensures held { IfSome result (λ frame. held self.new (page_of addr) ≡ Some frame) }
         ensures one_page { is_some result ≡ true → addr % 512 + n ≤ 512 }
-        ensures free { is_some result ≡ true → stop (view_of (paging self.old)) addr n mode access ≡ None }
-        ensures marked { is_some result ≡ true → access ≡ Access.Write → is_listed (page_of addr) (paging self.old).modified ≡ true }
-        ensures resident { is_some result ≡ true → is_listed (page_of addr) (paging self.old).order ≡ true }
+        ensures free { is_some result ≡ true
+            → stop (view_of (paging self.old)) addr n mode access ≡ None }
+        ensures marked { is_some result ≡ true → access ≡ Access.Write
+            → is_listed (page_of addr) (paging self.old).modified ≡ true }
+        ensures resident { is_some result ≡ true
+            → is_listed (page_of addr) (paging self.old).order ≡ true }
         ensures entries { buffered self.new.buffer ≡ buffered self.old.buffer }
-        ensures entry { is_some result ≡ true → is_some (buffered self.old.buffer (page_of addr)) ≡ true }
+        ensures entry { is_some result ≡ true
+            → is_some (buffered self.old.buffer (page_of addr)) ≡ true }
         ensures hits { self.new.buffer.hits ≡ raised_if (is_some result) self.old.buffer.hits }
     {
         if n > PAGE_BYTES - addr % PAGE_BYTES {
@@ -116,7 +121,7 @@ impl Store {
         requires one_page { addr % 512 + n ≤ 512 }
         requires held { held self.old (page_of addr) ≡ Some frame }
         ensures sound { IsSound 0 self.new }
-        ensures paging { paging self.new ≡ filled (page_of addr) (overwritten (addr % 512) (low_bytes n value) ((paging self.old).frame (page_of addr))) (paging self.old) }
+        ensures paging { paging self.new ≡ with_bytes addr (low_bytes n value) (paging self.old) }
         ensures held { held self.new ≡ held self.old }
     {
         let place = (addr % PAGE_BYTES) as usize;
@@ -132,7 +137,7 @@ impl Store {
         requires one_page { addr % 512 + length from.now ≤ 512 }
         requires held { held self.old (page_of addr) ≡ Some frame }
         ensures sound { IsSound 0 self.new }
-        ensures paging { paging self.new ≡ filled (page_of addr) (overwritten (addr % 512) from.now ((paging self.old).frame (page_of addr))) (paging self.old) }
+        ensures paging { paging self.new ≡ with_bytes addr from.now (paging self.old) }
         ensures held { held self.new ≡ held self.old }
     {
         let place = (addr % PAGE_BYTES) as usize;
@@ -165,8 +170,9 @@ impl Store {
         ensures sound { IsSound 0 self.new }
         ensures paging { paging self.new ≡ paging self.old }
         ensures answer { result ≡ loaded (view_of (paging self.old)) addr n mode }
-        ensures entry { OnOk result (addr % 512 + n ≤ 512 → is_some (buffered self.new.buffer (page_of addr)) ≡ true) }
-        ensures hits { OnOk result (addr % 512 + n ≤ 512 → is_some (buffered self.old.buffer (page_of addr)) ≡ true → self.new.buffer.hits ≡ raised self.old.buffer.hits) }
+        ensures entry { OnOk result (addr % 512 + n ≤ 512
+            → is_some (buffered self.new.buffer (page_of addr)) ≡ true) }
+        ensures hits { OnOk result (CountsHit addr n self.old self.new) }
         ensures bytes { AreBytes (view_of (paging self.old)).byte }
     {
         if let Some(frame) = self.frame_at_once(addr, n, mode, Access::Read) {
@@ -185,8 +191,9 @@ impl Store {
         ensures sound { IsSound 0 self.new }
         ensures paging { paging self.new ≡ paging self.old }
         ensures answer { result ≡ loaded (view_of (paging self.old)) addr n mode }
-        ensures entry { OnOk result (addr % 512 + n ≤ 512 → is_some (buffered self.new.buffer (page_of addr)) ≡ true) }
-        ensures hits { OnOk result (addr % 512 + n ≤ 512 → is_some (buffered self.old.buffer (page_of addr)) ≡ true → self.new.buffer.hits ≡ raised self.old.buffer.hits) }
+        ensures entry { OnOk result (addr % 512 + n ≤ 512
+            → is_some (buffered self.new.buffer (page_of addr)) ≡ true) }
+        ensures hits { OnOk result (CountsHit addr n self.old self.new) }
     {
         if let Err(violation) = self.check(addr, n, mode, Access::Read) {
             return Err(Stop::Violated(violation));
@@ -207,7 +214,7 @@ impl Store {
         requires apart { 512 < addr % 512 + n }
         ensures sound { IsSound 0 self.new }
         ensures paging { paging self.new ≡ paging self.old }
-        ensures answer { result ≡ loaded_by (stop_of None (first_absent (view_of (paging self.old)).resident addr n)) (number (view_of (paging self.old)).byte addr n) }
+        ensures answer { result ≡ loaded_allowed (view_of (paging self.old)) addr n }
     {
         let first = PAGE_BYTES - addr % PAGE_BYTES;
         let next = addr.wrapping_add(first);
@@ -257,8 +264,10 @@ impl Store {
         requires of_mode { mode ≤ 3 }
         ensures sound { IsSound 0 self.new }
         ensures paging { paging self.new ≡ paging self.old }
-        ensures answer { err_of result ≡ stop (view_of (paging self.old)) addr (length into.old) mode Access.Read }
-        ensures bytes { OnOk result (into.new ≡ bytes_from (view_of (paging self.old)).byte addr (length into.old)) }
+        ensures answer { err_of result
+            ≡ stop (view_of (paging self.old)) addr (length into.old) mode Access.Read }
+        ensures bytes { OnOk result
+            (into.new ≡ bytes_from (view_of (paging self.old)).byte addr (length into.old)) }
         ensures unread { OnErr result (into.new ≡ into.old) }
     {
         let len = into.len() as u32;
@@ -285,8 +294,10 @@ impl Store {
         ensures sound { IsSound 0 self.new }
         ensures answer { result ≡ replaced (view_of (paging self.old)) addr n mode }
         ensures bytes { AreBytes (view_of (paging self.old)).byte }
-        ensures stored { view_of (paging self.new) ≡ stored (view_of (paging self.old)) addr n value mode }
-        ensures listed { OnOk result ((paging self.new).modified ≡ touched (paging self.old).modified addr n) }
+        ensures stored { view_of (paging self.new)
+            ≡ stored (view_of (paging self.old)) addr n value mode }
+        ensures listed { OnOk result
+            ((paging self.new).modified ≡ touched (paging self.old).modified addr n) }
         ensures unpaged { OnErr result (paging self.new ≡ paging self.old) }
         ensures only { OnlyWritten (paging self.old) (paging self.new) }
     {
@@ -307,8 +318,10 @@ impl Store {
         requires of_mode { mode ≤ 3 }
         ensures sound { IsSound 0 self.new }
         ensures answer { result ≡ replaced (view_of (paging self.old)) addr n mode }
-        ensures stored { view_of (paging self.new) ≡ stored (view_of (paging self.old)) addr n value mode }
-        ensures listed { OnOk result ((paging self.new).modified ≡ touched (paging self.old).modified addr n) }
+        ensures stored { view_of (paging self.new)
+            ≡ stored (view_of (paging self.old)) addr n value mode }
+        ensures listed { OnOk result
+            ((paging self.new).modified ≡ touched (paging self.old).modified addr n) }
         ensures unpaged { OnErr result (paging self.new ≡ paging self.old) }
         ensures only { OnlyWritten (paging self.old) (paging self.new) }
     {
@@ -335,11 +348,14 @@ impl Store {
         requires few { n ≤ 8 }
         requires apart { 512 < addr % 512 + n }
         requires low { is_some (block_of (paging self.old).areas (page_of addr)) ≡ true }
-        requires high { is_some (block_of (paging self.old).areas (page_of (byte_after addr (512 - addr % 512)))) ≡ true }
+        requires high { is_some (block_of (paging self.old).areas
+            (page_of (byte_after addr (512 - addr % 512)))) ≡ true }
         ensures sound { IsSound 0 self.new }
-        ensures answer { result ≡ loaded_by (stop_of None (first_absent (view_of (paging self.old)).resident addr n)) (number (view_of (paging self.old)).byte addr n) }
-        ensures stored { view_of (paging self.new) ≡ unless_cut (stop_of None (first_absent (view_of (paging self.old)).resident addr n)) (view_of (paging self.old)) (with_number (view_of (paging self.old)) addr n value) }
-        ensures listed { OnOk result ((paging self.new).modified ≡ touched (paging self.old).modified addr n) }
+        ensures answer { result ≡ loaded_allowed (view_of (paging self.old)) addr n }
+        ensures stored { view_of (paging self.new)
+            ≡ stored_allowed (view_of (paging self.old)) addr n value }
+        ensures listed { OnOk result
+            ((paging self.new).modified ≡ touched (paging self.old).modified addr n) }
         ensures unpaged { OnErr result (paging self.new ≡ paging self.old) }
         ensures only { OnlyWritten (paging self.old) (paging self.new) }
     {
@@ -367,9 +383,12 @@ impl Store {
         requires one_page { addr % 512 + length from.now ≤ 512 }
         requires of_mode { mode ≤ 3 }
         ensures sound { IsSound 0 self.new }
-        ensures answer { err_of result ≡ stop (view_of (paging self.old)) addr (length from.now) mode Access.Write }
-        ensures stored { view_of (paging self.new) ≡ stored_run (view_of (paging self.old)) addr from.now mode }
-        ensures listed { OnOk result ((paging self.new).modified ≡ touched (paging self.old).modified addr (length from.now)) }
+        ensures answer { err_of result
+            ≡ stop (view_of (paging self.old)) addr (length from.now) mode Access.Write }
+        ensures stored { view_of (paging self.new)
+            ≡ stored_run (view_of (paging self.old)) addr from.now mode }
+        ensures listed { OnOk result ((paging self.new).modified
+            ≡ touched (paging self.old).modified addr (length from.now)) }
         ensures unpaged { OnErr result (paging self.new ≡ paging self.old) }
         ensures only { OnlyWritten (paging self.old) (paging self.new) }
     {

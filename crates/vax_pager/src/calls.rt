@@ -1,7 +1,7 @@
 //! The calls of a pager on a page file.
-ghost use Rattle.std.specs.Prelude.{◌≡◌, ◌+◌, ◌<◌, ◌≤◌, ◌/◌, ◌⊎◌, ◌%◌, ◌++◌, ◌∷◌, [], true, false, length, slice_index, slice_index_or, is_some, IfOk, OnOk, OnErr, Some, None, IfSome};
+ghost use Rattle.std.specs.Prelude.{is_err, ◌≡◌, ◌+◌, ◌<◌, ◌≤◌, ◌/◌, ◌⊎◌, ◌%◌, ◌++◌, ◌∷◌, [], true, false, length, slice_index, slice_index_or, is_some, IfOk, OnOk, OnErr, Some, None, IfSome};
 ghost use Rattle.std.specs.Option.{option_map};
-ghost use Rattle.vax_outside.specs.Faults.{Rose};
+ghost use Rattle.vax_outside.specs.Faults.{CountsFailure};
 
 use crate::store::Store;
 use vax_lists::Placed;
@@ -20,7 +20,7 @@ impl Store {
     ghost use Rattle.vax_pager.specs.Paging.{ComesFrom, Keeps};
     ghost use Rattle.vax_pager.specs.Poking.{OnlyRead};
     ghost use Rattle.vax_pager.specs.Steps.{brought, forgotten, removed};
-    ghost use Rattle.vax_pager.specs.Calls.{OfVictim, after_flush, wrote_back, after_evict, read_for, source, victim_of, came, file_after, takes_modified, IsByte, IsLeft, PeekedFrom};
+    ghost use Rattle.vax_pager.specs.Calls.{FillsFrame, OfVictim, WhereNoCall, after_flush, wrote_back, after_evict, read_for, source, victim_of, came, file_after, IsByte, IsLeft, PeekedFrom};
     ghost use Rattle.vax_pager.specs.Store.{IsSound, paging};
 
     /// Writes a resident modified page to its block.
@@ -30,15 +30,16 @@ impl Store {
         ensures sound { IsSound 0 self.new }
         ensures answer { IfOk result (λ r. r ≡ is_listed page (paging self.old).modified) }
         ensures ok { OnOk result (paging self.new ≡ after_flush page (paging self.old)) }
-        ensures wrote { OnOk result (F.contents file.new ≡ wrote_back page (paging self.old) (F.contents file.old)) }
-        ensures untouched { is_listed page (paging self.old).modified ≡ false → file.new ≡ file.old }
+        ensures wrote { OnOk result
+            (F.contents file.new ≡ wrote_back page (paging self.old) (F.contents file.old)) }
+        ensures untouched { is_listed page (paging self.old).modified ≡ false
+            → file.new ≡ file.old }
         ensures err { OnErr result (paging self.new ≡ paging self.old) }
         ensures unwritten { OnErr result (F.contents file.new ≡ F.contents file.old) }
         ensures needed { OnErr result (is_listed page (paging self.old).modified ≡ true) }
-        ensures later { F.faults file.old ≤ F.faults file.new }
-        ensures cause { OnErr result (Rose (F.faults file.old) (F.faults file.new)) }
-        ensures quiet { OnOk result (F.faults file.new ≡ F.faults file.old) }
-        ensures keeps { Keeps (paging self.old) (F.contents file.old) (paging self.new) (F.contents file.new) }
+        ensures counts { CountsFailure (is_err result) (F.faults file.old) (F.faults file.new) }
+        ensures keeps { Keeps (paging self.old) (F.contents file.old) (paging self.new)
+            (F.contents file.new) }
     {
         match self.modified_frame(page) {
             None => Ok(false),
@@ -71,13 +72,13 @@ impl Store {
     pub(crate) fn fetch<F: PageFile>(&self, page: u32, file: &mut F) -> Result<[u8; 512], PageFault>
         requires sound { IsSound 0 self.now }
         requires within { is_some (area_of (paging self.now).areas page) ≡ true }
-        ensures bytes { IfOk result (λ x. ComesFrom (paging self.now) (F.contents file.old) page x) }
-        ensures read { OnOk result (F.contents file.new ≡ read_for page (paging self.now) (F.contents file.old)) }
+        ensures bytes { IfOk result
+            (λ x. ComesFrom (paging self.now) (F.contents file.old) page x) }
+        ensures read { OnOk result
+            (F.contents file.new ≡ read_for page (paging self.now) (F.contents file.old)) }
         ensures untouched { (paging self.now).blocked page ≡ false → file.new ≡ file.old }
         ensures err { OnErr result (F.contents file.new ≡ F.contents file.old) }
-        ensures later { F.faults file.old ≤ F.faults file.new }
-        ensures cause { OnErr result (Rose (F.faults file.old) (F.faults file.new)) }
-        ensures quiet { OnOk result (F.faults file.new ≡ F.faults file.old) }
+        ensures counts { CountsFailure (is_err result) (F.faults file.old) (F.faults file.new) }
     {
         match self.written_block(page) {
             None => Ok(self.start_of(page)),
@@ -95,7 +96,8 @@ impl Store {
     fn written_block(&self, page: u32) -> Option<u32>
         requires sound { IsSound 0 self.now }
         ensures blocked { is_some result ≡ (paging self.now).blocked page }
-        ensures block { IfSome result (λ block. block_of (paging self.now).areas page ≡ Some block) }
+        ensures block { IfSome result
+            (λ block. block_of (paging self.now).areas page ≡ Some block) }
     {
         match self.space.block_of(page) {
             None => None,
@@ -116,15 +118,16 @@ impl Store {
         ensures sound { IsSound 0 self.new }
         ensures answer { IfOk result (λ r. r ≡ is_listed page (paging self.old).order) }
         ensures ok { OnOk result (paging self.new ≡ after_evict page (paging self.old)) }
-        ensures wrote { OnOk result (F.contents file.new ≡ wrote_back page (paging self.old) (F.contents file.old)) }
-        ensures untouched { is_listed page (paging self.old).modified ≡ false → file.new ≡ file.old }
+        ensures wrote { OnOk result
+            (F.contents file.new ≡ wrote_back page (paging self.old) (F.contents file.old)) }
+        ensures untouched { is_listed page (paging self.old).modified ≡ false
+            → file.new ≡ file.old }
         ensures err { OnErr result (paging self.new ≡ paging self.old) }
         ensures unwritten { OnErr result (F.contents file.new ≡ F.contents file.old) }
         ensures needed { OnErr result (is_listed page (paging self.old).modified ≡ true) }
-        ensures later { F.faults file.old ≤ F.faults file.new }
-        ensures cause { OnErr result (Rose (F.faults file.old) (F.faults file.new)) }
-        ensures quiet { OnOk result (F.faults file.new ≡ F.faults file.old) }
-        ensures keeps { Keeps (paging self.old) (F.contents file.old) (paging self.new) (F.contents file.new) }
+        ensures counts { CountsFailure (is_err result) (F.faults file.old) (F.faults file.new) }
+        ensures keeps { Keeps (paging self.old) (F.contents file.old) (paging self.new)
+            (F.contents file.new) }
     {
         if !self.is_resident(page) {
             return Ok(false);
@@ -140,18 +143,21 @@ impl Store {
         requires within { is_some (area_of (paging self.old).areas page) ≡ true }
         requires absent { is_listed page (paging self.old).order ≡ false }
         requires unkept { is_listed page (paging self.old).kept ≡ false }
-        requires room { length (paging self.old).order + length (paging self.old).kept < (paging self.old).frames }
+        requires room { length (paging self.old).order + length (paging self.old).kept
+            < (paging self.old).frames }
         ensures sound { IsSound 0 self.new }
-        ensures ok { OnOk result (paging self.new ≡ brought page ((paging self.new).frame page) (paging self.old)) }
-        ensures bytes { OnOk result (ComesFrom (paging self.old) (F.contents file.old) page ((paging self.new).frame page)) }
-        ensures read { OnOk result (F.contents file.new ≡ read_for page (paging self.old) (F.contents file.old)) }
+        ensures ok { OnOk result
+            (paging self.new ≡ brought page ((paging self.new).frame page) (paging self.old)) }
+        ensures bytes { OnOk result (ComesFrom (paging self.old) (F.contents file.old) page
+            ((paging self.new).frame page)) }
+        ensures read { OnOk result
+            (F.contents file.new ≡ read_for page (paging self.old) (F.contents file.old)) }
         ensures err { OnErr result (paging self.new ≡ paging self.old) }
         ensures unread { OnErr result (F.contents file.new ≡ F.contents file.old) }
-        ensures later { F.faults file.old ≤ F.faults file.new }
-        ensures cause { OnErr result (Rose (F.faults file.old) (F.faults file.new)) }
-        ensures quiet { OnOk result (F.faults file.new ≡ F.faults file.old) }
+        ensures counts { CountsFailure (is_err result) (F.faults file.old) (F.faults file.new) }
         ensures untouched { (paging self.old).blocked page ≡ false → file.new ≡ file.old }
-        ensures keeps { Keeps (paging self.old) (F.contents file.old) (paging self.new) (F.contents file.new) }
+        ensures keeps { Keeps (paging self.old) (F.contents file.old) (paging self.new)
+            (F.contents file.new) }
     {
         let bytes = self.fetch(page, file)?;
         let frame = self.grow();
@@ -172,16 +178,18 @@ impl Store {
         requires unkept { is_listed page (paging self.old).kept ≡ false }
         requires kept { frame_in self.old.lists.kept old.page ≡ Some old.frame }
         ensures sound { IsSound 0 self.new }
-        ensures ok { OnOk result (paging self.new ≡ brought page ((paging self.new).frame page) (forgotten old.page (paging self.old))) }
-        ensures bytes { OnOk result (ComesFrom (paging self.old) (F.contents file.old) page ((paging self.new).frame page)) }
-        ensures read { OnOk result (F.contents file.new ≡ read_for page (paging self.old) (F.contents file.old)) }
+        ensures ok { OnOk result (paging self.new
+            ≡ brought page ((paging self.new).frame page) (forgotten old.page (paging self.old))) }
+        ensures bytes { OnOk result (ComesFrom (paging self.old) (F.contents file.old) page
+            ((paging self.new).frame page)) }
+        ensures read { OnOk result
+            (F.contents file.new ≡ read_for page (paging self.old) (F.contents file.old)) }
         ensures err { OnErr result (paging self.new ≡ paging self.old) }
         ensures unread { OnErr result (F.contents file.new ≡ F.contents file.old) }
-        ensures later { F.faults file.old ≤ F.faults file.new }
-        ensures cause { OnErr result (Rose (F.faults file.old) (F.faults file.new)) }
-        ensures quiet { OnOk result (F.faults file.new ≡ F.faults file.old) }
+        ensures counts { CountsFailure (is_err result) (F.faults file.old) (F.faults file.new) }
         ensures untouched { (paging self.old).blocked page ≡ false → file.new ≡ file.old }
-        ensures keeps { Keeps (paging self.old) (F.contents file.old) (paging self.new) (F.contents file.new) }
+        ensures keeps { Keeps (paging self.old) (F.contents file.old) (paging self.new)
+            (F.contents file.new) }
     {
         let bytes = self.fetch(page, file)?;
         self.forget(old.page, old.frame);
@@ -203,15 +211,19 @@ impl Store {
         requires resident { is_listed victim (paging self.old).order ≡ true }
         requires unpinned { is_listed victim (paging self.old).pinned ≡ false }
         ensures sound { IsSound 0 self.new }
-        ensures ok { OnOk result (paging self.new ≡ brought page ((paging self.new).frame page) (removed victim (after_flush victim (paging self.old)))) }
-        ensures bytes { OnOk result (ComesFrom (paging self.old) (F.contents file.old) page ((paging self.new).frame page)) }
-        ensures read { OnOk result (F.contents file.new ≡ read_for page (paging self.old) (wrote_back victim (paging self.old) (F.contents file.old))) }
-        ensures err { OnErr result (IsLeft (OfVictim victim) (paging self.old) (F.contents file.old) (paging self.new) (F.contents file.new)) }
-        ensures later { F.faults file.old ≤ F.faults file.new }
-        ensures cause { OnErr result (Rose (F.faults file.old) (F.faults file.new)) }
-        ensures quiet { OnOk result (F.faults file.new ≡ F.faults file.old) }
-        ensures untouched { (paging self.old).blocked page ≡ false → is_listed victim (paging self.old).modified ≡ false → file.new ≡ file.old }
-        ensures keeps { Keeps (paging self.old) (F.contents file.old) (paging self.new) (F.contents file.new) }
+        ensures ok { OnOk result (paging self.new ≡ brought page ((paging self.new).frame page)
+            (removed victim (after_flush victim (paging self.old)))) }
+        ensures bytes { OnOk result (ComesFrom (paging self.old) (F.contents file.old) page
+            ((paging self.new).frame page)) }
+        ensures read { OnOk result (F.contents file.new ≡ read_for page (paging self.old)
+            (wrote_back victim (paging self.old) (F.contents file.old))) }
+        ensures err { OnErr result (IsLeft (OfVictim victim) (paging self.old) (F.contents file.old)
+            (paging self.new) (F.contents file.new)) }
+        ensures counts { CountsFailure (is_err result) (F.faults file.old) (F.faults file.new) }
+        ensures untouched { (paging self.old).blocked page ≡ false
+            → is_listed victim (paging self.old).modified ≡ false → file.new ≡ file.old }
+        ensures keeps { Keeps (paging self.old) (F.contents file.old) (paging self.new)
+            (F.contents file.new) }
     {
         self.flush(victim, file)?;
         let bytes = self.fetch(page, file)?;
@@ -232,17 +244,21 @@ impl Store {
         requires pins { length (paging self.old).pinned < (paging self.old).frames }
         ensures sound { IsSound 0 self.new }
         ensures answer { IfOk result (λ r. r ≡ victim_of (source page (paging self.old))) }
-        ensures ok { OnOk result (paging self.new ≡ came (source page (paging self.old)) page ((paging self.new).frame page) (paging self.old)) }
-        ensures pinned { OnOk result ((paging self.new).pinned ≡ (paging self.old).pinned ++ page ∷ []) }
-        ensures file { OnOk result (F.contents file.new ≡ file_after (source page (paging self.old)) page (paging self.old) (F.contents file.old)) }
-        ensures bytes { OnOk result (is_listed page (paging self.old).kept ≡ false → ComesFrom (paging self.old) (F.contents file.old) page ((paging self.new).frame page)) }
+        ensures ok { OnOk result (paging self.new ≡ came (source page (paging self.old)) page
+            ((paging self.new).frame page) (paging self.old)) }
+        ensures pinned { OnOk result
+            ((paging self.new).pinned ≡ (paging self.old).pinned ++ page ∷ []) }
+        ensures file { OnOk result (F.contents file.new ≡ file_after
+            (source page (paging self.old)) page (paging self.old) (F.contents file.old)) }
+        ensures bytes { OnOk result
+            (FillsFrame page (paging self.old) (F.contents file.old) (paging self.new)) }
         ensures taken { is_listed page (paging self.old).kept ≡ true → file.new ≡ file.old }
-        ensures err { OnErr result (IsLeft (source page (paging self.old)) (paging self.old) (F.contents file.old) (paging self.new) (F.contents file.new)) }
-        ensures later { F.faults file.old ≤ F.faults file.new }
-        ensures cause { OnErr result (Rose (F.faults file.old) (F.faults file.new)) }
-        ensures quiet { OnOk result (F.faults file.new ≡ F.faults file.old) }
-        ensures blockless { (paging self.old).blocked page ≡ false → takes_modified (source page (paging self.old)) (paging self.old) ≡ false → file.new ≡ file.old }
-        ensures keeps { Keeps (paging self.old) (F.contents file.old) (paging self.new) (F.contents file.new) }
+        ensures err { OnErr result (IsLeft (source page (paging self.old)) (paging self.old)
+            (F.contents file.old) (paging self.new) (F.contents file.new)) }
+        ensures counts { CountsFailure (is_err result) (F.faults file.old) (F.faults file.new) }
+        ensures blockless { WhereNoCall page (paging self.old) (file.new ≡ file.old) }
+        ensures keeps { Keeps (paging self.old) (F.contents file.old) (paging self.new)
+            (F.contents file.new) }
     {
         if let Some(frame) = self.kept_frame(page) {
             self.take_back(page, frame);
@@ -268,18 +284,22 @@ impl Store {
     /// A byte of a page, resident or not.
     pub(crate) fn peek<F: PageFile>(&self, addr: u32, file: &mut F) -> Result<Option<u8>, PageFault>
         requires sound { IsSound 0 self.now }
-        ensures none { IfOk result (λ r. is_some r ≡ is_some (area_of (paging self.now).areas (page_of addr))) }
-        ensures byte { IfOk result (λ r. IfSome r (IsByte (paging self.now) (F.contents file.old) addr)) }
-        ensures from { IfOk result (λ r. IfSome r (PeekedFrom (paging self.now) (F.contents file.old) addr)) }
+        ensures none { IfOk result
+            (λ r. is_some r ≡ is_some (area_of (paging self.now).areas (page_of addr))) }
+        ensures byte { IfOk result
+            (λ r. IfSome r (IsByte (paging self.now) (F.contents file.old) addr)) }
+        ensures from { IfOk result
+            (λ r. IfSome r (PeekedFrom (paging self.now) (F.contents file.old) addr)) }
         ensures reads { OnlyRead (F.contents file.old) (F.contents file.new) }
-        ensures untouched { is_listed (page_of addr) (paging self.now).order ≡ true → file.new ≡ file.old }
-        ensures kept { is_listed (page_of addr) (paging self.now).kept ≡ true → file.new ≡ file.old }
+        ensures untouched { is_listed (page_of addr) (paging self.now).order ≡ true
+            → file.new ≡ file.old }
+        ensures kept { is_listed (page_of addr) (paging self.now).kept ≡ true
+            → file.new ≡ file.old }
         ensures blockless { (paging self.now).blocked (page_of addr) ≡ false → file.new ≡ file.old }
         ensures err { OnErr result (F.contents file.new ≡ F.contents file.old) }
-        ensures keeps { Keeps (paging self.now) (F.contents file.old) (paging self.now) (F.contents file.new) }
-        ensures later { F.faults file.old ≤ F.faults file.new }
-        ensures cause { OnErr result (Rose (F.faults file.old) (F.faults file.new)) }
-        ensures quiet { OnOk result (F.faults file.new ≡ F.faults file.old) }
+        ensures keeps { Keeps (paging self.now) (F.contents file.old) (paging self.now)
+            (F.contents file.new) }
+        ensures counts { CountsFailure (is_err result) (F.faults file.old) (F.faults file.new) }
     {
         let page = addr / PAGE_BYTES;
         if !self.has(page) {
@@ -300,7 +320,8 @@ impl Store {
     fn byte_of(&self, frame: u32, addr: u32) -> u8
         requires sound { IsSound 0 self.now }
         requires room { frame < length self.now.frames.items }
-        ensures { result ≡ slice_index (slice_index_or self.now.frames.items frame []) (addr % 512) }
+        ensures { result ≡ slice_index (slice_index_or self.now.frames.items frame [])
+            (addr % 512) }
     {
         self.frames[frame as usize][(addr % PAGE_BYTES) as usize]
     }

@@ -1,7 +1,7 @@
 //! The pager.
-ghost use Rattle.std.specs.Prelude.{◌≡◌, ◌<◌, ◌≤◌, IfOk, OnOk, OnErr, IfSome, true, false, length, is_some, take};
+ghost use Rattle.std.specs.Prelude.{is_err, ◌≡◌, ◌<◌, ◌≤◌, IfOk, OnOk, OnErr, IfSome, true, false, length, is_some, take};
 ghost use Rattle.std.specs.Option.{option_map};
-ghost use Rattle.vax_outside.specs.Faults.{Rose};
+ghost use Rattle.vax_outside.specs.Faults.{CountsFailure};
 ghost use Rattle.vax_pager.specs.Store.{IsSound};
 
 use crate::PageFault;
@@ -39,7 +39,7 @@ impl Pager {
     ghost use Rattle.vax_flat.specs.Start.{start_memory};
     ghost use Rattle.vax_outside.specs.Blocks.{BlockFile};
     ghost use Rattle.vax_pager.specs.Steps.{settled};
-    ghost use Rattle.vax_pager.specs.Calls.{IsByte, IsLeft, IsPaging, PeekedFrom, after_evict, after_flush, came, file_after, fresh, source, takes_modified, victim_of, wrote_back};
+    ghost use Rattle.vax_pager.specs.Calls.{FillsFrame, IsByte, IsLeft, IsPaging, PeekedFrom, WhereNoCall, after_evict, after_flush, came, file_after, fresh, source, victim_of, wrote_back};
     ghost use Rattle.vax_pager.specs.Meaning.{hits, pages};
     ghost use Rattle.vax_pager.specs.Poking.{IsPage, OnlyRead, Pokes};
 
@@ -49,7 +49,8 @@ impl Pager {
         requires some { 64 ≤ frames }
         requires few { frames ≤ 32768 }
         ensures pages { IfOk result (λ p. pages p ≡ fresh space frames) }
-        ensures stands { IfOk result (λ p. (file : BlockFile) → Backs (pages p) file (start_memory space)) }
+        ensures stands { IfOk result (λ p. (file : BlockFile)
+            → Backs (pages p) file (start_memory space)) }
     {
         let store = Store::new(alloc, space, frames)?;
         Ok(Pager { store })
@@ -67,16 +68,19 @@ impl Pager {
         requires absent { is_listed page (pages self.old).order ≡ false }
         requires pins { length (pages self.old).pinned < (pages self.old).frames }
         ensures answer { IfOk result (λ r. r ≡ victim_of (source page (pages self.old))) }
-        ensures ok { OnOk result (pages self.new ≡ came (source page (pages self.old)) page ((pages self.new).frame page) (pages self.old)) }
-        ensures file { OnOk result (F.contents file.new ≡ file_after (source page (pages self.old)) page (pages self.old) (F.contents file.old)) }
-        ensures bytes { OnOk result (is_listed page (pages self.old).kept ≡ false → ComesFrom (pages self.old) (F.contents file.old) page ((pages self.new).frame page)) }
+        ensures ok { OnOk result (pages self.new ≡ came (source page (pages self.old)) page
+            ((pages self.new).frame page) (pages self.old)) }
+        ensures file { OnOk result (F.contents file.new ≡ file_after
+            (source page (pages self.old)) page (pages self.old) (F.contents file.old)) }
+        ensures bytes { OnOk result
+            (FillsFrame page (pages self.old) (F.contents file.old) (pages self.new)) }
         ensures taken { is_listed page (pages self.old).kept ≡ true → file.new ≡ file.old }
-        ensures err { OnErr result (IsLeft (source page (pages self.old)) (pages self.old) (F.contents file.old) (pages self.new) (F.contents file.new)) }
-        ensures later { F.faults file.old ≤ F.faults file.new }
-        ensures cause { OnErr result (Rose (F.faults file.old) (F.faults file.new)) }
-        ensures quiet { OnOk result (F.faults file.new ≡ F.faults file.old) }
-        ensures blockless { (pages self.old).blocked page ≡ false → takes_modified (source page (pages self.old)) (pages self.old) ≡ false → file.new ≡ file.old }
-        ensures keeps { Keeps (pages self.old) (F.contents file.old) (pages self.new) (F.contents file.new) }
+        ensures err { OnErr result (IsLeft (source page (pages self.old)) (pages self.old)
+            (F.contents file.old) (pages self.new) (F.contents file.new)) }
+        ensures counts { CountsFailure (is_err result) (F.faults file.old) (F.faults file.new) }
+        ensures blockless { WhereNoCall page (pages self.old) (file.new ≡ file.old) }
+        ensures keeps { Keeps (pages self.old) (F.contents file.old) (pages self.new)
+            (F.contents file.new) }
     {
         self.store.serve(page, file)
     }
@@ -87,15 +91,15 @@ impl Pager {
         requires within { is_some (area_of (pages self.old).areas page) ≡ true }
         ensures answer { IfOk result (λ r. r ≡ is_listed page (pages self.old).order) }
         ensures ok { OnOk result (pages self.new ≡ after_evict page (pages self.old)) }
-        ensures wrote { OnOk result (F.contents file.new ≡ wrote_back page (pages self.old) (F.contents file.old)) }
+        ensures wrote { OnOk result
+            (F.contents file.new ≡ wrote_back page (pages self.old) (F.contents file.old)) }
         ensures untouched { is_listed page (pages self.old).modified ≡ false → file.new ≡ file.old }
         ensures err { OnErr result (pages self.new ≡ pages self.old) }
         ensures unwritten { OnErr result (F.contents file.new ≡ F.contents file.old) }
         ensures needed { OnErr result (is_listed page (pages self.old).modified ≡ true) }
-        ensures later { F.faults file.old ≤ F.faults file.new }
-        ensures cause { OnErr result (Rose (F.faults file.old) (F.faults file.new)) }
-        ensures quiet { OnOk result (F.faults file.new ≡ F.faults file.old) }
-        ensures keeps { Keeps (pages self.old) (F.contents file.old) (pages self.new) (F.contents file.new) }
+        ensures counts { CountsFailure (is_err result) (F.faults file.old) (F.faults file.new) }
+        ensures keeps { Keeps (pages self.old) (F.contents file.old) (pages self.new)
+            (F.contents file.new) }
     {
         self.store.evict(page, file)
     }
@@ -106,15 +110,15 @@ impl Pager {
         requires within { is_some (area_of (pages self.old).areas page) ≡ true }
         ensures answer { IfOk result (λ r. r ≡ is_listed page (pages self.old).modified) }
         ensures ok { OnOk result (pages self.new ≡ after_flush page (pages self.old)) }
-        ensures wrote { OnOk result (F.contents file.new ≡ wrote_back page (pages self.old) (F.contents file.old)) }
+        ensures wrote { OnOk result
+            (F.contents file.new ≡ wrote_back page (pages self.old) (F.contents file.old)) }
         ensures untouched { is_listed page (pages self.old).modified ≡ false → file.new ≡ file.old }
         ensures err { OnErr result (pages self.new ≡ pages self.old) }
         ensures unwritten { OnErr result (F.contents file.new ≡ F.contents file.old) }
         ensures needed { OnErr result (is_listed page (pages self.old).modified ≡ true) }
-        ensures later { F.faults file.old ≤ F.faults file.new }
-        ensures cause { OnErr result (Rose (F.faults file.old) (F.faults file.new)) }
-        ensures quiet { OnOk result (F.faults file.new ≡ F.faults file.old) }
-        ensures keeps { Keeps (pages self.old) (F.contents file.old) (pages self.new) (F.contents file.new) }
+        ensures counts { CountsFailure (is_err result) (F.faults file.old) (F.faults file.new) }
+        ensures keeps { Keeps (pages self.old) (F.contents file.old) (pages self.new)
+            (F.contents file.new) }
     {
         self.store.flush(page, file)
     }
@@ -129,19 +133,22 @@ impl Pager {
     /// A byte of the memory that the pager stands for, with no change of what is resident; none exactly where no area has
     /// it. A block is read only where the page is neither resident nor kept.
     pub fn peek<F: PageFile>(&mut self, addr: u32, file: &mut F) -> Result<Option<u8>, PageFault>
-        ensures none { IfOk result (λ r. is_some r ≡ is_some (area_of (pages self.old).areas (page_of addr))) }
-        ensures byte { IfOk result (λ r. IfSome r (IsByte (pages self.old) (F.contents file.old) addr)) }
-        ensures from { IfOk result (λ r. IfSome r (PeekedFrom (pages self.old) (F.contents file.old) addr)) }
+        ensures none { IfOk result
+            (λ r. is_some r ≡ is_some (area_of (pages self.old).areas (page_of addr))) }
+        ensures byte { IfOk result
+            (λ r. IfSome r (IsByte (pages self.old) (F.contents file.old) addr)) }
+        ensures from { IfOk result
+            (λ r. IfSome r (PeekedFrom (pages self.old) (F.contents file.old) addr)) }
         ensures same { pages self.new ≡ pages self.old }
         ensures reads { OnlyRead (F.contents file.old) (F.contents file.new) }
-        ensures keeps { Keeps (pages self.old) (F.contents file.old) (pages self.new) (F.contents file.new) }
-        ensures untouched { is_listed (page_of addr) (pages self.old).order ≡ true → file.new ≡ file.old }
+        ensures keeps { Keeps (pages self.old) (F.contents file.old) (pages self.new)
+            (F.contents file.new) }
+        ensures untouched { is_listed (page_of addr) (pages self.old).order ≡ true
+            → file.new ≡ file.old }
         ensures kept { is_listed (page_of addr) (pages self.old).kept ≡ true → file.new ≡ file.old }
         ensures blockless { (pages self.old).blocked (page_of addr) ≡ false → file.new ≡ file.old }
         ensures err { OnErr result (F.contents file.new ≡ F.contents file.old) }
-        ensures later { F.faults file.old ≤ F.faults file.new }
-        ensures cause { OnErr result (Rose (F.faults file.old) (F.faults file.new)) }
-        ensures quiet { OnOk result (F.faults file.new ≡ F.faults file.old) }
+        ensures counts { CountsFailure (is_err result) (F.faults file.old) (F.faults file.new) }
     {
         self.store.peek(addr, file)
     }
@@ -153,15 +160,16 @@ impl Pager {
         page: u32,
         file: &mut F,
     ) -> Result<Option<[u8; 512]>, PageFault>
-        ensures none { IfOk result (λ r. is_some r ≡ is_some (area_of (pages self.old).areas page)) }
-        ensures bytes { IfOk result (λ r. IfSome r (IsPage (pages self.old) (F.contents file.old) page)) }
+        ensures none { IfOk result
+            (λ r. is_some r ≡ is_some (area_of (pages self.old).areas page)) }
+        ensures bytes { IfOk result
+            (λ r. IfSome r (IsPage (pages self.old) (F.contents file.old) page)) }
         ensures same { pages self.new ≡ pages self.old }
         ensures reads { OnlyRead (F.contents file.old) (F.contents file.new) }
-        ensures keeps { Keeps (pages self.old) (F.contents file.old) (pages self.new) (F.contents file.new) }
+        ensures keeps { Keeps (pages self.old) (F.contents file.old) (pages self.new)
+            (F.contents file.new) }
         ensures err { OnErr result (F.contents file.new ≡ F.contents file.old) }
-        ensures later { F.faults file.old ≤ F.faults file.new }
-        ensures cause { OnErr result (Rose (F.faults file.old) (F.faults file.new)) }
-        ensures quiet { OnOk result (F.faults file.new ≡ F.faults file.old) }
+        ensures counts { CountsFailure (is_err result) (F.faults file.old) (F.faults file.new) }
     {
         self.store.page(page, file)
     }
@@ -179,12 +187,13 @@ impl Pager {
         requires some { 1 ≤ length bytes.now }
         requires few { length bytes.now ≤ 64 }
         requires frames { 3 ≤ (pages self.old).frames }
-        ensures answer { IfOk result (λ r. r ≡ is_allowed (violation (pages self.old).areas addr (length bytes.now) 0 Access.Write)) }
-        ensures refused { IfOk result (λ r. r ≡ false → (self.new ≡ self.old) × (file.new ≡ file.old)) }
-        ensures pokes { Pokes result addr bytes.now (pages self.old) (F.contents file.old) (pages self.new) (F.contents file.new) }
-        ensures later { F.faults file.old ≤ F.faults file.new }
-        ensures cause { OnErr result (Rose (F.faults file.old) (F.faults file.new)) }
-        ensures quiet { OnOk result (F.faults file.new ≡ F.faults file.old) }
+        ensures answer { IfOk result (λ r. r ≡ is_allowed
+            (violation (pages self.old).areas addr (length bytes.now) 0 Access.Write)) }
+        ensures refused { IfOk result (λ r. r ≡ false
+            → (self.new ≡ self.old) × (file.new ≡ file.old)) }
+        ensures pokes { Pokes result addr bytes.now (pages self.old) (F.contents file.old)
+            (pages self.new) (F.contents file.new) }
+        ensures counts { CountsFailure (is_err result) (F.faults file.old) (F.faults file.new) }
     {
         self.store.poke(addr, bytes, file)
     }

@@ -1,6 +1,6 @@
 //! What a console asks of a pager: the bytes of a page, and bytes written whatever the page's protection.
-ghost use Rattle.std.specs.Prelude.{◌≡◌, ◌+◌, ◌-◌, ◌<◌, ◌≤◌, ◌%◌, true, false, length, is_some, IfOk, IfSome, OnOk, OnErr, None, []};
-ghost use Rattle.vax_outside.specs.Faults.{Rose};
+ghost use Rattle.std.specs.Prelude.{is_err, ◌≡◌, ◌+◌, ◌-◌, ◌<◌, ◌≤◌, ◌%◌, true, false, length, is_some, IfOk, IfSome, OnOk, OnErr, None, []};
+ghost use Rattle.vax_outside.specs.Faults.{CountsFailure};
 
 use crate::PageFault;
 use crate::store::Store;
@@ -17,7 +17,7 @@ impl Store {
     ghost use Rattle.vax_flat.specs.Outcome.{is_allowed};
     ghost use Rattle.vax_pager.specs.Listing.{is_listed};
     ghost use Rattle.vax_pager.specs.Paging.{Keeps};
-    ghost use Rattle.vax_pager.specs.Poking.{BringsIn, IsPage, OnlyRead, Pokes, StaysAlike, WritesThere};
+    ghost use Rattle.vax_pager.specs.Poking.{BringsIn, IsPage, MarksNone, OnlyRead, Pokes, StaysAlike, WritesThere};
     ghost use Rattle.vax_pager.specs.Store.{IsSound, paging};
 
     /// The bytes of a page, resident or not.
@@ -27,14 +27,15 @@ impl Store {
         file: &mut F,
     ) -> Result<Option<[u8; 512]>, PageFault>
         requires sound { IsSound 0 self.now }
-        ensures none { IfOk result (λ r. is_some r ≡ is_some (area_of (paging self.now).areas page)) }
-        ensures bytes { IfOk result (λ r. IfSome r (IsPage (paging self.now) (F.contents file.old) page)) }
+        ensures none { IfOk result
+            (λ r. is_some r ≡ is_some (area_of (paging self.now).areas page)) }
+        ensures bytes { IfOk result
+            (λ r. IfSome r (IsPage (paging self.now) (F.contents file.old) page)) }
         ensures reads { OnlyRead (F.contents file.old) (F.contents file.new) }
         ensures err { OnErr result (F.contents file.new ≡ F.contents file.old) }
-        ensures keeps { Keeps (paging self.now) (F.contents file.old) (paging self.now) (F.contents file.new) }
-        ensures later { F.faults file.old ≤ F.faults file.new }
-        ensures cause { OnErr result (Rose (F.faults file.old) (F.faults file.new)) }
-        ensures quiet { OnOk result (F.faults file.new ≡ F.faults file.old) }
+        ensures keeps { Keeps (paging self.now) (F.contents file.old) (paging self.now)
+            (F.contents file.new) }
+        ensures counts { CountsFailure (is_err result) (F.faults file.old) (F.faults file.new) }
     {
         if !self.has(page) {
             return Ok(None);
@@ -57,11 +58,12 @@ impl Store {
         requires pins { length (paging self.old).pinned < (paging self.old).frames }
         ensures sound { IsSound 0 self.new }
         ensures alike { StaysAlike (paging self.old) (paging self.new) }
+        ensures marks { MarksNone (paging self.old) (F.contents file.old) (paging self.new)
+            (F.contents file.new) }
         ensures brings { OnOk result (BringsIn page (paging self.old) (paging self.new)) }
-        ensures later { F.faults file.old ≤ F.faults file.new }
-        ensures cause { OnErr result (Rose (F.faults file.old) (F.faults file.new)) }
-        ensures quiet { OnOk result (F.faults file.new ≡ F.faults file.old) }
-        ensures keeps { Keeps (paging self.old) (F.contents file.old) (paging self.new) (F.contents file.new) }
+        ensures counts { CountsFailure (is_err result) (F.faults file.old) (F.faults file.new) }
+        ensures keeps { Keeps (paging self.old) (F.contents file.old) (paging self.new)
+            (F.contents file.new) }
     {
         if !self.is_resident(page) {
             self.serve(page, file)?;
@@ -84,12 +86,13 @@ impl Store {
         requires frames { 3 ≤ (paging self.old).frames }
         ensures sound { IsSound 0 self.new }
         ensures alike { StaysAlike (paging self.old) (paging self.new) }
+        ensures marks { MarksNone (paging self.old) (F.contents file.old) (paging self.new)
+            (F.contents file.new) }
         ensures low { OnOk result (is_listed low (paging self.new).order ≡ true) }
         ensures high { OnOk result (is_listed high (paging self.new).order ≡ true) }
-        ensures later { F.faults file.old ≤ F.faults file.new }
-        ensures cause { OnErr result (Rose (F.faults file.old) (F.faults file.new)) }
-        ensures quiet { OnOk result (F.faults file.new ≡ F.faults file.old) }
-        ensures keeps { Keeps (paging self.old) (F.contents file.old) (paging self.new) (F.contents file.new) }
+        ensures counts { CountsFailure (is_err result) (F.faults file.old) (F.faults file.new) }
+        ensures keeps { Keeps (paging self.old) (F.contents file.old) (paging self.new)
+            (F.contents file.new) }
     {
         self.bring_in(low, file)?;
         self.bring_in(high, file)?;
@@ -103,7 +106,8 @@ impl Store {
         requires sound { IsSound 0 self.old }
         requires some { 1 ≤ length bytes.now }
         requires one_page { addr % 512 + length bytes.now ≤ 512 }
-        requires allowed { violation (paging self.old).areas addr (length bytes.now) 0 Access.Write ≡ None }
+        requires allowed { violation (paging self.old).areas addr (length bytes.now) 0 Access.Write
+            ≡ None }
         requires resident { is_listed (page_of addr) (paging self.old).order ≡ true }
         ensures sound { IsSound 0 self.new }
         ensures writes { WritesThere (paging self.old) addr bytes.now (paging self.new) }
@@ -119,9 +123,11 @@ impl Store {
         requires sound { IsSound 0 self.old }
         requires some { 1 ≤ length bytes.now }
         requires few { length bytes.now ≤ 64 }
-        requires allowed { violation (paging self.old).areas addr (length bytes.now) 0 Access.Write ≡ None }
+        requires allowed { violation (paging self.old).areas addr (length bytes.now) 0 Access.Write
+            ≡ None }
         requires low { is_listed (page_of addr) (paging self.old).order ≡ true }
-        requires high { is_listed (page_of (byte_after addr (length bytes.now - 1))) (paging self.old).order ≡ true }
+        requires high { is_listed (page_of (byte_after addr (length bytes.now - 1)))
+            (paging self.old).order ≡ true }
         ensures sound { IsSound 0 self.new }
         ensures writes { WritesThere (paging self.old) addr bytes.now (paging self.new) }
     {
@@ -147,12 +153,13 @@ impl Store {
         requires few { length bytes.now ≤ 64 }
         requires frames { 3 ≤ (paging self.old).frames }
         ensures sound { IsSound 0 self.new }
-        ensures answer { IfOk result (λ r. r ≡ is_allowed (violation (paging self.old).areas addr (length bytes.now) 0 Access.Write)) }
-        ensures refused { IfOk result (λ r. r ≡ false → (self.new ≡ self.old) × (file.new ≡ file.old)) }
-        ensures pokes { Pokes result addr bytes.now (paging self.old) (F.contents file.old) (paging self.new) (F.contents file.new) }
-        ensures later { F.faults file.old ≤ F.faults file.new }
-        ensures cause { OnErr result (Rose (F.faults file.old) (F.faults file.new)) }
-        ensures quiet { OnOk result (F.faults file.new ≡ F.faults file.old) }
+        ensures answer { IfOk result (λ r. r ≡ is_allowed
+            (violation (paging self.old).areas addr (length bytes.now) 0 Access.Write)) }
+        ensures refused { IfOk result (λ r. r ≡ false
+            → (self.new ≡ self.old) × (file.new ≡ file.old)) }
+        ensures pokes { Pokes result addr bytes.now (paging self.old) (F.contents file.old)
+            (paging self.new) (F.contents file.new) }
+        ensures counts { CountsFailure (is_err result) (F.faults file.old) (F.faults file.new) }
     {
         let count = bytes.len() as u32;
         if self.check(addr, count, KERNEL, Access::Write).is_err() {

@@ -35,8 +35,10 @@ impl Port for Pager {
         ensures bytes { AreBytes (view self.old).byte }
         ensures since { (start : Pager) → since start self.old → since start self.new }
         ensures unchanged { pages self.new ≡ pages self.old }
-        ensures entry { OnOk result (addr % 512 + n ≤ 512 → in_buffer self.new (page_of addr) ≡ true) }
-        ensures hits { OnOk result (addr % 512 + n ≤ 512 → in_buffer self.old (page_of addr) ≡ true → hits self.new ≡ raised (hits self.old)) }
+        ensures entry { OnOk result (addr % 512 + n ≤ 512
+            → in_buffer self.new (page_of addr) ≡ true) }
+        ensures hits { OnOk result (addr % 512 + n ≤ 512 → in_buffer self.old (page_of addr) ≡ true
+            → hits self.new ≡ raised (hits self.old)) }
     {
         self.store.read(addr, n, mode)
     }
@@ -51,7 +53,8 @@ impl Port for Pager {
         ensures bytes { AreBytes (view self.old).byte }
         ensures stored { view self.new ≡ stored (view self.old) addr n value mode }
         ensures since { (start : Pager) → since start self.old → since start self.new }
-        ensures listed { OnOk result ((pages self.new).modified ≡ touched (pages self.old).modified addr n) }
+        ensures listed { OnOk result
+            ((pages self.new).modified ≡ touched (pages self.old).modified addr n) }
         ensures unpaged { OnErr result (pages self.new ≡ pages self.old) }
     {
         self.store.write(addr, n, value, mode)
@@ -61,8 +64,10 @@ impl Port for Pager {
         requires some { 1 ≤ length into.old }
         requires one_page { addr % 512 + length into.old ≤ 512 }
         requires of_mode { mode ≤ 3 }
-        ensures answer { err_of result ≡ stop (view self.old) addr (length into.old) mode Access.Read }
-        ensures bytes { OnOk result (into.new ≡ bytes_from (view self.old).byte addr (length into.old)) }
+        ensures answer { err_of result
+            ≡ stop (view self.old) addr (length into.old) mode Access.Read }
+        ensures bytes { OnOk result
+            (into.new ≡ bytes_from (view self.old).byte addr (length into.old)) }
         ensures unread { OnErr result (into.new ≡ into.old) }
         ensures same { view self.new ≡ view self.old }
         ensures since { (start : Pager) → since start self.old → since start self.new }
@@ -75,10 +80,12 @@ impl Port for Pager {
         requires some { 1 ≤ length from.now }
         requires one_page { addr % 512 + length from.now ≤ 512 }
         requires of_mode { mode ≤ 3 }
-        ensures answer { err_of result ≡ stop (view self.old) addr (length from.now) mode Access.Write }
+        ensures answer { err_of result
+            ≡ stop (view self.old) addr (length from.now) mode Access.Write }
         ensures stored { view self.new ≡ stored_run (view self.old) addr from.now mode }
         ensures since { (start : Pager) → since start self.old → since start self.new }
-        ensures listed { OnOk result ((pages self.new).modified ≡ touched (pages self.old).modified addr (length from.now)) }
+        ensures listed { OnOk result
+            ((pages self.new).modified ≡ touched (pages self.old).modified addr (length from.now)) }
         ensures unpaged { OnErr result (pages self.new ≡ pages self.old) }
     {
         self.store.write_run(addr, from, mode)

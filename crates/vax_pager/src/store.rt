@@ -105,7 +105,8 @@ impl Store {
         ensures order { frame_in self.now.lists.order page ≡ Some result }
         ensures held { held self.now page ≡ Some result }
         ensures room { result < length self.now.frames.items }
-        ensures bytes { slice_index_or self.now.frames.items result [] ≡ (paging self.now).frame page }
+        ensures bytes { slice_index_or self.now.frames.items result []
+            ≡ (paging self.now).frame page }
     {
         match self.tables.walk(page) {
             Walk::Resident {
@@ -122,11 +123,13 @@ impl Store {
     pub(crate) fn modified_frame(&self, page: u32) -> Option<u32>
         requires sound { IsSound 0 self.now }
         ensures none { is_some result ≡ is_listed page (paging self.now).modified }
-        ensures there { IfSome result (λ frame. frame_in self.now.lists.modified page ≡ Some frame) }
+        ensures there { IfSome result
+            (λ frame. frame_in self.now.lists.modified page ≡ Some frame) }
         ensures held { IfSome result (λ frame. held self.now page ≡ Some frame) }
         ensures resident { is_some result ≡ true → is_listed page (paging self.now).order ≡ true }
         ensures room { IfSome result (λ frame. frame < length self.now.frames.items) }
-        ensures bytes { IfSome result (λ frame. slice_index_or self.now.frames.items frame [] ≡ (paging self.now).frame page) }
+        ensures bytes { IfSome result (λ frame. slice_index_or self.now.frames.items frame []
+            ≡ (paging self.now).frame page) }
         ensures writable { is_some result ≡ true → is_some (block_of self.now.space page) ≡ true }
     {
         dirty_frame(self.tables.walk(page))
@@ -139,7 +142,8 @@ impl Store {
         ensures there { IfSome result (λ frame. frame_in self.now.lists.kept page ≡ Some frame) }
         ensures held { IfSome result (λ frame. held self.now page ≡ Some frame) }
         ensures room { IfSome result (λ frame. frame < length self.now.frames.items) }
-        ensures bytes { IfSome result (λ frame. slice_index_or self.now.frames.items frame [] ≡ (paging self.now).frame page) }
+        ensures bytes { IfSome result (λ frame. slice_index_or self.now.frames.items frame []
+            ≡ (paging self.now).frame page) }
     {
         self.tables.kept_frame(page)
     }
@@ -210,7 +214,8 @@ impl Store {
     /// A frame that no page has had.
     pub(crate) fn grow(&mut self) -> u32
         requires sound { IsSound 0 self.old }
-        requires room { length (paging self.old).order + length (paging self.old).kept < (paging self.old).frames }
+        requires room { length (paging self.old).order + length (paging self.old).kept
+            < (paging self.old).frames }
         ensures sound { IsSound 1 self.new }
         ensures paging { paging self.new ≡ paging self.old }
         ensures free { IsFree result self.new }
@@ -282,7 +287,8 @@ impl Store {
     #[tactic(auto, unfolding(crate::specs::Store::paging))]
     pub(crate) fn has_empty(&self) -> bool
         requires sound { IsSound 0 self.now }
-        ensures { result ≡ nat_lt (length (paging self.now).order + length (paging self.now).kept) (paging self.now).frames }
+        ensures { result ≡ nat_lt (length (paging self.now).order + length (paging self.now).kept)
+            (paging self.now).frames }
     {
         (self.used as usize) < self.frames.len()
     }
@@ -290,7 +296,8 @@ impl Store {
     /// The page that was kept first.
     pub(crate) fn oldest_kept(&self) -> Option<Placed>
         ensures page { page_in result ≡ first (paging self.now).kept }
-        ensures there { IfSome result (λ placed. frame_in self.now.lists.kept placed.page ≡ Some placed.frame) }
+        ensures there { IfSome result
+            (λ placed. frame_in self.now.lists.kept placed.page ≡ Some placed.frame) }
     {
         self.lists.oldest()
     }
@@ -299,7 +306,8 @@ impl Store {
     pub(crate) fn victim(&self) -> u32
         requires sound { IsSound 0 self.now }
         requires pins { length (paging self.now).pinned < length (paging self.now).order }
-        ensures value { first_outside (paging self.now).pinned (paging self.now).order ≡ Some result }
+        ensures value { first_outside (paging self.now).pinned (paging self.now).order
+            ≡ Some result }
         ensures resident { is_listed result (paging self.now).order ≡ true }
         ensures unpinned { is_listed result (paging self.now).pinned ≡ false }
     {

@@ -67,7 +67,7 @@ loop-steps-preserved-in-Continue-1 g c =
       within = few;
       inside = λ some. let no = subst IsSome closed some in absurd (cc);
       unsent = c.attempts-batch.ensures.unsent;
-      quiet = c.in_ok-put_all-in-Some.ensures.quiet ∙ c.loop-steps.invariant.quiet;
+      quiet = c.in_ok-put_all-in-Some.ensures.counts.quiet ∙ c.loop-steps.invariant.quiet;
     }
 
 pub loop-steps-smaller-in-None : goal.loop-steps-smaller-in-None

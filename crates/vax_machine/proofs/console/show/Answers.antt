@@ -56,5 +56,5 @@ loop-place-preserved g c =
           (c.cell.ensures ∙ cell_shown c.in_ok-page.page memory here (there ∙ sym (has_as s _ memory (page_of here) st)) (held memory st)) (v.bytes memory st);
       there = λ some. subst (λ (n : ℕ). is_some c.in_ok-page.page ≡ is_some (area_of s.areas (page_of (byte_after c.args.addr n)))) back there;
       held = λ some memory st. subst (λ (n : ℕ). IfSome c.in_ok-page.page (IsPageOf memory (page_of (byte_after c.args.addr n)))) back (held memory st);
-      quiet = c.in_ok-page.ensures.quiet ∙ v.quiet;
+      quiet = c.in_ok-page.ensures.counts.quiet ∙ v.quiet;
     }

@@ -2,4 +2,4 @@ use Rattle.vax_machine.proofs.Unwritten.{writes_suffice}
 use Rattle.vax_machine.proofs.laws.writes_suffice.Goals as goal
 
 pub returns : goal.returns
-returns c = λ areas asks count frames start pages page small clean. writes_suffice areas asks count frames start pages page small clean
+returns c = λ r n absent page small clean. writes_suffice r n absent page small clean

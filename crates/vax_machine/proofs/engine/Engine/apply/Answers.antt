@@ -1,5 +1,6 @@
 use Rattle.std.proofs.Common.{refl}
-use Rattle.vax_machine.proofs.Attempts.{no_failure}
+use Rattle.vax_outside.proofs.Counting.{counts_still}
+use Rattle.vax_machine.proofs.Attempts.{no_failure, not_failed}
 use Rattle.vax_machine.proofs.Spending.{events_spend}
 use Rattle.vax_machine.proofs.Unsettled.{unsettled_by}
 use Rattle.vax_machine.specs.declared.event.Event.TheVariants as event
@@ -8,8 +9,8 @@ use Rattle.vax_machine.proofs.engine.Engine.apply.Goals as goal
 pub returns-in-Attempt-clause-applies : goal.returns-in-Attempt-clause-applies
 returns-in-Attempt-clause-applies g c = rw c.in-Attempt.is (c.attempt.ensures.applies _)
 
-pub returns-in-Attempt-clause-cause : goal.returns-in-Attempt-clause-cause
-returns-in-Attempt-clause-cause g c = λ f. absurd (no_failure _ _ _ _ (c.attempt.ensures.applies (g.F.PageFile.contents c.args.file.now)).0 f)
+pub returns-in-Attempt-clause-counts : goal.returns-in-Attempt-clause-counts
+returns-in-Attempt-clause-counts g c = counts_still (not_failed c.attempt.result (no_failure _ _ _ _ (c.attempt.ensures.applies (g.F.PageFile.contents c.args.file.now)).0)) refl
 
 pub returns-in-Attempt-clause-moves : goal.returns-in-Attempt-clause-moves
 returns-in-Attempt-clause-moves g c = rw c.in-Attempt.is refl

@@ -1,7 +1,8 @@
 use Rattle.std.proofs.Common.{◌≡◌, ap, arith, refl, true}
 use Rattle.std.specs.Prelude.{is_some}
 use Rattle.vax_machine.proofs.Between.{served_and_listed}
-use Rattle.vax_machine.proofs.Outputs.{writes_nothing}
+use Rattle.vax_machine.proofs.Following.{attempts_follow}
+use Rattle.vax_machine.proofs.Outputs.{counts_none, writes_nothing}
 use Rattle.vax_machine.proofs.Passing.{gone_on, in_silence, passed_on, served_on}
 use Rattle.vax_machine.proofs.Serving.{gone_several, quiet, stepped}
 use Rattle.vax_machine.specs.Machine.{Keeping}
@@ -55,6 +56,14 @@ returns-in_default g c =
           (quiet c.args.self.now p _ f.tracks c.requires.going c.args.most c.attempts.new.self c.requires.steps (omega (arith, low)) c.attempts.result c.attempts.ensures.tried c.in_default.not-Stepped c.in_default.not-Absent);
       gone = gone_several c.args.self.now c.attempts.new.self c.args.most c.attempts.result c.requires.steps (omega (arith, low)) c.attempts.ensures.tried;
       goes_on = c.attempts.ensures.goes_on;
+      follows = attempts_follow c.args.most c.args.self.now c.attempts.new.self c.attempts.result _ c.requires.going c.requires.steps c.attempts.ensures.tried;
       writes = writes_nothing _ _;
-      counts = (refl, refl);
+      counts = counts_none refl refl;
     }
+
+pub returns-in-Stepped-clause-follows : goal.returns-in-Stepped-clause-follows
+returns-in-Stepped-clause-follows g c = attempts_follow c.args.most c.args.self.now c.attempts.new.self c.attempts.result _ c.requires.going c.requires.steps c.attempts.ensures.tried
+
+pub returns-in-Absent-clause-follows : goal.returns-in-Absent-clause-follows
+returns-in-Absent-clause-follows g c = λ start f.
+    c.serve_and_list.ensures.follows start (attempts_follow c.args.most c.args.self.now c.attempts.new.self c.attempts.result _ c.requires.going c.requires.steps c.attempts.ensures.tried start f)

@@ -45,15 +45,6 @@ returns-in-Err-clause-applies g c =
       keeps_place c.args.self.now _ _ _ _ c.in-Err.ensures.keeps,
     )
 
-pub returns-then-resident-clause-quiet : goal.returns-then-resident-clause-quiet
-returns-then-resident-clause-quiet g c = λ other. c.in-Ok.ensures.quiet
-
-pub returns-else-resident-clause-quiet : goal.returns-else-resident-clause-quiet
-returns-else-resident-clause-quiet g c = λ other. c.in-Ok.ensures.quiet
-
-pub returns-in-Err-clause-quiet : goal.returns-in-Err-clause-quiet
-returns-in-Err-clause-quiet g c = λ other. absurd (other refl)
-
 pub returns-then-resident-clause-inside : goal.returns-then-resident-clause-inside
 returns-then-resident-clause-inside g c = λ is.
     subst (λ (z : List Area). is_some (area_of z c.args.page) ≡ true) (sym (areas_evicted (pages c.args.self.now.pager) (pages c.evict.new.self) _ c.in-Ok.ensures.ok))

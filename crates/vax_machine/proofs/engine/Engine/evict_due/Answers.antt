@@ -7,12 +7,13 @@ use Rattle.vax_sched.specs.declared.rule.Target.{Target}
 use Rattle.vax_machine.specs.Paged.{all_evicted, all_named, named}
 use Rattle.vax_machine.specs.Turn.{EvictedAll, Follows}
 use Rattle.vax_machine.proofs.Evicting.{all_lists, failed_list, next_list, none_yet, one_more, told}
-use Rattle.vax_machine.proofs.Outputs.{counts_like, err_like, then_counts, then_writes, writes_nothing}
+use Rattle.vax_machine.proofs.Outputs.{counts_like, counts_none, err_like, then_counts, then_writes, writes_nothing}
 use Rattle.vax_machine.proofs.Tracking.{still_itself, then_still}
 use Rattle.vax_machine.proofs.engine.Engine.evict_due.Goals as goal
 
 pub loop-target-init : goal.loop-target-init
 loop-target-init g c = record {
+  follows = λ start f. f;
   sound = c.requires.sound;
   still = still_itself c.args.self.now;
   writes = writes_nothing _ _;
@@ -41,6 +42,7 @@ returns-in_err-evict_target-clause-counts g c = then_counts c.from_residual.resu
 
 pub loop-target-preserved : goal.loop-target-preserved
 loop-target-preserved g c = record {
+  follows = λ start f. c.evict_target.ensures.follows start (c.loop-target.invariant.follows start f);
   sound = c.evict_target.ensures.sound;
   still = then_still _ _ _ c.loop-target.invariant.still c.evict_target.ensures.still;
   writes = then_writes _ _ _ _ _ _ c.loop-target.invariant.writes c.evict_target.ensures.writes;
@@ -49,8 +51,8 @@ loop-target-preserved g c = record {
       subst (λ (n : ℕ). Follows o (all_evicted (all_named (pages c.args.self.now.pager).areas (take n (due c.args.schedule.now (c.args.self.now.turns + 1)))) p) c.evict_target.new.self (g.F.PageFile.contents c.evict_target.new.file) (g.K.Sink.contents c.evict_target.new.sink) c.evict_target.new.held) (one_more c.loop-target.yielded c.in-Some.target)
       (next_list (named (pages c.args.self.now.pager).areas) (due c.args.schedule.now (c.args.self.now.turns + 1)) (length c.loop-target.yielded) c.in-Some.target (told (due c.args.schedule.now (c.args.self.now.turns + 1)) (length c.loop-target.yielded) c.in-Some.target (YieldsList-turn (YieldsList-from_first (λ (x : Target). x) (λ (t : List Target). t) (due c.args.schedule.now (c.args.self.now.turns + 1)) (cc (c.into_iter-target-iterator.ensures.into_iter_gives, c.targets-target-items.ensures))) c.loop-target.yielded _ c.loop-target.yielded_by _ _ c.in-Some.target c.in-Some.is c.next.ensures.steps)) o p _ _ _ _
       (subst (λ (z : List Area). Follows o (all_evicted (named z c.in-Some.target) (all_evicted (all_named (pages c.args.self.now.pager).areas (take (length c.loop-target.yielded) (due c.args.schedule.now (c.args.self.now.turns + 1)))) p)) c.evict_target.new.self (g.F.PageFile.contents c.evict_target.new.file) (g.K.Sink.contents c.evict_target.new.sink) c.evict_target.new.held) c.loop-target.invariant.still.areas b));
-  quiet = c.in_ok-evict_target.ensures.counts.0 ∙ c.loop-target.invariant.quiet;
-  written = c.in_ok-evict_target.ensures.counts.1 ∙ c.loop-target.invariant.written;
+  quiet = c.in_ok-evict_target.ensures.counts.file.quiet ∙ c.loop-target.invariant.quiet;
+  written = c.in_ok-evict_target.ensures.counts.sink.quiet ∙ c.loop-target.invariant.written;
 }
 
 pub returns-clause-sound : goal.returns-clause-sound
@@ -68,4 +70,10 @@ pub returns-clause-writes : goal.returns-clause-writes
 returns-clause-writes g c = c.loop-target.invariant.writes
 
 pub returns-clause-counts : goal.returns-clause-counts
-returns-clause-counts g c = (c.loop-target.invariant.quiet, c.loop-target.invariant.written)
+returns-clause-counts g c = counts_none c.loop-target.invariant.quiet c.loop-target.invariant.written
+
+pub returns-in_err-evict_target-clause-follows : goal.returns-in_err-evict_target-clause-follows
+returns-in_err-evict_target-clause-follows g c = λ start f. c.evict_target.ensures.follows start (c.loop-target.invariant.follows start f)
+
+pub returns-clause-follows : goal.returns-clause-follows
+returns-clause-follows g c = c.loop-target.invariant.follows

@@ -2,8 +2,11 @@ use Rattle.std.proofs.Common.{◌≡◌, ℕ, Some, arith, refl, subst, true}
 use Rattle.std.specs.Prelude.{is_some}
 use Rattle.vax_space.specs.Areas.{area_of}
 use Rattle.vax_pager.specs.Meaning.{pages}
+use Rattle.vax_machine.proofs.Following.{evict_follows}
 use Rattle.vax_machine.proofs.Listing.{evict_away, evict_cut, evict_listed}
-use Rattle.vax_machine.proofs.Outputs.{then_counts, writes_nothing}
+use Rattle.vax_outside.proofs.Counting.{counts_still, still_on}
+use Rattle.vax_machine.proofs.Attempts.{not_failed}
+use Rattle.vax_machine.proofs.Outputs.{counts_none, then_counts, writes_nothing}
 use Rattle.vax_machine.proofs.Tracking.{still_evict}
 use Rattle.vax_machine.proofs.engine.Engine.evict_one.Goals as goal
 
@@ -17,7 +20,7 @@ pub returns-in-Failed-clause-writes : goal.returns-in-Failed-clause-writes
 returns-in-Failed-clause-writes g c = writes_nothing _ _
 
 pub returns-in-Failed-clause-counts : goal.returns-in-Failed-clause-counts
-returns-in-Failed-clause-counts g c = (record { later = c.evict.ensures.later; rose = c.in-Failed.ensures.cause refl }, refl)
+returns-in-Failed-clause-counts g c = record { file = c.in-Failed.ensures.counts; sink = counts_still refl refl }
 
 pub list-requires-clause-turns : goal.list-requires-clause-turns
 list-requires-clause-turns g c =
@@ -40,13 +43,20 @@ pub returns-in-Evicted-clause-still : goal.returns-in-Evicted-clause-still
 returns-in-Evicted-clause-still g c = still_evict c.args.self.now c.evict.new.self _ _ _ c.evict.ensures.applies.0
 
 pub returns-in-Evicted-clause-counts : goal.returns-in-Evicted-clause-counts
-returns-in-Evicted-clause-counts g c = then_counts c.list.result _ _ _ _ _ _ (c.in-Evicted.ensures.quiet (λ x. cc)) refl (c.list.ensures.counts (g.F.PageFile.faults c.evict.new.file))
+returns-in-Evicted-clause-counts g c = then_counts c.list.result _ _ _ _ _ _ c.in-Evicted.ensures.counts.quiet refl (c.list.ensures.counts (g.F.PageFile.faults c.evict.new.file))
 
 pub returns-in_default : goal.returns-in_default
 returns-in_default g c = record {
   sound = c.evict.ensures.sound;
   done = λ o p f. evict_away o p c.args.self.now c.evict.new.self _ _ _ _ c.args.page f _ c.evict.ensures.applies c.evict.ensures.moves c.in_default.not-Failed c.in_default.not-Evicted;
   still = still_evict c.args.self.now c.evict.new.self _ _ _ c.evict.ensures.applies.0;
+  follows = evict_follows c.args.page c.args.self.now c.evict.new.self _ _ c.evict.result c.evict.ensures.applies;
   writes = writes_nothing _ _;
-  counts = (c.evict.ensures.quiet c.in_default.not-Failed, refl);
+  counts = counts_none (still_on (not_failed c.evict.result c.in_default.not-Failed) c.evict.ensures.counts) refl;
 }
+
+pub returns-in-Failed-clause-follows : goal.returns-in-Failed-clause-follows
+returns-in-Failed-clause-follows g c = evict_follows c.args.page c.args.self.now c.evict.new.self _ _ c.evict.result c.evict.ensures.applies
+
+pub returns-in-Evicted-clause-follows : goal.returns-in-Evicted-clause-follows
+returns-in-Evicted-clause-follows g c = evict_follows c.args.page c.args.self.now c.evict.new.self _ _ c.evict.result c.evict.ensures.applies

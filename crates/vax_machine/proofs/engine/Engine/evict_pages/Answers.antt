@@ -1,12 +1,13 @@
 use Rattle.std.proofs.Common.{refl, arith, ◌∙◌}
 use Rattle.vax_machine.proofs.Evicting.{none_yet}
-use Rattle.vax_machine.proofs.Outputs.{counts_like, err_like, then_counts, then_writes, writes_nothing}
+use Rattle.vax_machine.proofs.Outputs.{counts_like, counts_none, err_like, then_counts, then_writes, writes_nothing}
 use Rattle.vax_machine.proofs.Skipping.{last_done, next_done, next_failed}
 use Rattle.vax_machine.proofs.Tracking.{still_itself, then_still}
 use Rattle.vax_machine.proofs.engine.Engine.evict_pages.Goals as goal
 
 pub loop-page-init : goal.loop-page-init
 loop-page-init g c = record {
+  follows = λ start f. f;
   sound = c.requires.sound;
   still = still_itself c.args.self.now;
   writes = writes_nothing _ _;
@@ -33,12 +34,13 @@ returns-in_err-evict_one-clause-counts g c = then_counts c.from_residual.result 
 
 pub loop-page-preserved : goal.loop-page-preserved
 loop-page-preserved g c = record {
+  follows = λ start f. c.evict_one.ensures.follows start (c.loop-page.invariant.follows start f);
   sound = c.evict_one.ensures.sound;
   still = then_still _ _ _ c.loop-page.invariant.still c.evict_one.ensures.still;
   writes = then_writes _ _ _ _ _ _ c.loop-page.invariant.writes c.evict_one.ensures.writes;
   at = λ o p f. next_done c.args.pages.now c.loop-page.page-index o p _ _ _ _ c.loop-page-test.true (c.in_ok-evict_one.ensures.done o _ (c.loop-page.invariant.at o p f));
-  quiet = c.in_ok-evict_one.ensures.counts.0 ∙ c.loop-page.invariant.quiet;
-  written = c.in_ok-evict_one.ensures.counts.1 ∙ c.loop-page.invariant.written;
+  quiet = c.in_ok-evict_one.ensures.counts.file.quiet ∙ c.loop-page.invariant.quiet;
+  written = c.in_ok-evict_one.ensures.counts.sink.quiet ∙ c.loop-page.invariant.written;
 }
 
 pub returns-clause-sound : goal.returns-clause-sound
@@ -54,4 +56,10 @@ pub returns-clause-writes : goal.returns-clause-writes
 returns-clause-writes g c = c.loop-page.invariant.writes
 
 pub returns-clause-counts : goal.returns-clause-counts
-returns-clause-counts g c = (c.loop-page.invariant.quiet, c.loop-page.invariant.written)
+returns-clause-counts g c = counts_none c.loop-page.invariant.quiet c.loop-page.invariant.written
+
+pub returns-in_err-evict_one-clause-follows : goal.returns-in_err-evict_one-clause-follows
+returns-in_err-evict_one-clause-follows g c = λ start f. c.evict_one.ensures.follows start (c.loop-page.invariant.follows start f)
+
+pub returns-clause-follows : goal.returns-clause-follows
+returns-clause-follows g c = c.loop-page.invariant.follows

@@ -46,15 +46,6 @@ returns-in-Err-clause-applies g c = (
   keeps_place c.args.self.now _ _ _ _ c.in-Err.ensures.keeps,
 )
 
-pub returns-then-written-clause-quiet : goal.returns-then-written-clause-quiet
-returns-then-written-clause-quiet g c = λ other. c.in-Ok.ensures.quiet
-
-pub returns-else-written-clause-quiet : goal.returns-else-written-clause-quiet
-returns-else-written-clause-quiet g c = λ other. c.in-Ok.ensures.quiet
-
-pub returns-in-Err-clause-quiet : goal.returns-in-Err-clause-quiet
-returns-in-Err-clause-quiet g c = λ other. absurd (other refl)
-
 pub returns-then-written-clause-moves : goal.returns-then-written-clause-moves
 returns-then-written-clause-moves g c = (c.in-Ok.ensures.ok, c.in-Ok.ensures.wrote)
 

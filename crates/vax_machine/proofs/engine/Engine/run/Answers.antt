@@ -15,6 +15,7 @@ use Rattle.vax_machine.proofs.engine.Engine.run.Goals as goal
 
 pub loop-end-init : goal.loop-end-init
 loop-end-init g c = record {
+  follows = λ start f. f;
   sound = c.requires.sound;
   areas = refl;
   listed = c.new-held.ensures.listed;
@@ -73,6 +74,7 @@ several_turns-requires-clause-turns g c = (c.stopped.ensures.none c.in_default.i
 
 pub loop-end-preserved : goal.loop-end-preserved
 loop-end-preserved g c = record {
+  follows = λ start f. c.several_turns.ensures.follows start (c.loop-end.invariant.follows start f);
   sound = c.several_turns.ensures.sound;
   areas = c.in-Ok.ensures.areas ∙ c.loop-end.invariant.areas;
   listed = c.several_turns.ensures.writes.listed ∙ c.loop-end.invariant.listed;
@@ -84,8 +86,8 @@ loop-end-preserved g c = record {
       goes_further c.args.limits.now _ c.args.schedule.now (begun c.args.self.now place) _ c.loop-end.self _ _ _ _ r (begins_bounded c.args.self.now _ place c.facts.ensures.paging c.facts.ensures.space m pins) c.facts.ensures.space c.several_turns.new.self _ _ _
       (subst (λ (z : List Area). AreMade c.args.limits.now o z c.args.schedule.now p c.several_turns.new.self (g.F.PageFile.contents c.several_turns.new.file) (g.K.Sink.contents c.several_turns.new.sink) c.several_turns.new.held) c.loop-end.invariant.areas (c.in-Ok.ensures.done o p r.follows here));
   goes_on = λ b. c.in-Ok.ensures.goes_on;
-  quiet = c.in-Ok.ensures.counts.0 ∙ c.loop-end.invariant.quiet;
-  written = c.in-Ok.ensures.counts.1 ∙ c.loop-end.invariant.written;
+  quiet = c.in-Ok.ensures.counts.file.quiet ∙ c.loop-end.invariant.quiet;
+  written = c.in-Ok.ensures.counts.sink.quiet ∙ c.loop-end.invariant.written;
   only = then_wrote _ _ _ _ c.loop-end.invariant.only (subst (λ (b : Bool). OnlyWrote b (g.K.Sink.contents c.loop-end.sink) (g.K.Sink.contents c.several_turns.new.sink)) c.loop-end.invariant.listed c.several_turns.ensures.writes.only);
 }
 
@@ -121,3 +123,12 @@ returns-in-Err-Write-clause-ends g c = λ place m pins.
 pub returns-in-Err-Write-clause-only : goal.returns-in-Err-Write-clause-only
 returns-in-Err-Write-clause-only g c =
     then_wrote _ _ _ _ c.loop-end.invariant.only (subst (λ (b : Bool). OnlyWrote b (g.K.Sink.contents c.loop-end.sink) (g.K.Sink.contents c.several_turns.new.sink)) c.loop-end.invariant.listed c.several_turns.ensures.writes.only)
+
+pub returns-in-Some-clause-follows : goal.returns-in-Some-clause-follows
+returns-in-Some-clause-follows g c = c.loop-end.invariant.follows
+
+pub returns-in-Err-Page-clause-follows : goal.returns-in-Err-Page-clause-follows
+returns-in-Err-Page-clause-follows g c = λ start f. c.several_turns.ensures.follows start (c.loop-end.invariant.follows start f)
+
+pub returns-in-Err-Write-clause-follows : goal.returns-in-Err-Write-clause-follows
+returns-in-Err-Write-clause-follows g c = λ start f. c.several_turns.ensures.follows start (c.loop-end.invariant.follows start f)

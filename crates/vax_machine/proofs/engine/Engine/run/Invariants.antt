@@ -2,6 +2,7 @@ use Rattle.std.proofs.Common.{◌≡◌, ◌-◌}
 use Rattle.vax_flat.specs.Parts.{Place}
 use Rattle.vax_pager.specs.Meaning.{pages}
 use Rattle.vax_machine.specs.Console.{IsBetween, MayGoOn}
+use Rattle.vax_machine.specs.Events.{KeepsRun}
 use Rattle.vax_machine.specs.Machine.{IsSound, Means, residence}
 use Rattle.vax_machine.specs.Run.{begun, origin}
 use Rattle.vax_machine.specs.Touched.{PinsTouched}
@@ -15,6 +16,7 @@ invariant-loop-end g l = record {
   areas : (pages l.self.pager).areas ≡ (pages l.fn.self.pager).areas;
   listed : l.held.listed ≡ l.limits.listed;
   at : (place : Place) → Means l.fn.self (g.F.PageFile.contents l.fn.file) place → PinsTouched (residence l.fn.self) place → Reached l.limits (origin l.limits (pages l.fn.self.pager).areas (begun l.fn.self place) (g.F.PageFile.contents l.fn.file) (g.K.Sink.contents l.fn.sink)) (pages l.fn.self.pager).areas l.schedule l.self (g.F.PageFile.contents l.file) (g.K.Sink.contents l.sink) l.held;
+  follows : KeepsRun l.fn.self (g.F.PageFile.contents l.fn.file) l.self (g.F.PageFile.contents l.file);
   goes_on : IsBetween l.fn.self → MayGoOn l.limits.steps l.self;
   quiet : g.F.PageFile.faults l.file ≡ g.F.PageFile.faults l.fn.file;
   written : g.K.Sink.faults l.sink ≡ g.K.Sink.faults l.fn.sink;

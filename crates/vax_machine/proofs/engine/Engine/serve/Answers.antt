@@ -40,12 +40,6 @@ serve-requires-clause-absent g c = (c.requires.sound.pages.wanted c.in-Some.page
 pub serve-requires-clause-pins : goal.serve-requires-clause-pins
 serve-requires-clause-pins g c = few_pins _ (pages c.args.self.now.pager) _ _ c.in-Some.is c.requires.sound.pages
 
-pub returns-in-Ok-clause-quiet : goal.returns-in-Ok-clause-quiet
-returns-in-Ok-clause-quiet g c = λ other. c.in-Ok.ensures.quiet
-
-pub returns-in-Err-clause-quiet : goal.returns-in-Err-clause-quiet
-returns-in-Err-clause-quiet g c = λ other. absurd (other refl)
-
 pub returns-in-Ok-clause-inside : goal.returns-in-Ok-clause-inside
 returns-in-Ok-clause-inside g c = λ page is.
     let e : c.in-Ok.victim ≡ Some page = let k : Served c.in-Ok.victim ≡ Served (Some page) = is in cc in

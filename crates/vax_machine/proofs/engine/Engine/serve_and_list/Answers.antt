@@ -1,4 +1,5 @@
 use Rattle.std.proofs.Common.{arith, refl}
+use Rattle.vax_machine.proofs.Following.{serve_follows}
 use Rattle.vax_machine.proofs.Outputs.{then_counts, writes_nothing}
 use Rattle.vax_machine.proofs.Passing.{never_else, served_by, turns_stay}
 use Rattle.vax_machine.specs.Machine.{keeping}
@@ -23,3 +24,12 @@ returns-in_default-clause-served g c = absurd (never_else c.args.self.now.wanted
 
 pub returns-in_default-clause-writes : goal.returns-in_default-clause-writes
 returns-in_default-clause-writes g c = writes_nothing _ _
+
+pub returns-in-Failed-clause-follows : goal.returns-in-Failed-clause-follows
+returns-in-Failed-clause-follows g c = serve_follows c.args.self.now c.serve.new.self _ _ c.serve.result c.serve.ensures.applies
+
+pub returns-in-Served-clause-follows : goal.returns-in-Served-clause-follows
+returns-in-Served-clause-follows g c = serve_follows c.args.self.now c.serve.new.self _ _ c.serve.result c.serve.ensures.applies
+
+pub returns-in_default-clause-follows : goal.returns-in_default-clause-follows
+returns-in_default-clause-follows g c = serve_follows c.args.self.now c.serve.new.self _ _ c.serve.result c.serve.ensures.applies

@@ -17,3 +17,7 @@ returns-clause-passes g c =
 
 pub returns-clause-still : goal.returns-clause-still
 returns-clause-still g c = record { listed = refl; only = only_passes _ _ _ c.make_space.result _ _ refl (λ e. refl) c.make_space.ensures.passes }
+
+pub returns-in_err-make_space-clause-counts : goal.returns-in_err-make_space-clause-counts
+returns-in_err-make_space-clause-counts g c = λ file.
+    counts_like c.from_residual.result c.make_space.result _ _ _ _ (err_like c.from_residual.result c.make_space.result _ c.from_residual.ensures.1 c.in_err-make_space.was) (c.make_space.ensures.counts file)

@@ -1,7 +1,7 @@
 use Rattle.std.proofs.Common.{refl}
 use Rattle.vax_sched.specs.Printed.{at_line}
 use Rattle.vax_machine.proofs.Holding.{line_held, listed_behind, never_unlisted, only_passes, stuck, through, unlisted_passes}
-use Rattle.vax_machine.proofs.Outputs.{err_like, writes_nothing}
+use Rattle.vax_machine.proofs.Outputs.{counts_like, err_like, writes_nothing}
 use Rattle.vax_machine.proofs.held.Held.list.Goals as goal
 
 pub returns-in_err-make_room-clause-passes : goal.returns-in_err-make_room-clause-passes
@@ -23,3 +23,7 @@ returns-else-self-clause-passes g c = unlisted_passes c.args.self.now c.args.tur
 
 pub returns-else-self-clause-still : goal.returns-else-self-clause-still
 returns-else-self-clause-still g c = writes_nothing _ _
+
+pub returns-in_err-make_room-clause-counts : goal.returns-in_err-make_room-clause-counts
+returns-in_err-make_room-clause-counts g c = λ file.
+    counts_like c.from_residual.result c.make_room.result _ _ _ _ (err_like c.from_residual.result c.make_room.result _ c.from_residual.ensures.1 c.in_err-make_room.was) (c.make_room.ensures.counts file)

@@ -26,4 +26,8 @@ returns-clause-still g c =
     write_still c.args.self.now c.write_lines.result _ _ _ wrote c.write_lines.ensures.puts
 
 pub returns-clause-counts : goal.returns-clause-counts
-returns-clause-counts g c = λ file. then_counts c.write_lines.result file file file _ _ _ refl (c.in_ok-put.ensures.counts file).1 (c.write_lines.ensures.counts file)
+returns-clause-counts g c = λ file. then_counts c.write_lines.result file file file _ _ _ refl (c.in_ok-put.ensures.counts file).sink.quiet (c.write_lines.ensures.counts file)
+
+pub returns-in_err-put-clause-counts : goal.returns-in_err-put-clause-counts
+returns-in_err-put-clause-counts g c = λ file.
+    counts_like c.from_residual.result c.put.result _ _ _ _ (err_like c.from_residual.result c.put.result _ c.from_residual.ensures.1 c.in_err-put.was) (c.put.ensures.counts file)

@@ -1,8 +1,9 @@
-use Rattle.std.proofs.Common.{◌≡◌, true, arith, ap, sym, subst, length, List, ℕ}
+use Rattle.std.proofs.Common.{◌≡◌, ◌∙◌, rules, true, arith, ap, sym, subst, length, List, ℕ}
 use Rattle.std.specs.Prelude.{is_some}
 use Rattle.vax_space.specs.declared.Area.{Area}
 use Rattle.vax_space.specs.Areas.{area_of}
-use Rattle.vax_outside.proofs.Growth.{on_err}
+use Rattle.vax_outside.proofs.Counting.{counts_then}
+use Rattle.vax_pager.proofs.Marking.{then_none}
 use Rattle.vax_pager.proofs.Poking.{both_here, pins_in, then_alike}
 use Rattle.vax_pager.proofs.store.Store.bring_both.Goals as goal
 
@@ -23,8 +24,8 @@ bring_in-requires-2-clause-pins g c =
 pub returns-in_err-bring_in-2-clause-alike : goal.returns-in_err-bring_in-2-clause-alike
 returns-in_err-bring_in-2-clause-alike g c = then_alike _ _ _ c.bring_in.ensures.alike c.bring_in-2.ensures.alike
 
-pub returns-in_err-bring_in-2-clause-cause : goal.returns-in_err-bring_in-2-clause-cause
-returns-in_err-bring_in-2-clause-cause g c = on_err c.from_residual-in_err-bring_in-2.result (let q = c.in_ok-bring_in.ensures.quiet in let r = c.in_err-bring_in-2.ensures.cause in omega (arith, q, r))
+pub returns-in_err-bring_in-2-clause-counts : goal.returns-in_err-bring_in-2-clause-counts
+returns-in_err-bring_in-2-clause-counts g c = counts_then (search rules) c.in_ok-bring_in.ensures.counts.quiet c.in_err-bring_in-2.ensures.counts
 
 pub returns-in_err-bring_in-2-clause-keeps : goal.returns-in_err-bring_in-2-clause-keeps
 returns-in_err-bring_in-2-clause-keeps g c = λ memory st. c.bring_in-2.ensures.keeps memory (c.bring_in.ensures.keeps memory st)
@@ -47,8 +48,9 @@ bring_in-requires-3-clause-pins g c =
 pub returns-in_err-bring_in-3-clause-alike : goal.returns-in_err-bring_in-3-clause-alike
 returns-in_err-bring_in-3-clause-alike g c = then_alike _ _ _ (then_alike _ _ _ c.bring_in.ensures.alike c.bring_in-2.ensures.alike) c.bring_in-3.ensures.alike
 
-pub returns-in_err-bring_in-3-clause-cause : goal.returns-in_err-bring_in-3-clause-cause
-returns-in_err-bring_in-3-clause-cause g c = on_err c.from_residual-in_err-bring_in-3.result (let p = c.in_ok-bring_in.ensures.quiet in let q = c.in_ok-bring_in-2.ensures.quiet in let r = c.in_err-bring_in-3.ensures.cause in omega (arith, p, q, r))
+pub returns-in_err-bring_in-3-clause-counts : goal.returns-in_err-bring_in-3-clause-counts
+returns-in_err-bring_in-3-clause-counts g c =
+    counts_then (search rules) (c.in_ok-bring_in-2.ensures.counts.quiet ∙ c.in_ok-bring_in.ensures.counts.quiet) c.in_err-bring_in-3.ensures.counts
 
 pub returns-in_err-bring_in-3-clause-keeps : goal.returns-in_err-bring_in-3-clause-keeps
 returns-in_err-bring_in-3-clause-keeps g c = λ memory st. c.bring_in-3.ensures.keeps memory (c.bring_in-2.ensures.keeps memory (c.bring_in.ensures.keeps memory st))
@@ -64,3 +66,12 @@ returns-clause-high g c = both_here c.args.low c.args.high _ _ _ _ c.in_ok-bring
 
 pub returns-clause-keeps : goal.returns-clause-keeps
 returns-clause-keeps g c = λ memory st. c.bring_in-3.ensures.keeps memory (c.bring_in-2.ensures.keeps memory (c.bring_in.ensures.keeps memory st))
+
+pub returns-in_err-bring_in-2-clause-marks : goal.returns-in_err-bring_in-2-clause-marks
+returns-in_err-bring_in-2-clause-marks g c = then_none _ _ _ _ _ _ c.bring_in.ensures.marks c.bring_in-2.ensures.marks
+
+pub returns-in_err-bring_in-3-clause-marks : goal.returns-in_err-bring_in-3-clause-marks
+returns-in_err-bring_in-3-clause-marks g c = then_none _ _ _ _ _ _ (then_none _ _ _ _ _ _ c.bring_in.ensures.marks c.bring_in-2.ensures.marks) c.bring_in-3.ensures.marks
+
+pub returns-clause-marks : goal.returns-clause-marks
+returns-clause-marks g c = then_none _ _ _ _ _ _ (then_none _ _ _ _ _ _ c.bring_in.ensures.marks c.bring_in-2.ensures.marks) c.bring_in-3.ensures.marks

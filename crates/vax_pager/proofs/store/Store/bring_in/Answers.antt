@@ -1,4 +1,5 @@
 use Rattle.std.proofs.Common.{rules}
+use Rattle.vax_pager.proofs.Marking.{came_none, left_none, none_itself}
 use Rattle.vax_pager.proofs.Poking.{alike_itself, came_alike, left_alike, served_in, was_in}
 use Rattle.vax_pager.proofs.store.Store.bring_in.Goals as goal
 
@@ -16,3 +17,12 @@ returns-else-not-is_resident-clause-alike g c = alike_itself _
 
 pub returns-else-not-is_resident-clause-brings : goal.returns-else-not-is_resident-clause-brings
 returns-else-not-is_resident-clause-brings g c = was_in c.args.page _ (search rules)
+
+pub returns-in_err-serve-clause-marks : goal.returns-in_err-serve-clause-marks
+returns-in_err-serve-clause-marks g c = left_none _ _ _ _ _ c.in_err-serve.ensures.err
+
+pub returns-in_ok-serve-clause-marks : goal.returns-in_ok-serve-clause-marks
+returns-in_ok-serve-clause-marks g c = came_none _ c.args.page _ _ _ _ _ c.in_ok-serve.ensures.ok c.in_ok-serve.ensures.file
+
+pub returns-else-not-is_resident-clause-marks : goal.returns-else-not-is_resident-clause-marks
+returns-else-not-is_resident-clause-marks g c = none_itself _ _

@@ -6,7 +6,8 @@ use Rattle.vax_space.specs.Areas.{area_of}
 use Rattle.vax_space.specs.Reference.{byte_after, page_of, violation}
 use Rattle.vax_pager.specs.Listing.{is_listed}
 use Rattle.vax_pager.specs.Store.{paging}
-use Rattle.vax_pager.proofs.Poking.{all_alike, allowed_by, areas_settled, failed_pokes, first_inside, frames_settled, has_failed, has_poked, order_settled, pins_settled, range_inside}
+use Rattle.vax_pager.proofs.Poked.{all_alike, areas_settled, frames_settled, has_failed, has_poked, order_settled, pins_settled}
+use Rattle.vax_pager.proofs.Poking.{allowed_by, failed_pokes, first_inside, range_inside}
 use Rattle.vax_pager.proofs.store.Store.poke.Goals as goal
 
 pub bring_both-brought-requires-clause-low : goal.bring_both-brought-requires-clause-low
@@ -30,12 +31,12 @@ bring_both-brought-requires-clause-frames g c = let e = frames_settled _ _ c.set
 pub returns-in_err-brought-clause-pokes : goal.returns-in_err-brought-clause-pokes
 returns-in_err-brought-clause-pokes g c =
     failed_pokes c.from_residual.result c.args.addr c.args.bytes.now _ _ _ _ c.from_residual.ensures.0
-    (has_failed _ _ _ _ _ _ c.settle.ensures.paging c.bring_both-brought.ensures.alike c.bring_both-brought.ensures.keeps c.settle-2.ensures.paging)
+    (has_failed _ _ _ _ _ _ c.settle.ensures.paging c.bring_both-brought.ensures.alike c.bring_both-brought.ensures.keeps c.settle-2.ensures.paging c.bring_both-brought.ensures.marks)
 
 pub put_bytes-requires-clause-allowed : goal.put_bytes-requires-clause-allowed
 put_bytes-requires-clause-allowed g c =
     let v = allowed_by c.check.result _ c.check.ensures (sym c.is_err.ensures.value ∙ c.if-is_err.false) in
-    let e = (all_alike _ _ _ _ _ _ c.settle.ensures.paging c.bring_both-brought.ensures.alike c.bring_both-brought.ensures.keeps c.settle-2.ensures.paging).areas in
+    let e = (all_alike _ _ _ _ _ _ c.settle.ensures.paging c.bring_both-brought.ensures.alike c.bring_both-brought.ensures.keeps c.settle-2.ensures.paging c.bring_both-brought.ensures.marks).areas in
     subst (λ (z : List Area). violation z c.args.addr (length c.args.bytes.now) 0 Write ≡ None) (sym e) v
 
 pub put_bytes-requires-clause-low : goal.put_bytes-requires-clause-low
@@ -46,4 +47,4 @@ put_bytes-requires-clause-high g c = ap (is_listed (page_of (byte_after c.args.a
 
 pub returns-clause-pokes : goal.returns-clause-pokes
 returns-clause-pokes g c =
-    has_poked _ _ _ _ _ _ c.settle.ensures.paging c.bring_both-brought.ensures.alike c.bring_both-brought.ensures.keeps c.settle-2.ensures.paging _ c.args.addr c.args.bytes.now c.facts.ensures c.put_bytes.ensures.writes
+    has_poked _ _ _ _ _ _ c.settle.ensures.paging c.bring_both-brought.ensures.alike c.bring_both-brought.ensures.keeps c.settle-2.ensures.paging c.bring_both-brought.ensures.marks _ c.args.addr c.args.bytes.now c.facts.ensures c.put_bytes.ensures.writes
