@@ -1,7 +1,6 @@
 //! Runs a program: makes a machine and its schedule, runs it, and reports.
-ghost use Rattle.std.specs.Prelude.{◌≡◌, ◌≢◌, ◌⊎◌, ◌≤◌, ◌<◌, ◌^◌, ◌-◌, ℕ, List, [], Result, Ok, IfOk, IfErr, length};
-ghost use Rattle.vax_outside.specs.Channels.{Channels, only};
-ghost use Rattle.vax_outside.specs.Faults.{Rose};
+ghost use Rattle.std.specs.Prelude.{◌≡◌, ◌⊎◌, ◌≤◌, ◌<◌, ◌^◌, ◌-◌, ℕ, [], Result, Ok, IfOk, IfErr, length};
+ghost use Rattle.vax_outside.specs.Channels.{only};
 ghost use Rattle.vax_outside.specs.declared.traits.Chan.TheVariants.{Report};
 ghost use Rattle.vax_flat.specs.Step.{Flat};
 ghost use Rattle.vax_image.specs.Start.{Start, start_areas};
@@ -71,7 +70,7 @@ fn report_all<K: Sink, F: PageFile>(
 ) -> Status
     ensures reported { EndsSo (change K.faults K.contents sink.old sink.new)
         (IsReported (change F.faults F.contents pages.old pages.new)
-            (engine machine) last meant (items_of room.blanks.items)) result }
+        (engine machine) last meant (items_of room.blanks.items)) result }
     ensures reads { OnlyRead (F.contents pages.old) (F.contents pages.new) }
     ensures unread { items_of room.blanks.items ≡ [] → F.contents pages.new ≡ F.contents pages.old }
     ensures later { F.faults pages.old ≤ F.faults pages.new }
@@ -98,9 +97,9 @@ fn execute<K: Sink, F: PageFile>(
     ensures went { (frames : ℕ) → (m : Flat) → IsFresh (engine machine) frames m →
         EndsSo (change K.faults K.contents sink.old sink.new)
         (Went (outside (change K.faults K.contents sink.old sink.new)
-            (change F.faults F.contents pages.old pages.new))
-            limits.now (keeping (engine machine)).areas schedule.now (fresh frames m)
-            (items_of room.blanks.items)) result }
+        (change F.faults F.contents pages.old pages.new))
+        limits.now (keeping (engine machine)).areas schedule.now (fresh frames m)
+        (items_of room.blanks.items)) result }
     ensures failed { Admits (F.faults pages.old) (F.faults pages.new) Status.PageFault result }
 {
     let mut machine = machine;
@@ -219,7 +218,7 @@ pub fn run_programs<K: Sink, F: PageFile>(
     requires within { AreWithin (said_options options.now) }
     ensures ran { Ran
         (outside (change K.faults K.contents sink.old sink.new)
-            (change F.faults F.contents pages.old pages.new))
+        (change F.faults F.contents pages.old pages.new))
         (loaded_seen programs.now) input.items schedule.now (said_options options.now) result }
     ensures failed { Admits (F.faults pages.old) (F.faults pages.new) Status.PageFault result }
 {

@@ -1,8 +1,6 @@
 //! Holds sessions of the console on programs.
 
-ghost use Rattle.std.specs.Prelude.{◌≡◌, ◌≢◌, ◌⊎◌, ◌≤◌, ◌<◌, ◌^◌, ◌-◌, ℕ, length};
-ghost use Rattle.vax_outside.specs.Channels.{Channels};
-ghost use Rattle.vax_outside.specs.Faults.{Rose};
+ghost use Rattle.std.specs.Prelude.{◌≤◌, ◌<◌, ◌^◌, ◌-◌, ℕ, length};
 ghost use Rattle.vax_flat.specs.Step.{Flat};
 ghost use Rattle.vax_machine.specs.Console.{IsBetween};
 ghost use Rattle.vax_machine.specs.Meaning.{engine};
@@ -42,7 +40,7 @@ fn hold<K: Sink, F: PageFile>(
     ensures went { (frames : ℕ) → (m : Flat) → IsFresh (engine machine) frames m →
         EndsSo (change K.faults K.contents sink.old sink.new)
         (SessionWent (change F.faults F.contents pages.old pages.new)
-            limits.now.steps limits.now.turns schedule.now m (readings script.now)) result }
+        limits.now.steps limits.now.turns schedule.now m (readings script.now)) result }
     ensures failed { Admits (F.faults pages.old) (F.faults pages.new) Status.PageFault result }
 {
     let mut machine = machine;
@@ -75,7 +73,7 @@ pub fn hold_session<K: Sink, F: PageFile>(
     requires within { AreWithin (said_options options.now) }
     ensures held { Held
         (outside (change K.faults K.contents sink.old sink.new)
-            (change F.faults F.contents pages.old pages.new))
+        (change F.faults F.contents pages.old pages.new))
         (loaded_seen programs.now) input.items schedule.now script.now
         (said_options options.now) result }
     ensures failed { Admits (F.faults pages.old) (F.faults pages.new) Status.PageFault result }

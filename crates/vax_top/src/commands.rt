@@ -47,9 +47,9 @@ pub(crate) fn run_bare<S: Files, K: Sink, F: PageFile>(
     requires few { length names.now ≤ 8 }
     requires within { AreWithin (said_options options.now) }
     ensures carries { Carries (around
-            (change S.faults S.contents files.old files.new)
-            (change K.faults K.contents sink.old sink.new)
-            (change F.faults F.contents pages.old pages.new))
+        (change S.faults S.contents files.old files.new)
+        (change K.faults K.contents sink.old sink.new)
+        (change F.faults F.contents pages.old pages.new))
         (bare (names_of names.now) (said_options options.now)) result }
     ensures read_failed { Admits (S.faults files.old) (S.faults files.new) Status.ReadFault result }
     ensures page_failed { Admits (F.faults pages.old) (F.faults pages.new) Status.PageFault result }
@@ -85,7 +85,7 @@ fn run_over<K: Sink, F: PageFile>(
     requires within { AreWithin (said_options options.now) }
     ensures ran { RanOf
         (outside (change K.faults K.contents sink.old sink.new)
-            (change F.faults F.contents pages.old pages.new))
+        (change F.faults F.contents pages.old pages.new))
         (user_loaded (texts_seen texts.now) (system_text (bytes_of given.system)))
         given.input.items given.schedule.items (said_options options.now) result }
     ensures failed { Admits (F.faults pages.old) (F.faults pages.new) Status.PageFault result }
@@ -118,9 +118,9 @@ pub(crate) fn run_user<S: Files, K: Sink, F: PageFile>(
     requires few { length names.now ≤ 8 }
     requires within { AreWithin (said_options options.now) }
     ensures carries { Carries (around
-            (change S.faults S.contents files.old files.new)
-            (change K.faults K.contents sink.old sink.new)
-            (change F.faults F.contents pages.old pages.new))
+        (change S.faults S.contents files.old files.new)
+        (change K.faults K.contents sink.old sink.new)
+        (change F.faults F.contents pages.old pages.new))
         (run (names_of names.now) (said_options options.now)) result }
     ensures read_failed { Admits (S.faults files.old) (S.faults files.new) Status.ReadFault result }
     ensures page_failed { Admits (F.faults pages.old) (F.faults pages.new) Status.PageFault result }
@@ -155,9 +155,9 @@ pub(crate) fn run_work<S: Files, K: Sink, F: PageFile>(
     requires few { size ≤ 5000 }
     requires within { AreWithin (said_options options.now) }
     ensures carries { Carries (around
-            (change S.faults S.contents files.old files.new)
-            (change K.faults K.contents sink.old sink.new)
-            (change F.faults F.contents pages.old pages.new))
+        (change S.faults S.contents files.old files.new)
+        (change K.faults K.contents sink.old sink.new)
+        (change F.faults F.contents pages.old pages.new))
         (work seed size (said_options options.now)) result }
     ensures read_failed { Admits (S.faults files.old) (S.faults files.new) Status.ReadFault result }
     ensures page_failed { Admits (F.faults pages.old) (F.faults pages.new) Status.PageFault result }
@@ -210,9 +210,9 @@ pub(crate) fn build<S: Files, K: Sink>(
     requires some { 1 ≤ length names.now }
     requires few { length names.now ≤ 8 }
     ensures carries { Carries (around
-            (change S.faults S.contents files.old files.new)
-            (change K.faults K.contents sink.old sink.new)
-            untouched)
+        (change S.faults S.contents files.old files.new)
+        (change K.faults K.contents sink.old sink.new)
+        untouched)
         (build (names_of names.now) base format) result }
     ensures read_failed { Admits (S.faults files.old) (S.faults files.new) Status.ReadFault result }
 {
@@ -252,9 +252,9 @@ pub(crate) fn list<S: Files, K: Sink>(
     requires some { 1 ≤ length names.now }
     requires few { length names.now ≤ 8 }
     ensures carries { Carries (around
-            (change S.faults S.contents files.old files.new)
-            (change K.faults K.contents sink.old sink.new)
-            untouched)
+        (change S.faults S.contents files.old files.new)
+        (change K.faults K.contents sink.old sink.new)
+        untouched)
         (list (names_of names.now) base) result }
     ensures read_failed { Admits (S.faults files.old) (S.faults files.new) Status.ReadFault result }
 {

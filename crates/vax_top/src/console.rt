@@ -64,9 +64,9 @@ pub(crate) fn run_console<S: Files, K: Sink, F: PageFile>(
     requires few { length names.now ≤ 8 }
     requires within { AreWithin (said_options options.now) }
     ensures carries { Carries (around
-            (change S.faults S.contents files.old files.new)
-            (change K.faults K.contents sink.old sink.new)
-            (change F.faults F.contents pages.old pages.new))
+        (change S.faults S.contents files.old files.new)
+        (change K.faults K.contents sink.old sink.new)
+        (change F.faults F.contents pages.old pages.new))
         (console (names_of names.now) base script.now (said_options options.now)) result }
     ensures read_failed { Admits (S.faults files.old) (S.faults files.new) Status.ReadFault result }
     ensures page_failed { Admits (F.faults pages.old) (F.faults pages.new) Status.PageFault result }

@@ -40,9 +40,9 @@ fn carry_out<S: Files, K: Sink, F: PageFile>(
 ) -> Status
     requires within { IsWithin (said command) }
     ensures carries { Carries (around
-            (change S.faults S.contents files.old files.new)
-            (change K.faults K.contents sink.old sink.new)
-            (change F.faults F.contents pages.old pages.new))
+        (change S.faults S.contents files.old files.new)
+        (change K.faults K.contents sink.old sink.new)
+        (change F.faults F.contents pages.old pages.new))
         (said command.entry) result }
     ensures read_failed { Admits (S.faults files.old) (S.faults files.new) Status.ReadFault result }
     ensures page_failed { Admits (F.faults pages.old) (F.faults pages.new) Status.PageFault result }
@@ -95,9 +95,9 @@ fn perform<S: Files, K: Sink, F: PageFile>(
     pages: &mut F,
 ) -> Status
     ensures headline { Comes (around
-            (change S.faults S.contents files.old files.new)
-            (change K.faults K.contents sink.old sink.new)
-            (change F.faults F.contents pages.old pages.new))
+        (change S.faults S.contents files.old files.new)
+        (change K.faults K.contents sink.old sink.new)
+        (change F.faults F.contents pages.old pages.new))
         (texts words.now) result }
     ensures read_failed { Admits (S.faults files.old) (S.faults files.new) Status.ReadFault result }
     ensures page_failed { Admits (F.faults pages.old) (F.faults pages.new) Status.PageFault result }
@@ -118,9 +118,9 @@ pub fn vax_main<S: Files, K: Sink, F: PageFile>(
     pages: &mut F,
 ) -> Status
     ensures headline { Comes (around
-            (change S.faults S.contents files.old files.new)
-            (change K.faults K.contents sink.old sink.new)
-            (change F.faults F.contents pages.old pages.new))
+        (change S.faults S.contents files.old files.new)
+        (change K.faults K.contents sink.old sink.new)
+        (change F.faults F.contents pages.old pages.new))
         (texts words.now) result }
     ensures usage { result ≡ Status.Usage → command_of (texts words.now) ≡ None }
     ensures not_plain { command_of (texts words.now) ≡ None →

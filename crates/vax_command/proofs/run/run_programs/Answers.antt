@@ -1,4 +1,4 @@
-use Rattle.std.proofs.Common.{◌≡◌, List, subst}
+use Rattle.std.proofs.Common.{List, subst}
 use Rattle.vax_image.specs.Start.{Start}
 use Rattle.vax_machine.specs.Machine.{keeping}
 use Rattle.vax_machine.specs.Meaning.{engine}
@@ -10,7 +10,7 @@ use Rattle.vax_command.specs.Around.{change, outside}
 use Rattle.vax_command.specs.Loaded.{loaded_seen}
 use Rattle.vax_command.specs.Room.{items_of}
 use Rattle.vax_command.specs.Went.{limits_of}
-use Rattle.vax_command.proofs.RunLaws.{Told, run_misplanned, run_went}
+use Rattle.vax_command.proofs.RunLaws.{Told, run_went}
 use Rattle.vax_command.proofs.run.run_programs.Goals as goal
 
 pub returns-in-Ok-clause-ran : goal.returns-in-Ok-clause-ran

@@ -1,4 +1,3 @@
-use Rattle.std.proofs.Common.{◌≡◌}
 use Rattle.vax_image.specs.Start.{Start}
 use Rattle.vax_cli.specs.Said.{options as said_options}
 use Rattle.vax_command.specs.Around.{change, outside}

@@ -1,4 +1,4 @@
-use Rattle.std.proofs.Common.{◌≡◌, None, ap, refl, subst, sym, ◌∙◌}
+use Rattle.std.proofs.Common.{None, ap, refl, subst, sym, ◌∙◌}
 use Rattle.vax_cli.specs.Said.{names_of, options as said_options}
 use Rattle.vax_cli.specs.Words.{Text, bare}
 use Rattle.vax_command.specs.Around.{around, change, outside_of}

@@ -1,4 +1,4 @@
-use Rattle.std.proofs.Common.{◌≡◌, ap, ◌∙◌, refl, subst}
+use Rattle.std.proofs.Common.{ap, ◌∙◌, refl, subst}
 use Rattle.vax_cli.specs.Said.{options as said_options}
 use Rattle.vax_cli.specs.Words.{Text}
 use Rattle.vax_command.specs.Around.{change, outside}

@@ -1,4 +1,4 @@
-use Rattle.std.proofs.Common.{◌≡◌, [], None, List, refl, subst, ap, ◌∙◌}
+use Rattle.std.proofs.Common.{[], None, List, refl, subst, ap, ◌∙◌}
 use Rattle.vax_cli.specs.Said.{options as said_options}
 use Rattle.vax_cli.specs.Words.{Text, work}
 use Rattle.vax_guest.specs.Executive.{executive_source}

@@ -1,4 +1,4 @@
-use Rattle.std.proofs.Common.{◌≡◌, ap, subst, sym, ◌∙◌}
+use Rattle.std.proofs.Common.{ap, subst, sym, ◌∙◌}
 use Rattle.vax_cli.specs.Said.{names_of, options as said_options, said}
 use Rattle.vax_cli.specs.Words.{Said, bare, console, run}
 use Rattle.vax_command.specs.Around.{around, change}

@@ -1,4 +1,4 @@
-use Rattle.std.proofs.Common.{◌≡◌, refl}
+use Rattle.std.proofs.Common.{refl}
 use Rattle.vax_cli.specs.Said.{texts}
 use Rattle.vax_cli.specs.Words.{command_of}
 use Rattle.vax_command.specs.Around.{around, change}

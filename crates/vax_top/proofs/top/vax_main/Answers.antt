@@ -1,4 +1,3 @@
-use Rattle.std.proofs.Common.{◌≡◌}
 use Rattle.vax_top.proofs.TopLaws.{large, missing, not_plain, page_fault, read_fault, refused, usage, write_failed, write_fault}
 use Rattle.vax_top.proofs.top.vax_main.Goals as goal
 
