@@ -10,7 +10,7 @@ use Rattle.std.proofs.Math.Seq.{take-append_seam, take-suc}
 use Rattle.vax_outside.specs.Directory.{Directory, read_result}
 use Rattle.vax_outside.specs.declared.traits.FilesFault.{FilesFault}
 use Rattle.vax_cli.specs.Words.{Options, Text}
-use Rattle.vax_command.specs.Reading.{EndsBy, HasTexts, Reads, ReadEnds, Texts, behind, file_limit, first_of, given, joined_reads, of_options, option_of, read_files}
+use Rattle.vax_command.specs.Reading.{EndsBy, HasTexts, Reads, ReadEndsFrom, Texts, behind, file_limit, first_of, given, joined_reads, of_options, option_of, read_files}
 use Rattle.vax_command.specs.declared.status.Status.{Status}
 use Rattle.vax_command.specs.declared.status.Status.TheVariants.{Done, Usage, Missing, Large, Refused, Link, Schedule, Image, Turns, PageFault, ReadFault, WriteFault, NoMemory}
 
@@ -69,13 +69,13 @@ ends_more rose later P Q WriteFault up f e = e
 ends_more rose later P Q NoMemory up f e = e
 
 -- the read of the first ends the call, or that of the second
-pub ends_first : (rose later : Type 0) (c : Option Directory) (xs ys : List Text) (status : Status) → (rose → later) → ReadEnds rose c xs status → ReadEnds later c (xs ++ ys) status
+pub ends_first : (rose later : Type 0) (c : Option Directory) (xs ys : List Text) (status : Status) → (rose → later) → ReadEndsFrom rose c xs status → ReadEndsFrom later c (xs ++ ys) status
 ends_first rose later c xs ys status up e = ends_more rose later (λ why. Reads c xs (Err why)) (λ why. Reads c (xs ++ ys) (Err why)) status up (λ why. reads_first c xs ys why) e
 
-pub ends_then : (rose later : Type 0) (c d : Option Directory) (xs ys a : List Text) (status : Status) → d ≡ c → (rose → later) → Reads c xs (Ok a) → ReadEnds rose d ys status → ReadEnds later c (xs ++ ys) status
+pub ends_then : (rose later : Type 0) (c d : Option Directory) (xs ys a : List Text) (status : Status) → d ≡ c → (rose → later) → Reads c xs (Ok a) → ReadEndsFrom rose d ys status → ReadEndsFrom later c (xs ++ ys) status
 ends_then rose later c d xs ys a status same up p e =
     ends_more rose later (λ why. Reads c ys (Err why)) (λ why. Reads c (xs ++ ys) (Err why)) status up (λ why. reads_then c xs ys a why p)
-    (subst (λ k. ReadEnds rose k ys status) same e)
+    (subst (λ k. ReadEndsFrom rose k ys status) same e)
 
 pub rose_from : (before mid now : ℕ) → mid ≡ before → Rose mid now → Rose before now
 rose_from before mid now same rose = omega (arith, same, rose)
@@ -157,9 +157,9 @@ one_more c d names i x a bytes l same reads one =
     rw (taken names i x l) (reads_both c (names_of (take i names)) ((get_or names i x).now ∷ []) a (bytes ∷ []) reads (subst (λ k. Reads k ((get_or names i x).now ∷ []) (Ok (bytes ∷ []))) same one))
 
 -- the read of a name ends the call
-pub ends_at : (rose later : Type 0) (c d : Option Directory) (names : List (Bor Text)) (i : ℕ) (x : Bor Text) (a : List Text) (status : Status) → i < length names → d ≡ c → (rose → later) → Reads c (names_of (take i names)) (Ok a) → ReadEnds rose d ((get_or names i x).now ∷ []) status → ReadEnds later c (names_of names) status
+pub ends_at : (rose later : Type 0) (c d : Option Directory) (names : List (Bor Text)) (i : ℕ) (x : Bor Text) (a : List Text) (status : Status) → i < length names → d ≡ c → (rose → later) → Reads c (names_of (take i names)) (Ok a) → ReadEndsFrom rose d ((get_or names i x).now ∷ []) status → ReadEndsFrom later c (names_of names) status
 ends_at rose later c d names i x a status l same up reads e =
-    subst (λ ns. ReadEnds later c ns status) (cut_at names i x l)
+    subst (λ ns. ReadEndsFrom later c ns status) (cut_at names i x l)
     (ends_then rose later c d (names_of (take i names)) ((get_or names i x).now ∷ names_of (drop (i + 1) names)) a status same up reads
     (ends_first rose rose d ((get_or names i x).now ∷ []) (names_of (drop (i + 1) names)) status (λ r. r) e))
 

@@ -4,7 +4,6 @@ use Rattle.std.specs.List.{flat_map}
 use Rattle.vax_space.specs.declared.Area.{Area}
 use Rattle.vax_outside.specs.Blocks.{BlockFile}
 use Rattle.vax_outside.specs.Channels.{Channels, Grew, GrewByPrefix, append, nothing, only}
-use Rattle.vax_outside.specs.Faults.{Rose}
 use Rattle.vax_outside.specs.declared.traits.Chan.TheVariants.{Report}
 use Rattle.vax_outside.proofs.Growth.{append-nothing, grew_more, grew_nothing, prefix_in}
 use Rattle.vax_flat.specs.Parts.{Place, At, Within, machine_at, units_done}
@@ -38,22 +37,23 @@ use Rattle.vax_machine.specs.declared.event.RunEnd.TheVariants as run_end
 use Rattle.vax_word.specs.declared.Core.{Core}
 use Rattle.vax_cli.specs.Words.{Options, Text}
 use Rattle.vax_cli.specs.declared.command.DumpItem.{DumpItem}
-use Rattle.vax_command.specs.Ends.{Ends}
+use Rattle.vax_command.specs.Around.{Change, HasFailed, Outside, Seen}
+use Rattle.vax_command.specs.Ends.{Ends, EndsFrom, EndsSo}
 use Rattle.vax_command.specs.Fresh.{IsFresh, IsPrepared, IsReported, machine_report}
 use Rattle.vax_command.specs.Status.{refusal_growth}
 use Rattle.vax_command.specs.Loaded.{Loaded}
-use Rattle.vax_command.specs.Pages.{HasRun, Outside, outside_of}
-use Rattle.vax_command.specs.Running.{IsFaulty, IsRunning}
-use Rattle.vax_command.specs.Went.{IsRunAnswer, Went, dumps_at, last_of, limits_of, run_output, run_report, shown, status_of}
+use Rattle.vax_command.specs.Pages.{HasRun}
+use Rattle.vax_command.specs.Running.{IsFaulty, Ran}
+use Rattle.vax_command.specs.Went.{IsRunAnswer, Went, WentFrom, dumps_at, last_of, limits_of, run_output, run_report, shown, status_of}
 use Rattle.vax_command.specs.declared.status.Status.{Status}
 use Rattle.vax_command.specs.declared.status.Status.TheVariants.{Done, NoMemory, PageFault, WriteFault}
 
 -- what is written after some growth
-pub ends_after : (before mid now : ℕ) (old between new : Option Channels) (meant : Status) (a b : Channels) (result : Status) → Grew old between a → mid ≡ before → Ends mid now between new meant b result → Ends before now old new meant (append a b) result
-ends_after before mid now old between new meant a b result g q (inl w) = inl (record { answer = w.answer; grew = grew_more old between new a b g w.grew; quiet = w.quiet ∙ q })
-ends_after before mid now old between new meant a b result g q (inr c) = inr (record {
+pub ends_after : (before mid after : Seen Channels) (meant : Status) (a b : Channels) (result : Status) → Grew before.told mid.told a → mid.faults ≡ before.faults → EndsFrom mid after meant b result → EndsFrom before after meant (append a b) result
+ends_after before mid after meant a b result g q (inl w) = inl (record { answer = w.answer; grew = grew_more before.told mid.told after.told a b g w.grew; quiet = w.quiet ∙ q })
+ends_after before mid after meant a b result g q (inr c) = inr (record {
   answer = c.answer;
-  prefix = prefix_in old between new a b nothing (append a b) (ap (append a) (append-nothing b)) g c.prefix;
+  prefix = prefix_in before.told mid.told after.told a b nothing (append a b) (ap (append a) (append-nothing b)) g c.prefix;
   cause = let r = c.cause in omega (arith, q, r);
 })
 
@@ -112,9 +112,8 @@ as_whole limits areas rules b before run_end.PageFault why m file old now is h =
 as_whole limits areas rules b before run_end.WriteFault why m file old now is h = cc
 
 -- how a run went, and how its call ends
-abbrev pub Told : Type 0 → Outside → Limits → List Area → List Rule → Paged → List DumpItem → Option Channels → Option Channels → Status → Type 0
-Told failed outside limits areas rules b items old new result =
-    (meant : Status) × (grown : Channels) × Went failed outside limits areas rules b items meant grown × Ends outside.sink_before outside.sink_now old new meant grown result
+abbrev pub Told : Outside → Limits → List Area → List Rule → Paged → List DumpItem → Status → Type 0
+Told outside limits areas rules b items result = EndsSo outside.sink (Went outside limits areas rules b items) result
 
 -- memory may have been read behind a run
 ran_and_read : (areas : List Area) (b p : Paged) (items : List DumpItem) (file : BlockFile) (middle last : Option BlockFile) → FewTurns b p → Moved areas b p (Some file) middle → OnlyRead middle last → (items ≡ [] → last ≡ middle) → HasRun areas b p items file last
@@ -123,109 +122,125 @@ ran_and_read areas b p items file middle last few moved reads unread =
     record { few = few; between = m.0; moved = m.2; told = reads ∙ ap without_reads m.1; unread = λ none. unread none ∙ m.1 }
 
 -- what the machine did with whatever its page file told
-abbrev pub Did : Limits → List Area → List Rule → Engine → Option BlockFile → RunEnd → Engine → Option BlockFile → Option Channels → Option Channels → Type 0
+abbrev pub Did : Limits → List Area → List Rule → Engine → Option BlockFile → RunEnd → Engine → Option BlockFile → (old between : Option Channels) → Type 0
 Did limits areas rules m told end n after old between =
     (place : Place) → Means m told place → PinsTouched (residence m) place → machine.Ends limits areas rules (begun m place) told end n after old between
 
-module _ (failed : Type 0) (limits : Limits) (areas : List Area) (rules : List Rule) (m n : Engine) (frames : ℕ) (start : Flat) (f : IsFresh m frames start) (items : List DumpItem) (before mid now : ℕ) (old between new : Option Channels) (result : Status) where
+-- What is known of a run of a machine that starts so: what it sees of the outside, the machine it leaves, the sink behind it, and the answer.
+module _ (outside : Outside) (limits : Limits) (areas : List Area) (rules : List Rule) (m n : Engine) (frames : ℕ) (start : Flat) (f : IsFresh m frames start) (items : List DumpItem) (mid : Seen Channels) (result : Status) where
   abbrev b : Paged
   b = begun m (At start)
+
+  -- what is told of it, whatever the page file told before
+  abbrev By : Option BlockFile → Type 0
+  By told = EndsSo outside.sink (WentFrom told outside limits areas rules b items) result
 
   silent_start : output_of limits.listed b ≡ nothing
   silent_start = nothing_yet limits.listed b f.silent refl
 
-  wrote_out : (told : Option BlockFile) (p : Paged) → Wrote (machine.origin limits areas b told old) p between → Grew old between (output_of limits.listed p)
-  wrote_out told p w = subst (λ (c : Channels). Grew old between c) (all_of_it limits.listed b p w.more silent_start w.is) w.grew
+  wrote_out : (told : Option BlockFile) (p : Paged) → Wrote (machine.origin limits areas b told outside.sink.before.told) p mid.told → Grew outside.sink.before.told mid.told (output_of limits.listed p)
+  wrote_out told p w = subst (λ (c : Channels). Grew outside.sink.before.told mid.told c) (all_of_it limits.listed b p w.more silent_start w.is) w.grew
 
-  at_fresh : (told last : Option BlockFile) → Told failed (outside_of told last before now) limits areas rules b items old new result → Told failed (outside_of told last before now) limits areas rules (fresh frames start) items old new result
-  at_fresh told last h = subst (λ (z : Paged). Told failed (outside_of told last before now) limits areas rules z items old new result) f.begins h
+  at_fresh : By outside.pages.before.told → Told outside limits areas rules (fresh frames start) items result
+  at_fresh h = subst (λ (z : Paged). Told outside limits areas rules z items result) f.begins h
 
   -- the report behind what the run wrote
-  behind : (listed : Bool) (p : Paged) (why : Last) (dumps : List Dump) (status : Status) (grown : Channels) → Grew old between (output_of listed p) → mid ≡ before → grown ≡ only Report (run_report p why dumps) → Ends mid now between new status grown result → Ends before now old new status (run_output listed p why dumps) result
+  behind : (listed : Bool) (p : Paged) (why : Last) (dumps : List Dump) (status : Status) (grown : Channels) → Grew outside.sink.before.told mid.told (output_of listed p) → mid.faults ≡ outside.sink.before.faults → grown ≡ only Report (run_report p why dumps) → EndsFrom mid outside.sink.after status grown result → Ends outside.sink status (run_output listed p why dumps) result
   behind listed p why dumps status grown wrote quiet is ends =
-      subst (λ (g : Channels). Ends before now old new status g result) (outputs listed p why dumps grown is) (ends_after before mid now old between new status (output_of listed p) grown result wrote quiet ends)
+      subst (λ (g : Channels). Ends outside.sink status g result) (outputs listed p why dumps grown is) (ends_after outside.sink.before mid outside.sink.after status (output_of listed p) grown result wrote quiet ends)
 
-  -- it stopped by itself, and the report was written
-  module _ (rose : Type 0) (up : rose → failed) (after last : Option BlockFile) (reads : OnlyRead after last) (unread : items ≡ [] → last ≡ after) (end : RunEnd) (why : Why) (is : why_of end ≡ Some why) (status : Status) (grown : Channels) (out : OnlyWrote limits.listed old between) (quiet : mid ≡ before) (ends : Ends mid now between new status grown result) where
-    answer_is : IsReported rose n after (last_of why) (status_of why) items status grown → IsRunAnswer failed status
-    answer_is (inl r) = subst (IsRunAnswer failed) (sym r.0) (answers failed why)
-    answer_is (inr r) = subst (IsRunAnswer failed) (sym r.1) (up r.0)
+  -- it stopped by itself, and the report was written: `read` is the page file before and after the memory for the report was read
+  module _ (read : Change BlockFile) (up : HasFailed read → HasFailed outside.pages) (reads : OnlyRead read.before.told outside.pages.after.told) (unread : items ≡ [] → outside.pages.after.told ≡ read.before.told) (end : RunEnd) (why : Why) (is : why_of end ≡ Some why) (status : Status) (grown : Channels) (out : OnlyWrote limits.listed outside.sink.before.told mid.told) (quiet : mid.faults ≡ outside.sink.before.faults) (ends : EndsFrom mid outside.sink.after status grown result) where
+    answer_is : IsReported read n (last_of why) (status_of why) items status grown → IsRunAnswer (HasFailed outside.pages) status
+    answer_is (inl r) = subst (IsRunAnswer (HasFailed outside.pages)) (sym r.0) (answers (HasFailed outside.pages) why)
+    answer_is (inr r) = subst (IsRunAnswer (HasFailed outside.pages)) (sym r.1) (up r.0)
 
-    whole_by : (file : BlockFile) → IsWhole limits areas rules b end (Some file) n after old between → IsReported rose n after (last_of why) (status_of why) items status grown → Told failed (outside_of (Some file) last before now) limits areas rules b items old new result
+    whole_by : (file : BlockFile) → IsWhole limits areas rules b end (Some file) n read.before.told outside.sink.before.told mid.told → IsReported read n (last_of why) (status_of why) items status grown → By (Some file)
     whole_by file w (inl r) =
         let p = paged areas (due rules) w.count b in
         let d = r.1 in
         let shows : d.0 ≡ dumps_at p items = as_shown p items d.0 (d.1 p.place w.tracks.means) in
         let text : grown ≡ only Report (run_report p (last_of why) (dumps_at p items)) =
-        d.2 ∙ (ap (only Report) (reported n after p (last_of why) d.0 w.tracks.steps w.tracks.means) ∙ ap (λ dumps. only Report (run_report p (last_of why) dumps)) shows) in (
-          status,
-          run_output limits.listed p (last_of why) (dumps_at p items),
-          inl (record { count = w.count; goes = w.goes; why = why; stopped = w.stopped ∙ is; answer = r.0; wrote = refl; blocks = inl (ran_and_read areas b p items file after last w.few w.moved reads unread) }),
-          behind limits.listed p (last_of why) (dumps_at p items) status grown (wrote_out (Some file) p w.wrote) quiet text ends,
-        )
+        d.2 ∙ (ap (only Report) (reported n read.before.told p (last_of why) d.0 w.tracks.steps w.tracks.means) ∙ ap (λ dumps. only Report (run_report p (last_of why) dumps)) shows) in
+        record {
+          meant = status;
+          grown = run_output limits.listed p (last_of why) (dumps_at p items);
+          so = inl (record { count = w.count; goes = w.goes; why = why; stopped = w.stopped ∙ is; answer = r.0; wrote = refl; blocks = inl (ran_and_read areas b p items file read.before.told outside.pages.after.told w.few w.moved reads unread) });
+          ends = behind limits.listed p (last_of why) (dumps_at p items) status grown (wrote_out (Some file) p w.wrote) quiet text ends;
+        }
     whole_by file w (inr r) =
         let p = paged areas (due rules) w.count b in
-        let text : grown ≡ only Report (run_report p lasts.PageFault []) = r.2 ∙ ap (only Report) (reported n after p lasts.PageFault [] w.tracks.steps w.tracks.means) in (
-          status,
-          run_output limits.listed p lasts.PageFault [],
-          inr (up r.0, inl (record { count = w.count; goes = w.goes; why = why; stopped = w.stopped ∙ is; answer = r.1; wrote = refl; blocks = ran_and_read areas b p items file after last w.few w.moved reads unread })),
-          behind limits.listed p lasts.PageFault [] status grown (wrote_out (Some file) p w.wrote) quiet text ends,
-        )
+        let text : grown ≡ only Report (run_report p lasts.PageFault []) = r.2 ∙ ap (only Report) (reported n read.before.told p lasts.PageFault [] w.tracks.steps w.tracks.means) in
+        record {
+          meant = status;
+          grown = run_output limits.listed p lasts.PageFault [];
+          so = inr (up r.0, inl (record { count = w.count; goes = w.goes; why = why; stopped = w.stopped ∙ is; answer = r.1; wrote = refl; blocks = ran_and_read areas b p items file read.before.told outside.pages.after.told w.few w.moved reads unread }));
+          ends = behind limits.listed p lasts.PageFault [] status grown (wrote_out (Some file) p w.wrote) quiet text ends;
+        }
 
-    stopped_by : (told : Option BlockFile) → Did limits areas rules m told end n after old between → IsReported rose n after (last_of why) (status_of why) items status grown → Told failed (outside_of told last before now) limits areas rules b items old new result
-    stopped_by None did r = (status, append out.more grown, answer_is r, ends_after before mid now old between new status out.more grown result out.grew quiet ends)
+    stopped_by : (told : Option BlockFile) → Did limits areas rules m told end n read.before.told outside.sink.before.told mid.told → IsReported read n (last_of why) (status_of why) items status grown → By told
+    stopped_by None did r = record { meant = status; grown = append out.more grown; so = answer_is r; ends = ends_after outside.sink.before mid outside.sink.after status out.more grown result out.grew quiet ends }
     stopped_by (Some file) did r =
-        whole_by file (as_whole limits areas rules b (Some file) end why n after old between is (did (At start) (f.means file) (none_pinned m frames start f))) r
+        whole_by file (as_whole limits areas rules b (Some file) end why n read.before.told outside.sink.before.told mid.told is (did (At start) (f.means file) (none_pinned m frames start f))) r
 
-  pub went_whole : (rose : Type 0) → (rose → failed) → (told after last : Option BlockFile) → OnlyRead after last → (items ≡ [] → last ≡ after) → (end : RunEnd) (why : Why) → why_of end ≡ Some why → Did limits areas rules m told end n after old between → OnlyWrote limits.listed old between → mid ≡ before
-      → (status : Status) × (grown : Channels) × IsReported rose n after (last_of why) (status_of why) items status grown × Ends mid now between new status grown result → Told failed (outside_of told last before now) limits areas rules (fresh frames start) items old new result
-  went_whole rose up told after last reads unread end why is did out quiet r = at_fresh told last (stopped_by rose up after last reads unread end why is r.0 r.1 out quiet r.3 told did r.2)
+  pub went_whole : (read : Change BlockFile) → (HasFailed read → HasFailed outside.pages) → OnlyRead read.before.told outside.pages.after.told → (items ≡ [] → outside.pages.after.told ≡ read.before.told) → (end : RunEnd) (why : Why) → why_of end ≡ Some why
+      → Did limits areas rules m outside.pages.before.told end n read.before.told outside.sink.before.told mid.told → OnlyWrote limits.listed outside.sink.before.told mid.told → mid.faults ≡ outside.sink.before.faults
+      → (status : Status) (grown : Channels) → IsReported read n (last_of why) (status_of why) items status grown → EndsFrom mid outside.sink.after status grown result → Told outside limits areas rules (fresh frames start) items result
+  went_whole read up reads unread end why is did out quiet status grown r ends = at_fresh (stopped_by read up reads unread end why is status grown out quiet ends outside.pages.before.told did r)
 
-  cut_by : (told after : Option BlockFile) → failed → Did limits areas rules m told run_end.PageFault n after old between → OnlyWrote limits.listed old between → mid ≡ before → Ends mid now between new PageFault (only Report (machine_report n lasts.PageFault [])) result → Told failed (outside_of told after before now) limits areas rules b items old new result
-  cut_by None after rose did out quiet ends =
+  cut_by : (told : Option BlockFile) → HasFailed outside.pages → Did limits areas rules m told run_end.PageFault n outside.pages.after.told outside.sink.before.told mid.told → OnlyWrote limits.listed outside.sink.before.told mid.told → mid.faults ≡ outside.sink.before.faults → EndsFrom mid outside.sink.after PageFault (only Report (machine_report n lasts.PageFault [])) result → By told
+  cut_by None rose did out quiet ends =
       let text = only Report (machine_report n lasts.PageFault []) in
-      (PageFault, append out.more text, rose, ends_after before mid now old between new PageFault out.more text result out.grew quiet ends)
-  cut_by (Some file) after rose did out quiet ends =
+      record { meant = PageFault; grown = append out.more text; so = rose; ends = ends_after outside.sink.before mid outside.sink.after PageFault out.more text result out.grew quiet ends }
+  cut_by (Some file) rose did out quiet ends =
       let w = did (At start) (f.means file) (none_pinned m frames start f) in
       let q = paged areas (due rules) w.count b in
       let p = all_evicted w.front q in
       let kept = many_evicted w.front q in
-      let text = reported n after p lasts.PageFault [] (w.steps ∙ sym kept.steps) (subst (λ (z : Place). Means n after z) (sym kept.place) w.means) in (
-        PageFault,
-        run_output limits.listed p lasts.PageFault [],
-        inr (rose, inr (record { count = w.count; goes = w.goes; front = w.front; rest = w.rest; splits = w.splits; answer = refl; wrote = refl; blocks = w.moved })),
-        behind limits.listed p lasts.PageFault [] PageFault (only Report (machine_report n lasts.PageFault [])) (wrote_out (Some file) p w.wrote) quiet (ap (only Report) text) ends,
-      )
+      let text = reported n outside.pages.after.told p lasts.PageFault [] (w.steps ∙ sym kept.steps) (subst (λ (z : Place). Means n outside.pages.after.told z) (sym kept.place) w.means) in
+      record {
+        meant = PageFault;
+        grown = run_output limits.listed p lasts.PageFault [];
+        so = inr (rose, inr (record { count = w.count; goes = w.goes; front = w.front; rest = w.rest; splits = w.splits; answer = refl; wrote = refl; blocks = w.moved }));
+        ends = behind limits.listed p lasts.PageFault [] PageFault (only Report (machine_report n lasts.PageFault [])) (wrote_out (Some file) p w.wrote) quiet (ap (only Report) text) ends;
+      }
 
-  pub went_cut : (told after : Option BlockFile) → failed → Did limits areas rules m told run_end.PageFault n after old between → OnlyWrote limits.listed old between → mid ≡ before → Ends mid now between new PageFault (only Report (machine_report n lasts.PageFault [])) result → Told failed (outside_of told after before now) limits areas rules (fresh frames start) items old new result
-  went_cut told after rose did out quiet ends = at_fresh told after (cut_by told after rose did out quiet ends)
+  pub went_cut : HasFailed outside.pages → Did limits areas rules m outside.pages.before.told run_end.PageFault n outside.pages.after.told outside.sink.before.told mid.told → OnlyWrote limits.listed outside.sink.before.told mid.told → mid.faults ≡ outside.sink.before.faults
+      → EndsFrom mid outside.sink.after PageFault (only Report (machine_report n lasts.PageFault [])) result → Told outside limits areas rules (fresh frames start) items result
+  went_cut rose did out quiet ends = at_fresh (cut_by outside.pages.before.told rose did out quiet ends)
 
-module _ (failed : Type 0) (limits : Limits) (areas : List Area) (rules : List Rule) (m n : Engine) (frames : ℕ) (start : Flat) (f : IsFresh m frames start) (items : List DumpItem) (before now : ℕ) (old new : Option Channels) where
-  lost_prefix : (told : Option BlockFile) (p : Paged) (why : Last) (dumps : List Dump) → WrotePart (machine.origin limits areas (begun m (At start)) told old) p new → GrewByPrefix old new (run_output limits.listed p why dumps)
+module _ (outside : Outside) (limits : Limits) (areas : List Area) (rules : List Rule) (m n : Engine) (frames : ℕ) (start : Flat) (f : IsFresh m frames start) (items : List DumpItem) where
+  lost_prefix : (told : Option BlockFile) (p : Paged) (why : Last) (dumps : List Dump) → WrotePart (machine.origin limits areas (begun m (At start)) told outside.sink.before.told) p outside.sink.after.told → GrewByPrefix outside.sink.before.told outside.sink.after.told (run_output limits.listed p why dumps)
   unfolding run_output
   lost_prefix told p why dumps w =
       let e = all_of_it limits.listed (begun m (At start)) p w.more (nothing_yet limits.listed (begun m (At start)) f.silent refl) w.is in
       let text = only Report (run_report p why dumps) in
-      prefix_in old old new nothing w.more text (append (output_of limits.listed p) text) (ap (λ (c : Channels). append c text) e) (grew_nothing old) w.grew
+      prefix_in outside.sink.before.told outside.sink.before.told outside.sink.after.told nothing w.more text (append (output_of limits.listed p) text) (ap (λ (c : Channels). append c text) e) (grew_nothing outside.sink.before.told) w.grew
 
-  lost_by : (told after : Option BlockFile) → Did limits areas rules m told run_end.WriteFault n after old new → OnlyWrote limits.listed old new → Rose before now → Told failed (outside_of told after before now) limits areas rules (begun m (At start)) items old new WriteFault
-  lost_by None after did out rose = (Done, out.more, tt, inr (record { answer = refl; prefix = record { prefix = out.more; rest = nothing; splits = append-nothing out.more; grew = out.grew }; cause = rose }))
-  lost_by (Some file) after did out rose =
+  lost_by : (told : Option BlockFile) → Did limits areas rules m told run_end.WriteFault n outside.pages.after.told outside.sink.before.told outside.sink.after.told → OnlyWrote limits.listed outside.sink.before.told outside.sink.after.told → HasFailed outside.sink → EndsSo outside.sink (WentFrom told outside limits areas rules (begun m (At start)) items) WriteFault
+  lost_by None did out rose = record {
+    meant = Done;
+    grown = out.more;
+    so = tt;
+    ends = inr (record { answer = refl; prefix = record { prefix = out.more; rest = nothing; splits = append-nothing out.more; grew = out.grew }; cause = rose });
+  }
+  lost_by (Some file) did out rose =
       let w = did (At start) (f.means file) (none_pinned m frames start f) in
-      let p = paged areas (due rules) w.count (begun m (At start)) in (
-        status_of w.why,
-        run_output limits.listed p (last_of w.why) (dumps_at p items),
-        inl (record { count = w.count; goes = w.goes; why = w.why; stopped = w.stopped; answer = refl; wrote = refl; blocks = inr (rose, w.moved) }),
-        inr (record { answer = refl; prefix = lost_prefix (Some file) p (last_of w.why) (dumps_at p items) w.wrote; cause = rose }),
-      )
+      let p = paged areas (due rules) w.count (begun m (At start)) in
+      record {
+        meant = status_of w.why;
+        grown = run_output limits.listed p (last_of w.why) (dumps_at p items);
+        so = inl (record { count = w.count; goes = w.goes; why = w.why; stopped = w.stopped; answer = refl; wrote = refl; blocks = inr (rose, w.moved) });
+        ends = inr (record { answer = refl; prefix = lost_prefix (Some file) p (last_of w.why) (dumps_at p items) w.wrote; cause = rose });
+      }
 
-  pub went_lost : (told after : Option BlockFile) → Did limits areas rules m told run_end.WriteFault n after old new → OnlyWrote limits.listed old new → Rose before now → Told failed (outside_of told after before now) limits areas rules (fresh frames start) items old new WriteFault
-  went_lost told after did out rose = subst (λ (z : Paged). Told failed (outside_of told after before now) limits areas rules z items old new WriteFault) f.begins (lost_by told after did out rose)
+  pub went_lost : Did limits areas rules m outside.pages.before.told run_end.WriteFault n outside.pages.after.told outside.sink.before.told outside.sink.after.told → OnlyWrote limits.listed outside.sink.before.told outside.sink.after.told → HasFailed outside.sink → Told outside limits areas rules (fresh frames start) items WriteFault
+  went_lost did out rose = subst (λ (z : Paged). Told outside limits areas rules z items WriteFault) f.begins (lost_by outside.pages.before.told did out rose)
 
 -- a call of the page file that failed isn't hidden
-pub cut_answers : (before now : ℕ) (old new : Option Channels) (grown : Channels) (result : Status) → Ends before now old new PageFault grown result → (result ≡ PageFault) ⊎ (result ≡ WriteFault)
-cut_answers before now old new grown result (inl w) = inl w.answer
-cut_answers before now old new grown result (inr c) = inr c.answer
+pub cut_answers : (before after : Seen Channels) (grown : Channels) (result : Status) → EndsFrom before after PageFault grown result → (result ≡ PageFault) ⊎ (result ≡ WriteFault)
+cut_answers before after grown result (inl w) = inl w.answer
+cut_answers before after grown result (inr c) = inr c.answer
 
 -- a machine at the start of a program
 
@@ -246,19 +261,15 @@ prepared m frames program input k space a b h between =
 
 -- what a run came to
 
-abbrev pub Ran : Type 0 → Type 0 → Outside → Loaded → Text → Text → Options → Option Channels → Option Channels → Status → Type 0
-Ran kept failed outside program input schedule options old new result =
-    (meant : Status) × (grown : Channels) × IsRunning kept failed outside program input schedule options meant grown × Ends outside.sink_before outside.sink_now old new meant grown result
-
-module _ (kept failed : Type 0) (outside : Outside) (program : Loaded) (input schedule : Text) (options : Options) (old new : Option Channels) (result : Status) where
-  pub run_misplanned : (status : Status) → IsFaulty (start_areas program.system program.user) schedule status ⊎ (status ≡ NoMemory) → kept → Ends outside.sink_before outside.sink_now old new status (refusal_growth status) result → Ran kept failed outside program input schedule options old new result
-  run_misplanned status (inl r) k ends = (status, refusal_growth status, inr (inl (record { fault = r; wrote = refl; keeps = k })), ends)
-  run_misplanned status (inr e) k ends = (status, refusal_growth status, inl (e, ap refusal_growth e, k), ends)
+module _ (outside : Outside) (program : Loaded) (input schedule : Text) (options : Options) (result : Status) where
+  pub run_misplanned : (status : Status) → IsFaulty (start_areas program.system program.user) schedule status ⊎ (status ≡ NoMemory) → outside.pages.same → Ends outside.sink status (refusal_growth status) result → Ran outside program input schedule options result
+  run_misplanned status (inl r) k ends = record { meant = status; grown = refusal_growth status; so = inr (inl (record { fault = r; wrote = refl; keeps = k })); ends = ends }
+  run_misplanned status (inr e) k ends = record { meant = status; grown = refusal_growth status; so = inl (e, ap refusal_growth e, k); ends = ends }
 
   pub run_went : (rules : List Rule) (space : List Area) → Denotes (start_areas program.system program.user) schedule rules → space ≡ start_areas program.system program.user
-      → Told failed outside (limits_of options) space rules (fresh options.frames (Start program.system program.user input)) options.dumps old new result → Ran kept failed outside program input schedule options old new result
+      → Told outside (limits_of options) space rules (fresh options.frames (Start program.system program.user input)) options.dumps result → Ran outside program input schedule options result
   run_went rules space planned same h =
       let begins = fresh options.frames (Start program.system program.user input) in
-      let went : Went failed outside (limits_of options) (start_areas program.system program.user) rules begins options.dumps h.0 h.1 =
-      subst (λ (z : List Area). Went failed outside (limits_of options) z rules begins options.dumps h.0 h.1) same h.2 in
-      (h.0, h.1, inr (inr (record { rules = rules; planned = planned; went = went })), h.3)
+      let went : Went outside (limits_of options) (start_areas program.system program.user) rules begins options.dumps h.meant h.grown =
+      subst (λ (z : List Area). Went outside (limits_of options) z rules begins options.dumps h.meant h.grown) same h.so in
+      record { meant = h.meant; grown = h.grown; so = inr (inr (record { rules = rules; planned = planned; went = went })); ends = h.ends }

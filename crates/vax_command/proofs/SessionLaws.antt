@@ -2,7 +2,6 @@
 use Rattle.std.proofs.Common.{◌≡◌, ◌≤◌, ◌⊎◌, ◌++◌, ℕ, List, [], Option, Some, None, refl, sym, ap, subst, ◌∙◌, inl, inr, arith}
 use Rattle.vax_outside.specs.Blocks.{BlockFile}
 use Rattle.vax_outside.specs.Channels.{Channels, Grew, GrewByPrefix, append, nothing, only}
-use Rattle.vax_outside.specs.Faults.{Rose}
 use Rattle.vax_outside.specs.declared.traits.Chan.TheVariants.{Report}
 use Rattle.vax_outside.proofs.Growth.{append-nothing}
 use Rattle.vax_flat.specs.Parts.{Place, At, Within, machine_at, units_done}
@@ -27,7 +26,8 @@ use Rattle.vax_console.specs.Transcript.{Session, session_after, transcript}
 use Rattle.vax_console.specs.declared.SessionEnd.{SessionEnd}
 use Rattle.vax_console.specs.declared.SessionEnd.TheVariants as session_end
 use Rattle.vax_cli.specs.Words.{Options, Text}
-use Rattle.vax_command.specs.Ends.{Ends}
+use Rattle.vax_command.specs.Around.{HasFailed, Outside, Seen}
+use Rattle.vax_command.specs.Ends.{Ends, EndsFrom, EndsSo}
 use Rattle.vax_command.specs.Status.{refusal_growth}
 use Rattle.vax_command.specs.declared.status.Status.{Status}
 use Rattle.vax_command.specs.declared.status.Status.TheVariants.{Done, NoMemory, PageFault, Turns, WriteFault}
@@ -35,16 +35,16 @@ use Rattle.vax_command.specs.Fresh.{IsFresh, machine_report}
 use Rattle.vax_command.specs.Loaded.{Loaded}
 use Rattle.vax_command.specs.Running.{IsFaulty}
 use Rattle.vax_command.proofs.RunLaws.{ends_after, reported_at}
-use Rattle.vax_command.specs.Holding.{IsHolding}
-use Rattle.vax_command.specs.SessionWent.{AreFew, SessionWent, broken_off, opening}
+use Rattle.vax_command.specs.Holding.{Held}
+use Rattle.vax_command.specs.SessionWent.{AreFew, SessionFrom, SessionWent, broken_off, opening}
 
 -- a machine at the start of a program opens a session
 opens : (m : Engine) (frames : ℕ) (start : Flat) → IsFresh m frames start → session_on m start ≡ opening start
 opens m frames start f = ap (λ (steps : ℕ). record { machine = start; steps = steps }) (ap (λ (p : Paged). p.steps) f.begins)
 
--- how a session went, and how its call ends
-abbrev pub Told : Type 0 → Option BlockFile → ℕ → ℕ → List Rule → Flat → List Line → ℕ → ℕ → Option Channels → Option Channels → Status → Type 0
-Told failed told limit turns rules start lines before now old new result = (meant : Status) × (grown : Channels) × SessionWent failed told limit turns rules start lines meant grown × Ends before now old new meant grown result
+-- how a session went, whatever its page file told before, and how its call ends
+abbrev pub Told : Option BlockFile → Outside → Limits → List Rule → Flat → List Line → Status → Type 0
+Told told outside limits rules start lines result = EndsSo outside.sink (SessionFrom told outside.pages limits.steps limits.turns rules start lines) result
 
 -- what the console did with whatever its page file told
 abbrev pub Did : Limits → List Line → Engine → Option BlockFile → SessionEnd → Engine → Option BlockFile → Option Channels → Option Channels → Type 0
@@ -62,21 +62,22 @@ open_units (Within p) = refl
 sent_all : (start output sent : List ℕ) → start ≡ [] → output ≡ start ++ sent → sent ≡ output
 sent_all start output sent none is = sym (is ∙ ap (λ o. o ++ sent) none)
 
-module _ (failed : Type 0) (limits : Limits) (rules : List Rule) (lines : List Line) (m n : Engine) (frames : ℕ) (start : Flat) (f : IsFresh m frames start) (before mid now : ℕ) (old between new : Option Channels) (result : Status) where
+-- What is known of a session on a machine that starts so: what it sees of the outside, the machine it leaves, the sink behind it, and the answer.
+module _ (outside : Outside) (limits : Limits) (rules : List Rule) (lines : List Line) (m n : Engine) (frames : ℕ) (start : Flat) (f : IsFresh m frames start) (mid : Seen Channels) (result : Status) where
   -- from the session's beginning as the start is
-  at_opening : (end : SessionEnd) (file : BlockFile) (after : Option BlockFile) → Did limits lines m (Some file) end n after old between → console.Ends end limits (opening start) lines n after old between
-  at_opening end file after did = subst (λ (s : Session). console.Ends end limits s lines n after old between) (opens m frames start f) (did start (f.means file))
+  at_opening : (end : SessionEnd) (file : BlockFile) → Did limits lines m (Some file) end n outside.pages.after.told outside.sink.before.told mid.told → console.Ends end limits (opening start) lines n outside.pages.after.told outside.sink.before.told mid.told
+  at_opening end file did = subst (λ (s : Session). console.Ends end limits s lines n outside.pages.after.told outside.sink.before.told mid.told) (opens m frames start f) (did start (f.means file))
 
-  within_wrote : (s : Session) (most : ℕ) (replies : List ℕ) (after : Option BlockFile) (w : IsWithin start s most replies n after old between) → Grew old between (writes (machine_at w.place).output replies)
-  within_wrote s most replies after w = subst (λ (out : List ℕ). Grew old between (writes out replies)) (sent_all start.output (machine_at w.place).output w.sent f.silent w.output) w.wrote
+  within_wrote : (s : Session) (most : ℕ) (replies : List ℕ) (w : IsWithin start s most replies n outside.pages.after.told outside.sink.before.told mid.told) → Grew outside.sink.before.told mid.told (writes (machine_at w.place).output replies)
+  within_wrote s most replies w = subst (λ (out : List ℕ). Grew outside.sink.before.told mid.told (writes out replies)) (sent_all start.output (machine_at w.place).output w.sent f.silent w.output) w.wrote
 
   -- the report behind what was written
-  behind : (s : Session) (most : ℕ) (replies : List ℕ) (after : Option BlockFile) (why : Last) (meant : Status) (w : IsWithin start s most replies n after old between) → mid ≡ before → Ends mid now between new meant (only Report (machine_report n why [])) result
-      → Ends before now old new meant (broken_off replies w.place n.steps why) result
-  behind s most replies after why meant w quiet ends =
-      let text = ap (only Report) (reported_at n after w.place n.steps why [] refl w.means) in
-      subst (λ (c : Channels). Ends before now old new meant (append (writes (machine_at w.place).output replies) c) result) text
-      (ends_after before mid now old between new meant (writes (machine_at w.place).output replies) (only Report (machine_report n why [])) result (within_wrote s most replies after w) quiet ends)
+  behind : (s : Session) (most : ℕ) (replies : List ℕ) (why : Last) (meant : Status) (w : IsWithin start s most replies n outside.pages.after.told outside.sink.before.told mid.told) → mid.faults ≡ outside.sink.before.faults → EndsFrom mid outside.sink.after meant (only Report (machine_report n why [])) result
+      → Ends outside.sink meant (broken_off replies w.place n.steps why) result
+  behind s most replies why meant w quiet ends =
+      let text = ap (only Report) (reported_at n outside.pages.after.told w.place n.steps why [] refl w.means) in
+      subst (λ (c : Channels). Ends outside.sink meant (append (writes (machine_at w.place).output replies) c) result) text
+      (ends_after outside.sink.before mid outside.sink.after meant (writes (machine_at w.place).output replies) (only Report (machine_report n why [])) result (within_wrote s most replies w) quiet ends)
 
   not_ended : (file : Option BlockFile) (place : Place) → Means n file place → n.ended ≡ None → (machine_at place).ending ≡ None
   not_ended file place means e = sym (ap (λ (flat : Flat). flat.ending) means.processor.machine) ∙ e
@@ -101,70 +102,74 @@ module _ (failed : Type 0) (limits : Limits) (rules : List Rule) (lines : List L
             omega (arith, k, same, none, reached);
       }
 
-  pub timed_out : (told after : Option BlockFile) → Did limits lines m told session_end.Turns n after old between → Took limits rules lines m told session_end.Turns n after → OnlyReplied old between → mid ≡ before → Ends mid now between new Turns (only Report (machine_report n last.Turns [])) result → Told failed told limits.steps limits.turns rules start lines before now old new result
-  timed_out None after did took only_these quiet ends =
+  pub timed_out : (told : Option BlockFile) → Did limits lines m told session_end.Turns n outside.pages.after.told outside.sink.before.told mid.told → Took limits rules lines m told session_end.Turns n outside.pages.after.told → OnlyReplied outside.sink.before.told mid.told → mid.faults ≡ outside.sink.before.faults
+      → EndsFrom mid outside.sink.after Turns (only Report (machine_report n last.Turns [])) result → Told told outside limits rules start lines result
+  timed_out None did took only_these quiet ends =
       let text = only Report (machine_report n last.Turns []) in
       let wrote = writes only_these.sent only_these.replies in
-      (Turns, append wrote text, tt, ends_after before mid now old between new Turns wrote text result only_these.grew quiet ends)
-  timed_out (Some file) after did took only_these quiet ends =
-      let c : IsCutByTurns limits (opening start) lines n after old between = at_opening session_end.Turns file after did in
+      record { meant = Turns; grown = append wrote text; so = tt; ends = ends_after outside.sink.before mid outside.sink.after Turns wrote text result only_these.grew quiet ends }
+  timed_out (Some file) did took only_these quiet ends =
+      let c : IsCutByTurns limits (opening start) lines n outside.pages.after.told outside.sink.before.told mid.told = at_opening session_end.Turns file did in
       let w = c.within in
-      let replies = transcript limits.steps (opening start) c.front in (
-        Turns,
-        broken_off replies w.place n.steps last.Turns,
-        inr (inl (record { front = c.front; back = c.back; splits = c.splits; place = w.place; steps = n.steps; goes = w.goes; going = not_ended after w.place w.means c.out.going; below = c.out.below; few = are_few file after w.place w.means c.out.reached took; answer = refl; wrote = refl })),
-        behind _ _ replies after last.Turns Turns w quiet ends,
-      )
+      let replies = transcript limits.steps (opening start) c.front in
+      record {
+        meant = Turns;
+        grown = broken_off replies w.place n.steps last.Turns;
+        so = inr (inl (record { front = c.front; back = c.back; splits = c.splits; place = w.place; steps = n.steps; goes = w.goes; going = not_ended outside.pages.after.told w.place w.means c.out.going; below = c.out.below; few = are_few file outside.pages.after.told w.place w.means c.out.reached took; answer = refl; wrote = refl }));
+        ends = behind _ _ replies last.Turns Turns w quiet ends;
+      }
 
-  pub cut_off : (told after : Option BlockFile) → failed → Did limits lines m told session_end.PageFault n after old between → OnlyReplied old between → mid ≡ before → Ends mid now between new PageFault (only Report (machine_report n last.PageFault [])) result → Told failed told limits.steps limits.turns rules start lines before now old new result
-  cut_off None after rose did only_these quiet ends =
+  pub cut_off : (told : Option BlockFile) → HasFailed outside.pages → Did limits lines m told session_end.PageFault n outside.pages.after.told outside.sink.before.told mid.told → OnlyReplied outside.sink.before.told mid.told → mid.faults ≡ outside.sink.before.faults
+      → EndsFrom mid outside.sink.after PageFault (only Report (machine_report n last.PageFault [])) result → Told told outside limits rules start lines result
+  cut_off None rose did only_these quiet ends =
       let text = only Report (machine_report n last.PageFault []) in
       let wrote = writes only_these.sent only_these.replies in
-      (PageFault, append wrote text, rose, ends_after before mid now old between new PageFault wrote text result only_these.grew quiet ends)
-  cut_off (Some file) after rose did only_these quiet ends =
-      let c : IsCutOff limits (opening start) lines n after old between = at_opening session_end.PageFault file after did in
+      record { meant = PageFault; grown = append wrote text; so = rose; ends = ends_after outside.sink.before mid outside.sink.after PageFault wrote text result only_these.grew quiet ends }
+  cut_off (Some file) rose did only_these quiet ends =
+      let c : IsCutOff limits (opening start) lines n outside.pages.after.told outside.sink.before.told mid.told = at_opening session_end.PageFault file did in
       let w = c.within in
-      let replies = transcript limits.steps (opening start) c.front in (
-        PageFault,
-        broken_off replies w.place n.steps last.PageFault,
-        inr (inr (rose, record { front = c.front; back = c.back; splits = c.splits; place = w.place; steps = n.steps; goes = w.goes; answer = refl; wrote = refl })),
-        behind _ _ replies after last.PageFault PageFault w quiet ends,
-      )
+      let replies = transcript limits.steps (opening start) c.front in
+      record {
+        meant = PageFault;
+        grown = broken_off replies w.place n.steps last.PageFault;
+        so = inr (inr (rose, record { front = c.front; back = c.back; splits = c.splits; place = w.place; steps = n.steps; goes = w.goes; answer = refl; wrote = refl }));
+        ends = behind _ _ replies last.PageFault PageFault w quiet ends;
+      }
 
-module _ (failed : Type 0) (limits : Limits) (rules : List Rule) (lines : List Line) (m n : Engine) (frames : ℕ) (start : Flat) (f : IsFresh m frames start) (before now : ℕ) (old new : Option Channels) where
-  from_opening : (end : SessionEnd) (file : BlockFile) (after : Option BlockFile) → Did limits lines m (Some file) end n after old new → console.Ends end limits (opening start) lines n after old new
-  from_opening end file after did = subst (λ (s : Session). console.Ends end limits s lines n after old new) (opens m frames start f) (did start (f.means file))
+module _ (outside : Outside) (limits : Limits) (rules : List Rule) (lines : List Line) (m n : Engine) (frames : ℕ) (start : Flat) (f : IsFresh m frames start) where
+  from_opening : (end : SessionEnd) (file : BlockFile) → Did limits lines m (Some file) end n outside.pages.after.told outside.sink.before.told outside.sink.after.told → console.Ends end limits (opening start) lines n outside.pages.after.told outside.sink.before.told outside.sink.after.told
+  from_opening end file did = subst (λ (s : Session). console.Ends end limits s lines n outside.pages.after.told outside.sink.before.told outside.sink.after.told) (opens m frames start f) (did start (f.means file))
 
-  pub read_out : (told after : Option BlockFile) → Did limits lines m told session_end.Read n after old new → OnlyReplied old new → now ≡ before → Told failed told limits.steps limits.turns rules start lines before now old new Done
-  read_out None after did only_these quiet = (Done, writes only_these.sent only_these.replies, tt, inl (record { answer = refl; grew = only_these.grew; quiet = quiet }))
-  read_out (Some file) after did only_these quiet =
-      let at : IsAt start (session_after limits.steps (opening start) lines) (transcript limits.steps (opening start) lines) n after old new = from_opening session_end.Read file after did in
+  pub read_out : (told : Option BlockFile) → Did limits lines m told session_end.Read n outside.pages.after.told outside.sink.before.told outside.sink.after.told → OnlyReplied outside.sink.before.told outside.sink.after.told → outside.sink.after.faults ≡ outside.sink.before.faults → Told told outside limits rules start lines Done
+  read_out None did only_these quiet = record { meant = Done; grown = writes only_these.sent only_these.replies; so = tt; ends = inl (record { answer = refl; grew = only_these.grew; quiet = quiet }) }
+  read_out (Some file) did only_these quiet =
+      let at : IsAt start (session_after limits.steps (opening start) lines) (transcript limits.steps (opening start) lines) n outside.pages.after.told outside.sink.before.told outside.sink.after.told = from_opening session_end.Read file did in
       let output = (session_after limits.steps (opening start) lines).machine.output in
       let replies = transcript limits.steps (opening start) lines in
-      let grew = subst (λ (out : List ℕ). Grew old new (writes out replies)) (sent_all start.output output at.sent f.silent at.output) at.wrote in
-      (Done, writes output replies, inl (record { answer = refl; wrote = refl }), inl (record { answer = refl; grew = grew; quiet = quiet }))
+      let grew = subst (λ (out : List ℕ). Grew outside.sink.before.told outside.sink.after.told (writes out replies)) (sent_all start.output output at.sent f.silent at.output) at.wrote in
+      record { meant = Done; grown = writes output replies; so = inl (record { answer = refl; wrote = refl }); ends = inl (record { answer = refl; grew = grew; quiet = quiet }) }
 
-  pub lost : (told after : Option BlockFile) → Did limits lines m told session_end.WriteFault n after old new → OnlyReplied old new → Rose before now → Told failed told limits.steps limits.turns rules start lines before now old new WriteFault
-  lost None after did only_these rose =
+  pub lost : (told : Option BlockFile) → Did limits lines m told session_end.WriteFault n outside.pages.after.told outside.sink.before.told outside.sink.after.told → OnlyReplied outside.sink.before.told outside.sink.after.told → HasFailed outside.sink → Told told outside limits rules start lines WriteFault
+  lost None did only_these rose =
       let wrote = writes only_these.sent only_these.replies in
-      (Done, wrote, tt, inr (record { answer = refl; prefix = record { prefix = wrote; rest = nothing; splits = append-nothing wrote; grew = only_these.grew }; cause = rose }))
-  lost (Some file) after did only_these rose =
-      let part : IsPartOf start (session_after limits.steps (opening start) lines) (transcript limits.steps (opening start) lines) old new = from_opening session_end.WriteFault file after did in
+      record {
+        meant = Done;
+        grown = wrote;
+        so = tt;
+        ends = inr (record { answer = refl; prefix = record { prefix = wrote; rest = nothing; splits = append-nothing wrote; grew = only_these.grew }; cause = rose });
+      }
+  lost (Some file) did only_these rose =
+      let part : IsPartOf start (session_after limits.steps (opening start) lines) (transcript limits.steps (opening start) lines) outside.sink.before.told outside.sink.after.told = from_opening session_end.WriteFault file did in
       let output = (session_after limits.steps (opening start) lines).machine.output in
       let replies = transcript limits.steps (opening start) lines in
-      let prefix = subst (λ (out : List ℕ). GrewByPrefix old new (writes out replies)) (sent_all start.output output part.sent f.silent part.output) part.wrote in
-      (Done, writes output replies, inl (record { answer = refl; wrote = refl }), inr (record { answer = refl; prefix = prefix; cause = rose }))
+      let prefix = subst (λ (out : List ℕ). GrewByPrefix outside.sink.before.told outside.sink.after.told (writes out replies)) (sent_all start.output output part.sent f.silent part.output) part.wrote in
+      record { meant = Done; grown = writes output replies; so = inl (record { answer = refl; wrote = refl }); ends = inr (record { answer = refl; prefix = prefix; cause = rose }) }
 
 -- what a session on programs came to
+module _ (outside : Outside) (program : Loaded) (input schedule script : Text) (options : Options) (result : Status) where
+  pub held_misplanned : (status : Status) → IsFaulty (start_areas program.system program.user) schedule status ⊎ (status ≡ NoMemory) → outside.pages.same → Ends outside.sink status (refusal_growth status) result → Held outside program input schedule script options result
+  held_misplanned status (inl r) k ends = record { meant = status; grown = refusal_growth status; so = inr (inl (record { fault = r; wrote = refl; keeps = k })); ends = ends }
+  held_misplanned status (inr e) k ends = record { meant = status; grown = refusal_growth status; so = inl (e, ap refusal_growth e, k); ends = ends }
 
-abbrev pub Held : Type 0 → Type 0 → Option BlockFile → Loaded → Text → Text → Text → Options → ℕ → ℕ → Option Channels → Option Channels → Status → Type 0
-Held kept failed told program input schedule script options before now old new result =
-    (meant : Status) × (grown : Channels) × IsHolding kept failed told program input schedule script options meant grown × Ends before now old new meant grown result
-
-module _ (kept failed : Type 0) (told : Option BlockFile) (program : Loaded) (input schedule script : Text) (options : Options) (before now : ℕ) (old new : Option Channels) (result : Status) where
-  pub held_misplanned : (status : Status) → IsFaulty (start_areas program.system program.user) schedule status ⊎ (status ≡ NoMemory) → kept → Ends before now old new status (refusal_growth status) result → Held kept failed told program input schedule script options before now old new result
-  held_misplanned status (inl r) k ends = (status, refusal_growth status, inr (inl (record { fault = r; wrote = refl; keeps = k })), ends)
-  held_misplanned status (inr e) k ends = (status, refusal_growth status, inl (e, ap refusal_growth e, k), ends)
-
-  pub held_went : (rules : List Rule) → Denotes (start_areas program.system program.user) schedule rules → Told failed told options.steps options.turns rules (Start program.system program.user input) (readings script) before now old new result → Held kept failed told program input schedule script options before now old new result
-  held_went rules planned h = (h.0, h.1, inr (inr (record { rules = rules; planned = planned; went = h.2 })), h.3)
+  pub held_went : (rules : List Rule) → Denotes (start_areas program.system program.user) schedule rules → EndsSo outside.sink (SessionWent outside.pages options.steps options.turns rules (Start program.system program.user input) (readings script)) result → Held outside program input schedule script options result
+  held_went rules planned h = record { meant = h.meant; grown = h.grown; so = inr (inr (record { rules = rules; planned = planned; went = h.so })); ends = h.ends }

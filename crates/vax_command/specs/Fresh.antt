@@ -18,6 +18,7 @@ use Rattle.vax_report.specs.declared.Last.{Last}
 use Rattle.vax_report.specs.declared.Last.TheVariants as last
 use Rattle.vax_cli.specs.Words.{Text}
 use Rattle.vax_cli.specs.declared.command.DumpItem.{DumpItem}
+use Rattle.vax_command.specs.Around.{Change, HasFailed}
 use Rattle.vax_command.specs.Went.{shown}
 use Rattle.vax_command.specs.declared.status.Status.{Status}
 use Rattle.vax_command.specs.declared.status.Status.TheVariants.{PageFault}
@@ -31,10 +32,10 @@ abbrev pub AreShown : Engine → Option BlockFile → List DumpItem → List Dum
 AreShown m file items dumps = (place : Place) → Means m file place → dumps ≡ map (shown (machine_at place).memory) items
 
 -- The report on a machine that stopped was written, or, where the page file failed while memory was read, the one without memory.
-abbrev pub IsReported : Type 0 → Engine → Option BlockFile → Last → Status → List DumpItem → Status → Channels → Type 0
-IsReported failed m file why meant items status grown =
-    ((status ≡ meant) × ((dumps : List Dump) × AreShown m file items dumps × (grown ≡ only Report (machine_report m why dumps))))
-    ⊎ (failed × (status ≡ PageFault) × (grown ≡ only Report (machine_report m last.PageFault [])))
+abbrev pub IsReported : Change BlockFile → Engine → Last → (meant : Status) → List DumpItem → Status → Channels → Type 0
+IsReported pages m why meant items status grown =
+    ((status ≡ meant) × ((dumps : List Dump) × AreShown m pages.before.told items dumps × (grown ≡ only Report (machine_report m why dumps))))
+    ⊎ (HasFailed pages × (status ≡ PageFault) × (grown ≡ only Report (machine_report m last.PageFault [])))
 
 -- with every page file that tells its contents it stands for this flat machine, nothing is resident, and nothing was counted
 pub record IsFresh (m : Engine) (frames : ℕ) (start : Flat) : Type 0 where

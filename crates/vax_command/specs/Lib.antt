@@ -1,4 +1,5 @@
 pub mod Status
+pub mod Around
 pub mod Ends
 pub mod Reading
 pub mod ReadingView

@@ -1,9 +1,10 @@
 -- The files that a call reads, and when a file ends it.
-use Rattle.std.specs.Prelude.{◌≡◌, ℕ, List, [], ◌∷◌, ◌++◌, length, take, drop, Option, None, Some, IfSome, Result, Ok, Err, ⊤}
+use Rattle.std.specs.Prelude.{◌≡◌, ◌≢◌, ◌≤◌, ℕ, IsErrOf, OnOk, List, [], ◌∷◌, ◌++◌, length, take, drop, Option, None, Some, IfSome, Result, Ok, Err, ⊤}
 use Rattle.vax_outside.specs.Directory.{Directory, read_result}
 use Rattle.vax_outside.specs.declared.traits.FilesFault.{FilesFault}
 use Rattle.vax_outside.specs.declared.traits.FilesFault.TheVariants as faults
 use Rattle.vax_cli.specs.Words.{Options, Text}
+use Rattle.vax_command.specs.Around.{Change, HasFailed}
 use Rattle.vax_command.specs.declared.status.Status.{Status}
 use Rattle.vax_command.specs.declared.status.Status.TheVariants.{Done, Usage, Missing, Large, Refused, Link, Schedule, Image, Turns, PageFault, ReadFault, WriteFault, NoMemory}
 
@@ -51,8 +52,18 @@ EndsBy rose fails WriteFault = ⊥
 EndsBy rose fails NoMemory = ⊤
 
 -- when reading these names ends the call
-abbrev pub ReadEnds : Type 0 → Option Directory → List Text → Status → Type 0
-ReadEnds rose contents names status = EndsBy rose (λ why. Reads contents names (Err why)) status
+abbrev pub ReadEndsFrom : Type 0 → Option Directory → List Text → Status → Type 0
+ReadEndsFrom rose contents names status = EndsBy rose (λ why. Reads contents names (Err why)) status
+
+abbrev pub ReadEnds : Change Directory → List Text → Status → Type 0
+ReadEnds files names status = ReadEndsFrom (HasFailed files) files.before.told names status
+
+-- The files are as they were, and each call that failed was counted and is told.
+pub record ReadsOnly {T : Type 0} (files : Change Directory) (result : Result T Status) : Type 0 where
+  pub same : files.after.told ≡ files.before.told
+  pub later : files.before.faults ≤ files.after.faults
+  pub quiet : OnOk result (files.after.faults ≡ files.before.faults)
+  pub failed : files.after.faults ≢ files.before.faults → IsErrOf result ReadFault
 
 -- the bytes of an option's file, if it is given
 abbrev pub option_of : Option Text → List Text → Option Text

@@ -1,45 +1,50 @@
 -- What running a program comes to.
 use Rattle.std.specs.Prelude.{◌≡◌, ◌⊎◌, ℕ, List}
 use Rattle.vax_space.specs.declared.Area.{Area}
+use Rattle.vax_outside.specs.Blocks.{BlockFile}
 use Rattle.vax_outside.specs.Channels.{Channels}
 use Rattle.vax_image.specs.Start.{Start, start_areas}
 use Rattle.vax_sched.specs.Faults.{Denotes, IsFirstFault}
 use Rattle.vax_sched.specs.declared.rule.Rule.{Rule}
 use Rattle.vax_machine.specs.Paged.{fresh}
 use Rattle.vax_cli.specs.Words.{Options, Text}
+use Rattle.vax_command.specs.Around.{Change, Outside}
+use Rattle.vax_command.specs.Ends.{EndsSo}
 use Rattle.vax_command.specs.Status.{refusal_growth}
 use Rattle.vax_command.specs.declared.status.Status.{Status}
 use Rattle.vax_command.specs.declared.status.Status.TheVariants.{NoMemory, Schedule}
 use Rattle.vax_command.specs.Loaded.{Loaded}
-use Rattle.vax_command.specs.Pages.{Outside}
 use Rattle.vax_command.specs.Went.{Went, limits_of}
 
 -- a schedule has this first fault, for these areas
 abbrev pub IsFaulty : List Area → Text → Status → Type 0
 IsFaulty areas schedule status = (line : ℕ) × (kind : ℕ) × (status ≡ Schedule line kind) × IsFirstFault areas schedule line kind
 
--- The schedule of a program has this fault, which is told before any call of the page file: `kept` says that this is as before.
-pub record IsMisplanned (kept : Type 0) (program : Loaded) (schedule : Text) (status : Status) (grown : Channels) : Type 0 where
+-- the schedule of a program has this fault, which is told before any call of the page file
+pub record IsMisplanned (pages : Change BlockFile) (program : Loaded) (schedule : Text) (status : Status) (grown : Channels) : Type 0 where
   pub fault : IsFaulty (start_areas program.system program.user) schedule status
   pub wrote : grown ≡ refusal_growth status
-  pub keeps : kept
+  pub keeps : pages.same
 
--- A program was run with its input under a schedule, from its start on and with no page resident. `failed` says that a call of the page file
--- failed; `outside` is what the page file tells, and how many writes failed.
-pub record IsRun (failed : Type 0) (outside : Outside) (program : Loaded) (input schedule : Text) (options : Options) (status : Status) (grown : Channels) : Type 0 where
+-- a program was run with its input under a schedule, from its start on and with no page resident
+pub record IsRun (outside : Outside) (program : Loaded) (input schedule : Text) (options : Options) (status : Status) (grown : Channels) : Type 0 where
   pub rules : List Rule
   pub planned : Denotes (start_areas program.system program.user) schedule rules
-  pub went : Went failed outside (limits_of options) (start_areas program.system program.user) rules (fresh options.frames (Start program.system program.user input)) options.dumps status grown
+  pub went : Went outside (limits_of options) (start_areas program.system program.user) rules (fresh options.frames (Start program.system program.user input)) options.dumps status grown
 
-abbrev pub RunsSo : Type 0 → Type 0 → Outside → Loaded → Text → Text → Options → Status → Channels → Type 0
-RunsSo kept failed outside program input schedule options status grown =
-    IsMisplanned kept program schedule status grown ⊎ IsRun failed outside program input schedule options status grown
+abbrev pub RunsSo : Outside → Loaded → (input schedule : Text) → Options → Status → Channels → Type 0
+RunsSo outside program input schedule options status grown =
+    IsMisplanned outside.pages program schedule status grown ⊎ IsRun outside program input schedule options status grown
 
 -- memory was refused before any call of the page file
-abbrev pub LacksMemory : Type 0 → Status → Channels → Type 0
-LacksMemory kept status grown = (status ≡ NoMemory) × (grown ≡ refusal_growth NoMemory) × kept
+abbrev pub LacksMemory : Change BlockFile → Status → Channels → Type 0
+LacksMemory pages status grown = (status ≡ NoMemory) × (grown ≡ refusal_growth NoMemory) × pages.same
 
 -- a run went so, or memory was refused before it
-abbrev pub IsRunning : Type 0 → Type 0 → Outside → Loaded → Text → Text → Options → Status → Channels → Type 0
-IsRunning kept failed outside program input schedule options status grown =
-    LacksMemory kept status grown ⊎ RunsSo kept failed outside program input schedule options status grown
+abbrev pub IsRunning : Outside → Loaded → (input schedule : Text) → Options → Status → Channels → Type 0
+IsRunning outside program input schedule options status grown =
+    LacksMemory outside.pages status grown ⊎ RunsSo outside program input schedule options status grown
+
+-- and this is its answer
+abbrev pub Ran : Outside → Loaded → (input schedule : Text) → Options → Status → Type 0
+Ran outside program input schedule options result = EndsSo outside.sink (IsRunning outside program input schedule options) result

@@ -13,6 +13,7 @@ use Rattle.vax_script.specs.declared.request.Line.{Line}
 use Rattle.vax_console.specs.Ends.{IsOnTheWay, steps_in, writes}
 use Rattle.vax_console.specs.Parts.{LeadsThrough}
 use Rattle.vax_console.specs.Transcript.{Session, session_after, transcript}
+use Rattle.vax_command.specs.Around.{Change, HasFailed}
 use Rattle.vax_command.specs.Went.{IsRunAnswer}
 use Rattle.vax_command.specs.declared.status.Status.{Status}
 use Rattle.vax_command.specs.declared.status.Status.TheVariants.{Done, PageFault, Turns}
@@ -67,7 +68,11 @@ pub record IsTimedOut (limit turns : ℕ) (rules : List Rule) (s : Session) (lin
 
 -- It is read to its end, or the limit of turns or a failed call of the page file ends it; of what it wrote nothing is said where the page file
 -- doesn't tell its contents.
-abbrev pub SessionWent : Type 0 → Option BlockFile → ℕ → ℕ → List Rule → Flat → List Line → Status → Channels → Type 0
-SessionWent failed None limit turns rules start lines status grown = IsRunAnswer failed status
-SessionWent failed (Some file) limit turns rules start lines status grown =
-    IsCarriedOut limit (opening start) lines status grown ⊎ (IsTimedOut limit turns rules (opening start) lines status grown ⊎ (failed × IsBrokenOff limit (opening start) lines status grown))
+abbrev pub SessionFrom : Option BlockFile → Change BlockFile → ℕ → ℕ → List Rule → Flat → List Line → Status → Channels → Type 0
+SessionFrom None pages limit turns rules start lines status grown = IsRunAnswer (HasFailed pages) status
+SessionFrom (Some file) pages limit turns rules start lines status grown =
+    IsCarriedOut limit (opening start) lines status grown
+    ⊎ (IsTimedOut limit turns rules (opening start) lines status grown ⊎ (HasFailed pages × IsBrokenOff limit (opening start) lines status grown))
+
+abbrev pub SessionWent : Change BlockFile → ℕ → ℕ → List Rule → Flat → List Line → Status → Channels → Type 0
+SessionWent pages limit turns rules start lines status grown = SessionFrom pages.before.told pages limit turns rules start lines status grown

@@ -19,7 +19,8 @@ use Rattle.vax_machine.specs.Writing.{output_of}
 use Rattle.vax_machine.specs.declared.event.Limits.{Limits}
 use Rattle.vax_cli.specs.Words.{Options, Text}
 use Rattle.vax_cli.specs.declared.command.DumpItem.{DumpItem}
-use Rattle.vax_command.specs.Pages.{HasRun, Outside, RunsOrLoses}
+use Rattle.vax_command.specs.Around.{HasFailed, Outside}
+use Rattle.vax_command.specs.Pages.{HasRun, RunsOrLoses}
 use Rattle.vax_command.specs.declared.status.Status.{Status}
 use Rattle.vax_command.specs.declared.status.Status.TheVariants.{Done, Usage, Missing, Large, Refused, Link, Schedule, Image, Turns, PageFault, ReadFault, WriteFault, NoMemory}
 
@@ -71,7 +72,7 @@ pub record IsUnread (limits : Limits) (areas : List Area) (rules : List Rule) (b
   pub stopped : stops limits.steps limits.turns (paged areas (due rules) count b) ≡ Some why
   pub answer : status ≡ PageFault
   pub wrote : grown ≡ run_output limits.listed (paged areas (due rules) count b) last.PageFault []
-  pub blocks : HasRun areas b (paged areas (due rules) count b) items file outside.after
+  pub blocks : HasRun areas b (paged areas (due rules) count b) items file outside.pages.after.told
 
 -- a call of the page file failed in the turn behind so many, when the first of what was due had been made absent
 pub record IsCut (limits : Limits) (areas : List Area) (rules : List Rule) (b : Paged) (file : BlockFile) (outside : Outside) (status : Status) (grown : Channels) : Type 0 where
@@ -82,7 +83,7 @@ pub record IsCut (limits : Limits) (areas : List Area) (rules : List Rule) (b : 
   pub splits : all_named areas (due rules ((paged areas (due rules) count b).turns + 1)) ≡ front ++ rest
   pub answer : status ≡ PageFault
   pub wrote : grown ≡ run_output limits.listed (all_evicted front (paged areas (due rules) count b)) last.PageFault []
-  pub blocks : MovedUpTo areas b (all_evicted front (paged areas (due rules) count b)) rest (Some file) outside.after
+  pub blocks : MovedUpTo areas b (all_evicted front (paged areas (due rules) count b)) rest (Some file) outside.pages.after.told
 
 -- an answer of a run
 abbrev pub IsRunAnswer : Type 0 → Status → Type 0
@@ -102,10 +103,11 @@ IsRunAnswer failed NoMemory = ⊥
 
 -- It stopped by itself, or a call of the page file failed; of what it wrote nothing is said where the page file doesn't tell its contents.
 
-abbrev pub WentFrom : Type 0 → Option BlockFile → Outside → Limits → List Area → List Rule → Paged → List DumpItem → Status → Channels → Type 0
-WentFrom failed None outside limits areas rules b items status grown = IsRunAnswer failed status
-WentFrom failed (Some file) outside limits areas rules b items status grown =
-    IsStopped limits areas rules b items file outside status grown ⊎ (failed × (IsUnread limits areas rules b items file outside status grown ⊎ IsCut limits areas rules b file outside status grown))
+abbrev pub WentFrom : Option BlockFile → Outside → Limits → List Area → List Rule → Paged → List DumpItem → Status → Channels → Type 0
+WentFrom None outside limits areas rules b items status grown = IsRunAnswer (HasFailed outside.pages) status
+WentFrom (Some file) outside limits areas rules b items status grown =
+    IsStopped limits areas rules b items file outside status grown
+    ⊎ (HasFailed outside.pages × (IsUnread limits areas rules b items file outside status grown ⊎ IsCut limits areas rules b file outside status grown))
 
-abbrev pub Went : Type 0 → Outside → Limits → List Area → List Rule → Paged → List DumpItem → Status → Channels → Type 0
-Went failed outside limits areas rules b items status grown = WentFrom failed outside.before outside limits areas rules b items status grown
+abbrev pub Went : Outside → Limits → List Area → List Rule → Paged → List DumpItem → Status → Channels → Type 0
+Went outside limits areas rules b items status grown = WentFrom outside.pages.before.told outside limits areas rules b items status grown

@@ -70,7 +70,8 @@ pub(crate) fn fill<F: PageFile>(
     room: Room,
     pages: &mut F,
 ) -> Result<Vec<Dump>, PageFault>
-    ensures shows { IfOk result (λ v. AreShown (engine machine.old) (F.contents pages.old) (items_of room.blanks.items) v.items) }
+    ensures shows { IfOk result (λ v.
+        AreShown (engine machine.old) (F.contents pages.old) (items_of room.blanks.items) v.items) }
     ensures reads { OnlyRead (F.contents pages.old) (F.contents pages.new) }
     ensures unread { items_of room.blanks.items ≡ [] → F.contents pages.new ≡ F.contents pages.old }
     ensures cpu { (engine machine.new).cpu ≡ (engine machine.old).cpu }

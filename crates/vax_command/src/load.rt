@@ -1,9 +1,9 @@
 //! Reads them in order.
-ghost use Rattle.std.specs.Prelude.{◌≡◌, ◌≢◌, ◌⊎◌, ◌≤◌, ◌++◌, [], ◌∷◌, Ok, IfOk, IfErr, IfSome, IsErrOf, OnOk, is_some, length, unwrap_or};
+ghost use Rattle.std.specs.Prelude.{◌≡◌, ◌⊎◌, ◌≤◌, ◌++◌, [], ◌∷◌, Ok, IfOk, IfErr, IfSome, is_some, length, unwrap_or};
 ghost use Rattle.std.specs.Option.{option_copied};
-ghost use Rattle.vax_outside.specs.Faults.{Rose};
 ghost use Rattle.vax_cli.specs.Said.{names_of, options as said_options};
-ghost use Rattle.vax_command.specs.Reading.{HasTexts, Reads, ReadEnds, file_limit, given, of_options};
+ghost use Rattle.vax_command.specs.Around.{change};
+ghost use Rattle.vax_command.specs.Reading.{HasTexts, Reads, ReadEnds, ReadsOnly, file_limit, given, of_options};
 ghost use Rattle.vax_command.specs.ReadingView.{bytes_of, given_seen, texts};
 
 use crate::name::Name;
@@ -47,13 +47,12 @@ fn large(alloc: Global, name: &str) -> Status
 
 /// Reads a file.
 fn load<S: Files>(alloc: Global, name: &str, files: &mut S) -> Result<Vec<u8>, Status>
-    ensures same { S.contents files.new ≡ S.contents files.old }
-    ensures later { S.faults files.old ≤ S.faults files.new }
-    ensures quiet { OnOk result (S.faults files.new ≡ S.faults files.old) }
-    ensures failed { S.faults files.new ≢ S.faults files.old → IsErrOf result Status.ReadFault }
+    ensures only { ReadsOnly (change S.faults S.contents files.old files.new) result }
     ensures bound { IfOk result (λ v. length v.items ≤ file_limit) }
-    ensures ok { IfOk result (λ v. Reads (S.contents files.old) (name.now ∷ []) (Ok (v.items ∷ []))) }
-    ensures ends { IfErr result (λ status. ReadEnds (Rose (S.faults files.old) (S.faults files.new)) (S.contents files.old) (name.now ∷ []) status) }
+    ensures ok { IfOk result (λ v.
+        Reads (S.contents files.old) (name.now ∷ []) (Ok (v.items ∷ []))) }
+    ensures ends { IfErr result (λ status. ReadEnds (change S.faults S.contents files.old files.new)
+        (name.now ∷ []) status) }
 {
     match files.read(alloc, name, FILE_LIMIT) {
         Ok(bytes) => Ok(bytes),
@@ -70,13 +69,12 @@ pub fn load_files<S: Files>(
     names: &[&str],
     files: &mut S,
 ) -> Result<Vec<Vec<u8>>, Status>
-    ensures same { S.contents files.new ≡ S.contents files.old }
-    ensures later { S.faults files.old ≤ S.faults files.new }
-    ensures quiet { OnOk result (S.faults files.new ≡ S.faults files.old) }
-    ensures failed { S.faults files.new ≢ S.faults files.old → IsErrOf result Status.ReadFault }
+    ensures only { ReadsOnly (change S.faults S.contents files.old files.new) result }
     ensures count { IfOk result (λ v. length v.items ≡ length names.now) }
-    ensures ok { IfOk result (λ v. Reads (S.contents files.old) (names_of names.now) (Ok (texts v.items))) }
-    ensures ends { IfErr result (λ status. ReadEnds (Rose (S.faults files.old) (S.faults files.new)) (S.contents files.old) (names_of names.now) status) }
+    ensures ok { IfOk result (λ v.
+        Reads (S.contents files.old) (names_of names.now) (Ok (texts v.items))) }
+    ensures ends { IfErr result (λ status. ReadEnds (change S.faults S.contents files.old files.new)
+        (names_of names.now) status) }
 {
     let mut all = Vec::new(alloc);
     for name in names {
@@ -94,14 +92,13 @@ fn load_option<S: Files>(
     name: Option<&str>,
     files: &mut S,
 ) -> Result<Option<Vec<u8>>, Status>
-    ensures same { S.contents files.new ≡ S.contents files.old }
-    ensures later { S.faults files.old ≤ S.faults files.new }
-    ensures quiet { OnOk result (S.faults files.new ≡ S.faults files.old) }
-    ensures failed { S.faults files.new ≢ S.faults files.old → IsErrOf result Status.ReadFault }
+    ensures only { ReadsOnly (change S.faults S.contents files.old files.new) result }
     ensures bound { IfOk result (λ o. IfSome o (λ v. length v.items ≤ file_limit)) }
     ensures given { IfOk result (λ o. is_some o ≡ is_some name.entry) }
-    ensures ok { IfOk result (λ o. Reads (S.contents files.old) (given (option_copied name.entry)) (Ok (given (bytes_of o)))) }
-    ensures ends { IfErr result (λ status. ReadEnds (Rose (S.faults files.old) (S.faults files.new)) (S.contents files.old) (given (option_copied name.entry)) status) }
+    ensures ok { IfOk result (λ o. Reads (S.contents files.old)
+        (given (option_copied name.entry)) (Ok (given (bytes_of o)))) }
+    ensures ends { IfErr result (λ status. ReadEnds (change S.faults S.contents files.old files.new)
+        (given (option_copied name.entry)) status) }
 {
     match name {
         None => Ok(None),
@@ -116,14 +113,16 @@ fn load_both<S: Files>(
     second: Option<&str>,
     files: &mut S,
 ) -> Result<(Option<Vec<u8>>, Option<Vec<u8>>), Status>
-    ensures same { S.contents files.new ≡ S.contents files.old }
-    ensures later { S.faults files.old ≤ S.faults files.new }
-    ensures quiet { OnOk result (S.faults files.new ≡ S.faults files.old) }
-    ensures failed { S.faults files.new ≢ S.faults files.old → IsErrOf result Status.ReadFault }
-    ensures bounds { IfOk result (λ r. IfSome r.0 (λ v. length v.items ≤ file_limit) × IfSome r.1 (λ v. length v.items ≤ file_limit)) }
-    ensures given { IfOk result (λ r. (is_some r.0 ≡ is_some first.entry) × (is_some r.1 ≡ is_some second.entry)) }
-    ensures ok { IfOk result (λ r. Reads (S.contents files.old) (given (option_copied first.entry) ++ given (option_copied second.entry)) (Ok (given (bytes_of r.0) ++ given (bytes_of r.1)))) }
-    ensures ends { IfErr result (λ status. ReadEnds (Rose (S.faults files.old) (S.faults files.new)) (S.contents files.old) (given (option_copied first.entry) ++ given (option_copied second.entry)) status) }
+    ensures only { ReadsOnly (change S.faults S.contents files.old files.new) result }
+    ensures bounds { IfOk result (λ r. IfSome r.0 (λ v. length v.items ≤ file_limit)
+        × IfSome r.1 (λ v. length v.items ≤ file_limit)) }
+    ensures given { IfOk result (λ r.
+        (is_some r.0 ≡ is_some first.entry) × (is_some r.1 ≡ is_some second.entry)) }
+    ensures ok { IfOk result (λ r. Reads (S.contents files.old)
+        (given (option_copied first.entry) ++ given (option_copied second.entry))
+        (Ok (given (bytes_of r.0) ++ given (bytes_of r.1)))) }
+    ensures ends { IfErr result (λ status. ReadEnds (change S.faults S.contents files.old files.new)
+        (given (option_copied first.entry) ++ given (option_copied second.entry)) status) }
 {
     let one = load_option(alloc, first, files)?;
     let other = load_option(alloc, second, files)?;
@@ -149,15 +148,14 @@ pub fn load_options<S: Files>(
     script: Option<&str>,
     files: &mut S,
 ) -> Result<Given, Status>
-    ensures same { S.contents files.new ≡ S.contents files.old }
-    ensures later { S.faults files.old ≤ S.faults files.new }
-    ensures quiet { OnOk result (S.faults files.new ≡ S.faults files.old) }
-    ensures failed { S.faults files.new ≢ S.faults files.old → IsErrOf result Status.ReadFault }
+    ensures only { ReadsOnly (change S.faults S.contents files.old files.new) result }
     ensures input { IfOk result (λ g. length g.input.items ≤ file_limit) }
     ensures schedule { IfOk result (λ g. length g.schedule.items ≤ file_limit) }
     ensures script { IfOk result (λ g. length g.script.items ≤ file_limit) }
-    ensures ok { IfOk result (λ g. HasTexts (S.contents files.old) [] (said_options options.now) (option_copied script.entry) (given_seen [] g)) }
-    ensures ends { IfErr result (λ status. ReadEnds (Rose (S.faults files.old) (S.faults files.new)) (S.contents files.old) (of_options (said_options options.now) (option_copied script.entry)) status) }
+    ensures ok { IfOk result (λ g. HasTexts (S.contents files.old) []
+        (said_options options.now) (option_copied script.entry) (given_seen [] g)) }
+    ensures ends { IfErr result (λ status. ReadEnds (change S.faults S.contents files.old files.new)
+        (of_options (said_options options.now) (option_copied script.entry)) status) }
 {
     let (system, input) = load_both(alloc, options.system, options.input, files)?;
     let (schedule, script) = load_both(alloc, options.schedule, script, files)?;
@@ -177,16 +175,17 @@ pub fn load_run<S: Files>(
     script: Option<&str>,
     files: &mut S,
 ) -> Result<(Vec<Vec<u8>>, Given), Status>
-    ensures same { S.contents files.new ≡ S.contents files.old }
-    ensures later { S.faults files.old ≤ S.faults files.new }
-    ensures quiet { OnOk result (S.faults files.new ≡ S.faults files.old) }
-    ensures failed { S.faults files.new ≢ S.faults files.old → IsErrOf result Status.ReadFault }
+    ensures only { ReadsOnly (change S.faults S.contents files.old files.new) result }
     ensures count { IfOk result (λ r. length r.0.items ≡ length names.now) }
     ensures input { IfOk result (λ r. length r.1.input.items ≤ file_limit) }
     ensures schedule { IfOk result (λ r. length r.1.schedule.items ≤ file_limit) }
     ensures script { IfOk result (λ r. length r.1.script.items ≤ file_limit) }
-    ensures ok { IfOk result (λ r. HasTexts (S.contents files.old) (names_of names.now) (said_options options.now) (option_copied script.entry) (given_seen (texts r.0.items) r.1)) }
-    ensures ends { IfErr result (λ status. ReadEnds (Rose (S.faults files.old) (S.faults files.new)) (S.contents files.old) (names_of names.now ++ of_options (said_options options.now) (option_copied script.entry)) status) }
+    ensures ok { IfOk result (λ r. HasTexts (S.contents files.old) (names_of names.now)
+        (said_options options.now) (option_copied script.entry)
+        (given_seen (texts r.0.items) r.1)) }
+    ensures ends { IfErr result (λ status. ReadEnds (change S.faults S.contents files.old files.new)
+        (names_of names.now ++ of_options (said_options options.now) (option_copied script.entry))
+        status) }
 {
     let programs = load_files(alloc, names, files)?;
     let given = load_options(alloc, options, script, files)?;

@@ -3,6 +3,7 @@ ghost use Rattle.std.specs.Prelude.{◌≡◌, ◌≤◌, codes, OnErr, OnOk, tr
 ghost use Rattle.vax_outside.specs.Channels.{Grew, GrewByPrefix, only};
 ghost use Rattle.vax_outside.specs.Faults.{Rose};
 ghost use Rattle.vax_command.specs.Status.{image_fault, is_named, link_fault, named, refusal_growth, schedule_fault, source_fault};
+ghost use Rattle.vax_command.specs.Around.{change};
 ghost use Rattle.vax_command.specs.Ends.{Ends};
 
 use crate::status::Status;
@@ -11,8 +12,10 @@ use vax_outside::{Chan, Failed, Sink, Text, put_all};
 /// Writes a label and a name.
 #[tactic(auto, using(vax_outside::proofs::Growth::report_first, vax_outside::proofs::Growth::report_last, vax_outside::proofs::Growth::report_grew))]
 fn put_named<K: Sink>(label: &[u8], name: &[u8], sink: &mut K) -> Result<(), Failed>
-    ensures ok { OnOk result (Grew (K.contents sink.old) (K.contents sink.new) (only Chan.Report (named label.now name.now))) }
-    ensures prefix { OnErr result (GrewByPrefix (K.contents sink.old) (K.contents sink.new) (only Chan.Report (named label.now name.now))) }
+    ensures ok { OnOk result (Grew (K.contents sink.old) (K.contents sink.new)
+        (only Chan.Report (named label.now name.now))) }
+    ensures prefix { OnErr result (GrewByPrefix (K.contents sink.old) (K.contents sink.new)
+        (only Chan.Report (named label.now name.now))) }
     ensures later { K.faults sink.old ≤ K.faults sink.new }
     ensures cause { OnErr result (Rose (K.faults sink.old) (K.faults sink.new)) }
     ensures quiet { OnOk result (K.faults sink.new ≡ K.faults sink.old) }
@@ -26,8 +29,10 @@ fn put_named<K: Sink>(label: &[u8], name: &[u8], sink: &mut K) -> Result<(), Fai
 /// Writes the place of a fault in a source.
 #[tactic(auto, unfolding(crate::specs::Status::source_fault))]
 fn put_source_fault<K: Sink>(file: u8, line: u32, kind: u8, sink: &mut K) -> Result<(), Failed>
-    ensures ok { OnOk result (Grew (K.contents sink.old) (K.contents sink.new) (only Chan.Report (source_fault file line kind))) }
-    ensures prefix { OnErr result (GrewByPrefix (K.contents sink.old) (K.contents sink.new) (only Chan.Report (source_fault file line kind))) }
+    ensures ok { OnOk result (Grew (K.contents sink.old) (K.contents sink.new)
+        (only Chan.Report (source_fault file line kind))) }
+    ensures prefix { OnErr result (GrewByPrefix (K.contents sink.old) (K.contents sink.new)
+        (only Chan.Report (source_fault file line kind))) }
     ensures later { K.faults sink.old ≤ K.faults sink.new }
     ensures cause { OnErr result (Rose (K.faults sink.old) (K.faults sink.new)) }
     ensures quiet { OnOk result (K.faults sink.new ≡ K.faults sink.old) }
@@ -46,8 +51,10 @@ fn put_source_fault<K: Sink>(file: u8, line: u32, kind: u8, sink: &mut K) -> Res
 /// Writes the place of a fault in a schedule.
 #[tactic(auto, unfolding(crate::specs::Status::schedule_fault))]
 fn put_schedule_fault<K: Sink>(line: u32, kind: u8, sink: &mut K) -> Result<(), Failed>
-    ensures ok { OnOk result (Grew (K.contents sink.old) (K.contents sink.new) (only Chan.Report (schedule_fault line kind))) }
-    ensures prefix { OnErr result (GrewByPrefix (K.contents sink.old) (K.contents sink.new) (only Chan.Report (schedule_fault line kind))) }
+    ensures ok { OnOk result (Grew (K.contents sink.old) (K.contents sink.new)
+        (only Chan.Report (schedule_fault line kind))) }
+    ensures prefix { OnErr result (GrewByPrefix (K.contents sink.old) (K.contents sink.new)
+        (only Chan.Report (schedule_fault line kind))) }
     ensures later { K.faults sink.old ≤ K.faults sink.new }
     ensures cause { OnErr result (Rose (K.faults sink.old) (K.faults sink.new)) }
     ensures quiet { OnOk result (K.faults sink.new ≡ K.faults sink.old) }
@@ -65,8 +72,10 @@ fn put_schedule_fault<K: Sink>(line: u32, kind: u8, sink: &mut K) -> Result<(), 
 #[tactic(auto, unfolding(crate::specs::Status::link_fault))]
 fn put_found<K: Sink>(kind: u8, name: &[u8], place: u32, sink: &mut K) -> Result<(), Failed>
     requires { is_named kind ≡ false }
-    ensures ok { OnOk result (Grew (K.contents sink.old) (K.contents sink.new) (only Chan.Report (link_fault kind name.now place))) }
-    ensures prefix { OnErr result (GrewByPrefix (K.contents sink.old) (K.contents sink.new) (only Chan.Report (link_fault kind name.now place))) }
+    ensures ok { OnOk result (Grew (K.contents sink.old) (K.contents sink.new)
+        (only Chan.Report (link_fault kind name.now place))) }
+    ensures prefix { OnErr result (GrewByPrefix (K.contents sink.old) (K.contents sink.new)
+        (only Chan.Report (link_fault kind name.now place))) }
     ensures later { K.faults sink.old ≤ K.faults sink.new }
     ensures cause { OnErr result (Rose (K.faults sink.old) (K.faults sink.new)) }
     ensures quiet { OnOk result (K.faults sink.new ≡ K.faults sink.old) }
@@ -86,8 +95,10 @@ fn put_found<K: Sink>(kind: u8, name: &[u8], place: u32, sink: &mut K) -> Result
 #[tactic(auto, unfolding(crate::specs::Status::link_fault))]
 fn put_found_name<K: Sink>(kind: u8, name: &[u8], place: u32, sink: &mut K) -> Result<(), Failed>
     requires { is_named kind ≡ true }
-    ensures ok { OnOk result (Grew (K.contents sink.old) (K.contents sink.new) (only Chan.Report (link_fault kind name.now place))) }
-    ensures prefix { OnErr result (GrewByPrefix (K.contents sink.old) (K.contents sink.new) (only Chan.Report (link_fault kind name.now place))) }
+    ensures ok { OnOk result (Grew (K.contents sink.old) (K.contents sink.new)
+        (only Chan.Report (link_fault kind name.now place))) }
+    ensures prefix { OnErr result (GrewByPrefix (K.contents sink.old) (K.contents sink.new)
+        (only Chan.Report (link_fault kind name.now place))) }
     ensures later { K.faults sink.old ≤ K.faults sink.new }
     ensures cause { OnErr result (Rose (K.faults sink.old) (K.faults sink.new)) }
     ensures quiet { OnOk result (K.faults sink.new ≡ K.faults sink.old) }
@@ -101,8 +112,10 @@ fn put_found_name<K: Sink>(kind: u8, name: &[u8], place: u32, sink: &mut K) -> R
 
 /// Writes what the linker found.
 fn put_link_fault<K: Sink>(kind: u8, name: &[u8], place: u32, sink: &mut K) -> Result<(), Failed>
-    ensures ok { OnOk result (Grew (K.contents sink.old) (K.contents sink.new) (only Chan.Report (link_fault kind name.now place))) }
-    ensures prefix { OnErr result (GrewByPrefix (K.contents sink.old) (K.contents sink.new) (only Chan.Report (link_fault kind name.now place))) }
+    ensures ok { OnOk result (Grew (K.contents sink.old) (K.contents sink.new)
+        (only Chan.Report (link_fault kind name.now place))) }
+    ensures prefix { OnErr result (GrewByPrefix (K.contents sink.old) (K.contents sink.new)
+        (only Chan.Report (link_fault kind name.now place))) }
     ensures later { K.faults sink.old ≤ K.faults sink.new }
     ensures cause { OnErr result (Rose (K.faults sink.old) (K.faults sink.new)) }
     ensures quiet { OnOk result (K.faults sink.new ≡ K.faults sink.old) }
@@ -117,8 +130,10 @@ fn put_link_fault<K: Sink>(kind: u8, name: &[u8], place: u32, sink: &mut K) -> R
 /// Writes the place of a fault in an image's file.
 #[tactic(auto, unfolding(crate::specs::Status::image_fault))]
 fn put_image_fault<K: Sink>(place: u32, kind: u8, sink: &mut K) -> Result<(), Failed>
-    ensures ok { OnOk result (Grew (K.contents sink.old) (K.contents sink.new) (only Chan.Report (image_fault place kind))) }
-    ensures prefix { OnErr result (GrewByPrefix (K.contents sink.old) (K.contents sink.new) (only Chan.Report (image_fault place kind))) }
+    ensures ok { OnOk result (Grew (K.contents sink.old) (K.contents sink.new)
+        (only Chan.Report (image_fault place kind))) }
+    ensures prefix { OnErr result (GrewByPrefix (K.contents sink.old) (K.contents sink.new)
+        (only Chan.Report (image_fault place kind))) }
     ensures later { K.faults sink.old ≤ K.faults sink.new }
     ensures cause { OnErr result (Rose (K.faults sink.old) (K.faults sink.new)) }
     ensures quiet { OnOk result (K.faults sink.new ≡ K.faults sink.old) }
@@ -134,8 +149,10 @@ fn put_image_fault<K: Sink>(place: u32, kind: u8, sink: &mut K) -> Result<(), Fa
 
 /// Writes the line of a refusal; other answers have none.
 fn put_refusal<K: Sink>(status: &Status, sink: &mut K) -> Result<(), Failed>
-    ensures ok { OnOk result (Grew (K.contents sink.old) (K.contents sink.new) (refusal_growth status.now)) }
-    ensures prefix { OnErr result (GrewByPrefix (K.contents sink.old) (K.contents sink.new) (refusal_growth status.now)) }
+    ensures ok { OnOk result (Grew (K.contents sink.old) (K.contents sink.new)
+        (refusal_growth status.now)) }
+    ensures prefix { OnErr result (GrewByPrefix (K.contents sink.old) (K.contents sink.new)
+        (refusal_growth status.now)) }
     ensures later { K.faults sink.old ≤ K.faults sink.new }
     ensures cause { OnErr result (Rose (K.faults sink.old) (K.faults sink.new)) }
     ensures quiet { OnOk result (K.faults sink.new ≡ K.faults sink.old) }
@@ -156,7 +173,8 @@ fn put_refusal<K: Sink>(status: &Status, sink: &mut K) -> Result<(), Failed>
 
 /// Refuses: writes the line, and answers.
 pub fn refuse<K: Sink>(status: Status, sink: &mut K) -> Status
-    ensures { Ends (K.faults sink.old) (K.faults sink.new) (K.contents sink.old) (K.contents sink.new) status (refusal_growth status) result }
+    ensures { Ends (change K.faults K.contents sink.old sink.new)
+        status (refusal_growth status) result }
 {
     match put_refusal(&status, sink) {
         Ok(()) => status,

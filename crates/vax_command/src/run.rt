@@ -1,7 +1,6 @@
 //! Runs a program: makes a machine and its schedule, runs it, and reports.
-ghost use Rattle.std.specs.Prelude.{◌≡◌, ◌≢◌, ◌⊎◌, ◌≤◌, ◌<◌, ◌^◌, ◌-◌, ℕ, List, [], Result, Ok, IfOk, IfErr, length};
-ghost use Rattle.vax_outside.specs.Channels.{Channels, only};
-ghost use Rattle.vax_outside.specs.Faults.{Rose};
+ghost use Rattle.std.specs.Prelude.{◌≡◌, ◌⊎◌, ◌≤◌, ◌<◌, ◌^◌, ◌-◌, ℕ, [], Result, Ok, IfOk, IfErr, length};
+ghost use Rattle.vax_outside.specs.Channels.{only};
 ghost use Rattle.vax_outside.specs.declared.traits.Chan.TheVariants.{Report};
 ghost use Rattle.vax_flat.specs.Step.{Flat};
 ghost use Rattle.vax_image.specs.Start.{Start, start_areas};
@@ -11,12 +10,12 @@ ghost use Rattle.vax_machine.specs.Machine.{keeping};
 ghost use Rattle.vax_machine.specs.Paged.{fresh};
 ghost use Rattle.vax_sched.specs.Faults.{Denotes, IsFirstFault};
 ghost use Rattle.vax_cli.specs.Said.{AreWithin, options as said_options};
-ghost use Rattle.vax_command.specs.Ends.{Ends};
+ghost use Rattle.vax_command.specs.Around.{change, outside};
+ghost use Rattle.vax_command.specs.Ends.{Admits, Ends, EndsSo};
 ghost use Rattle.vax_command.specs.Fresh.{IsFresh, IsPrepared, IsReported, machine_report};
 ghost use Rattle.vax_command.specs.Loaded.{AreSound, loaded_seen};
 ghost use Rattle.vax_command.specs.Reading.{file_limit};
-ghost use Rattle.vax_command.specs.Running.{IsFaulty, IsRunning};
-ghost use Rattle.vax_command.specs.Pages.{outside_of};
+ghost use Rattle.vax_command.specs.Running.{IsFaulty, Ran};
 ghost use Rattle.vax_command.specs.Room.{items_of};
 ghost use Rattle.vax_command.specs.Went.{Went, limits_of};
 
@@ -42,7 +41,8 @@ pub fn report<K: Sink>(
     meant: Status,
     sink: &mut K,
 ) -> Status
-    ensures { Ends (K.faults sink.old) (K.faults sink.new) (K.contents sink.old) (K.contents sink.new) meant (only Report (machine_report (engine machine.now) last dumps.now)) result }
+    ensures { Ends (change K.faults K.contents sink.old sink.new)
+        meant (only Report (machine_report (engine machine.now) last dumps.now)) result }
 {
     let written = write_report(
         machine.core(),
@@ -68,13 +68,13 @@ fn report_all<K: Sink, F: PageFile>(
     sink: &mut K,
     pages: &mut F,
 ) -> Status
-    ensures reported { (status : Status) × (grown : Channels)
-        × IsReported (Rose (F.faults pages.old) (F.faults pages.new)) (engine machine) (F.contents pages.old) last meant (items_of room.blanks.items) status grown
-        × Ends (K.faults sink.old) (K.faults sink.new) (K.contents sink.old) (K.contents sink.new) status grown result }
+    ensures reported { EndsSo (change K.faults K.contents sink.old sink.new)
+        (IsReported (change F.faults F.contents pages.old pages.new)
+        (engine machine) last meant (items_of room.blanks.items)) result }
     ensures reads { OnlyRead (F.contents pages.old) (F.contents pages.new) }
     ensures unread { items_of room.blanks.items ≡ [] → F.contents pages.new ≡ F.contents pages.old }
     ensures later { F.faults pages.old ≤ F.faults pages.new }
-    ensures failed { F.faults pages.new ≢ F.faults pages.old → (result ≡ Status.PageFault) ⊎ (result ≡ Status.WriteFault) }
+    ensures failed { Admits (F.faults pages.old) (F.faults pages.new) Status.PageFault result }
 {
     let mut machine = machine;
     match fill(&mut machine, room, pages) {
@@ -94,10 +94,13 @@ fn execute<K: Sink, F: PageFile>(
 ) -> Status
     requires few_steps { limits.now.steps < 2 ^ 64 }
     requires few_turns { limits.now.turns < 2 ^ 64 - 2 }
-    ensures went { (frames : ℕ) → (m : Flat) → IsFresh (engine machine) frames m → (meant : Status) × (grown : Channels)
-        × Went (Rose (F.faults pages.old) (F.faults pages.new)) (outside_of (F.contents pages.old) (F.contents pages.new) (K.faults sink.old) (K.faults sink.new)) limits.now (keeping (engine machine)).areas schedule.now (fresh frames m) (items_of room.blanks.items) meant grown
-        × Ends (K.faults sink.old) (K.faults sink.new) (K.contents sink.old) (K.contents sink.new) meant grown result }
-    ensures failed { F.faults pages.new ≢ F.faults pages.old → (result ≡ Status.PageFault) ⊎ (result ≡ Status.WriteFault) }
+    ensures went { (frames : ℕ) → (m : Flat) → IsFresh (engine machine) frames m →
+        EndsSo (change K.faults K.contents sink.old sink.new)
+        (Went (outside (change K.faults K.contents sink.old sink.new)
+        (change F.faults F.contents pages.old pages.new))
+        limits.now (keeping (engine machine)).areas schedule.now (fresh frames m)
+        (items_of room.blanks.items)) result }
+    ensures failed { Admits (F.faults pages.old) (F.faults pages.new) Status.PageFault result }
 {
     let mut machine = machine;
     match machine.run(limits, schedule, pages, sink) {
@@ -116,7 +119,8 @@ fn execute<K: Sink, F: PageFile>(
 fn plan(alloc: Global, text: &[u8], space: &Space) -> Result<Schedule, Status>
     requires { length text.now ≤ file_limit }
     ensures planned { IfOk result (λ schedule. Denotes space.now text.now schedule) }
-    ensures fault { IfErr result (λ status. IsFaulty space.now text.now status ⊎ (status ≡ Status.NoMemory)) }
+    ensures fault { IfErr result (λ status.
+        IsFaulty space.now text.now status ⊎ (status ≡ Status.NoMemory)) }
 {
     match read(alloc, text, space) {
         Ok(schedule) => Ok(schedule),
@@ -139,9 +143,14 @@ pub fn prepare(
     requires schedule { length schedule.now ≤ file_limit }
     requires some { 64 ≤ frames }
     requires few { frames ≤ 32768 }
-    ensures prepared { IfOk result (λ r. IsPrepared (engine r.0) frames (Start programs.now.system programs.now.user input.items) (start_areas programs.now.system programs.now.user)) }
-    ensures planned { IfOk result (λ r. Denotes (start_areas programs.now.system programs.now.user) schedule.now r.1) }
-    ensures fault { IfErr result (λ status. IsFaulty (start_areas programs.now.system programs.now.user) schedule.now status ⊎ (status ≡ Status.NoMemory)) }
+    ensures prepared { IfOk result (λ r. IsPrepared (engine r.0) frames
+        (Start programs.now.system programs.now.user input.items)
+        (start_areas programs.now.system programs.now.user)) }
+    ensures planned { IfOk result (λ r.
+        Denotes (start_areas programs.now.system programs.now.user) schedule.now r.1) }
+    ensures fault { IfErr result (λ status.
+        IsFaulty (start_areas programs.now.system programs.now.user) schedule.now status
+        ⊎ (status ≡ Status.NoMemory)) }
 {
     let Ok((space, core)) = start(alloc, &programs.system, programs.user.as_ref()) else {
         return Err(Status::NoMemory);
@@ -165,10 +174,15 @@ fn prepare_run(
     requires input { length input.items ≤ file_limit }
     requires schedule { length schedule.now ≤ file_limit }
     requires within { AreWithin (said_options options.now) }
-    ensures prepared { IfOk result (λ r. IsPrepared (engine r.0) options.now.frames (Start programs.now.system programs.now.user input.items) (start_areas programs.now.system programs.now.user)) }
-    ensures planned { IfOk result (λ r. Denotes (start_areas programs.now.system programs.now.user) schedule.now r.1) }
+    ensures prepared { IfOk result (λ r. IsPrepared (engine r.0) options.now.frames
+        (Start programs.now.system programs.now.user input.items)
+        (start_areas programs.now.system programs.now.user)) }
+    ensures planned { IfOk result (λ r.
+        Denotes (start_areas programs.now.system programs.now.user) schedule.now r.1) }
     ensures room { IfOk result (λ r. items_of r.2.blanks.items ≡ (said_options options.now).dumps) }
-    ensures fault { IfErr result (λ status. IsFaulty (start_areas programs.now.system programs.now.user) schedule.now status ⊎ (status ≡ Status.NoMemory)) }
+    ensures fault { IfErr result (λ status.
+        IsFaulty (start_areas programs.now.system programs.now.user) schedule.now status
+        ⊎ (status ≡ Status.NoMemory)) }
 {
     let (machine, schedule) = prepare(alloc, programs, input, schedule, options.frames)?;
     match reserve(alloc, options.dumps.as_slice()) {
@@ -202,10 +216,11 @@ pub fn run_programs<K: Sink, F: PageFile>(
     requires input { length input.items ≤ file_limit }
     requires schedule { length schedule.now ≤ file_limit }
     requires within { AreWithin (said_options options.now) }
-    ensures ran { (meant : Status) × (grown : Channels)
-        × IsRunning (pages.new ≡ pages.old) (Rose (F.faults pages.old) (F.faults pages.new)) (outside_of (F.contents pages.old) (F.contents pages.new) (K.faults sink.old) (K.faults sink.new)) (loaded_seen programs.now) input.items schedule.now (said_options options.now) meant grown
-        × Ends (K.faults sink.old) (K.faults sink.new) (K.contents sink.old) (K.contents sink.new) meant grown result }
-    ensures failed { F.faults pages.new ≢ F.faults pages.old → (result ≡ Status.PageFault) ⊎ (result ≡ Status.WriteFault) }
+    ensures ran { Ran
+        (outside (change K.faults K.contents sink.old sink.new)
+        (change F.faults F.contents pages.old pages.new))
+        (loaded_seen programs.now) input.items schedule.now (said_options options.now) result }
+    ensures failed { Admits (F.faults pages.old) (F.faults pages.new) Status.PageFault result }
 {
     match prepare_run(alloc, programs, input, schedule, options) {
         Ok((machine, schedule, room)) => {

@@ -1,8 +1,6 @@
 //! Holds sessions of the console on programs.
 
-ghost use Rattle.std.specs.Prelude.{◌≡◌, ◌≢◌, ◌⊎◌, ◌≤◌, ◌<◌, ◌^◌, ◌-◌, ℕ, length};
-ghost use Rattle.vax_outside.specs.Channels.{Channels};
-ghost use Rattle.vax_outside.specs.Faults.{Rose};
+ghost use Rattle.std.specs.Prelude.{◌≤◌, ◌<◌, ◌^◌, ◌-◌, ℕ, length};
 ghost use Rattle.vax_flat.specs.Step.{Flat};
 ghost use Rattle.vax_machine.specs.Console.{IsBetween};
 ghost use Rattle.vax_machine.specs.Meaning.{engine};
@@ -11,8 +9,9 @@ ghost use Rattle.vax_cli.specs.Said.{AreWithin, options as said_options};
 ghost use Rattle.vax_command.specs.Reading.{file_limit};
 ghost use Rattle.vax_command.specs.Fresh.{IsFresh};
 ghost use Rattle.vax_command.specs.Loaded.{AreSound, loaded_seen};
-ghost use Rattle.vax_command.specs.Ends.{Ends};
-ghost use Rattle.vax_command.specs.Holding.{IsHolding};
+ghost use Rattle.vax_command.specs.Around.{change, outside};
+ghost use Rattle.vax_command.specs.Ends.{Admits, EndsSo};
+ghost use Rattle.vax_command.specs.Holding.{Held};
 ghost use Rattle.vax_command.specs.SessionWent.{SessionWent};
 
 use crate::programs::Programs;
@@ -38,10 +37,11 @@ fn hold<K: Sink, F: PageFile>(
 ) -> Status
     requires few_turns { limits.now.turns < 2 ^ 64 - 2 }
     requires between { IsBetween (engine machine) }
-    ensures went { (frames : ℕ) → (m : Flat) → IsFresh (engine machine) frames m → (meant : Status) × (grown : Channels)
-        × SessionWent (Rose (F.faults pages.old) (F.faults pages.new)) (F.contents pages.old) limits.now.steps limits.now.turns schedule.now m (readings script.now) meant grown
-        × Ends (K.faults sink.old) (K.faults sink.new) (K.contents sink.old) (K.contents sink.new) meant grown result }
-    ensures failed { F.faults pages.new ≢ F.faults pages.old → (result ≡ Status.PageFault) ⊎ (result ≡ Status.WriteFault) }
+    ensures went { (frames : ℕ) → (m : Flat) → IsFresh (engine machine) frames m →
+        EndsSo (change K.faults K.contents sink.old sink.new)
+        (SessionWent (change F.faults F.contents pages.old pages.new)
+        limits.now.steps limits.now.turns schedule.now m (readings script.now)) result }
+    ensures failed { Admits (F.faults pages.old) (F.faults pages.new) Status.PageFault result }
 {
     let mut machine = machine;
     match session(script, &mut machine, limits, schedule, pages, sink) {
@@ -71,10 +71,12 @@ pub fn hold_session<K: Sink, F: PageFile>(
     requires input { length input.items ≤ file_limit }
     requires schedule { length schedule.now ≤ file_limit }
     requires within { AreWithin (said_options options.now) }
-    ensures held { (meant : Status) × (grown : Channels)
-        × IsHolding (pages.new ≡ pages.old) (Rose (F.faults pages.old) (F.faults pages.new)) (F.contents pages.old) (loaded_seen programs.now) input.items schedule.now script.now (said_options options.now) meant grown
-        × Ends (K.faults sink.old) (K.faults sink.new) (K.contents sink.old) (K.contents sink.new) meant grown result }
-    ensures failed { F.faults pages.new ≢ F.faults pages.old → (result ≡ Status.PageFault) ⊎ (result ≡ Status.WriteFault) }
+    ensures held { Held
+        (outside (change K.faults K.contents sink.old sink.new)
+        (change F.faults F.contents pages.old pages.new))
+        (loaded_seen programs.now) input.items schedule.now script.now
+        (said_options options.now) result }
+    ensures failed { Admits (F.faults pages.old) (F.faults pages.new) Status.PageFault result }
 {
     match prepare(alloc, programs, input, schedule, options.frames) {
         Ok((machine, schedule)) => {

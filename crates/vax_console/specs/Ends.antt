@@ -7,7 +7,10 @@ use Rattle.vax_outside.specs.declared.traits.Chan.TheVariants.{Report}
 use Rattle.vax_flat.specs.declared.Ending.{Ending}
 use Rattle.vax_flat.specs.Parts.{Place, At, GoesBy, machine_at}
 use Rattle.vax_flat.specs.Step.{Flat}
+use Rattle.vax_report.specs.Report.{report}
+use Rattle.vax_report.specs.declared.Last.{Last}
 use Rattle.vax_machine.specs.Machine.{Means}
+use Rattle.vax_machine.specs.Meaning.{units_of}
 use Rattle.vax_machine.specs.declared.engine.Engine.{Engine}
 use Rattle.vax_machine.specs.declared.event.Limits.{Limits}
 use Rattle.vax_script.specs.declared.request.Request.{Request}
@@ -23,6 +26,15 @@ use Rattle.vax_console.specs.declared.stopped.Stopped.TheVariants as stopped
 -- a session on a machine that stands for a flat one
 abbrev pub session_on : Engine → Flat → Session
 session_on m flat = record { machine = flat; steps = m.steps }
+
+-- what a request sees: the machine, what its page file tells, and what was written
+pub record Scene : Type 0 where
+  pub machine : Engine
+  pub file : Option BlockFile
+  pub sink : Option Channels
+
+abbrev pub scene : Engine → Option BlockFile → Option Channels → Scene
+scene machine file sink = record { machine = machine; file = file; sink = sink }
 
 -- the program's output and the replies
 abbrev pub writes : (sent replies : List ℕ) → Channels
@@ -95,6 +107,10 @@ Replies (Err stopped.Turns) before now old new text = ⊥
 Replies (Err stopped.PageFault) before now old new text = ⊥
 Replies (Err stopped.WriteFault) before now old new text = (before ≤ now) × Rose before now × GrewByPrefix old new (only Report text)
 
+-- the report of a machine's state, without dumps
+abbrev pub report_on : Engine → Last → List ℕ
+report_on m why = report m.cpu.core why m.steps (units_of m.cpu.latch) m.cpu.term.place []
+
 -- so many steps were made, or fewer
 abbrev pub Advances : Result (Option Ending) Stopped → Limits → (count : ℕ) → Session → Engine → Option BlockFile → Option Channels → Option Channels → Type 0
 Advances (Ok end) limits count s m file old now = (end ≡ (advanced count s).machine.ending) × IsAt s.machine (advanced count s) [] m file old now
@@ -131,6 +147,18 @@ Goes (Ok x) limits s lines m file old now = Carries limits s lines m file old no
 Goes (Err stopped.Turns) limits s lines m file old now = IsCutByTurns limits s lines m file old now
 Goes (Err stopped.PageFault) limits s lines m file old now = IsCutOff limits s lines m file old now
 Goes (Err stopped.WriteFault) limits s lines m file old now = IsLost limits s lines old now
+
+-- so they do from one scene to another, on whatever flat machine the first stands for
+abbrev pub GoesFrom : (before after : Scene) → Limits → List Line → Result (Unit {0}) Stopped → Type 0
+GoesFrom before after limits lines result =
+    (m : Flat) → Means before.machine before.file (At m) →
+    Goes result limits (session_on before.machine m) lines after.machine after.file before.sink after.sink
+
+-- the same of so many steps
+abbrev pub AdvancesFrom : (before after : Scene) → Limits → (count : ℕ) → Result (Option Ending) Stopped → Type 0
+AdvancesFrom before after limits count result =
+    (m : Flat) → Means before.machine before.file (At m) →
+    Advances result limits count (session_on before.machine m) after.machine after.file before.sink after.sink
 
 abbrev pub outcome_of : SessionEnd → Result (Unit {0}) Stopped
 outcome_of session_end.Read = Ok tt

@@ -9,7 +9,7 @@ use Rattle.vax_machine.specs.Machine.{Means, residence}
 use Rattle.vax_machine.specs.declared.engine.Engine.{Engine}
 use Rattle.vax_script.specs.declared.request.Line.{Line}
 use Rattle.vax_console.specs.Transcript.{Session, advanced, after_line, session_after}
-use Rattle.vax_console.specs.Ends.{steps_in}
+use Rattle.vax_console.specs.Ends.{Scene, session_on, steps_in}
 use Rattle.vax_console.specs.declared.stopped.Stopped.{Stopped}
 use Rattle.vax_console.specs.declared.stopped.Stopped.TheVariants as stopped
 
@@ -121,3 +121,15 @@ Spends (Ok x) limit rules s lines old new file = SpendsAll limit rules s lines o
 Spends (Err stopped.Turns) limit rules s lines old new file = SpendsSome limit rules s lines old new file
 Spends (Err stopped.PageFault) limit rules s lines old new file = SpendsSome limit rules s lines old new file
 Spends (Err stopped.WriteFault) limit rules s lines old new file = Unit {0}
+
+-- so many turns they take from one scene to another, on whatever flat machine the first stands for
+abbrev pub SpendsFrom : {T : Type 0} → (before after : Scene) → (limit : ℕ) → List Rule → List Line → Result T Stopped → Type 0
+SpendsFrom before after limit rules lines result =
+    (m : Flat) → Means before.machine before.file (At m) →
+    Spends result limit rules (session_on before.machine m) lines before.machine after.machine after.file
+
+-- the same of so many steps
+abbrev pub StepsSpendFrom : {T : Type 0} → (before after : Scene) → (count : ℕ) → List Rule → Result T Stopped → Type 0
+StepsSpendFrom before after count rules result =
+    (m : Flat) → Means before.machine before.file (At m) →
+    StepsSpend result count rules (session_on before.machine m) before.machine after.machine after.file

@@ -6,14 +6,11 @@
 
 ghost use Rattle.std.specs.Prelude.{◌≡◌, ◌≢◌, ◌<◌, ◌≤◌, ◌^◌, ◌-◌};
 ghost use Rattle.vax_outside.specs.Faults.{Rose};
-ghost use Rattle.vax_flat.specs.Parts.{At};
-ghost use Rattle.vax_flat.specs.Step.{Flat};
 ghost use Rattle.vax_machine.specs.Console.{IsBetween};
-ghost use Rattle.vax_machine.specs.Machine.{Means};
 ghost use Rattle.vax_machine.specs.Meaning.{engine};
 ghost use Rattle.vax_script.specs.Requests.{readings};
-ghost use Rattle.vax_console.specs.Ends.{Ends, OnlyReplied, outcome_of, session_on};
-ghost use Rattle.vax_console.specs.Parts.{Spends};
+ghost use Rattle.vax_console.specs.Ends.{GoesFrom, OnlyReplied, outcome_of, scene};
+ghost use Rattle.vax_console.specs.Parts.{SpendsFrom};
 
 mod lines;
 mod requests;
@@ -61,14 +58,21 @@ pub fn session<F: PageFile, K: Sink>(
 ) -> SessionEnd
     requires few_turns { limits.now.turns < 2 ^ 64 - 2 }
     requires between { IsBetween (engine machine.old) }
-    ensures ends { (m : Flat) → Means (engine machine.old) (F.contents file.old) (At m) → Ends result limits.now (session_on (engine machine.old) m) (readings script.now) (engine machine.new) (F.contents file.new) (K.contents sink.old) (K.contents sink.new) }
-    ensures few { (m : Flat) → Means (engine machine.old) (F.contents file.old) (At m) → Spends (outcome_of result) limits.now.steps schedule.now (session_on (engine machine.old) m) (readings script.now) (engine machine.old) (engine machine.new) (F.contents file.new) }
+    ensures ends { GoesFrom
+        (scene (engine machine.old) (F.contents file.old) (K.contents sink.old))
+        (scene (engine machine.new) (F.contents file.new) (K.contents sink.new))
+        limits.now (readings script.now) (outcome_of result) }
+    ensures few { SpendsFrom
+        (scene (engine machine.old) (F.contents file.old) (K.contents sink.old))
+        (scene (engine machine.new) (F.contents file.new) (K.contents sink.new))
+        limits.now.steps schedule.now (readings script.now) (outcome_of result) }
     ensures between { result ≡ SessionEnd.Read → IsBetween (engine machine.new) }
     ensures later { F.faults file.old ≤ F.faults file.new }
     ensures sunk { K.faults sink.old ≤ K.faults sink.new }
     ensures fault { result ≡ SessionEnd.PageFault → Rose (F.faults file.old) (F.faults file.new) }
     ensures cause { result ≡ SessionEnd.WriteFault → Rose (K.faults sink.old) (K.faults sink.new) }
-    ensures unfailed { result ≢ SessionEnd.PageFault → result ≢ SessionEnd.WriteFault → F.faults file.new ≡ F.faults file.old }
+    ensures unfailed { result ≢ SessionEnd.PageFault → result ≢ SessionEnd.WriteFault →
+        F.faults file.new ≡ F.faults file.old }
     ensures written { result ≢ SessionEnd.WriteFault → K.faults sink.new ≡ K.faults sink.old }
     ensures only { OnlyReplied (K.contents sink.old) (K.contents sink.new) }
 {

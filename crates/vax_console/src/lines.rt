@@ -1,14 +1,11 @@
 //! The lines of a script, one after the other.
 ghost use Rattle.std.specs.Prelude.{◌<◌, ◌^◌, ◌-◌, [], ◌∷◌, IsOk};
-ghost use Rattle.vax_flat.specs.Parts.{At};
-ghost use Rattle.vax_flat.specs.Step.{Flat};
 ghost use Rattle.vax_machine.specs.Console.{IsBetween};
-ghost use Rattle.vax_machine.specs.Machine.{Means};
 ghost use Rattle.vax_machine.specs.Meaning.{engine};
 ghost use Rattle.vax_script.specs.Requests.{IsProper, IsProperLine, readings};
 ghost use Rattle.vax_script.specs.declared.request.Line.TheVariants as line;
-ghost use Rattle.vax_console.specs.Ends.{Causes, Goes, OnlyReplied, session_on};
-ghost use Rattle.vax_console.specs.Parts.{Spends};
+ghost use Rattle.vax_console.specs.Ends.{Causes, GoesFrom, OnlyReplied, scene};
+ghost use Rattle.vax_console.specs.Parts.{SpendsFrom};
 
 use crate::requests::{
     deposit_memory, deposit_register, examine_memory, examine_register, reply, show,
@@ -34,10 +31,17 @@ fn answer<F: PageFile, K: Sink>(
     requires proper { IsProper request.now }
     requires few_turns { limits.now.turns < 2 ^ 64 - 2 }
     requires between { IsBetween (engine machine.old) }
-    ensures goes { (m : Flat) → Means (engine machine.old) (F.contents file.old) (At m) → Goes result limits.now (session_on (engine machine.old) m) (line.Request request.now ∷ []) (engine machine.new) (F.contents file.new) (K.contents sink.old) (K.contents sink.new) }
-    ensures spends { (m : Flat) → Means (engine machine.old) (F.contents file.old) (At m) → Spends result limits.now.steps schedule.now (session_on (engine machine.old) m) (line.Request request.now ∷ []) (engine machine.old) (engine machine.new) (F.contents file.new) }
+    ensures goes { GoesFrom
+        (scene (engine machine.old) (F.contents file.old) (K.contents sink.old))
+        (scene (engine machine.new) (F.contents file.new) (K.contents sink.new))
+        limits.now (line.Request request.now ∷ []) result }
+    ensures spends { SpendsFrom
+        (scene (engine machine.old) (F.contents file.old) (K.contents sink.old))
+        (scene (engine machine.new) (F.contents file.new) (K.contents sink.new))
+        limits.now.steps schedule.now (line.Request request.now ∷ []) result }
     ensures between { IsOk result → IsBetween (engine machine.new) }
-    ensures causes { Causes result (F.faults file.old) (F.faults file.new) (K.faults sink.old) (K.faults sink.new) }
+    ensures causes { Causes result (F.faults file.old) (F.faults file.new)
+        (K.faults sink.old) (K.faults sink.new) }
     ensures only { OnlyReplied (K.contents sink.old) (K.contents sink.new) }
 {
     match request {
@@ -69,10 +73,17 @@ fn carry_out<F: PageFile, K: Sink>(
     requires proper { IsProperLine line.now }
     requires few_turns { limits.now.turns < 2 ^ 64 - 2 }
     requires between { IsBetween (engine machine.old) }
-    ensures goes { (m : Flat) → Means (engine machine.old) (F.contents file.old) (At m) → Goes result limits.now (session_on (engine machine.old) m) (line.now ∷ []) (engine machine.new) (F.contents file.new) (K.contents sink.old) (K.contents sink.new) }
-    ensures spends { (m : Flat) → Means (engine machine.old) (F.contents file.old) (At m) → Spends result limits.now.steps schedule.now (session_on (engine machine.old) m) (line.now ∷ []) (engine machine.old) (engine machine.new) (F.contents file.new) }
+    ensures goes { GoesFrom
+        (scene (engine machine.old) (F.contents file.old) (K.contents sink.old))
+        (scene (engine machine.new) (F.contents file.new) (K.contents sink.new))
+        limits.now (line.now ∷ []) result }
+    ensures spends { SpendsFrom
+        (scene (engine machine.old) (F.contents file.old) (K.contents sink.old))
+        (scene (engine machine.new) (F.contents file.new) (K.contents sink.new))
+        limits.now.steps schedule.now (line.now ∷ []) result }
     ensures between { IsOk result → IsBetween (engine machine.new) }
-    ensures causes { Causes result (F.faults file.old) (F.faults file.new) (K.faults sink.old) (K.faults sink.new) }
+    ensures causes { Causes result (F.faults file.old) (F.faults file.new)
+        (K.faults sink.old) (K.faults sink.new) }
     ensures only { OnlyReplied (K.contents sink.old) (K.contents sink.new) }
 {
     match line {
@@ -93,10 +104,17 @@ pub(crate) fn carry_out_all<F: PageFile, K: Sink>(
 ) -> Result<(), Stopped>
     requires few_turns { limits.now.turns < 2 ^ 64 - 2 }
     requires between { IsBetween (engine machine.old) }
-    ensures goes { (m : Flat) → Means (engine machine.old) (F.contents file.old) (At m) → Goes result limits.now (session_on (engine machine.old) m) (readings script.now) (engine machine.new) (F.contents file.new) (K.contents sink.old) (K.contents sink.new) }
-    ensures spends { (m : Flat) → Means (engine machine.old) (F.contents file.old) (At m) → Spends result limits.now.steps schedule.now (session_on (engine machine.old) m) (readings script.now) (engine machine.old) (engine machine.new) (F.contents file.new) }
+    ensures goes { GoesFrom
+        (scene (engine machine.old) (F.contents file.old) (K.contents sink.old))
+        (scene (engine machine.new) (F.contents file.new) (K.contents sink.new))
+        limits.now (readings script.now) result }
+    ensures spends { SpendsFrom
+        (scene (engine machine.old) (F.contents file.old) (K.contents sink.old))
+        (scene (engine machine.new) (F.contents file.new) (K.contents sink.new))
+        limits.now.steps schedule.now (readings script.now) result }
     ensures between { IsOk result → IsBetween (engine machine.new) }
-    ensures causes { Causes result (F.faults file.old) (F.faults file.new) (K.faults sink.old) (K.faults sink.new) }
+    ensures causes { Causes result (F.faults file.old) (F.faults file.new)
+        (K.faults sink.old) (K.faults sink.new) }
     ensures only { OnlyReplied (K.contents sink.old) (K.contents sink.new) }
 {
     let mut rest = script;

@@ -1,18 +1,14 @@
 //! The requests that make no steps.
 ghost use Rattle.std.specs.Prelude.{◌≡◌, ◌+◌, ◌<◌, ◌≤◌, ◌++◌, List, [], ◌∷◌, IsOk, length};
-ghost use Rattle.vax_flat.specs.Parts.{At};
-ghost use Rattle.vax_flat.specs.Step.{Flat};
 ghost use Rattle.vax_sched.specs.declared.rule.Rule.{Rule};
 ghost use Rattle.vax_machine.specs.Console.{IsBetween};
-ghost use Rattle.vax_machine.specs.Machine.{Means};
-ghost use Rattle.vax_machine.specs.Meaning.{engine, units_of};
+ghost use Rattle.vax_machine.specs.Meaning.{engine};
 ghost use Rattle.vax_report.specs.Lines.{memory_line};
-ghost use Rattle.vax_report.specs.Report.{report};
 ghost use Rattle.vax_script.specs.declared.request.Request.TheVariants as request;
 ghost use Rattle.vax_script.specs.declared.request.Line.TheVariants as line;
 ghost use Rattle.vax_console.specs.Transcript.{last_of};
-ghost use Rattle.vax_console.specs.Ends.{Causes, Goes, OnlyReplied, Replies, session_on};
-ghost use Rattle.vax_console.specs.Parts.{Spends};
+ghost use Rattle.vax_console.specs.Ends.{Causes, GoesFrom, OnlyReplied, Replies, report_on, scene};
+ghost use Rattle.vax_console.specs.Parts.{SpendsFrom};
 
 use crate::stopped::Stopped;
 use vax_flat::Ending;
@@ -22,7 +18,8 @@ use vax_report::{Last, push_memory, push_register, write_report};
 
 /// Writes a reply.
 pub(crate) fn reply<K: Sink>(text: &[u8], sink: &mut K) -> Result<(), Stopped>
-    ensures { Replies result (K.faults sink.old) (K.faults sink.new) (K.contents sink.old) (K.contents sink.new) text.now }
+    ensures { Replies result (K.faults sink.old) (K.faults sink.new)
+        (K.contents sink.old) (K.contents sink.new) text.now }
 {
     match put_all(sink, Chan::Report, text) {
         Ok(()) => Ok(()),
@@ -39,9 +36,16 @@ pub(crate) fn examine_register<F: PageFile, K: Sink>(
     sink: &mut K,
 ) -> Result<(), Stopped>
     requires { n < 16 }
-    ensures goes { (m : Flat) → Means (engine machine.now) (F.contents file.now) (At m) → Goes result limits.now (session_on (engine machine.now) m) (line.Request (request.ExamineRegister n) ∷ []) (engine machine.now) (F.contents file.now) (K.contents sink.old) (K.contents sink.new) }
-    ensures spends { (rules : List Rule) → (m : Flat) → Means (engine machine.now) (F.contents file.now) (At m) → Spends result limits.now.steps rules (session_on (engine machine.now) m) (line.Request (request.ExamineRegister n) ∷ []) (engine machine.now) (engine machine.now) (F.contents file.now) }
-    ensures causes { Causes result (F.faults file.now) (F.faults file.now) (K.faults sink.old) (K.faults sink.new) }
+    ensures goes { GoesFrom
+        (scene (engine machine.now) (F.contents file.now) (K.contents sink.old))
+        (scene (engine machine.now) (F.contents file.now) (K.contents sink.new))
+        limits.now (line.Request (request.ExamineRegister n) ∷ []) result }
+    ensures spends { (rules : List Rule) →
+        SpendsFrom (scene (engine machine.now) (F.contents file.now) (K.contents sink.old))
+        (scene (engine machine.now) (F.contents file.now) (K.contents sink.new))
+        limits.now.steps rules (line.Request (request.ExamineRegister n) ∷ []) result }
+    ensures causes { Causes result (F.faults file.now) (F.faults file.now)
+        (K.faults sink.old) (K.faults sink.new) }
     ensures only { OnlyReplied (K.contents sink.old) (K.contents sink.new) }
 {
     let mut text = Text::new();
@@ -52,7 +56,8 @@ pub(crate) fn examine_register<F: PageFile, K: Sink>(
 /// Replies with bytes of memory.
 fn reply_memory<K: Sink>(addr: u32, cells: &[Option<u8>], sink: &mut K) -> Result<(), Stopped>
     requires { length cells.now ≤ 16 }
-    ensures { Replies result (K.faults sink.old) (K.faults sink.new) (K.contents sink.old) (K.contents sink.new) (memory_line addr cells.now) }
+    ensures { Replies result (K.faults sink.old) (K.faults sink.new)
+        (K.contents sink.old) (K.contents sink.new) (memory_line addr cells.now) }
 {
     let mut text = Text::new();
     push_memory(&mut text, addr, cells);
@@ -71,10 +76,17 @@ pub(crate) fn examine_memory<F: PageFile, K: Sink>(
     requires some { 1 ≤ count }
     requires few { count ≤ 16 }
     requires between { IsBetween (engine machine.old) }
-    ensures goes { (m : Flat) → Means (engine machine.old) (F.contents file.old) (At m) → Goes result limits.now (session_on (engine machine.old) m) (line.Request (request.ExamineMemory addr count) ∷ []) (engine machine.new) (F.contents file.new) (K.contents sink.old) (K.contents sink.new) }
-    ensures spends { (rules : List Rule) → (m : Flat) → Means (engine machine.old) (F.contents file.old) (At m) → Spends result limits.now.steps rules (session_on (engine machine.old) m) (line.Request (request.ExamineMemory addr count) ∷ []) (engine machine.old) (engine machine.new) (F.contents file.new) }
+    ensures goes { GoesFrom
+        (scene (engine machine.old) (F.contents file.old) (K.contents sink.old))
+        (scene (engine machine.new) (F.contents file.new) (K.contents sink.new))
+        limits.now (line.Request (request.ExamineMemory addr count) ∷ []) result }
+    ensures spends { (rules : List Rule) →
+        SpendsFrom (scene (engine machine.old) (F.contents file.old) (K.contents sink.old))
+        (scene (engine machine.new) (F.contents file.new) (K.contents sink.new))
+        limits.now.steps rules (line.Request (request.ExamineMemory addr count) ∷ []) result }
     ensures between { IsBetween (engine machine.new) }
-    ensures causes { Causes result (F.faults file.old) (F.faults file.new) (K.faults sink.old) (K.faults sink.new) }
+    ensures causes { Causes result (F.faults file.old) (F.faults file.new)
+        (K.faults sink.old) (K.faults sink.new) }
     ensures only { OnlyReplied (K.contents sink.old) (K.contents sink.new) }
 {
     let mut cells = [None; 16];
@@ -96,10 +108,17 @@ pub(crate) fn deposit_register<F: PageFile, K: Sink>(
 ) -> Result<(), Stopped>
     requires number { n < 16 }
     requires between { IsBetween (engine machine.old) }
-    ensures goes { (m : Flat) → Means (engine machine.old) (F.contents file.now) (At m) → Goes result limits.now (session_on (engine machine.old) m) (line.Request (request.DepositRegister n value) ∷ []) (engine machine.new) (F.contents file.now) (K.contents sink.old) (K.contents sink.new) }
-    ensures spends { (rules : List Rule) → (m : Flat) → Means (engine machine.old) (F.contents file.now) (At m) → Spends result limits.now.steps rules (session_on (engine machine.old) m) (line.Request (request.DepositRegister n value) ∷ []) (engine machine.old) (engine machine.new) (F.contents file.now) }
+    ensures goes { GoesFrom
+        (scene (engine machine.old) (F.contents file.now) (K.contents sink.old))
+        (scene (engine machine.new) (F.contents file.now) (K.contents sink.new))
+        limits.now (line.Request (request.DepositRegister n value) ∷ []) result }
+    ensures spends { (rules : List Rule) →
+        SpendsFrom (scene (engine machine.old) (F.contents file.now) (K.contents sink.old))
+        (scene (engine machine.new) (F.contents file.now) (K.contents sink.new))
+        limits.now.steps rules (line.Request (request.DepositRegister n value) ∷ []) result }
     ensures between { IsBetween (engine machine.new) }
-    ensures causes { Causes result (F.faults file.now) (F.faults file.now) (K.faults sink.old) (K.faults sink.new) }
+    ensures causes { Causes result (F.faults file.now) (F.faults file.now)
+        (K.faults sink.old) (K.faults sink.new) }
     ensures only { OnlyReplied (K.contents sink.old) (K.contents sink.new) }
 {
     machine.set_reg(n, value);
@@ -118,10 +137,17 @@ pub(crate) fn deposit_memory<F: PageFile, K: Sink>(
     requires some { 1 ≤ length bytes.now }
     requires few { length bytes.now ≤ 64 }
     requires between { IsBetween (engine machine.old) }
-    ensures goes { (m : Flat) → Means (engine machine.old) (F.contents file.old) (At m) → Goes result limits.now (session_on (engine machine.old) m) (line.Request (request.DepositMemory addr bytes.now) ∷ []) (engine machine.new) (F.contents file.new) (K.contents sink.old) (K.contents sink.new) }
-    ensures spends { (rules : List Rule) → (m : Flat) → Means (engine machine.old) (F.contents file.old) (At m) → Spends result limits.now.steps rules (session_on (engine machine.old) m) (line.Request (request.DepositMemory addr bytes.now) ∷ []) (engine machine.old) (engine machine.new) (F.contents file.new) }
+    ensures goes { GoesFrom
+        (scene (engine machine.old) (F.contents file.old) (K.contents sink.old))
+        (scene (engine machine.new) (F.contents file.new) (K.contents sink.new))
+        limits.now (line.Request (request.DepositMemory addr bytes.now) ∷ []) result }
+    ensures spends { (rules : List Rule) →
+        SpendsFrom (scene (engine machine.old) (F.contents file.old) (K.contents sink.old))
+        (scene (engine machine.new) (F.contents file.new) (K.contents sink.new))
+        limits.now.steps rules (line.Request (request.DepositMemory addr bytes.now) ∷ []) result }
     ensures between { IsBetween (engine machine.new) }
-    ensures causes { Causes result (F.faults file.old) (F.faults file.new) (K.faults sink.old) (K.faults sink.new) }
+    ensures causes { Causes result (F.faults file.old) (F.faults file.new)
+        (K.faults sink.old) (K.faults sink.new) }
     ensures only { OnlyReplied (K.contents sink.old) (K.contents sink.new) }
 {
     match machine.poke(addr, bytes, file) {
@@ -143,7 +169,8 @@ pub(crate) fn last_of(ended: Option<Ending>) -> Last
 
 /// Writes the report of the present state, without dumps.
 fn report<K: Sink>(machine: &Machine, last: Last, sink: &mut K) -> Result<(), Stopped>
-    ensures { Replies result (K.faults sink.old) (K.faults sink.new) (K.contents sink.old) (K.contents sink.new) (report (engine machine.now).cpu.core last (engine machine.now).steps (units_of (engine machine.now).cpu.latch) (engine machine.now).cpu.term.place []) }
+    ensures { Replies result (K.faults sink.old) (K.faults sink.new)
+        (K.contents sink.old) (K.contents sink.new) (report_on (engine machine.now) last) }
 {
     let written = write_report(
         machine.core(),
@@ -168,9 +195,16 @@ pub(crate) fn show<F: PageFile, K: Sink>(
     sink: &mut K,
 ) -> Result<(), Stopped>
     requires between { IsBetween (engine machine.now) }
-    ensures goes { (m : Flat) → Means (engine machine.now) (F.contents file.now) (At m) → Goes result limits.now (session_on (engine machine.now) m) (line.Request request.Show ∷ []) (engine machine.now) (F.contents file.now) (K.contents sink.old) (K.contents sink.new) }
-    ensures spends { (rules : List Rule) → (m : Flat) → Means (engine machine.now) (F.contents file.now) (At m) → Spends result limits.now.steps rules (session_on (engine machine.now) m) (line.Request request.Show ∷ []) (engine machine.now) (engine machine.now) (F.contents file.now) }
-    ensures causes { Causes result (F.faults file.now) (F.faults file.now) (K.faults sink.old) (K.faults sink.new) }
+    ensures goes { GoesFrom
+        (scene (engine machine.now) (F.contents file.now) (K.contents sink.old))
+        (scene (engine machine.now) (F.contents file.now) (K.contents sink.new))
+        limits.now (line.Request request.Show ∷ []) result }
+    ensures spends { (rules : List Rule) →
+        SpendsFrom (scene (engine machine.now) (F.contents file.now) (K.contents sink.old))
+        (scene (engine machine.now) (F.contents file.now) (K.contents sink.new))
+        limits.now.steps rules (line.Request request.Show ∷ []) result }
+    ensures causes { Causes result (F.faults file.now) (F.faults file.now)
+        (K.faults sink.old) (K.faults sink.new) }
     ensures only { OnlyReplied (K.contents sink.old) (K.contents sink.new) }
 {
     report(machine, last_of(machine.ended()), sink)

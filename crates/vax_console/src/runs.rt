@@ -1,16 +1,14 @@
 //! The requests that make steps.
 ghost use Rattle.std.specs.Prelude.{◌≡◌, ◌+◌, ◌<◌, ◌^◌, ◌-◌, [], ◌∷◌, IsOk};
-ghost use Rattle.vax_flat.specs.Parts.{At};
 ghost use Rattle.vax_flat.specs.Step.{Flat};
 ghost use Rattle.vax_machine.specs.Console.{IsBetween};
-ghost use Rattle.vax_machine.specs.Machine.{Means};
 ghost use Rattle.vax_machine.specs.Meaning.{engine};
 ghost use Rattle.vax_script.specs.declared.request.Request.TheVariants as request;
 ghost use Rattle.vax_script.specs.declared.request.Line.TheVariants as line;
 ghost use Rattle.vax_report.specs.Lines.{ending_line};
 ghost use Rattle.vax_console.specs.Transcript.{at_line, last_of, next_line};
-ghost use Rattle.vax_console.specs.Ends.{Advances, Causes, Goes, OnlyReplied, session_on};
-ghost use Rattle.vax_console.specs.Parts.{Spends, StepsSpend};
+ghost use Rattle.vax_console.specs.Ends.{AdvancesFrom, Causes, GoesFrom, OnlyReplied, scene, session_on};
+ghost use Rattle.vax_console.specs.Parts.{SpendsFrom, StepsSpendFrom};
 
 use crate::requests::{last_of, reply};
 use crate::stopped::Stopped;
@@ -32,10 +30,17 @@ fn advance<F: PageFile, K: Sink>(
     requires few_steps { (engine machine.old).steps + count < 2 ^ 64 }
     requires few_turns { limits.now.turns < 2 ^ 64 - 2 }
     requires between { IsBetween (engine machine.old) }
-    ensures goes { (m : Flat) → Means (engine machine.old) (F.contents file.old) (At m) → Advances result limits.now count (session_on (engine machine.old) m) (engine machine.new) (F.contents file.new) (K.contents sink.old) (K.contents sink.new) }
-    ensures spends { (m : Flat) → Means (engine machine.old) (F.contents file.old) (At m) → StepsSpend result count schedule.now (session_on (engine machine.old) m) (engine machine.old) (engine machine.new) (F.contents file.new) }
+    ensures goes { AdvancesFrom
+        (scene (engine machine.old) (F.contents file.old) (K.contents sink.old))
+        (scene (engine machine.new) (F.contents file.new) (K.contents sink.new))
+        limits.now count result }
+    ensures spends { StepsSpendFrom
+        (scene (engine machine.old) (F.contents file.old) (K.contents sink.old))
+        (scene (engine machine.new) (F.contents file.new) (K.contents sink.new))
+        count schedule.now result }
     ensures between { IsOk result → IsBetween (engine machine.new) }
-    ensures causes { Causes result (F.faults file.old) (F.faults file.new) (K.faults sink.old) (K.faults sink.new) }
+    ensures causes { Causes result (F.faults file.old) (F.faults file.new)
+        (K.faults sink.old) (K.faults sink.new) }
     ensures only { OnlyReplied (K.contents sink.old) (K.contents sink.new) }
 {
     let limits = Limits {
@@ -72,7 +77,8 @@ fn stop_line(ended: Option<Ending>) -> Text
 /// The reply where all steps were made: the program counter, and how many steps were made.
 #[tactic(auto, unfolding(crate::specs::Transcript::at_line))]
 fn at_line(machine: &Machine) -> Text
-    ensures { (m : Flat) → m.core ≡ (engine machine.now).cpu.core → result ≡ at_line (session_on (engine machine.now) m) }
+    ensures { (m : Flat) → m.core ≡ (engine machine.now).cpu.core →
+        result ≡ at_line (session_on (engine machine.now) m) }
 {
     let mut text = Text::new();
     text.push(b"AT ");
@@ -85,7 +91,8 @@ fn at_line(machine: &Machine) -> Text
 
 /// The reply behind steps of which the limit may have left some out.
 fn next_line(machine: &Machine, ended: Option<Ending>, short: bool) -> Text
-    ensures { (m : Flat) → m.core ≡ (engine machine.now).cpu.core → m.ending ≡ ended → result ≡ next_line short (session_on (engine machine.now) m) }
+    ensures { (m : Flat) → m.core ≡ (engine machine.now).cpu.core → m.ending ≡ ended →
+        result ≡ next_line short (session_on (engine machine.now) m) }
 {
     if ended.is_some() || short {
         stop_line(ended)
@@ -105,10 +112,17 @@ pub(crate) fn next<F: PageFile, K: Sink>(
 ) -> Result<(), Stopped>
     requires few_turns { limits.now.turns < 2 ^ 64 - 2 }
     requires between { IsBetween (engine machine.old) }
-    ensures goes { (m : Flat) → Means (engine machine.old) (F.contents file.old) (At m) → Goes result limits.now (session_on (engine machine.old) m) (line.Request (request.Next count) ∷ []) (engine machine.new) (F.contents file.new) (K.contents sink.old) (K.contents sink.new) }
-    ensures spends { (m : Flat) → Means (engine machine.old) (F.contents file.old) (At m) → Spends result limits.now.steps schedule.now (session_on (engine machine.old) m) (line.Request (request.Next count) ∷ []) (engine machine.old) (engine machine.new) (F.contents file.new) }
+    ensures goes { GoesFrom
+        (scene (engine machine.old) (F.contents file.old) (K.contents sink.old))
+        (scene (engine machine.new) (F.contents file.new) (K.contents sink.new))
+        limits.now (line.Request (request.Next count) ∷ []) result }
+    ensures spends { SpendsFrom
+        (scene (engine machine.old) (F.contents file.old) (K.contents sink.old))
+        (scene (engine machine.new) (F.contents file.new) (K.contents sink.new))
+        limits.now.steps schedule.now (line.Request (request.Next count) ∷ []) result }
     ensures between { IsOk result → IsBetween (engine machine.new) }
-    ensures causes { Causes result (F.faults file.old) (F.faults file.new) (K.faults sink.old) (K.faults sink.new) }
+    ensures causes { Causes result (F.faults file.old) (F.faults file.new)
+        (K.faults sink.old) (K.faults sink.new) }
     ensures only { OnlyReplied (K.contents sink.old) (K.contents sink.new) }
 {
     if machine.ended().is_some() {
@@ -130,10 +144,17 @@ pub(crate) fn proceed<F: PageFile, K: Sink>(
 ) -> Result<(), Stopped>
     requires few_turns { limits.now.turns < 2 ^ 64 - 2 }
     requires between { IsBetween (engine machine.old) }
-    ensures goes { (m : Flat) → Means (engine machine.old) (F.contents file.old) (At m) → Goes result limits.now (session_on (engine machine.old) m) (line.Request request.Continue ∷ []) (engine machine.new) (F.contents file.new) (K.contents sink.old) (K.contents sink.new) }
-    ensures spends { (m : Flat) → Means (engine machine.old) (F.contents file.old) (At m) → Spends result limits.now.steps schedule.now (session_on (engine machine.old) m) (line.Request request.Continue ∷ []) (engine machine.old) (engine machine.new) (F.contents file.new) }
+    ensures goes { GoesFrom
+        (scene (engine machine.old) (F.contents file.old) (K.contents sink.old))
+        (scene (engine machine.new) (F.contents file.new) (K.contents sink.new))
+        limits.now (line.Request request.Continue ∷ []) result }
+    ensures spends { SpendsFrom
+        (scene (engine machine.old) (F.contents file.old) (K.contents sink.old))
+        (scene (engine machine.new) (F.contents file.new) (K.contents sink.new))
+        limits.now.steps schedule.now (line.Request request.Continue ∷ []) result }
     ensures between { IsOk result → IsBetween (engine machine.new) }
-    ensures causes { Causes result (F.faults file.old) (F.faults file.new) (K.faults sink.old) (K.faults sink.new) }
+    ensures causes { Causes result (F.faults file.old) (F.faults file.new)
+        (K.faults sink.old) (K.faults sink.new) }
     ensures only { OnlyReplied (K.contents sink.old) (K.contents sink.new) }
 {
     if machine.ended().is_some() {

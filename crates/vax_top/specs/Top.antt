@@ -2,7 +2,7 @@
 use Rattle.std.specs.Prelude.{◌≡◌, ◌⊎◌, ℕ, List, [], ◌∷◌, ◌++◌, length, Option, None, Some, MatchOption, Result, Ok}
 use Rattle.std.specs.Option.{option_map_or}
 use Rattle.vax_outside.specs.Channels.{Channels, only}
-use Rattle.vax_outside.specs.Directory.{Directory}
+use Rattle.vax_outside.specs.Blocks.{BlockFile}
 use Rattle.vax_outside.specs.declared.traits.Chan.TheVariants as channel
 use Rattle.vax_cli.specs.Words.{Text, Options, Said, bare, run, build, list, console, work, about, command_of}
 use Rattle.vax_cli.specs.declared.command.Base as words_base
@@ -17,11 +17,11 @@ use Rattle.vax_image.specs.declared.Base.TheVariants as bases
 use Rattle.vax_image.specs.declared.Image.{Image}
 use Rattle.vax_program.specs.Program.{Refusal}
 use Rattle.vax_listing.specs.Listing.{listing}
-use Rattle.vax_command.specs.Ends.{Ends}
+use Rattle.vax_command.specs.Around.{Around, Change, Outside, outside_of}
+use Rattle.vax_command.specs.Ends.{Ends, EndsSo}
 use Rattle.vax_top.specs.Loaded.{IsRefused, bare_loaded, image_from, system_text, user_loaded}
 use Rattle.vax_command.specs.Reading.{ReadEnds, Reads, Texts, of_options, texts_of}
 use Rattle.vax_command.specs.Loaded.{Loaded}
-use Rattle.vax_command.specs.Pages.{Outside}
 use Rattle.vax_command.specs.Running.{LacksMemory, RunsSo}
 use Rattle.vax_command.specs.Holding.{HeldSo}
 use Rattle.vax_command.specs.Status.{refusal_growth}
@@ -42,26 +42,23 @@ reads_of about = []
 abbrev pub reads : List Text → List Text
 reads words = option_map_or reads_of (command_of words) []
 
--- beside a page file of which nothing is told
-abbrev pub no_pages : Outside
-no_pages = record { before = None; after = None; sink_before = 0; sink_now = 0 }
-
 -- files with a fault are refused before any call of the page file
-pub record IsTurnedAway {X : Type 0} (kept : Type 0) (loaded : Result X Refusal) (status : Status) (grown : Channels) : Type 0 where
+pub record IsTurnedAway {X : Type 0} (pages : Change BlockFile) (loaded : Result X Refusal) (status : Status) (grown : Channels) : Type 0 where
   pub refused : IsRefused loaded status
   pub wrote : grown ≡ refusal_growth status
-  pub keeps : kept
+  pub keeps : pages.same
 
--- A run: any other program is run with its input under its schedule, unless this has a fault. `kept` says that the page file is as before,
--- `failed` that one of its calls failed; `outside` is what it tells before and after, and how many writes failed.
-abbrev pub RunDoes : Type 0 → Type 0 → Outside → Result Loaded Refusal → Text → Text → Options → Status → Channels → Type 0
-RunDoes kept failed outside loaded input schedule options status grown =
-    IsTurnedAway kept loaded status grown ⊎ ((program : Loaded) × (loaded ≡ Ok program) × RunsSo kept failed outside program input schedule options status grown)
+-- a run: any other program is run with its input under its schedule, unless this has a fault
+abbrev pub RunDoes : Outside → Result Loaded Refusal → (input schedule : Text) → Options → Status → Channels → Type 0
+RunDoes outside loaded input schedule options status grown =
+    IsTurnedAway outside.pages loaded status grown
+    ⊎ ((program : Loaded) × (loaded ≡ Ok program) × RunsSo outside program input schedule options status grown)
 
 -- a session: it is held on any other program, unless its schedule has a fault
-abbrev pub SessionDoes : Type 0 → Type 0 → Outside → Result Loaded Refusal → Texts → Options → Status → Channels → Type 0
-SessionDoes kept failed outside loaded texts options status grown =
-    IsTurnedAway kept loaded status grown ⊎ ((program : Loaded) × (loaded ≡ Ok program) × HeldSo kept failed outside.before program texts.input texts.schedule texts.script options status grown)
+abbrev pub SessionDoes : Outside → Result Loaded Refusal → Texts → Options → Status → Channels → Type 0
+SessionDoes outside loaded texts options status grown =
+    IsTurnedAway outside.pages loaded status grown
+    ⊎ ((program : Loaded) × (loaded ≡ Ok program) × HeldSo outside program texts.input texts.schedule texts.script options status grown)
 
 -- the bytes of an image in a version of the format
 abbrev pub IsFile : Format → Image → Text → Type 0
@@ -82,29 +79,35 @@ pub record IsWritten (built : Result Image Refusal) (Writes : Image → Text →
   pub wrote : grown ≡ only channel.Out text
 
 -- `build` and `list`: a program with a fault is refused, and the image of any other is written
-abbrev pub ImageDoes : Type 0 → Result Image Refusal → (Image → Text → Type 0) → Status → Channels → Type 0
-ImageDoes kept built Writes status grown = IsTurnedAway kept built status grown ⊎ (IsWritten built Writes status grown × kept)
+abbrev pub ImageDoes : Change BlockFile → Result Image Refusal → (Image → Text → Type 0) → Status → Channels → Type 0
+ImageDoes pages built Writes status grown =
+    IsTurnedAway pages built status grown ⊎ (IsWritten built Writes status grown × pages.same)
 
 -- a text about the program was shown, or memory was refused before
 abbrev pub IsAbout : Status → Channels → Type 0
 IsAbout status grown = ((status ≡ NoMemory) × (grown ≡ refusal_growth NoMemory)) ⊎ ((text : Text) × (status ≡ Done) × (grown ≡ only channel.Out text))
 
 -- a run went so, or memory was refused before it
-abbrev pub IsRunOf : Type 0 → Type 0 → Outside → Result Loaded Refusal → Text → Text → Options → Status → Channels → Type 0
-IsRunOf kept failed outside loaded input schedule options status grown =
-    LacksMemory kept status grown ⊎ RunDoes kept failed outside loaded input schedule options status grown
+abbrev pub IsRunOf : Outside → Result Loaded Refusal → (input schedule : Text) → Options → Status → Channels → Type 0
+IsRunOf outside loaded input schedule options status grown =
+    LacksMemory outside.pages status grown ⊎ RunDoes outside loaded input schedule options status grown
+
+-- and this is its answer
+abbrev pub RanOf : Outside → Result Loaded Refusal → (input schedule : Text) → Options → Status → Type 0
+RanOf outside loaded input schedule options result = EndsSo outside.sink (IsRunOf outside loaded input schedule options) result
 
 -- a session went so, or memory was refused before it
-abbrev pub IsSessionOf : Type 0 → Type 0 → Outside → Result Loaded Refusal → Texts → Options → Status → Channels → Type 0
-IsSessionOf kept failed outside loaded texts options status grown = LacksMemory kept status grown ⊎ SessionDoes kept failed outside loaded texts options status grown
+abbrev pub IsSessionOf : Outside → Result Loaded Refusal → Texts → Options → Status → Channels → Type 0
+IsSessionOf outside loaded texts options status grown =
+    LacksMemory outside.pages status grown ⊎ SessionDoes outside loaded texts options status grown
 
 -- an image was written so, or memory was refused before
-abbrev pub IsWriting : Type 0 → Result Image Refusal → (Image → Text → Type 0) → Status → Channels → Type 0
-IsWriting kept built Writes status grown = LacksMemory kept status grown ⊎ ImageDoes kept built Writes status grown
+abbrev pub IsWriting : Change BlockFile → Result Image Refusal → (Image → Text → Type 0) → Status → Channels → Type 0
+IsWriting pages built Writes status grown = LacksMemory pages status grown ⊎ ImageDoes pages built Writes status grown
 
 -- the texts of a run come to these programs, and it went so
-abbrev pub run_of : Type 0 → Type 0 → Outside → (Texts → Result Loaded Refusal) → Texts → Options → Status → Channels → Type 0
-run_of kept failed outside loaded texts options status grown = RunDoes kept failed outside (loaded texts) texts.input texts.schedule options status grown
+abbrev pub run_of : Outside → (Texts → Result Loaded Refusal) → Texts → Options → Status → Channels → Type 0
+run_of outside loaded texts options status grown = RunDoes outside (loaded texts) texts.input texts.schedule options status grown
 
 abbrev pub bare_programs : Texts → Result Loaded Refusal
 bare_programs texts = bare_loaded texts.programs
@@ -124,38 +127,52 @@ abbrev pub work_programs : ℕ → ℕ → Texts → Result Loaded Refusal
 work_programs seed size texts = user_loaded (workload seed size ∷ []) executive_source
 
 -- the texts of a session come to these programs, and it went so
-abbrev pub session_of : Type 0 → Type 0 → Outside → (Texts → Result Loaded Refusal) → Texts → Options → Status → Channels → Type 0
-session_of kept failed outside loaded texts options status grown = SessionDoes kept failed outside (loaded texts) texts options status grown
+abbrev pub session_of : Outside → (Texts → Result Loaded Refusal) → Texts → Options → Status → Channels → Type 0
+session_of outside loaded texts options status grown = SessionDoes outside (loaded texts) texts options status grown
 
 -- the base of a word
 abbrev pub base_for : words_base.Base → Base
 base_for words_bases.User = bases.User
 base_for words_bases.Bare = bases.Bare
 
--- What a command does with its files: the table of commands. `kept` says that the page file is as before.
-abbrev pub Does : Type 0 → Type 0 → Outside → Said → List Text → Status → Channels → Type 0
-Does kept failed outside (bare names options) files status grown = run_of kept failed outside bare_programs (texts_of (length names) options None files) options status grown
-Does kept failed outside (run names options) files status grown = run_of kept failed outside user_programs (texts_of (length names) options None files) options status grown
-Does kept failed outside (work seed size options) files status grown = run_of kept failed outside (work_programs seed size) (texts_of 0 options None files) options status grown
-Does kept failed outside (build names linked format) files status grown = ImageDoes kept (image_from (base_for linked) files) (IsFile format) status grown
-Does kept failed outside (list names linked) files status grown = ImageDoes kept (image_from (base_for linked) files) IsListing status grown
-Does kept failed outside (console names linked script options) files status grown =
-    session_of kept failed outside (session_programs linked) (texts_of (length names) options (Some script) files) options status grown
-Does kept failed outside about files status grown = (text : Text) × (status ≡ Done) × (grown ≡ only channel.Out text) × kept
+-- what a command does with its files: the table of commands
+abbrev pub Does : Outside → Said → (files : List Text) → Status → Channels → Type 0
+Does outside (bare names options) files status grown =
+    run_of outside bare_programs (texts_of (length names) options None files) options status grown
+Does outside (run names options) files status grown =
+    run_of outside user_programs (texts_of (length names) options None files) options status grown
+Does outside (work seed size options) files status grown =
+    run_of outside (work_programs seed size) (texts_of 0 options None files) options status grown
+Does outside (build names linked format) files status grown =
+    ImageDoes outside.pages (image_from (base_for linked) files) (IsFile format) status grown
+Does outside (list names linked) files status grown =
+    ImageDoes outside.pages (image_from (base_for linked) files) IsListing status grown
+Does outside (console names linked script options) files status grown =
+    session_of outside (session_programs linked) (texts_of (length names) options (Some script) files) options status grown
+Does outside about files status grown =
+    (text : Text) × (status ≡ Done) × (grown ≡ only channel.Out text) × outside.pages.same
 
--- the answer that a command is to give, and what it is to write
-abbrev pub CommandComes : Type 0 → Type 0 → Type 0 → Option Directory → Outside → Said → Status → Channels → Type 0
-CommandComes rose kept failed contents outside said status grown =
-    (ReadEnds rose contents (reads_of said) status × (grown ≡ refusal_growth status) × kept)
-    ⊎ ((files : List Text) × Reads contents (reads_of said) (Ok files) × Does kept failed outside said files status grown)
+-- The answer that a command is to give, and what it is to write: a read ended it, or it has done its work with what was read.
+abbrev pub CommandComes : Around → Said → Status → Channels → Type 0
+CommandComes seen said status grown =
+    (ReadEnds seen.files (reads_of said) status × (grown ≡ refusal_growth status) × seen.pages.same)
+    ⊎ ((files : List Text) × Reads seen.files.before.told (reads_of said) (Ok files) × Does (outside_of seen) said files status grown)
 
--- The answer that a command has, and how it came to it: the sink's count of faults before and now, what it tells before and now, and the answer.
-abbrev pub Carries : Type 0 → Type 0 → Type 0 → Option Directory → Outside → Said → ℕ → ℕ → Option Channels → Option Channels → Status → Type 0
-Carries rose kept failed contents outside said before now old new result =
-    (meant : Status) × (grown : Channels) × CommandComes rose kept failed contents outside said meant grown × Ends before now old new meant grown result
+-- the same for any words: those that aren't plain are refused
+abbrev pub WordsCome : Around → (words : List Text) → Status → Channels → Type 0
+WordsCome seen words status grown =
+    MatchOption (command_of words) ((status ≡ Usage) × (grown ≡ refusal_growth Usage) × seen.pages.same) (λ said. CommandComes seen said status grown)
 
--- The same for any words. `rose` says that a read of the files failed, `kept` that the page file is as before, and `failed` that one of its calls
--- failed; then come what the files and the page file tell.
-abbrev pub Comes : Type 0 → Type 0 → Type 0 → Option Directory → Outside → List Text → Status → Channels → Type 0
-Comes rose kept failed contents outside words status grown =
-    MatchOption (command_of words) ((status ≡ Usage) × (grown ≡ refusal_growth Usage) × kept) (λ said. CommandComes rose kept failed contents outside said status grown)
+-- A command has its answer: an answer and a growth of the channels are meant by the table, and these it has given and written, but for a write that failed.
+pub record Carries (seen : Around) (said : Said) (result : Status) : Type 0 where
+  pub meant : Status
+  pub grown : Channels
+  pub comes : CommandComes seen said meant grown
+  pub ends : Ends seen.sink meant grown result
+
+-- the same for any words
+pub record Comes (seen : Around) (words : List Text) (result : Status) : Type 0 where
+  pub meant : Status
+  pub grown : Channels
+  pub comes : WordsCome seen words meant grown
+  pub ends : Ends seen.sink meant grown result

@@ -1,18 +1,17 @@
 //! The commands: each reads its files, makes what they come to, and writes what is asked for, or refuses.
-ghost use Rattle.std.specs.Prelude.{◌≡◌, ◌≢◌, ◌⊎◌, ◌≤◌, ◌∷◌, [], IfOk, None, length};
-ghost use Rattle.vax_outside.specs.Faults.{Rose};
-ghost use Rattle.vax_outside.specs.Channels.{Channels, only};
+ghost use Rattle.std.specs.Prelude.{◌≡◌, ◌≤◌, ◌∷◌, [], IfOk, None, length};
+ghost use Rattle.vax_outside.specs.Channels.{only};
 ghost use Rattle.vax_guest.specs.Workload.{workload};
 ghost use Rattle.vax_image.specs.Image.{IsImage};
 ghost use Rattle.vax_listing.specs.Listing.{listing};
 ghost use Rattle.vax_cli.specs.Words.{bare, build, list, run, work};
 ghost use Rattle.vax_cli.specs.Said.{AreWithin, names_of, options as said_options};
-ghost use Rattle.vax_command.specs.Ends.{Ends};
-ghost use Rattle.vax_command.specs.Pages.{outside_of};
+ghost use Rattle.vax_command.specs.Around.{around, change, outside, untouched};
+ghost use Rattle.vax_command.specs.Ends.{Admits, Ends};
 ghost use Rattle.vax_top.specs.Loaded.{system_text, user_loaded};
 ghost use Rattle.vax_command.specs.Reading.{file_limit};
 ghost use Rattle.vax_command.specs.ReadingView.{bytes_of, texts as texts_seen};
-ghost use Rattle.vax_top.specs.Top.{Carries, IsFile, IsRunOf, base_for, no_pages};
+ghost use Rattle.vax_top.specs.Top.{Carries, IsFile, RanOf, base_for};
 
 use crate::programs::{alone, load_bare, load_image, load_user, system_files};
 use std::alloc::Global;
@@ -26,7 +25,8 @@ use vax_space::NoMemory;
 
 /// Writes a text to Out.
 pub(crate) fn show<K: Sink>(text: &[u8], sink: &mut K) -> Status
-    ensures { Ends (K.faults sink.old) (K.faults sink.new) (K.contents sink.old) (K.contents sink.new) Status.Done (only Chan.Out text.now) result }
+    ensures { Ends (change K.faults K.contents sink.old sink.new)
+        Status.Done (only Chan.Out text.now) result }
 {
     match put_all(sink, Chan::Out, text) {
         Ok(()) => Status::Done,
@@ -46,9 +46,13 @@ pub(crate) fn run_bare<S: Files, K: Sink, F: PageFile>(
     requires some { 1 ≤ length names.now }
     requires few { length names.now ≤ 8 }
     requires within { AreWithin (said_options options.now) }
-    ensures carries { Carries (Rose (S.faults files.old) (S.faults files.new)) (pages.new ≡ pages.old) (Rose (F.faults pages.old) (F.faults pages.new)) (S.contents files.old) (outside_of (F.contents pages.old) (F.contents pages.new) (K.faults sink.old) (K.faults sink.new)) (bare (names_of names.now) (said_options options.now)) (K.faults sink.old) (K.faults sink.new) (K.contents sink.old) (K.contents sink.new) result }
-    ensures read_failed { S.faults files.new ≢ S.faults files.old → (result ≡ Status.ReadFault) ⊎ (result ≡ Status.WriteFault) }
-    ensures page_failed { F.faults pages.new ≢ F.faults pages.old → (result ≡ Status.PageFault) ⊎ (result ≡ Status.WriteFault) }
+    ensures carries { Carries (around
+        (change S.faults S.contents files.old files.new)
+        (change K.faults K.contents sink.old sink.new)
+        (change F.faults F.contents pages.old pages.new))
+        (bare (names_of names.now) (said_options options.now)) result }
+    ensures read_failed { Admits (S.faults files.old) (S.faults files.new) Status.ReadFault result }
+    ensures page_failed { Admits (F.faults pages.old) (F.faults pages.new) Status.PageFault result }
 {
     let (texts, given) = match load_run(alloc, names, options, None, files) {
         Ok(loaded) => loaded,
@@ -79,10 +83,12 @@ fn run_over<K: Sink, F: PageFile>(
     requires input { length given.input.items ≤ file_limit }
     requires schedule { length given.schedule.items ≤ file_limit }
     requires within { AreWithin (said_options options.now) }
-    ensures ran { (meant : Status) × (grown : Channels)
-        × IsRunOf (pages.new ≡ pages.old) (Rose (F.faults pages.old) (F.faults pages.new)) (outside_of (F.contents pages.old) (F.contents pages.new) (K.faults sink.old) (K.faults sink.new)) (user_loaded (texts_seen texts.now) (system_text (bytes_of given.system))) given.input.items given.schedule.items (said_options options.now) meant grown
-        × Ends (K.faults sink.old) (K.faults sink.new) (K.contents sink.old) (K.contents sink.new) meant grown result }
-    ensures failed { F.faults pages.new ≢ F.faults pages.old → (result ≡ Status.PageFault) ⊎ (result ≡ Status.WriteFault) }
+    ensures ran { RanOf
+        (outside (change K.faults K.contents sink.old sink.new)
+        (change F.faults F.contents pages.old pages.new))
+        (user_loaded (texts_seen texts.now) (system_text (bytes_of given.system)))
+        given.input.items given.schedule.items (said_options options.now) result }
+    ensures failed { Admits (F.faults pages.old) (F.faults pages.new) Status.PageFault result }
 {
     let Given {
         system,
@@ -111,9 +117,13 @@ pub(crate) fn run_user<S: Files, K: Sink, F: PageFile>(
     requires some { 1 ≤ length names.now }
     requires few { length names.now ≤ 8 }
     requires within { AreWithin (said_options options.now) }
-    ensures carries { Carries (Rose (S.faults files.old) (S.faults files.new)) (pages.new ≡ pages.old) (Rose (F.faults pages.old) (F.faults pages.new)) (S.contents files.old) (outside_of (F.contents pages.old) (F.contents pages.new) (K.faults sink.old) (K.faults sink.new)) (run (names_of names.now) (said_options options.now)) (K.faults sink.old) (K.faults sink.new) (K.contents sink.old) (K.contents sink.new) result }
-    ensures read_failed { S.faults files.new ≢ S.faults files.old → (result ≡ Status.ReadFault) ⊎ (result ≡ Status.WriteFault) }
-    ensures page_failed { F.faults pages.new ≢ F.faults pages.old → (result ≡ Status.PageFault) ⊎ (result ≡ Status.WriteFault) }
+    ensures carries { Carries (around
+        (change S.faults S.contents files.old files.new)
+        (change K.faults K.contents sink.old sink.new)
+        (change F.faults F.contents pages.old pages.new))
+        (run (names_of names.now) (said_options options.now)) result }
+    ensures read_failed { Admits (S.faults files.old) (S.faults files.new) Status.ReadFault result }
+    ensures page_failed { Admits (F.faults pages.old) (F.faults pages.new) Status.PageFault result }
 {
     match load_run(alloc, names, options, None, files) {
         Ok((texts, given)) => run_over(alloc, &texts, given, options, sink, pages),
@@ -144,9 +154,13 @@ pub(crate) fn run_work<S: Files, K: Sink, F: PageFile>(
     requires some { 1 ≤ size }
     requires few { size ≤ 5000 }
     requires within { AreWithin (said_options options.now) }
-    ensures carries { Carries (Rose (S.faults files.old) (S.faults files.new)) (pages.new ≡ pages.old) (Rose (F.faults pages.old) (F.faults pages.new)) (S.contents files.old) (outside_of (F.contents pages.old) (F.contents pages.new) (K.faults sink.old) (K.faults sink.new)) (work seed size (said_options options.now)) (K.faults sink.old) (K.faults sink.new) (K.contents sink.old) (K.contents sink.new) result }
-    ensures read_failed { S.faults files.new ≢ S.faults files.old → (result ≡ Status.ReadFault) ⊎ (result ≡ Status.WriteFault) }
-    ensures page_failed { F.faults pages.new ≢ F.faults pages.old → (result ≡ Status.PageFault) ⊎ (result ≡ Status.WriteFault) }
+    ensures carries { Carries (around
+        (change S.faults S.contents files.old files.new)
+        (change K.faults K.contents sink.old sink.new)
+        (change F.faults F.contents pages.old pages.new))
+        (work seed size (said_options options.now)) result }
+    ensures read_failed { Admits (S.faults files.old) (S.faults files.new) Status.ReadFault result }
+    ensures page_failed { Admits (F.faults pages.old) (F.faults pages.new) Status.PageFault result }
 {
     let given = match load_options(alloc, options, None, files) {
         Ok(given) => Given {
@@ -195,8 +209,12 @@ pub(crate) fn build<S: Files, K: Sink>(
 ) -> Status
     requires some { 1 ≤ length names.now }
     requires few { length names.now ≤ 8 }
-    ensures carries { Carries (Rose (S.faults files.old) (S.faults files.new)) (Unit {0}) ⊥ (S.contents files.old) no_pages (build (names_of names.now) base format) (K.faults sink.old) (K.faults sink.new) (K.contents sink.old) (K.contents sink.new) result }
-    ensures read_failed { S.faults files.new ≢ S.faults files.old → (result ≡ Status.ReadFault) ⊎ (result ≡ Status.WriteFault) }
+    ensures carries { Carries (around
+        (change S.faults S.contents files.old files.new)
+        (change K.faults K.contents sink.old sink.new)
+        untouched)
+        (build (names_of names.now) base format) result }
+    ensures read_failed { Admits (S.faults files.old) (S.faults files.new) Status.ReadFault result }
 {
     let texts = match load_files(alloc, names, files) {
         Ok(texts) => texts,
@@ -214,7 +232,8 @@ pub(crate) fn build<S: Files, K: Sink>(
 
 /// Writes the instructions of an image to Out.
 fn show_listing<K: Sink>(image: &Image, sink: &mut K) -> Status
-    ensures { Ends (K.faults sink.old) (K.faults sink.new) (K.contents sink.old) (K.contents sink.new) Status.Done (only Chan.Out (listing image.now.areas)) result }
+    ensures { Ends (change K.faults K.contents sink.old sink.new)
+        Status.Done (only Chan.Out (listing image.now.areas)) result }
 {
     match write_listing(image.areas.as_slice(), sink) {
         Ok(()) => Status::Done,
@@ -232,8 +251,12 @@ pub(crate) fn list<S: Files, K: Sink>(
 ) -> Status
     requires some { 1 ≤ length names.now }
     requires few { length names.now ≤ 8 }
-    ensures carries { Carries (Rose (S.faults files.old) (S.faults files.new)) (Unit {0}) ⊥ (S.contents files.old) no_pages (list (names_of names.now) base) (K.faults sink.old) (K.faults sink.new) (K.contents sink.old) (K.contents sink.new) result }
-    ensures read_failed { S.faults files.new ≢ S.faults files.old → (result ≡ Status.ReadFault) ⊎ (result ≡ Status.WriteFault) }
+    ensures carries { Carries (around
+        (change S.faults S.contents files.old files.new)
+        (change K.faults K.contents sink.old sink.new)
+        untouched)
+        (list (names_of names.now) base) result }
+    ensures read_failed { Admits (S.faults files.old) (S.faults files.new) Status.ReadFault result }
 {
     let texts = match load_files(alloc, names, files) {
         Ok(texts) => texts,

@@ -1,11 +1,11 @@
 //! The command `console`.
-ghost use Rattle.std.specs.Prelude.{◌≡◌, ◌≢◌, ◌⊎◌, ◌≤◌, IfOk, length};
-ghost use Rattle.vax_outside.specs.Faults.{Rose};
+ghost use Rattle.std.specs.Prelude.{◌≤◌, IfOk, length};
 ghost use Rattle.vax_cli.specs.Words.{console};
 ghost use Rattle.vax_cli.specs.Said.{AreWithin, names_of, options as said_options};
+ghost use Rattle.vax_command.specs.Around.{around, change};
+ghost use Rattle.vax_command.specs.Ends.{Admits};
 ghost use Rattle.vax_command.specs.ReadingView.{bytes_of, texts as texts_seen};
 ghost use Rattle.vax_command.specs.Loaded.{AreSound, loaded_seen};
-ghost use Rattle.vax_command.specs.Pages.{outside_of};
 ghost use Rattle.vax_top.specs.Loaded.{system_text, user_loaded};
 ghost use Rattle.vax_top.specs.LoadedView.{Loads};
 ghost use Rattle.vax_top.specs.Top.{Carries, session_loaded};
@@ -20,7 +20,8 @@ use vax_outside::{Files, PageFile, Sink};
 fn load_under(alloc: Global, texts: &[Vec<u8>], system: Option<Vec<u8>>) -> Result<Programs, Status>
     requires some { 1 ≤ length texts.now }
     requires few { length texts.now ≤ 8 }
-    ensures loads { Loads loaded_seen result (user_loaded (texts_seen texts.now) (system_text (bytes_of system))) }
+    ensures loads { Loads loaded_seen result
+        (user_loaded (texts_seen texts.now) (system_text (bytes_of system))) }
     ensures sound { IfOk result AreSound }
 {
     let Ok(system) = system_files(alloc, system) else {
@@ -38,7 +39,8 @@ fn load_session(
 ) -> Result<Programs, Status>
     requires some { 1 ≤ length texts.now }
     requires few { length texts.now ≤ 8 }
-    ensures loads { Loads loaded_seen result (session_loaded base (texts_seen texts.now) (bytes_of system)) }
+    ensures loads { Loads loaded_seen result
+        (session_loaded base (texts_seen texts.now) (bytes_of system)) }
     ensures sound { IfOk result AreSound }
 {
     match base {
@@ -61,9 +63,13 @@ pub(crate) fn run_console<S: Files, K: Sink, F: PageFile>(
     requires some { 1 ≤ length names.now }
     requires few { length names.now ≤ 8 }
     requires within { AreWithin (said_options options.now) }
-    ensures carries { Carries (Rose (S.faults files.old) (S.faults files.new)) (pages.new ≡ pages.old) (Rose (F.faults pages.old) (F.faults pages.new)) (S.contents files.old) (outside_of (F.contents pages.old) (F.contents pages.new) (K.faults sink.old) (K.faults sink.new)) (console (names_of names.now) base script.now (said_options options.now)) (K.faults sink.old) (K.faults sink.new) (K.contents sink.old) (K.contents sink.new) result }
-    ensures read_failed { S.faults files.new ≢ S.faults files.old → (result ≡ Status.ReadFault) ⊎ (result ≡ Status.WriteFault) }
-    ensures page_failed { F.faults pages.new ≢ F.faults pages.old → (result ≡ Status.PageFault) ⊎ (result ≡ Status.WriteFault) }
+    ensures carries { Carries (around
+        (change S.faults S.contents files.old files.new)
+        (change K.faults K.contents sink.old sink.new)
+        (change F.faults F.contents pages.old pages.new))
+        (console (names_of names.now) base script.now (said_options options.now)) result }
+    ensures read_failed { Admits (S.faults files.old) (S.faults files.new) Status.ReadFault result }
+    ensures page_failed { Admits (F.faults pages.old) (F.faults pages.new) Status.PageFault result }
 {
     let (texts, given) = match load_run(alloc, names, options, Some(script), files) {
         Ok(loaded) => loaded,

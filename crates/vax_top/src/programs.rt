@@ -100,7 +100,8 @@ pub(crate) fn load_user(
     requires some { 1 ≤ length files.now }
     requires few { length files.now ≤ 8 }
     requires one { length system.now ≡ 1 }
-    ensures loads { (text : List ℕ) → texts system.now ≡ text ∷ [] → Loads loaded_seen result (user_loaded (texts files.now) text) }
+    ensures loads { (text : List ℕ) → texts system.now ≡ text ∷ [] →
+        Loads loaded_seen result (user_loaded (texts files.now) text) }
     ensures sound { IfOk result AreSound }
 {
     let user = match read_parts(alloc, Base::User, 1, files) {

@@ -2,14 +2,14 @@
 ghost use Rattle.std.specs.Prelude.{◌≡◌, ◌≢◌, ◌⊎◌, ℕ, List, None, Err, IfSome};
 ghost use Rattle.vax_outside.specs.Faults.{Rose};
 ghost use Rattle.vax_outside.specs.declared.traits.FilesFault.TheVariants as files_fault;
-ghost use Rattle.vax_outside.specs.Channels.{Channels, Grew, only};
+ghost use Rattle.vax_outside.specs.Channels.{Grew, only};
 ghost use Rattle.vax_outside.specs.declared.traits.Chan.TheVariants.{Report};
 ghost use Rattle.vax_cli.specs.Said.{IsWithin, said, texts};
 ghost use Rattle.vax_cli.specs.Words.{command_of};
-ghost use Rattle.vax_command.specs.Ends.{Ends};
+ghost use Rattle.vax_command.specs.Around.{around, change};
+ghost use Rattle.vax_command.specs.Ends.{Admits, EndsSo};
 ghost use Rattle.vax_command.specs.Reading.{Reads};
 ghost use Rattle.vax_command.specs.Status.{refusal};
-ghost use Rattle.vax_command.specs.Pages.{outside_of};
 ghost use Rattle.vax_top.specs.Top.{Carries, Comes, IsAbout, reads};
 
 use crate::commands::{build, list, run_bare, run_user, run_work, show};
@@ -21,9 +21,7 @@ use vax_outside::{Files, PageFile, Sink};
 
 /// Writes the text about the program that the words ask for to Out.
 fn tell<K: Sink>(alloc: Global, words: &[String], sink: &mut K) -> Status
-    ensures { (meant : Status) × (grown : Channels)
-        × IsAbout meant grown
-        × Ends (K.faults sink.old) (K.faults sink.new) (K.contents sink.old) (K.contents sink.new) meant grown result }
+    ensures { EndsSo (change K.faults K.contents sink.old sink.new) IsAbout result }
 {
     match vax_cli::about(alloc, words) {
         Ok(text) => show(text.as_bytes(), sink),
@@ -41,9 +39,13 @@ fn carry_out<S: Files, K: Sink, F: PageFile>(
     pages: &mut F,
 ) -> Status
     requires within { IsWithin (said command) }
-    ensures carries { Carries (Rose (S.faults files.old) (S.faults files.new)) (pages.new ≡ pages.old) (Rose (F.faults pages.old) (F.faults pages.new)) (S.contents files.old) (outside_of (F.contents pages.old) (F.contents pages.new) (K.faults sink.old) (K.faults sink.new)) (said command.entry) (K.faults sink.old) (K.faults sink.new) (K.contents sink.old) (K.contents sink.new) result }
-    ensures read_failed { S.faults files.new ≢ S.faults files.old → (result ≡ Status.ReadFault) ⊎ (result ≡ Status.WriteFault) }
-    ensures page_failed { F.faults pages.new ≢ F.faults pages.old → (result ≡ Status.PageFault) ⊎ (result ≡ Status.WriteFault) }
+    ensures carries { Carries (around
+        (change S.faults S.contents files.old files.new)
+        (change K.faults K.contents sink.old sink.new)
+        (change F.faults F.contents pages.old pages.new))
+        (said command.entry) result }
+    ensures read_failed { Admits (S.faults files.old) (S.faults files.new) Status.ReadFault result }
+    ensures page_failed { Admits (F.faults pages.old) (F.faults pages.new) Status.PageFault result }
 {
     match command {
         Command::Bare {
@@ -92,11 +94,13 @@ fn perform<S: Files, K: Sink, F: PageFile>(
     sink: &mut K,
     pages: &mut F,
 ) -> Status
-    ensures headline { (meant : Status) × (grown : Channels)
-        × Comes (Rose (S.faults files.old) (S.faults files.new)) (pages.new ≡ pages.old) (Rose (F.faults pages.old) (F.faults pages.new)) (S.contents files.old) (outside_of (F.contents pages.old) (F.contents pages.new) (K.faults sink.old) (K.faults sink.new)) (texts words.now) meant grown
-        × Ends (K.faults sink.old) (K.faults sink.new) (K.contents sink.old) (K.contents sink.new) meant grown result }
-    ensures read_failed { S.faults files.new ≢ S.faults files.old → (result ≡ Status.ReadFault) ⊎ (result ≡ Status.WriteFault) }
-    ensures page_failed { F.faults pages.new ≢ F.faults pages.old → (result ≡ Status.PageFault) ⊎ (result ≡ Status.WriteFault) }
+    ensures headline { Comes (around
+        (change S.faults S.contents files.old files.new)
+        (change K.faults K.contents sink.old sink.new)
+        (change F.faults F.contents pages.old pages.new))
+        (texts words.now) result }
+    ensures read_failed { Admits (S.faults files.old) (S.faults files.new) Status.ReadFault result }
+    ensures page_failed { Admits (F.faults pages.old) (F.faults pages.new) Status.PageFault result }
 {
     match command_of(alloc, words) {
         Err(WordsError::Usage) => refuse(Status::Usage, sink),
@@ -113,20 +117,26 @@ pub fn vax_main<S: Files, K: Sink, F: PageFile>(
     sink: &mut K,
     pages: &mut F,
 ) -> Status
-    ensures headline { (meant : Status) × (grown : Channels)
-        × Comes (Rose (S.faults files.old) (S.faults files.new)) (pages.new ≡ pages.old) (Rose (F.faults pages.old) (F.faults pages.new)) (S.contents files.old) (outside_of (F.contents pages.old) (F.contents pages.new) (K.faults sink.old) (K.faults sink.new)) (texts words.now) meant grown
-        × Ends (K.faults sink.old) (K.faults sink.new) (K.contents sink.old) (K.contents sink.new) meant grown result }
+    ensures headline { Comes (around
+        (change S.faults S.contents files.old files.new)
+        (change K.faults K.contents sink.old sink.new)
+        (change F.faults F.contents pages.old pages.new))
+        (texts words.now) result }
     ensures usage { result ≡ Status.Usage → command_of (texts words.now) ≡ None }
-    ensures not_plain { command_of (texts words.now) ≡ None → (result ≡ Status.Usage) ⊎ (result ≡ Status.WriteFault) }
-    ensures missing { (name : List ℕ) → result ≡ Status.Missing name → Reads (S.contents files.old) (reads (texts words.now)) (Err (name, files_fault.Missing)) }
-    ensures large { (name : List ℕ) → result ≡ Status.Large name → Reads (S.contents files.old) (reads (texts words.now)) (Err (name, files_fault.Large)) }
+    ensures not_plain { command_of (texts words.now) ≡ None →
+        (result ≡ Status.Usage) ⊎ (result ≡ Status.WriteFault) }
+    ensures missing { (name : List ℕ) → result ≡ Status.Missing name →
+        Reads (S.contents files.old) (reads (texts words.now)) (Err (name, files_fault.Missing)) }
+    ensures large { (name : List ℕ) → result ≡ Status.Large name →
+        Reads (S.contents files.old) (reads (texts words.now)) (Err (name, files_fault.Large)) }
     ensures read { result ≡ Status.ReadFault → Rose (S.faults files.old) (S.faults files.new) }
     ensures page_fault { result ≡ Status.PageFault → Rose (F.faults pages.old) (F.faults pages.new) }
-    ensures page_failed { F.faults pages.new ≢ F.faults pages.old → (result ≡ Status.PageFault) ⊎ (result ≡ Status.WriteFault) }
+    ensures page_failed { Admits (F.faults pages.old) (F.faults pages.new) Status.PageFault result }
     ensures write { result ≡ Status.WriteFault → Rose (K.faults sink.old) (K.faults sink.new) }
-    ensures read_failed { S.faults files.new ≢ S.faults files.old → (result ≡ Status.ReadFault) ⊎ (result ≡ Status.WriteFault) }
+    ensures read_failed { Admits (S.faults files.old) (S.faults files.new) Status.ReadFault result }
     ensures write_failed { K.faults sink.new ≢ K.faults sink.old → result ≡ Status.WriteFault }
-    ensures refused { IfSome (refusal result) (λ text. Grew (K.contents sink.old) (K.contents sink.new) (only Report text)) }
+    ensures refused { IfSome (refusal result) (λ text.
+        Grew (K.contents sink.old) (K.contents sink.new) (only Report text)) }
 {
     perform(alloc, words, files, sink, pages)
 }

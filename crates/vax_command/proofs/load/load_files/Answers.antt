@@ -17,8 +17,8 @@ loop-name-preserved g c =
     let inv = c.loop-name.invariant in
     let grown : c.push.new.self.items ≡ c.loop-name.all.items ++ c.in_ok-bytes.bytes ∷ [] = pushed _ c.loop-name.all.items c.push.new.self.items c.in_ok-bytes.bytes c.push.ensures.items c.if-is_err.ensures.negation in
     record {
-      same = c.in_ok-bytes.ensures.same ∙ inv.same;
-      quiet = c.in_ok-bytes.ensures.quiet ∙ inv.quiet;
+      same = c.in_ok-bytes.ensures.only.same ∙ inv.same;
+      quiet = c.in_ok-bytes.ensures.only.quiet ∙ inv.quiet;
       count = rw (grown, length_push) (omega arith);
       reads = rw (texts_more _ _ c.in_ok-bytes.bytes grown) (one_more (g.S.Files.contents c.args.files.now) (g.S.Files.contents c.loop-name.files) c.args.names.now c.loop-name.name-index (record { ref_ptr = (0, 0); now = [] }) (texts c.loop-name.all.items) c.in_ok-bytes.bytes.items c.loop-name-test.true inv.same inv.reads c.in_ok-bytes.ensures.ok);
     }

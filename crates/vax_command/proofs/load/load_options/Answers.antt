@@ -18,6 +18,6 @@ returns-clause-ok g c =
     let i : is_some input ≡ is_some o.input = search rules in
     let k : is_some schedule ≡ is_some o.schedule = search rules in
     let t : is_some script ≡ is_some name = search rules in
-    let others = subst (λ d. Reads d (given o.schedule ++ given name) (Ok (given schedule ++ given script))) c.in_ok-system.ensures.same c.in_ok-schedule.ensures.ok in
+    let others = subst (λ d. Reads d (given o.schedule ++ given name) (Ok (given schedule ++ given script))) c.in_ok-system.ensures.only.same c.in_ok-schedule.ensures.ok in
     let all = has_given _ o name system input schedule script s i k t (reads_both _ (given o.system ++ given o.input) (given o.schedule ++ given name) (given system ++ given input) (given schedule ++ given script) c.in_ok-system.ensures.ok others) in
     rw (c.or_empty.ensures.bytes, c.or_empty-2.ensures.bytes, c.or_empty-3.ensures.bytes) all

@@ -16,11 +16,11 @@ returns-in_err-programs-clause-ends g c =
 pub returns-in_err-given-clause-ends : goal.returns-in_err-given-clause-ends
 returns-in_err-given-clause-ends g c =
     err_has c.from_residual-in_err-given.result _ _ c.from_residual-in_err-given.ensures.1
-    (ends_then _ _ _ _ (names_of c.args.names.now) (of_options (said_options c.args.options.now) (option_copied c.args.script)) (texts c.in_ok-programs.programs.items) _ c.in_ok-programs.ensures.same
-    (λ r. rose_from _ _ _ c.in_ok-programs.ensures.quiet r) c.in_ok-programs.ensures.ok c.in_err-given.ensures.ends)
+    (ends_then _ _ _ _ (names_of c.args.names.now) (of_options (said_options c.args.options.now) (option_copied c.args.script)) (texts c.in_ok-programs.programs.items) _ c.in_ok-programs.ensures.only.same
+    (λ r. rose_from _ _ _ c.in_ok-programs.ensures.only.quiet r) c.in_ok-programs.ensures.ok c.in_err-given.ensures.ends)
 
 pub returns-clause-ok : goal.returns-clause-ok
 returns-clause-ok g c =
     has_all _ (names_of c.args.names.now) (texts c.in_ok-programs.programs.items) (said_options c.args.options.now) (option_copied c.args.script) (given_seen [] c.in_ok-given.given)
     (simp length-map c.in_ok-programs.ensures.count) c.in_ok-programs.ensures.ok
-    (subst (λ d. HasTexts d [] (said_options c.args.options.now) (option_copied c.args.script) (given_seen [] c.in_ok-given.given)) c.in_ok-programs.ensures.same c.in_ok-given.ensures.ok)
+    (subst (λ d. HasTexts d [] (said_options c.args.options.now) (option_copied c.args.script) (given_seen [] c.in_ok-given.given)) c.in_ok-programs.ensures.only.same c.in_ok-given.ensures.ok)

@@ -1,30 +1,32 @@
 use Rattle.std.proofs.Common.{refl}
-use Rattle.vax_outside.specs.Faults.{Rose}
 use Rattle.vax_machine.specs.Meaning.{engine}
 use Rattle.vax_script.specs.Requests.{readings}
+use Rattle.vax_command.specs.Around.{change, outside, seen_of}
 use Rattle.vax_command.proofs.SessionLaws.{cut_off, lost, read_out, timed_out}
 use Rattle.vax_command.proofs.session.hold.Goals as goal
 
 pub returns-in-Read-clause-went : goal.returns-in-Read-clause-went
 returns-in-Read-clause-went g c = λ frames m f.
-    read_out (Rose (g.F.PageFile.faults c.args.pages.now) (g.F.PageFile.faults c.session.new.file)) c.args.limits.now c.args.schedule.now (readings c.args.script.now) (engine c.args.machine) (engine c.session.new.machine) frames m f
-    (g.K.Sink.faults c.args.sink.now) (g.K.Sink.faults c.session.new.sink) (g.K.Sink.contents c.args.sink.now) (g.K.Sink.contents c.session.new.sink)
-    (g.F.PageFile.contents c.args.pages.now) (g.F.PageFile.contents c.session.new.file) c.in-Read.ensures.ends c.session.ensures.only (c.in-Read.ensures.written (λ x. cc))
+    let seen = outside (change g.K.Sink.faults g.K.Sink.contents c.args.sink.now c.session.new.sink) (change g.F.PageFile.faults g.F.PageFile.contents c.args.pages.now c.session.new.file) in
+    read_out seen c.args.limits.now c.args.schedule.now (readings c.args.script.now) (engine c.args.machine) (engine c.session.new.machine) frames m f
+    (g.F.PageFile.contents c.args.pages.now) c.in-Read.ensures.ends c.session.ensures.only (c.in-Read.ensures.written (λ x. cc))
 
 pub returns-in-Turns-clause-went : goal.returns-in-Turns-clause-went
 returns-in-Turns-clause-went g c = λ frames m f.
-    timed_out (Rose (g.F.PageFile.faults c.args.pages.now) (g.F.PageFile.faults c.session.new.file)) c.args.limits.now c.args.schedule.now (readings c.args.script.now) (engine c.args.machine) (engine c.session.new.machine) frames m f
-    (g.K.Sink.faults c.args.sink.now) (g.K.Sink.faults c.session.new.sink) (g.K.Sink.faults c.report.new.sink) (g.K.Sink.contents c.args.sink.now) (g.K.Sink.contents c.session.new.sink) (g.K.Sink.contents c.report.new.sink) c.report.result
-    (g.F.PageFile.contents c.args.pages.now) (g.F.PageFile.contents c.session.new.file) c.in-Turns.ensures.ends c.in-Turns.ensures.few c.session.ensures.only (c.in-Turns.ensures.written (λ x. cc)) c.report.ensures
+    let seen = outside (change g.K.Sink.faults g.K.Sink.contents c.args.sink.now c.report.new.sink) (change g.F.PageFile.faults g.F.PageFile.contents c.args.pages.now c.session.new.file) in
+    timed_out seen c.args.limits.now c.args.schedule.now (readings c.args.script.now) (engine c.args.machine) (engine c.session.new.machine) frames m f
+    (seen_of g.K.Sink.faults g.K.Sink.contents c.session.new.sink) c.report.result
+    (g.F.PageFile.contents c.args.pages.now) c.in-Turns.ensures.ends c.in-Turns.ensures.few c.session.ensures.only (c.in-Turns.ensures.written (λ x. cc)) c.report.ensures
 
 pub returns-in-PageFault-clause-went : goal.returns-in-PageFault-clause-went
 returns-in-PageFault-clause-went g c = λ frames m f.
-    cut_off (Rose (g.F.PageFile.faults c.args.pages.now) (g.F.PageFile.faults c.session.new.file)) c.args.limits.now c.args.schedule.now (readings c.args.script.now) (engine c.args.machine) (engine c.session.new.machine) frames m f
-    (g.K.Sink.faults c.args.sink.now) (g.K.Sink.faults c.session.new.sink) (g.K.Sink.faults c.report-in-PageFault.new.sink) (g.K.Sink.contents c.args.sink.now) (g.K.Sink.contents c.session.new.sink) (g.K.Sink.contents c.report-in-PageFault.new.sink) c.report-in-PageFault.result
-    (g.F.PageFile.contents c.args.pages.now) (g.F.PageFile.contents c.session.new.file) (c.in-PageFault.ensures.fault refl) c.in-PageFault.ensures.ends c.session.ensures.only (c.in-PageFault.ensures.written (λ x. cc)) c.report-in-PageFault.ensures
+    let seen = outside (change g.K.Sink.faults g.K.Sink.contents c.args.sink.now c.report-in-PageFault.new.sink) (change g.F.PageFile.faults g.F.PageFile.contents c.args.pages.now c.session.new.file) in
+    cut_off seen c.args.limits.now c.args.schedule.now (readings c.args.script.now) (engine c.args.machine) (engine c.session.new.machine) frames m f
+    (seen_of g.K.Sink.faults g.K.Sink.contents c.session.new.sink) c.report-in-PageFault.result
+    (g.F.PageFile.contents c.args.pages.now) (c.in-PageFault.ensures.fault refl) c.in-PageFault.ensures.ends c.session.ensures.only (c.in-PageFault.ensures.written (λ x. cc)) c.report-in-PageFault.ensures
 
 pub returns-clause-went : goal.returns-clause-went
 returns-clause-went g c = λ frames m f.
-    lost (Rose (g.F.PageFile.faults c.args.pages.now) (g.F.PageFile.faults c.session.new.file)) c.args.limits.now c.args.schedule.now (readings c.args.script.now) (engine c.args.machine) (engine c.session.new.machine) frames m f
-    (g.K.Sink.faults c.args.sink.now) (g.K.Sink.faults c.session.new.sink) (g.K.Sink.contents c.args.sink.now) (g.K.Sink.contents c.session.new.sink)
-    (g.F.PageFile.contents c.args.pages.now) (g.F.PageFile.contents c.session.new.file) c.in-WriteFault.ensures.ends c.session.ensures.only (c.in-WriteFault.ensures.cause refl)
+    let seen = outside (change g.K.Sink.faults g.K.Sink.contents c.args.sink.now c.session.new.sink) (change g.F.PageFile.faults g.F.PageFile.contents c.args.pages.now c.session.new.file) in
+    lost seen c.args.limits.now c.args.schedule.now (readings c.args.script.now) (engine c.args.machine) (engine c.session.new.machine) frames m f
+    (g.F.PageFile.contents c.args.pages.now) c.in-WriteFault.ensures.ends c.session.ensures.only (c.in-WriteFault.ensures.cause refl)
