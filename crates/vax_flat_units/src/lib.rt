@@ -2,7 +2,7 @@
 //! has. Each is the contract of a call that does nothing.
 #![tactic(auto)]
 
-ghost use Rattle.std.specs.Prelude.{◌≡◌, ◌<◌, ◌+◌, ◌*◌, ◌^◌, ℕ, Bool, List};
+ghost use Rattle.std.specs.Prelude.{true, ◌≡◌, ◌<◌, ◌+◌, ◌*◌, ◌^◌, ℕ, Bool, List};
 ghost use Rattle.vax_space.specs.declared.Area.{Area};
 ghost use Rattle.vax_strpart.specs.declared.packing.Progress.{Progress};
 ghost use Rattle.vax_flat.specs.declared.Flow.{Flow};
