@@ -1,6 +1,5 @@
 -- What an attempt makes of a machine.
-use Rattle.std.proofs.Common.{ℕ, ◌≡◌, ◌<◌, ◌≤◌, ◌%◌, Bool, true, false, ◌==◌, List, [], length, refl, ap, sym, ◌∙◌, subst, arith, inl, inr, Option, Some, None, slice_index}
-use Rattle.std.specs.Option.{option_map}
+use Rattle.std.proofs.Common.{ℕ, ◌≡◌, ◌<◌, ◌≤◌, Bool, true, false, ◌==◌, List, [], length, refl, ap, sym, ◌∙◌, subst, arith, inl, inr, Option, Some, None}
 use Rattle.std.specs.Prelude.{is_some}
 use Rattle.std.proofs.lemmas.Bool.Decides.{nat_tests}
 use Rattle.std.proofs.lemmas.Bool.{cases_Bool}
@@ -25,7 +24,7 @@ use Rattle.vax_cpu.specs.declared.cpu.Open.{Open}
 use Rattle.vax_pager.specs.Calls.{IsPaging}
 use Rattle.vax_pager.specs.Listing.{is_listed}
 use Rattle.vax_pager.specs.Meaning.{pages}
-use Rattle.vax_pager.specs.Paging.{Paging, StandsWith, content, home, is_clean, view_of}
+use Rattle.vax_pager.specs.Paging.{Paging, StandsWith, view_of}
 use Rattle.vax_pager.specs.Steps.{OnlyWritten, settled}
 use Rattle.vax_pager.specs.declared.pager.Pager.{Pager}
 use Rattle.vax_pager.proofs.Turned.{port_stands, stands_settled, stands_turned}

@@ -7,7 +7,7 @@ use Rattle.vax_outside.specs.Blocks.{BlockFile}
 use Rattle.vax_outside.specs.Faults.{raised}
 use Rattle.vax_flat.specs.Memory.{byte_at}
 use Rattle.vax_flat.specs.Outcome.{first_missing}
-use Rattle.vax_flat.specs.Parts.{Place, At, Within, Turn, Completes, Leaves, machine_at, touches_at, turn}
+use Rattle.vax_flat.specs.Parts.{Place, At, Within, Completes, machine_at, touches_at, turn}
 use Rattle.vax_flat.specs.Port.{StandsFor, with_marks}
 use Rattle.vax_flat.specs.Step.{Flat, run, step, ended}
 use Rattle.vax_flat.proofs.Runs.{going_back}
@@ -25,7 +25,7 @@ use Rattle.vax_machine.proofs.Attempts.{areas_settled, attempted_marks, begins, 
 use Rattle.vax_pager.proofs.Turned.{stands_settled, stands_turned}
 use Rattle.vax_machine.specs.Conclusion.{Concludes, applied_of, eased_pages, settled_after}
 use Rattle.vax_machine.specs.Machine.{AreSound, Goes, IsTry, Keeping, Means, keeping, tried}
-use Rattle.vax_machine.specs.Residence.{residence_of, is_resident, unpinned}
+use Rattle.vax_machine.specs.Residence.{residence_of, unpinned}
 use Rattle.vax_machine.specs.Batch.{Advances, GoesFar, HasTriedSeveral, Spot, several}
 use Rattle.vax_machine.specs.declared.engine.Engine.{Engine}
 use Rattle.vax_machine.specs.declared.event.Applied.{Applied}

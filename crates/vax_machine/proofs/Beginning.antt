@@ -12,7 +12,7 @@ use Rattle.vax_pager.specs.Paging.{Paging}
 use Rattle.vax_machine.specs.Machine.{AreSound}
 use Rattle.vax_machine.specs.Meaning.{starts_at}
 use Rattle.vax_machine.specs.Paged.{fresh}
-use Rattle.vax_machine.specs.Residence.{Residence, residence_of}
+use Rattle.vax_machine.specs.Residence.{residence_of}
 
 module _ (s : Paging) (areas : List Area) (frames : ℕ) (is : s ≡ pager.fresh areas frames) where
   pub fresh_sound : 64 ≤ frames → AreSound s.areas (residence_of s) None

@@ -1,6 +1,5 @@
 -- A machine stands between two steps where a run stopped by an ending or the limit of steps.
-use Rattle.std.proofs.Common.{ℕ, ◌≡◌, ◌+◌, ◌^◌, ◌<◌, ◌≤◌, List, [], ap, sym, ◌∙◌, subst, arith, inl, inr, Option, Some, None, Result, Ok, Err}
-use Rattle.std.specs.Prelude.{◌⊎◌}
+use Rattle.std.proofs.Common.{ℕ, ◌≡◌, ◌+◌, ◌^◌, ◌<◌, ◌≤◌, [], ap, sym, ◌∙◌, subst, arith, inl, inr, Option, Some, None, Result, Ok, Err}
 use Rattle.vax_outside.specs.Blocks.{BlockFile}
 use Rattle.vax_outside.specs.Channels.{Channels}
 use Rattle.vax_flat.specs.declared.Ending.{Ending}
@@ -12,7 +11,7 @@ use Rattle.vax_pager.specs.Meaning.{pages}
 use Rattle.vax_pager.specs.Paging.{Paging}
 use Rattle.vax_pager.specs.Steps.{settled}
 use Rattle.vax_machine.proofs.Tracking.{several_are}
-use Rattle.vax_machine.specs.Batch.{HasTriedSeveral, several}
+use Rattle.vax_machine.specs.Batch.{HasTriedSeveral}
 use Rattle.vax_machine.specs.Conclusion.{Concludes}
 use Rattle.vax_machine.specs.Console.{IsBetween, MayGoOn, StopsBetween}
 use Rattle.vax_machine.specs.Machine.{Keeping, Serves, keeping}
@@ -23,7 +22,6 @@ use Rattle.vax_machine.specs.declared.event.Applied.TheVariants.{Absent, Failed,
 use Rattle.vax_machine.specs.declared.event.Fault.{Fault}
 use Rattle.vax_machine.specs.declared.event.Fault.TheVariants.{Page, Write}
 use Rattle.vax_machine.specs.declared.event.RunEnd.{RunEnd}
-use Rattle.vax_machine.specs.declared.event.RunEnd.TheVariants as run_end
 use Rattle.vax_machine.specs.declared.held.Held.{Held}
 
 settled_pins : (s u : Paging) → u ≡ settled s → u.pinned ≡ []

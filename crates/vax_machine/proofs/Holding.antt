@@ -1,7 +1,6 @@
 -- Bytes and lines that are held back, and written.
 use Rattle.std.proofs.Common.{ℕ, ◌≡◌, Bool, true, false, List, [], ◌∷◌, ◌++◌, append-nil, if◌then◌else◌, refl, ap, sym, ◌∙◌, subst, Option, Result, Ok, Err, Some}
-use Rattle.std.specs.List.{flat_map}
-use Rattle.vax_outside.specs.Channels.{Channels, Grew, GrewByPrefix, append, nothing, only}
+use Rattle.vax_outside.specs.Channels.{Channels, Grew, append, nothing, only}
 use Rattle.vax_outside.specs.declared.traits.Chan.TheVariants.{Out, Record}
 use Rattle.vax_outside.proofs.Growth.{append-nothing, channels_assoc, grew_more, grew_nothing, prefix_in}
 use Rattle.vax_sched.specs.Printed.{at_line}

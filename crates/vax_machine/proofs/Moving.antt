@@ -1,5 +1,5 @@
 -- What evictions and services make of the page file, and of the pages that are modified.
-use Rattle.std.proofs.Common.{ℕ, suc, ◌≡◌, ◌+◌, ◌*◌, ◌%◌, ◌^◌, ◌<◌, ◌≤◌, Bool, true, false, ◌==◌, List, [], ◌∷◌, ◌++◌, append_assoc, append-nil, length, if◌then◌else◌, refl, ap, sym, ◌∙◌, subst, arith, inl, inr, Option, Some, None, slice_index}
+use Rattle.std.proofs.Common.{ℕ, suc, ◌≡◌, ◌+◌, ◌*◌, ◌%◌, ◌^◌, ◌<◌, ◌≤◌, Bool, true, false, List, [], ◌∷◌, ◌++◌, append_assoc, append-nil, length, refl, ap, sym, ◌∙◌, subst, arith, inl, inr, Option, Some, None, slice_index}
 use Rattle.std.specs.Prelude.{◌⊎◌, is_some}
 use Rattle.std.specs.Option.{option_map}
 use Rattle.std.proofs.Math.Path.{fun_ext}
@@ -13,14 +13,14 @@ use Rattle.vax_space.proofs.References.{after_more}
 use Rattle.vax_outside.specs.Blocks.{BlockFile, after_read, after_write}
 use Rattle.vax_flat.specs.Memory.{after, byte_at, bytes_from}
 use Rattle.vax_flat.specs.Parts.{machine_at}
-use Rattle.vax_pager.specs.Calls.{IsLeft, IsPaging, Source, Back, Empty, OfKept, OfVictim, Nowhere, after_evict, after_flush, begun, came, file_after, file_begun, put_block, read_for, victim_of, wrote_back}
+use Rattle.vax_pager.specs.Calls.{IsLeft, IsPaging, Source, Back, Empty, OfKept, OfVictim, Nowhere, after_evict, after_flush, came, file_after, file_begun, put_block, read_for, victim_of, wrote_back}
 use Rattle.vax_pager.specs.Listing.{is_listed, leave_out}
 use Rattle.vax_pager.specs.Paging.{Paging, StandsWith}
 use Rattle.vax_pager.specs.Steps.{brought, flushed, forgotten, released, removed, taken_back}
 use Rattle.vax_pager.proofs.Effects.{peek_resident}
 use Rattle.vax_pager.proofs.Listing.{in_without}
 use Rattle.vax_machine.proofs.Touching.{page_small}
-use Rattle.vax_machine.specs.Blocks.{HasMoved, Moved, MovedFirst, write_of, write_to, writes_of}
+use Rattle.vax_machine.specs.Blocks.{Moved, MovedFirst, write_of, write_to, writes_of}
 use Rattle.vax_machine.specs.Paged.{Eviction, Paged, cleaned, cleaned_of, eviction_of, evictions_of, page_bytes, some_if}
 
 -- the writes of evictions one behind another

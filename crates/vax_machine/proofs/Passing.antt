@@ -1,10 +1,9 @@
 -- What attempts write is written, or held back.
-use Rattle.std.proofs.Common.{ℕ, suc, ◌≡◌, ◌+◌, ◌^◌, ◌<◌, ◌≤◌, Bool, true, false, List, arith, refl, ap, sym, ◌∙◌, subst, inl, inr, Option, Some, None, Result, Ok, Err}
+use Rattle.std.proofs.Common.{ℕ, suc, ◌≡◌, ◌+◌, ◌^◌, ◌<◌, Bool, true, false, List, refl, ap, sym, ◌∙◌, subst, inl, inr, Option, Some, None, Result, Ok, Err}
 use Rattle.std.specs.Prelude.{is_some}
 use Rattle.vax_outside.specs.Blocks.{BlockFile}
-use Rattle.vax_outside.specs.Channels.{Channels, GrewByPrefix, append, only}
+use Rattle.vax_outside.specs.Channels.{Channels, GrewByPrefix, append}
 use Rattle.vax_outside.specs.Faults.{Rose}
-use Rattle.vax_outside.specs.declared.traits.Chan.TheVariants.{Record}
 use Rattle.vax_pager.specs.Calls.{IsPaging}
 use Rattle.vax_pager.specs.Meaning.{pages}
 use Rattle.vax_space.specs.declared.Area.{Area}

@@ -1,5 +1,5 @@
 -- How many attempts each event costs.
-use Rattle.std.proofs.Common.{ℕ, ◌≡◌, ◌+◌, ◌-◌, ◌^◌, ◌<◌, ◌≤◌, ◌==◌, Bool, true, false, List, [], ◌∷◌, ◌++◌, length, length-append, if◌then◌else◌, refl, ap, sym, ◌∙◌, subst, arith, inl, inr, Option, Some, None}
+use Rattle.std.proofs.Common.{ℕ, ◌≡◌, ◌+◌, ◌-◌, ◌^◌, ◌<◌, ◌≤◌, ◌==◌, Bool, true, false, List, [], ◌∷◌, length, length-append, if◌then◌else◌, refl, ap, sym, ◌∙◌, subst, arith, inl, inr, Option, Some, None}
 use Rattle.std.proofs.lemmas.Bool.Decides.{nat_tests}
 use Rattle.std.proofs.lemmas.Bool.{cases_Bool}
 use Rattle.vax_outside.specs.Blocks.{BlockFile}
@@ -10,7 +10,7 @@ use Rattle.vax_pager.specs.Meaning.{pages}
 use Rattle.vax_pager.proofs.Listing.{out_none}
 use Rattle.vax_machine.proofs.Bound.{one_fewer}
 use Rattle.vax_machine.specs.Machine.{Applies, Evicts, Flushes, IsTry, Keeping, Rises, Serves, Spends, Tries, keeping, missed_cost, residence, tried}
-use Rattle.vax_machine.specs.Residence.{Residence, eased, served, taken_out, unpinned, victim, without_victim}
+use Rattle.vax_machine.specs.Residence.{Residence, eased, served, taken_out, victim, without_victim}
 use Rattle.vax_machine.specs.declared.engine.Engine.{Engine}
 use Rattle.vax_machine.specs.declared.event.Applied.{Applied}
 use Rattle.vax_machine.specs.declared.event.Applied.TheVariants.{Absent, Ended, Evicted, Failed, Flushed, Nothing, Parted, Served, Stepped}

@@ -1,6 +1,6 @@
 -- The turns of a machine are those of the paged run.
-use Rattle.std.proofs.Common.{ℕ, zero, suc, ◌≡◌, ◌+◌, ◌^◌, ◌<◌, ◌≤◌, Bool, true, false, ◌==◌, List, [], ◌∷◌, ◌++◌, refl, ap, sym, ◌∙◌, subst, arith, inl, inr, Option, Some, None, Result, Ok, Err, OnOk, OnErr}
-use Rattle.std.specs.Prelude.{IsErr, if◌then◌else◌}
+use Rattle.std.proofs.Common.{ℕ, zero, suc, ◌≡◌, ◌+◌, ◌^◌, ◌<◌, ◌≤◌, Bool, true, false, ◌==◌, List, [], ◌∷◌, ◌++◌, refl, ap, sym, ◌∙◌, subst, arith, inl, inr, Option, Some, None}
+use Rattle.std.specs.Prelude.{if◌then◌else◌}
 use Rattle.std.proofs.lemmas.Bool.{cases_Bool, cases_lt}
 use Rattle.vax_outside.specs.Blocks.{BlockFile}
 use Rattle.vax_flat.specs.Outcome.{Range, first_missing, marked_by}
@@ -12,7 +12,7 @@ use Rattle.vax_pager.proofs.Listing.{in_without}
 use Rattle.vax_machine.specs.Batch.{Advances, Spot, several}
 use Rattle.vax_machine.specs.Machine.{Evicts, Keeping, KeepsPlace, keeping, modified_of, residence}
 use Rattle.vax_machine.specs.Paged.{Paged, attempted, attempted_by, all_evicted, cleaned, evicted, eviction_of, marked}
-use Rattle.vax_machine.specs.Residence.{Residence, is_resident, served, taken_out, unpinned, victim}
+use Rattle.vax_machine.specs.Residence.{Residence, is_resident, taken_out, unpinned}
 use Rattle.vax_machine.specs.Run.{Tracks}
 use Rattle.vax_machine.specs.Touched.{PinsTouched}
 use Rattle.vax_machine.specs.Turn.{AreWhole, Still, attempted_times}

@@ -1,5 +1,5 @@
 -- An attempt that misses a page drops no pins where it touches all that are pinned.
-use Rattle.std.proofs.Common.{ℕ, ◌≡◌, ◌<◌, Bool, true, false, List, refl, ap, sym, ◌∙◌, subst, inl, inr, Option, Some, None, length}
+use Rattle.std.proofs.Common.{ℕ, ◌≡◌, Bool, true, false, List, ap, sym, ◌∙◌, subst, inl, inr, Option, Some, None}
 use Rattle.std.specs.Prelude.{is_some}
 use Rattle.vax_space.specs.declared.Area.{Area}
 use Rattle.vax_space.specs.Areas.{area_of}
@@ -13,11 +13,10 @@ use Rattle.vax_pager.specs.Meaning.{pages}
 use Rattle.vax_machine.proofs.Serving.{uneased}
 use Rattle.vax_machine.proofs.Touching.{fewer_pins, page_small}
 use Rattle.vax_machine.specs.Machine.{Applies, Evicts, Flushes, HasTried, IsSound, Keeping, Means, Serves, Tries, keeping, residence}
-use Rattle.vax_machine.specs.Residence.{Residence}
 use Rattle.vax_machine.specs.Touched.{PinsTouched}
 use Rattle.vax_machine.specs.declared.engine.Engine.{Engine}
 use Rattle.vax_machine.specs.declared.event.Applied.{Applied}
-use Rattle.vax_machine.specs.declared.event.Applied.TheVariants.{Absent, Evicted, Failed, Flushed, Nothing, Served}
+use Rattle.vax_machine.specs.declared.event.Applied.TheVariants.{Absent, Evicted, Served}
 use Rattle.vax_machine.specs.declared.event.Event.{Event}
 use Rattle.vax_machine.specs.declared.event.Event.TheVariants as event
 

@@ -7,8 +7,7 @@ use Rattle.vax_space.specs.Reference.{byte_after, page_of}
 use Rattle.vax_pager.specs.Meaning.{pages}
 use Rattle.vax_pager.specs.Paging.{Paging, StandsWith}
 use Rattle.vax_machine.specs.Console.{IsPageOf}
-use Rattle.vax_machine.proofs.Running.{on_ok}
-use Rattle.vax_machine.proofs.Showing.{all_from, all_shown, cell_shown, cell_there, from_next, has_as, none_from, none_shown, same_page, shown_next}
+use Rattle.vax_machine.proofs.Showing.{cell_shown, cell_there, from_next, has_as, none_from, none_shown, same_page, shown_next}
 use Rattle.vax_machine.proofs.console.show.Goals as goal
 
 pub loop-place-init : goal.loop-place-init

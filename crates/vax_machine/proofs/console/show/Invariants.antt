@@ -1,4 +1,4 @@
-use Rattle.std.proofs.Common.{◌≡◌, ℕ, ◌-◌, ◌<◌, List, length, take}
+use Rattle.std.proofs.Common.{◌≡◌, ◌-◌, ◌<◌, List, length, take}
 use Rattle.std.specs.Prelude.{IfSome, is_some}
 use Rattle.vax_space.specs.declared.Area.{Area}
 use Rattle.vax_space.specs.Areas.{area_of}

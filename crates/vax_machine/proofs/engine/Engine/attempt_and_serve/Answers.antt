@@ -1,4 +1,4 @@
-use Rattle.std.proofs.Common.{◌≡◌, ap, arith, refl, true}
+use Rattle.std.proofs.Common.{ap, arith, refl}
 use Rattle.std.specs.Prelude.{is_some}
 use Rattle.vax_machine.proofs.Between.{served_and_listed}
 use Rattle.vax_machine.proofs.Following.{attempts_follow}

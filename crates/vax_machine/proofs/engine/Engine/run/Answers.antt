@@ -10,7 +10,7 @@ use Rattle.vax_machine.specs.declared.event.Fault.{Fault}
 use Rattle.vax_machine.specs.declared.event.Fault.TheVariants.{Page, Write}
 use Rattle.vax_machine.proofs.Between.{finished}
 use Rattle.vax_machine.proofs.Outputs.{then_wrote, wrote_nothing}
-use Rattle.vax_machine.proofs.Running.{at_start, begins_bounded, finishes_cut, finishes_whole, goes_further, lost_turns, one_of_both, page_cause, pins_paged, stop_unlike, write_cause}
+use Rattle.vax_machine.proofs.Running.{at_start, begins_bounded, finishes_cut, finishes_whole, goes_further, lost_turns, page_cause, pins_paged, stop_unlike, write_cause}
 use Rattle.vax_machine.proofs.engine.Engine.run.Goals as goal
 
 pub loop-end-init : goal.loop-end-init

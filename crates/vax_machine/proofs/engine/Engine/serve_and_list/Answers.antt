@@ -1,6 +1,6 @@
-use Rattle.std.proofs.Common.{arith, refl}
+use Rattle.std.proofs.Common.{arith}
 use Rattle.vax_machine.proofs.Following.{serve_follows}
-use Rattle.vax_machine.proofs.Outputs.{then_counts, writes_nothing}
+use Rattle.vax_machine.proofs.Outputs.{writes_nothing}
 use Rattle.vax_machine.proofs.Passing.{never_else, served_by, turns_stay}
 use Rattle.vax_machine.specs.Machine.{keeping}
 use Rattle.vax_machine.proofs.engine.Engine.serve_and_list.Goals as goal
