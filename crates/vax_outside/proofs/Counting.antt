@@ -1,5 +1,5 @@
 -- Laws of counts of failures.
-use Rattle.std.proofs.Common.{ℕ, ◌≡◌, ◌≤◌, Bool, true, false, refl, subst, sym, arith}
+use Rattle.std.proofs.Common.{ℕ, ◌≡◌, ◌≤◌, Bool, true, false, subst, sym, arith}
 use Rattle.vax_outside.specs.Faults.{CountsFailure, Rose}
 
 -- where nothing changed and nothing failed
