@@ -8,3 +8,7 @@ pub record IsBetween (whole : List ℕ) (old now : Option Channels) (held rest :
   pub sent : List ℕ
   pub is : sent ++ (held ++ rest) ≡ whole
   pub wrote : Grew old now (only Out sent)
+
+-- whatever text is on its way when these lines are held back, is so when those are
+abbrev pub GoesOn : (old new : Option Channels) → (held left : List ℕ) → Type 0
+GoesOn old new held left = (whole rest : List ℕ) → (first : Option Channels) → IsBetween whole first old held rest → IsBetween whole first new left rest

@@ -3,12 +3,12 @@
 //! Nothing here takes memory: lines are held in a buffer of fixed size, and written when that is full.
 #![tactic(auto)]
 
-ghost use Rattle.std.specs.Prelude.{◌≡◌, ◌+◌, ◌<◌, ◌≤◌, ◌++◌, List, ℕ, Option, None, length, slice_index, OnErr, OnOk};
-ghost use Rattle.vax_outside.specs.Channels.{Channels, Grew, GrewByPrefix, only};
+ghost use Rattle.std.specs.Prelude.{◌≡◌, ◌+◌, ◌<◌, ◌≤◌, ◌++◌, None, length, slice_index, OnErr, OnOk};
+ghost use Rattle.vax_outside.specs.Channels.{Grew, GrewByPrefix, only};
 ghost use Rattle.vax_outside.specs.Faults.{Rose};
 ghost use Rattle.vax_disasm.specs.Listed.{listed};
 ghost use Rattle.vax_listing.specs.Listing.{area_lines, length_of, line, listing, text_of};
-ghost use Rattle.vax_listing.specs.Writing.{IsBetween};
+ghost use Rattle.vax_listing.specs.Writing.{GoesOn};
 
 use arrayvec::ArrayVec;
 use vax_disasm::decode;
@@ -54,7 +54,8 @@ fn push_byte(lines: &mut Lines, addr: u32, byte: u8)
 fn push_first(lines: &mut Lines, addr: u32, bytes: &[u8]) -> u8
     requires some { 0 < length bytes.now }
     requires room { length lines.old.items + 170 ≤ 4096 }
-    ensures line { lines.new.items ≡ lines.old.items ++ line addr (text_of (slice_index bytes.now 0) (listed bytes.now addr)) }
+    ensures line { lines.new.items ≡ lines.old.items
+        ++ line addr (text_of (slice_index bytes.now 0) (listed bytes.now addr)) }
     ensures count { result ≡ length_of (listed bytes.now addr) }
     ensures some { 0 < result }
 {
@@ -72,9 +73,11 @@ fn push_first(lines: &mut Lines, addr: u32, bytes: &[u8]) -> u8
 
 /// Writes the lines that are held, where there is no room for another.
 fn make_room<K: Sink>(lines: &mut Lines, sink: &mut K) -> Result<(), Failed>
-    ensures ok { (whole rest : List ℕ) → (first : Option Channels) → IsBetween whole first (K.contents sink.old) lines.old.items rest → OnOk result (IsBetween whole first (K.contents sink.new) lines.new.items rest) }
+    ensures ok { OnOk result
+        (GoesOn (K.contents sink.old) (K.contents sink.new) lines.old.items lines.new.items) }
     ensures room { OnOk result (length lines.new.items + 170 ≤ 4096) }
-    ensures prefix { OnErr result (GrewByPrefix (K.contents sink.old) (K.contents sink.new) (only Chan.Out lines.old.items)) }
+    ensures prefix { OnErr result (GrewByPrefix (K.contents sink.old) (K.contents sink.new)
+        (only Chan.Out lines.old.items)) }
     ensures later { K.faults sink.old ≤ K.faults sink.new }
     ensures cause { OnErr result (Rose (K.faults sink.old) (K.faults sink.new)) }
     ensures quiet { OnOk result (K.faults sink.new ≡ K.faults sink.old) }
@@ -89,8 +92,10 @@ fn make_room<K: Sink>(lines: &mut Lines, sink: &mut K) -> Result<(), Failed>
 
 /// Writes the lines of an area.
 fn write_area<K: Sink>(area: &Area, sink: &mut K) -> Result<(), Failed>
-    ensures ok { OnOk result (Grew (K.contents sink.old) (K.contents sink.new) (only Chan.Out (area_lines area.now))) }
-    ensures prefix { OnErr result (GrewByPrefix (K.contents sink.old) (K.contents sink.new) (only Chan.Out (area_lines area.now))) }
+    ensures ok { OnOk result (Grew (K.contents sink.old) (K.contents sink.new)
+        (only Chan.Out (area_lines area.now))) }
+    ensures prefix { OnErr result (GrewByPrefix (K.contents sink.old) (K.contents sink.new)
+        (only Chan.Out (area_lines area.now))) }
     ensures later { K.faults sink.old ≤ K.faults sink.new }
     ensures cause { OnErr result (Rose (K.faults sink.old) (K.faults sink.new)) }
     ensures quiet { OnOk result (K.faults sink.new ≡ K.faults sink.old) }
@@ -112,8 +117,10 @@ fn write_area<K: Sink>(area: &Area, sink: &mut K) -> Result<(), Failed>
 /// digits. After a failure a prefix of the lines was written.
 #[tactic(auto, unfolding(crate::specs::Listing::listing))]
 pub fn write_listing<K: Sink>(areas: &[Area], sink: &mut K) -> Result<(), Failed>
-    ensures ok { OnOk result (Grew (K.contents sink.old) (K.contents sink.new) (only Chan.Out (listing areas.now))) }
-    ensures prefix { OnErr result (GrewByPrefix (K.contents sink.old) (K.contents sink.new) (only Chan.Out (listing areas.now))) }
+    ensures ok { OnOk result (Grew (K.contents sink.old) (K.contents sink.new)
+        (only Chan.Out (listing areas.now))) }
+    ensures prefix { OnErr result (GrewByPrefix (K.contents sink.old) (K.contents sink.new)
+        (only Chan.Out (listing areas.now))) }
     ensures later { K.faults sink.old ≤ K.faults sink.new }
     ensures cause { OnErr result (Rose (K.faults sink.old) (K.faults sink.new)) }
     ensures quiet { OnOk result (K.faults sink.new ≡ K.faults sink.old) }

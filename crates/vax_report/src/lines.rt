@@ -98,7 +98,8 @@ fn push_spaced(text: &mut Text, n: u32)
 fn push_numbers(text: &mut Text, label: &[u8], numbers: &[u32])
     requires { length text.old + length label.now + 9 * length numbers.now + 1 ≤ 512 }
     ensures exact { text.new ≡ text.old ++ numbers_line label.now numbers.now }
-    ensures len { length text.new ≡ length text.old + length label.now + 9 * length numbers.now + 1 }
+    ensures len { length text.new
+        ≡ length text.old + length label.now + 9 * length numbers.now + 1 }
 {
     text.push(label);
     for n in numbers {

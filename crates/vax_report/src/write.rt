@@ -23,8 +23,10 @@ pub fn write_report<K: Sink>(
     dumps: &[Dump],
     sink: &mut K,
 ) -> Result<(), Failed>
-    ensures ok { OnOk result (Grew (K.contents sink.old) (K.contents sink.new) (only Chan.Report (report core.now last steps units taken dumps.now))) }
-    ensures prefix { OnErr result (GrewByPrefix (K.contents sink.old) (K.contents sink.new) (only Chan.Report (report core.now last steps units taken dumps.now))) }
+    ensures ok { OnOk result (Grew (K.contents sink.old) (K.contents sink.new)
+        (only Chan.Report (report core.now last steps units taken dumps.now))) }
+    ensures prefix { OnErr result (GrewByPrefix (K.contents sink.old) (K.contents sink.new)
+        (only Chan.Report (report core.now last steps units taken dumps.now))) }
     ensures later { K.faults sink.old ≤ K.faults sink.new }
     ensures cause { OnErr result (Rose (K.faults sink.old) (K.faults sink.new)) }
     ensures quiet { OnOk result (K.faults sink.new ≡ K.faults sink.old) }
@@ -52,8 +54,10 @@ fn write_head<K: Sink>(
     taken: u32,
     sink: &mut K,
 ) -> Result<(), Failed>
-    ensures ok { OnOk result (Grew (K.contents sink.old) (K.contents sink.new) (only Chan.Report (head core.now last steps units taken))) }
-    ensures prefix { OnErr result (GrewByPrefix (K.contents sink.old) (K.contents sink.new) (only Chan.Report (head core.now last steps units taken))) }
+    ensures ok { OnOk result (Grew (K.contents sink.old) (K.contents sink.new)
+        (only Chan.Report (head core.now last steps units taken))) }
+    ensures prefix { OnErr result (GrewByPrefix (K.contents sink.old) (K.contents sink.new)
+        (only Chan.Report (head core.now last steps units taken))) }
     ensures later { K.faults sink.old ≤ K.faults sink.new }
     ensures cause { OnErr result (Rose (K.faults sink.old) (K.faults sink.new)) }
     ensures quiet { OnOk result (K.faults sink.new ≡ K.faults sink.old) }
@@ -64,8 +68,10 @@ fn write_head<K: Sink>(
 }
 
 fn write_dumps<K: Sink>(dumps: &[Dump], sink: &mut K) -> Result<(), Failed>
-    ensures ok { OnOk result (Grew (K.contents sink.old) (K.contents sink.new) (only Chan.Report (flat_map dump_text dumps.now))) }
-    ensures prefix { OnErr result (GrewByPrefix (K.contents sink.old) (K.contents sink.new) (only Chan.Report (flat_map dump_text dumps.now))) }
+    ensures ok { OnOk result (Grew (K.contents sink.old) (K.contents sink.new)
+        (only Chan.Report (flat_map dump_text dumps.now))) }
+    ensures prefix { OnErr result (GrewByPrefix (K.contents sink.old) (K.contents sink.new)
+        (only Chan.Report (flat_map dump_text dumps.now))) }
     ensures later { K.faults sink.old ≤ K.faults sink.new }
     ensures cause { OnErr result (Rose (K.faults sink.old) (K.faults sink.new)) }
     ensures quiet { OnOk result (K.faults sink.new ≡ K.faults sink.old) }
@@ -78,8 +84,10 @@ fn write_dumps<K: Sink>(dumps: &[Dump], sink: &mut K) -> Result<(), Failed>
 
 /// Writes a dump, 16 bytes a line.
 fn write_dump<K: Sink>(dump: &Dump, sink: &mut K) -> Result<(), Failed>
-    ensures ok { OnOk result (Grew (K.contents sink.old) (K.contents sink.new) (only Chan.Report (dump_text dump.now))) }
-    ensures prefix { OnErr result (GrewByPrefix (K.contents sink.old) (K.contents sink.new) (only Chan.Report (dump_text dump.now))) }
+    ensures ok { OnOk result (Grew (K.contents sink.old) (K.contents sink.new)
+        (only Chan.Report (dump_text dump.now))) }
+    ensures prefix { OnErr result (GrewByPrefix (K.contents sink.old) (K.contents sink.new)
+        (only Chan.Report (dump_text dump.now))) }
     ensures later { K.faults sink.old ≤ K.faults sink.new }
     ensures cause { OnErr result (Rose (K.faults sink.old) (K.faults sink.new)) }
     ensures quiet { OnOk result (K.faults sink.new ≡ K.faults sink.old) }
@@ -94,8 +102,10 @@ fn write_dump<K: Sink>(dump: &Dump, sink: &mut K) -> Result<(), Failed>
 /// Writes the line of the 16 bytes from a place of a dump on, or of those that are left.
 fn write_dump_line<K: Sink>(dump: &Dump, start: usize, sink: &mut K) -> Result<(), Failed>
     requires { start < length dump.now.bytes }
-    ensures ok { OnOk result (Grew (K.contents sink.old) (K.contents sink.new) (only Chan.Report (dump_line dump.now start))) }
-    ensures prefix { OnErr result (GrewByPrefix (K.contents sink.old) (K.contents sink.new) (only Chan.Report (dump_line dump.now start))) }
+    ensures ok { OnOk result (Grew (K.contents sink.old) (K.contents sink.new)
+        (only Chan.Report (dump_line dump.now start))) }
+    ensures prefix { OnErr result (GrewByPrefix (K.contents sink.old) (K.contents sink.new)
+        (only Chan.Report (dump_line dump.now start))) }
     ensures later { K.faults sink.old ≤ K.faults sink.new }
     ensures cause { OnErr result (Rose (K.faults sink.old) (K.faults sink.new)) }
     ensures quiet { OnOk result (K.faults sink.new ≡ K.faults sink.old) }

@@ -130,7 +130,8 @@ pub fn vax_main<S: Files, K: Sink, F: PageFile>(
     ensures large { (name : List ℕ) → result ≡ Status.Large name →
         Reads (S.contents files.old) (reads (texts words.now)) (Err (name, files_fault.Large)) }
     ensures read { result ≡ Status.ReadFault → Rose (S.faults files.old) (S.faults files.new) }
-    ensures page_fault { result ≡ Status.PageFault → Rose (F.faults pages.old) (F.faults pages.new) }
+    ensures page_fault { result ≡ Status.PageFault →
+        Rose (F.faults pages.old) (F.faults pages.new) }
     ensures page_failed { Admits (F.faults pages.old) (F.faults pages.new) Status.PageFault result }
     ensures write { result ≡ Status.WriteFault → Rose (K.faults sink.old) (K.faults sink.new) }
     ensures read_failed { Admits (S.faults files.old) (S.faults files.new) Status.ReadFault result }
