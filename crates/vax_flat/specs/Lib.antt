@@ -31,6 +31,4 @@ pub mod Step
 pub mod Parts
 pub mod Bound
 pub mod StringAgree
-pub mod Laws
-pub mod StringLaws
 pub mod Start

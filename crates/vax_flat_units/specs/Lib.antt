@@ -1,4 +1,3 @@
 pub mod Units
 pub mod Places
 pub mod Wholes
-pub mod Laws
