@@ -123,7 +123,9 @@ impl Scope {
         requires { All (IsTokenOf line.now.value.items) tokens.now }
         ensures expression { let symbols = symbols_of line.now.value.items tokens.now in
             IfOk result (λ e. written_of e ≡ record {
-            symbols = symbols; names = (bound here symbols (scope_of self.old)).names }) }
+              symbols = symbols;
+              names = (bound here symbols (scope_of self.old)).names;
+            }) }
         ensures scope { OnOk result (scope_of self.new
             ≡ (bound here (symbols_of line.now.value.items tokens.now) (scope_of self.old)).scope) }
         // Its names are those that are terms of the expression that the tokens spell.

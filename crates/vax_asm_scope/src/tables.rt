@@ -327,9 +327,10 @@ impl Tables {
         expression: Expression,
     ) -> Result<(), NoMemory>
         requires { Means (length (scope_in self.old).sources) (Worked (written_of expression)) }
-        ensures { OnOk result (scope_in self.new ≡ record (scope_in self.old)
-            { sources = with_source definition (kept (written_of expression) value)
-            (scope_in self.old).sources }) }
+        ensures { OnOk result (scope_in self.new ≡ record (scope_in self.old) {
+          sources = with_source definition (kept (written_of expression) value)
+              (scope_in self.old).sources;
+        }) }
     {
         match value {
             Ok(value) => self.definitions.give(alloc, definition, value)?,

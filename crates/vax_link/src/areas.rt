@@ -35,7 +35,8 @@ fn bytes_of(
     filled: &[Vec<u8>],
     name: &[u8],
 ) -> Result<Vec<u8>, AllocError>
-    ensures { IfOk result (λ bytes. bytes.items ≡ spec.bytes_of (sections_in layout.now.pieces.items) (bytes_in filled.now) name.now) }
+    ensures { IfOk result (λ bytes. bytes.items
+        ≡ spec.bytes_of (sections_in layout.now.pieces.items) (bytes_in filled.now) name.now) }
 {
     let align = usize::from(align_of(&layout.pieces, name));
     let mut joined = Vec::new(alloc);
@@ -71,7 +72,9 @@ fn area_of(
 ) -> Result<Option<Area>, AllocError>
     requires filling { IsFilling (sections_in layout.now.pieces.items) (bytes_in filled.now) }
     requires small { lay.pages_of (sections_in layout.now.pieces.items) name.now ≤ 0x400800 }
-    ensures { IfOk result (λ area. area ≡ spec.area_unless_empty layout.now.base (sections_in layout.now.pieces.items) (bytes_in filled.now) (name.now, first)) }
+    ensures { IfOk result (λ area. area
+        ≡ spec.area_unless_empty layout.now.base (sections_in layout.now.pieces.items)
+        (bytes_in filled.now) (name.now, first)) }
 {
     let bytes = bytes_of(alloc, layout, filled, name)?;
     if bytes.is_empty() {
@@ -106,7 +109,10 @@ fn push_areas(
     control: bool,
 ) -> Result<(), AllocError>
     requires { IsFilling (sections_in layout.now.pieces.items) (bytes_in filled.now) }
-    ensures { let pieces = sections_in layout.now.pieces.items in OnOk result (areas.new.items ≡ areas.old.items ++ filter_map (spec.area_unless_empty layout.now.base pieces (bytes_in filled.now)) (filter (spec.is_chosen layout.now.base control) (lay.placed_names layout.now.base pieces))) }
+    ensures { let pieces = sections_in layout.now.pieces.items in OnOk result (areas.new.items
+        ≡ areas.old.items ++ filter_map (spec.area_unless_empty layout.now.base pieces
+        (bytes_in filled.now)) (filter (spec.is_chosen layout.now.base control)
+        (lay.placed_names layout.now.base pieces))) }
 {
     for (number, name) in layout.names.iter().enumerate() {
         if is_control_block(layout.base, name) == control {
@@ -126,7 +132,9 @@ pub(crate) fn areas_of(
     filled: &[Vec<u8>],
 ) -> Result<Vec<Area>, AllocError>
     requires { IsFilling (sections_in layout.now.pieces.items) (bytes_in filled.now) }
-    ensures { IfOk result (λ areas. areas.items ≡ spec.areas_of layout.now.base (sections_in layout.now.pieces.items) (bytes_in filled.now)) }
+    ensures { IfOk result (λ areas. areas.items
+        ≡ spec.areas_of layout.now.base (sections_in layout.now.pieces.items)
+        (bytes_in filled.now)) }
 {
     let mut areas = Vec::new(alloc);
     push_areas(alloc, &mut areas, layout, filled, true)?;

@@ -77,7 +77,9 @@ impl<'a> Values<'a> {
         layout: Layout<'a>,
         names: &Names<'a>,
     ) -> Result<Values<'a>, AllocError>
-        ensures { let modules = names.now.modules.now in (region : Base) → IsLayout layout.entry region modules → IsTable names.now (entries_from 0 modules) → IfOk result (λ values. IsValues values region modules) }
+        ensures { let modules = names.now.modules.now in (region : Base) →
+            IsLayout layout.entry region modules → IsTable names.now (entries_from 0 modules) →
+            IfOk result (λ values. IsValues values region modules) }
     {
         let mut externals = Vec::new(alloc);
         for module in names.modules {
@@ -88,7 +90,8 @@ impl<'a> Values<'a> {
 
     /// The low 32 bits of what a value of a module stands for.
     pub(crate) fn value_of(&self, owner: u32, value: Value) -> u32
-        ensures { (region : Base) (modules : List Module) → IsValues self.now region modules → result ≡ spec.value_of region modules owner value }
+        ensures { (region : Base) (modules : List Module) →
+            IsValues self.now region modules → result ≡ spec.value_of region modules owner value }
     {
         match value {
             Value::Absolute(n) => low_longword(n),
@@ -103,7 +106,8 @@ impl<'a> Values<'a> {
 
     /// The value of an external name of a module.
     fn external_value(&self, owner: u32, index: u32) -> u32
-        ensures { (region : Base) (modules : List Module) → IsValues self.now region modules → result ≡ spec.value_of_external region modules owner index }
+        ensures { (region : Base) (modules : List Module) → IsValues self.now region modules →
+            result ≡ spec.value_of_external region modules owner index }
     {
         match self.externals.get(owner as usize) {
             None => 0,
@@ -116,7 +120,8 @@ impl<'a> Values<'a> {
 
     /// The address of a field of a module.
     fn field_address(&self, owner: u32, reloc: Reloc) -> u32
-        ensures { (region : Base) (modules : List Module) → IsValues self.now region modules → result ≡ spec.field_address region modules owner reloc }
+        ensures { (region : Base) (modules : List Module) → IsValues self.now region modules →
+            result ≡ spec.field_address region modules owner reloc }
     {
         section_address(&self.layout, owner, reloc.section).wrapping_add(reloc.offset)
     }
@@ -124,7 +129,8 @@ impl<'a> Values<'a> {
     /// The lowest address of a field out of reach.
     pub(crate) fn unreached(&self, modules: &[Module]) -> Option<u32>
         requires { length modules.now ≤ 8 }
-        ensures { (region : Base) → IsValues self.now region modules.now → result ≡ spec.unreached_from region modules.now 0 None modules.now }
+        ensures { (region : Base) → IsValues self.now region modules.now →
+            result ≡ spec.unreached_from region modules.now 0 None modules.now }
     {
         let mut found = None;
         for (owner, module) in modules.iter().enumerate() {
@@ -135,7 +141,8 @@ impl<'a> Values<'a> {
 
     /// The lowest of an address, if there is one, and of those of a module's fields out of reach.
     fn unreached_of(&self, owner: u32, relocs: &[Reloc], found: Option<u32>) -> Option<u32>
-        ensures { (region : Base) (modules : List Module) → IsValues self.now region modules → result ≡ fold (spec.with_reach region modules owner) found relocs.now }
+        ensures { (region : Base) (modules : List Module) → IsValues self.now region modules →
+            result ≡ fold (spec.with_reach region modules owner) found relocs.now }
     {
         let mut lowest = found;
         for reloc in relocs {
@@ -156,7 +163,9 @@ impl<'a> Values<'a> {
     ) -> Result<Vec<Vec<u8>>, AllocError>
         requires few { length modules.now ≤ 8 }
         requires formed { All Formed modules.now }
-        ensures { (region : Base) → IsValues self.now region modules.now → IfOk result (λ filled. bytes_in filled.items ≡ spec.filled_from region modules.now 0 modules.now) }
+        ensures { (region : Base) → IsValues self.now region modules.now →
+            IfOk result (λ filled. bytes_in filled.items
+            ≡ spec.filled_from region modules.now 0 modules.now) }
     {
         let mut filled = Vec::new(alloc);
         for (owner, module) in modules.iter().enumerate() {
@@ -182,7 +191,10 @@ impl<'a> Values<'a> {
         filled: &mut Vec<Vec<u8>>,
     ) -> Result<(), AllocError>
         requires { All (IsFieldOf sections.now) relocs.now }
-        ensures { (region : Base) (modules : List Module) → IsValues self.now region modules → OnOk result (bytes_in filled.new.items ≡ bytes_in filled.old.items ++ spec.filled_sections_from region modules owner relocs.now 0 (map (λ s. s.bytes) sections.now)) }
+        ensures { (region : Base) (modules : List Module) → IsValues self.now region modules →
+            OnOk result (bytes_in filled.new.items ≡ bytes_in filled.old.items
+            ++ spec.filled_sections_from region modules owner relocs.now 0
+            (map (λ s. s.bytes) sections.now)) }
     {
         for (number, section) in sections.iter().enumerate() {
             let bytes = section.bytes.as_slice();
@@ -201,7 +213,9 @@ impl<'a> Values<'a> {
         section: &[u8],
     ) -> Result<Vec<u8>, AllocError>
         requires { All (spec.IsWithin number section.now) relocs.now }
-        ensures { (region : Base) (modules : List Module) → IsValues self.now region modules → IfOk result (λ bytes. bytes.items ≡ fold (spec.with_reloc region modules owner number) section.now relocs.now) }
+        ensures { (region : Base) (modules : List Module) → IsValues self.now region modules →
+            IfOk result (λ bytes. bytes.items
+            ≡ fold (spec.with_reloc region modules owner number) section.now relocs.now) }
     {
         let mut bytes = Vec::from_slice(alloc, section)?;
         for reloc in relocs {
@@ -241,7 +255,8 @@ fn lower(found: Option<u32>, address: u32) -> Option<u32>
 
 /// Where a section of a module lies.
 fn section_address(layout: &Layout, owner: u32, section: u32) -> u32
-    ensures { (region : Base) (modules : List Module) → IsLayout layout.now region modules → result ≡ spec.section_address region modules owner section }
+    ensures { (region : Base) (modules : List Module) → IsLayout layout.now region modules →
+        result ≡ spec.section_address region modules owner section }
 {
     match layout.firsts.get(owner as usize) {
         None => 0,
@@ -257,7 +272,8 @@ fn section_address(layout: &Layout, owner: u32, section: u32) -> u32
 
 /// The value of a number, or of a place in a section.
 fn known_value(layout: &Layout, owner: u32, value: Value) -> u32
-    ensures { (region : Base) (modules : List Module) → IsLayout layout.now region modules → result ≡ spec.known_value region modules owner value }
+    ensures { (region : Base) (modules : List Module) →
+        IsLayout layout.now region modules → result ≡ spec.known_value region modules owner value }
 {
     match value {
         Value::Absolute(n) => low_longword(n),
@@ -273,7 +289,9 @@ fn known_value(layout: &Layout, owner: u32, value: Value) -> u32
 
 /// The value of a name.
 fn name_value<'a>(layout: &Layout<'a>, names: &Names<'a>, name: &'a [u8]) -> u32
-    ensures { let modules = names.now.modules.now in (region : Base) → IsLayout layout.now region modules → IsTable names.now (entries_from 0 modules) → result ≡ spec.name_value region modules name.entry.now }
+    ensures { let modules = names.now.modules.now in (region : Base) →
+        IsLayout layout.now region modules → IsTable names.now (entries_from 0 modules) →
+        result ≡ spec.name_value region modules name.entry.now }
 {
     match names.chase(name) {
         Chased::Ends(owner, value, offset) => {
@@ -291,7 +309,10 @@ fn values_of_names<'a>(
     names: &Names<'a>,
     externals: &'a [Bytes],
 ) -> Result<Vec<u32>, AllocError>
-    ensures { let modules = names.now.modules.now in (region : Base) → IsLayout layout.now region modules → IsTable names.now (entries_from 0 modules) → IfOk result (λ values. values.items ≡ map (spec.name_value region modules) externals.entry.now) }
+    ensures { let modules = names.now.modules.now in (region : Base) →
+        IsLayout layout.now region modules → IsTable names.now (entries_from 0 modules) →
+        IfOk result (λ values. values.items
+        ≡ map (spec.name_value region modules) externals.entry.now) }
 {
     let mut values = Vec::new(alloc);
     for name in externals {

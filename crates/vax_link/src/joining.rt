@@ -27,7 +27,8 @@ fn copy_of(alloc: Global, name: &[u8]) -> Result<Bytes, AllocError>
 fn transfer_of(values: &Values, modules: &[Module]) -> Option<u32>
     requires few { length modules.now ≤ 8 }
     requires formed { All Formed modules.now }
-    ensures { (region : Base) → IsValues values.now region modules.now → result ≡ transfer_from region modules.now 0 modules.now }
+    ensures { (region : Base) → IsValues values.now region modules.now →
+        result ≡ transfer_from region modules.now 0 modules.now }
 {
     for (owner, module) in modules.iter().enumerate() {
         if let Some(symbol) = &module.transfer {

@@ -61,7 +61,9 @@ fn is_listed(names: &[&[u8]], name: &[u8]) -> bool
 
 /// The names of pieces, each where it first appears; none where there are more than 64.
 fn names_of<'a>(alloc: Global, pieces: &[&'a Section]) -> Result<Option<Vec<&'a [u8]>>, AllocError>
-    ensures named { IfOk result (λ found. MatchOption found (64 < length (spec.names_of (sections_in pieces.now))) (λ names. names_in names.items ≡ spec.names_of (sections_in pieces.now))) }
+    ensures named { IfOk result
+        (λ found. MatchOption found (64 < length (spec.names_of (sections_in pieces.now)))
+        (λ names. names_in names.items ≡ spec.names_of (sections_in pieces.now))) }
     ensures few { IfOk result (λ found. IfSome found (λ names. length names.items ≤ 64)) }
 {
     let mut names = Vec::new(alloc);
@@ -105,8 +107,10 @@ fn aligned(align: u16, place: u32) -> u32
 /// Where a section ends behind these pieces; none where that is past the most bytes of a section.
 fn end_of(pieces: &[&Section], name: &[u8], align: u16) -> Option<u32>
     requires { 1 ≤ align }
-    ensures none { IfNone result (0x1000000 < spec.end_behind name.now align 0 (sections_in pieces.now)) }
-    ensures some { IfSome result (λ end. end ≡ spec.end_behind name.now align 0 (sections_in pieces.now)) }
+    ensures none { IfNone result
+        (0x1000000 < spec.end_behind name.now align 0 (sections_in pieces.now)) }
+    ensures some { IfSome result (λ end. end
+        ≡ spec.end_behind name.now align 0 (sections_in pieces.now)) }
     ensures few { IfSome result (λ end. end ≤ 0x1000000) }
 {
     let mut end = 0;
@@ -150,9 +154,13 @@ fn first_pages<'a>(
     pieces: &[&'a Section],
     names: &[&'a [u8]],
 ) -> Result<Option<Vec<u32>>, AllocError>
-    ensures room { IfOk result (λ found. MatchOption found (spec.has_no_room base (sections_in pieces.now) (names_in names.now) ≡ true) (λ pages. spec.has_no_room base (sections_in pieces.now) (names_in names.now) ≡ false)) }
-    ensures pages { IfOk result (λ found. IfSome found (λ pages. pages.items ≡ spec.pages_from base (sections_in pieces.now) (spec.origin base) (names_in names.now))) }
-    ensures low { IfOk result (λ found. IfSome found (λ pages. All (λ page. page ≤ 0x400800) pages.items)) }
+    ensures room { IfOk result (λ found. MatchOption found
+        (spec.has_no_room base (sections_in pieces.now) (names_in names.now) ≡ true)
+        (λ pages. spec.has_no_room base (sections_in pieces.now) (names_in names.now) ≡ false)) }
+    ensures pages { IfOk result (λ found. IfSome found (λ pages. pages.items
+        ≡ spec.pages_from base (sections_in pieces.now) (spec.origin base) (names_in names.now))) }
+    ensures low { IfOk result
+        (λ found. IfSome found (λ pages. All (λ page. page ≤ 0x400800) pages.items)) }
 {
     let end = base.end_page();
     let mut page = origin(base);
@@ -192,7 +200,8 @@ fn place_of(names: &[&[u8]], name: &[u8]) -> usize
 /// The page at which a section begins.
 fn page_of(names: &[&[u8]], pages: &[u32], name: &[u8]) -> u32
     requires { All (λ page. page ≤ 0x400800) pages.now }
-    ensures page { result ≡ slice_index pages.now (position_or_len (λ n. bytes_eq n name.now) (names_in names.now)) }
+    ensures page { result
+        ≡ slice_index pages.now (position_or_len (λ n. bytes_eq n name.now) (names_in names.now)) }
     ensures low { result ≤ 0x400800 }
 {
     match pages.get(place_of(names, name)) {
@@ -203,7 +212,9 @@ fn page_of(names: &[&[u8]], pages: &[u32], name: &[u8]) -> u32
 
 /// Where a piece begins that stands behind these in its section, if the section isn't too long.
 fn offset_behind(pieces: &[&Section], before: &[&Section], name: &[u8]) -> u32
-    ensures offset { let align = spec.align_of name.now (sections_in pieces.now) in spec.end_behind name.now align 0 (sections_in before.now) ≤ 0x1000000 → result ≡ spec.offset_behind (sections_in pieces.now) (sections_in before.now) name.now }
+    ensures offset { let align = spec.align_of name.now (sections_in pieces.now) in
+        spec.end_behind name.now align 0 (sections_in before.now) ≤ 0x1000000 →
+        result ≡ spec.offset_behind (sections_in pieces.now) (sections_in before.now) name.now }
     ensures small { result ≤ 0x1010000 }
 {
     let align = align_of(pieces, name);
@@ -221,8 +232,11 @@ fn addresses_of(
     pages: &[u32],
 ) -> Result<Vec<u32>, AllocError>
     requires { All (λ page. page ≤ 0x400800) pages.now }
-    ensures { (region : Base) → names_in names.now ≡ spec.names_of (sections_in pieces.now) → pages.now ≡ spec.pages_of_names region (sections_in pieces.now) → spec.is_too_large region (sections_in pieces.now) ≡ false
-        → IfOk result (λ addresses. addresses.items ≡ spec.addresses region (sections_in pieces.now)) }
+    ensures { (region : Base) → names_in names.now ≡ spec.names_of (sections_in pieces.now) →
+        pages.now ≡ spec.pages_of_names region (sections_in pieces.now) →
+        spec.is_too_large region (sections_in pieces.now) ≡ false →
+        IfOk result (λ addresses. addresses.items
+        ≡ spec.addresses region (sections_in pieces.now)) }
 {
     let mut addresses = Vec::new(alloc);
     for (place, piece) in pieces.iter().enumerate() {
@@ -239,7 +253,9 @@ pub(crate) fn lay_out<'a>(
     base: Base,
     modules: &'a [Module],
 ) -> Result<Option<Layout<'a>>, AllocError>
-    ensures { IfOk result (λ found. MatchOption found (spec.is_too_large base (spec.pieces_of modules.entry.now) ≡ true) (λ layout. IsLayout layout base modules.entry.now)) }
+    ensures { IfOk result (λ found. MatchOption found
+        (spec.is_too_large base (spec.pieces_of modules.entry.now) ≡ true)
+        (λ layout. IsLayout layout base modules.entry.now)) }
 {
     let (pieces, firsts) = pieces_of(alloc, modules)?;
     let Some(names) = names_of(alloc, &pieces)? else {

@@ -69,7 +69,8 @@ impl<'a> Names<'a> {
 
     /// Whether a name is defined.
     fn has(&self, name: &[u8]) -> bool
-        ensures { (before : Entries) → IsTable self.now before → result ≡ spec.is_defined name.now before }
+        ensures { (before : Entries) →
+            IsTable self.now before → result ≡ spec.is_defined name.now before }
     {
         self.defined.get(name).is_some()
     }
@@ -94,7 +95,9 @@ impl<'a> Names<'a> {
         owner: u32,
         globals: &'a [Symbol],
     ) -> Result<Option<&'a [u8]>, AllocError>
-        ensures found { (entries : Entries) → IsTable self.old entries → IfOk result (λ found. DefinesAll self.new entries (spec.entries_of owner globals.entry.now) (option_copied found)) }
+        ensures found { (entries : Entries) → IsTable self.old entries →
+            IfOk result (λ found. DefinesAll self.new entries
+            (spec.entries_of owner globals.entry.now) (option_copied found)) }
         ensures modules { OnOk result (self.new.modules.now ≡ self.old.modules.now) }
     {
         for symbol in globals {
@@ -110,7 +113,8 @@ impl<'a> Names<'a> {
 
     /// Where a name leads.
     pub(crate) fn chase(&self, name: &'a [u8]) -> Chased
-        ensures { (entries : Entries) → IsTable self.now entries → result ≡ spec.chase self.now.modules.now entries name.entry.now }
+        ensures { (entries : Entries) → IsTable self.now entries →
+            result ≡ spec.chase self.now.modules.now entries name.entry.now }
     {
         let mut name = name;
         let mut offset = 0u32;
@@ -134,14 +138,17 @@ impl<'a> Names<'a> {
 
     /// Whether no module defines a name, or its definition comes back to a name that it has already met.
     fn is_undefined(&self, name: &'a [u8]) -> bool
-        ensures { (entries : Entries) → IsTable self.now entries → result ≡ spec.is_undefined self.now.modules.now entries name.entry.now }
+        ensures { (entries : Entries) → IsTable self.now entries →
+            result ≡ spec.is_undefined self.now.modules.now entries name.entry.now }
     {
         !self.has(name) || matches!(self.chase(name), Chased::Circles)
     }
 
     /// The first external name at fault.
     pub(crate) fn undefined(&self) -> Option<&'a [u8]>
-        ensures { (entries : Entries) → IsTable self.now entries → option_copied result ≡ find (spec.is_undefined self.now.modules.now entries) (spec.externals self.now.modules.now) }
+        ensures { (entries : Entries) → IsTable self.now entries →
+            option_copied result ≡ find (spec.is_undefined self.now.modules.now entries)
+            (spec.externals self.now.modules.now) }
     {
         for module in self.modules {
             match self.undefined_of(module.externals.as_slice()) {
@@ -154,7 +161,9 @@ impl<'a> Names<'a> {
 
     /// The first of these external names that is at fault.
     fn undefined_of(&self, externals: &'a [Bytes]) -> Option<&'a [u8]>
-        ensures { (entries : Entries) → IsTable self.now entries → option_copied result ≡ find (spec.is_undefined self.now.modules.now entries) externals.entry.now }
+        ensures { (entries : Entries) → IsTable self.now entries →
+            option_copied result ≡ find (spec.is_undefined self.now.modules.now entries)
+            externals.entry.now }
     {
         for name in externals {
             if self.is_undefined(name.as_slice()) {
