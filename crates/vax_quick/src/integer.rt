@@ -328,7 +328,7 @@ fn extended_multiply<P: Port>(
 /// The instruction by its shape. EDIV and INDEX are left out.
 #[inline(never)]
 #[tactic(auto, unfolding(vax_flat::specs::Integer::performed))]
-pub(crate) fn perform<P: Port>(
+fn perform_any<P: Port>(
     core: &mut Core,
     term: &Term,
     port: &mut P,
@@ -361,5 +361,83 @@ pub(crate) fn perform<P: Port>(
         Integer::ExtendedMultiply => extended_multiply(core, term, port, window),
         Integer::ExtendedDivide => None,
         Integer::Index => None,
+    }
+}
+
+/// The instruction by its shape. The commonest have arms of their own, each with its operation and sizes as constants.
+#[inline(never)]
+#[tactic(auto, unfolding(vax_flat::specs::Integer::performed))]
+pub(crate) fn perform<P: Port>(
+    core: &mut Core,
+    term: &Term,
+    port: &mut P,
+    window: Window,
+    instruction: Integer,
+) -> Option<()>
+    requires window { IsSeen (P.view port.old) core.old window }
+    ensures exact { Makes (integer.performed instruction) result
+        (seen P.view core.old term.now port.old) (seen P.view core.new term.now port.new) }
+    ensures leaves { Leaves P.since core.old port.old core.new port.new }
+{
+    match instruction {
+        Integer::Unary {
+            operation: Unary::Move,
+            from: Size::L,
+            to: Size::L,
+        } => unary(core, term, port, window, Unary::Move, Size::L, Size::L),
+        Integer::Unary {
+            operation: Unary::Move,
+            from: Size::B,
+            to: Size::B,
+        } => unary(core, term, port, window, Unary::Move, Size::B, Size::B),
+        Integer::Unary {
+            operation: Unary::ZeroExtend,
+            from: Size::B,
+            to: Size::L,
+        } => unary(
+            core,
+            term,
+            port,
+            window,
+            Unary::ZeroExtend,
+            Size::B,
+            Size::L,
+        ),
+        Integer::Two {
+            operation: Binary::Add,
+            size: Narrow::L,
+        } => two(core, term, port, window, Binary::Add, Narrow::L),
+        Integer::Two {
+            operation: Binary::Subtract,
+            size: Narrow::L,
+        } => two(core, term, port, window, Binary::Subtract, Narrow::L),
+        Integer::Two {
+            operation: Binary::BitClear,
+            size: Narrow::L,
+        } => two(core, term, port, window, Binary::BitClear, Narrow::L),
+        Integer::Three {
+            operation: Binary::Add,
+            size: Narrow::L,
+        } => three(core, term, port, window, Binary::Add, Narrow::L),
+        Integer::Three {
+            operation: Binary::Subtract,
+            size: Narrow::L,
+        } => three(core, term, port, window, Binary::Subtract, Narrow::L),
+        Integer::Three {
+            operation: Binary::BitClear,
+            size: Narrow::L,
+        } => three(core, term, port, window, Binary::BitClear, Narrow::L),
+        Integer::ByOne {
+            operation: Binary::Add,
+            size: Narrow::L,
+        } => by_one(core, term, port, window, Binary::Add, Narrow::L),
+        Integer::ByOne {
+            operation: Binary::Subtract,
+            size: Narrow::L,
+        } => by_one(core, term, port, window, Binary::Subtract, Narrow::L),
+        Integer::Clear(Size::L) => clear(core, term, port, window, Size::L),
+        Integer::Test(Narrow::L) => test(core, term, port, window, Size::L),
+        Integer::Compare(Narrow::L) => compare(core, term, port, window, Size::L),
+        _ => perform_any(core, term, port, window, instruction),
     }
 }
