@@ -3,3 +3,4 @@ pub mod Attempts
 pub mod Settled
 pub mod Steps
 pub mod Runs
+pub mod Quick

@@ -1,5 +1,5 @@
 //! One attempt at a step, as a transaction that is kept or undone.
-ghost use Rattle.std.specs.Prelude.{◌≡◌, ◌+◌, ◌<◌, ◌≤◌, ℕ, Option, None, Ok};
+ghost use Rattle.std.specs.Prelude.{◌≡◌, ◌+◌, ◌<◌, ◌≤◌, ℕ, Option, None, Ok, true, false};
 ghost use Rattle.vax_flat.specs.Accesses.{Accesses, Leaf};
 ghost use Rattle.vax_flat.specs.State.{State};
 ghost use Rattle.vax_flat.specs.OverPort.{Follows, Present};
@@ -21,6 +21,7 @@ use crate::instruction::{execute, noted, resume};
 use crate::interrupt::{requested, tick};
 use vax_flat::{Delivery, Ending, Exception};
 use vax_operand::{Cut, Flow};
+use vax_quick::is_still;
 use vax_undo::{CutShort, Log, Port, Term, Txn};
 use vax_word::Core;
 use vax_x_str::Scratch;
@@ -477,8 +478,10 @@ pub(crate) struct Several {
     pub(crate) last: Tried,
 }
 
-/// Makes at most `most` attempts at steps, up to the first that isn't completed at once or that sends a byte. They share one log.
-pub(crate) fn try_steps<P: Port>(
+/// Makes at most `most` attempts at steps by transactions, up to the first that isn't completed at once or that sends a byte. They share one
+/// log.
+#[inline(never)]
+fn try_logged<P: Port>(
     core: &mut Core,
     term: &mut Term,
     port: &mut P,
@@ -521,4 +524,87 @@ pub(crate) fn try_steps<P: Port>(
     let done = work_once(&mut txn, scratch);
     let last = conclude(txn, done);
     Several { steps, last }
+}
+
+/// Whether an attempt completed a step and sent no byte.
+#[inline(always)]
+fn is_silent(tried: Tried) -> bool
+    ensures step { result ≡ true → tried ≡ Tried.Step None }
+    ensures other { result ≡ false → tried ≡ Tried.Step None → ⊥ }
+{
+    match tried {
+        Tried::Step(None) => true,
+        Tried::Step(Some(_)) => false,
+        Tried::Part(_) => false,
+        Tried::Absent(_) => false,
+        Tried::Ended(_) => false,
+        Tried::Event(_) => false,
+    }
+}
+
+/// Makes steps at once, on the registers, as long as that can be, and then one attempt at a step by a transaction. Where an interrupt is asked
+/// for, or the interval clock is on, all attempts are transactions.
+#[inline(always)]
+fn try_some<P: Port>(
+    core: &mut Core,
+    term: &mut Term,
+    port: &mut P,
+    most: u64,
+    log: &mut Log,
+    scratch: &mut Scratch,
+) -> Several
+    requires unsent { term.old.out ≡ None }
+    requires some { 1 ≤ most }
+    ensures ran { (mid : Present) × Ran result.steps (seen P.view core.old term.old port.old) mid
+        × IsTried part_step mid result.last (seen P.view core.new term.new port.new) }
+    ensures few { result.steps < most }
+    ensures unsent { term.new.out ≡ None }
+    ensures input { term.new.input ≡ term.old.input }
+    ensures clock { core.old.clock ≤ 999 → KeepsTime core.new.clock result.last }
+    ensures closed { NothingOpen core.old.psl → KeepsClosed core.new.psl result.last }
+    ensures since { (start : P) → P.since start port.old → P.since start port.new }
+{
+    if !is_still(core) {
+        return try_logged(core, term, port, most, log, scratch);
+    }
+    let steps = vax_quick::run(core, term, port, most - 1);
+    let last = try_step(core, term, port, log, scratch);
+    Several { steps, last }
+}
+
+/// Makes at most `most` attempts at steps, up to the first that isn't completed at once or that sends a byte.
+pub(crate) fn try_steps<P: Port>(
+    core: &mut Core,
+    term: &mut Term,
+    port: &mut P,
+    most: u64,
+    log: &mut Log,
+    scratch: &mut Scratch,
+) -> Several
+    requires unsent { term.old.out ≡ None }
+    requires some { 1 ≤ most }
+    ensures ran { (mid : Present) × Ran result.steps (seen P.view core.old term.old port.old) mid
+        × IsTried part_step mid result.last (seen P.view core.new term.new port.new) }
+    ensures few { result.steps < most }
+    ensures all { result.last ≡ Tried.Step None → result.steps + 1 ≡ most }
+    ensures unsent { term.new.out ≡ None }
+    ensures input { term.new.input ≡ term.old.input }
+    ensures clock { core.old.clock ≤ 999 → KeepsTime core.new.clock result.last }
+    ensures closed { NothingOpen core.old.psl → KeepsClosed core.new.psl result.last }
+    ensures since { (start : P) → P.since start port.old → P.since start port.new }
+{
+    let mut steps = 0;
+    loop {
+        let several = try_some(core, term, port, most - steps, log, scratch);
+        steps += several.steps;
+        let last = several.last;
+        if steps + 1 == most {
+            return Several { steps, last };
+        }
+        let silent = is_silent(last);
+        if !silent {
+            return Several { steps, last };
+        }
+        steps += 1;
+    }
 }

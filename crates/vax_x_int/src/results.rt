@@ -47,7 +47,7 @@ fn complement(size: Size, x: u64) -> u64
 /// A result with codes that are read from it.
 #[inline(always)]
 #[tactic(auto, unfolding(vax_word::specs::Arithmetic::answer))]
-pub(crate) fn answer_of(size: Size, value: u64, v: bool, c: bool) -> (u64, Codes)
+pub fn answer_of(size: Size, value: u64, v: bool, c: bool) -> (u64, Codes)
     requires { value < 256 ^ bytes_of size }
     ensures exact { result ≡ answer size value v c }
     ensures fits { result.0 < 256 ^ bytes_of size }
@@ -67,7 +67,7 @@ pub(crate) fn answer_of(size: Size, value: u64, v: bool, c: bool) -> (u64, Codes
 /// A result of one operand; `carry` is the carry as it was.
 #[inline(always)]
 #[tactic(auto, unfolding(vax_flat::specs::Integer::of_one))]
-pub(crate) fn of_one(operation: Unary, from: Size, to: Size, x: u64, carry: bool) -> (u64, Codes)
+pub fn of_one(operation: Unary, from: Size, to: Size, x: u64, carry: bool) -> (u64, Codes)
     requires { x < 256 ^ bytes_of from }
     ensures exact { result ≡ of_one operation from to x carry }
     ensures fits { result.0 < 256 ^ bytes_of to }
@@ -84,7 +84,7 @@ pub(crate) fn of_one(operation: Unary, from: Size, to: Size, x: u64, carry: bool
 /// A result of two operands, of which `a` is the first; `carry` is the carry as it was.
 #[inline(always)]
 #[tactic(auto, using(crate::proofs::Sizes::or_fits, crate::proofs::Sizes::xor_fits, crate::proofs::Sizes::and_fits, crate::proofs::Sizes::narrow_is_short), unfolding(vax_flat::specs::Integer::of_two))]
-pub(crate) fn of_two(operation: Binary, size: Narrow, a: u64, b: u64, carry: bool) -> (u64, Codes)
+pub fn of_two(operation: Binary, size: Narrow, a: u64, b: u64, carry: bool) -> (u64, Codes)
     requires a { a < 256 ^ bytes_of (size_of size) }
     requires b { b < 256 ^ bytes_of (size_of size) }
     ensures exact { result ≡ of_two operation (size_of size) a b carry }
@@ -107,7 +107,7 @@ pub(crate) fn of_two(operation: Binary, size: Narrow, a: u64, b: u64, carry: boo
 /// Whether this is a division by 0.
 #[inline(always)]
 #[tactic(auto, unfolding(vax_flat::specs::Integer::is_by_zero))]
-pub(crate) fn is_by_zero(operation: Binary, a: u64) -> bool
+pub fn is_by_zero(operation: Binary, a: u64) -> bool
     ensures { result ≡ is_by_zero operation a }
 {
     match operation {
@@ -126,7 +126,7 @@ pub(crate) fn is_by_zero(operation: Binary, a: u64) -> bool
 /// A longword turned left by a count modulo 32.
 #[inline]
 #[tactic(auto, using(crate::proofs::Sizes::turned_below), unfolding(vax_flat::specs::Integer::rotated))]
-pub(crate) fn rotated(count: u64, x: u64) -> u64
+pub fn rotated(count: u64, x: u64) -> u64
     requires { x < 256 ^ 4 }
     ensures exact { result ≡ rotated count x }
     ensures fits { result < 256 ^ 4 }

@@ -1,0 +1,5 @@
+pub mod Parts
+pub mod Windows
+pub mod Trees
+pub mod Quiet
+pub mod Steps

@@ -1,0 +1,28 @@
+-- Trees that come to the same.
+use Rattle.std.proofs.Common.{◌≡◌, ℕ, Option, Some, None, refl, ap, ◌∙◌}
+use Rattle.vax_isa.specs.declared.Letter.TheVariants.{Address, Read}
+use Rattle.vax_flat.specs.declared.Form.{Form}
+use Rattle.vax_flat.specs.declared.Form.TheVariants as form
+use Rattle.vax_flat.specs.State.{State}
+use Rattle.vax_flat.specs.Accesses.{Accesses, Leaf}
+use Rattle.vax_flat.specs.Operand.{formed, fetched, read_at, addressed, is_reserved, at_address}
+use Rattle.vax_flat.specs.OverPort.{Present, over_port}
+use Rattle.vax_flat.specs.Rows.{address_of, address_in}
+use Rattle.vax_operand.specs.Addressed.{located, direct, IsMemory}
+use Rattle.vax_operand.proofs.Addresses.{formed_located}
+use Rattle.vax_quick.specs.declared.window.Window.{Window}
+use Rattle.vax_quick.specs.Made.{Gives}
+
+pub gives_by : {X : Type 0} (a b : State → (X → State → Accesses Leaf) → Accesses Leaf) (r : Option (X × Window)) (old new : Present) → ((next : X → State → Accesses Leaf) → a old.state next ≡ b old.state next) → Gives b r old new → Gives a r old new
+gives_by a b None old new same gives = tt
+gives_by a b (Some found) old new same gives = λ next. ap (λ tree. over_port tree old.view) (same next) ∙ gives next
+
+-- an immediate is what the instruction has next
+pub immediate_is : (width : ℕ) (s : State) (next : ℕ → State → Accesses Leaf) → located Read width (form.Increment 15) s (λ addr t. read_at addr width t next) ≡ fetched width s next
+unfolding located direct is_reserved addressed fetched read_at
+immediate_is width s next = refl
+
+-- the address of an operand in memory
+pub address_located : (width : ℕ) (shape : Form) (s : State) (next : ℕ → State → Accesses Leaf) → IsMemory shape → formed (address_of width) shape s (λ o t. next (address_in o) t) ≡ located Address width shape s next
+unfolding at_address address_in
+address_located width shape s next m = formed_located (address_of width) shape s (λ o t. next (address_in o) t) m

@@ -1,0 +1,91 @@
+-- Work that is done at once on the registers, with no log: what it makes of a tree of accesses, and what of the instruction was seen.
+use Rattle.std.specs.Prelude.{◌≡◌, ℕ, zero, suc, ◌^◌, ◌<◌, ◌≤◌, ◌&&◌, Bool, false, Option, Some, None, Ok, length, slice_index}
+use Rattle.vax_word.specs.declared.Codes.{Codes}
+use Rattle.vax_word.specs.declared.Core.{Core}
+use Rattle.vax_word.specs.declared.Psl.{Psl}
+use Rattle.vax_word.specs.Status.{is_one, mode_of}
+use Rattle.vax_flat.specs.declared.Flow.{Flow}
+use Rattle.vax_flat.specs.declared.Flow.TheVariants as flow
+use Rattle.vax_flat.specs.State.{State}
+use Rattle.vax_flat.specs.Accesses.{Accesses, Leaf, Went}
+use Rattle.vax_flat.specs.OverPort.{Present, Comes, over_port}
+use Rattle.vax_flat.specs.Parts.{part_step}
+use Rattle.vax_flat.specs.Port.{View, AreBytes, loaded}
+use Rattle.vax_flat.specs.Step.{level}
+use Rattle.vax_undo.specs.FirstPart.{first_part_done}
+use Rattle.vax_quick.specs.declared.window.Window.{Window}
+
+-- the bytes that were seen are those from PC on
+pub record IsSeen (view : View) (core : Core) (window : Window) : Type 0 where
+  pub small : slice_index core.regs 15 < 2 ^ 32
+  pub long : 15 < length core.regs
+  pub seen : loaded view (slice_index core.regs 15) window.left (mode_of core.psl) ≡ Ok window.bytes
+  pub bytes : AreBytes view.byte
+
+-- a tree goes on with this value from where a call ended
+abbrev pub GoesOn : {X : Type 0} → (State → (X → State → Accesses Leaf) → Accesses Leaf) → X → Present → Present → Type 0
+GoesOn tree x old new = (next : _) → over_port (tree old.state next) old.view ≡ over_port (next x new.state) new.view
+
+-- the same of a call that gives no value
+abbrev pub Proceeds : (State → (State → Accesses Leaf) → Accesses Leaf) → Present → Present → Type 0
+Proceeds tree old new = (next : _) → over_port (tree old.state next) old.view ≡ over_port (next new.state) new.view
+
+-- a call that gives a value, with the bytes that are left behind it, makes the accesses of a tree; one that gives none says nothing
+abbrev pub Gives : {X : Type 0} → (State → (X → State → Accesses Leaf) → Accesses Leaf) → Option (X × Window) → Present → Present → Type 0
+Gives tree None old new = Unit {0}
+Gives tree (Some found) old new = GoesOn tree found.0 old new
+
+-- the same of a call that writes at most once, and last: where it gives nothing, the port shows what it showed
+abbrev pub Acts : (State → (State → Accesses Leaf) → Accesses Leaf) → Option (Unit {0}) → Present → Present → Type 0
+Acts tree None old new = new.view ≡ old.view
+Acts tree (Some done) old new = Proceeds tree old new
+
+-- the same of an instruction, which is done
+abbrev pub Makes : (State → (Flow → State → Accesses Leaf) → Accesses Leaf) → Option (Unit {0}) → Present → Present → Type 0
+Makes tree None old new = new.view ≡ old.view
+Makes tree (Some done) old new = GoesOn tree flow.Done old new
+
+-- A call changes registers at most.
+pub record IsKept (old new : Core) : Type 0 where
+  pub psl : new.psl ≡ old.psl
+  pub timer : new.iccs ≡ old.iccs
+  pub requests : new.sisr ≡ old.sisr
+  pub clock : new.clock ≡ old.clock
+
+-- A call reads at most: it may change registers, and moves PC.
+pub record Reads {P : Type 0} (view : P → View) (along : P → P → Type 0) (old : Core) (before : P) (new : Core) (after : P) : Type 0 where
+  pub same : view after ≡ view before
+  pub psl : new.psl ≡ old.psl
+  pub timer : new.iccs ≡ old.iccs
+  pub requests : new.sisr ≡ old.sisr
+  pub clock : new.clock ≡ old.clock
+  pub since : (start : P) → along start before → along start after
+
+-- A call leaves the clock, the requests for interrupts, and no instruction open.
+pub record Leaves {P : Type 0} (along : P → P → Type 0) (old : Core) (before : P) (new : Core) (after : P) : Type 0 where
+  pub timer : new.iccs ≡ old.iccs
+  pub requests : new.sisr ≡ old.sisr
+  pub clock : new.clock ≡ old.clock
+  pub closed : first_part_done new.psl ≤ first_part_done old.psl
+  pub since : (start : P) → along start before → along start after
+
+-- no trap follows a result with these codes
+pub record IsQuiet (by_zero : Bool) (codes : Codes) (psl : Psl) : Type 0 where
+  pub zero : by_zero ≡ false
+  pub overflow : (codes.v && is_one psl.0 5) ≡ false
+
+-- no interrupt is asked for, and the interval clock is off
+pub record IsStill (core : Core) : Type 0 where
+  pub none : level core ≡ 0
+  pub off : is_one core.iccs 6 ≡ false
+
+-- a step was completed, and the console is as before
+pub record MakesStep (old new : Present) : Type 0 where
+  pub made : over_port (part_step old.state) old.view ≡ Comes (Went flow.Done new.state) new.view
+  pub input : new.state.input ≡ old.state.input
+  pub sent : new.state.sent ≡ old.state.sent
+
+-- so many steps, one after the other
+abbrev pub MakesSteps : ℕ → Present → Present → Type 0
+MakesSteps zero old new = new ≡ old
+MakesSteps (suc count) old new = (mid : Present) × MakesSteps count old mid × MakesStep mid new

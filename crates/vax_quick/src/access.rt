@@ -1,0 +1,645 @@
+//! Values of operands, read and written.
+ghost use Rattle.std.specs.Prelude.{◌≡◌, ℕ, ◌+◌, ◌*◌, ◌/◌, ◌%◌, ◌^◌, ◌<◌, ◌≤◌, None, IfSome};
+ghost use Rattle.vax_word.specs.Arithmetic.{bytes_of};
+ghost use Rattle.vax_isa.specs.Actions.{size_of};
+ghost use Rattle.vax_isa.specs.declared.Letter.TheVariants as letter;
+ghost use Rattle.vax_flat.specs.declared.Operand.TheVariants as operand;
+ghost use Rattle.vax_flat.specs.declared.Form.TheVariants as form;
+ghost use Rattle.vax_flat.specs.Operand.{form_of, formed, in_register, read_at, register_value, IsWidth, IsPlace};
+ghost use Rattle.vax_flat.specs.Rows.{read_of, write_of, address_of, address_in, value_of, with_value, stored, read_value, modify_value, write_place, address_value, branch_target};
+ghost use Rattle.vax_undo.specs.Transaction.{seen, state_of};
+ghost use Rattle.vax_operand.specs.Addressed.{located, checked, modified, modified_there, IsMemory};
+ghost use Rattle.vax_quick.specs.Made.{Acts, Gives, IsKept, IsSeen, Reads};
+
+use crate::forms::{displacement_width, extend, reaches_pc, width_of};
+use crate::memory::{check, read, write};
+use crate::specifier::address_near;
+use crate::window::{Window, fetch};
+use vax_isa::{Letter, Narrow};
+use vax_operand::Operand;
+use vax_undo::{Port, Term};
+use vax_word::{Core, Size};
+
+/// The value of a register, or of the pair of a quadword.
+#[inline(always)]
+#[tactic(auto, unfolding(vax_flat::specs::Operand::register_value))]
+fn value_in(core: &Core, term: &Term, width: u8, n: u8) -> u64
+    requires width { IsWidth width }
+    requires below { n < 15 }
+    requires pair { width ≡ 8 → n < 14 }
+    ensures exact { result ≡ register_value width n (state_of core.now term.now) }
+    ensures fits { result < 256 ^ width }
+{
+    let _ = term;
+    let low = core.regs[n as usize];
+    match width {
+        1 => (low & 0xff) as u64,
+        2 => (low & 0xffff) as u64,
+        4 => low as u64,
+        _ => low as u64 | (core.regs[n as usize + 1] as u64) << 32,
+    }
+}
+
+/// Sets a register, or the pair of a quadword. A byte or a word leaves the register's other bits.
+#[inline(always)]
+#[tactic(auto, unfolding(vax_flat::specs::Rows::with_value))]
+fn set_value(core: &mut Core, term: &Term, width: u8, n: u8, value: u64)
+    requires width { IsWidth width }
+    requires below { n < 15 }
+    requires pair { width ≡ 8 → n < 14 }
+    requires fits { value < 256 ^ width }
+    ensures exact { state_of core.new term.now
+        ≡ with_value width n value (state_of core.old term.now) }
+    ensures kept { IsKept core.old core.new }
+{
+    let _ = term;
+    let i = n as usize;
+    match width {
+        1 => core.regs[i] = core.regs[i] / 0x100 * 0x100 + value as u32,
+        2 => core.regs[i] = core.regs[i] / 0x1_0000 * 0x1_0000 + value as u32,
+        4 => core.regs[i] = value as u32,
+        _ => {
+            core.regs[i] = (value & 0xffff_ffff) as u32;
+            core.regs[i + 1] = (value >> 32) as u32;
+        }
+    }
+}
+
+/// Writes a value of so many bytes to an operand.
+#[inline(always)]
+#[tactic(auto, unfolding(vax_flat::specs::Rows::stored))]
+fn store_at<P: Port>(
+    core: &mut Core,
+    term: &Term,
+    port: &mut P,
+    width: u8,
+    operand: Operand,
+    value: u64,
+) -> Option<()>
+    requires width { IsWidth width }
+    requires place { IsPlace width operand }
+    requires fits { value < 256 ^ width }
+    ensures exact { Acts (stored width operand value) result
+        (seen P.view core.old term.now port.old) (seen P.view core.new term.now port.new) }
+    ensures kept { IsKept core.old core.new }
+    ensures since { (start : P) → P.since start port.old → P.since start port.new }
+{
+    match operand {
+        Operand::Value(_) => Some(()),
+        Operand::Register(n) => {
+            set_value(core, term, width, n, value);
+            Some(())
+        }
+        Operand::Memory(addr) => write(core, term, port, addr, width as u32, value),
+        Operand::FieldRegister(_) => Some(()),
+        Operand::Target(_) => Some(()),
+    }
+}
+
+/// Writes a value to an operand.
+#[inline(always)]
+pub(crate) fn store<P: Port>(
+    core: &mut Core,
+    term: &Term,
+    port: &mut P,
+    size: Size,
+    operand: Operand,
+    value: u64,
+) -> Option<()>
+    requires place { IsPlace (bytes_of size) operand }
+    requires fits { value < 256 ^ bytes_of size }
+    ensures exact { Acts (stored (bytes_of size) operand value) result
+        (seen P.view core.old term.now port.old) (seen P.view core.new term.now port.new) }
+    ensures kept { IsKept core.old core.new }
+    ensures since { (start : P) → P.since start port.old → P.since start port.new }
+{
+    store_at(core, term, port, width_of(size), operand, value)
+}
+
+/// An immediate, which lies in the instruction itself. A quadword is left out.
+#[inline(always)]
+fn immediate<P: Port>(
+    core: &mut Core,
+    term: &Term,
+    port: &mut P,
+    window: Window,
+    width: u8,
+) -> Option<(u64, Window)>
+    requires width { IsWidth width }
+    requires window { IsSeen (P.view port.old) core.old window }
+    ensures exact { Gives (λ s next. located letter.Read width (form.Increment 15) s
+        (λ addr s. read_at addr width s next)) result
+        (seen P.view core.old term.now port.old) (seen P.view core.new term.now port.new) }
+    ensures fits { IfSome result (λ r. r.0 < 256 ^ width) }
+    ensures left { IfSome result (λ r. IsSeen (P.view port.new) core.new r.1) }
+    ensures reads { Reads P.view P.since core.old port.old core.new port.new }
+{
+    if width == 8 {
+        return None;
+    }
+    fetch(core, term, port, window, width as u32)
+}
+
+/// The value at the address of a specifier byte.
+#[inline(always)]
+fn value_at_address<P: Port>(
+    core: &mut Core,
+    term: &Term,
+    port: &mut P,
+    window: Window,
+    width: u8,
+    byte: u8,
+) -> Option<(u64, Window)>
+    requires width { IsWidth width }
+    requires window { IsSeen (P.view port.old) core.old window }
+    ensures exact { Gives (λ s next. located letter.Read width (form_of byte) s
+        (λ addr s. read_at addr width s next)) result
+        (seen P.view core.old term.now port.old) (seen P.view core.new term.now port.new) }
+    ensures fits { IfSome result (λ r. r.0 < 256 ^ width) }
+    ensures left { IfSome result (λ r. IsSeen (P.view port.new) core.new r.1) }
+    ensures reads { Reads P.view P.since core.old port.old core.new port.new }
+{
+    let (addr, behind) = address_near(core, term, port, window, Letter::Read, width, byte)?;
+    let value = read(core, term, port, addr, width as u32)?;
+    Some((value, behind))
+}
+
+/// The value of an operand that is neither a literal nor in a register.
+#[inline(never)]
+fn value_there<P: Port>(
+    core: &mut Core,
+    term: &Term,
+    port: &mut P,
+    window: Window,
+    width: u8,
+    byte: u8,
+) -> Option<(u64, Window)>
+    requires width { IsWidth width }
+    requires window { IsSeen (P.view port.old) core.old window }
+    ensures exact { Gives (λ s next. located letter.Read width (form_of byte) s
+        (λ addr s. read_at addr width s next)) result
+        (seen P.view core.old term.now port.old) (seen P.view core.new term.now port.new) }
+    ensures fits { IfSome result (λ r. r.0 < 256 ^ width) }
+    ensures left { IfSome result (λ r. IsSeen (P.view port.new) core.new r.1) }
+    ensures reads { Reads P.view P.since core.old port.old core.new port.new }
+{
+    if byte == 0x8F {
+        return immediate(core, term, port, window, width);
+    }
+    value_at_address(core, term, port, window, width, byte)
+}
+
+/// The value of an operand that lies in memory.
+#[inline(always)]
+fn value_beyond<P: Port>(
+    core: &mut Core,
+    term: &Term,
+    port: &mut P,
+    window: Window,
+    width: u8,
+    byte: u8,
+) -> Option<(u64, Window)>
+    requires width { IsWidth width }
+    requires memory { IsMemory (form_of byte) }
+    requires window { IsSeen (P.view port.old) core.old window }
+    ensures exact { Gives
+        (λ s next. formed (read_of width) (form_of byte) s (λ o s. next (value_of o) s)) result
+        (seen P.view core.old term.now port.old) (seen P.view core.new term.now port.new) }
+    ensures fits { IfSome result (λ r. r.0 < 256 ^ width) }
+    ensures left { IfSome result (λ r. IsSeen (P.view port.new) core.new r.1) }
+    ensures reads { Reads P.view P.since core.old port.old core.new port.new }
+{
+    value_there(core, term, port, window, width, byte)
+}
+
+/// The place at the address of a specifier byte, checked for writing, and the value there.
+#[inline(never)]
+#[tactic(auto, unfolding(vax_operand::specs::Addressed::modified_there, vax_operand::specs::Addressed::checked))]
+fn modified_there<P: Port>(
+    core: &mut Core,
+    term: &Term,
+    port: &mut P,
+    window: Window,
+    width: u8,
+    byte: u8,
+) -> Option<((Operand, u64), Window)>
+    requires width { IsWidth width }
+    requires window { IsSeen (P.view port.old) core.old window }
+    ensures exact { Gives (modified_there width (form_of byte)) result
+        (seen P.view core.old term.now port.old) (seen P.view core.new term.now port.new) }
+    ensures place { IfSome result (λ r. IsPlace width r.0.0) }
+    ensures fits { IfSome result (λ r. r.0.1 < 256 ^ width) }
+    ensures left { IfSome result (λ r. IsSeen (P.view port.new) core.new r.1) }
+    ensures reads { Reads P.view P.since core.old port.old core.new port.new }
+{
+    let (addr, behind) = address_near(core, term, port, window, Letter::Modify, width, byte)?;
+    check(core, term, port, addr, width as u32)?;
+    let value = read(core, term, port, addr, width as u32)?;
+    Some(((Operand::Memory(addr), value), behind))
+}
+
+/// An operand that lies in memory and is modified, and the value there.
+#[inline(always)]
+fn modified_beyond<P: Port>(
+    core: &mut Core,
+    term: &Term,
+    port: &mut P,
+    window: Window,
+    width: u8,
+    byte: u8,
+) -> Option<((Operand, u64), Window)>
+    requires width { IsWidth width }
+    requires memory { IsMemory (form_of byte) }
+    requires window { IsSeen (P.view port.old) core.old window }
+    ensures exact { Gives (modified width (form_of byte)) result
+        (seen P.view core.old term.now port.old) (seen P.view core.new term.now port.new) }
+    ensures place { IfSome result (λ r. IsPlace width r.0.0) }
+    ensures fits { IfSome result (λ r. r.0.1 < 256 ^ width) }
+    ensures left { IfSome result (λ r. IsSeen (P.view port.new) core.new r.1) }
+    ensures reads { Reads P.view P.since core.old port.old core.new port.new }
+{
+    modified_there(core, term, port, window, width, byte)
+}
+
+/// The place at the address of a specifier byte.
+#[inline(never)]
+fn place_there<P: Port>(
+    core: &mut Core,
+    term: &Term,
+    port: &mut P,
+    window: Window,
+    width: u8,
+    byte: u8,
+) -> Option<(Operand, Window)>
+    requires width { IsWidth width }
+    requires window { IsSeen (P.view port.old) core.old window }
+    ensures exact { Gives (λ s next. located letter.Write width (form_of byte) s
+        (λ addr s. next (operand.Memory addr) s)) result
+        (seen P.view core.old term.now port.old) (seen P.view core.new term.now port.new) }
+    ensures place { IfSome result (λ r. IsPlace width r.0) }
+    ensures left { IfSome result (λ r. IsSeen (P.view port.new) core.new r.1) }
+    ensures reads { Reads P.view P.since core.old port.old core.new port.new }
+{
+    let (addr, behind) = address_near(core, term, port, window, Letter::Write, width, byte)?;
+    Some((Operand::Memory(addr), behind))
+}
+
+/// An operand that lies in memory and is written.
+#[inline(always)]
+fn place_beyond<P: Port>(
+    core: &mut Core,
+    term: &Term,
+    port: &mut P,
+    window: Window,
+    width: u8,
+    byte: u8,
+) -> Option<(Operand, Window)>
+    requires width { IsWidth width }
+    requires memory { IsMemory (form_of byte) }
+    requires window { IsSeen (P.view port.old) core.old window }
+    ensures exact { Gives (formed (write_of width) (form_of byte)) result
+        (seen P.view core.old term.now port.old) (seen P.view core.new term.now port.new) }
+    ensures place { IfSome result (λ r. IsPlace width r.0) }
+    ensures left { IfSome result (λ r. IsSeen (P.view port.new) core.new r.1) }
+    ensures reads { Reads P.view P.since core.old port.old core.new port.new }
+{
+    place_there(core, term, port, window, width, byte)
+}
+
+/// The value of an operand in a register.
+#[inline(always)]
+#[tactic(auto, unfolding(vax_flat::specs::Operand::in_register, vax_flat::specs::Rows::value_of))]
+fn value_of_register<P: Port>(
+    core: &Core,
+    term: &Term,
+    port: &P,
+    window: Window,
+    width: u8,
+    n: u8,
+) -> Option<(u64, Window)>
+    requires width { IsWidth width }
+    requires of_core { n < 16 }
+    requires window { IsSeen (P.view port.now) core.now window }
+    ensures exact { Gives (λ s next. in_register (read_of width) n s (λ o s. next (value_of o) s))
+        result (seen P.view core.now term.now port.now) (seen P.view core.now term.now port.now) }
+    ensures fits { IfSome result (λ r. r.0 < 256 ^ width) }
+    ensures left { IfSome result (λ r. IsSeen (P.view port.now) core.now r.1) }
+{
+    let _ = port;
+    if reaches_pc(width, n) {
+        return None;
+    }
+    Some((value_in(core, term, width, n), window))
+}
+
+/// A register that is modified, and the value there.
+#[inline(always)]
+#[tactic(auto, unfolding(vax_operand::specs::Addressed::modified, vax_flat::specs::Operand::formed, vax_flat::specs::Operand::in_register, vax_flat::specs::Rows::value_at))]
+fn modified_register<P: Port>(
+    core: &Core,
+    term: &Term,
+    port: &P,
+    window: Window,
+    width: u8,
+    n: u8,
+) -> Option<((Operand, u64), Window)>
+    requires width { IsWidth width }
+    requires of_core { n < 16 }
+    requires window { IsSeen (P.view port.now) core.now window }
+    ensures exact { Gives (modified width (form.Register n)) result
+        (seen P.view core.now term.now port.now) (seen P.view core.now term.now port.now) }
+    ensures place { IfSome result (λ r. IsPlace width r.0.0) }
+    ensures fits { IfSome result (λ r. r.0.1 < 256 ^ width) }
+    ensures left { IfSome result (λ r. IsSeen (P.view port.now) core.now r.1) }
+{
+    let _ = port;
+    if reaches_pc(width, n) {
+        return None;
+    }
+    let value = value_in(core, term, width, n);
+    Some(((Operand::Register(n), value), window))
+}
+
+/// A register that is written.
+#[inline(always)]
+#[tactic(auto, unfolding(vax_flat::specs::Operand::in_register))]
+fn place_register<P: Port>(
+    core: &Core,
+    term: &Term,
+    port: &P,
+    window: Window,
+    width: u8,
+    n: u8,
+) -> Option<(Operand, Window)>
+    requires width { IsWidth width }
+    requires of_core { n < 16 }
+    requires window { IsSeen (P.view port.now) core.now window }
+    ensures exact { Gives (in_register (write_of width) n) result
+        (seen P.view core.now term.now port.now) (seen P.view core.now term.now port.now) }
+    ensures place { IfSome result (λ r. IsPlace width r.0) }
+    ensures left { IfSome result (λ r. IsSeen (P.view port.now) core.now r.1) }
+{
+    let _ = core;
+    let _ = term;
+    let _ = port;
+    if reaches_pc(width, n) {
+        return None;
+    }
+    Some((Operand::Register(n), window))
+}
+
+/// The value of an operand by its specifier byte.
+#[inline(always)]
+#[tactic(auto, unfolding(vax_flat::specs::Operand::formed, vax_flat::specs::Operand::form_of, vax_flat::specs::Operand::literal, vax_flat::specs::Rows::value_of))]
+fn value_by_byte<P: Port>(
+    core: &mut Core,
+    term: &Term,
+    port: &mut P,
+    window: Window,
+    width: u8,
+    byte: u8,
+) -> Option<(u64, Window)>
+    requires width { IsWidth width }
+    requires window { IsSeen (P.view port.old) core.old window }
+    ensures exact { Gives
+        (λ s next. formed (read_of width) (form_of byte) s (λ o s. next (value_of o) s)) result
+        (seen P.view core.old term.now port.old) (seen P.view core.new term.now port.new) }
+    ensures fits { IfSome result (λ r. r.0 < 256 ^ width) }
+    ensures left { IfSome result (λ r. IsSeen (P.view port.new) core.new r.1) }
+    ensures reads { Reads P.view P.since core.old port.old core.new port.new }
+{
+    match byte >> 4 {
+        0 | 1 | 2 | 3 => Some((byte as u64, window)),
+        5 => value_of_register(core, term, port, window, width, byte & 15),
+        _ => value_beyond(core, term, port, window, width, byte),
+    }
+}
+
+/// An operand that is modified, and the value there, by its specifier byte.
+#[inline(always)]
+#[tactic(auto, unfolding(vax_flat::specs::Operand::form_of))]
+fn modified_by_byte<P: Port>(
+    core: &mut Core,
+    term: &Term,
+    port: &mut P,
+    window: Window,
+    width: u8,
+    byte: u8,
+) -> Option<((Operand, u64), Window)>
+    requires width { IsWidth width }
+    requires window { IsSeen (P.view port.old) core.old window }
+    ensures exact { Gives (modified width (form_of byte)) result
+        (seen P.view core.old term.now port.old) (seen P.view core.new term.now port.new) }
+    ensures place { IfSome result (λ r. IsPlace width r.0.0) }
+    ensures fits { IfSome result (λ r. r.0.1 < 256 ^ width) }
+    ensures left { IfSome result (λ r. IsSeen (P.view port.new) core.new r.1) }
+    ensures reads { Reads P.view P.since core.old port.old core.new port.new }
+{
+    match byte >> 4 {
+        0 | 1 | 2 | 3 => None,
+        5 => modified_register(core, term, port, window, width, byte & 15),
+        _ => modified_beyond(core, term, port, window, width, byte),
+    }
+}
+
+/// An operand that is written, by its specifier byte.
+#[inline(always)]
+#[tactic(auto, unfolding(vax_flat::specs::Operand::formed, vax_flat::specs::Operand::form_of))]
+fn place_by_byte<P: Port>(
+    core: &mut Core,
+    term: &Term,
+    port: &mut P,
+    window: Window,
+    width: u8,
+    byte: u8,
+) -> Option<(Operand, Window)>
+    requires width { IsWidth width }
+    requires window { IsSeen (P.view port.old) core.old window }
+    ensures exact { Gives (formed (write_of width) (form_of byte)) result
+        (seen P.view core.old term.now port.old) (seen P.view core.new term.now port.new) }
+    ensures place { IfSome result (λ r. IsPlace width r.0) }
+    ensures left { IfSome result (λ r. IsSeen (P.view port.new) core.new r.1) }
+    ensures reads { Reads P.view P.since core.old port.old core.new port.new }
+{
+    match byte >> 4 {
+        0 | 1 | 2 | 3 => None,
+        5 => place_register(core, term, port, window, width, byte & 15),
+        _ => place_beyond(core, term, port, window, width, byte),
+    }
+}
+
+/// Reads one operand at PC and its value.
+#[inline(always)]
+#[tactic(auto, unfolding(vax_flat::specs::Rows::read_value, vax_flat::specs::Operand::next_operand, vax_flat::specs::Operand::specified))]
+pub(crate) fn next_value<P: Port>(
+    core: &mut Core,
+    term: &Term,
+    port: &mut P,
+    window: Window,
+    size: Size,
+) -> Option<(u64, Window)>
+    requires window { IsSeen (P.view port.old) core.old window }
+    ensures exact { Gives (read_value (bytes_of size)) result
+        (seen P.view core.old term.now port.old) (seen P.view core.new term.now port.new) }
+    ensures fits { IfSome result (λ r. r.0 < 256 ^ bytes_of size) }
+    ensures left { IfSome result (λ r. IsSeen (P.view port.new) core.new r.1) }
+    ensures reads { Reads P.view P.since core.old port.old core.new port.new }
+{
+    let width = width_of(size);
+    let (byte, behind) = fetch(core, term, port, window, 1)?;
+    value_by_byte(core, term, port, behind, width, byte as u8)
+}
+
+/// Reads one operand at PC that is modified: where it is, checked for writing, and the value there.
+#[inline(always)]
+#[tactic(auto, unfolding(vax_operand::specs::Addressed::modified, vax_flat::specs::Rows::modify_value, vax_flat::specs::Operand::next_operand, vax_flat::specs::Operand::specified))]
+pub(crate) fn next_modified<P: Port>(
+    core: &mut Core,
+    term: &Term,
+    port: &mut P,
+    window: Window,
+    size: Size,
+) -> Option<((Operand, u64), Window)>
+    requires window { IsSeen (P.view port.old) core.old window }
+    ensures exact { Gives (modify_value (bytes_of size)) result
+        (seen P.view core.old term.now port.old) (seen P.view core.new term.now port.new) }
+    ensures place { IfSome result (λ r. IsPlace (bytes_of size) r.0.0) }
+    ensures fits { IfSome result (λ r. r.0.1 < 256 ^ bytes_of size) }
+    ensures left { IfSome result (λ r. IsSeen (P.view port.new) core.new r.1) }
+    ensures reads { Reads P.view P.since core.old port.old core.new port.new }
+{
+    let width = width_of(size);
+    let (byte, behind) = fetch(core, term, port, window, 1)?;
+    modified_by_byte(core, term, port, behind, width, byte as u8)
+}
+
+/// Reads one operand at PC that is written: where it is.
+#[inline(always)]
+#[tactic(auto, unfolding(vax_flat::specs::Rows::write_place, vax_flat::specs::Operand::next_operand, vax_flat::specs::Operand::specified))]
+pub(crate) fn next_place<P: Port>(
+    core: &mut Core,
+    term: &Term,
+    port: &mut P,
+    window: Window,
+    size: Size,
+) -> Option<(Operand, Window)>
+    requires window { IsSeen (P.view port.old) core.old window }
+    ensures exact { Gives (write_place (bytes_of size)) result
+        (seen P.view core.old term.now port.old) (seen P.view core.new term.now port.new) }
+    ensures place { IfSome result (λ r. IsPlace (bytes_of size) r.0) }
+    ensures left { IfSome result (λ r. IsSeen (P.view port.new) core.new r.1) }
+    ensures reads { Reads P.view P.since core.old port.old core.new port.new }
+{
+    let width = width_of(size);
+    let (byte, behind) = fetch(core, term, port, window, 1)?;
+    place_by_byte(core, term, port, behind, width, byte as u8)
+}
+
+/// The address of a specifier byte.
+#[inline(never)]
+fn address_there<P: Port>(
+    core: &mut Core,
+    term: &Term,
+    port: &mut P,
+    window: Window,
+    width: u8,
+    byte: u8,
+) -> Option<(u32, Window)>
+    requires width { IsWidth width }
+    requires window { IsSeen (P.view port.old) core.old window }
+    ensures exact { Gives (located letter.Address width (form_of byte)) result
+        (seen P.view core.old term.now port.old) (seen P.view core.new term.now port.new) }
+    ensures left { IfSome result (λ r. IsSeen (P.view port.new) core.new r.1) }
+    ensures reads { Reads P.view P.since core.old port.old core.new port.new }
+{
+    address_near(core, term, port, window, Letter::Address, width, byte)
+}
+
+/// The address of an operand that lies in memory.
+#[inline(always)]
+fn address_beyond<P: Port>(
+    core: &mut Core,
+    term: &Term,
+    port: &mut P,
+    window: Window,
+    width: u8,
+    byte: u8,
+) -> Option<(u32, Window)>
+    requires width { IsWidth width }
+    requires memory { IsMemory (form_of byte) }
+    requires window { IsSeen (P.view port.old) core.old window }
+    ensures exact { Gives
+        (λ s next. formed (address_of width) (form_of byte) s (λ o s. next (address_in o) s))
+        result (seen P.view core.old term.now port.old) (seen P.view core.new term.now port.new) }
+    ensures left { IfSome result (λ r. IsSeen (P.view port.new) core.new r.1) }
+    ensures reads { Reads P.view P.since core.old port.old core.new port.new }
+{
+    address_there(core, term, port, window, width, byte)
+}
+
+/// The address of an operand by its specifier byte.
+#[inline(always)]
+#[tactic(auto, unfolding(vax_flat::specs::Operand::form_of))]
+fn address_by_byte<P: Port>(
+    core: &mut Core,
+    term: &Term,
+    port: &mut P,
+    window: Window,
+    width: u8,
+    byte: u8,
+) -> Option<(u32, Window)>
+    requires width { IsWidth width }
+    requires window { IsSeen (P.view port.old) core.old window }
+    ensures exact { Gives
+        (λ s next. formed (address_of width) (form_of byte) s (λ o s. next (address_in o) s))
+        result (seen P.view core.old term.now port.old) (seen P.view core.new term.now port.new) }
+    ensures left { IfSome result (λ r. IsSeen (P.view port.new) core.new r.1) }
+    ensures reads { Reads P.view P.since core.old port.old core.new port.new }
+{
+    match byte >> 4 {
+        0 | 1 | 2 | 3 | 5 => None,
+        _ => address_beyond(core, term, port, window, width, byte),
+    }
+}
+
+/// Reads one operand at PC of which the address is taken.
+#[inline(always)]
+#[tactic(auto, unfolding(vax_flat::specs::Rows::address_value, vax_flat::specs::Operand::next_operand, vax_flat::specs::Operand::specified, vax_flat::specs::Operand::form_of))]
+pub(crate) fn next_address<P: Port>(
+    core: &mut Core,
+    term: &Term,
+    port: &mut P,
+    window: Window,
+    size: Size,
+) -> Option<(u32, Window)>
+    requires window { IsSeen (P.view port.old) core.old window }
+    ensures exact { Gives (address_value (bytes_of size)) result
+        (seen P.view core.old term.now port.old) (seen P.view core.new term.now port.new) }
+    ensures left { IfSome result (λ r. IsSeen (P.view port.new) core.new r.1) }
+    ensures reads { Reads P.view P.since core.old port.old core.new port.new }
+{
+    let width = width_of(size);
+    let (byte, behind) = fetch(core, term, port, window, 1)?;
+    address_by_byte(core, term, port, behind, width, byte as u8)
+}
+
+/// Reads the displacement at PC that a branch has: where the branch goes.
+#[inline(always)]
+#[tactic(auto, unfolding(vax_flat::specs::Rows::branch_target, vax_flat::specs::Operand::next_operand, vax_flat::specs::Operand::branched, vax_flat::specs::Rows::address_in))]
+pub(crate) fn next_target<P: Port>(
+    core: &mut Core,
+    term: &Term,
+    port: &mut P,
+    window: Window,
+    size: Narrow,
+) -> Option<(u32, Window)>
+    requires window { IsSeen (P.view port.old) core.old window }
+    ensures exact { Gives (branch_target (bytes_of (size_of size))) result
+        (seen P.view core.old term.now port.old) (seen P.view core.new term.now port.new) }
+    ensures reads { Reads P.view P.since core.old port.old core.new port.new }
+{
+    let width = displacement_width(size);
+    let (value, behind) = fetch(core, term, port, window, width as u32)?;
+    let displacement = extend(width, value);
+    Some((core.regs[15].wrapping_add(displacement), behind))
+}

@@ -1,0 +1,364 @@
+//! Branches, jumps, loops and subroutines: one function for each shape of instruction, which follows the shape's definition in `vax_flat`.
+ghost use Rattle.std.specs.Prelude.{◌≡◌, ◌^◌, ◌<◌};
+ghost use Rattle.vax_word.specs.Arithmetic.{bytes_of};
+ghost use Rattle.vax_isa.specs.Actions.{size_of};
+ghost use Rattle.vax_flat.specs.declared.Flow.TheVariants as flow;
+ghost use Rattle.vax_flat.specs.Control as control;
+ghost use Rattle.vax_flat.specs.Control.{compares, holds};
+ghost use Rattle.vax_flat.specs.Operand.{IsPlace};
+ghost use Rattle.vax_undo.specs.Transaction.{seen, state_of};
+ghost use Rattle.vax_quick.specs.Made.{IsKept, IsSeen, Leaves, Makes};
+
+use crate::access::{next_address, next_modified, next_target, next_value, store};
+use crate::forms::extend;
+use crate::memory::read;
+use crate::results::{is_quiet, push, set_codes, settle};
+use crate::window::Window;
+use vax_isa::{Condition, Control, Narrow, Relation};
+use vax_operand::Operand;
+use vax_undo::{Port, Term};
+use vax_word::{Codes, Core, Size, add, compare, signed_less, sub};
+
+/// Whether the condition codes are those for which a branch is taken.
+#[inline(always)]
+#[tactic(auto, unfolding(vax_flat::specs::Control::holds))]
+fn holds(condition: Condition, codes: Codes) -> bool
+    ensures { result ≡ holds condition codes }
+{
+    match condition {
+        Condition::Always => true,
+        Condition::NotEqual => !codes.z,
+        Condition::Equal => codes.z,
+        Condition::Greater => !(codes.n || codes.z),
+        Condition::LessOrEqual => codes.n || codes.z,
+        Condition::GreaterOrEqual => !codes.n,
+        Condition::Less => codes.n,
+        Condition::GreaterUnsigned => !(codes.c || codes.z),
+        Condition::LessOrEqualUnsigned => codes.c || codes.z,
+        Condition::OverflowClear => !codes.v,
+        Condition::OverflowSet => codes.v,
+        Condition::CarryClear => !codes.c,
+        Condition::CarrySet => codes.c,
+    }
+}
+
+/// How two signed longwords compare.
+#[inline(always)]
+#[tactic(auto, unfolding(vax_flat::specs::Control::compares))]
+fn compares(relation: Relation, a: u64, b: u64) -> bool
+    requires a { a < 256 ^ 4 }
+    requires b { b < 256 ^ 4 }
+    ensures { result ≡ compares relation a b }
+{
+    match relation {
+        Relation::Less => signed_less(Size::L, a, b),
+        Relation::LessOrEqual => !signed_less(Size::L, b, a),
+        Relation::Greater => signed_less(Size::L, b, a),
+        Relation::GreaterOrEqual => !signed_less(Size::L, a, b),
+    }
+}
+
+/// Lets control go on at the target, if the branch is taken.
+#[inline(always)]
+#[tactic(auto, unfolding(vax_flat::specs::Control::jumped_if))]
+fn jump_if(core: &mut Core, term: &Term, taken: bool, target: u32)
+    ensures exact { state_of core.new term.now
+        ≡ control.jumped_if taken target (state_of core.old term.now) }
+    ensures kept { IsKept core.old core.new }
+{
+    let _ = term;
+    if taken {
+        core.regs[15] = target;
+    }
+}
+
+/// BRB, BRW, and the branches on the condition codes.
+#[inline(always)]
+#[tactic(auto, unfolding(vax_flat::specs::Control::branch))]
+fn branch<P: Port>(
+    core: &mut Core,
+    term: &Term,
+    port: &mut P,
+    window: Window,
+    condition: Condition,
+    size: Narrow,
+) -> Option<()>
+    requires window { IsSeen (P.view port.old) core.old window }
+    ensures exact { Makes (control.branch condition (size_of size)) result
+        (seen P.view core.old term.now port.old) (seen P.view core.new term.now port.new) }
+    ensures leaves { Leaves P.since core.old port.old core.new port.new }
+{
+    let (target, _) = next_target(core, term, port, window, size)?;
+    let taken = holds(condition, core.psl.codes());
+    jump_if(core, term, taken, target);
+    Some(())
+}
+
+/// Pushes PC, and lets control go on at the target.
+#[inline(always)]
+#[tactic(auto, unfolding(vax_flat::specs::Control::called))]
+fn call<P: Port>(core: &mut Core, term: &Term, port: &mut P, target: u32) -> Option<()>
+    ensures exact { Makes (control.called target) result
+        (seen P.view core.old term.now port.old) (seen P.view core.new term.now port.new) }
+    ensures leaves { Leaves P.since core.old port.old core.new port.new }
+{
+    let behind = core.regs[15];
+    push(core, term, port, behind)?;
+    core.regs[15] = target;
+    Some(())
+}
+
+/// BSBB, BSBW.
+#[inline(always)]
+#[tactic(auto, unfolding(vax_flat::specs::Control::branch_subroutine))]
+fn branch_subroutine<P: Port>(
+    core: &mut Core,
+    term: &Term,
+    port: &mut P,
+    window: Window,
+    size: Narrow,
+) -> Option<()>
+    requires window { IsSeen (P.view port.old) core.old window }
+    ensures exact { Makes (control.branch_subroutine (size_of size)) result
+        (seen P.view core.old term.now port.old) (seen P.view core.new term.now port.new) }
+    ensures leaves { Leaves P.since core.old port.old core.new port.new }
+{
+    let (target, _) = next_target(core, term, port, window, size)?;
+    call(core, term, port, target)
+}
+
+/// JMP.
+#[inline(always)]
+#[tactic(auto, unfolding(vax_flat::specs::Control::jump))]
+fn jump<P: Port>(core: &mut Core, term: &Term, port: &mut P, window: Window) -> Option<()>
+    requires window { IsSeen (P.view port.old) core.old window }
+    ensures exact { Makes control.jump result
+        (seen P.view core.old term.now port.old) (seen P.view core.new term.now port.new) }
+    ensures leaves { Leaves P.since core.old port.old core.new port.new }
+{
+    let (target, _) = next_address(core, term, port, window, Size::B)?;
+    core.regs[15] = target;
+    Some(())
+}
+
+/// JSB.
+#[inline(always)]
+#[tactic(auto, unfolding(vax_flat::specs::Control::jump_subroutine))]
+fn jump_subroutine<P: Port>(
+    core: &mut Core,
+    term: &Term,
+    port: &mut P,
+    window: Window,
+) -> Option<()>
+    requires window { IsSeen (P.view port.old) core.old window }
+    ensures exact { Makes control.jump_subroutine result
+        (seen P.view core.old term.now port.old) (seen P.view core.new term.now port.new) }
+    ensures leaves { Leaves P.since core.old port.old core.new port.new }
+{
+    let (target, _) = next_address(core, term, port, window, Size::B)?;
+    call(core, term, port, target)
+}
+
+/// RSB.
+#[inline(always)]
+#[tactic(auto, unfolding(vax_flat::specs::Control::return_subroutine))]
+fn return_subroutine<P: Port>(
+    core: &mut Core,
+    term: &Term,
+    port: &mut P,
+    window: Window,
+) -> Option<()>
+    requires window { IsSeen (P.view port.old) core.old window }
+    ensures exact { Makes control.return_subroutine result
+        (seen P.view core.old term.now port.old) (seen P.view core.new term.now port.new) }
+    ensures leaves { Leaves P.since core.old port.old core.new port.new }
+{
+    let _ = window;
+    let top = core.regs[14];
+    let target = read(core, term, port, top, 4)?;
+    core.regs[14] = top.wrapping_add(4);
+    core.regs[15] = target as u32;
+    Some(())
+}
+
+/// BLBS, BLBC.
+#[inline(always)]
+#[tactic(auto, unfolding(vax_flat::specs::Control::low_bit))]
+fn low_bit<P: Port>(
+    core: &mut Core,
+    term: &Term,
+    port: &mut P,
+    window: Window,
+    set: bool,
+) -> Option<()>
+    requires window { IsSeen (P.view port.old) core.old window }
+    ensures exact { Makes (control.low_bit set) result
+        (seen P.view core.old term.now port.old) (seen P.view core.new term.now port.new) }
+    ensures leaves { Leaves P.since core.old port.old core.new port.new }
+{
+    let (x, window) = next_value(core, term, port, window, Size::L)?;
+    let (target, _) = next_target(core, term, port, window, Narrow::B)?;
+    let taken = if set { x % 2 == 1 } else { x % 2 == 0 };
+    jump_if(core, term, taken, target);
+    Some(())
+}
+
+/// Writes a loop's index, sets its codes but C, and lets control go on at the target or behind.
+#[inline(always)]
+#[tactic(auto, using(crate::proofs::Quiet::quiet_still), unfolding(vax_flat::specs::Control::looped))]
+fn go_on<P: Port>(
+    core: &mut Core,
+    term: &Term,
+    port: &mut P,
+    size: Size,
+    place: Operand,
+    index: (u64, Codes),
+    taken: bool,
+    target: u32,
+) -> Option<()>
+    requires place { IsPlace (bytes_of size) place }
+    requires fits { index.0 < 256 ^ bytes_of size }
+    ensures exact { Makes (control.looped size place index taken target) result
+        (seen P.view core.old term.now port.old) (seen P.view core.new term.now port.new) }
+    ensures leaves { Leaves P.since core.old port.old core.new port.new }
+{
+    let (value, codes) = index;
+    let codes = Codes {
+        c: core.psl.codes().c,
+        ..codes
+    };
+    if !is_quiet(core.psl, false, codes) {
+        return None;
+    }
+    store(core, term, port, size, place, value)?;
+    jump_if(core, term, taken, target);
+    set_codes(core, term, port, false, codes);
+    Some(())
+}
+
+/// AOBLSS, AOBLEQ.
+#[inline(always)]
+#[tactic(auto, unfolding(vax_flat::specs::Control::add_one))]
+fn add_one<P: Port>(
+    core: &mut Core,
+    term: &Term,
+    port: &mut P,
+    window: Window,
+    relation: Relation,
+) -> Option<()>
+    requires window { IsSeen (P.view port.old) core.old window }
+    ensures exact { Makes (control.add_one relation) result
+        (seen P.view core.old term.now port.old) (seen P.view core.new term.now port.new) }
+    ensures leaves { Leaves P.since core.old port.old core.new port.new }
+{
+    let (limit, window) = next_value(core, term, port, window, Size::L)?;
+    let ((place, old), window) = next_modified(core, term, port, window, Size::L)?;
+    let (target, _) = next_target(core, term, port, window, Narrow::B)?;
+    let index = add(Size::L, old, 1, false);
+    let taken = compares(relation, index.0, limit);
+    go_on(core, term, port, Size::L, place, index, taken, target)
+}
+
+/// SOBGEQ, SOBGTR.
+#[inline(always)]
+#[tactic(auto, unfolding(vax_flat::specs::Control::subtract_one))]
+fn subtract_one<P: Port>(
+    core: &mut Core,
+    term: &Term,
+    port: &mut P,
+    window: Window,
+    relation: Relation,
+) -> Option<()>
+    requires window { IsSeen (P.view port.old) core.old window }
+    ensures exact { Makes (control.subtract_one relation) result
+        (seen P.view core.old term.now port.old) (seen P.view core.new term.now port.new) }
+    ensures leaves { Leaves P.since core.old port.old core.new port.new }
+{
+    let ((place, old), window) = next_modified(core, term, port, window, Size::L)?;
+    let (target, _) = next_target(core, term, port, window, Narrow::B)?;
+    let index = sub(Size::L, old, 1, false);
+    let taken = compares(relation, index.0, 0);
+    go_on(core, term, port, Size::L, place, index, taken, target)
+}
+
+/// Lets control go on by the displacement at a place of the table behind PC, or behind the table where the place is above the limit.
+#[inline(always)]
+#[tactic(auto, unfolding(vax_flat::specs::Control::chosen))]
+fn choose<P: Port>(
+    core: &mut Core,
+    term: &Term,
+    port: &mut P,
+    size: Narrow,
+    place: u64,
+    limit: u64,
+) -> Option<()>
+    requires place { place < 256 ^ bytes_of (size_of size) }
+    requires limit { limit < 256 ^ bytes_of (size_of size) }
+    ensures exact { Makes (control.chosen (size_of size) place limit) result
+        (seen P.view core.old term.now port.old) (seen P.view core.new term.now port.new) }
+    ensures leaves { Leaves P.since core.old port.old core.new port.new }
+{
+    let table = core.regs[15];
+    let codes = compare(size.into(), place, limit);
+    if place > limit {
+        let behind = (limit as u32).wrapping_mul(2).wrapping_add(2);
+        core.regs[15] = table.wrapping_add(behind);
+        return settle(core, term, port, false, codes);
+    }
+    let entry = table.wrapping_add((place as u32).wrapping_mul(2));
+    let displacement = extend(2, read(core, term, port, entry, 2)?);
+    core.regs[15] = table.wrapping_add(displacement);
+    settle(core, term, port, false, codes)?;
+    Some(())
+}
+
+/// CASE.
+#[inline(always)]
+#[tactic(auto, unfolding(vax_flat::specs::Control::case_of))]
+fn case_of<P: Port>(
+    core: &mut Core,
+    term: &Term,
+    port: &mut P,
+    window: Window,
+    size: Narrow,
+) -> Option<()>
+    requires window { IsSeen (P.view port.old) core.old window }
+    ensures exact { Makes (control.case_of (size_of size)) result
+        (seen P.view core.old term.now port.old) (seen P.view core.new term.now port.new) }
+    ensures leaves { Leaves P.since core.old port.old core.new port.new }
+{
+    let (selector, window) = next_value(core, term, port, window, size.into())?;
+    let (base, window) = next_value(core, term, port, window, size.into())?;
+    let (limit, _) = next_value(core, term, port, window, size.into())?;
+    let place = sub(size.into(), selector, base, false).0;
+    choose(core, term, port, size, place, limit)
+}
+
+/// The instruction by its shape. ACB is left out.
+#[inline(never)]
+#[tactic(auto, unfolding(vax_flat::specs::Control::performed))]
+pub(crate) fn perform<P: Port>(
+    core: &mut Core,
+    term: &Term,
+    port: &mut P,
+    window: Window,
+    instruction: Control,
+) -> Option<()>
+    requires window { IsSeen (P.view port.old) core.old window }
+    ensures exact { Makes (control.performed instruction) result
+        (seen P.view core.old term.now port.old) (seen P.view core.new term.now port.new) }
+    ensures leaves { Leaves P.since core.old port.old core.new port.new }
+{
+    match instruction {
+        Control::Branch { condition, size } => branch(core, term, port, window, condition, size),
+        Control::BranchSubroutine(size) => branch_subroutine(core, term, port, window, size),
+        Control::Jump => jump(core, term, port, window),
+        Control::JumpSubroutine => jump_subroutine(core, term, port, window),
+        Control::Return => return_subroutine(core, term, port, window),
+        Control::LowBit { set } => low_bit(core, term, port, window, set),
+        Control::AddOne(relation) => add_one(core, term, port, window, relation),
+        Control::SubtractOne(relation) => subtract_one(core, term, port, window, relation),
+        Control::AddCompare(_) => None,
+        Control::Case(size) => case_of(core, term, port, window, size),
+    }
+}

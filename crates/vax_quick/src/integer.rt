@@ -1,0 +1,443 @@
+//! Moves, arithmetic, logic and addresses: one function for each shape of instruction, which follows the shape's definition in `vax_flat`.
+ghost use Rattle.std.specs.Prelude.{◌≡◌, ◌^◌, ◌<◌};
+ghost use Rattle.vax_word.specs.Arithmetic.{bytes_of};
+ghost use Rattle.vax_isa.specs.Actions.{size_of};
+ghost use Rattle.vax_flat.specs.Integer as integer;
+ghost use Rattle.vax_flat.specs.Rows.{carry_of};
+ghost use Rattle.vax_undo.specs.Transaction.{seen, state_of};
+ghost use Rattle.vax_quick.specs.Made.{IsSeen, Leaves, Makes};
+
+use crate::access::{next_address, next_modified, next_place, next_value};
+use crate::results::{answer, push, set_codes, settle};
+use crate::window::Window;
+use vax_isa::{Binary, Integer, Narrow, Unary};
+use vax_undo::{Port, Term};
+use vax_word::{Core, Size, compare as compared, emul, shift};
+use vax_x_int::{answer_of, is_by_zero, of_one, of_two, rotated};
+
+/// The carry as it is.
+#[inline(always)]
+fn carry(core: &Core, term: &Term) -> bool
+    ensures { result ≡ carry_of (state_of core.now term.now) }
+{
+    let _ = term;
+    core.psl.codes().c
+}
+
+/// MOV, MCOM, MNEG, MOVZ, CVT.
+#[inline(always)]
+#[tactic(auto, unfolding(vax_flat::specs::Integer::unary))]
+fn unary<P: Port>(
+    core: &mut Core,
+    term: &Term,
+    port: &mut P,
+    window: Window,
+    operation: Unary,
+    from: Size,
+    to: Size,
+) -> Option<()>
+    requires window { IsSeen (P.view port.old) core.old window }
+    ensures exact { Makes (integer.unary operation from to) result
+        (seen P.view core.old term.now port.old) (seen P.view core.new term.now port.new) }
+    ensures leaves { Leaves P.since core.old port.old core.new port.new }
+{
+    let (x, window) = next_value(core, term, port, window, from)?;
+    let (destination, _) = next_place(core, term, port, window, to)?;
+    let made = of_one(operation, from, to, x, carry(core, term));
+    answer(core, term, port, to, destination, false, made)
+}
+
+/// ADDx2, SUBx2, MULx2, DIVx2, BISx2, BICx2, XORx2, ADWC, SBWC.
+#[inline(always)]
+#[tactic(auto, unfolding(vax_flat::specs::Integer::two))]
+fn two<P: Port>(
+    core: &mut Core,
+    term: &Term,
+    port: &mut P,
+    window: Window,
+    operation: Binary,
+    size: Narrow,
+) -> Option<()>
+    requires window { IsSeen (P.view port.old) core.old window }
+    ensures exact { Makes (integer.two operation (size_of size)) result
+        (seen P.view core.old term.now port.old) (seen P.view core.new term.now port.new) }
+    ensures leaves { Leaves P.since core.old port.old core.new port.new }
+{
+    let (a, window) = next_value(core, term, port, window, size.into())?;
+    let ((place, b), _) = next_modified(core, term, port, window, size.into())?;
+    let made = of_two(operation, size, a, b, carry(core, term));
+    let by_zero = is_by_zero(operation, a);
+    answer(core, term, port, size.into(), place, by_zero, made)
+}
+
+/// ADDx3, SUBx3, MULx3, DIVx3, BISx3, BICx3, XORx3.
+#[inline(always)]
+#[tactic(auto, unfolding(vax_flat::specs::Integer::three))]
+fn three<P: Port>(
+    core: &mut Core,
+    term: &Term,
+    port: &mut P,
+    window: Window,
+    operation: Binary,
+    size: Narrow,
+) -> Option<()>
+    requires window { IsSeen (P.view port.old) core.old window }
+    ensures exact { Makes (integer.three operation (size_of size)) result
+        (seen P.view core.old term.now port.old) (seen P.view core.new term.now port.new) }
+    ensures leaves { Leaves P.since core.old port.old core.new port.new }
+{
+    let (a, window) = next_value(core, term, port, window, size.into())?;
+    let (b, window) = next_value(core, term, port, window, size.into())?;
+    let (destination, _) = next_place(core, term, port, window, size.into())?;
+    let made = of_two(operation, size, a, b, carry(core, term));
+    let by_zero = is_by_zero(operation, a);
+    answer(core, term, port, size.into(), destination, by_zero, made)
+}
+
+/// INC, DEC.
+#[inline(always)]
+#[tactic(auto, unfolding(vax_flat::specs::Integer::by_one))]
+fn by_one<P: Port>(
+    core: &mut Core,
+    term: &Term,
+    port: &mut P,
+    window: Window,
+    operation: Binary,
+    size: Narrow,
+) -> Option<()>
+    requires window { IsSeen (P.view port.old) core.old window }
+    ensures exact { Makes (integer.by_one operation (size_of size)) result
+        (seen P.view core.old term.now port.old) (seen P.view core.new term.now port.new) }
+    ensures leaves { Leaves P.since core.old port.old core.new port.new }
+{
+    let ((place, b), _) = next_modified(core, term, port, window, size.into())?;
+    let made = of_two(operation, size, 1, b, carry(core, term));
+    let by_zero = is_by_zero(operation, 1);
+    answer(core, term, port, size.into(), place, by_zero, made)
+}
+
+/// CLR.
+#[inline(always)]
+#[tactic(auto, unfolding(vax_flat::specs::Integer::clear))]
+fn clear<P: Port>(
+    core: &mut Core,
+    term: &Term,
+    port: &mut P,
+    window: Window,
+    size: Size,
+) -> Option<()>
+    requires window { IsSeen (P.view port.old) core.old window }
+    ensures exact { Makes (integer.clear size) result
+        (seen P.view core.old term.now port.old) (seen P.view core.new term.now port.new) }
+    ensures leaves { Leaves P.since core.old port.old core.new port.new }
+{
+    let (destination, _) = next_place(core, term, port, window, size)?;
+    let made = answer_of(size, 0, false, carry(core, term));
+    answer(core, term, port, size, destination, false, made)
+}
+
+/// TST.
+#[inline(always)]
+#[tactic(auto, unfolding(vax_flat::specs::Integer::test_value))]
+fn test<P: Port>(
+    core: &mut Core,
+    term: &Term,
+    port: &mut P,
+    window: Window,
+    size: Size,
+) -> Option<()>
+    requires window { IsSeen (P.view port.old) core.old window }
+    ensures exact { Makes (integer.test_value size) result
+        (seen P.view core.old term.now port.old) (seen P.view core.new term.now port.new) }
+    ensures leaves { Leaves P.since core.old port.old core.new port.new }
+{
+    let (x, _) = next_value(core, term, port, window, size)?;
+    let made = answer_of(size, x, false, false);
+    settle(core, term, port, false, made.1)
+}
+
+/// CMP.
+#[inline(always)]
+#[tactic(auto, unfolding(vax_flat::specs::Integer::compare))]
+fn compare<P: Port>(
+    core: &mut Core,
+    term: &Term,
+    port: &mut P,
+    window: Window,
+    size: Size,
+) -> Option<()>
+    requires window { IsSeen (P.view port.old) core.old window }
+    ensures exact { Makes (integer.compare size) result
+        (seen P.view core.old term.now port.old) (seen P.view core.new term.now port.new) }
+    ensures leaves { Leaves P.since core.old port.old core.new port.new }
+{
+    let (a, window) = next_value(core, term, port, window, size)?;
+    let (b, _) = next_value(core, term, port, window, size)?;
+    let codes = compared(size, a, b);
+    settle(core, term, port, false, codes)
+}
+
+/// BIT.
+#[inline(always)]
+#[tactic(auto, using(vax_x_int::proofs::Sizes::and_fits), unfolding(vax_flat::specs::Integer::bit_test))]
+fn bit_test<P: Port>(
+    core: &mut Core,
+    term: &Term,
+    port: &mut P,
+    window: Window,
+    size: Size,
+) -> Option<()>
+    requires window { IsSeen (P.view port.old) core.old window }
+    ensures exact { Makes (integer.bit_test size) result
+        (seen P.view core.old term.now port.old) (seen P.view core.new term.now port.new) }
+    ensures leaves { Leaves P.since core.old port.old core.new port.new }
+{
+    let (mask, window) = next_value(core, term, port, window, size)?;
+    let (x, _) = next_value(core, term, port, window, size)?;
+    let made = answer_of(size, x & mask, false, carry(core, term));
+    settle(core, term, port, false, made.1)
+}
+
+/// ASH.
+#[inline(always)]
+#[tactic(auto, using(vax_x_int::proofs::Sizes::signed_count), unfolding(vax_flat::specs::Integer::shift))]
+fn shift_by<P: Port>(
+    core: &mut Core,
+    term: &Term,
+    port: &mut P,
+    window: Window,
+    size: Size,
+) -> Option<()>
+    requires window { IsSeen (P.view port.old) core.old window }
+    ensures exact { Makes (integer.shift size) result
+        (seen P.view core.old term.now port.old) (seen P.view core.new term.now port.new) }
+    ensures leaves { Leaves P.since core.old port.old core.new port.new }
+{
+    let (count, window) = next_value(core, term, port, window, Size::B)?;
+    let (x, window) = next_value(core, term, port, window, size)?;
+    let (destination, _) = next_place(core, term, port, window, size)?;
+    let made = shift(size, (count as u8).cast_signed(), x);
+    answer(core, term, port, size, destination, false, made)
+}
+
+/// ROTL.
+#[inline(always)]
+#[tactic(auto, unfolding(vax_flat::specs::Integer::rotate))]
+fn rotate<P: Port>(core: &mut Core, term: &Term, port: &mut P, window: Window) -> Option<()>
+    requires window { IsSeen (P.view port.old) core.old window }
+    ensures exact { Makes integer.rotate result
+        (seen P.view core.old term.now port.old) (seen P.view core.new term.now port.new) }
+    ensures leaves { Leaves P.since core.old port.old core.new port.new }
+{
+    let (count, window) = next_value(core, term, port, window, Size::B)?;
+    let (x, window) = next_value(core, term, port, window, Size::L)?;
+    let (destination, _) = next_place(core, term, port, window, Size::L)?;
+    let made = answer_of(Size::L, rotated(count, x), false, carry(core, term));
+    answer(core, term, port, Size::L, destination, false, made)
+}
+
+/// MOVA.
+#[inline(always)]
+#[tactic(auto, unfolding(vax_flat::specs::Integer::move_address))]
+fn move_address<P: Port>(
+    core: &mut Core,
+    term: &Term,
+    port: &mut P,
+    window: Window,
+    size: Size,
+) -> Option<()>
+    requires window { IsSeen (P.view port.old) core.old window }
+    ensures exact { Makes (integer.move_address size) result
+        (seen P.view core.old term.now port.old) (seen P.view core.new term.now port.new) }
+    ensures leaves { Leaves P.since core.old port.old core.new port.new }
+{
+    let (addr, window) = next_address(core, term, port, window, size)?;
+    let (destination, _) = next_place(core, term, port, window, Size::L)?;
+    let made = answer_of(Size::L, addr as u64, false, carry(core, term));
+    answer(core, term, port, Size::L, destination, false, made)
+}
+
+/// A longword pushed as a result.
+#[inline(always)]
+#[tactic(auto, using(crate::proofs::Quiet::pushed_quiet), unfolding(vax_flat::specs::Integer::pushed_result))]
+fn push_result<P: Port>(core: &mut Core, term: &Term, port: &mut P, x: u32) -> Option<()>
+    ensures exact { Makes (integer.pushed_result x) result
+        (seen P.view core.old term.now port.old) (seen P.view core.new term.now port.new) }
+    ensures leaves { Leaves P.since core.old port.old core.new port.new }
+{
+    push(core, term, port, x)?;
+    let made = answer_of(Size::L, x as u64, false, carry(core, term));
+    set_codes(core, term, port, false, made.1);
+    Some(())
+}
+
+/// PUSHA.
+#[inline(always)]
+#[tactic(auto, unfolding(vax_flat::specs::Integer::push_address))]
+fn push_address<P: Port>(
+    core: &mut Core,
+    term: &Term,
+    port: &mut P,
+    window: Window,
+    size: Size,
+) -> Option<()>
+    requires window { IsSeen (P.view port.old) core.old window }
+    ensures exact { Makes (integer.push_address size) result
+        (seen P.view core.old term.now port.old) (seen P.view core.new term.now port.new) }
+    ensures leaves { Leaves P.since core.old port.old core.new port.new }
+{
+    let (addr, _) = next_address(core, term, port, window, size)?;
+    push_result(core, term, port, addr)
+}
+
+/// PUSHL.
+#[inline(always)]
+#[tactic(auto, unfolding(vax_flat::specs::Integer::push))]
+fn push_long<P: Port>(core: &mut Core, term: &Term, port: &mut P, window: Window) -> Option<()>
+    requires window { IsSeen (P.view port.old) core.old window }
+    ensures exact { Makes integer.push result
+        (seen P.view core.old term.now port.old) (seen P.view core.new term.now port.new) }
+    ensures leaves { Leaves P.since core.old port.old core.new port.new }
+{
+    let (x, _) = next_value(core, term, port, window, Size::L)?;
+    push_result(core, term, port, x as u32)
+}
+
+/// EMUL.
+#[inline(always)]
+#[tactic(auto, using(vax_x_int::proofs::Sizes::product_fits), unfolding(vax_flat::specs::Integer::extended_multiply))]
+fn extended_multiply<P: Port>(
+    core: &mut Core,
+    term: &Term,
+    port: &mut P,
+    window: Window,
+) -> Option<()>
+    requires window { IsSeen (P.view port.old) core.old window }
+    ensures exact { Makes integer.extended_multiply result
+        (seen P.view core.old term.now port.old) (seen P.view core.new term.now port.new) }
+    ensures leaves { Leaves P.since core.old port.old core.new port.new }
+{
+    let (a, window) = next_value(core, term, port, window, Size::L)?;
+    let (b, window) = next_value(core, term, port, window, Size::L)?;
+    let (addend, window) = next_value(core, term, port, window, Size::L)?;
+    let (product, _) = next_place(core, term, port, window, Size::Q)?;
+    let made = emul(a as u32, b as u32, addend as u32);
+    answer(core, term, port, Size::Q, product, false, made)
+}
+
+/// The instruction by its shape. EDIV and INDEX are left out.
+#[inline(never)]
+#[tactic(auto, unfolding(vax_flat::specs::Integer::performed))]
+fn perform_any<P: Port>(
+    core: &mut Core,
+    term: &Term,
+    port: &mut P,
+    window: Window,
+    instruction: Integer,
+) -> Option<()>
+    requires window { IsSeen (P.view port.old) core.old window }
+    ensures exact { Makes (integer.performed instruction) result
+        (seen P.view core.old term.now port.old) (seen P.view core.new term.now port.new) }
+    ensures leaves { Leaves P.since core.old port.old core.new port.new }
+{
+    match instruction {
+        Integer::Unary {
+            operation,
+            from,
+            to,
+        } => unary(core, term, port, window, operation, from, to),
+        Integer::Two { operation, size } => two(core, term, port, window, operation, size),
+        Integer::Three { operation, size } => three(core, term, port, window, operation, size),
+        Integer::ByOne { operation, size } => by_one(core, term, port, window, operation, size),
+        Integer::Clear(size) => clear(core, term, port, window, size),
+        Integer::Test(size) => test(core, term, port, window, size.into()),
+        Integer::Compare(size) => compare(core, term, port, window, size.into()),
+        Integer::BitTest(size) => bit_test(core, term, port, window, size.into()),
+        Integer::Shift(size) => shift_by(core, term, port, window, size),
+        Integer::Rotate => rotate(core, term, port, window),
+        Integer::MoveAddress(size) => move_address(core, term, port, window, size),
+        Integer::PushAddress(size) => push_address(core, term, port, window, size),
+        Integer::Push => push_long(core, term, port, window),
+        Integer::ExtendedMultiply => extended_multiply(core, term, port, window),
+        Integer::ExtendedDivide => None,
+        Integer::Index => None,
+    }
+}
+
+/// The instruction by its shape. The commonest have arms of their own, each with its operation and sizes as constants.
+#[inline(never)]
+#[tactic(auto, unfolding(vax_flat::specs::Integer::performed))]
+pub(crate) fn perform<P: Port>(
+    core: &mut Core,
+    term: &Term,
+    port: &mut P,
+    window: Window,
+    instruction: Integer,
+) -> Option<()>
+    requires window { IsSeen (P.view port.old) core.old window }
+    ensures exact { Makes (integer.performed instruction) result
+        (seen P.view core.old term.now port.old) (seen P.view core.new term.now port.new) }
+    ensures leaves { Leaves P.since core.old port.old core.new port.new }
+{
+    match instruction {
+        Integer::Unary {
+            operation: Unary::Move,
+            from: Size::L,
+            to: Size::L,
+        } => unary(core, term, port, window, Unary::Move, Size::L, Size::L),
+        Integer::Unary {
+            operation: Unary::Move,
+            from: Size::B,
+            to: Size::B,
+        } => unary(core, term, port, window, Unary::Move, Size::B, Size::B),
+        Integer::Unary {
+            operation: Unary::ZeroExtend,
+            from: Size::B,
+            to: Size::L,
+        } => unary(
+            core,
+            term,
+            port,
+            window,
+            Unary::ZeroExtend,
+            Size::B,
+            Size::L,
+        ),
+        Integer::Two {
+            operation: Binary::Add,
+            size: Narrow::L,
+        } => two(core, term, port, window, Binary::Add, Narrow::L),
+        Integer::Two {
+            operation: Binary::Subtract,
+            size: Narrow::L,
+        } => two(core, term, port, window, Binary::Subtract, Narrow::L),
+        Integer::Two {
+            operation: Binary::BitClear,
+            size: Narrow::L,
+        } => two(core, term, port, window, Binary::BitClear, Narrow::L),
+        Integer::Three {
+            operation: Binary::Add,
+            size: Narrow::L,
+        } => three(core, term, port, window, Binary::Add, Narrow::L),
+        Integer::Three {
+            operation: Binary::Subtract,
+            size: Narrow::L,
+        } => three(core, term, port, window, Binary::Subtract, Narrow::L),
+        Integer::Three {
+            operation: Binary::BitClear,
+            size: Narrow::L,
+        } => three(core, term, port, window, Binary::BitClear, Narrow::L),
+        Integer::ByOne {
+            operation: Binary::Add,
+            size: Narrow::L,
+        } => by_one(core, term, port, window, Binary::Add, Narrow::L),
+        Integer::ByOne {
+            operation: Binary::Subtract,
+            size: Narrow::L,
+        } => by_one(core, term, port, window, Binary::Subtract, Narrow::L),
+        Integer::Clear(Size::L) => clear(core, term, port, window, Size::L),
+        Integer::Test(Narrow::L) => test(core, term, port, window, Size::L),
+        Integer::Compare(Narrow::L) => compare(core, term, port, window, Size::L),
+        _ => perform_any(core, term, port, window, instruction),
+    }
+}

@@ -1,0 +1,106 @@
+//! Results written and pushed, with their codes. Where a trap would follow, nothing is done.
+ghost use Rattle.std.specs.Prelude.{◌≡◌, ◌^◌, ◌<◌, true};
+ghost use Rattle.vax_word.specs.Arithmetic.{bytes_of};
+ghost use Rattle.vax_flat.specs.declared.Flow.TheVariants as flow;
+ghost use Rattle.vax_flat.specs.Operand.{IsPlace};
+ghost use Rattle.vax_flat.specs.Rows.{answered, pushed, settled};
+ghost use Rattle.vax_undo.specs.Transaction.{seen};
+ghost use Rattle.vax_quick.specs.Made.{Acts, GoesOn, IsKept, IsQuiet, Leaves, Makes};
+
+use crate::access::store;
+use crate::memory::write;
+use vax_operand::Operand;
+use vax_undo::{Port, Term};
+use vax_word::{Codes, Core, Psl, Size};
+
+/// Whether no trap follows a result with these codes.
+#[inline(always)]
+pub(crate) fn is_quiet(psl: Psl, by_zero: bool, codes: Codes) -> bool
+    ensures { result ≡ true → IsQuiet by_zero codes psl }
+{
+    let Psl(bits) = psl;
+    !(by_zero || codes.v && bits >> 5 & 1 == 1)
+}
+
+/// Sets the condition codes, where no trap follows.
+#[inline(always)]
+#[tactic(auto, using(crate::proofs::Quiet::settled_quiet, vax_undo::proofs::FirstPart::codes_closed))]
+pub(crate) fn set_codes<P: Port>(
+    core: &mut Core,
+    term: &Term,
+    port: &P,
+    by_zero: bool,
+    codes: Codes,
+)
+    requires quiet { IsQuiet by_zero codes core.old.psl }
+    ensures exact { GoesOn (settled by_zero codes) flow.Done
+        (seen P.view core.old term.now port.now) (seen P.view core.new term.now port.now) }
+    ensures leaves { Leaves P.since core.old port.now core.new port.now }
+{
+    let _ = term;
+    let _ = port;
+    let _ = by_zero;
+    core.psl = core.psl.with_codes(codes);
+}
+
+/// Sets the condition codes of an instruction that writes nothing.
+#[inline(always)]
+pub(crate) fn settle<P: Port>(
+    core: &mut Core,
+    term: &Term,
+    port: &P,
+    by_zero: bool,
+    codes: Codes,
+) -> Option<()>
+    ensures exact { Makes (settled by_zero codes) result
+        (seen P.view core.old term.now port.now) (seen P.view core.new term.now port.now) }
+    ensures leaves { Leaves P.since core.old port.now core.new port.now }
+{
+    if !is_quiet(core.psl, by_zero, codes) {
+        return None;
+    }
+    set_codes(core, term, port, by_zero, codes);
+    Some(())
+}
+
+/// Writes a result to its place, and sets its codes.
+#[inline(always)]
+#[tactic(auto, using(crate::proofs::Quiet::quiet_still), unfolding(vax_flat::specs::Rows::answered))]
+pub(crate) fn answer<P: Port>(
+    core: &mut Core,
+    term: &Term,
+    port: &mut P,
+    size: Size,
+    place: Operand,
+    by_zero: bool,
+    result_and_codes: (u64, Codes),
+) -> Option<()>
+    requires place { IsPlace (bytes_of size) place }
+    requires fits { result_and_codes.0 < 256 ^ bytes_of size }
+    ensures exact { Makes (answered (bytes_of size) place by_zero result_and_codes) result
+        (seen P.view core.old term.now port.old) (seen P.view core.new term.now port.new) }
+    ensures leaves { Leaves P.since core.old port.old core.new port.new }
+{
+    let (value, codes) = result_and_codes;
+    if !is_quiet(core.psl, by_zero, codes) {
+        return None;
+    }
+    store(core, term, port, size, place, value)?;
+    set_codes(core, term, port, by_zero, codes);
+    Some(())
+}
+
+/// Pushes a longword onto the stack in use.
+#[inline(always)]
+#[tactic(auto, unfolding(vax_flat::specs::Rows::pushed))]
+pub(crate) fn push<P: Port>(core: &mut Core, term: &Term, port: &mut P, value: u32) -> Option<()>
+    ensures exact { Acts (pushed value) result
+        (seen P.view core.old term.now port.old) (seen P.view core.new term.now port.new) }
+    ensures kept { IsKept core.old core.new }
+    ensures since { (start : P) → P.since start port.old → P.since start port.new }
+{
+    let top = core.regs[14].wrapping_sub(4);
+    write(core, term, port, top, 4, value as u64)?;
+    core.regs[14] = top;
+    Some(())
+}
