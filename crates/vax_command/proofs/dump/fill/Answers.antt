@@ -29,5 +29,5 @@ blanks-preserved g c =
       stands = λ place means. c.in_ok-dump.ensures.means place (inv.stands place means);
       reads = c.in_ok-dump.ensures.reads ∙ inv.reads;
       unread = λ none. absurd (not_none before rest blank split (inv.unread none).0);
-      quiet = c.in_ok-dump.ensures.quiet ∙ inv.quiet;
+      quiet = c.in_ok-dump.ensures.counts.quiet ∙ inv.quiet;
     }
