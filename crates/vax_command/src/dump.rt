@@ -1,6 +1,6 @@
 //! The memory that a report shows.
-ghost use Rattle.std.specs.Prelude.{◌≡◌, ◌≤◌, ◌<◌, ◌^◌, [], IfOk, OnErr, OnOk, List, ℕ, length, map, vec_capacity, All};
-ghost use Rattle.vax_outside.specs.Faults.{Rose};
+ghost use Rattle.std.specs.Prelude.{◌≡◌, ◌≤◌, ◌<◌, ◌^◌, [], IfOk, is_err, List, ℕ, length, map, vec_capacity, All};
+ghost use Rattle.vax_outside.specs.Faults.{CountsFailure};
 ghost use Rattle.vax_machine.specs.Machine.{keeping};
 ghost use Rattle.vax_pager.specs.Poking.{OnlyRead};
 ghost use Rattle.vax_machine.specs.Meaning.{engine};
@@ -76,9 +76,7 @@ pub(crate) fn fill<F: PageFile>(
     ensures unread { items_of room.blanks.items ≡ [] → F.contents pages.new ≡ F.contents pages.old }
     ensures cpu { (engine machine.new).cpu ≡ (engine machine.old).cpu }
     ensures keeps { keeping (engine machine.new) ≡ keeping (engine machine.old) }
-    ensures later { F.faults pages.old ≤ F.faults pages.new }
-    ensures cause { OnErr result (Rose (F.faults pages.old) (F.faults pages.new)) }
-    ensures quiet { OnOk result (F.faults pages.new ≡ F.faults pages.old) }
+    ensures counts { CountsFailure (is_err result) (F.faults pages.old) (F.faults pages.new) }
 {
     let Room {
         mut blanks,

@@ -1,7 +1,7 @@
 //! The lines of refusals.
-ghost use Rattle.std.specs.Prelude.{◌≡◌, ◌≤◌, codes, OnErr, OnOk, true, false};
+ghost use Rattle.std.specs.Prelude.{◌≡◌, ◌≤◌, codes, OnErr, OnOk, true, false, is_err};
 ghost use Rattle.vax_outside.specs.Channels.{Grew, GrewByPrefix, only};
-ghost use Rattle.vax_outside.specs.Faults.{Rose};
+ghost use Rattle.vax_outside.specs.Faults.{CountsFailure};
 ghost use Rattle.vax_command.specs.Status.{image_fault, is_named, link_fault, named, refusal_growth, schedule_fault, source_fault};
 ghost use Rattle.vax_command.specs.Around.{change};
 ghost use Rattle.vax_command.specs.Ends.{Ends};
@@ -16,9 +16,7 @@ fn put_named<K: Sink>(label: &[u8], name: &[u8], sink: &mut K) -> Result<(), Fai
         (only Chan.Report (named label.now name.now))) }
     ensures prefix { OnErr result (GrewByPrefix (K.contents sink.old) (K.contents sink.new)
         (only Chan.Report (named label.now name.now))) }
-    ensures later { K.faults sink.old ≤ K.faults sink.new }
-    ensures cause { OnErr result (Rose (K.faults sink.old) (K.faults sink.new)) }
-    ensures quiet { OnOk result (K.faults sink.new ≡ K.faults sink.old) }
+    ensures counts { CountsFailure (is_err result) (K.faults sink.old) (K.faults sink.new) }
 {
     put_all(sink, Chan::Report, label)?;
     put_all(sink, Chan::Report, name)?;
@@ -33,9 +31,7 @@ fn put_source_fault<K: Sink>(file: u8, line: u32, kind: u8, sink: &mut K) -> Res
         (only Chan.Report (source_fault file line kind))) }
     ensures prefix { OnErr result (GrewByPrefix (K.contents sink.old) (K.contents sink.new)
         (only Chan.Report (source_fault file line kind))) }
-    ensures later { K.faults sink.old ≤ K.faults sink.new }
-    ensures cause { OnErr result (Rose (K.faults sink.old) (K.faults sink.new)) }
-    ensures quiet { OnOk result (K.faults sink.new ≡ K.faults sink.old) }
+    ensures counts { CountsFailure (is_err result) (K.faults sink.old) (K.faults sink.new) }
 {
     let mut text = Text::new();
     text.push(b"vax: source ");
@@ -55,9 +51,7 @@ fn put_schedule_fault<K: Sink>(line: u32, kind: u8, sink: &mut K) -> Result<(), 
         (only Chan.Report (schedule_fault line kind))) }
     ensures prefix { OnErr result (GrewByPrefix (K.contents sink.old) (K.contents sink.new)
         (only Chan.Report (schedule_fault line kind))) }
-    ensures later { K.faults sink.old ≤ K.faults sink.new }
-    ensures cause { OnErr result (Rose (K.faults sink.old) (K.faults sink.new)) }
-    ensures quiet { OnOk result (K.faults sink.new ≡ K.faults sink.old) }
+    ensures counts { CountsFailure (is_err result) (K.faults sink.old) (K.faults sink.new) }
 {
     let mut text = Text::new();
     text.push(b"vax: schedule line ");
@@ -76,9 +70,7 @@ fn put_found<K: Sink>(kind: u8, name: &[u8], place: u32, sink: &mut K) -> Result
         (only Chan.Report (link_fault kind name.now place))) }
     ensures prefix { OnErr result (GrewByPrefix (K.contents sink.old) (K.contents sink.new)
         (only Chan.Report (link_fault kind name.now place))) }
-    ensures later { K.faults sink.old ≤ K.faults sink.new }
-    ensures cause { OnErr result (Rose (K.faults sink.old) (K.faults sink.new)) }
-    ensures quiet { OnOk result (K.faults sink.new ≡ K.faults sink.old) }
+    ensures counts { CountsFailure (is_err result) (K.faults sink.old) (K.faults sink.new) }
 {
     let mut text = Text::new();
     text.push(b"vax: link fault ");
@@ -99,9 +91,7 @@ fn put_found_name<K: Sink>(kind: u8, name: &[u8], place: u32, sink: &mut K) -> R
         (only Chan.Report (link_fault kind name.now place))) }
     ensures prefix { OnErr result (GrewByPrefix (K.contents sink.old) (K.contents sink.new)
         (only Chan.Report (link_fault kind name.now place))) }
-    ensures later { K.faults sink.old ≤ K.faults sink.new }
-    ensures cause { OnErr result (Rose (K.faults sink.old) (K.faults sink.new)) }
-    ensures quiet { OnOk result (K.faults sink.new ≡ K.faults sink.old) }
+    ensures counts { CountsFailure (is_err result) (K.faults sink.old) (K.faults sink.new) }
 {
     let mut label = Text::new();
     label.push(b"vax: link fault ");
@@ -116,9 +106,7 @@ fn put_link_fault<K: Sink>(kind: u8, name: &[u8], place: u32, sink: &mut K) -> R
         (only Chan.Report (link_fault kind name.now place))) }
     ensures prefix { OnErr result (GrewByPrefix (K.contents sink.old) (K.contents sink.new)
         (only Chan.Report (link_fault kind name.now place))) }
-    ensures later { K.faults sink.old ≤ K.faults sink.new }
-    ensures cause { OnErr result (Rose (K.faults sink.old) (K.faults sink.new)) }
-    ensures quiet { OnOk result (K.faults sink.new ≡ K.faults sink.old) }
+    ensures counts { CountsFailure (is_err result) (K.faults sink.old) (K.faults sink.new) }
 {
     if kind == 1 || kind == 2 {
         put_found_name(kind, name, place, sink)
@@ -134,9 +122,7 @@ fn put_image_fault<K: Sink>(place: u32, kind: u8, sink: &mut K) -> Result<(), Fa
         (only Chan.Report (image_fault place kind))) }
     ensures prefix { OnErr result (GrewByPrefix (K.contents sink.old) (K.contents sink.new)
         (only Chan.Report (image_fault place kind))) }
-    ensures later { K.faults sink.old ≤ K.faults sink.new }
-    ensures cause { OnErr result (Rose (K.faults sink.old) (K.faults sink.new)) }
-    ensures quiet { OnOk result (K.faults sink.new ≡ K.faults sink.old) }
+    ensures counts { CountsFailure (is_err result) (K.faults sink.old) (K.faults sink.new) }
 {
     let mut text = Text::new();
     text.push(b"vax: image place ");
@@ -153,9 +139,7 @@ fn put_refusal<K: Sink>(status: &Status, sink: &mut K) -> Result<(), Failed>
         (refusal_growth status.now)) }
     ensures prefix { OnErr result (GrewByPrefix (K.contents sink.old) (K.contents sink.new)
         (refusal_growth status.now)) }
-    ensures later { K.faults sink.old ≤ K.faults sink.new }
-    ensures cause { OnErr result (Rose (K.faults sink.old) (K.faults sink.new)) }
-    ensures quiet { OnOk result (K.faults sink.new ≡ K.faults sink.old) }
+    ensures counts { CountsFailure (is_err result) (K.faults sink.old) (K.faults sink.new) }
 {
     match status {
         Status::Usage => put_all(sink, Chan::Report, b"vax: usage\n"),

@@ -3,9 +3,9 @@
 //! Nothing here takes memory: lines are held in a buffer of fixed size, and written when that is full.
 #![tactic(auto)]
 
-ghost use Rattle.std.specs.Prelude.{◌≡◌, ◌+◌, ◌<◌, ◌≤◌, ◌++◌, None, length, slice_index, OnErr, OnOk};
-ghost use Rattle.vax_outside.specs.Channels.{Grew, GrewByPrefix, only};
-ghost use Rattle.vax_outside.specs.Faults.{Rose};
+ghost use Rattle.std.specs.Prelude.{◌≡◌, ◌+◌, ◌<◌, ◌≤◌, ◌++◌, List, ℕ, Option, None, length, slice_index, OnErr, OnOk, is_err};
+ghost use Rattle.vax_outside.specs.Channels.{Channels, Grew, GrewByPrefix, only};
+ghost use Rattle.vax_outside.specs.Faults.{CountsFailure};
 ghost use Rattle.vax_disasm.specs.Listed.{listed};
 ghost use Rattle.vax_listing.specs.Listing.{area_lines, length_of, line, listing, text_of};
 ghost use Rattle.vax_listing.specs.Writing.{GoesOn};
@@ -73,14 +73,11 @@ fn push_first(lines: &mut Lines, addr: u32, bytes: &[u8]) -> u8
 
 /// Writes the lines that are held, where there is no room for another.
 fn make_room<K: Sink>(lines: &mut Lines, sink: &mut K) -> Result<(), Failed>
-    ensures ok { OnOk result
-        (GoesOn (K.contents sink.old) (K.contents sink.new) lines.old.items lines.new.items) }
+    ensures ok { OnOk result (GoesOn (K.contents sink.old) (K.contents sink.new) lines.old.items lines.new.items) }
     ensures room { OnOk result (length lines.new.items + 170 ≤ 4096) }
     ensures prefix { OnErr result (GrewByPrefix (K.contents sink.old) (K.contents sink.new)
         (only Chan.Out lines.old.items)) }
-    ensures later { K.faults sink.old ≤ K.faults sink.new }
-    ensures cause { OnErr result (Rose (K.faults sink.old) (K.faults sink.new)) }
-    ensures quiet { OnOk result (K.faults sink.new ≡ K.faults sink.old) }
+    ensures counts { CountsFailure (is_err result) (K.faults sink.old) (K.faults sink.new) }
 {
     if lines.len() + LINE <= HELD {
         return Ok(());
@@ -96,9 +93,7 @@ fn write_area<K: Sink>(area: &Area, sink: &mut K) -> Result<(), Failed>
         (only Chan.Out (area_lines area.now))) }
     ensures prefix { OnErr result (GrewByPrefix (K.contents sink.old) (K.contents sink.new)
         (only Chan.Out (area_lines area.now))) }
-    ensures later { K.faults sink.old ≤ K.faults sink.new }
-    ensures cause { OnErr result (Rose (K.faults sink.old) (K.faults sink.new)) }
-    ensures quiet { OnOk result (K.faults sink.new ≡ K.faults sink.old) }
+    ensures counts { CountsFailure (is_err result) (K.faults sink.old) (K.faults sink.new) }
 {
     let mut lines = ArrayVec::new();
     let mut addr = area.first.wrapping_mul(PAGE_BYTES);
@@ -121,9 +116,7 @@ pub fn write_listing<K: Sink>(areas: &[Area], sink: &mut K) -> Result<(), Failed
         (only Chan.Out (listing areas.now))) }
     ensures prefix { OnErr result (GrewByPrefix (K.contents sink.old) (K.contents sink.new)
         (only Chan.Out (listing areas.now))) }
-    ensures later { K.faults sink.old ≤ K.faults sink.new }
-    ensures cause { OnErr result (Rose (K.faults sink.old) (K.faults sink.new)) }
-    ensures quiet { OnOk result (K.faults sink.new ≡ K.faults sink.old) }
+    ensures counts { CountsFailure (is_err result) (K.faults sink.old) (K.faults sink.new) }
 {
     for area in areas {
         write_area(area, sink)?;

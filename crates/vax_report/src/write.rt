@@ -1,8 +1,8 @@
 //! Writing a report.
-ghost use Rattle.std.specs.Prelude.{◌≡◌, ◌+◌, ◌*◌, ◌%◌, ◌^◌, ◌<◌, ◌≤◌, length, OnErr, OnOk};
+ghost use Rattle.std.specs.Prelude.{◌≡◌, ◌+◌, ◌*◌, ◌%◌, ◌^◌, ◌<◌, ◌≤◌, length, OnErr, OnOk, is_err};
 ghost use Rattle.std.specs.List.{flat_map};
 ghost use Rattle.vax_outside.specs.Channels.{Grew, GrewByPrefix, only};
-ghost use Rattle.vax_outside.specs.Faults.{Rose};
+ghost use Rattle.vax_outside.specs.Faults.{CountsFailure};
 ghost use Rattle.vax_report.specs.Report.{dump_line, dump_text, head, report, shown};
 
 use crate::lines::{push_head, push_memory};
@@ -27,9 +27,7 @@ pub fn write_report<K: Sink>(
         (only Chan.Report (report core.now last steps units taken dumps.now))) }
     ensures prefix { OnErr result (GrewByPrefix (K.contents sink.old) (K.contents sink.new)
         (only Chan.Report (report core.now last steps units taken dumps.now))) }
-    ensures later { K.faults sink.old ≤ K.faults sink.new }
-    ensures cause { OnErr result (Rose (K.faults sink.old) (K.faults sink.new)) }
-    ensures quiet { OnOk result (K.faults sink.new ≡ K.faults sink.old) }
+    ensures counts { CountsFailure (is_err result) (K.faults sink.old) (K.faults sink.new) }
 {
     write_head(core, last, steps, units, taken, sink)?;
     write_dumps(shown(last, dumps), sink)?;
@@ -58,9 +56,7 @@ fn write_head<K: Sink>(
         (only Chan.Report (head core.now last steps units taken))) }
     ensures prefix { OnErr result (GrewByPrefix (K.contents sink.old) (K.contents sink.new)
         (only Chan.Report (head core.now last steps units taken))) }
-    ensures later { K.faults sink.old ≤ K.faults sink.new }
-    ensures cause { OnErr result (Rose (K.faults sink.old) (K.faults sink.new)) }
-    ensures quiet { OnOk result (K.faults sink.new ≡ K.faults sink.old) }
+    ensures counts { CountsFailure (is_err result) (K.faults sink.old) (K.faults sink.new) }
 {
     let mut text = Text::new();
     push_head(&mut text, core, last, steps, units, taken);
@@ -72,9 +68,7 @@ fn write_dumps<K: Sink>(dumps: &[Dump], sink: &mut K) -> Result<(), Failed>
         (only Chan.Report (flat_map dump_text dumps.now))) }
     ensures prefix { OnErr result (GrewByPrefix (K.contents sink.old) (K.contents sink.new)
         (only Chan.Report (flat_map dump_text dumps.now))) }
-    ensures later { K.faults sink.old ≤ K.faults sink.new }
-    ensures cause { OnErr result (Rose (K.faults sink.old) (K.faults sink.new)) }
-    ensures quiet { OnOk result (K.faults sink.new ≡ K.faults sink.old) }
+    ensures counts { CountsFailure (is_err result) (K.faults sink.old) (K.faults sink.new) }
 {
     for dump in dumps {
         write_dump(dump, sink)?;
@@ -88,9 +82,7 @@ fn write_dump<K: Sink>(dump: &Dump, sink: &mut K) -> Result<(), Failed>
         (only Chan.Report (dump_text dump.now))) }
     ensures prefix { OnErr result (GrewByPrefix (K.contents sink.old) (K.contents sink.new)
         (only Chan.Report (dump_text dump.now))) }
-    ensures later { K.faults sink.old ≤ K.faults sink.new }
-    ensures cause { OnErr result (Rose (K.faults sink.old) (K.faults sink.new)) }
-    ensures quiet { OnOk result (K.faults sink.new ≡ K.faults sink.old) }
+    ensures counts { CountsFailure (is_err result) (K.faults sink.old) (K.faults sink.new) }
 {
     let total = dump.bytes.as_slice().len();
     for line in 0..total.div_ceil(16) {
@@ -106,9 +98,7 @@ fn write_dump_line<K: Sink>(dump: &Dump, start: usize, sink: &mut K) -> Result<(
         (only Chan.Report (dump_line dump.now start))) }
     ensures prefix { OnErr result (GrewByPrefix (K.contents sink.old) (K.contents sink.new)
         (only Chan.Report (dump_line dump.now start))) }
-    ensures later { K.faults sink.old ≤ K.faults sink.new }
-    ensures cause { OnErr result (Rose (K.faults sink.old) (K.faults sink.new)) }
-    ensures quiet { OnOk result (K.faults sink.new ≡ K.faults sink.old) }
+    ensures counts { CountsFailure (is_err result) (K.faults sink.old) (K.faults sink.new) }
 {
     let rest = dump.bytes.as_slice().split_at(start).1;
     let bytes = rest.split_at(16usize.min(rest.len())).0;

@@ -1,7 +1,8 @@
-use Rattle.std.proofs.Common.{arith, ◌≡◌, ◌<◌, ◌+◌, ◌*◌, ◌%◌, ◌^◌, ◌∙◌, ◌++◌, List, ℕ, length, drop, min, slice_index, ap, refl, subst, sym}
+use Rattle.std.proofs.Common.{arith, rules, ◌≡◌, ◌<◌, ◌+◌, ◌*◌, ◌%◌, ◌^◌, ◌∙◌, ◌++◌, List, ℕ, length, drop, min, slice_index, ap, refl, subst, sym}
 use Rattle.std.proofs.lemmas.Result.{on_err_weaker, on_ok_weaker}
 use Rattle.vax_outside.specs.Channels.{Grew, GrewByPrefix, only}
 use Rattle.vax_outside.specs.declared.traits.Chan.TheVariants.{Out}
+use Rattle.vax_outside.proofs.Counting.{counts_then}
 use Rattle.vax_outside.proofs.Growth.{on_err}
 use Rattle.vax_disasm.specs.Listed.{listed}
 use Rattle.vax_listing.specs.Listing.{area_lines, line, lines_from, text_of}
@@ -36,7 +37,7 @@ loop-rest-preserved g c =
     ∙ (ap (λ (n : ℕ). line c.loop-rest.addr (text_of (slice_index bytes 0) (listed bytes c.loop-rest.addr)) ++ lines_from 0 ((c.loop-rest.addr + n) % 2 ^ 32) (drop (min c.push_first-count.result (length bytes)) bytes)) next
     ∙ ap (λ (z : List ℕ). line c.loop-rest.addr (text_of (slice_index bytes 0) (listed bytes c.loop-rest.addr)) ++ lines_from 0 ((c.loop-rest.addr + c.from-addr.result) % 2 ^ 32) z) (sym back)) in
     record {
-      quiet = c.in_ok-make_room.ensures.quiet ∙ c.loop-rest.invariant.quiet;
+      quiet = c.in_ok-make_room.ensures.counts.quiet ∙ c.loop-rest.invariant.quiet;
       between = held_more _ _ _ _ _ _ _ _ c.push_first-count.ensures.line first (c.in_ok-make_room.ensures.ok _ _ _ c.loop-rest.invariant.between);
     }
 
@@ -50,3 +51,9 @@ pub returns-clause-prefix : goal.returns-clause-prefix
 returns-clause-prefix g c =
     on_err_weaker c.put_all.result (λ grew. cut_short _ _ _ _ _ _ c.loop-rest.invariant.between
     (subst (λ (z : List ℕ). GrewByPrefix (g.K.Sink.contents c.loop-rest.sink) (g.K.Sink.contents c.put_all.new.sink) (only Out z)) c.deref.ensures.0 grew)) c.put_all.ensures.prefix
+
+pub returns-in_err-make_room-clause-counts : goal.returns-in_err-make_room-clause-counts
+returns-in_err-make_room-clause-counts g c = counts_then (search rules) c.loop-rest.invariant.quiet c.in_err-make_room.ensures.counts
+
+pub returns-clause-counts : goal.returns-clause-counts
+returns-clause-counts g c = counts_then refl c.loop-rest.invariant.quiet c.put_all.ensures.counts

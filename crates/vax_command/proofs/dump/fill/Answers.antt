@@ -1,4 +1,5 @@
 use Rattle.std.proofs.Common.{◌≡◌, ap, ◌∙◌, length, rules, arith}
+use Rattle.vax_outside.proofs.Counting.{counts_then}
 use Rattle.vax_flat.specs.Parts.{machine_at}
 use Rattle.vax_machine.specs.Console.{memory_from}
 use Rattle.vax_command.proofs.RoomLaws.{few_cells, not_none, one_filled, others_small, room_left, written_all}
@@ -31,3 +32,6 @@ blanks-preserved g c =
       unread = λ none. absurd (not_none before rest blank split (inv.unread none).0);
       quiet = c.in_ok-dump.ensures.counts.quiet ∙ inv.quiet;
     }
+
+pub returns-in_err-dump-clause-counts : goal.returns-in_err-dump-clause-counts
+returns-in_err-dump-clause-counts g c = counts_then (search rules) c.blanks.invariant.quiet c.in_err-dump.ensures.counts

@@ -1,5 +1,6 @@
-use Rattle.std.proofs.Common.{◌≡◌, ◌*◌, length, ap, ◌∙◌, arith}
+use Rattle.std.proofs.Common.{◌≡◌, ◌*◌, length, ap, ◌∙◌, arith, rules}
 use Rattle.std.specs.Int.{div_ceil}
+use Rattle.vax_outside.proofs.Counting.{counts_then}
 use Rattle.vax_outside.proofs.Growth.{grew_next_number, prefix_next_number, grew_numbers, on_err}
 use Rattle.vax_outside.specs.declared.traits.Chan.TheVariants.{Report}
 use Rattle.vax_report.specs.Report.{dump_line, dump_text}
@@ -15,7 +16,7 @@ pub loop-line-preserved : goal.loop-line-preserved
 loop-line-preserved g c =
     let total : length c.as_slice-total.result.now ≡ length c.args.dump.now.bytes = ap length c.as_slice-total.ensures in
     record {
-      quiet = c.in_ok-write_dump_line.ensures.quiet ∙ c.loop-line.invariant.quiet;
+      quiet = c.in_ok-write_dump_line.ensures.counts.quiet ∙ c.loop-line.invariant.quiet;
       grew = grew_next_number _ _ _ Report (λ k. dump_line c.args.dump.now (16 * k)) (div_ceil (length c.args.dump.now.bytes) 16) c.loop-line.line (omega arith) c.loop-line.invariant.grew c.in_ok-write_dump_line.ensures.ok;
     }
 
@@ -24,3 +25,6 @@ unfolding dump_text
 returns-clause-ok g c =
     let total : length c.as_slice-total.result.now ≡ length c.args.dump.now.bytes = ap length c.as_slice-total.ensures in
     grew_numbers _ _ Report (λ k. dump_line c.args.dump.now (16 * k)) (div_ceil (length c.args.dump.now.bytes) 16) c.loop-line.line (omega arith) c.loop-line.invariant.grew
+
+pub returns-in_err-write_dump_line-clause-counts : goal.returns-in_err-write_dump_line-clause-counts
+returns-in_err-write_dump_line-clause-counts g c = counts_then (search rules) c.loop-line.invariant.quiet c.in_err-write_dump_line.ensures.counts
