@@ -6,8 +6,8 @@ use vax_image::{Base, Image};
 /// A user's program that begins at 200 (hexadecimal): 200 bytes to be read from there on, and behind them 400 to be written, which have 600
 /// in memory. The file has 800, from 200 on those of the two.
 const HEADERS: [u8; 116] = [
-    0x7F, 0x45, 0x4C, 0x46, 1, 1, 1, 0, 0, 0, 0, 0, 0, 0, 0, 0, 2, 0, 75, 0, 1, 0, 0, 0, 0, 2, 0, 0,
-    52, 0, 0, 0, 0, 0, 0, 0, 0, 0, 0, 0, 52, 0, 32, 0, 2, 0, 0, 0, 0, 0, 0, 0, //
+    0x7F, 0x45, 0x4C, 0x46, 1, 1, 1, 0, 0, 0, 0, 0, 0, 0, 0, 0, 2, 0, 75, 0, 1, 0, 0, 0, 0, 2, 0,
+    0, 52, 0, 0, 0, 0, 0, 0, 0, 0, 0, 0, 0, 52, 0, 32, 0, 2, 0, 0, 0, 0, 0, 0, 0, //
     1, 0, 0, 0, 0, 2, 0, 0, 0, 2, 0, 0, 0, 2, 0, 0, 0, 2, 0, 0, 0, 2, 0, 0, 5, 0, 0, 0, 0, 2, 0, 0, //
     1, 0, 0, 0, 0, 4, 0, 0, 0, 4, 0, 0, 0, 4, 0, 0, 0, 4, 0, 0, 0, 6, 0, 0, 6, 0, 0, 0, 0, 2, 0, 0,
 ];
@@ -109,7 +109,10 @@ fn tells_where_it_is_cut(rt: HostRuntime) -> Result<(), Fail> {
             116..0x400 => 56,
             _ => 88,
         };
-        assert!(rt; fault_of(&rt, &file[..len]) == Some((place, 27)), "cut at {len}");
+        assert!(rt;
+            fault_of(&rt, &file[..len]) == Some((place, 27)),
+            "cut at {len}"
+        );
     }
     Ok(())
 }

@@ -14,7 +14,6 @@ ghost use Rattle.vax_undo.specs.Transaction.{room, Keeps, Does};
 ghost use Rattle.vax_operand.specs.Located.{GoesEverywhere};
 
 pub use crate::results::{answer_of, is_by_zero, of_one, of_two, rotated};
-
 use vax_flat::Flow;
 use vax_isa::Integer;
 use vax_undo::{CutShort, Port, Txn};
