@@ -4,3 +4,4 @@ pub mod Circling
 pub mod Ordering
 pub mod Surveying
 pub mod Refusing
+pub mod Leasting
