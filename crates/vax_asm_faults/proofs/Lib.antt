@@ -1,0 +1,7 @@
+pub mod Moving
+pub mod Waiting
+pub mod Circling
+pub mod Ordering
+pub mod Surveying
+pub mod Refusing
+pub mod Leasting
