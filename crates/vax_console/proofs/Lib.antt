@@ -8,3 +8,5 @@ pub mod Sessions
 pub mod Parting
 pub mod Spoiling
 pub mod Spending
+pub mod Turning
+pub mod Turned

@@ -11,6 +11,7 @@ ghost use Rattle.vax_machine.specs.Meaning.{engine};
 ghost use Rattle.vax_script.specs.Requests.{readings};
 ghost use Rattle.vax_console.specs.Ends.{GoesFrom, OnlyReplied, outcome_of, scene};
 ghost use Rattle.vax_console.specs.Parts.{SpendsFrom};
+ghost use Rattle.vax_console.specs.Turns.{HoldsFrom};
 
 mod lines;
 mod requests;
@@ -62,6 +63,10 @@ pub fn session<F: PageFile, K: Sink>(
         (scene (engine machine.old) (F.contents file.old) (K.contents sink.old))
         (scene (engine machine.new) (F.contents file.new) (K.contents sink.new))
         limits.now (readings script.now) (outcome_of result) }
+    ensures turns { HoldsFrom
+        (scene (engine machine.old) (F.contents file.old) (K.contents sink.old))
+        (scene (engine machine.new) (F.contents file.new) (K.contents sink.new))
+        limits.now schedule.now (readings script.now) (outcome_of result) }
     ensures few { SpendsFrom
         (scene (engine machine.old) (F.contents file.old) (K.contents sink.old))
         (scene (engine machine.new) (F.contents file.new) (K.contents sink.new))
