@@ -1,5 +1,5 @@
 -- What a session comes to, from what the console did.
-use Rattle.std.proofs.Common.{◌≡◌, ◌≤◌, ◌⊎◌, ◌++◌, ℕ, List, [], Option, Some, None, refl, sym, ap, subst, ◌∙◌, inl, inr, arith}
+use Rattle.std.proofs.Common.{◌≡◌, ◌<◌, ◌≤◌, ◌+◌, ◌-◌, ◌*◌, ◌^◌, ◌⊎◌, ◌++◌, ℕ, List, [], Option, Some, None, refl, sym, ap, subst, ◌∙◌, inl, inr, arith}
 use Rattle.vax_outside.specs.Blocks.{BlockFile}
 use Rattle.vax_outside.specs.Channels.{Channels, Grew, GrewByPrefix, append, nothing, only}
 use Rattle.vax_outside.specs.declared.traits.Chan.TheVariants.{Report}
@@ -21,9 +21,10 @@ use Rattle.vax_script.specs.declared.request.Line.{Line}
 use Rattle.vax_script.specs.Requests.{readings}
 use Rattle.vax_console.specs.Ends as console
 use Rattle.vax_console.specs.Ends.{IsAt, IsCutByTurns, IsCutOff, IsPartOf, IsWithin, OnlyReplied, scene, session_on, writes}
-use Rattle.vax_console.specs.Parts.{Spends, SpendsSome}
+use Rattle.vax_console.specs.Parts.{LinesHaveParts, Spends, SpendsInto}
 use Rattle.vax_console.specs.Transcript.{Session, session_after, transcript}
 use Rattle.vax_console.specs.Turns.{Holds, HoldsFrom, Stand, setting}
+use Rattle.vax_console.proofs.Completing.{turns_short}
 use Rattle.vax_console.specs.declared.SessionEnd.{SessionEnd}
 use Rattle.vax_console.specs.declared.SessionEnd.TheVariants as session_end
 use Rattle.vax_cli.specs.Words.{Options, Text}
@@ -37,7 +38,7 @@ use Rattle.vax_command.specs.Loaded.{Loaded}
 use Rattle.vax_command.specs.Running.{IsFaulty}
 use Rattle.vax_command.proofs.RunLaws.{ends_after, reported_at}
 use Rattle.vax_command.specs.Holding.{Held, session_opening}
-use Rattle.vax_command.specs.SessionWent.{AreFew, Goes, GoesTo, Opening, SessionFrom, SessionWent, broken_off, opening, opening_of}
+use Rattle.vax_command.specs.SessionWent.{AreFew, Goes, Opening, SessionFrom, SessionWent, broken_off, first_stand, opening, opening_of}
 
 -- a machine at the start of a program opens a session
 opens : (m : Engine) (frames : ℕ) (start : Flat) → IsFresh m frames start → session_on m start ≡ opening start
@@ -64,16 +65,12 @@ abbrev pub Made : Limits → List Rule → List Line → Engine → Option Block
 Made limits rules lines m told end n after old between = HoldsFrom (scene m told old) (scene n after between) limits rules lines (console.outcome_of end)
 
 -- of a machine at the start
-goes_from : (outside : Outside) (frames : ℕ) (start : Flat) (limits : Limits) (rules : List Rule) (lines : List Line) (m n : Engine) (file : BlockFile) (sink : Option Channels) (end : SessionEnd) → IsFresh m frames start →
-    Made limits rules lines m (Some file) end n outside.pages.after.told outside.sink.before.told sink → Goes outside (begins m frames start limits rules lines) file end
-goes_from outside frames start limits rules lines m n file sink end f made =
+holds_from : (outside : Outside) (frames : ℕ) (start : Flat) (limits : Limits) (rules : List Rule) (lines : List Line) (m n : Engine) (file : BlockFile) (sink : Option Channels) (end : SessionEnd) → IsFresh m frames start →
+    Made limits rules lines m (Some file) end n outside.pages.after.told outside.sink.before.told sink → Holds (console.outcome_of end) (setting limits (keeping m).areas rules) lines (first_stand outside file (begins m frames start limits rules lines)) (scene n outside.pages.after.told sink)
+holds_from outside frames start limits rules lines m n file sink end f made =
     let with_turns : Paged → Stand = λ at. record { at = at; file = Some file; sink = outside.sink.before.told } in
     let after = scene n outside.pages.after.told sink in
-    record {
-      machine = n;
-      sink = sink;
-      holds = subst (λ (s : Stand). Holds (console.outcome_of end) (setting limits (keeping m).areas rules) lines s after) (ap with_turns f.begins) (made start (f.means file));
-    }
+    subst (λ (s : Stand). Holds (console.outcome_of end) (setting limits (keeping m).areas rules) lines s after) (ap with_turns f.begins) (made start (f.means file))
 
 open_units : (place : Place) → units_of (open_at place) ≡ units_done place
 open_units (At m) = refl
@@ -107,11 +104,18 @@ module _ (outside : Outside) (limits : Limits) (rules : List Rule) (lines : List
   same_units file a b x y = sym (ap units_of x.processor.open_one ∙ open_units a) ∙ (ap units_of y.processor.open_one ∙ open_units b)
 
   -- nothing was counted at the start
+  took_at : (file : BlockFile) (after : Option BlockFile) → Took limits rules lines m (Some file) session_end.Turns n after → SpendsInto limits.steps rules (opening start) lines m n after
+  took_at file after took = subst (λ (s : Session). SpendsInto limits.steps rules s lines m n after) (opens m frames start f) (took start (f.means file))
+
+  no_turns : m.turns ≡ 0
+  no_turns = ap (λ (p : Paged). p.turns) f.begins
+
+  none_spoiled : (residence m).spoiled ≡ 0
+  none_spoiled = ap (λ (p : Paged). p.residence.spoiled) f.begins
+
   are_few : (file : BlockFile) (after : Option BlockFile) (place : Place) → Means n after place → limits.turns ≤ n.turns → Took limits rules lines m (Some file) session_end.Turns n after → AreFew limits rules (opening start) lines n.steps (units_done place)
   are_few file after place means reached took =
-      let y : SpendsSome limits.steps rules (opening start) lines m n after = subst (λ (s : Session). SpendsSome limits.steps rules s lines m n after) (opens m frames start f) (took start (f.means file)) in
-      let none : m.turns ≡ 0 = ap (λ (p : Paged). p.turns) f.begins in
-      let whole : (residence m).spoiled ≡ 0 = ap (λ (p : Paged). p.residence.spoiled) f.begins in
+      let y = (took_at file after took).some in
       record {
         place = y.place;
         here = same_units after y.place place y.means means;
@@ -119,12 +123,18 @@ module _ (outside : Outside) (limits : Limits) (rules : List Rule) (lines : List
         through = y.through;
         few = λ quiet.
             let same = y.few.unspoiled quiet in
-            let k = y.few.turns (omega (arith, same, whole)) in
-            omega (arith, k, same, none, reached);
+            let k = y.few.turns (omega (arith, same, none_spoiled)) in
+            omega (arith, k, same, no_turns, reached);
       }
 
-  goes_to : (end : SessionEnd) (file : BlockFile) (place : Place) → Made limits rules lines m (Some file) end n outside.pages.after.told outside.sink.before.told mid.told → Means n outside.pages.after.told place → GoesTo outside (begins m frames start limits rules lines) file end place n.steps
-  goes_to end file place made means = record { goes = goes_from outside frames start limits rules lines m n file mid.told end f made; means = means; counted = refl }
+  -- a limit of turns for all parts would have been enough
+  enough : (file : BlockFile) (after : Option BlockFile) → limits.turns ≤ n.turns → Took limits rules lines m (Some file) session_end.Turns n after → (all : ℕ) → LinesHaveParts limits.steps (opening start) lines all → (residence n).spoiled < 2 ^ 64 - 1 → limits.turns < 41 * all + (residence n).spoiled
+  enough file after reached took all have low =
+      let k = turns_short limits.steps limits.turns rules (opening start) lines m n after all (took_at file after took) have reached low in
+      omega (arith, k, none_spoiled, no_turns)
+
+  unspoiled : (file : BlockFile) (after : Option BlockFile) → Took limits rules lines m (Some file) session_end.Turns n after → rules ≡ [] → (residence n).spoiled ≡ 0
+  unspoiled file after took quiet = (took_at file after took).some.few.unspoiled quiet ∙ none_spoiled
 
   pub timed_out : (told : Option BlockFile) → Did limits lines m told session_end.Turns n outside.pages.after.told outside.sink.before.told mid.told → Took limits rules lines m told session_end.Turns n outside.pages.after.told → Made limits rules lines m told session_end.Turns n outside.pages.after.told outside.sink.before.told mid.told → OnlyReplied outside.sink.before.told mid.told → mid.faults ≡ outside.sink.before.faults
       → EndsFrom mid outside.sink.after Turns (only Report (machine_report n last.Turns [])) result → Told told outside (begins m frames start limits rules lines) result
@@ -139,7 +149,7 @@ module _ (outside : Outside) (limits : Limits) (rules : List Rule) (lines : List
       record {
         meant = Turns;
         grown = broken_off replies w.place n.steps last.Turns;
-        so = inr (inl (record { front = c.front; back = c.back; splits = c.splits; place = w.place; steps = n.steps; on_the_way = w.goes; goes = goes_to session_end.Turns file w.place made w.means; going = not_ended outside.pages.after.told w.place w.means c.out.going; below = c.out.below; few = are_few file outside.pages.after.told w.place w.means c.out.reached took; answer = refl; wrote = refl }));
+        so = inr (inl (record { front = c.front; back = c.back; splits = c.splits; place = w.place; steps = n.steps; on_the_way = w.goes; goes = record { goes = record { machine = n; sink = mid.told; holds = holds_from outside frames start limits rules lines m n file mid.told session_end.Turns f made }; means = w.means; counted = refl }; enough = enough file outside.pages.after.told c.out.reached took; unspoiled = unspoiled file outside.pages.after.told took; going = not_ended outside.pages.after.told w.place w.means c.out.going; below = c.out.below; few = are_few file outside.pages.after.told w.place w.means c.out.reached took; answer = refl; wrote = refl }));
         ends = behind _ _ replies last.Turns Turns w quiet ends;
       }
 
@@ -156,7 +166,7 @@ module _ (outside : Outside) (limits : Limits) (rules : List Rule) (lines : List
       record {
         meant = PageFault;
         grown = broken_off replies w.place n.steps last.PageFault;
-        so = inr (inr (rose, record { front = c.front; back = c.back; splits = c.splits; place = w.place; steps = n.steps; on_the_way = w.goes; goes = goes_to session_end.PageFault file w.place made w.means; answer = refl; wrote = refl }));
+        so = inr (inr (rose, record { front = c.front; back = c.back; splits = c.splits; place = w.place; steps = n.steps; on_the_way = w.goes; goes = record { goes = record { machine = n; sink = mid.told; holds = holds_from outside frames start limits rules lines m n file mid.told session_end.PageFault f made }; means = w.means; counted = refl }; answer = refl; wrote = refl }));
         ends = behind _ _ replies last.PageFault PageFault w quiet ends;
       }
 
@@ -165,7 +175,7 @@ module _ (outside : Outside) (limits : Limits) (rules : List Rule) (lines : List
   from_opening end file did = subst (λ (s : Session). console.Ends end limits s lines n outside.pages.after.told outside.sink.before.told outside.sink.after.told) (opens m frames start f) (did start (f.means file))
 
   all_goes : (end : SessionEnd) (file : BlockFile) → Made limits rules lines m (Some file) end n outside.pages.after.told outside.sink.before.told outside.sink.after.told → Goes outside (begins m frames start limits rules lines) file end
-  all_goes end file made = goes_from outside frames start limits rules lines m n file outside.sink.after.told end f made
+  all_goes end file made = record { machine = n; sink = outside.sink.after.told; holds = holds_from outside frames start limits rules lines m n file outside.sink.after.told end f made }
 
   pub read_out : (told : Option BlockFile) → Did limits lines m told session_end.Read n outside.pages.after.told outside.sink.before.told outside.sink.after.told → Made limits rules lines m told session_end.Read n outside.pages.after.told outside.sink.before.told outside.sink.after.told → OnlyReplied outside.sink.before.told outside.sink.after.told → outside.sink.after.faults ≡ outside.sink.before.faults → Told told outside (begins m frames start limits rules lines) Done
   read_out None did made only_these quiet = record { meant = Done; grown = writes only_these.sent only_these.replies; so = tt; ends = inl (record { answer = refl; grew = only_these.grew; quiet = quiet }) }

@@ -1,5 +1,5 @@
 -- How a session of the console goes, and what it writes.
-use Rattle.std.specs.Prelude.{◌≡◌, ◌<◌, ◌≤◌, ◌+◌, ◌*◌, ◌⊎◌, ℕ, List, [], ◌++◌, Option, None, Some}
+use Rattle.std.specs.Prelude.{◌≡◌, ◌<◌, ◌≤◌, ◌+◌, ◌-◌, ◌*◌, ◌^◌, ◌⊎◌, ℕ, List, [], ◌++◌, Option, None, Some}
 use Rattle.vax_outside.specs.Blocks.{BlockFile}
 use Rattle.vax_outside.specs.Channels.{Channels, append, only}
 use Rattle.vax_outside.specs.declared.traits.Chan.TheVariants.{Report}
@@ -9,13 +9,13 @@ use Rattle.vax_sched.specs.declared.rule.Rule.{Rule}
 use Rattle.vax_report.specs.Report.{report}
 use Rattle.vax_report.specs.declared.Last.{Last}
 use Rattle.vax_report.specs.declared.Last.TheVariants as last
-use Rattle.vax_machine.specs.Machine.{Means}
+use Rattle.vax_machine.specs.Machine.{Means, residence}
 use Rattle.vax_machine.specs.Paged.{fresh}
 use Rattle.vax_machine.specs.declared.engine.Engine.{Engine}
 use Rattle.vax_machine.specs.declared.event.Limits.{Limits}
 use Rattle.vax_script.specs.declared.request.Line.{Line}
 use Rattle.vax_console.specs.Ends.{IsOnTheWay, outcome_of, scene, steps_in, writes}
-use Rattle.vax_console.specs.Parts.{LeadsThrough}
+use Rattle.vax_console.specs.Parts.{LeadsThrough, LinesHaveParts}
 use Rattle.vax_console.specs.Transcript.{Session, session_after, transcript}
 use Rattle.vax_console.specs.Turns.{Holds, Setting, Stand}
 use Rattle.vax_console.specs.declared.SessionEnd.{SessionEnd}
@@ -87,7 +87,8 @@ pub record AreFew (limits : Limits) (rules : List Rule) (s : Session) (lines : L
   pub through : LeadsThrough limits.steps s lines steps place parts
   pub few : rules ≡ [] → limits.turns ≤ 41 * parts + 40
 
--- the lines in front were, and the limit of turns came on the way through the steps of the next one, before the machine ended or all were made
+-- The lines in front were, and the limit of turns came on the way through the steps of the next one, before the machine ended or all were made. It is
+-- smaller than 41 for each part of all lines and one for each eviction of a pinned page; with no rule in the schedule there is no such eviction.
 pub record IsTimedOut (outside : Outside) (o : Opening) (file : BlockFile) (status : Status) (grown : Channels) : Type 0 where
   pub front : List Line
   pub back : List Line
@@ -99,6 +100,8 @@ pub record IsTimedOut (outside : Outside) (o : Opening) (file : BlockFile) (stat
   pub below : steps < (session_after o.setting.limits.steps (opening o.start) front).steps + steps_in o.setting.limits.steps (session_after o.setting.limits.steps (opening o.start) front) back
   pub few : AreFew o.setting.limits o.setting.rules (opening o.start) o.lines steps (units_done place)
   pub goes : GoesTo outside o file session_end.Turns place steps
+  pub enough : (all : ℕ) → LinesHaveParts o.setting.limits.steps (opening o.start) o.lines all → (residence goes.goes.machine).spoiled < 2 ^ 64 - 1 → o.setting.limits.turns < 41 * all + (residence goes.goes.machine).spoiled
+  pub unspoiled : o.setting.rules ≡ [] → (residence goes.goes.machine).spoiled ≡ 0
   pub answer : status ≡ Turns
   pub wrote : grown ≡ broken_off (transcript o.setting.limits.steps (opening o.start) front) place steps last.Turns
 

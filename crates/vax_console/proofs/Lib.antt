@@ -10,3 +10,5 @@ pub mod Spoiling
 pub mod Spending
 pub mod Turning
 pub mod Turned
+pub mod Completing
+pub mod Agreeing

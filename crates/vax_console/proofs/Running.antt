@@ -126,7 +126,7 @@ by_steps None true turns h = (refl, refl)
 by_steps None false true h = absurd (cc h)
 by_steps None false false h = absurd (cc h)
 
-by_turns : (how : Option Ending) (steps turns : Bool) → stop_by how steps turns ≡ Some ByTurns → (how ≡ None) × (steps ≡ false) × (turns ≡ true)
+pub by_turns : (how : Option Ending) (steps turns : Bool) → stop_by how steps turns ≡ Some ByTurns → (how ≡ None) × (steps ≡ false) × (turns ≡ true)
 by_turns (Some x) steps turns h = absurd (cc h)
 by_turns None true turns h = absurd (cc h)
 by_turns None false true h = (refl, refl, refl)

@@ -1,4 +1,4 @@
-use Rattle.std.proofs.Common.{◌≡◌, ◌∙◌, ◌∷◌, [], ℕ, Result, Err, Some, None, ap, sym, subst, arith, min, nat_lt}
+use Rattle.std.proofs.Common.{◌≡◌, ◌∙◌, ◌∷◌, [], ℕ, Result, Err, Some, None, ap, refl, sym, subst, arith, min, nat_lt}
 use Rattle.vax_machine.specs.Meaning.{engine}
 use Rattle.vax_script.specs.declared.request.Request.TheVariants.{Next}
 use Rattle.vax_script.specs.declared.request.Line.TheVariants.{Request as Asks}

@@ -1,4 +1,4 @@
-use Rattle.std.proofs.Common.{◌≡◌, ◌∙◌, ◌∷◌, [], ℕ, Option, Result, Err, Some, None, ap, sym, subst}
+use Rattle.std.proofs.Common.{◌≡◌, ◌∙◌, ◌∷◌, [], ℕ, Option, Result, Err, Some, None, ap, refl, sym, subst}
 use Rattle.vax_flat.specs.declared.Ending.{Ending}
 use Rattle.vax_report.specs.Lines.{ending_line}
 use Rattle.vax_machine.specs.Meaning.{engine}
