@@ -149,7 +149,7 @@ module _ (outside : Outside) (limits : Limits) (rules : List Rule) (lines : List
       record {
         meant = Turns;
         grown = broken_off replies w.place n.steps last.Turns;
-        so = inr (inl (record { front = c.front; back = c.back; splits = c.splits; place = w.place; steps = n.steps; on_the_way = w.goes; goes = record { goes = record { machine = n; sink = mid.told; holds = holds_from outside frames start limits rules lines m n file mid.told session_end.Turns f made }; means = w.means; counted = refl }; enough = enough file outside.pages.after.told c.out.reached took; unspoiled = unspoiled file outside.pages.after.told took; going = not_ended outside.pages.after.told w.place w.means c.out.going; below = c.out.below; few = are_few file outside.pages.after.told w.place w.means c.out.reached took; answer = refl; wrote = refl }));
+        so = inr (inl (record { front = c.front; back = c.back; splits = c.splits; at = record { sink = mid.told; goes = record { machine = n; holds = holds_from outside frames start limits rules lines m n file mid.told session_end.Turns f made }; place = w.place; means = w.means }; on_the_way = w.goes; told = within_wrote _ _ replies w; enough = enough file outside.pages.after.told c.out.reached took; unspoiled = unspoiled file outside.pages.after.told took; going = not_ended outside.pages.after.told w.place w.means c.out.going; below = c.out.below; few = are_few file outside.pages.after.told w.place w.means c.out.reached took; answer = refl; wrote = refl }));
         ends = behind _ _ replies last.Turns Turns w quiet ends;
       }
 
@@ -166,7 +166,7 @@ module _ (outside : Outside) (limits : Limits) (rules : List Rule) (lines : List
       record {
         meant = PageFault;
         grown = broken_off replies w.place n.steps last.PageFault;
-        so = inr (inr (rose, record { front = c.front; back = c.back; splits = c.splits; place = w.place; steps = n.steps; on_the_way = w.goes; goes = record { goes = record { machine = n; sink = mid.told; holds = holds_from outside frames start limits rules lines m n file mid.told session_end.PageFault f made }; means = w.means; counted = refl }; answer = refl; wrote = refl }));
+        so = inr (inr (rose, record { front = c.front; back = c.back; splits = c.splits; at = record { sink = mid.told; goes = record { machine = n; holds = holds_from outside frames start limits rules lines m n file mid.told session_end.PageFault f made }; place = w.place; means = w.means }; on_the_way = w.goes; told = within_wrote _ _ replies w; answer = refl; wrote = refl }));
         ends = behind _ _ replies last.PageFault PageFault w quiet ends;
       }
 
@@ -174,8 +174,8 @@ module _ (outside : Outside) (limits : Limits) (rules : List Rule) (lines : List
   from_opening : (end : SessionEnd) (file : BlockFile) → Did limits lines m (Some file) end n outside.pages.after.told outside.sink.before.told outside.sink.after.told → console.Ends end limits (opening start) lines n outside.pages.after.told outside.sink.before.told outside.sink.after.told
   from_opening end file did = subst (λ (s : Session). console.Ends end limits s lines n outside.pages.after.told outside.sink.before.told outside.sink.after.told) (opens m frames start f) (did start (f.means file))
 
-  all_goes : (end : SessionEnd) (file : BlockFile) → Made limits rules lines m (Some file) end n outside.pages.after.told outside.sink.before.told outside.sink.after.told → Goes outside (begins m frames start limits rules lines) file end
-  all_goes end file made = record { machine = n; sink = outside.sink.after.told; holds = holds_from outside frames start limits rules lines m n file outside.sink.after.told end f made }
+  all_goes : (end : SessionEnd) (file : BlockFile) → Made limits rules lines m (Some file) end n outside.pages.after.told outside.sink.before.told outside.sink.after.told → Goes outside (begins m frames start limits rules lines) file end outside.sink.after.told
+  all_goes end file made = record { machine = n; holds = holds_from outside frames start limits rules lines m n file outside.sink.after.told end f made }
 
   pub read_out : (told : Option BlockFile) → Did limits lines m told session_end.Read n outside.pages.after.told outside.sink.before.told outside.sink.after.told → Made limits rules lines m told session_end.Read n outside.pages.after.told outside.sink.before.told outside.sink.after.told → OnlyReplied outside.sink.before.told outside.sink.after.told → outside.sink.after.faults ≡ outside.sink.before.faults → Told told outside (begins m frames start limits rules lines) Done
   read_out None did made only_these quiet = record { meant = Done; grown = writes only_these.sent only_these.replies; so = tt; ends = inl (record { answer = refl; grew = only_these.grew; quiet = quiet }) }

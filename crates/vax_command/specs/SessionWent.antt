@@ -1,7 +1,7 @@
 -- How a session of the console goes, and what it writes.
 use Rattle.std.specs.Prelude.{◌≡◌, ◌<◌, ◌≤◌, ◌+◌, ◌-◌, ◌*◌, ◌^◌, ◌⊎◌, ℕ, List, [], ◌++◌, Option, None, Some}
 use Rattle.vax_outside.specs.Blocks.{BlockFile}
-use Rattle.vax_outside.specs.Channels.{Channels, append, only}
+use Rattle.vax_outside.specs.Channels.{Channels, Grew, append, only}
 use Rattle.vax_outside.specs.declared.traits.Chan.TheVariants.{Report}
 use Rattle.vax_flat.specs.Parts.{Place, machine_at, units_done}
 use Rattle.vax_flat.specs.Step.{Flat}
@@ -43,23 +43,23 @@ opening start = record { machine = start; steps = 0 }
 abbrev pub first_stand : Outside → BlockFile → Opening → Stand
 first_stand outside file o = record { at = fresh o.frames o.start; file = Some file; sink = outside.sink.before.told }
 
--- The lines went so, turn by turn, up to this end. They leave this machine, and the channels tell this then.
-pub record Goes (outside : Outside) (o : Opening) (file : BlockFile) (end : SessionEnd) : Type 0 where
+-- the lines went so, turn by turn, up to this end; they leave this machine, where the channels tell this
+pub record Goes (outside : Outside) (o : Opening) (file : BlockFile) (end : SessionEnd) (sink : Option Channels) : Type 0 where
   pub machine : Engine
-  pub sink : Option Channels
   pub holds : Holds (outcome_of end) o.setting o.lines (first_stand outside file o) (scene machine outside.pages.after.told sink)
 
--- and the machine is at this place, after so many steps
-pub record GoesTo (outside : Outside) (o : Opening) (file : BlockFile) (end : SessionEnd) (place : Place) (steps : ℕ) : Type 0 where
-  pub goes : Goes outside o file end
+-- and the machine is at a place
+pub record GoesTo (outside : Outside) (o : Opening) (file : BlockFile) (end : SessionEnd) : Type 0 where
+  pub sink : Option Channels
+  pub goes : Goes outside o file end sink
+  pub place : Place
   pub means : Means goes.machine outside.pages.after.told place
-  pub counted : goes.machine.steps ≡ steps
 
 -- every line was carried out or refused, but where a write failed before
 pub record IsCarriedOut (outside : Outside) (o : Opening) (file : BlockFile) (status : Status) (grown : Channels) : Type 0 where
   pub answer : status ≡ Done
   pub wrote : grown ≡ writes (session_after o.setting.limits.steps (opening o.start) o.lines).machine.output (transcript o.setting.limits.steps (opening o.start) o.lines)
-  pub goes : Goes outside o file session_end.Read ⊎ (HasFailed outside.sink × Goes outside o file session_end.WriteFault)
+  pub goes : Goes outside o file session_end.Read outside.sink.after.told ⊎ (HasFailed outside.sink × Goes outside o file session_end.WriteFault outside.sink.after.told)
 
 -- what it wrote up to a place, and the report on the machine there
 abbrev pub broken_off : List ℕ → Place → ℕ → Last → Channels
@@ -71,12 +71,11 @@ pub record IsBrokenOff (outside : Outside) (o : Opening) (file : BlockFile) (sta
   pub front : List Line
   pub back : List Line
   pub splits : o.lines ≡ front ++ back
-  pub place : Place
-  pub steps : ℕ
-  pub on_the_way : IsOnTheWay (session_after o.setting.limits.steps (opening o.start) front) (steps_in o.setting.limits.steps (session_after o.setting.limits.steps (opening o.start) front) back) place steps
-  pub goes : GoesTo outside o file session_end.PageFault place steps
+  pub at : GoesTo outside o file session_end.PageFault
+  pub on_the_way : IsOnTheWay (session_after o.setting.limits.steps (opening o.start) front) (steps_in o.setting.limits.steps (session_after o.setting.limits.steps (opening o.start) front) back) at.place at.goes.machine.steps
+  pub told : Grew outside.sink.before.told at.sink (writes (machine_at at.place).output (transcript o.setting.limits.steps (opening o.start) front))
   pub answer : status ≡ PageFault
-  pub wrote : grown ≡ broken_off (transcript o.setting.limits.steps (opening o.start) front) place steps last.PageFault
+  pub wrote : grown ≡ broken_off (transcript o.setting.limits.steps (opening o.start) front) at.place at.goes.machine.steps last.PageFault
 
 -- Turns up to their limit are few for the parts that were made, up to so many steps and so many units of the next one: with no rule in the schedule, at
 -- most 41 for each part, and 40 more.
@@ -93,17 +92,16 @@ pub record IsTimedOut (outside : Outside) (o : Opening) (file : BlockFile) (stat
   pub front : List Line
   pub back : List Line
   pub splits : o.lines ≡ front ++ back
-  pub place : Place
-  pub steps : ℕ
-  pub on_the_way : IsOnTheWay (session_after o.setting.limits.steps (opening o.start) front) (steps_in o.setting.limits.steps (session_after o.setting.limits.steps (opening o.start) front) back) place steps
-  pub going : (machine_at place).ending ≡ None
-  pub below : steps < (session_after o.setting.limits.steps (opening o.start) front).steps + steps_in o.setting.limits.steps (session_after o.setting.limits.steps (opening o.start) front) back
-  pub few : AreFew o.setting.limits o.setting.rules (opening o.start) o.lines steps (units_done place)
-  pub goes : GoesTo outside o file session_end.Turns place steps
-  pub enough : (all : ℕ) → LinesHaveParts o.setting.limits.steps (opening o.start) o.lines all → (residence goes.goes.machine).spoiled < 2 ^ 64 - 1 → o.setting.limits.turns < 41 * all + (residence goes.goes.machine).spoiled
-  pub unspoiled : o.setting.rules ≡ [] → (residence goes.goes.machine).spoiled ≡ 0
+  pub at : GoesTo outside o file session_end.Turns
+  pub on_the_way : IsOnTheWay (session_after o.setting.limits.steps (opening o.start) front) (steps_in o.setting.limits.steps (session_after o.setting.limits.steps (opening o.start) front) back) at.place at.goes.machine.steps
+  pub told : Grew outside.sink.before.told at.sink (writes (machine_at at.place).output (transcript o.setting.limits.steps (opening o.start) front))
+  pub going : (machine_at at.place).ending ≡ None
+  pub below : at.goes.machine.steps < (session_after o.setting.limits.steps (opening o.start) front).steps + steps_in o.setting.limits.steps (session_after o.setting.limits.steps (opening o.start) front) back
+  pub few : AreFew o.setting.limits o.setting.rules (opening o.start) o.lines at.goes.machine.steps (units_done at.place)
+  pub enough : (all : ℕ) → LinesHaveParts o.setting.limits.steps (opening o.start) o.lines all → (residence at.goes.machine).spoiled < 2 ^ 64 - 1 → o.setting.limits.turns < 41 * all + (residence at.goes.machine).spoiled
+  pub unspoiled : o.setting.rules ≡ [] → (residence at.goes.machine).spoiled ≡ 0
   pub answer : status ≡ Turns
-  pub wrote : grown ≡ broken_off (transcript o.setting.limits.steps (opening o.start) front) place steps last.Turns
+  pub wrote : grown ≡ broken_off (transcript o.setting.limits.steps (opening o.start) front) at.place at.goes.machine.steps last.Turns
 
 -- It is read to its end, or the limit of turns or a failed call of the page file ends it; of what it wrote nothing is said where the page file
 -- doesn't tell its contents.
