@@ -1,5 +1,5 @@
 -- What a session comes to, from what the console did.
-use Rattle.std.proofs.Common.{◌≡◌, ◌≤◌, ◌⊎◌, ◌++◌, ℕ, List, [], Option, Some, None, refl, sym, ap, subst, ◌∙◌, inl, inr, arith}
+use Rattle.std.proofs.Common.{◌≡◌, ◌<◌, ◌≤◌, ◌+◌, ◌-◌, ◌*◌, ◌^◌, ◌⊎◌, ◌++◌, ℕ, List, [], Option, Some, None, refl, sym, ap, subst, ◌∙◌, inl, inr, arith}
 use Rattle.vax_outside.specs.Blocks.{BlockFile}
 use Rattle.vax_outside.specs.Channels.{Channels, Grew, GrewByPrefix, append, nothing, only}
 use Rattle.vax_outside.specs.declared.traits.Chan.TheVariants.{Report}
@@ -12,7 +12,7 @@ use Rattle.vax_sched.specs.Faults.{Denotes}
 use Rattle.vax_sched.specs.declared.rule.Rule.{Rule}
 use Rattle.vax_report.specs.declared.Last.{Last}
 use Rattle.vax_report.specs.declared.Last.TheVariants as last
-use Rattle.vax_machine.specs.Machine.{Means, residence}
+use Rattle.vax_machine.specs.Machine.{Means, keeping, residence}
 use Rattle.vax_machine.specs.Meaning.{units_of}
 use Rattle.vax_machine.specs.Paged.{Paged}
 use Rattle.vax_machine.specs.declared.engine.Engine.{Engine}
@@ -20,9 +20,11 @@ use Rattle.vax_machine.specs.declared.event.Limits.{Limits}
 use Rattle.vax_script.specs.declared.request.Line.{Line}
 use Rattle.vax_script.specs.Requests.{readings}
 use Rattle.vax_console.specs.Ends as console
-use Rattle.vax_console.specs.Ends.{IsAt, IsCutByTurns, IsCutOff, IsPartOf, IsWithin, OnlyReplied, session_on, writes}
-use Rattle.vax_console.specs.Parts.{Spends, SpendsSome}
+use Rattle.vax_console.specs.Ends.{IsAt, IsCutByTurns, IsCutOff, IsPartOf, IsWithin, OnlyReplied, scene, session_on, writes}
+use Rattle.vax_console.specs.Parts.{LinesHaveParts, Spends, SpendsInto}
 use Rattle.vax_console.specs.Transcript.{Session, session_after, transcript}
+use Rattle.vax_console.specs.Turns.{Holds, HoldsFrom, Stand, setting}
+use Rattle.vax_console.proofs.Completing.{turns_short}
 use Rattle.vax_console.specs.declared.SessionEnd.{SessionEnd}
 use Rattle.vax_console.specs.declared.SessionEnd.TheVariants as session_end
 use Rattle.vax_cli.specs.Words.{Options, Text}
@@ -35,16 +37,20 @@ use Rattle.vax_command.specs.Fresh.{IsFresh, machine_report}
 use Rattle.vax_command.specs.Loaded.{Loaded}
 use Rattle.vax_command.specs.Running.{IsFaulty}
 use Rattle.vax_command.proofs.RunLaws.{ends_after, reported_at}
-use Rattle.vax_command.specs.Holding.{Held}
-use Rattle.vax_command.specs.SessionWent.{AreFew, SessionFrom, SessionWent, broken_off, opening}
+use Rattle.vax_command.specs.Holding.{Held, session_opening}
+use Rattle.vax_command.specs.SessionWent.{AreFew, Goes, Opening, SessionFrom, SessionWent, broken_off, first_stand, opening, opening_of}
 
 -- a machine at the start of a program opens a session
 opens : (m : Engine) (frames : ℕ) (start : Flat) → IsFresh m frames start → session_on m start ≡ opening start
 opens m frames start f = ap (λ (steps : ℕ). record { machine = start; steps = steps }) (ap (λ (p : Paged). p.steps) f.begins)
 
 -- how a session went, whatever its page file told before, and how its call ends
-abbrev pub Told : Option BlockFile → Outside → Limits → List Rule → Flat → List Line → Status → Type 0
-Told told outside limits rules start lines result = EndsSo outside.sink (SessionFrom told outside.pages limits.steps limits.turns rules start lines) result
+abbrev pub Told : Option BlockFile → Outside → Opening → Status → Type 0
+Told told outside o result = EndsSo outside.sink (SessionFrom told outside o) result
+
+-- a session on a machine that starts so
+abbrev pub begins : Engine → ℕ → Flat → Limits → List Rule → List Line → Opening
+begins m frames start limits rules lines = opening_of frames start (setting limits (keeping m).areas rules) lines
 
 -- what the console did with whatever its page file told
 abbrev pub Did : Limits → List Line → Engine → Option BlockFile → SessionEnd → Engine → Option BlockFile → Option Channels → Option Channels → Type 0
@@ -53,6 +59,18 @@ Did limits lines m told end n after old between = (flat : Flat) → Means m told
 -- and the turns that it took
 abbrev pub Took : Limits → List Rule → List Line → Engine → Option BlockFile → SessionEnd → Engine → Option BlockFile → Type 0
 Took limits rules lines m told end n after = (flat : Flat) → Means m told (At flat) → Spends (console.outcome_of end) limits.steps rules (session_on m flat) lines m n after
+
+-- and how it went, turn by turn
+abbrev pub Made : Limits → List Rule → List Line → Engine → Option BlockFile → SessionEnd → Engine → Option BlockFile → Option Channels → Option Channels → Type 0
+Made limits rules lines m told end n after old between = HoldsFrom (scene m told old) (scene n after between) limits rules lines (console.outcome_of end)
+
+-- of a machine at the start
+holds_from : (outside : Outside) (frames : ℕ) (start : Flat) (limits : Limits) (rules : List Rule) (lines : List Line) (m n : Engine) (file : BlockFile) (sink : Option Channels) (end : SessionEnd) → IsFresh m frames start →
+    Made limits rules lines m (Some file) end n outside.pages.after.told outside.sink.before.told sink → Holds (console.outcome_of end) (setting limits (keeping m).areas rules) lines (first_stand outside file (begins m frames start limits rules lines)) (scene n outside.pages.after.told sink)
+holds_from outside frames start limits rules lines m n file sink end f made =
+    let with_turns : Paged → Stand = λ at. record { at = at; file = Some file; sink = outside.sink.before.told } in
+    let after = scene n outside.pages.after.told sink in
+    subst (λ (s : Stand). Holds (console.outcome_of end) (setting limits (keeping m).areas rules) lines s after) (ap with_turns f.begins) (made start (f.means file))
 
 open_units : (place : Place) → units_of (open_at place) ≡ units_done place
 open_units (At m) = refl
@@ -86,11 +104,18 @@ module _ (outside : Outside) (limits : Limits) (rules : List Rule) (lines : List
   same_units file a b x y = sym (ap units_of x.processor.open_one ∙ open_units a) ∙ (ap units_of y.processor.open_one ∙ open_units b)
 
   -- nothing was counted at the start
-  are_few : (file : BlockFile) (after : Option BlockFile) (place : Place) → Means n after place → limits.turns ≤ n.turns → Took limits rules lines m (Some file) session_end.Turns n after → AreFew limits.steps limits.turns rules (opening start) lines n.steps (units_done place)
+  took_at : (file : BlockFile) (after : Option BlockFile) → Took limits rules lines m (Some file) session_end.Turns n after → SpendsInto limits.steps rules (opening start) lines m n after
+  took_at file after took = subst (λ (s : Session). SpendsInto limits.steps rules s lines m n after) (opens m frames start f) (took start (f.means file))
+
+  no_turns : m.turns ≡ 0
+  no_turns = ap (λ (p : Paged). p.turns) f.begins
+
+  none_spoiled : (residence m).spoiled ≡ 0
+  none_spoiled = ap (λ (p : Paged). p.residence.spoiled) f.begins
+
+  are_few : (file : BlockFile) (after : Option BlockFile) (place : Place) → Means n after place → limits.turns ≤ n.turns → Took limits rules lines m (Some file) session_end.Turns n after → AreFew limits rules (opening start) lines n.steps (units_done place)
   are_few file after place means reached took =
-      let y : SpendsSome limits.steps rules (opening start) lines m n after = subst (λ (s : Session). SpendsSome limits.steps rules s lines m n after) (opens m frames start f) (took start (f.means file)) in
-      let none : m.turns ≡ 0 = ap (λ (p : Paged). p.turns) f.begins in
-      let whole : (residence m).spoiled ≡ 0 = ap (λ (p : Paged). p.residence.spoiled) f.begins in
+      let y = (took_at file after took).some in
       record {
         place = y.place;
         here = same_units after y.place place y.means means;
@@ -98,41 +123,50 @@ module _ (outside : Outside) (limits : Limits) (rules : List Rule) (lines : List
         through = y.through;
         few = λ quiet.
             let same = y.few.unspoiled quiet in
-            let k = y.few.turns (omega (arith, same, whole)) in
-            omega (arith, k, same, none, reached);
+            let k = y.few.turns (omega (arith, same, none_spoiled)) in
+            omega (arith, k, same, no_turns, reached);
       }
 
-  pub timed_out : (told : Option BlockFile) → Did limits lines m told session_end.Turns n outside.pages.after.told outside.sink.before.told mid.told → Took limits rules lines m told session_end.Turns n outside.pages.after.told → OnlyReplied outside.sink.before.told mid.told → mid.faults ≡ outside.sink.before.faults
-      → EndsFrom mid outside.sink.after Turns (only Report (machine_report n last.Turns [])) result → Told told outside limits rules start lines result
-  timed_out None did took only_these quiet ends =
+  -- a limit of turns for all parts would have been enough
+  enough : (file : BlockFile) (after : Option BlockFile) → limits.turns ≤ n.turns → Took limits rules lines m (Some file) session_end.Turns n after → (all : ℕ) → LinesHaveParts limits.steps (opening start) lines all → (residence n).spoiled < 2 ^ 64 - 1 → limits.turns < 41 * all + (residence n).spoiled
+  enough file after reached took all have low =
+      let k = turns_short limits.steps limits.turns rules (opening start) lines m n after all (took_at file after took) have reached low in
+      omega (arith, k, none_spoiled, no_turns)
+
+  unspoiled : (file : BlockFile) (after : Option BlockFile) → Took limits rules lines m (Some file) session_end.Turns n after → rules ≡ [] → (residence n).spoiled ≡ 0
+  unspoiled file after took quiet = (took_at file after took).some.few.unspoiled quiet ∙ none_spoiled
+
+  pub timed_out : (told : Option BlockFile) → Did limits lines m told session_end.Turns n outside.pages.after.told outside.sink.before.told mid.told → Took limits rules lines m told session_end.Turns n outside.pages.after.told → Made limits rules lines m told session_end.Turns n outside.pages.after.told outside.sink.before.told mid.told → OnlyReplied outside.sink.before.told mid.told → mid.faults ≡ outside.sink.before.faults
+      → EndsFrom mid outside.sink.after Turns (only Report (machine_report n last.Turns [])) result → Told told outside (begins m frames start limits rules lines) result
+  timed_out None did took made only_these quiet ends =
       let text = only Report (machine_report n last.Turns []) in
       let wrote = writes only_these.sent only_these.replies in
       record { meant = Turns; grown = append wrote text; so = tt; ends = ends_after outside.sink.before mid outside.sink.after Turns wrote text result only_these.grew quiet ends }
-  timed_out (Some file) did took only_these quiet ends =
+  timed_out (Some file) did took made only_these quiet ends =
       let c : IsCutByTurns limits (opening start) lines n outside.pages.after.told outside.sink.before.told mid.told = at_opening session_end.Turns file did in
       let w = c.within in
       let replies = transcript limits.steps (opening start) c.front in
       record {
         meant = Turns;
         grown = broken_off replies w.place n.steps last.Turns;
-        so = inr (inl (record { front = c.front; back = c.back; splits = c.splits; place = w.place; steps = n.steps; goes = w.goes; going = not_ended outside.pages.after.told w.place w.means c.out.going; below = c.out.below; few = are_few file outside.pages.after.told w.place w.means c.out.reached took; answer = refl; wrote = refl }));
+        so = inr (inl (record { front = c.front; back = c.back; splits = c.splits; at = record { sink = mid.told; goes = record { machine = n; holds = holds_from outside frames start limits rules lines m n file mid.told session_end.Turns f made }; place = w.place; means = w.means }; on_the_way = w.goes; told = within_wrote _ _ replies w; enough = enough file outside.pages.after.told c.out.reached took; unspoiled = unspoiled file outside.pages.after.told took; going = not_ended outside.pages.after.told w.place w.means c.out.going; below = c.out.below; few = are_few file outside.pages.after.told w.place w.means c.out.reached took; answer = refl; wrote = refl }));
         ends = behind _ _ replies last.Turns Turns w quiet ends;
       }
 
-  pub cut_off : (told : Option BlockFile) → HasFailed outside.pages → Did limits lines m told session_end.PageFault n outside.pages.after.told outside.sink.before.told mid.told → OnlyReplied outside.sink.before.told mid.told → mid.faults ≡ outside.sink.before.faults
-      → EndsFrom mid outside.sink.after PageFault (only Report (machine_report n last.PageFault [])) result → Told told outside limits rules start lines result
-  cut_off None rose did only_these quiet ends =
+  pub cut_off : (told : Option BlockFile) → HasFailed outside.pages → Did limits lines m told session_end.PageFault n outside.pages.after.told outside.sink.before.told mid.told → Made limits rules lines m told session_end.PageFault n outside.pages.after.told outside.sink.before.told mid.told → OnlyReplied outside.sink.before.told mid.told → mid.faults ≡ outside.sink.before.faults
+      → EndsFrom mid outside.sink.after PageFault (only Report (machine_report n last.PageFault [])) result → Told told outside (begins m frames start limits rules lines) result
+  cut_off None rose did made only_these quiet ends =
       let text = only Report (machine_report n last.PageFault []) in
       let wrote = writes only_these.sent only_these.replies in
       record { meant = PageFault; grown = append wrote text; so = rose; ends = ends_after outside.sink.before mid outside.sink.after PageFault wrote text result only_these.grew quiet ends }
-  cut_off (Some file) rose did only_these quiet ends =
+  cut_off (Some file) rose did made only_these quiet ends =
       let c : IsCutOff limits (opening start) lines n outside.pages.after.told outside.sink.before.told mid.told = at_opening session_end.PageFault file did in
       let w = c.within in
       let replies = transcript limits.steps (opening start) c.front in
       record {
         meant = PageFault;
         grown = broken_off replies w.place n.steps last.PageFault;
-        so = inr (inr (rose, record { front = c.front; back = c.back; splits = c.splits; place = w.place; steps = n.steps; goes = w.goes; answer = refl; wrote = refl }));
+        so = inr (inr (rose, record { front = c.front; back = c.back; splits = c.splits; at = record { sink = mid.told; goes = record { machine = n; holds = holds_from outside frames start limits rules lines m n file mid.told session_end.PageFault f made }; place = w.place; means = w.means }; on_the_way = w.goes; told = within_wrote _ _ replies w; answer = refl; wrote = refl }));
         ends = behind _ _ replies last.PageFault PageFault w quiet ends;
       }
 
@@ -140,17 +174,20 @@ module _ (outside : Outside) (limits : Limits) (rules : List Rule) (lines : List
   from_opening : (end : SessionEnd) (file : BlockFile) → Did limits lines m (Some file) end n outside.pages.after.told outside.sink.before.told outside.sink.after.told → console.Ends end limits (opening start) lines n outside.pages.after.told outside.sink.before.told outside.sink.after.told
   from_opening end file did = subst (λ (s : Session). console.Ends end limits s lines n outside.pages.after.told outside.sink.before.told outside.sink.after.told) (opens m frames start f) (did start (f.means file))
 
-  pub read_out : (told : Option BlockFile) → Did limits lines m told session_end.Read n outside.pages.after.told outside.sink.before.told outside.sink.after.told → OnlyReplied outside.sink.before.told outside.sink.after.told → outside.sink.after.faults ≡ outside.sink.before.faults → Told told outside limits rules start lines Done
-  read_out None did only_these quiet = record { meant = Done; grown = writes only_these.sent only_these.replies; so = tt; ends = inl (record { answer = refl; grew = only_these.grew; quiet = quiet }) }
-  read_out (Some file) did only_these quiet =
+  all_goes : (end : SessionEnd) (file : BlockFile) → Made limits rules lines m (Some file) end n outside.pages.after.told outside.sink.before.told outside.sink.after.told → Goes outside (begins m frames start limits rules lines) file end outside.sink.after.told
+  all_goes end file made = record { machine = n; holds = holds_from outside frames start limits rules lines m n file outside.sink.after.told end f made }
+
+  pub read_out : (told : Option BlockFile) → Did limits lines m told session_end.Read n outside.pages.after.told outside.sink.before.told outside.sink.after.told → Made limits rules lines m told session_end.Read n outside.pages.after.told outside.sink.before.told outside.sink.after.told → OnlyReplied outside.sink.before.told outside.sink.after.told → outside.sink.after.faults ≡ outside.sink.before.faults → Told told outside (begins m frames start limits rules lines) Done
+  read_out None did made only_these quiet = record { meant = Done; grown = writes only_these.sent only_these.replies; so = tt; ends = inl (record { answer = refl; grew = only_these.grew; quiet = quiet }) }
+  read_out (Some file) did made only_these quiet =
       let at : IsAt start (session_after limits.steps (opening start) lines) (transcript limits.steps (opening start) lines) n outside.pages.after.told outside.sink.before.told outside.sink.after.told = from_opening session_end.Read file did in
       let output = (session_after limits.steps (opening start) lines).machine.output in
       let replies = transcript limits.steps (opening start) lines in
       let grew = subst (λ (out : List ℕ). Grew outside.sink.before.told outside.sink.after.told (writes out replies)) (sent_all start.output output at.sent f.silent at.output) at.wrote in
-      record { meant = Done; grown = writes output replies; so = inl (record { answer = refl; wrote = refl }); ends = inl (record { answer = refl; grew = grew; quiet = quiet }) }
+      record { meant = Done; grown = writes output replies; so = inl (record { answer = refl; wrote = refl; goes = inl (all_goes session_end.Read file made) }); ends = inl (record { answer = refl; grew = grew; quiet = quiet }) }
 
-  pub lost : (told : Option BlockFile) → Did limits lines m told session_end.WriteFault n outside.pages.after.told outside.sink.before.told outside.sink.after.told → OnlyReplied outside.sink.before.told outside.sink.after.told → HasFailed outside.sink → Told told outside limits rules start lines WriteFault
-  lost None did only_these rose =
+  pub lost : (told : Option BlockFile) → Did limits lines m told session_end.WriteFault n outside.pages.after.told outside.sink.before.told outside.sink.after.told → Made limits rules lines m told session_end.WriteFault n outside.pages.after.told outside.sink.before.told outside.sink.after.told → OnlyReplied outside.sink.before.told outside.sink.after.told → HasFailed outside.sink → Told told outside (begins m frames start limits rules lines) WriteFault
+  lost None did made only_these rose =
       let wrote = writes only_these.sent only_these.replies in
       record {
         meant = Done;
@@ -158,12 +195,12 @@ module _ (outside : Outside) (limits : Limits) (rules : List Rule) (lines : List
         so = tt;
         ends = inr (record { answer = refl; prefix = record { prefix = wrote; rest = nothing; splits = append-nothing wrote; grew = only_these.grew }; cause = rose });
       }
-  lost (Some file) did only_these rose =
+  lost (Some file) did made only_these rose =
       let part : IsPartOf start (session_after limits.steps (opening start) lines) (transcript limits.steps (opening start) lines) outside.sink.before.told outside.sink.after.told = from_opening session_end.WriteFault file did in
       let output = (session_after limits.steps (opening start) lines).machine.output in
       let replies = transcript limits.steps (opening start) lines in
       let prefix = subst (λ (out : List ℕ). GrewByPrefix outside.sink.before.told outside.sink.after.told (writes out replies)) (sent_all start.output output part.sent f.silent part.output) part.wrote in
-      record { meant = Done; grown = writes output replies; so = inl (record { answer = refl; wrote = refl }); ends = inr (record { answer = refl; prefix = prefix; cause = rose }) }
+      record { meant = Done; grown = writes output replies; so = inl (record { answer = refl; wrote = refl; goes = inr (rose, all_goes session_end.WriteFault file made) }); ends = inr (record { answer = refl; prefix = prefix; cause = rose }) }
 
 -- what a session on programs came to
 module _ (outside : Outside) (program : Loaded) (input schedule script : Text) (options : Options) (result : Status) where
@@ -171,5 +208,5 @@ module _ (outside : Outside) (program : Loaded) (input schedule script : Text) (
   held_misplanned status (inl r) k ends = record { meant = status; grown = refusal_growth status; so = inr (inl (record { fault = r; wrote = refl; keeps = k })); ends = ends }
   held_misplanned status (inr e) k ends = record { meant = status; grown = refusal_growth status; so = inl (e, ap refusal_growth e, k); ends = ends }
 
-  pub held_went : (rules : List Rule) → Denotes (start_areas program.system program.user) schedule rules → EndsSo outside.sink (SessionWent outside.pages options.steps options.turns rules (Start program.system program.user input) (readings script)) result → Held outside program input schedule script options result
+  pub held_went : (rules : List Rule) → Denotes (start_areas program.system program.user) schedule rules → EndsSo outside.sink (SessionWent outside (session_opening program input options rules script)) result → Held outside program input schedule script options result
   held_went rules planned h = record { meant = h.meant; grown = h.grown; so = inr (inr (record { rules = rules; planned = planned; went = h.so })); ends = h.ends }

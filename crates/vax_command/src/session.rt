@@ -3,8 +3,10 @@
 ghost use Rattle.std.specs.Prelude.{◌≤◌, ◌<◌, ◌^◌, ◌-◌, ℕ, length};
 ghost use Rattle.vax_flat.specs.Step.{Flat};
 ghost use Rattle.vax_machine.specs.Console.{IsBetween};
+ghost use Rattle.vax_machine.specs.Machine.{keeping};
 ghost use Rattle.vax_machine.specs.Meaning.{engine};
 ghost use Rattle.vax_script.specs.Requests.{readings};
+ghost use Rattle.vax_console.specs.Turns.{setting};
 ghost use Rattle.vax_cli.specs.Said.{AreWithin, options as said_options};
 ghost use Rattle.vax_command.specs.Reading.{file_limit};
 ghost use Rattle.vax_command.specs.Fresh.{IsFresh};
@@ -12,7 +14,7 @@ ghost use Rattle.vax_command.specs.Loaded.{AreSound, loaded_seen};
 ghost use Rattle.vax_command.specs.Around.{change, outside};
 ghost use Rattle.vax_command.specs.Ends.{Admits, EndsSo};
 ghost use Rattle.vax_command.specs.Holding.{Held};
-ghost use Rattle.vax_command.specs.SessionWent.{SessionWent};
+ghost use Rattle.vax_command.specs.SessionWent.{SessionWent, opening_of};
 
 use crate::programs::Programs;
 use crate::refusal::refuse;
@@ -39,8 +41,12 @@ fn hold<K: Sink, F: PageFile>(
     requires between { IsBetween (engine machine) }
     ensures went { (frames : ℕ) → (m : Flat) → IsFresh (engine machine) frames m →
         EndsSo (change K.faults K.contents sink.old sink.new)
-        (SessionWent (change F.faults F.contents pages.old pages.new)
-        limits.now.steps limits.now.turns schedule.now m (readings script.now)) result }
+        (SessionWent
+        (outside (change K.faults K.contents sink.old sink.new)
+        (change F.faults F.contents pages.old pages.new))
+        (opening_of frames m (setting limits.now (keeping (engine machine)).areas schedule.now)
+        (readings script.now)))
+        result }
     ensures failed { Admits (F.faults pages.old) (F.faults pages.new) Status.PageFault result }
 {
     let mut machine = machine;

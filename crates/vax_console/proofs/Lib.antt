@@ -8,3 +8,7 @@ pub mod Sessions
 pub mod Parting
 pub mod Spoiling
 pub mod Spending
+pub mod Turning
+pub mod Turned
+pub mod Completing
+pub mod Agreeing

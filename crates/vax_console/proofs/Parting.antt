@@ -15,7 +15,7 @@ use Rattle.vax_console.specs.Parts.{HasParts, LeadsTo, LeftBefore, StepHasParts,
 use Rattle.vax_console.specs.Transcript.{Session, advanced, step_by, stepped}
 use Rattle.vax_console.proofs.Outputs.{goes_ending}
 
-goes_by : (m : Flat) (place : Place) (parts : ℕ) → LeadsTo m place parts → GoesBy m place
+pub goes_by : (m : Flat) (place : Place) (parts : ℕ) → LeadsTo m place parts → GoesBy m place
 goes_by m (At n) parts l = l.0
 goes_by m (Within p) parts l = (l.0, l.1)
 

@@ -34,7 +34,7 @@ same_core m file flat means = sym (ap (λ (z : Flat). z.core) means.processor.ma
 pub same_ending : (m : Engine) (file : Option BlockFile) (flat : Flat) → Means m file (At flat) → flat.ending ≡ m.ended
 same_ending m file flat means = sym (ap (λ (z : Flat). z.ending) means.processor.machine)
 
-same_taken : (m : Engine) (file : Option BlockFile) (flat : Flat) → Means m file (At flat) → flat.taken ≡ m.cpu.term.place
+pub same_taken : (m : Engine) (file : Option BlockFile) (flat : Flat) → Means m file (At flat) → flat.taken ≡ m.cpu.term.place
 same_taken m file flat means = sym (ap (λ (z : Flat). z.taken) means.processor.machine)
 
 same_layout : (s : Paging) (file : Option BlockFile) (memory : List Area) → StandsWith s file memory → layout s.areas ≡ layout memory

@@ -126,7 +126,7 @@ by_steps None true turns h = (refl, refl)
 by_steps None false true h = absurd (cc h)
 by_steps None false false h = absurd (cc h)
 
-by_turns : (how : Option Ending) (steps turns : Bool) → stop_by how steps turns ≡ Some ByTurns → (how ≡ None) × (steps ≡ false) × (turns ≡ true)
+pub by_turns : (how : Option Ending) (steps turns : Bool) → stop_by how steps turns ≡ Some ByTurns → (how ≡ None) × (steps ≡ false) × (turns ≡ true)
 by_turns (Some x) steps turns h = absurd (cc h)
 by_turns None true turns h = absurd (cc h)
 by_turns None false true h = (refl, refl, refl)
@@ -226,12 +226,12 @@ continue_refused r limits flat e m file before now old new means ended p =
 
 -- and of one that goes on: the steps were made
 
-next_said : (limits : Limits) (s : Session) (count : ℕ) (text : List ℕ) → s.machine.ending ≡ None → next_line (nat_lt (left limits.steps s) count) (advanced (min count (left limits.steps s)) s) ≡ text → reply limits.steps s (Next count) ≡ text
+pub next_said : (limits : Limits) (s : Session) (count : ℕ) (text : List ℕ) → s.machine.ending ≡ None → next_line (nat_lt (left limits.steps s) count) (advanced (min count (left limits.steps s)) s) ≡ text → reply limits.steps s (Next count) ≡ text
 unfolding reply
 next_said limits s count text going e =
     ap (λ (h : Option Ending). unless_ended h (next_line (nat_lt (left limits.steps s) count) (advanced (min count (left limits.steps s)) s))) going ∙ e
 
-continue_said : (limits : Limits) (s : Session) (text : List ℕ) → s.machine.ending ≡ None → stop_line (advanced (left limits.steps s) s) ≡ text → reply limits.steps s Continue ≡ text
+pub continue_said : (limits : Limits) (s : Session) (text : List ℕ) → s.machine.ending ≡ None → stop_line (advanced (left limits.steps s) s) ≡ text → reply limits.steps s Continue ≡ text
 unfolding reply
 continue_said limits s text going e = ap (λ (h : Option Ending). unless_ended h (stop_line (advanced (left limits.steps s) s))) going ∙ e
 

@@ -1,5 +1,5 @@
 -- Few attempts are made for a request, and for lines one after the other.
-use Rattle.std.proofs.Common.{◌≡◌, ◌<◌, ◌≤◌, ◌+◌, ◌-◌, ◌^◌, ℕ, zero, suc, nat_le, List, [], ◌∷◌, ◌++◌, length, Option, Some, Result, Ok, Err, refl, sym, ap, subst, ◌∙◌, arith}
+use Rattle.std.proofs.Common.{◌≡◌, ◌<◌, ◌≤◌, ◌+◌, ◌-◌, ◌^◌, ℕ, zero, suc, nat_le, List, [], ◌∷◌, ◌++◌, length, Option, Some, None, Result, Ok, Err, refl, sym, ap, subst, ◌∙◌, arith}
 use Rattle.vax_space.specs.declared.Area.{Area}
 use Rattle.vax_outside.specs.Blocks.{BlockFile}
 use Rattle.vax_outside.specs.Channels.{Channels}
@@ -20,14 +20,14 @@ use Rattle.vax_machine.specs.declared.event.RunEnd.{RunEnd}
 use Rattle.vax_machine.specs.declared.event.RunEnd.TheVariants as run_end
 use Rattle.vax_script.specs.declared.request.Line.{Line}
 use Rattle.vax_console.specs.Ends.{Replies, session_on, steps_in}
-use Rattle.vax_console.specs.Parts.{FewAttempts, LeadsThrough, LeadsTo, LinesHaveParts, MakesNone, Spends, SpendsAll, SpendsFirst, SpendsSome, SpendsSteps, StepHasParts, StepsHaveParts, StepsSpend}
+use Rattle.vax_console.specs.Parts.{FewAttempts, LeadsThrough, LeadsTo, LinesHaveParts, MakesNone, Spends, SpendsAll, SpendsFirst, SpendsInto, SpendsOpen, SpendsSome, SpendsSteps, StepHasParts, StepsHaveParts, StepsSpend}
 use Rattle.vax_console.specs.Transcript.{Session, advanced, after_line, session_after}
 use Rattle.vax_console.specs.declared.stopped.Stopped.{Stopped}
 use Rattle.vax_console.specs.declared.stopped.Stopped.TheVariants as stopped
-use Rattle.vax_console.proofs.Advancing.{Makes, advanced_stays, run_makes}
+use Rattle.vax_console.proofs.Advancing.{Makes, advanced_stays, is_below, run_makes}
 use Rattle.vax_console.proofs.Outputs.{goes_ending}
-use Rattle.vax_console.proofs.Parting.{Through, run_through}
-use Rattle.vax_console.proofs.Running.{answer_of, by_ending, by_steps, is_le, limits_of, place_between}
+use Rattle.vax_console.proofs.Parting.{Through, goes_by, run_through}
+use Rattle.vax_console.proofs.Running.{answer_of, by_ending, by_steps, by_turns, is_le, limits_of, place_between}
 use Rattle.vax_console.proofs.Sessions.{after_append, splits_behind, splits_further, steps_append}
 use Rattle.vax_console.proofs.Spoiling.{cut_unspoiled, evicted_spoils, paged_spoils, paged_unspoiled, spoils_then}
 
@@ -210,7 +210,10 @@ steps_spend run_end.Turns limits count areas rules flat m1 m2 f1 f2 old new betw
     let p = paged areas (due rules) w.count b in
     let k = run_makes (limits_of limits m1.steps count) areas rules w.count count b s refl refl refl w.goes in
     let t = run_through s areas rules w.count b refl refl refl in
-    record {
+    let why = by_turns (machine_at p.place).ending (nat_le (m1.steps + count) p.steps) (nat_le limits.turns p.turns) w.stopped in
+    let low : p.steps < m1.steps + count = is_below (m1.steps + count) p.steps why.1 in
+    let ending : (machine_at p.place).ending ≡ (advanced t.made s).machine.ending = goes_ending (advanced t.made s).machine p.place (goes_by (advanced t.made s).machine p.place t.begun t.leads) in
+    let first : SpendsFirst count rules s m1 m2 f2 = record {
       made = t.made;
       counted = let a = t.counted in let k = w.tracks.steps in omega (arith, a, k);
       within = let a = t.counted in let c = k.steps in let d = k.few in omega (arith, a, c, d);
@@ -221,7 +224,8 @@ steps_spend run_end.Turns limits count areas rules flat m1 m2 f1 f2 old new betw
       begun = t.begun;
       leads = t.leads;
       few = run_few areas rules w.count 40 m1 m2 b p (t.done + t.begun) refl refl refl refl w.few w.tracks.turns w.tracks.residence t.all w.few.pins;
-    }
+    } in
+    record { first = first; below = let a = t.counted in omega (arith, a, low); going = sym ending ∙ why.0 }
 steps_spend run_end.PageFault limits count areas rules flat m1 m2 f1 f2 old new between w =
     let s = session_on m1 flat in
     let b = begun m1 (At flat) in
@@ -289,8 +293,12 @@ first_spends limit rules s l count old new file e h = record {
   few = h.few;
 }
 
+open_spends : (limit : ℕ) (rules : List Rule) (s : Session) (l : Line) (count : ℕ) (old new : Engine) (file : Option BlockFile) → steps_in limit s (l ∷ []) ≡ count → SpendsOpen count rules s old new file → SpendsInto limit rules s (l ∷ []) old new file
+unfolding first_spends session_after
+open_spends limit rules s l count old new file e h = record { some = first_spends limit rules s l count old new file e h.first; below = let k = h.below in omega (arith, k, e); going = h.going }
+
 pub stopped_spends : (e : Stopped) (limit : ℕ) (rules : List Rule) (s : Session) (l : Line) (count : ℕ) (old new : Engine) (file : Option BlockFile) → steps_in limit s (l ∷ []) ≡ count → StepsSpend {T = Option Ending} (Err e) count rules s old new file → Spends {T = Unit {0}} (Err e) limit rules s (l ∷ []) old new file
-stopped_spends stopped.Turns limit rules s l count old new file is h = first_spends limit rules s l count old new file is h
+stopped_spends stopped.Turns limit rules s l count old new file is h = open_spends limit rules s l count old new file is h
 stopped_spends stopped.PageFault limit rules s l count old new file is h = first_spends limit rules s l count old new file is h
 stopped_spends stopped.WriteFault limit rules s l count old new file is h = tt
 
@@ -340,9 +348,20 @@ some_behind limit rules s front lines a b c file x y = record {
   few = few_then rules a b c x.parts y.parts 40 x.few y.few;
 }
 
+into_behind : (limit : ℕ) (rules : List Rule) (s : Session) (front lines : List Line) (a b c : Engine) (file : Option BlockFile) → SpendsAll limit rules s front a b → SpendsInto limit rules (session_after limit s front) lines b c file → SpendsInto limit rules s (front ++ lines) a c file
+unfolding some_behind through_behind
+into_behind limit rules s front lines a b c file x y =
+    let t = y.some.through in
+    let e = after_append limit s front t.front in
+    record {
+      some = some_behind limit rules s front lines a b c file x y.some;
+      below = subst (λ (z : Session). t.count < steps_in limit z t.back) (sym e) y.below;
+      going = subst (λ (z : Session). (advanced t.count z).machine.ending ≡ None) (sym e) y.going;
+    }
+
 behind : (r : Result (Unit {0}) Stopped) (limit : ℕ) (rules : List Rule) (s : Session) (front lines : List Line) (a b c : Engine) (file : Option BlockFile) → SpendsAll limit rules s front a b → Spends r limit rules (session_after limit s front) lines b c file → Spends r limit rules s (front ++ lines) a c file
 behind (Ok x) limit rules s front lines a b c file p q = all_behind limit rules s front lines a b c p q
-behind (Err stopped.Turns) limit rules s front lines a b c file p q = some_behind limit rules s front lines a b c file p q
+behind (Err stopped.Turns) limit rules s front lines a b c file p q = into_behind limit rules s front lines a b c file p q
 behind (Err stopped.PageFault) limit rules s front lines a b c file p q = some_behind limit rules s front lines a b c file p q
 behind (Err stopped.WriteFault) limit rules s front lines a b c file p q = tt
 
@@ -382,7 +401,17 @@ some_further limit rules s lines more old new file h = record {
   few = h.few;
 }
 
+into_further : (limit : ℕ) (rules : List Rule) (s : Session) (lines more : List Line) (old new : Engine) (file : Option BlockFile) → SpendsInto limit rules s lines old new file → SpendsInto limit rules s (lines ++ more) old new file
+unfolding some_further through_further
+into_further limit rules s lines more old new file h =
+    let t = h.some.through in
+    record {
+      some = some_further limit rules s lines more old new file h.some;
+      below = let k = h.below in let l = steps_append limit (session_after limit s t.front) t.back more in omega (arith, k, l);
+      going = h.going;
+    }
+
 pub spends_further : (e : Stopped) (limit : ℕ) (rules : List Rule) (s : Session) (lines more : List Line) (old new : Engine) (file : Option BlockFile) → Spends {T = Unit {0}} (Err e) limit rules s lines old new file → Spends {T = Unit {0}} (Err e) limit rules s (lines ++ more) old new file
-spends_further stopped.Turns limit rules s lines more old new file h = some_further limit rules s lines more old new file h
+spends_further stopped.Turns limit rules s lines more old new file h = into_further limit rules s lines more old new file h
 spends_further stopped.PageFault limit rules s lines more old new file h = some_further limit rules s lines more old new file h
 spends_further stopped.WriteFault limit rules s lines more old new file h = tt

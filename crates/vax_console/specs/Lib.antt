@@ -1,3 +1,4 @@
 pub mod Transcript
 pub mod Ends
 pub mod Parts
+pub mod Turns

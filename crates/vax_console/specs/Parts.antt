@@ -7,6 +7,7 @@ use Rattle.vax_flat.specs.Step.{Flat}
 use Rattle.vax_sched.specs.declared.rule.Rule.{Rule}
 use Rattle.vax_machine.specs.Machine.{Means, residence}
 use Rattle.vax_machine.specs.declared.engine.Engine.{Engine}
+use Rattle.vax_machine.specs.declared.event.Limits.{Limits}
 use Rattle.vax_script.specs.declared.request.Line.{Line}
 use Rattle.vax_console.specs.Transcript.{Session, advanced, after_line, session_after}
 use Rattle.vax_console.specs.Ends.{Scene, session_on, steps_in}
@@ -79,9 +80,15 @@ pub record SpendsFirst (count : ℕ) (rules : List Rule) (s : Session) (old new 
   pub leads : LeadsTo (advanced made s).machine place begun
   pub few : FewAttempts rules old new (whole + begun) 40
 
+-- so they were, and the next of them is to be made
+pub record SpendsOpen (count : ℕ) (rules : List Rule) (s : Session) (old new : Engine) (file : Option BlockFile) : Type 0 where
+  pub first : SpendsFirst count rules s old new file
+  pub below : first.made < count
+  pub going : (advanced first.made s).machine.ending ≡ None
+
 abbrev pub StepsSpend : {T : Type 0} → Result T Stopped → (count : ℕ) → List Rule → Session → Engine → Engine → Option BlockFile → Type 0
 StepsSpend (Ok x) count rules s old new file = SpendsSteps count rules s old new
-StepsSpend (Err stopped.Turns) count rules s old new file = SpendsFirst count rules s old new file
+StepsSpend (Err stopped.Turns) count rules s old new file = SpendsOpen count rules s old new file
 StepsSpend (Err stopped.PageFault) count rules s old new file = SpendsFirst count rules s old new file
 StepsSpend (Err stopped.WriteFault) count rules s old new file = Unit {0}
 
@@ -115,10 +122,16 @@ pub record SpendsSome (limit : ℕ) (rules : List Rule) (s : Session) (lines : L
   pub through : LeadsThrough limit s lines new.steps place parts
   pub few : FewAttempts rules old new parts 40
 
+-- so they were, and the next of a line's steps is to be made
+pub record SpendsInto (limit : ℕ) (rules : List Rule) (s : Session) (lines : List Line) (old new : Engine) (file : Option BlockFile) : Type 0 where
+  pub some : SpendsSome limit rules s lines old new file
+  pub below : some.through.count < steps_in limit (session_after limit s some.through.front) some.through.back
+  pub going : (advanced some.through.count (session_after limit s some.through.front)).machine.ending ≡ None
+
 -- how many turns lines take, by how they end
 abbrev pub Spends : {T : Type 0} → Result T Stopped → (limit : ℕ) → List Rule → Session → List Line → Engine → Engine → Option BlockFile → Type 0
 Spends (Ok x) limit rules s lines old new file = SpendsAll limit rules s lines old new
-Spends (Err stopped.Turns) limit rules s lines old new file = SpendsSome limit rules s lines old new file
+Spends (Err stopped.Turns) limit rules s lines old new file = SpendsInto limit rules s lines old new file
 Spends (Err stopped.PageFault) limit rules s lines old new file = SpendsSome limit rules s lines old new file
 Spends (Err stopped.WriteFault) limit rules s lines old new file = Unit {0}
 
@@ -133,3 +146,16 @@ abbrev pub StepsSpendFrom : {T : Type 0} → (before after : Scene) → (count :
 StepsSpendFrom before after count rules result =
     (m : Flat) → Means before.machine before.file (At m) →
     StepsSpend result count rules (session_on before.machine m) before.machine after.machine after.file
+
+-- A limit of turns is too small for lines of so many parts: it is below 41 for each part, one for each eviction of a pinned page since, and the turns that
+-- were made before.
+abbrev pub IsTooSmall : (turns : ℕ) → (before after : Scene) → (parts : ℕ) → Type 0
+IsTooSmall turns before after parts =
+    (residence after.machine).spoiled < 2 ^ 64 - 1 →
+    turns + (residence before.machine).spoiled < 41 * parts + (residence after.machine).spoiled + before.machine.turns
+
+-- so it is for all parts of the lines, on whatever flat machine the first scene stands for
+abbrev pub IsTooSmallFor : Limits → (before after : Scene) → List Line → Type 0
+IsTooSmallFor limits before after lines =
+    (m : Flat) (parts : ℕ) → Means before.machine before.file (At m) →
+    LinesHaveParts limits.steps (session_on before.machine m) lines parts → IsTooSmall limits.turns before after parts

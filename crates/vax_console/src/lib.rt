@@ -10,13 +10,16 @@ ghost use Rattle.vax_machine.specs.Console.{IsBetween};
 ghost use Rattle.vax_machine.specs.Meaning.{engine};
 ghost use Rattle.vax_script.specs.Requests.{readings};
 ghost use Rattle.vax_console.specs.Ends.{GoesFrom, OnlyReplied, outcome_of, scene};
-ghost use Rattle.vax_console.specs.Parts.{SpendsFrom};
+ghost use Rattle.vax_console.specs.Parts.{IsTooSmallFor, SpendsFrom};
+ghost use Rattle.vax_console.specs.Turns.{HoldsFrom};
 
+mod laws;
 mod lines;
 mod requests;
 mod runs;
 mod stopped;
 
+pub use crate::laws::sessions_agree;
 use crate::lines::carry_out_all;
 use crate::stopped::Stopped;
 use vax_machine::{Limits, Machine};
@@ -47,7 +50,7 @@ pub enum SessionEnd {
 /// then stands where the turns that were made have led it, and its report isn't written here. After a write that failed, nothing more is written.
 ///
 /// Few turns are made in vain: at most 41 for each part of the steps that were made, 40 for the part that is open where the session is cut off, and one for each
-/// eviction of a pinned page.
+/// eviction of a pinned page. So a limit of 41 for each part of all lines, and one for each such eviction, is never reached.
 pub fn session<F: PageFile, K: Sink>(
     script: &[u8],
     machine: &mut Machine,
@@ -62,10 +65,18 @@ pub fn session<F: PageFile, K: Sink>(
         (scene (engine machine.old) (F.contents file.old) (K.contents sink.old))
         (scene (engine machine.new) (F.contents file.new) (K.contents sink.new))
         limits.now (readings script.now) (outcome_of result) }
+    ensures turns { HoldsFrom
+        (scene (engine machine.old) (F.contents file.old) (K.contents sink.old))
+        (scene (engine machine.new) (F.contents file.new) (K.contents sink.new))
+        limits.now schedule.now (readings script.now) (outcome_of result) }
     ensures few { SpendsFrom
         (scene (engine machine.old) (F.contents file.old) (K.contents sink.old))
         (scene (engine machine.new) (F.contents file.new) (K.contents sink.new))
         limits.now.steps schedule.now (readings script.now) (outcome_of result) }
+    ensures complete { result ≡ SessionEnd.Turns → IsTooSmallFor limits.now
+        (scene (engine machine.old) (F.contents file.old) (K.contents sink.old))
+        (scene (engine machine.new) (F.contents file.new) (K.contents sink.new))
+        (readings script.now) }
     ensures between { result ≡ SessionEnd.Read → IsBetween (engine machine.new) }
     ensures later { F.faults file.old ≤ F.faults file.new }
     ensures sunk { K.faults sink.old ≤ K.faults sink.new }

@@ -6,6 +6,7 @@ ghost use Rattle.vax_script.specs.Requests.{IsProper, IsProperLine, readings};
 ghost use Rattle.vax_script.specs.declared.request.Line.TheVariants as line;
 ghost use Rattle.vax_console.specs.Ends.{Causes, GoesFrom, OnlyReplied, scene};
 ghost use Rattle.vax_console.specs.Parts.{SpendsFrom};
+ghost use Rattle.vax_console.specs.Turns.{HoldsFrom};
 
 use crate::requests::{
     deposit_memory, deposit_register, examine_memory, examine_register, reply, show,
@@ -35,6 +36,10 @@ fn answer<F: PageFile, K: Sink>(
         (scene (engine machine.old) (F.contents file.old) (K.contents sink.old))
         (scene (engine machine.new) (F.contents file.new) (K.contents sink.new))
         limits.now (line.Request request.now ∷ []) result }
+    ensures holds { HoldsFrom
+        (scene (engine machine.old) (F.contents file.old) (K.contents sink.old))
+        (scene (engine machine.new) (F.contents file.new) (K.contents sink.new))
+        limits.now schedule.now (line.Request request.now ∷ []) result }
     ensures spends { SpendsFrom
         (scene (engine machine.old) (F.contents file.old) (K.contents sink.old))
         (scene (engine machine.new) (F.contents file.new) (K.contents sink.new))
@@ -77,6 +82,10 @@ fn carry_out<F: PageFile, K: Sink>(
         (scene (engine machine.old) (F.contents file.old) (K.contents sink.old))
         (scene (engine machine.new) (F.contents file.new) (K.contents sink.new))
         limits.now (line.now ∷ []) result }
+    ensures holds { HoldsFrom
+        (scene (engine machine.old) (F.contents file.old) (K.contents sink.old))
+        (scene (engine machine.new) (F.contents file.new) (K.contents sink.new))
+        limits.now schedule.now (line.now ∷ []) result }
     ensures spends { SpendsFrom
         (scene (engine machine.old) (F.contents file.old) (K.contents sink.old))
         (scene (engine machine.new) (F.contents file.new) (K.contents sink.new))
@@ -108,6 +117,10 @@ pub(crate) fn carry_out_all<F: PageFile, K: Sink>(
         (scene (engine machine.old) (F.contents file.old) (K.contents sink.old))
         (scene (engine machine.new) (F.contents file.new) (K.contents sink.new))
         limits.now (readings script.now) result }
+    ensures holds { HoldsFrom
+        (scene (engine machine.old) (F.contents file.old) (K.contents sink.old))
+        (scene (engine machine.new) (F.contents file.new) (K.contents sink.new))
+        limits.now schedule.now (readings script.now) result }
     ensures spends { SpendsFrom
         (scene (engine machine.old) (F.contents file.old) (K.contents sink.old))
         (scene (engine machine.new) (F.contents file.new) (K.contents sink.new))

@@ -9,6 +9,7 @@ ghost use Rattle.vax_script.specs.declared.request.Line.TheVariants as line;
 ghost use Rattle.vax_console.specs.Transcript.{last_of};
 ghost use Rattle.vax_console.specs.Ends.{Causes, GoesFrom, OnlyReplied, Replies, report_on, scene};
 ghost use Rattle.vax_console.specs.Parts.{SpendsFrom};
+ghost use Rattle.vax_console.specs.Turns.{HoldsFrom};
 
 use crate::stopped::Stopped;
 use vax_flat::Ending;
@@ -40,6 +41,10 @@ pub(crate) fn examine_register<F: PageFile, K: Sink>(
         (scene (engine machine.now) (F.contents file.now) (K.contents sink.old))
         (scene (engine machine.now) (F.contents file.now) (K.contents sink.new))
         limits.now (line.Request (request.ExamineRegister n) ∷ []) result }
+    ensures holds { (rules : List Rule) →
+        HoldsFrom (scene (engine machine.now) (F.contents file.now) (K.contents sink.old))
+        (scene (engine machine.now) (F.contents file.now) (K.contents sink.new))
+        limits.now rules (line.Request (request.ExamineRegister n) ∷ []) result }
     ensures spends { (rules : List Rule) →
         SpendsFrom (scene (engine machine.now) (F.contents file.now) (K.contents sink.old))
         (scene (engine machine.now) (F.contents file.now) (K.contents sink.new))
@@ -80,6 +85,10 @@ pub(crate) fn examine_memory<F: PageFile, K: Sink>(
         (scene (engine machine.old) (F.contents file.old) (K.contents sink.old))
         (scene (engine machine.new) (F.contents file.new) (K.contents sink.new))
         limits.now (line.Request (request.ExamineMemory addr count) ∷ []) result }
+    ensures holds { (rules : List Rule) →
+        HoldsFrom (scene (engine machine.old) (F.contents file.old) (K.contents sink.old))
+        (scene (engine machine.new) (F.contents file.new) (K.contents sink.new))
+        limits.now rules (line.Request (request.ExamineMemory addr count) ∷ []) result }
     ensures spends { (rules : List Rule) →
         SpendsFrom (scene (engine machine.old) (F.contents file.old) (K.contents sink.old))
         (scene (engine machine.new) (F.contents file.new) (K.contents sink.new))
@@ -112,6 +121,10 @@ pub(crate) fn deposit_register<F: PageFile, K: Sink>(
         (scene (engine machine.old) (F.contents file.now) (K.contents sink.old))
         (scene (engine machine.new) (F.contents file.now) (K.contents sink.new))
         limits.now (line.Request (request.DepositRegister n value) ∷ []) result }
+    ensures holds { (rules : List Rule) →
+        HoldsFrom (scene (engine machine.old) (F.contents file.now) (K.contents sink.old))
+        (scene (engine machine.new) (F.contents file.now) (K.contents sink.new))
+        limits.now rules (line.Request (request.DepositRegister n value) ∷ []) result }
     ensures spends { (rules : List Rule) →
         SpendsFrom (scene (engine machine.old) (F.contents file.now) (K.contents sink.old))
         (scene (engine machine.new) (F.contents file.now) (K.contents sink.new))
@@ -141,6 +154,10 @@ pub(crate) fn deposit_memory<F: PageFile, K: Sink>(
         (scene (engine machine.old) (F.contents file.old) (K.contents sink.old))
         (scene (engine machine.new) (F.contents file.new) (K.contents sink.new))
         limits.now (line.Request (request.DepositMemory addr bytes.now) ∷ []) result }
+    ensures holds { (rules : List Rule) →
+        HoldsFrom (scene (engine machine.old) (F.contents file.old) (K.contents sink.old))
+        (scene (engine machine.new) (F.contents file.new) (K.contents sink.new))
+        limits.now rules (line.Request (request.DepositMemory addr bytes.now) ∷ []) result }
     ensures spends { (rules : List Rule) →
         SpendsFrom (scene (engine machine.old) (F.contents file.old) (K.contents sink.old))
         (scene (engine machine.new) (F.contents file.new) (K.contents sink.new))
@@ -199,6 +216,10 @@ pub(crate) fn show<F: PageFile, K: Sink>(
         (scene (engine machine.now) (F.contents file.now) (K.contents sink.old))
         (scene (engine machine.now) (F.contents file.now) (K.contents sink.new))
         limits.now (line.Request request.Show ∷ []) result }
+    ensures holds { (rules : List Rule) →
+        HoldsFrom (scene (engine machine.now) (F.contents file.now) (K.contents sink.old))
+        (scene (engine machine.now) (F.contents file.now) (K.contents sink.new))
+        limits.now rules (line.Request request.Show ∷ []) result }
     ensures spends { (rules : List Rule) →
         SpendsFrom (scene (engine machine.now) (F.contents file.now) (K.contents sink.old))
         (scene (engine machine.now) (F.contents file.now) (K.contents sink.new))

@@ -9,6 +9,7 @@ ghost use Rattle.vax_report.specs.Lines.{ending_line};
 ghost use Rattle.vax_console.specs.Transcript.{at_line, last_of, next_line};
 ghost use Rattle.vax_console.specs.Ends.{AdvancesFrom, Causes, GoesFrom, OnlyReplied, scene, session_on};
 ghost use Rattle.vax_console.specs.Parts.{SpendsFrom, StepsSpendFrom};
+ghost use Rattle.vax_console.specs.Turns.{HoldsFrom, StepsHoldFrom};
 
 use crate::requests::{last_of, reply};
 use crate::stopped::Stopped;
@@ -34,6 +35,10 @@ fn advance<F: PageFile, K: Sink>(
         (scene (engine machine.old) (F.contents file.old) (K.contents sink.old))
         (scene (engine machine.new) (F.contents file.new) (K.contents sink.new))
         limits.now count result }
+    ensures holds { StepsHoldFrom
+        (scene (engine machine.old) (F.contents file.old) (K.contents sink.old))
+        (scene (engine machine.new) (F.contents file.new) (K.contents sink.new))
+        limits.now schedule.now count result }
     ensures spends { StepsSpendFrom
         (scene (engine machine.old) (F.contents file.old) (K.contents sink.old))
         (scene (engine machine.new) (F.contents file.new) (K.contents sink.new))
@@ -116,6 +121,10 @@ pub(crate) fn next<F: PageFile, K: Sink>(
         (scene (engine machine.old) (F.contents file.old) (K.contents sink.old))
         (scene (engine machine.new) (F.contents file.new) (K.contents sink.new))
         limits.now (line.Request (request.Next count) ∷ []) result }
+    ensures holds { HoldsFrom
+        (scene (engine machine.old) (F.contents file.old) (K.contents sink.old))
+        (scene (engine machine.new) (F.contents file.new) (K.contents sink.new))
+        limits.now schedule.now (line.Request (request.Next count) ∷ []) result }
     ensures spends { SpendsFrom
         (scene (engine machine.old) (F.contents file.old) (K.contents sink.old))
         (scene (engine machine.new) (F.contents file.new) (K.contents sink.new))
@@ -148,6 +157,10 @@ pub(crate) fn proceed<F: PageFile, K: Sink>(
         (scene (engine machine.old) (F.contents file.old) (K.contents sink.old))
         (scene (engine machine.new) (F.contents file.new) (K.contents sink.new))
         limits.now (line.Request request.Continue ∷ []) result }
+    ensures holds { HoldsFrom
+        (scene (engine machine.old) (F.contents file.old) (K.contents sink.old))
+        (scene (engine machine.new) (F.contents file.new) (K.contents sink.new))
+        limits.now schedule.now (line.Request request.Continue ∷ []) result }
     ensures spends { SpendsFrom
         (scene (engine machine.old) (F.contents file.old) (K.contents sink.old))
         (scene (engine machine.new) (F.contents file.new) (K.contents sink.new))

@@ -12,3 +12,4 @@ pub mod Run
 pub mod Turn
 pub mod Meaning
 pub mod Console
+pub mod Marking

@@ -92,7 +92,8 @@ impl Engine {
     ghost use Rattle.vax_flat.specs.Parts.{At, Place, machine_at};
     ghost use Rattle.vax_flat.specs.Step.{Flat};
     ghost use Rattle.vax_machine.specs.Console.{Deposits, DepositsRegister, ShowsMemory, cpu_with_register, let_go};
-    ghost use Rattle.vax_machine.specs.Machine.{IsSound, KeepsPlace, Means, keeping};
+    ghost use Rattle.vax_machine.specs.Machine.{IsSound, KeepsPlace, Means, keeping, modified_of};
+    ghost use Rattle.vax_machine.specs.Marking.{Marks};
 
     /// Fills cells with the bytes of memory from an address on, None where no area has one.
     pub(crate) fn dump<F: PageFile>(
@@ -135,6 +136,7 @@ impl Engine {
         ensures cpu { self.new.cpu ≡ self.old.cpu }
         ensures deposits { Deposits result addr bytes.now self.old (F.contents file.old) self.new
             (F.contents file.new) }
+        ensures marks { Marks result addr (length bytes.now) self.old self.new }
         ensures writes { WritesBlocks (keeping self.old).areas (F.contents file.old)
             (F.contents file.new) }
         ensures counts { CountsFailure (is_err result) (F.faults file.old) (F.faults file.new) }
@@ -160,6 +162,7 @@ impl Engine {
         ensures sound { IsSound self.new }
         ensures cpu { self.new.cpu ≡ cpu_with_register n value self.old.cpu }
         ensures keeps { keeping self.new ≡ let_go (keeping self.old) }
+        ensures marks { modified_of self.new ≡ modified_of self.old }
         ensures deposits { DepositsRegister n value self.old self.new }
     {
         self.pager.settle();

@@ -41,7 +41,8 @@ impl Machine {
     ghost use Rattle.vax_pager.specs.Listing.{first};
     ghost use Rattle.vax_pager.specs.Poking.{OnlyRead, WritesBlocks};
     ghost use Rattle.vax_machine.specs.Console.{AreShown, Deposits, DepositsRegister, IsBetween, ShowsMemory, StopsBetween, cpu_with_register, let_go};
-    ghost use Rattle.vax_machine.specs.Machine.{Applies, HasSpent, KeepsPlace, Means, Moves, has_failed, keeping, residence};
+    ghost use Rattle.vax_machine.specs.Machine.{Applies, HasSpent, KeepsPlace, Means, Moves, has_failed, keeping, modified_of, residence};
+    ghost use Rattle.vax_machine.specs.Marking.{Marks};
     ghost use Rattle.vax_machine.specs.Events.{FollowsRun, KeepsPins, KeepsRun};
     ghost use Rattle.vax_machine.specs.Meaning.{engine, flat_start, memory_of, units_of};
     ghost use Rattle.vax_machine.specs.Paged.{fresh};
@@ -131,6 +132,8 @@ impl Machine {
             (F.contents file.new) }
         ensures between { StopsBetween result → IsBetween (engine self.old)
             → IsBetween (engine self.new) }
+        ensures areas { StopsBetween result
+            → (keeping (engine self.new)).areas ≡ (keeping (engine self.old)).areas }
         ensures later { F.faults file.old ≤ F.faults file.new }
         ensures sunk { K.faults sink.old ≤ K.faults sink.new }
         ensures fault { result ≡ RunEnd.PageFault → Rose (F.faults file.old) (F.faults file.new) }
@@ -257,7 +260,8 @@ impl Machine {
     /// Changes 1 to 64 bytes of memory whatever the protection of their pages; no string instruction is open. It answers false exactly where some
     /// byte lies in no area, or in a page that no mode may write (those that some mode may write the kernel may), and changes nothing then.
     ///
-    /// After any other answer no page is pinned and none is wanted; which pages are resident is left open. After a failure every byte is as it was.
+    /// After any other answer no page is pinned and none is wanted; which pages are resident is left open. Exactly the pages of the bytes are modified
+    /// anew, and none where nothing was changed. After a failure every byte is as it was.
     pub fn poke<F: PageFile>(
         &mut self,
         addr: u32,
@@ -272,6 +276,7 @@ impl Machine {
         ensures cpu { (engine self.new).cpu ≡ (engine self.old).cpu }
         ensures deposits { Deposits result addr bytes.now (engine self.old) (F.contents file.old)
             (engine self.new) (F.contents file.new) }
+        ensures marks { Marks result addr (length bytes.now) (engine self.old) (engine self.new) }
         ensures writes { WritesBlocks (keeping (engine self.old)).areas (F.contents file.old)
             (F.contents file.new) }
         ensures counts { CountsFailure (is_err result) (F.faults file.old) (F.faults file.new) }
@@ -285,6 +290,7 @@ impl Machine {
         requires number { n < 16 }
         ensures cpu { (engine self.new).cpu ≡ cpu_with_register n value (engine self.old).cpu }
         ensures keeps { keeping (engine self.new) ≡ let_go (keeping (engine self.old)) }
+        ensures marks { modified_of (engine self.new) ≡ modified_of (engine self.old) }
         ensures deposits { DepositsRegister n value (engine self.old) (engine self.new) }
     {
         self.engine.set_reg(n, value);

@@ -36,7 +36,7 @@ impl Engine {
     ghost use Rattle.vax_sched.specs.Due.{due};
     ghost use Rattle.vax_machine.specs.Console.{IsBetween, MayGoOn, StopsBetween};
     ghost use Rattle.vax_machine.specs.Events.{KeepsRun};
-    ghost use Rattle.vax_machine.specs.Machine.{IsSound};
+    ghost use Rattle.vax_machine.specs.Machine.{IsSound, keeping};
     ghost use Rattle.vax_machine.specs.Paged.{Paged, all_named, evicted, named, stops};
     ghost use Rattle.vax_machine.specs.Run.{RunsTo, Tracks, system_of};
     ghost use Rattle.vax_machine.specs.Touched.{PinsTouched};
@@ -375,6 +375,8 @@ impl Engine {
             (system_of self.new (F.contents file.new) (K.contents sink.new)) }
         ensures follows { KeepsRun self.old (F.contents file.old) self.new (F.contents file.new) }
         ensures between { StopsBetween result → IsBetween self.old → IsBetween self.new }
+        ensures areas { StopsBetween result
+            → (keeping self.new).areas ≡ (keeping self.old).areas }
         ensures later { F.faults file.old ≤ F.faults file.new }
         ensures sunk { K.faults sink.old ≤ K.faults sink.new }
         ensures fault { result ≡ RunEnd.PageFault → Rose (F.faults file.old) (F.faults file.new) }

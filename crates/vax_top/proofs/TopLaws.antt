@@ -28,9 +28,7 @@ use Rattle.vax_command.specs.declared.status.Status.{Status}
 use Rattle.vax_command.specs.declared.status.Status.TheVariants.{Done, Usage, Missing, Large, Refused, Link, Schedule, Image as BadImage, Turns, PageFault, ReadFault, WriteFault, NoMemory}
 use Rattle.vax_command.proofs.LoadLaws.{reads_none}
 use Rattle.vax_command.specs.Holding.{Held, HeldSo, IsHolding}
-use Rattle.vax_command.specs.SessionWent.{SessionFrom}
-use Rattle.vax_flat.specs.Step.{Flat}
-use Rattle.vax_script.specs.declared.request.Line.{Line}
+use Rattle.vax_command.specs.SessionWent.{Opening, SessionFrom}
 
 -- what running the programs of files came to
 
@@ -226,15 +224,15 @@ module _ (seen : Around) (names : List Text) (grown : Channels) where
   does_allowed loaded input schedule options status (inl r) = refused_allowed loaded status r.refused r.wrote
   does_allowed loaded input schedule options status (inr d) = runs_allowed d.0 input schedule options status d.2
 
-  session_allowed : (told : Option BlockFile) (limit turns : ℕ) (rules : List Rule) (start : Flat) (lines : List Line) (status : Status) → SessionFrom told seen.pages limit turns rules start lines status grown → Allowed seen names grown status
-  session_allowed None limit turns rules start lines status h = run_allowed status h
-  session_allowed (Some file) limit turns rules start lines status (inl w) = subst (Allowed seen names grown) (sym w.answer) tt
-  session_allowed (Some file) limit turns rules start lines status (inr (inl w)) = subst (Allowed seen names grown) (sym w.answer) tt
-  session_allowed (Some file) limit turns rules start lines status (inr (inr w)) = subst (Allowed seen names grown) (sym w.1.answer) w.0
+  session_allowed : (told : Option BlockFile) (o : Opening) (status : Status) → SessionFrom told (outside_of seen) o status grown → Allowed seen names grown status
+  session_allowed None o status h = run_allowed status h
+  session_allowed (Some file) o status (inl w) = subst (Allowed seen names grown) (sym w.answer) tt
+  session_allowed (Some file) o status (inr (inl w)) = subst (Allowed seen names grown) (sym w.answer) tt
+  session_allowed (Some file) o status (inr (inr w)) = subst (Allowed seen names grown) (sym w.1.answer) w.0
 
   held_allowed : (program : Loaded) (texts : Texts) (options : Options) (status : Status) → HeldSo (outside_of seen) program texts.input texts.schedule texts.script options status grown → Allowed seen names grown status
   held_allowed program texts options status (inl m) = planned_allowed _ texts.schedule status m.fault m.wrote
-  held_allowed program texts options status (inr r) = session_allowed seen.pages.before.told _ _ _ _ _ status r.went
+  held_allowed program texts options status (inr r) = session_allowed seen.pages.before.told _ status r.went
 
   console_allowed : (loaded : Result Loaded Refusal) (texts : Texts) (options : Options) (status : Status) → SessionDoes (outside_of seen) loaded texts options status grown → Allowed seen names grown status
   console_allowed loaded texts options status (inl r) = refused_allowed loaded status r.refused r.wrote

@@ -9,24 +9,24 @@ pub returns-in-Read-clause-went : goal.returns-in-Read-clause-went
 returns-in-Read-clause-went g c = λ frames m f.
     let seen = outside (change g.K.Sink.faults g.K.Sink.contents c.args.sink.now c.session.new.sink) (change g.F.PageFile.faults g.F.PageFile.contents c.args.pages.now c.session.new.file) in
     read_out seen c.args.limits.now c.args.schedule.now (readings c.args.script.now) (engine c.args.machine) (engine c.session.new.machine) frames m f
-    (g.F.PageFile.contents c.args.pages.now) c.in-Read.ensures.ends c.session.ensures.only (c.in-Read.ensures.written (λ x. cc))
+    (g.F.PageFile.contents c.args.pages.now) c.in-Read.ensures.ends c.in-Read.ensures.turns c.session.ensures.only (c.in-Read.ensures.written (λ x. cc))
 
 pub returns-in-Turns-clause-went : goal.returns-in-Turns-clause-went
 returns-in-Turns-clause-went g c = λ frames m f.
     let seen = outside (change g.K.Sink.faults g.K.Sink.contents c.args.sink.now c.report.new.sink) (change g.F.PageFile.faults g.F.PageFile.contents c.args.pages.now c.session.new.file) in
     timed_out seen c.args.limits.now c.args.schedule.now (readings c.args.script.now) (engine c.args.machine) (engine c.session.new.machine) frames m f
     (seen_of g.K.Sink.faults g.K.Sink.contents c.session.new.sink) c.report.result
-    (g.F.PageFile.contents c.args.pages.now) c.in-Turns.ensures.ends c.in-Turns.ensures.few c.session.ensures.only (c.in-Turns.ensures.written (λ x. cc)) c.report.ensures
+    (g.F.PageFile.contents c.args.pages.now) c.in-Turns.ensures.ends c.in-Turns.ensures.few c.in-Turns.ensures.turns c.session.ensures.only (c.in-Turns.ensures.written (λ x. cc)) c.report.ensures
 
 pub returns-in-PageFault-clause-went : goal.returns-in-PageFault-clause-went
 returns-in-PageFault-clause-went g c = λ frames m f.
     let seen = outside (change g.K.Sink.faults g.K.Sink.contents c.args.sink.now c.report-in-PageFault.new.sink) (change g.F.PageFile.faults g.F.PageFile.contents c.args.pages.now c.session.new.file) in
     cut_off seen c.args.limits.now c.args.schedule.now (readings c.args.script.now) (engine c.args.machine) (engine c.session.new.machine) frames m f
     (seen_of g.K.Sink.faults g.K.Sink.contents c.session.new.sink) c.report-in-PageFault.result
-    (g.F.PageFile.contents c.args.pages.now) (c.in-PageFault.ensures.fault refl) c.in-PageFault.ensures.ends c.session.ensures.only (c.in-PageFault.ensures.written (λ x. cc)) c.report-in-PageFault.ensures
+    (g.F.PageFile.contents c.args.pages.now) (c.in-PageFault.ensures.fault refl) c.in-PageFault.ensures.ends c.in-PageFault.ensures.turns c.session.ensures.only (c.in-PageFault.ensures.written (λ x. cc)) c.report-in-PageFault.ensures
 
 pub returns-clause-went : goal.returns-clause-went
 returns-clause-went g c = λ frames m f.
     let seen = outside (change g.K.Sink.faults g.K.Sink.contents c.args.sink.now c.session.new.sink) (change g.F.PageFile.faults g.F.PageFile.contents c.args.pages.now c.session.new.file) in
     lost seen c.args.limits.now c.args.schedule.now (readings c.args.script.now) (engine c.args.machine) (engine c.session.new.machine) frames m f
-    (g.F.PageFile.contents c.args.pages.now) c.in-WriteFault.ensures.ends c.session.ensures.only (c.in-WriteFault.ensures.cause refl)
+    (g.F.PageFile.contents c.args.pages.now) c.in-WriteFault.ensures.ends c.in-WriteFault.ensures.turns c.session.ensures.only (c.in-WriteFault.ensures.cause refl)

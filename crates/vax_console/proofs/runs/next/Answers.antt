@@ -1,8 +1,8 @@
-use Rattle.std.proofs.Common.{◌≡◌, ◌∙◌, ◌∷◌, [], ℕ, Result, Err, Some, None, ap, sym, subst, arith, min, nat_lt}
+use Rattle.std.proofs.Common.{◌≡◌, ◌∙◌, ◌∷◌, [], ℕ, Result, Err, Some, None, ap, refl, sym, subst, arith, min, nat_lt}
 use Rattle.vax_machine.specs.Meaning.{engine}
 use Rattle.vax_script.specs.declared.request.Request.TheVariants.{Next}
 use Rattle.vax_script.specs.declared.request.Line.TheVariants.{Request as Asks}
-use Rattle.vax_console.specs.Ends.{Advances, Goes, IsAt, session_on}
+use Rattle.vax_console.specs.Ends.{Advances, Goes, IsAt, scene, session_on}
 use Rattle.vax_console.specs.Transcript.{Session, advanced, left, next_line}
 use Rattle.vax_console.specs.declared.stopped.Stopped.{Stopped}
 use Rattle.vax_console.specs.Parts.{Spends}
@@ -10,6 +10,9 @@ use Rattle.vax_console.proofs.Spending.{ended_spends, run_spends, stopped_spends
 use Rattle.vax_console.proofs.Only.{only_then, reply_only}
 use Rattle.vax_console.proofs.Requested.{same_core, same_ending}
 use Rattle.vax_console.proofs.Running.{err_same, none_of, next_goes, some_of, next_refused, next_stopped}
+use Rattle.vax_flat.specs.Parts.{At}
+use Rattle.vax_console.specs.Turns.{HasMadeSteps, Holds, StepsHold, setting_of, stand_at}
+use Rattle.vax_console.proofs.Turned.{next_held, next_refused_held, next_stopped_held}
 use Rattle.vax_console.proofs.runs.next.Goals as goal
 
 pub returns-then-is_some-clause-goes : goal.returns-then-is_some-clause-goes
@@ -72,3 +75,32 @@ returns-clause-spends g c m means =
     let s = session_on (engine c.args.machine.now) m in
     let count : c.min.result ≡ min c.args.count (left c.args.limits.now.steps s) = c.min.ensures ∙ ap (λ (n : ℕ). min c.args.count n) c.steps_left-left.ensures.left in
     run_spends c.reply-2.result c.args.limits.now.steps c.args.schedule.now s (Asks (Next c.args.count)) c.min.result (engine c.args.machine.now) (engine c.advance.new.machine) (g.F.PageFile.contents c.advance.new.file) (g.K.Sink.faults c.advance.new.sink) (g.K.Sink.faults c.reply-2.new.sink) (g.K.Sink.contents c.advance.new.sink) (g.K.Sink.contents c.reply-2.new.sink) _ (sym count) (c.in_ok-ended.ensures.spends m means) c.reply-2.ensures
+
+pub returns-then-is_some-clause-holds : goal.returns-then-is_some-clause-holds
+returns-then-is_some-clause-holds g c m means =
+    let how = some_of c.ended.result (sym c.is_some.ensures ∙ c.if-is_some.true) in
+    let ended : m.ending ≡ Some how.0 = same_ending (engine c.args.machine.now) (g.F.PageFile.contents c.args.file.now) m means ∙ (sym c.ended.ensures ∙ how.1) in
+    next_refused_held c.reply.result c.args.limits.now c.args.schedule.now (scene (engine c.args.machine.now) (g.F.PageFile.contents c.args.file.now) (g.K.Sink.contents c.args.sink.now)) (scene (engine c.args.machine.now) (g.F.PageFile.contents c.args.file.now) (g.K.Sink.contents c.reply.new.sink)) m c.args.count how.0 (g.K.Sink.faults c.args.sink.now) (g.K.Sink.faults c.reply.new.sink) refl refl means ended c.reply.ensures
+
+pub returns-in_err-ended-clause-holds : goal.returns-in_err-ended-clause-holds
+returns-in_err-ended-clause-holds g c m means =
+    let s = session_on (engine c.args.machine.now) m in
+    let e = c.in_err-ended.field-0.0 in
+    let count : c.min.result ≡ min c.args.count (left c.args.limits.now.steps s) = c.min.ensures ∙ ap (λ (n : ℕ). min c.args.count n) c.steps_left-left.ensures.left in
+    let gone = subst (λ (n : ℕ). StepsHold (Err e) (setting_of (scene (engine c.args.machine.now) (g.F.PageFile.contents c.args.file.now) (g.K.Sink.contents c.args.sink.now)) c.args.limits.now c.args.schedule.now) n (stand_at (scene (engine c.args.machine.now) (g.F.PageFile.contents c.args.file.now) (g.K.Sink.contents c.args.sink.now)) (At m)) (scene (engine c.advance.new.machine) (g.F.PageFile.contents c.advance.new.file) (g.K.Sink.contents c.advance.new.sink))) count (c.in_err-ended.ensures.holds m means) in
+    subst (λ (z : Result (Unit {0}) Stopped). Holds z (setting_of (scene (engine c.args.machine.now) (g.F.PageFile.contents c.args.file.now) (g.K.Sink.contents c.args.sink.now)) c.args.limits.now c.args.schedule.now) (Asks (Next c.args.count) ∷ []) (stand_at (scene (engine c.args.machine.now) (g.F.PageFile.contents c.args.file.now) (g.K.Sink.contents c.args.sink.now)) (At m)) (scene (engine c.advance.new.machine) (g.F.PageFile.contents c.advance.new.file) (g.K.Sink.contents c.advance.new.sink))) (sym (err_same c.from_residual.result e c.from_residual.ensures.1))
+    (next_stopped_held e c.args.limits.now c.args.schedule.now (scene (engine c.args.machine.now) (g.F.PageFile.contents c.args.file.now) (g.K.Sink.contents c.args.sink.now)) (scene (engine c.advance.new.machine) (g.F.PageFile.contents c.advance.new.file) (g.K.Sink.contents c.advance.new.sink)) m c.args.count gone)
+
+pub returns-clause-holds : goal.returns-clause-holds
+returns-clause-holds g c m means =
+    let s = session_on (engine c.args.machine.now) m in
+    let count : c.min.result ≡ min c.args.count (left c.args.limits.now.steps s) = c.min.ensures ∙ ap (λ (n : ℕ). min c.args.count n) c.steps_left-left.ensures.left in
+    let a = subst (λ (n : ℕ). (c.in_ok-ended.ended ≡ (advanced n s).machine.ending) × IsAt m (advanced n s) [] (engine c.advance.new.machine) (g.F.PageFile.contents c.advance.new.file) (g.K.Sink.contents c.args.sink.now) (g.K.Sink.contents c.advance.new.sink)) count (c.in_ok-ended.ensures.goes m means) in
+    let t = advanced (min c.args.count (left c.args.limits.now.steps s)) s in
+    let going : m.ending ≡ None = same_ending (engine c.args.machine.now) (g.F.PageFile.contents c.args.file.now) m means ∙ (sym c.ended.ensures ∙ none_of c.ended.result (sym c.is_some.ensures ∙ c.if-is_some.false)) in
+    let same : session_on (engine c.advance.new.machine) t.machine ≡ t = ap (λ (n : ℕ). record { machine = t.machine; steps = n }) a.1.steps in
+    let said = c.next_line-text.ensures t.machine (same_core (engine c.advance.new.machine) (g.F.PageFile.contents c.advance.new.file) t.machine a.1.means) (sym a.0) in
+    let text : c.as_slice.result.now ≡ next_line (nat_lt (left c.args.limits.now.steps s) c.args.count) t =
+    c.as_slice.ensures ∙ (said ∙ (ap (λ (n : ℕ). next_line (nat_lt n c.args.count) (session_on (engine c.advance.new.machine) t.machine)) c.steps_left-left.ensures.left ∙ ap (λ (z : Session). next_line (nat_lt (left c.args.limits.now.steps s) c.args.count) z) same)) in
+    let made = subst (λ (n : ℕ). HasMadeSteps (setting_of (scene (engine c.args.machine.now) (g.F.PageFile.contents c.args.file.now) (g.K.Sink.contents c.args.sink.now)) c.args.limits.now c.args.schedule.now) n (stand_at (scene (engine c.args.machine.now) (g.F.PageFile.contents c.args.file.now) (g.K.Sink.contents c.args.sink.now)) (At m)) (scene (engine c.advance.new.machine) (g.F.PageFile.contents c.advance.new.file) (g.K.Sink.contents c.advance.new.sink))) count (c.in_ok-ended.ensures.holds m means) in
+    next_held c.reply-2.result c.args.limits.now c.args.schedule.now (scene (engine c.args.machine.now) (g.F.PageFile.contents c.args.file.now) (g.K.Sink.contents c.args.sink.now)) (scene (engine c.advance.new.machine) (g.F.PageFile.contents c.advance.new.file) (g.K.Sink.contents c.reply-2.new.sink)) m c.args.count (g.K.Sink.contents c.advance.new.sink) c.as_slice.result.now (g.K.Sink.faults c.advance.new.sink) (g.K.Sink.faults c.reply-2.new.sink) going made (sym text) c.reply-2.ensures

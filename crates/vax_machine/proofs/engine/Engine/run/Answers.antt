@@ -132,3 +132,6 @@ returns-in-Err-Page-clause-follows g c = λ start f. c.several_turns.ensures.fol
 
 pub returns-in-Err-Write-clause-follows : goal.returns-in-Err-Write-clause-follows
 returns-in-Err-Write-clause-follows g c = λ start f. c.several_turns.ensures.follows start (c.loop-end.invariant.follows start f)
+
+pub returns-in-Some-clause-areas : goal.returns-in-Some-clause-areas
+returns-in-Some-clause-areas g c = λ s. c.loop-end.invariant.areas

@@ -2,7 +2,7 @@ use Rattle.std.proofs.Common.{None, ap, subst, sym}
 use Rattle.vax_pager.specs.Meaning.{pages}
 use Rattle.vax_pager.specs.Paging.{Paging, StandsWith}
 use Rattle.vax_pager.proofs.Turned.{stands_settled}
-use Rattle.vax_machine.proofs.Attempts.{areas_settled, residence_settled, sound_settled}
+use Rattle.vax_machine.proofs.Attempts.{areas_settled, residence_settled, settled_marks, sound_settled}
 use Rattle.vax_machine.specs.Console.{with_register}
 use Rattle.vax_machine.proofs.engine.Engine.set_reg.Goals as goal
 
@@ -24,3 +24,6 @@ returns-clause-deposits c = λ file m means. record {
   processor = record { open_one = c.requires.closed; machine = ap (with_register c.args.n c.args.value) means.processor.machine };
   memory = subst (λ (z : Paging). StandsWith z file m.memory) (sym c.settle.ensures) (stands_settled (pages c.args.self.now.pager) file m.memory means.memory);
 }
+
+pub returns-clause-marks : goal.returns-clause-marks
+returns-clause-marks c = settled_marks (pages c.args.self.now.pager) (pages c.settle.new.self) c.settle.ensures
