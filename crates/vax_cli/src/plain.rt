@@ -154,12 +154,14 @@ fn asks_about(words: &[String]) -> bool
 }
 
 /// A command, and the items behind its word that say it.
+#[derive(Drop)]
 pub(crate) struct Plain<'a> {
     pub(crate) command: Command<'a>,
     pub(crate) said: Option<Said<'a>>,
 }
 
 /// The items behind the word of a command.
+#[derive(Drop)]
 pub(crate) struct Said<'a> {
     pub(crate) verb: Verb,
     pub(crate) items: Items<'a>,

@@ -2,6 +2,7 @@
 #![tactic(auto)]
 
 mod rows;
+mod series;
 mod setup;
 
 use crate::rows::show_rows;
@@ -14,7 +15,7 @@ use vax_top::vax_main;
 const CALLS: &str = "calls.txt";
 
 /// The files of rows.
-const ROWS: [&str; 10] = [
+const ROWS: [&str; 11] = [
     "rows/pages.txt",
     "rows/instructions.txt",
     "rows/modes.txt",
@@ -25,6 +26,7 @@ const ROWS: [&str; 10] = [
     "rows/executive.txt",
     "rows/console.txt",
     "rows/refusals.txt",
+    "rows/failures.txt",
 ];
 
 /// The words of a line behind the program's name, as the program is given them. A word `''` is the empty one.

@@ -146,7 +146,7 @@ impl Engine {
         match self.wanted {
             None => Applied::Nothing,
             Some(page) => {
-                        match self.pager.serve(page, file) {
+                match self.pager.serve(page, file) {
                     Ok(victim) => {
                         self.wanted = None;
                         Applied::Served(victim)

@@ -114,12 +114,7 @@ impl Held {
 
     /// Holds a byte more for Out, if one was sent after so many steps. Those that are held are written behind an LF, where there is no room, and where
     /// they are due.
-    pub fn send<K: Sink>(
-        &mut self,
-        sent: Option<u8>,
-        steps: u64,
-        sink: &mut K,
-    ) -> Result<(), Fault>
+    pub fn send<K: Sink>(&mut self, sent: Option<u8>, steps: u64, sink: &mut K) -> Result<(), Fault>
         ensures passes { Passed result (held_in self.old) (sent_by sent) (held_in self.new)
             (K.contents sink.old) (K.contents sink.new) }
         ensures still { StillWrites self.old self.new (K.contents sink.old) (K.contents sink.new) }
