@@ -1,6 +1,7 @@
 //! Runs each example over the system's files, and then each row of the files in `rows` over objects in memory, and shows what each leaves.
 #![tactic(auto)]
 
+mod pages;
 mod rows;
 mod series;
 mod setup;

@@ -1,10 +1,11 @@
 //! What the lines of a file of rows set up for the calls behind them.
+use crate::pages::Pages;
 use anyhow::{Context, Result, bail};
 use std::alloc::{AllocError, Global};
 use vax_outside::{Fail, MemFiles, MemPages, MemSink};
 
 /// The files that there are; and for the next call of the program, the calls that are to fail, whether its block writes are counted, how many bytes a
-/// channel takes at a time, and a series, if one was said.
+/// channel takes at a time, what the page file adds to the first byte of a block, and a series, if one was said.
 #[derive(Drop)]
 pub(crate) struct Setup {
     alloc: Global,
@@ -12,6 +13,7 @@ pub(crate) struct Setup {
     fails: Fails,
     pub(crate) has_any_blocks: bool,
     pub(crate) bites: u32,
+    pub(crate) added: u8,
     pub(crate) series: Option<Series>,
 }
 
@@ -147,6 +149,7 @@ impl Setup {
             fails: Fails::none(alloc),
             has_any_blocks: false,
             bites: BITES,
+            added: 0,
             series: None,
         }
     }
@@ -156,6 +159,7 @@ impl Setup {
         self.fails = Fails::none(self.alloc);
         self.has_any_blocks = false;
         self.bites = BITES;
+        self.added = 0;
     }
 
     /// Says a series for the next call, as `fail pages 100` or `cut A` does.
@@ -265,12 +269,14 @@ impl Setup {
     }
 
     /// The objects of a call, with a change if one is given.
-    pub(crate) fn objects(&self, change: Option<Change>) -> Result<(MemFiles, MemSink, MemPages)> {
+    pub(crate) fn objects(&self, change: Option<Change>) -> Result<(MemFiles, MemSink, Pages)> {
         let mut files = Vec::new(self.alloc);
         for (name, bytes) in &self.files {
             let mut bytes = bytes.clone()?;
             if let Some(change) = change {
-                change.series.change(change.number, name.as_str(), &mut bytes);
+                change
+                    .series
+                    .change(change.number, name.as_str(), &mut bytes);
             }
             files.push((name.clone()?, bytes))?;
         }
@@ -278,8 +284,16 @@ impl Setup {
         let failing_files = failing(self.alloc, &said.files, change, Object::Files)?;
         let failing_writes = failing(self.alloc, &said.channels, change, Object::Channels)?;
         let failing_blocks = failing(self.alloc, &said.pages, change, Object::Pages)?;
-        let sink = MemSink::new(self.alloc, [2000, 2000, 2000], self.bites.max(1), failing_writes)?;
-        let pages = MemPages::new(self.alloc, 1000, 4000, failing_blocks)?;
+        let sink = MemSink::new(
+            self.alloc,
+            [2000, 2000, 2000],
+            self.bites.max(1),
+            failing_writes,
+        )?;
+        let pages = Pages {
+            blocks: MemPages::new(self.alloc, 1000, 4000, failing_blocks)?,
+            added: self.added,
+        };
         Ok((MemFiles::new(files, failing_files), sink, pages))
     }
 }

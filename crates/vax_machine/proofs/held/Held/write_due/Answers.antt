@@ -20,3 +20,9 @@ returns-clause-passes g c = through _ _ _ _ _ _ _ _ (bytes_first _ _) (bytes_who
 
 pub returns-clause-still : goal.returns-clause-still
 returns-clause-still g c = record { listed = refl; only = only_passes _ _ _ c.write_bytes.result _ _ refl (λ e. refl) c.write_bytes.ensures.passes }
+
+pub returns-then-steps-self-clause-passes : goal.returns-then-steps-self-clause-passes
+returns-then-steps-self-clause-passes g c = pass_nothing _ _
+
+pub returns-then-steps-self-clause-still : goal.returns-then-steps-self-clause-still
+returns-then-steps-self-clause-still g c = writes_nothing _ _
