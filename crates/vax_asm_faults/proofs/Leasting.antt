@@ -1,19 +1,18 @@
 -- The first of faults is the least.
-use Rattle.std.proofs.Common.{◌≡◌, ◌<◌, ◌≤◌, ◌⊎◌, inl, inr, ℕ, Bool, true, false, cond, List, [], ◌∷◌, Option, Some, None, Result, Ok, Err, refl, sym, ap, subst, ◌∙◌, arith}
-use Rattle.std.specs.Prelude.{◌==◌, All, if◌then◌else◌, min, nat_lt}
+use Rattle.std.proofs.Common.{◌≡◌, ◌≤◌, ◌⊎◌, inl, inr, ℕ, Bool, true, false, cond, List, [], ◌∷◌, Option, Some, None, Ok, refl, sym, ap, subst, ◌∙◌, arith}
+use Rattle.std.specs.Prelude.{◌==◌, All, if◌then◌else◌, nat_lt}
 use Rattle.std.proofs.lemmas.Bool.{eqb-false, eqb-true, ltb-false, ltb-true}
 use Rattle.std.proofs.lemmas.List.Elements.{All-cons, All-nil}
 use Rattle.vax_asm.specs.Walk.{assembled}
 use Rattle.vax_asm_faults.proofs.Refusing.{refused_first}
 use Rattle.vax_asm_faults.specs.Least.{HasFault, IsFaultless, IsLeast, IsUpTo}
-use Rattle.vax_asm_faults.specs.Refusal.{Faults, earlier, faults_of, first_fault, first_line, module_behind, or_else, or_earlier}
+use Rattle.vax_asm_faults.specs.Refusal.{Faults, earlier, faults_of, first_fault, first_line, module_behind, or_else}
 use Rattle.vax_asm_faults.specs.Survey.{survey_of}
 use Rattle.vax_asm_first.specs.Faults.{first_of}
 use Rattle.vax_asm_second.specs.Faults.{first, first_of as least}
 use Rattle.vax_asm_second.specs.Modules.{unless_faulty}
 use Rattle.vax_asm_second.specs.declared.types.Fault.{Fault}
 use Rattle.vax_macro.specs.Fault.{code_of}
-use Rattle.vax_macro.specs.declared.error.FaultKind.{FaultKind}
 use Rattle.vax_module.specs.declared.Module.{Module}
 
 -- it stands on the line of one of the two, and is of its kind
