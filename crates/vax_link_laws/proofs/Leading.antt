@@ -1,5 +1,5 @@
 -- Fields lead to their targets.
-use Rattle.std.proofs.Common.{◌≡◌, ℕ, zero, suc, ◌+◌, ◌-◌, ◌*◌, ◌/◌, ◌%◌, ◌^◌, ◌<◌, ◌≤◌, ◌⊎◌, inl, inr, Bool, true, false, cond, List, [], ◌∷◌, length, get_or, Option, Some, None, Ok, refl, sym, ap, subst, ◌∙◌, arith}
+use Rattle.std.proofs.Common.{◌≡◌, ℕ, zero, suc, ◌+◌, ◌*◌, ◌/◌, ◌%◌, ◌<◌, ◌≤◌, ◌⊎◌, inl, inr, Bool, true, false, cond, List, [], ◌∷◌, length, get_or, Option, Some, None, Ok, refl, sym, ap, subst, ◌∙◌, arith}
 use Rattle.std.specs.Prelude.{All, ◌||◌, nat_le, nat_lt}
 use Rattle.std.specs.List.{fold}
 use Rattle.std.proofs.lemmas.Bool.{leb-false, leb-true, ltb-false, ltb-true}
@@ -11,8 +11,8 @@ use Rattle.vax_image.specs.declared.Image.{Image}
 use Rattle.vax_lex.specs.declared.value.Value.{Value}
 use Rattle.vax_lex.specs.declared.value.Value.TheVariants.{Absolute, External, Section as InSection}
 use Rattle.vax_link.specs.Linked.{linked}
-use Rattle.vax_link.specs.Names.{low_longword, module_at, plus}
-use Rattle.vax_link.specs.Values.{content, distance, field_address, field_content, fits_signed, is_in_reach, lower, section_address, unreached_from, value_of, value_of_external, with_reach}
+use Rattle.vax_link.specs.Names.{plus}
+use Rattle.vax_link.specs.Values.{content, distance, field_address, field_content, fits_signed, is_in_reach, lower, section_address, unreached_from, value_of, with_reach}
 use Rattle.vax_link_laws.proofs.Laying.{is_linked}
 use Rattle.vax_link_laws.proofs.Standing.{field_stands}
 use Rattle.vax_link_laws.specs.Holding.{HasField, Holds}
@@ -22,7 +22,6 @@ use Rattle.vax_module.specs.declared.Module.{Module}
 use Rattle.vax_module.specs.declared.Reloc.{Reloc}
 use Rattle.vax_module.specs.declared.RelocKind.{RelocKind}
 use Rattle.vax_module.specs.declared.RelocKind.TheVariants.{Byte, Word, Long, RelByte, RelWord, RelLong}
-use Rattle.vax_space.specs.declared.Area.{Area}
 
 -- ---- numbers read
 
@@ -83,13 +82,13 @@ signed_byte : (c : ℕ) → c < 4294967296 → fits_signed 1 c ≡ true → exte
 unfolding extended
 signed_byte c small fits =
     let f : (c < 128) ⊎ (4294967168 ≤ c) = fits_either (nat_lt c 128) (nat_le 4294967168 c) c 128 4294967168 refl refl fits in
-    sign_by (nat_lt (2 * (c % 256)) 256) (c % 256) c 256 4294967040 refl (λ low. elim f [ | inl h ↦ omega arith | inr h ↦ omega arith ]) (λ high. elim f [ | inl h ↦ omega arith | inr h ↦ omega arith ])
+    sign_by (nat_lt (2 * (c % 256)) 256) (c % 256) c 256 4294967040 refl (λ low. elim f [ inl h ↦ omega arith | inr h ↦ omega arith ]) (λ high. elim f [ inl h ↦ omega arith | inr h ↦ omega arith ])
 
 signed_word : (c : ℕ) → c < 4294967296 → fits_signed 2 c ≡ true → extended 2 (c % 65536) ≡ c
 unfolding extended
 signed_word c small fits =
     let f : (c < 32768) ⊎ (4294934528 ≤ c) = fits_either (nat_lt c 32768) (nat_le 4294934528 c) c 32768 4294934528 refl refl fits in
-    sign_by (nat_lt (2 * (c % 65536)) 65536) (c % 65536) c 65536 4294901760 refl (λ low. elim f [ | inl h ↦ omega arith | inr h ↦ omega arith ]) (λ high. elim f [ | inl h ↦ omega arith | inr h ↦ omega arith ])
+    sign_by (nat_lt (2 * (c % 65536)) 65536) (c % 65536) c 65536 4294901760 refl (λ low. elim f [ inl h ↦ omega arith | inr h ↦ omega arith ]) (λ high. elim f [ inl h ↦ omega arith | inr h ↦ omega arith ])
 
 signed_long : (c : ℕ) → extended 4 c ≡ c
 unfolding extended

@@ -1,5 +1,5 @@
 -- Where fields lead (VAX Architecture Reference Manual, operand specifiers: displacement modes, program counter addressing).
-use Rattle.std.specs.Prelude.{◌≡◌, ℕ, ◌+◌, if◌then◌else◌}
+use Rattle.std.specs.Prelude.{ℕ, ◌+◌, if◌then◌else◌}
 use Rattle.vax_flat.specs.Memory.{byte_at, number}
 use Rattle.vax_flat.specs.Operand.{extended, plus}
 use Rattle.vax_image.specs.declared.Image.{Image}

@@ -1,18 +1,18 @@
 -- Each step reads on: lines are counted up, and what is left of a line has its number.
-use Rattle.std.proofs.Common.{subst, ap, ◌≡◌, ◌+◌, ◌-◌, ◌<◌, ◌≤◌, ◌⊎◌, inl, inr, ℕ, suc, zero, Bool, true, false, cond, List, [], ◌∷◌, ◌++◌, length, take, drop, map, Option, Some, None, Result, Ok, Err, refl, sym, ◌∙◌, arith}
-use Rattle.std.specs.Prelude.{not, IfSome, ℤ, ◌==◌, ◌&&◌, nat_le, if◌then◌else◌}
+use Rattle.std.proofs.Common.{subst, ap, ◌≡◌, ◌+◌, ◌<◌, ◌⊎◌, inl, inr, ℕ, Bool, true, false, cond, List, [], ◌∷◌, ◌++◌, length, take, drop, Option, Some, None, Result, Ok, Err, refl, sym, ◌∙◌, arith}
+use Rattle.std.specs.Prelude.{not, IfSome, ◌==◌, ◌&&◌, nat_le, if◌then◌else◌}
 use Rattle.vax_lex.specs.Characters.{canonical_name}
 use Rattle.vax_lex.specs.Tokens.{pieces_of}
 use Rattle.vax_lex.specs.declared.token.Piece.{Piece}
 use Rattle.vax_lex.specs.declared.value.Value.{Value}
 use Rattle.vax_macro.specs.Arguments.{Argument, arguments, behind_blanks, name_length}
 use Rattle.vax_macro.specs.Conditions.{condition_in, guarded_in, no_keyword, number_in}
-use Rattle.vax_macro.specs.Directives.{Again, Done, Fails, Gives, Goes, Iterated, Label, Statement, argument_texts, begin_arguments, begin_body, begin_characters, begin_condition, begin_copies, begin_each, begin_macro, begin_repeat, behind_label, body_fault, call, call_by, call_with, character_texts, collect, condition_fault, direct, done, end_condition, end_fault, ends, expansion, finished, guard, has_label, is_deep, is_formal, is_skipping, iterated_in, line_copies, lines_for_each, macro_formals, nested_after, open_call, open_condition, opening, operands_fault, read, read_operator, read_word, skip, switch, switch_condition, then_count, unless_fault, with_lines, with_macro, with_pending}
+use Rattle.vax_macro.specs.Directives.{Again, Done, Fails, Gives, Goes, Label, Statement, argument_texts, begin_arguments, begin_body, begin_characters, begin_condition, begin_copies, begin_each, begin_macro, begin_repeat, behind_label, body_fault, call, call_by, call_with, character_texts, collect, condition_fault, direct, done, end_condition, end_fault, ends, expansion, finished, guard, has_label, is_deep, is_formal, is_skipping, iterated_in, line_copies, lines_for_each, macro_formals, nested_after, open_call, open_condition, opening, operands_fault, read, read_operator, read_word, skip, switch, switch_condition, then_count, unless_fault, with_lines, with_macro, with_pending}
 use Rattle.vax_macro.specs.Expansion.{Ends, Faults, Says, Stepped, Steps, begun, joined_on, joined_with, line_step, next_line_step, outcome, read_on, step, unclosed, whole}
 use Rattle.vax_macro.specs.Heads.{Head, Word, code_from, end_if, end_macro, end_repeat, end_word, has_unprintable, head_in, if_false, if_true, if_true_false, if_word, immediate_if, macro_word, other_word, piece_text, repeat, repeat_arguments, repeat_characters, word_in}
 use Rattle.vax_macro.specs.Lines.{Reading, Remainder, SourceLine, before_dash, dash_in, is_long, with_part}
 use Rattle.vax_macro.specs.Names.{is_name}
-use Rattle.vax_macro.specs.Rest.{OpenCondition, Opening, Pending, Rest, Use, copies_of, copy_each, macro_body}
+use Rattle.vax_macro.specs.Rest.{Opening, Pending, Rest, Use, copies_of, copy_each, macro_body}
 use Rattle.vax_macro.specs.Templates.{Filled, Formals, Template, assigned, filled, template}
 use Rattle.vax_macro.specs.declared.error.FaultKind.{FaultKind}
 use Rattle.vax_macro.specs.declared.error.FaultKind.TheVariants as faults
@@ -40,7 +40,7 @@ either_leaves : (l : Bool) (b : Bool) (rest : Rest) (d e : Done) → Leaves l re
 either_leaves l true rest d e h k = h
 either_leaves l false rest d e h k = k
 
-result_leaves : {A : Type 0} (l : Bool) (rest : Rest) (r : Result A FaultKind) (f : A → Done) → ((a : A) → Leaves l rest (f a)) → Leaves l rest (elim r [ | Ok a ↦ f a | Err kind ↦ Fails kind ])
+result_leaves : {A : Type 0} (l : Bool) (rest : Rest) (r : Result A FaultKind) (f : A → Done) → ((a : A) → Leaves l rest (f a)) → Leaves l rest (elim r [ Ok a ↦ f a | Err kind ↦ Fails kind ])
 result_leaves l rest (Ok a) f h = h a
 result_leaves l rest (Err kind) f h = tt
 

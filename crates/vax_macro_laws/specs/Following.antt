@@ -1,5 +1,5 @@
 -- How statements follow one another in a source (VAX MACRO and Instruction Set Reference Manual, "VAX MACRO source statement format").
-use Rattle.std.specs.Prelude.{◌≡◌, ◌<◌, ℕ, IfSome, None, Some}
+use Rattle.std.specs.Prelude.{◌≡◌, ◌<◌, IfSome, None, Some}
 use Rattle.vax_macro.specs.Directives.{Statement}
 use Rattle.vax_macro.specs.Lines.{Remainder}
 use Rattle.vax_macro.specs.Rest.{Rest}
