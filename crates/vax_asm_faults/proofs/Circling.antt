@@ -1,8 +1,8 @@
 -- The first circle of assignments, when there is one more.
-use Rattle.std.proofs.Common.{◌≡◌, ℕ, zero, suc, ◌+◌, ◌<◌, Bool, true, false, cond, List, [], ◌∷◌, ◌++◌, length, map, Option, Some, None, refl, sym, ap, ◌∙◌, append_assoc, arith}
+use Rattle.std.proofs.Common.{◌≡◌, ℕ, zero, suc, ◌<◌, Bool, true, false, cond, List, [], ◌∷◌, ◌++◌, length, Option, Some, None, refl, sym, ap, ◌∙◌, append_assoc, arith}
 use Rattle.std.specs.Prelude.{option_map, slice_get}
 use Rattle.std.proofs.lemmas.List.{append-nil, length-append, length-map, map-append}
-use Rattle.vax_asm_circles.specs.Circles.{Step, circle, comes_back, first_back}
+use Rattle.vax_asm_circles.specs.Circles.{Step, comes_back, first_back}
 use Rattle.vax_asm_faults.specs.Survey.{closes}
 use Rattle.vax_asm_first.specs.Circles.{first_circle, origin_at, step_by, steps_by}
 use Rattle.vax_asm_first.specs.Fixups.{Assignment}

@@ -1,19 +1,18 @@
 -- The first of faults is the least.
-use Rattle.std.proofs.Common.{◌≡◌, ◌<◌, ◌≤◌, ◌⊎◌, inl, inr, ℕ, Bool, true, false, cond, List, [], ◌∷◌, Option, Some, None, Result, Ok, Err, refl, sym, ap, subst, ◌∙◌, arith}
-use Rattle.std.specs.Prelude.{◌==◌, All, if◌then◌else◌, min, nat_lt}
+use Rattle.std.proofs.Common.{◌≡◌, ◌≤◌, ◌⊎◌, inl, inr, ℕ, Bool, true, false, cond, List, [], ◌∷◌, Option, Some, None, Ok, refl, sym, ap, subst, ◌∙◌, arith}
+use Rattle.std.specs.Prelude.{◌&&◌, ◌||◌, slice_index_or, ◌==◌, All, if◌then◌else◌, nat_lt}
 use Rattle.std.proofs.lemmas.Bool.{eqb-false, eqb-true, ltb-false, ltb-true}
 use Rattle.std.proofs.lemmas.List.Elements.{All-cons, All-nil}
 use Rattle.vax_asm.specs.Walk.{assembled}
 use Rattle.vax_asm_faults.proofs.Refusing.{refused_first}
 use Rattle.vax_asm_faults.specs.Least.{HasFault, IsFaultless, IsLeast, IsUpTo}
-use Rattle.vax_asm_faults.specs.Refusal.{Faults, earlier, faults_of, first_fault, first_line, module_behind, or_else, or_earlier}
+use Rattle.vax_asm_faults.specs.Refusal.{Faults, earlier, faults_of, first_fault, first_line, module_behind, or_else}
 use Rattle.vax_asm_faults.specs.Survey.{survey_of}
 use Rattle.vax_asm_first.specs.Faults.{first_of}
-use Rattle.vax_asm_second.specs.Faults.{first, first_of as least}
+use Rattle.vax_asm_second.specs.Faults.{earlier as earlier_whole, first, first_of as least}
 use Rattle.vax_asm_second.specs.Modules.{unless_faulty}
 use Rattle.vax_asm_second.specs.declared.types.Fault.{Fault}
 use Rattle.vax_macro.specs.Fault.{code_of}
-use Rattle.vax_macro.specs.declared.error.FaultKind.{FaultKind}
 use Rattle.vax_module.specs.declared.Module.{Module}
 
 -- it stands on the line of one of the two, and is of its kind
@@ -144,3 +143,73 @@ assembles source m h =
     let f : Faults = faults_of source in
     let n : Module = module_behind (survey_of source) in
     refused_first source ∙ ap (λ (l : List Fault). unless_faulty (or_else (first_line None l) (least f.whole)) n) h.lines ∙ ap (λ (w : List Fault). unless_faulty (or_else None (least w)) n) h.whole ∙ ap (λ (x : Module). Ok x) h.is
+
+-- ---- the first of those that the whole source decides
+
+goes_before : (s t : Bool) (f g : Fault) → nat_lt g.origin.place f.origin.place ≡ s → (g.origin.place == f.origin.place && nat_lt (code_of g.kind) (code_of f.kind)) ≡ t → IsEarlier f g (if s || t then g else f)
+unfolding IsOf
+goes_before true t f g e h = let less = ltb-true g.origin.place f.origin.place e in record {
+  first = (omega arith, λ p. absurd (omega arith));
+  second = (omega arith, λ p. omega arith);
+  one = inr (refl, refl);
+}
+goes_before false true f g e h =
+    let b = both_true (g.origin.place == f.origin.place) (nat_lt (code_of g.kind) (code_of f.kind)) h in
+    let same = eqb-true g.origin.place f.origin.place b.0 in
+    let lower = ltb-true (code_of g.kind) (code_of f.kind) b.1 in
+    record {
+      first = (omega arith, λ p. omega arith);
+      second = (omega arith, λ p. omega arith);
+      one = inr (refl, refl);
+    }
+  where
+    both_true : (a b : Bool) → (a && b) ≡ true → (a ≡ true) × (b ≡ true)
+    both_true true true e = (refl, refl)
+    both_true true false e = absurd cc
+    both_true false b e = absurd cc
+goes_before false false f g e h =
+    let le = ltb-false g.origin.place f.origin.place e in
+    record {
+      first = (omega arith, λ p. omega arith);
+      second = (le, λ p. not_lower (g.origin.place == f.origin.place) (nat_lt (code_of g.kind) (code_of f.kind)) refl refl h p);
+      one = inl (refl, refl);
+    }
+  where
+    not_lower : (a b : Bool) → (g.origin.place == f.origin.place) ≡ a → nat_lt (code_of g.kind) (code_of f.kind) ≡ b → (a && b) ≡ false → g.origin.place ≡ f.origin.place → code_of f.kind ≤ code_of g.kind
+    not_lower true true i j k p = absurd cc
+    not_lower true false i j k p = ltb-false (code_of g.kind) (code_of f.kind) j
+    not_lower false b i j k p = absurd (eqb-false g.origin.place f.origin.place i p)
+
+has_by : (faults : List Fault) (h f : Fault) → IsOf f h → HasFault faults h → HasFault faults f
+unfolding IsOf
+has_by [] h f same has = absurd has
+has_by (g ∷ faults) h f same (inl here) = inl (here.0 ∙ same.0, here.1 ∙ same.1)
+has_by (g ∷ faults) h f same (inr has) = inr (has_by faults h f same has)
+
+whole_earlier : (f g : Fault) → IsEarlier f g (earlier_whole f g)
+whole_earlier f g = goes_before (nat_lt g.origin.place f.origin.place) (g.origin.place == f.origin.place && nat_lt (code_of g.kind) (code_of f.kind)) f g refl refl
+
+whole_more : (g : Fault) (faults : List Fault) (o : Option Fault) (f : Fault) → ((h : Fault) → least faults ≡ Some h → IsLeast faults h) → least faults ≡ o → first (Some g) o ≡ Some f → IsLeast (g ∷ faults) f
+unfolding IsOf
+whole_more g faults None f next found e =
+    let same : g ≡ f = cc in
+    let none : faults ≡ [] = none_least faults found in
+    record {
+      one = inl (ap (λ (x : Fault). x.origin.place) same, ap (λ (x : Fault). x.kind) same);
+      least = subst (λ (l : List Fault). All (IsUpTo f) (g ∷ l)) (sym none) (All-cons (IsUpTo f) g [] (subst (λ (x : Fault). IsUpTo x g) same (omega arith, λ p. omega arith)) (All-nil (IsUpTo f)));
+    }
+whole_more g faults (Some h) f next found e =
+    let i : IsLeast faults h = next h found in
+    let same : earlier_whole g h ≡ f = cc in
+    let j : IsEarlier g h f = subst (IsEarlier g h) same (whole_earlier g h) in
+    record {
+      one = elim j.one [
+        | inl first ↦ inl first
+        | inr second ↦ inr (has_by faults h f second i.one)
+      ];
+      least = All-cons (IsUpTo f) g faults j.first (λ k d less. up_to f h (slice_index_or faults k d) j.second (i.least k d less));
+    }
+
+pub whole_is_least : (faults : List Fault) (f : Fault) → least faults ≡ Some f → IsLeast faults f
+whole_is_least [] f e = absurd cc
+whole_is_least (g ∷ faults) f e = whole_more g faults (least faults) f (λ h found. whole_is_least faults h found) refl e

@@ -1,4 +1,3 @@
-pub mod Moving
 pub mod Waiting
 pub mod Circling
 pub mod Ordering

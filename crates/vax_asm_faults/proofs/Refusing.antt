@@ -1,17 +1,17 @@
 -- The walk over a source stops at the first fault of all.
-use Rattle.std.proofs.Common.{◌≡◌, ◌+◌, ◌<◌, ◌≤◌, ◌⊎◌, inl, inr, ℕ, zero, suc, Bool, true, false, cond, List, [], ◌∷◌, ◌++◌, Option, Some, None, Result, Ok, Err, refl, sym, ap, subst, ◌∙◌, arith}
+use Rattle.std.proofs.Common.{◌≡◌, ◌<◌, ◌≤◌, inl, inr, ℕ, zero, suc, Bool, true, false, cond, List, [], ◌∷◌, ◌++◌, Option, Some, None, Result, refl, sym, ap, subst, ◌∙◌, arith}
 use Rattle.std.specs.Prelude.{◌==◌, IfSome}
 use Rattle.std.proofs.lemmas.Bool.Decides.{eqb_tells}
 use Rattle.vax_asm.specs.Placing.{FaultyLabel, Faulty, Placed, Stands, placed, waiting_in}
-use Rattle.vax_asm.specs.Walk.{Assembly, assembled, at, behind, behind_circle, least, names_in, nothing, of_another, onward as walk_on, said, unless_met, walked}
+use Rattle.vax_asm.specs.Walk.{Assembly, assembled, at, behind, behind_circle, least, names_in, nothing, onward as walk_on, said, unless_met, walked}
 use Rattle.vax_asm_circles.specs.Circles.{first_back}
 use Rattle.vax_asm_faults.proofs.Circling.{circle_more, or_origin}
-use Rattle.vax_asm_faults.proofs.Moving.{IsOf, Stays}
+use Rattle.vax_macro_laws.proofs.Moving.{IsOf, Stays}
 use Rattle.vax_asm_faults.proofs.Ordering.{AllFrom, Comes, InOrder, circle_place, fault, first_joined, first_stays, from_less, told, told_circle, told_met, told_more}
 use Rattle.vax_asm_faults.proofs.Surveying.{Before, IsFirst, Known, Leading, Leads, answer, before_after, carried_from, ended_is, if_some, known_on, leading, leads_out, leads_to, past_line, survey_from, told_err}
 use Rattle.vax_asm_faults.proofs.Waiting.{ComesFrom, placed_from}
 use Rattle.vax_asm_faults.specs.Refusal.{faults_of, first_fault, first_line, module_behind, or_earlier}
-use Rattle.vax_asm_faults.specs.Survey.{Survey, carried, circle_faults, closes, onward, stated, statement_faults, survey, survey_of}
+use Rattle.vax_asm_faults.specs.Survey.{Survey, carried, circle_faults, closes, onward, stated, survey, survey_of}
 use Rattle.vax_asm_first.specs.Circles.{first_circle}
 use Rattle.vax_asm_first.specs.Faults.{first_of as lower_kind}
 use Rattle.vax_asm_first.specs.Fixups.{Assignment}
@@ -20,7 +20,7 @@ use Rattle.vax_asm_labels.specs.Naming.{with_waiting}
 use Rattle.vax_asm_second.specs.Modules.{unless_faulty}
 use Rattle.vax_asm_second.specs.declared.types.Fault.{Fault}
 use Rattle.vax_macro.specs.Expansion.{Ends, Faults, Says, Stepped, Steps, step}
-use Rattle.vax_macro.specs.Rest.{Opening, Rest, started, work}
+use Rattle.vax_macro.specs.Rest.{Rest, started, work}
 use Rattle.vax_macro.specs.declared.error.FaultKind.{FaultKind}
 use Rattle.vax_module.specs.declared.Module.{Module}
 
@@ -127,9 +127,9 @@ statement_first left r a (Some f) o text h comes goes =
     elim (eqb_tells f.origin.place o.place) [
       | inl same ↦ ap on same.0 ∙ placed_first p left r a (Some f) o (placed_from o text a.standing) h (comes_here f o comes same.1) goes
       | inr apart ↦ ap on apart.0 ∙ told_err k f (first_line (told k (Some f)) s.faults) s
-        (ap (λ (q : Option Fault). first_line q s.faults) (told_met k f)
-        ∙ first_stays (behind_circle k f) s.faults (later left r a o text k f h (comes_less f o comes apart.1))
-        ∙ sym (told_met k f))
+          (ap (λ (q : Option Fault). first_line q s.faults) (told_met k f)
+          ∙ first_stays (behind_circle k f) s.faults (later left r a o text k f h (comes_less f o comes apart.1))
+          ∙ sym (told_met k f))
     ]
   where
     later : (left : ℕ) (r : Rest) (a : Assembly) (o : Origin) (text : List ℕ) (k : Option Origin) (f : Fault) → IsMet r o k (Some f) → f.origin.place < o.place

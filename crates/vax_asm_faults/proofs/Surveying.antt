@@ -1,27 +1,23 @@
 -- The walk over a source stops at the first fault of all.
-use Rattle.std.proofs.Common.{◌≡◌, ◌+◌, ◌<◌, ◌≤◌, ◌⊎◌, inl, inr, ℕ, zero, suc, Bool, true, false, cond, List, [], ◌∷◌, ◌++◌, Option, Some, None, Result, Ok, Err, refl, sym, ap, subst, ◌∙◌, arith}
-use Rattle.std.specs.Prelude.{◌==◌, IfSome, if◌then◌else◌}
-use Rattle.std.proofs.lemmas.Bool.{eqb-false, eqb-true}
+use Rattle.std.proofs.Common.{◌≡◌, ◌≤◌, inl, inr, ℕ, zero, suc, Bool, true, false, cond, List, [], ◌∷◌, Option, Some, None, Result, Err, refl, sym, ap, subst, ◌∙◌, arith}
+use Rattle.std.specs.Prelude.{◌==◌, IfSome}
+use Rattle.std.proofs.lemmas.Bool.{eqb-false}
 use Rattle.std.proofs.lemmas.Bool.Decides.{eqb_tells}
 use Rattle.vax_asm.specs.Placing.{FaultyLabel, Faulty, Placed, Stands, placed, waiting_in}
-use Rattle.vax_asm.specs.Walk.{Assembly, Next, assembled, at, behind, behind_circle, ended, least, names_in, nothing, of_another, onward as walk_on, said, stopped, unless_circle, unless_met, walked}
-use Rattle.vax_asm_faults.proofs.Circling.{circle_more, or_origin}
-use Rattle.vax_asm_faults.proofs.Moving.{Brings, IsOf, Moves, Stays, at_end, brings, on_line, on_next}
-use Rattle.vax_asm_faults.proofs.Ordering.{AllFrom, Comes, InOrder, circle_place, fault, first_joined, first_stays, from_both, from_less, told, told_circle, told_met, told_more}
+use Rattle.vax_asm.specs.Walk.{Assembly, at, behind_circle, ended, names_in, unless_circle, walked}
+use Rattle.vax_macro_laws.proofs.Moving.{Brings, IsOf, Stays, at_end, brings, on_line, on_next}
+use Rattle.vax_asm_faults.proofs.Ordering.{AllFrom, Comes, InOrder, fault, from_both, from_less, told, told_met}
 use Rattle.vax_asm_faults.proofs.Waiting.{ComesFrom, placed_from}
 use Rattle.vax_asm_faults.specs.Refusal.{first_line, module_behind, or_else, whole_faults}
-use Rattle.vax_asm_faults.specs.Survey.{Onward, Survey, carried, circle_faults, closes, is_ended, left_by, line_ended, onward, stated, statement_faults, survey, survey_of, with_faults}
+use Rattle.vax_asm_faults.specs.Survey.{Onward, Survey, carried, circle_faults, closes, is_ended, left_by, line_ended, onward, stated, statement_faults, survey}
 use Rattle.vax_asm_first.specs.Circles.{first_circle}
 use Rattle.vax_asm_first.specs.Fixups.{Assignment}
-use Rattle.vax_asm_first.specs.Standing.{Standing}
 use Rattle.vax_asm_first.specs.declared.types.Origin.{Origin}
-use Rattle.vax_asm_labels.specs.Naming.{with_waiting}
 use Rattle.vax_asm_second.specs.Faults.{first_of as first_whole}
 use Rattle.vax_asm_second.specs.Modules.{filled_in, unless_faulty}
 use Rattle.vax_asm_second.specs.declared.types.Fault.{Fault}
 use Rattle.vax_macro.specs.Expansion.{Ends, Faults, Says, Stepped, Steps, step}
-use Rattle.vax_macro.specs.Rest.{Opening, Rest, started, work}
-use Rattle.vax_macro.specs.declared.error.FaultKind.{FaultKind}
+use Rattle.vax_macro.specs.Rest.{Opening, Rest}
 use Rattle.vax_macro.specs.declared.error.FaultKind.TheVariants.{Form}
 use Rattle.vax_module.specs.declared.Module.{Module}
 
@@ -54,7 +50,7 @@ leading_by rest st (on_line line again is) = leads_to line.number rest.read is (
   comes = λ x b. on_this x rest line.number b (λ h. subst (λ o. IfSome o (λ l. l.number ≡ x.line)) again h);
   reads = omega arith;
 })
-leading_by rest st (on_next moves) = leads_to moves.number moves.place moves.is (record {
+leading_by rest st (on_next none moves) = leads_to moves.number moves.place moves.is (record {
   comes = λ x b. inl (let le = b.0 in let more = moves.more in omega arith);
   reads = let more = moves.more in omega arith;
 })

@@ -2,7 +2,7 @@
 use Rattle.std.proofs.Common.{◌≡◌, ℕ, Bool, true, false, cond, List, Option, Some, None, Result, Ok, Err, refl, map}
 use Rattle.std.specs.Prelude.{IfSome, if◌then◌else◌}
 use Rattle.std.specs.List.{list_any}
-use Rattle.vax_asm.specs.Placing.{FaultyLabel, Faulty, Placed, Stands, alone, also, behind_label, beside, body_stated, if_wide, is_bad, is_listing, is_wide, operation_stated, placed, placed_as, placed_by, stated, stated_by, token_of, waiting_in, with_range}
+use Rattle.vax_asm.specs.Placing.{FaultyLabel, Faulty, Placed, Stands, also, behind_label, beside, body_stated, if_wide, is_bad, is_listing, is_wide, placed, placed_as, placed_by, stated, stated_by, token_of, waiting_in, with_range}
 use Rattle.vax_asm_first.specs.Fixups.{Assignment as Waiting}
 use Rattle.vax_asm_first.specs.Progress.{Site, site_of}
 use Rattle.vax_asm_first.specs.Standing.{Standing, Told, told}

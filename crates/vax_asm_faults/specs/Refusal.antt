@@ -1,5 +1,5 @@
 -- Which of a source's faults it is refused for (VAX MACRO and Instruction Set Reference Manual, "Diagnostic messages").
-use Rattle.std.specs.Prelude.{◌==◌, if◌then◌else◌, nat_lt, List, [], ◌∷◌, Option, Some, None, unwrap_or, ℕ}
+use Rattle.std.specs.Prelude.{◌==◌, if◌then◌else◌, nat_lt, List, [], ◌∷◌, Option, Some, None, ℕ}
 use Rattle.vax_asm_faults.specs.Survey.{Survey, survey_of}
 use Rattle.vax_asm_first.specs.Faults.{first_of as lower_kind}
 use Rattle.vax_asm_scope.specs.Scope.{external_names}

@@ -10,7 +10,6 @@ use Rattle.vax_asm_labels.specs.Naming.{with_waiting}
 use Rattle.vax_asm_second.specs.declared.types.Fault.{Fault}
 use Rattle.vax_macro.specs.Expansion.{Stepped, Steps, Says, Faults, Ends, step}
 use Rattle.vax_macro.specs.Rest.{Opening, Rest, started, work}
-use Rattle.vax_macro.specs.declared.error.FaultKind.{FaultKind}
 use Rattle.vax_macro.specs.declared.error.FaultKind.TheVariants as fault
 
 -- What the lines of a source come to: the faults of each, in order; what those without a fault leave; and, where the source is read to its end,

@@ -6,6 +6,7 @@ ghost use Rattle.vax_asm.specs.Walk.{assembled};
 ghost use Rattle.vax_asm_faults.specs.Least.{IsFaultless, IsLeast};
 ghost use Rattle.vax_asm_faults.specs.Refusal.{faults_of, first_fault, first_line, module_behind};
 ghost use Rattle.vax_asm_faults.specs.Survey.{survey_of};
+ghost use Rattle.vax_asm_second.specs.Faults.{first_of as least};
 ghost use Rattle.vax_asm_second.specs.Modules.{unless_faulty};
 ghost use Rattle.vax_asm_second.specs.declared.types.Fault.{Fault};
 ghost use Rattle.vax_module.specs.declared.Module.{Module};
@@ -16,9 +17,10 @@ pub fn sources_are_refused_for_their_first_fault()
     ensures { (source : List ℕ) → assembled source ≡ unless_faulty (first_fault (faults_of source)) (module_behind (survey_of source)) }
 {}
 
-/// The first fault of lines is one of theirs. None stands on an earlier line, and none on the same line is of a lower kind.
+/// The first fault is one of the list, the lines' or the whole source's. None stands on an earlier line, and none on the same line is of a lower kind.
 pub fn first_faults_are_the_least()
-    ensures { (faults : List Fault) → (f : Fault) → first_line None faults ≡ Some f → IsLeast faults f }
+    ensures lines { (faults : List Fault) → (f : Fault) → first_line None faults ≡ Some f → IsLeast faults f }
+    ensures whole { (faults : List Fault) → (f : Fault) → least faults ≡ Some f → IsLeast faults f }
 {}
 
 /// A source assembles exactly where it has no fault, and then to the module of its statements.

@@ -6,3 +6,4 @@ pub mod Standing
 pub mod Naming
 pub mod Parting
 pub mod Apart
+pub mod Leading

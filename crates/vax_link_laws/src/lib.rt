@@ -9,8 +9,9 @@ ghost use Rattle.vax_image.specs.declared.Image.{Image};
 ghost use Rattle.vax_lex.specs.declared.value.Value.TheVariants.{Section as InSection};
 ghost use Rattle.vax_link.specs.Linked.{linked};
 ghost use Rattle.vax_link.specs.Names.{low_longword, plus};
-ghost use Rattle.vax_link.specs.Values.{field_content, name_value, section_address};
+ghost use Rattle.vax_link.specs.Values.{field_content, name_value, section_address, value_of};
 ghost use Rattle.vax_link_laws.specs.Holding.{AreOthers, HasField, HasName, HasSection, Holds, IsOwn, LieApart};
+ghost use Rattle.vax_link_laws.specs.Leading.{leads_to};
 ghost use Rattle.vax_module.specs.Formed.{Formed, width_of};
 ghost use Rattle.vax_module.specs.declared.Module.{Module};
 ghost use Rattle.vax_module.specs.declared.Reloc.{Reloc};
@@ -30,6 +31,14 @@ pub fn sections_stand_at_their_addresses()
         (slice_index (little_bytes (width_of r.kind) (field_content region modules owner r)) place) }
 {}
 
+/// Where a processor reads a field that the linker filled in, it finds what the field's target is worth. A displacement leads there from behind the field.
+pub fn fields_lead_to_their_targets()
+    ensures { (region : Base) → (modules : List Module) → (image : Image) → (owner : ℕ) → (r : Reloc) →
+        All Formed modules → linked region modules ≡ Ok image → HasField modules owner r →
+        leads_to image r.kind (section_address region modules owner r.section + r.offset)
+        ≡ value_of region modules owner r.target }
+{}
+
 /// Two modules' sections, or two of one module, have no address in common.
 pub fn sections_lie_apart()
     ensures { (region : Base) → (modules : List Module) → (image : Image) → (owner number other index : ℕ) → (s t : Section) →
@@ -44,7 +53,8 @@ pub fn names_lead_to_their_bytes()
     ensures value { (region : Base) → (modules : List Module) → (image : Image) → (owner number : ℕ) → (place : ℤ) → (g : Symbol) →
         linked region modules ≡ Ok image → HasName modules owner g → g.value ≡ InSection number place →
         name_value region modules g.name ≡ plus (section_address region modules owner number) (low_longword place) }
-    ensures byte { (region : Base) → (modules : List Module) → (image : Image) → (owner number place : ℕ) → (at : ℤ) → (g : Symbol) → (s : Section) →
+    ensures byte { (region : Base) → (modules : List Module) → (image : Image) → (owner number place : ℕ) → (at : ℤ) →
+        (g : Symbol) → (s : Section) →
         All Formed modules → linked region modules ≡ Ok image → HasName modules owner g → g.value ≡ InSection number at →
         low_longword at ≡ place → HasSection modules owner number s → place < length s.bytes → IsOwn modules owner number place →
         Holds image (name_value region modules g.name) (slice_index s.bytes place) }
