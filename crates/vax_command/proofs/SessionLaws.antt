@@ -7,7 +7,7 @@ use Rattle.vax_outside.proofs.Growth.{append-nothing}
 use Rattle.vax_flat.specs.Parts.{Place, At, Within, machine_at, units_done}
 use Rattle.vax_flat.specs.Step.{Flat}
 use Rattle.vax_cpu.specs.Attempt.{open_at}
-use Rattle.vax_image.specs.Start.{Start, start_areas}
+use Rattle.vax_image.specs.Start.{start_areas}
 use Rattle.vax_sched.specs.Faults.{Denotes}
 use Rattle.vax_sched.specs.declared.rule.Rule.{Rule}
 use Rattle.vax_report.specs.declared.Last.{Last}
@@ -18,7 +18,6 @@ use Rattle.vax_machine.specs.Paged.{Paged}
 use Rattle.vax_machine.specs.declared.engine.Engine.{Engine}
 use Rattle.vax_machine.specs.declared.event.Limits.{Limits}
 use Rattle.vax_script.specs.declared.request.Line.{Line}
-use Rattle.vax_script.specs.Requests.{readings}
 use Rattle.vax_console.specs.Ends as console
 use Rattle.vax_console.specs.Ends.{IsAt, IsCutByTurns, IsCutOff, IsPartOf, IsWithin, OnlyReplied, scene, session_on, writes}
 use Rattle.vax_console.specs.Parts.{LinesHaveParts, Spends, SpendsInto}

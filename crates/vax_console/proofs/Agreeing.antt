@@ -1,7 +1,6 @@
 -- A session by turns is the session of the flat machine.
-use Rattle.std.proofs.Common.{◌≡◌, ◌≤◌, ◌+◌, ℕ, min, Bool, true, false, nat_le, if◌then◌else◌, List, [], ◌∷◌, ◌++◌, append_assoc, append-nil, length, Option, Some, None, refl, sym, ap, subst, ◌∙◌, arith}
+use Rattle.std.proofs.Common.{◌≡◌, ◌≤◌, ◌+◌, ℕ, Bool, true, false, nat_le, if◌then◌else◌, List, [], ◌∷◌, ◌++◌, append_assoc, append-nil, length, Option, Some, None, refl, sym, ap, subst, ◌∙◌, arith}
 use Rattle.vax_space.specs.declared.Area.{Area}
-use Rattle.vax_outside.specs.Channels.{Channels, Grew}
 use Rattle.vax_outside.proofs.Growth.{grew_more, grew_nothing}
 use Rattle.vax_flat.specs.declared.Ending.{Ending}
 use Rattle.vax_flat.specs.Parts.{Place, At, GoesBy, machine_at}
@@ -13,8 +12,8 @@ use Rattle.vax_script.specs.declared.request.Request.TheVariants.{ExamineRegiste
 use Rattle.vax_script.specs.declared.request.Line.{Line}
 use Rattle.vax_script.specs.declared.request.Line.TheVariants.{Blank, Request as Asks, Malformed}
 use Rattle.vax_console.specs.Ends.{writes}
-use Rattle.vax_console.specs.Transcript.{Session, advanced, after_line, answered, left, line_reply, may_deposit, session_after, transcript, with_machine}
-use Rattle.vax_console.specs.Turns.{Answers, CarriesOut, CarriesOutAll, Does, IsThrough, MakesTurns, RunsThrough, RunsUnless, Sends, SetsBytesIf, Setting, Stand, Stays, after_turns, limits_for, session_at, steps_of}
+use Rattle.vax_console.specs.Transcript.{Session, advanced, after_line, answered, line_reply, may_deposit, session_after, transcript, with_machine}
+use Rattle.vax_console.specs.Turns.{Answers, CarriesOutAll, Does, IsThrough, RunsThrough, RunsUnless, Sends, SetsBytesIf, Setting, Stand, after_turns, limits_for, session_at, steps_of}
 use Rattle.vax_console.proofs.Advancing.{Makes, advanced_ended, advanced_stays, run_makes}
 use Rattle.vax_console.proofs.Running.{by_ending, by_steps, is_le}
 

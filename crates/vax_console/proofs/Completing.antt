@@ -10,7 +10,7 @@ use Rattle.vax_machine.specs.declared.engine.Engine.{Engine}
 use Rattle.vax_script.specs.declared.request.Line.{Line}
 use Rattle.vax_script.specs.declared.request.Line.TheVariants.{Blank, Request as Asks, Malformed}
 use Rattle.vax_console.specs.Ends.{steps_in}
-use Rattle.vax_console.specs.Parts.{HasParts, LeadsThrough, LeadsTo, LeftBefore, LinesHaveParts, SpendsInto, StepHasParts, StepsHaveParts}
+use Rattle.vax_console.specs.Parts.{HasParts, LeadsTo, LeftBefore, LinesHaveParts, SpendsInto, StepHasParts, StepsHaveParts}
 use Rattle.vax_console.specs.Transcript.{Session, advanced, after_line, session_after}
 use Rattle.vax_console.proofs.Advancing.{is_below}
 use Rattle.vax_console.proofs.Running.{is_le}

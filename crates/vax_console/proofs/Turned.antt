@@ -1,6 +1,5 @@
 -- What the requests do, turn by turn.
-use Rattle.std.proofs.Common.{◌≡◌, ◌+◌, ℕ, min, Bool, true, false, nat_lt, List, [], ◌∷◌, ◌++◌, append-nil, codes, length, slice_index, Option, Some, None, Result, Ok, Err, refl, sym, ap, subst, ◌∙◌}
-use Rattle.vax_space.specs.declared.Area.{Area}
+use Rattle.std.proofs.Common.{◌≡◌, ℕ, min, Bool, true, false, nat_lt, List, [], ◌∷◌, append-nil, codes, length, slice_index, Option, Some, None, Result, Ok, Err, refl, sym, ap, subst, ◌∙◌}
 use Rattle.vax_outside.specs.Blocks.{BlockFile}
 use Rattle.vax_outside.specs.Channels.{Channels, Grew, append}
 use Rattle.vax_outside.proofs.Growth.{grew_nothing}
@@ -9,7 +8,6 @@ use Rattle.vax_flat.specs.Parts.{Place, At, machine_at}
 use Rattle.vax_flat.specs.Step.{Flat}
 use Rattle.vax_pager.specs.Listing.{is_listed}
 use Rattle.vax_pager.specs.Meaning.{pages}
-use Rattle.vax_pager.specs.Paging.{Paging}
 use Rattle.vax_pager.specs.Poking.{OnlyRead, WritesBlocks}
 use Rattle.vax_sched.specs.declared.rule.Rule.{Rule}
 use Rattle.vax_report.specs.Lines.{line, memory_line, register_line}
@@ -27,11 +25,10 @@ use Rattle.vax_machine.specs.declared.event.Limits.{Limits}
 use Rattle.vax_machine.specs.declared.event.RunEnd.{RunEnd}
 use Rattle.vax_machine.specs.declared.event.RunEnd.TheVariants as run_end
 use Rattle.vax_script.specs.declared.request.Request.TheVariants.{ExamineRegister, ExamineMemory, DepositRegister, DepositMemory, Next, Continue, Show}
-use Rattle.vax_script.specs.declared.request.Line.{Line}
 use Rattle.vax_script.specs.declared.request.Line.TheVariants.{Blank, Request as Asks, Malformed}
 use Rattle.vax_console.specs.Ends.{Replies, Scene, writes}
-use Rattle.vax_console.specs.Transcript.{Session, advanced, done_line, last_of, left, may_deposit, next_line, reply, stop_line, unless_ended}
-use Rattle.vax_console.specs.Turns.{Does, Fails, HasMadeSteps, Holds, HoldsFrom, IsThrough, IsUnread, IsUnset, MakesTurns, RunsThrough, RunsUnless, Sends, SetsBytesIf, Setting, Stand, Stays, StepsHold, after_turns, anew, limits_for, session_at, setting_of, stand_at, steps_of}
+use Rattle.vax_console.specs.Transcript.{Session, advanced, done_line, last_of, left, may_deposit, next_line, reply, stop_line}
+use Rattle.vax_console.specs.Turns.{Fails, HasMadeSteps, Holds, IsThrough, MakesTurns, RunsThrough, RunsUnless, Sends, SetsBytesIf, Setting, Stand, Stays, StepsHold, after_turns, anew, limits_for, session_at, setting_of, stand_at, steps_of}
 use Rattle.vax_console.specs.declared.stopped.Stopped.{Stopped}
 use Rattle.vax_console.specs.declared.stopped.Stopped.TheVariants as stopped
 use Rattle.vax_console.proofs.Requested.{same_core, same_ending, same_taken}

@@ -16,7 +16,7 @@ use Rattle.vax_machine.specs.declared.event.Limits.{Limits}
 use Rattle.vax_script.specs.declared.request.Line.{Line}
 use Rattle.vax_console.specs.Ends.{Replies, Scene, scene, writes}
 use Rattle.vax_console.specs.Transcript.{line_reply}
-use Rattle.vax_console.specs.Turns.{BreaksOff, CarriesOut, CarriesOutAll, Does, Fails, HasMadeSteps, Holds, HoldsFrom, IsCarriedOut, IsCutShort, Loses, RunsThrough, Sends, Setting, Stand, StepsHold, TimesOut, after_turns, session_at, setting_of, stand_at, steps_of}
+use Rattle.vax_console.specs.Turns.{BreaksOff, CarriesOutAll, Does, Fails, HasMadeSteps, Holds, HoldsFrom, IsCarriedOut, IsCutShort, Loses, RunsThrough, Sends, Setting, Stand, StepsHold, TimesOut, after_turns, session_at, setting_of, stand_at, steps_of}
 use Rattle.vax_console.specs.declared.stopped.Stopped.{Stopped}
 use Rattle.vax_console.specs.declared.stopped.Stopped.TheVariants as stopped
 use Rattle.vax_console.proofs.Replying.{grew_reply, prefix_reply}

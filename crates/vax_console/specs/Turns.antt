@@ -1,5 +1,5 @@
 -- How a session goes, turn by turn: what each line makes of the machine, of its page file and of the channels.
-use Rattle.std.specs.Prelude.{◌≡◌, ◌+◌, ◌||◌, ◌⊎◌, ℕ, min, Bool, true, false, List, [], ◌∷◌, ◌++◌, length, Option, None, Some, Result, Ok, Err}
+use Rattle.std.specs.Prelude.{◌≡◌, ◌+◌, ◌||◌, ◌⊎◌, ℕ, Bool, true, false, List, [], ◌∷◌, ◌++◌, length, Option, None, Some, Result, Ok, Err}
 use Rattle.vax_space.specs.declared.Area.{Area}
 use Rattle.vax_outside.specs.Blocks.{BlockFile}
 use Rattle.vax_outside.specs.Channels.{Channels, Grew, GrewByPrefix}
@@ -13,18 +13,17 @@ use Rattle.vax_sched.specs.Due.{due}
 use Rattle.vax_sched.specs.declared.rule.Rule.{Rule}
 use Rattle.vax_machine.specs.Blocks.{Moved}
 use Rattle.vax_machine.specs.Console.{with_bytes, with_register}
-use Rattle.vax_machine.specs.Machine.{Means, modified_of, residence}
+use Rattle.vax_machine.specs.Machine.{Means, modified_of}
 use Rattle.vax_machine.specs.Paged.{Paged, Why, ByEnding, BySteps, ByTurns, paged, stops}
 use Rattle.vax_machine.specs.Run as run
 use Rattle.vax_machine.specs.Run.{Runs, begun}
-use Rattle.vax_machine.specs.declared.engine.Engine.{Engine}
 use Rattle.vax_machine.specs.declared.event.Limits.{Limits}
 use Rattle.vax_script.specs.declared.request.Request.{Request}
 use Rattle.vax_script.specs.declared.request.Request.TheVariants.{ExamineRegister, ExamineMemory, DepositRegister, DepositMemory, Next, Continue, Show}
 use Rattle.vax_script.specs.declared.request.Line.{Line}
 use Rattle.vax_script.specs.declared.request.Line.TheVariants.{Blank, Request as Asks, Malformed}
 use Rattle.vax_console.specs.Ends.{Scene, steps_in, writes}
-use Rattle.vax_console.specs.Transcript.{Session, left, line_reply, may_deposit}
+use Rattle.vax_console.specs.Transcript.{Session, line_reply, may_deposit}
 use Rattle.vax_console.specs.declared.stopped.Stopped.{Stopped}
 use Rattle.vax_console.specs.declared.stopped.Stopped.TheVariants as stopped
 
