@@ -1,7 +1,7 @@
 // A source from its first statement to its last.
 
-ghost use Rattle.std.specs.Prelude.{◌<◌, Err, IfOk, None, map, option_map};
-ghost use Rattle.vax_asm.specs.View.{assembly_of, Answers, Says};
+ghost use Rattle.std.specs.Prelude.{◌≡◌, ◌<◌, Err, IfOk, OnOk, None, map, option_map};
+ghost use Rattle.vax_asm.specs.View.{assembly_of, Answers, Says, Stood};
 ghost use Rattle.vax_asm.specs.Walk.{assembled, ended, resumed, stopped, unless_circle};
 ghost use Rattle.vax_asm_second.specs.Modules.{filled_in};
 ghost use Rattle.vax_asm_second.specs.View.{Fills};
@@ -25,11 +25,11 @@ use vax_space::NoMemory;
 
 /// What the statements so far leave, and the fault that was met in the line that is being read.
 #[derive(Drop)]
-struct Walk {
-    standing: Standing,
+pub struct Walk {
+    pub standing: Standing,
     /// The assignments that have no value yet, in order.
-    assignments: Vec<Assignment>,
-    met: Option<Fault>,
+    pub assignments: Vec<Assignment>,
+    pub met: Option<Fault>,
 }
 
 impl Walk {
@@ -46,10 +46,15 @@ impl Walk {
 
     /// Carries out a statement.
     #[tactic(auto, using(crate::proofs::Statements::behind_stands, crate::proofs::Statements::behind_faulty, crate::proofs::Statements::behind_label), unfolding(crate::specs::Walk::said))]
-    fn say(&mut self, alloc: Global, origin: Origin, said: Line) -> Result<(), FillError>
-        ensures { Says result origin said.text.items
+    pub fn say(&mut self, alloc: Global, origin: Origin, said: Line) -> Result<(), FillError>
+        ensures says { Says result origin said.text.items
             (assembly_of self.old.standing self.old.assignments)
             (assembly_of self.new.standing self.new.assignments) self.old.met self.new.met }
+        // Where no fault was met, the statement stands.
+        ensures stands { OnOk result (self.new.met ≡ None → (self.old.met ≡ None)
+            × Stood origin said.text.items
+                (assembly_of self.old.standing self.old.assignments)
+                (assembly_of self.new.standing self.new.assignments)) }
     {
         if let Some(met) = of_another(self.met, origin) {
             return Err(self.stopped(alloc, met));
@@ -95,7 +100,7 @@ impl Walk {
     }
 
     /// The module, once the source is read to its end.
-    fn end(self, alloc: Global, begin: Option<Begin>) -> Result<Module, FillError>
+    pub fn end(self, alloc: Global, begin: Option<Begin>) -> Result<Module, FillError>
         ensures module { Fills result (ended (assembly_of self.standing self.assignments)
             self.met (option_map opening_of begin)) }
         ensures formed { IfOk result Formed }
@@ -107,7 +112,7 @@ impl Walk {
     }
 
     /// The source ends with a fault that macros, repeats and conditions show, or with a begin without its end.
-    fn stop(
+    pub fn stop(
         self,
         alloc: Global,
         expander: &Expander,
