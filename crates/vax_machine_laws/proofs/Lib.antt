@@ -1,8 +1,0 @@
-pub mod Borrowed
-pub mod Reaching
-pub mod Parting
-pub mod Spoiling
-pub mod Sufficing
-pub mod Fixing
-pub mod Finishing
-pub mod Happening

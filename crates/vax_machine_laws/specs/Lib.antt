@@ -1,3 +1,0 @@
-pub mod FlatRun
-pub mod Enough
-pub mod Happenings
