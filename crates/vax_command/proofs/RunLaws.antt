@@ -33,6 +33,7 @@ use Rattle.vax_machine.specs.Run.{FewTurns, IsLost, IsWhole, Runs, begun, why_of
 use Rattle.vax_machine.specs.Writing.{OnlyWrote, Wrote, WrotePart, both, eviction_line, lines_of, output_of}
 use Rattle.vax_machine.proofs.Halting.{going_on}
 use Rattle.vax_machine.proofs.Tracking.{many_evicted}
+use Rattle.vax_machine.proofs.Unwritten.{writes_suffice}
 use Rattle.vax_machine.specs.Touched.{PinsTouched}
 use Rattle.vax_machine.specs.declared.engine.Engine.{Engine}
 use Rattle.vax_machine.specs.declared.event.Limits.{Limits}
@@ -132,7 +133,7 @@ Told outside setup result = EndsSo outside.sink (Went outside setup) result
 ran_and_read : (setup : Setup) (count : ℕ) (file : BlockFile) (middle last : Option BlockFile) → FewTurns (before_turns setup) (after_turns setup count) → Moved setup.areas (before_turns setup) (after_turns setup count) (Some file) middle → OnlyRead middle last → (setup.items ≡ [] → last ≡ middle) → HasRun setup count file last
 ran_and_read setup count file middle last few moved reads unread =
     let m = moved file refl in
-    record { few = few; between = m.0; moved = m.2; told = reads ∙ ap without_reads m.1; unread = λ none. unread none ∙ m.1 }
+    record { few = few; between = m.0; moved = m.2; needed = λ turn low absent page small clean. writes_suffice (run_of setup) turn absent page small clean; told = reads ∙ ap without_reads m.1; unread = λ none. unread none ∙ m.1 }
 
 -- what the machine did with whatever its page file told
 abbrev pub Did : Setup → Engine → Option BlockFile → RunEnd → Engine → Option BlockFile → (old between : Option Channels) → Type 0
@@ -269,7 +270,7 @@ module _ (outside : Outside) (setup : Setup) (m n : Engine) (f : Starts setup m)
             front = w.front;
             rest = w.rest;
             splits = w.splits;
-          calls = w.calls;
+            calls = w.calls;
             answer = refl;
             wrote = refl;
             blocks = w.moved;
