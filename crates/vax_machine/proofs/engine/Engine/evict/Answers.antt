@@ -62,4 +62,4 @@ returns-else-resident-clause-moves g c =
     )
 
 pub returns-in-Err-clause-moves : goal.returns-in-Err-clause-moves
-returns-in-Err-clause-moves g c = (c.in-Err.ensures.err, c.in-Err.ensures.unwritten)
+returns-in-Err-clause-moves g c = (c.in-Err.ensures.err, c.in-Err.ensures.unwritten, c.in-Err.ensures.needed)
