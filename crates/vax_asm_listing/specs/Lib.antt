@@ -1,0 +1,5 @@
+pub mod Rows
+pub mod View
+pub mod Listing
+pub mod Placings
+pub mod Listed

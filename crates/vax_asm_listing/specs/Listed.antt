@@ -1,0 +1,42 @@
+-- A program's sources, and their listing.
+use Rattle.std.specs.Prelude.{◌≡◌, ℕ, List, [], ◌∷◌, map, Ok}
+use Rattle.std.specs.Global.{Vec}
+use Rattle.vax_asm.specs.Walk.{assembled}
+use Rattle.vax_image.specs.declared.Base.{Base}
+use Rattle.vax_image.specs.declared.Image.{Image}
+use Rattle.vax_link.specs.Layout.{addresses, pieces_of}
+use Rattle.vax_link.specs.Linked.{linked}
+use Rattle.vax_module.specs.declared.Module.{Module}
+use Rattle.vax_asm_listing.specs.Listing.{Part, listing_of}
+use Rattle.vax_asm_listing.specs.Rows.{IsTrace}
+use Rattle.vax_asm_listing.specs.declared.types.Notes.{Notes}
+
+-- the module that a source is, and what its statements leave beside it
+pub record IsTraced (source : List ℕ) (m : Module) (n : Notes) : Type 0 where
+  pub assembles : assembled source ≡ Ok m
+  pub trace : IsTrace (record { «module» = m; notes = n })
+
+abbrev pub AreTraced : List (List ℕ) → List Module → List Notes → Type 0
+AreTraced [] [] [] = Unit {0}
+AreTraced (s ∷ sources) (m ∷ modules) (n ∷ notes) = IsTraced s m n × AreTraced sources modules notes
+AreTraced _ _ _ = ⊥
+
+-- modules with their sources and what these leave, as they are listed
+abbrev pub parts_in : List (List ℕ) → List Module → List Notes → List Part
+parts_in (s ∷ sources) (m ∷ modules) (n ∷ notes) =
+    record { source = s; sections = m.sections; rows = n.rows.items; labels = n.labels.items } ∷ parts_in sources modules notes
+parts_in _ _ _ = []
+
+-- the bytes of files
+abbrev pub texts : List (Vec ℕ) → List (List ℕ)
+texts files = map (λ v. v.items) files
+
+-- The listing of sources for a base: of the modules that they are, and of the image that these are linked to. So the bytes that stand beside a
+-- statement are those that the image has at its address.
+pub record IsListing (region : Base) (sources : List (List ℕ)) (text : List ℕ) : Type 0 where
+  pub modules : List Module
+  pub notes : List Notes
+  pub image : Image
+  pub traced : AreTraced sources modules notes
+  pub links : linked region modules ≡ Ok image
+  pub listed : text ≡ listing_of image.areas (addresses region (pieces_of modules)) (parts_in sources modules notes) image.transfer
