@@ -1,9 +1,9 @@
 // The listing of a program's sources.
 
-ghost use Rattle.std.specs.Prelude.{◌≡◌, ◌≤◌, All, IfOk, Ok, length};
+ghost use Rattle.std.specs.Prelude.{◌≡◌, ◌≤◌, All, IfErr, IfOk, Ok, length};
 ghost use Rattle.vax_link.specs.Linked.{linked};
 ghost use Rattle.vax_module.specs.Formed.{Formed};
-ghost use Rattle.vax_asm_listing.specs.Listed.{AreTraced, IsListing, IsTraced, parts_in, texts};
+ghost use Rattle.vax_asm_listing.specs.Listed.{AreTraced, FileRefuses, FilesRefuse, IsListing, IsTraced, LinkRefuses, Refuses, parts_in, texts};
 ghost use Rattle.vax_asm_listing.specs.Placings.{parts_of};
 
 use crate::tables::listing;
@@ -59,6 +59,7 @@ impl<T: Drop> From<AllocFailed<T>> for ListingError {
 fn trace_file(alloc: Global, file: u8, source: &[u8]) -> Result<Trace, ListingError>
     ensures trace { IfOk result (λ t. IsTraced source.now t.module t.notes) }
     ensures formed { IfOk result (λ t. Formed t.module) }
+    ensures refused { IfErr result (FileRefuses source.now file) }
 {
     match trace(alloc, source) {
         Ok(trace) => Ok(trace),
@@ -73,13 +74,17 @@ fn trace_files(alloc: Global, files: &[Vec<u8>]) -> Result<(Vec<Module>, Vec<Not
     ensures traced { IfOk result (λ x. AreTraced (texts files.now) x.0.items x.1.items) }
     ensures formed { IfOk result (λ x. All Formed x.0.items) }
     ensures count { IfOk result (λ x. length x.0.items ≡ length files.now) }
+    ensures refused { IfErr result (FilesRefuse (texts files.now)) }
 {
     let mut modules = Vec::new(alloc);
     let mut notes = Vec::new(alloc);
     let mut number = 0;
     for file in files {
         number += 1;
-        let trace = trace_file(alloc, number, file)?;
+        let trace = match trace_file(alloc, number, file) {
+            Ok(trace) => trace,
+            Err(error) => return Err(error),
+        };
         modules.push(trace.module)?;
         notes.push(trace.notes)?;
     }
@@ -91,7 +96,8 @@ fn link_modules(alloc: Global, base: Base, modules: &[Module]) -> Result<Image, 
     requires some { 1 ≤ length modules.now }
     requires few { length modules.now ≤ 8 }
     requires formed { All Formed modules.now }
-    ensures { IfOk result (λ image. linked base modules.now ≡ Ok image) }
+    ensures image { IfOk result (λ image. linked base modules.now ≡ Ok image) }
+    ensures refused { IfErr result (LinkRefuses base modules.now) }
 {
     match link(alloc, modules, base) {
         Ok(image) => Ok(image),
@@ -138,10 +144,17 @@ fn parts_in<'a>(
 pub fn list_sources(alloc: Global, base: Base, files: &[Vec<u8>]) -> Result<Vec<u8>, ListingError>
     requires some { 1 ≤ length files.now }
     requires few { length files.now ≤ 8 }
-    ensures { IfOk result (λ text. IsListing base (texts files.now) text.items) }
+    ensures listing { IfOk result (λ text. IsListing base (texts files.now) text.items) }
+    ensures refused { IfErr result (Refuses base (texts files.now)) }
 {
-    let (modules, notes) = trace_files(alloc, files)?;
-    let image = link_modules(alloc, base, &modules)?;
+    let (modules, notes) = match trace_files(alloc, files) {
+        Ok(found) => found,
+        Err(error) => return Err(error),
+    };
+    let image = match link_modules(alloc, base, &modules) {
+        Ok(image) => image,
+        Err(error) => return Err(error),
+    };
     // What has an image has room.
     let Some(places) = addresses(alloc, base, &modules)? else {
         return Err(ListingError::NoMemory);

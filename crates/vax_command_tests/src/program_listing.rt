@@ -32,7 +32,7 @@ const LISTING: &str = "MODULE 1
     10 00000226 04                               RET
     11 00000227                                  .END START
 SECTIONS
-00000200      0 WRT   
+00000200      0 WRT   . BLANK .
 00000200     39 NOWRT CODE
 NAMES
 00000200 REL        MSG
