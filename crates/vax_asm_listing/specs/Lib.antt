@@ -3,3 +3,4 @@ pub mod View
 pub mod Listing
 pub mod Placings
 pub mod Listed
+pub mod Lines

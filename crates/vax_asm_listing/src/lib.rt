@@ -4,6 +4,7 @@
 ghost use Rattle.std.specs.Prelude.{◌≡◌};
 
 mod bytes;
+mod laws;
 mod lines;
 mod names;
 mod program;
@@ -11,6 +12,7 @@ mod tables;
 mod tracing;
 mod types;
 
+pub use laws::rows_are_statements;
 pub use program::{ListingError, list_sources};
 pub use tables::listing;
 pub use tracing::trace;
