@@ -9,14 +9,20 @@ use Rattle.vax_machine.specs.Run.{FewTurns}
 use Rattle.vax_command.specs.Around.{HasFailed, Outside}
 use Rattle.vax_command.specs.Setup.{Setup, after_turns, before_turns}
 
+-- At each of so many turns, whatever was made absent before its attempt, a page to which no attempt had written since it came in has the bytes that were
+-- last written of it, or those at the start.
+abbrev pub AreAsWritten : Setup → (count : ℕ) → Type 0
+AreAsWritten setup count =
+    (turn : ℕ) → turn ≤ count → (absent : List ℕ) → (page : ℕ) → page < 2 ^ 23
+    → IsAsWritten setup.start page (all_evicted absent (after_turns setup turn))
+
 -- A run made so many turns, and few of them in vain. It wrote the pages that were made absent, in order, each to which an attempt had written since
--- it came in, with its bytes at that moment. No other write was needed: any other page has at each moment the bytes that were last written of it, or those
--- at the start. This is what the file tells in the end, but for what was read for the report.
+-- it came in, with its bytes at that moment. No other write was needed. This is what the file tells in the end, but for what was read for the report.
 pub record HasRun (setup : Setup) (count : ℕ) (before : BlockFile) (after : Option BlockFile) : Type 0 where
   pub few : FewTurns (before_turns setup) (after_turns setup count)
   pub between : BlockFile
   pub moved : HasMoved setup.areas (before_turns setup) (after_turns setup count) before between
-  pub needed : (turn : ℕ) → turn ≤ count → (absent : List ℕ) → (page : ℕ) → page < 2 ^ 23 → IsAsWritten setup.start page (all_evicted absent (after_turns setup turn))
+  pub needed : AreAsWritten setup count
   pub told : OnlyRead (Some between) after
   pub unread : setup.items ≡ [] → after ≡ Some between
 

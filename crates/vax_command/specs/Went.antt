@@ -63,7 +63,8 @@ status_of ByTurns = Turns
 -- The limit of turns is too low for the flat machine's run: whenever this is over after some parts, the limit is below 41 for each of them and one for
 -- each eviction of a pinned page. These are no more than the pages that the schedule names for these turns.
 pub record IsTooLow (setup : Setup) (count : ℕ) : Type 0 where
-  pub few : (parts : ℕ) → IsOver setup.limits.steps (stage setup.start parts) → setup.limits.turns < 41 * parts + (after_turns setup count).residence.spoiled
+  pub few : (parts : ℕ) → IsOver setup.limits.steps (stage setup.start parts)
+      → setup.limits.turns < 41 * parts + (after_turns setup count).residence.spoiled
   pub spoiled : (after_turns setup count).residence.spoiled ≤ pages_due setup.areas (due setup.rules) count
 
 -- A run stopped by itself. First where it is in the flat machine's run from its start: by an ending or at the limit of steps it is the whole of it.
