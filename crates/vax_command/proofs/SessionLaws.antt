@@ -148,7 +148,7 @@ module _ (outside : Outside) (limits : Limits) (rules : List Rule) (lines : List
       record {
         meant = Turns;
         grown = broken_off replies w.place n.steps last.Turns;
-        so = inr (inl (record { front = c.front; back = c.back; splits = c.splits; at = record { sink = mid.told; goes = record { machine = n; holds = holds_from outside frames start limits rules lines m n file mid.told session_end.Turns f made }; place = w.place; means = w.means }; on_the_way = w.goes; told = within_wrote _ _ replies w; enough = enough file outside.pages.after.told c.out.reached took; unspoiled = unspoiled file outside.pages.after.told took; going = not_ended outside.pages.after.told w.place w.means c.out.going; below = c.out.below; few = are_few file outside.pages.after.told w.place w.means c.out.reached took; answer = refl; wrote = refl }));
+        so = inr (inl (record { front = c.front; back = c.back; splits = c.splits; at = record { sink = mid.told; goes = record { machine = n; holds = holds_from outside frames start limits rules lines m n file mid.told session_end.Turns f made }; place = w.place; means = w.means }; on_the_way = w.goes; told = within_wrote _ _ replies w; too_low = enough file outside.pages.after.told c.out.reached took; unspoiled = unspoiled file outside.pages.after.told took; going = not_ended outside.pages.after.told w.place w.means c.out.going; below = c.out.below; few = are_few file outside.pages.after.told w.place w.means c.out.reached took; answer = refl; wrote = refl }));
         ends = behind _ _ replies last.Turns Turns w quiet ends;
       }
 

@@ -39,7 +39,17 @@ opening_of frames start setting lines = record { start = start; frames = frames;
 abbrev pub opening : Flat → Session
 opening start = record { machine = start; steps = 0 }
 
--- the same by turns: no page is resident
+-- behind the first of its lines, what these replied, and how many steps the next line may make
+abbrev pub session_behind : Opening → List Line → Session
+session_behind o front = session_after o.setting.limits.steps (opening o.start) front
+
+abbrev pub replies_to : Opening → List Line → List ℕ
+replies_to o front = transcript o.setting.limits.steps (opening o.start) front
+
+abbrev pub next_steps : Opening → (front back : List Line) → ℕ
+next_steps o front back = steps_in o.setting.limits.steps (session_behind o front) back
+
+-- before the first line, by turns: no page is resident
 abbrev pub first_stand : Outside → BlockFile → Opening → Stand
 first_stand outside file o = record { at = fresh o.frames o.start; file = Some file; sink = outside.sink.before.told }
 
@@ -58,7 +68,7 @@ pub record GoesTo (outside : Outside) (o : Opening) (file : BlockFile) (end : Se
 -- every line was carried out or refused, but where a write failed before
 pub record IsCarriedOut (outside : Outside) (o : Opening) (file : BlockFile) (status : Status) (grown : Channels) : Type 0 where
   pub answer : status ≡ Done
-  pub wrote : grown ≡ writes (session_after o.setting.limits.steps (opening o.start) o.lines).machine.output (transcript o.setting.limits.steps (opening o.start) o.lines)
+  pub wrote : grown ≡ writes (session_behind o o.lines).machine.output (replies_to o o.lines)
   pub goes : Goes outside o file session_end.Read outside.sink.after.told ⊎ (HasFailed outside.sink × Goes outside o file session_end.WriteFault outside.sink.after.told)
 
 -- what it wrote up to a place, and the report on the machine there
@@ -72,10 +82,10 @@ pub record IsBrokenOff (outside : Outside) (o : Opening) (file : BlockFile) (sta
   pub back : List Line
   pub splits : o.lines ≡ front ++ back
   pub at : GoesTo outside o file session_end.PageFault
-  pub on_the_way : IsOnTheWay (session_after o.setting.limits.steps (opening o.start) front) (steps_in o.setting.limits.steps (session_after o.setting.limits.steps (opening o.start) front) back) at.place at.goes.machine.steps
-  pub told : Grew outside.sink.before.told at.sink (writes (machine_at at.place).output (transcript o.setting.limits.steps (opening o.start) front))
+  pub on_the_way : IsOnTheWay (session_behind o front) (next_steps o front back) at.place at.goes.machine.steps
+  pub told : Grew outside.sink.before.told at.sink (writes (machine_at at.place).output (replies_to o front))
   pub answer : status ≡ PageFault
-  pub wrote : grown ≡ broken_off (transcript o.setting.limits.steps (opening o.start) front) at.place at.goes.machine.steps last.PageFault
+  pub wrote : grown ≡ broken_off (replies_to o front) at.place at.goes.machine.steps last.PageFault
 
 -- Turns up to their limit are few for the parts that were made, up to so many steps and so many units of the next one: with no rule in the schedule, at
 -- most 41 for each part, and 40 more.
@@ -86,22 +96,26 @@ pub record AreFew (limits : Limits) (rules : List Rule) (s : Session) (lines : L
   pub through : LeadsThrough limits.steps s lines steps place parts
   pub few : rules ≡ [] → limits.turns ≤ 41 * parts + 40
 
--- The lines in front were, and the limit of turns came on the way through the steps of the next one, before the machine ended or all were made. It is
--- smaller than 41 for each part of all lines and one for each eviction of a pinned page; with no rule in the schedule there is no such eviction.
+-- the limit of turns is smaller than 41 for each of so many parts and one for each eviction of a pinned page that led to this machine
+abbrev pub IsTooLow : Opening → Engine → ℕ → Type 0
+IsTooLow o m parts = (residence m).spoiled < 2 ^ 64 - 1 → o.setting.limits.turns < 41 * parts + (residence m).spoiled
+
+-- The lines in front were, and the limit of turns came on the way through the steps of the next one, before the machine ended or all were made. It
+-- is too low for the parts of all lines; with no rule in the schedule no pinned page was evicted.
 pub record IsTimedOut (outside : Outside) (o : Opening) (file : BlockFile) (status : Status) (grown : Channels) : Type 0 where
   pub front : List Line
   pub back : List Line
   pub splits : o.lines ≡ front ++ back
   pub at : GoesTo outside o file session_end.Turns
-  pub on_the_way : IsOnTheWay (session_after o.setting.limits.steps (opening o.start) front) (steps_in o.setting.limits.steps (session_after o.setting.limits.steps (opening o.start) front) back) at.place at.goes.machine.steps
-  pub told : Grew outside.sink.before.told at.sink (writes (machine_at at.place).output (transcript o.setting.limits.steps (opening o.start) front))
+  pub on_the_way : IsOnTheWay (session_behind o front) (next_steps o front back) at.place at.goes.machine.steps
+  pub told : Grew outside.sink.before.told at.sink (writes (machine_at at.place).output (replies_to o front))
   pub going : (machine_at at.place).ending ≡ None
-  pub below : at.goes.machine.steps < (session_after o.setting.limits.steps (opening o.start) front).steps + steps_in o.setting.limits.steps (session_after o.setting.limits.steps (opening o.start) front) back
+  pub below : at.goes.machine.steps < (session_behind o front).steps + next_steps o front back
   pub few : AreFew o.setting.limits o.setting.rules (opening o.start) o.lines at.goes.machine.steps (units_done at.place)
-  pub enough : (all : ℕ) → LinesHaveParts o.setting.limits.steps (opening o.start) o.lines all → (residence at.goes.machine).spoiled < 2 ^ 64 - 1 → o.setting.limits.turns < 41 * all + (residence at.goes.machine).spoiled
+  pub too_low : (all : ℕ) → LinesHaveParts o.setting.limits.steps (opening o.start) o.lines all → IsTooLow o at.goes.machine all
   pub unspoiled : o.setting.rules ≡ [] → (residence at.goes.machine).spoiled ≡ 0
   pub answer : status ≡ Turns
-  pub wrote : grown ≡ broken_off (transcript o.setting.limits.steps (opening o.start) front) at.place at.goes.machine.steps last.Turns
+  pub wrote : grown ≡ broken_off (replies_to o front) at.place at.goes.machine.steps last.Turns
 
 -- It is read to its end, or the limit of turns or a failed call of the page file ends it; of what it wrote nothing is said where the page file
 -- doesn't tell its contents.
