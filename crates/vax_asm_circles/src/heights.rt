@@ -108,7 +108,8 @@ fn are_below(
     limit: usize,
 ) -> bool
     requires { AreFirsts (map step_of steps.now) places.now }
-    ensures { result ≡ true → (k : ℕ) → among k numbers.now ≡ true → height heights.now (map step_of steps.now) k < limit }
+    ensures { result ≡ true → (k : ℕ) →
+        among k numbers.now ≡ true → height heights.now (map step_of steps.now) k < limit }
 {
     for number in numbers {
         if height_at(heights, place(places, steps, *number)) >= limit {

@@ -27,7 +27,8 @@ fn meet_all(
     numbers: &[usize],
 ) -> Result<(), NoMemory>
     requires { IsDistinct nat_eq met.old.keys }
-    ensures { OnOk result (Met numbers.now met.old.keys work.old.items met.new.keys work.new.items) }
+    ensures { OnOk result
+        (Met numbers.now met.old.keys work.old.items met.new.keys work.new.items) }
 {
     for number in numbers {
         if met.insert(*number).map_err(|_| NoMemory)? {

@@ -3,7 +3,6 @@
 ghost use Rattle.std.specs.Prelude.{◌≡◌, ◌≤◌, ◌<◌, ◌^◌, All, IfOk, IfSome, OnOk, Ok, length};
 ghost use Rattle.vax_asm_data.specs.Data.{align_stated, boundary, boundary_named, boundary_of, even_stated, power, room, space_stated, unless_here};
 ghost use Rattle.vax_lex.specs.Tokens.{IsTokenOf};
-ghost use Rattle.vax_asm_first.specs.Standing.{with_scope};
 ghost use Rattle.vax_asm_first.specs.View.{counted_of, site_seen, standing_of, Stands, ChangesScope, States};
 ghost use Rattle.vax_asm_scope.specs.Kept.{scope_of};
 

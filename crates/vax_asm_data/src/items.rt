@@ -4,7 +4,7 @@ ghost use Rattle.std.specs.Prelude.{◌≡◌, ◌<◌, ◌^◌, ℕ, List, All,
 ghost use Rattle.vax_asm_data.specs.Data.{fixed, item_as, item_stated, items_stated, data_stated, addresses_stated};
 ghost use Rattle.vax_lex.specs.Tokens.{IsTokenOf};
 ghost use Rattle.vax_asm_first.specs.Progress.{begun, site_of};
-ghost use Rattle.vax_asm_first.specs.View.{filling_of, progress_of, site_seen, standing_of, Stands, Advances, States};
+ghost use Rattle.vax_asm_first.specs.View.{filling_of, progress_of, site_seen, standing_of, Advances, States};
 ghost use Rattle.vax_asm_statement.specs.Items.{item_seen, whole};
 ghost use Rattle.vax_asm_statement.specs.Parts.{parts};
 ghost use Rattle.vax_asm_statement.specs.Within.{ItemWithin};

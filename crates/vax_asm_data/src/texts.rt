@@ -5,7 +5,7 @@ ghost use Rattle.vax_asm_data.specs.Data.{before_pieces, behind_pieces, characte
 ghost use Rattle.vax_asm_data.specs.View.{ending_of};
 ghost use Rattle.vax_lex.specs.Tokens.{IsTokenOf};
 ghost use Rattle.vax_asm_first.specs.Progress.{site_of};
-ghost use Rattle.vax_asm_first.specs.View.{progress_of, site_seen, standing_of, Stands, Advances, States};
+ghost use Rattle.vax_asm_first.specs.View.{progress_of, site_seen, standing_of, Advances, States};
 ghost use Rattle.vax_asm_statement.specs.Items.{piece_seen};
 ghost use Rattle.vax_asm_statement.specs.Within.{PieceWithin};
 

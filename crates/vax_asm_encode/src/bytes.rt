@@ -1,7 +1,6 @@
 // The bytes of operands and data.
 
-ghost use Rattle.std.specs.Prelude.{◌≡◌, ◌++◌, ◌∷◌, [], ◌<◌, ◌≤◌, ℕ, true, OnOk};
-ghost use Rattle.vax_flat.specs.Grammar.{Place};
+ghost use Rattle.std.specs.Prelude.{◌≡◌, ◌++◌, ◌∷◌, [], ◌<◌, ◌≤◌, true, OnOk};
 ghost use Rattle.vax_isa.specs.Rows.{IsKind};
 ghost use Rattle.vax_asm_encode.specs.Operands.{width_of, base_stands, field_of, may_stand};
 ghost use Rattle.vax_asm_encode.specs.Bytes.{low_bytes, base_byte, base_width, displacement_mode, operand_bytes, HoldsIn, IsReadBack};
@@ -85,7 +84,8 @@ fn base_width(base: Base) -> u8
 
 fn write_base(out: &mut Vec<u8>, base: Base, number: u64) -> Result<(), NoMemory>
     requires { base_stands base ≡ true }
-    ensures { OnOk result (out.new.items ≡ out.old.items ++ base_byte base ∷ low_bytes (base_width base) number) }
+    ensures { OnOk result (out.new.items
+        ≡ out.old.items ++ base_byte base ∷ low_bytes (base_width base) number) }
 {
     push(out, base_byte(base))?;
     write_number(out, base_width(base), number)
@@ -132,7 +132,8 @@ pub fn write_operand(
     requires kind { IsKind kind }
     requires stands { may_stand kind operand ≡ true }
     requires holds { HoldsIn (field_of kind operand) number }
-    ensures bytes { OnOk result (out.new.items ≡ out.old.items ++ operand_bytes kind operand number) }
+    ensures bytes { OnOk result (out.new.items
+        ≡ out.old.items ++ operand_bytes kind operand number) }
     // The grammar of operands reads the operand from its bytes.
     ensures read_back { IsReadBack kind operand number }
 {

@@ -1,6 +1,6 @@
 // What a value gives a field.
 
-ghost use Rattle.std.specs.Prelude.{◌≡◌, ◌≤◌, ◌<◌, ◌^◌, ◌+◌, IfOk, IfSome};
+ghost use Rattle.std.specs.Prelude.{◌≡◌, ◌<◌, ◌^◌, ◌+◌, IfOk, IfSome};
 ghost use Rattle.vax_asm_encode.specs.Operands.{width_of};
 ghost use Rattle.vax_asm_encode.specs.Fields.{literal, number, signed, half, displacement, distance, reached, outright, relocated, displacement_reloc, relative_reloc, address, relative, filled};
 ghost use Rattle.vax_asm_encode.specs.Bytes.{Holds, Extends};

@@ -1,6 +1,6 @@
 // Operands without their values.
 
-ghost use Rattle.std.specs.Prelude.{◌≡◌, ◌≤◌};
+ghost use Rattle.std.specs.Prelude.{◌≡◌};
 ghost use Rattle.vax_flat.specs.Operand.{is_result};
 ghost use Rattle.vax_flat.specs.Grammar.{is_read, takes_register};
 ghost use Rattle.vax_asm_encode.specs.Operands.{item_size, item_field, data_size, branch_size, base_field, field_of, base_stands, takes_index, may_stand, takes_branch};

@@ -9,7 +9,6 @@ use Rattle.vax_asm_circles.specs.declared.steps.Step.{Step}
 use Rattle.vax_asm_first.specs.Circles.{origin_at, step_by, steps_by}
 use Rattle.vax_asm_first.specs.View.{assignment_of}
 use Rattle.vax_asm_first.specs.declared.types.Assignment.{Assignment}
-use Rattle.vax_asm_first.specs.declared.types.Origin.{Origin}
 use Rattle.vax_asm_values.specs.View.{meaning_of}
 use Rattle.vax_asm_values.specs.declared.types.Meaning.{Meaning}
 

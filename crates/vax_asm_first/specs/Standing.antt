@@ -1,6 +1,6 @@
 -- What the statements so far leave, and what an expression is where it stands (VAX MACRO and Instruction Set Reference
 -- Manual, "Terms and expressions" and "Location counter").
-use Rattle.std.specs.Prelude.{pos, List, [], Option, Some, None, Result, Ok, Err}
+use Rattle.std.specs.Prelude.{pos, List, Option, Some, None, Result, Ok, Err}
 use Rattle.vax_asm_sections.specs.Layout.{Sections, current_of, at_first}
 use Rattle.vax_asm_sections.specs.declared.types.Refusal.{Refusal}
 use Rattle.vax_lex.specs.Grammar.{Symbol}

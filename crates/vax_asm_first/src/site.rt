@@ -5,8 +5,7 @@ ghost use Rattle.vax_asm_sections.specs.View.{part_of};
 ghost use Rattle.vax_lex.specs.Tokens.{IsTokenOf};
 ghost use Rattle.vax_asm_first.specs.Fixups.{filling_by};
 ghost use Rattle.vax_asm_first.specs.Progress.{added, counted, site_of};
-ghost use Rattle.vax_asm_first.specs.Standing.{with_scope};
-ghost use Rattle.vax_asm_first.specs.View.{counted_of, filling_of, part_seen, progress_of, site_seen, standing_of, Advances, ChangesScope};
+ghost use Rattle.vax_asm_first.specs.View.{counted_of, filling_of, part_seen, site_seen, standing_of, Advances, ChangesScope};
 ghost use Rattle.vax_asm_scope.specs.Kept.{scope_of};
 ghost use Rattle.vax_asm_values.specs.View.{written_of};
 

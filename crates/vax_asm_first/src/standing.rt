@@ -5,7 +5,7 @@ ghost use Rattle.vax_asm_sections.specs.Layout.{current_of, put, aligned};
 ghost use Rattle.vax_asm_sections.specs.View.{part_of};
 ghost use Rattle.vax_lex.specs.Grammar.{symbols_of};
 ghost use Rattle.vax_lex.specs.Tokens.{IsTokenOf};
-ghost use Rattle.vax_asm_first.specs.Standing.{at_start, here_in, told, unless_certain, with_scope, with_sections};
+ghost use Rattle.vax_asm_first.specs.Standing.{at_start, here_in, told, unless_certain, with_sections};
 ghost use Rattle.vax_asm_first.specs.View.{standing_of, told_of, part_seen, Alters, ChangesScope};
 ghost use Rattle.vax_asm_scope.specs.Kept.{scope_of};
 ghost use Rattle.vax_asm_values.specs.Certain.{certain};

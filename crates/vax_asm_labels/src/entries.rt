@@ -3,9 +3,9 @@
 ghost use Rattle.std.specs.Prelude.{◌≡◌, ◌<◌, ◌^◌, All, IfOk, None, OnOk, Some, if◌then◌else◌, length, option_map, true};
 ghost use Rattle.vax_lex.specs.KeptNames.{kept_name};
 ghost use Rattle.vax_lex.specs.Tokens.{IsTokenOf};
-ghost use Rattle.vax_asm_labels.specs.Naming.{appears, begins_at, end_stated, entry_by, entry_named, entry_stated, named, names_from, names_stated, symbol_stated};
+ghost use Rattle.vax_asm_labels.specs.Naming.{appears, begins_at, end_stated, entry_named, entry_stated, names_from, names_stated, symbol_stated};
 ghost use Rattle.vax_asm_first.specs.Progress.{after_change, done_by};
-ghost use Rattle.vax_asm_first.specs.View.{progress_of, site_seen, standing_of, Stands, States};
+ghost use Rattle.vax_asm_first.specs.View.{progress_of, site_seen, standing_of, States};
 ghost use Rattle.vax_asm_scope.specs.Kept.{scope_of};
 ghost use Rattle.vax_asm_statement.specs.Parts.{parts};
 

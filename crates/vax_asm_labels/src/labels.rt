@@ -3,7 +3,7 @@
 ghost use Rattle.std.specs.Prelude.{◌≡◌, OnOk, true};
 ghost use Rattle.vax_lex.specs.Tokens.{IsTokenOf};
 ghost use Rattle.vax_asm_labels.specs.Naming.{label_stated, local_stated, named_label, shared, symbol_stated};
-ghost use Rattle.vax_asm_first.specs.View.{standing_of, Changes, Alters};
+ghost use Rattle.vax_asm_first.specs.View.{Alters};
 ghost use Rattle.vax_asm_scope.specs.Kept.{scope_of};
 ghost use Rattle.vax_asm_statement.specs.Tokens.{is_name_token};
 

@@ -1,6 +1,6 @@
 // Names as operands.
 
-ghost use Rattle.std.specs.Prelude.{◌≡◌, All, IfSome, true, option_map};
+ghost use Rattle.std.specs.Prelude.{◌≡◌, All, true, option_map};
 ghost use Rattle.vax_lex.specs.KeptNames.{kept_name};
 ghost use Rattle.vax_lex.specs.Tokens.{IsTokenOf};
 ghost use Rattle.vax_asm_labels.specs.Naming.{is_place, name_in, name_of};

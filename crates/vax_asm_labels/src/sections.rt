@@ -3,9 +3,9 @@
 ghost use Rattle.std.specs.Prelude.{◌≡◌, ◌<◌, ◌^◌, All, IfSome, Some, length, map, option_map};
 ghost use Rattle.vax_lex.specs.KeptNames.{kept_name};
 ghost use Rattle.vax_lex.specs.Tokens.{IsTokenOf};
-ghost use Rattle.vax_asm_labels.specs.Naming.{attribute_at, attributes_from, nothing_said, same, section_by, section_chosen, section_stated, with_align, with_attribute, with_write};
+ghost use Rattle.vax_asm_labels.specs.Naming.{attribute_at, attributes_from, nothing_said, section_chosen, section_stated, with_align, with_attribute, with_write};
 ghost use Rattle.vax_asm_labels.specs.Within.{Within};
-ghost use Rattle.vax_asm_first.specs.View.{standing_of, Stands, States};
+ghost use Rattle.vax_asm_first.specs.View.{States};
 ghost use Rattle.vax_asm_statement.specs.Directives.{attribute_of};
 ghost use Rattle.vax_asm_statement.specs.Parts.{parts};
 

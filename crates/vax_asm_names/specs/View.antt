@@ -25,6 +25,10 @@ abbrev pub Leaves : Result Unit Duplicate → specs.Names → specs.Names → Re
 Leaves (Ok done) before after r = r ≡ Ok after
 Leaves (Err e) before after r = (r ≡ Err e) × (after ≡ before)
 
+-- a call changes the names so, or leaves them as before
+abbrev pub Alters : (specs.Names → Result specs.Names Duplicate) → Result Unit Duplicate → (old new : NameTable) → Type 0
+Alters meant result old new = Leaves result (names_of old) (names_of new) (meant (names_of old))
+
 -- the local label is this one; or it is a second one, and the names are as before
 abbrev pub Labels : Result Local LabelError → List ℕ → specs.Names → specs.Names → Result Local Duplicate → Type 0
 Labels (Ok l) text before after r = (r ≡ Ok l) × (after ≡ specs.with_local text l before)

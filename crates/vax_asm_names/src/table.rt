@@ -1,9 +1,9 @@
 // The table of names.
 
-ghost use Rattle.std.specs.Prelude.{◌≡◌, ◌<◌, ◌+◌, ◌++◌, ◌∷◌, [], Some, IfOk, OnOk, OnErr, IfSome, length, map, option_map};
+ghost use Rattle.std.specs.Prelude.{◌≡◌, ◌<◌, ◌+◌, ◌++◌, ◌∷◌, [], Some, IfOk, OnOk, OnErr, IfSome, length, map};
 ghost use Rattle.vax_asm_names.specs.ByName.{by_name, with_entry};
 ghost use Rattle.vax_asm_names.specs.Names.{no_names, with_name, labelled, assigned, made_global, name_at, with_change, changed, used_locally, labelled_locally, with_local, without_locals};
-ghost use Rattle.vax_asm_names.specs.View.{name_of, names_of, Becomes, Leaves, Labels};
+ghost use Rattle.vax_asm_names.specs.View.{name_of, names_of, Alters, Becomes, Labels};
 ghost use Rattle.vax_asm_names.specs.Names.{with_use};
 
 use crate::types::{DefinedBy, Duplicate, LabelError, Local, Name, NameTable};
@@ -25,7 +25,8 @@ fn put<X: Drop>(
     text: &[u8],
     what: X,
 ) -> Result<(), NoMemory>
-    ensures put { OnOk result (by_name map.new ≡ with_entry text.now (Some what) (by_name map.old)) }
+    ensures put { OnOk result (by_name map.new
+        ≡ with_entry text.now (Some what) (by_name map.old)) }
     ensures kept { OnErr result (by_name map.new ≡ by_name map.old) }
 {
     let key = copied(alloc, text)?;
@@ -62,7 +63,8 @@ fn labelled(local: Option<Local>, fresh: usize) -> Result<Local, Duplicate>
 
 impl Name {
     fn label(&mut self) -> Result<(), Duplicate>
-        ensures { Becomes result (name_of self.old) (name_of self.new) (labelled (name_of self.old)) }
+        ensures { Becomes result
+            (name_of self.old) (name_of self.new) (labelled (name_of self.old)) }
     {
         match self.defined_by {
             DefinedBy::Nothing => {
@@ -74,7 +76,8 @@ impl Name {
     }
 
     fn assign(&mut self, fresh: usize) -> Result<(), Duplicate>
-        ensures { Becomes result (name_of self.old) (name_of self.new) (assigned fresh (name_of self.old)) }
+        ensures { Becomes result
+            (name_of self.old) (name_of self.new) (assigned fresh (name_of self.old)) }
     {
         match self.defined_by {
             DefinedBy::Nothing => {
@@ -130,7 +133,8 @@ impl NameTable {
     /// A name appears for the first time. Its first definition, which is to come, gets this number.
     #[tactic(auto, using(crate::proofs::Changing::name_added))]
     pub fn add(&mut self, alloc: Global, text: &[u8], definition: usize) -> Result<(), NoMemory>
-        ensures { OnOk result (names_of self.new ≡ with_name text.now definition (names_of self.old)) }
+        ensures { OnOk result (names_of self.new
+            ≡ with_name text.now definition (names_of self.old)) }
     {
         let name = Name {
             text: copied(alloc, text)?,
@@ -150,7 +154,8 @@ impl NameTable {
     #[tactic(auto, using(crate::proofs::Changing::one_becomes))]
     pub fn label(&mut self, number: usize) -> Result<(), Duplicate>
         requires { number < length (names_of self.old).all }
-        ensures { Leaves result (names_of self.old) (names_of self.new) (changed number (names_of self.old) (labelled (name_at (names_of self.old).all number))) }
+        ensures { Alters (λ n. changed number n (labelled (name_at n.all number)))
+            result self.old self.new }
     {
         self.names[number].label()
     }
@@ -162,7 +167,8 @@ impl NameTable {
     #[tactic(auto, using(crate::proofs::Changing::one_becomes))]
     pub fn assign(&mut self, number: usize, fresh: usize) -> Result<(), Duplicate>
         requires { number < length (names_of self.old).all }
-        ensures { Leaves result (names_of self.old) (names_of self.new) (changed number (names_of self.old) (assigned fresh (name_at (names_of self.old).all number))) }
+        ensures { Alters (λ n. changed number n (assigned fresh (name_at n.all number)))
+            result self.old self.new }
     {
         self.names[number].assign(fresh)
     }
@@ -171,7 +177,8 @@ impl NameTable {
     #[tactic(auto, using(crate::proofs::Changing::one_is_global))]
     pub fn make_global(&mut self, number: usize)
         requires { number < length (names_of self.old).all }
-        ensures { names_of self.new ≡ with_change number (names_of self.old) (made_global (name_at (names_of self.old).all number)) }
+        ensures { names_of self.new ≡ with_change number (names_of self.old)
+            (made_global (name_at (names_of self.old).all number)) }
     {
         self.names[number].make_global();
     }
@@ -194,8 +201,10 @@ impl NameTable {
 
     /// A local label is used. Where it appears for the first time in its block, its definition, which is to come, gets this number.
     pub fn use_local(&mut self, alloc: Global, text: &[u8], fresh: usize) -> Result<Local, NoMemory>
-        ensures local { IfOk result (λ l. l ≡ used_locally fresh ((names_of self.old).locals text.now)) }
-        ensures names { IfOk result (λ l. names_of self.new ≡ with_use text.now l ((names_of self.old).locals text.now) (names_of self.old)) }
+        ensures local { IfOk result (λ l. l
+            ≡ used_locally fresh ((names_of self.old).locals text.now)) }
+        ensures names { IfOk result (λ l. names_of self.new
+            ≡ with_use text.now l ((names_of self.old).locals text.now) (names_of self.old)) }
     {
         if let Some(local) = self.local(text) {
             return Ok(local);
@@ -218,7 +227,8 @@ impl NameTable {
         text: &[u8],
         fresh: usize,
     ) -> Result<Local, LabelError>
-        ensures { Labels result text.now (names_of self.old) (names_of self.new) (labelled_locally fresh ((names_of self.old).locals text.now)) }
+        ensures { Labels result text.now (names_of self.old)
+            (names_of self.new) (labelled_locally fresh ((names_of self.old).locals text.now)) }
     {
         let Ok(local) = labelled(self.local(text), fresh) else {
             return Err(LabelError::Duplicate);

@@ -1,7 +1,6 @@
 // Names, and what they mean where they stand.
 
-ghost use Rattle.std.specs.Prelude.{◌≡◌, ◌<◌, ◌++◌, ◌∷◌, [], if◌then◌else◌, All, IfOk, OnOk, codes, length, map};
-ghost use Rattle.std.specs.Str.{bytes_eq};
+ghost use Rattle.std.specs.Prelude.{◌≡◌, ◌<◌, ◌++◌, ◌∷◌, [], if◌then◌else◌, All, IfOk, OnOk, length, map};
 ghost use Rattle.vax_lex.specs.Grammar.{symbol_of, symbols_of};
 ghost use Rattle.vax_lex.specs.Tokens.{IsTokenOf};
 ghost use Rattle.vax_asm_names.specs.View.{name_of};

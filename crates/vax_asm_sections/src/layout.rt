@@ -68,7 +68,8 @@ fn is_too_long(size: u32, total: u32, more: u32) -> bool
 impl<F> Building<F> {
     fn add(&mut self, more: u32, piece: Piece<F>) -> Result<(), AllocFailed<Piece<F>>>
         requires { self.old.size + more ≤ 1048576 }
-        ensures longer { OnOk result (section_of self.new ≡ longer more (part_of piece) (section_of self.old)) }
+        ensures longer { OnOk result (section_of self.new
+            ≡ longer more (part_of piece) (section_of self.old)) }
         ensures named { self.new.name ≡ self.old.name }
     {
         self.pieces.push(piece)?;
@@ -112,7 +113,8 @@ fn add_number(
     name: &[u8],
     number: usize,
 ) -> Result<(), AllocError>
-    ensures added { OnOk result (by_name numbers.new ≡ with_entry name.now (Some number) (by_name numbers.old)) }
+    ensures added { OnOk result (by_name numbers.new
+        ≡ with_entry name.now (Some number) (by_name numbers.old)) }
     ensures kept { OnErr result (by_name numbers.new ≡ by_name numbers.old) }
 {
     let name = copied(alloc, name)?;
@@ -171,7 +173,8 @@ impl<F> Layout<F> {
     fn add(&mut self, more: u32, piece: Piece<F>) -> Result<(), AllocFailed<Piece<F>>>
         requires section { (current_of (sections_of self.old)).size + more ≤ 1048576 }
         requires total { self.old.total + more < 2 ^ 32 }
-        ensures { OnOk result (sections_of self.new ≡ with_part more (part_of piece) (sections_of self.old)) }
+        ensures { OnOk result (sections_of self.new
+            ≡ with_part more (part_of piece) (sections_of self.old)) }
     {
         self.sections[self.current].add(more, piece)?;
         self.total += more;
@@ -194,7 +197,8 @@ impl<F> Layout<F> {
     pub fn put(&mut self, more: u32, piece: Piece<F>) -> Result<(), Refusal>
     where
         F: Drop,
-        ensures { Leaves result self.old self.new (put more (part_of piece) (sections_of self.old)) }
+        ensures { Leaves
+            result self.old self.new (put more (part_of piece) (sections_of self.old)) }
     {
         if is_too_long(self.current().size, self.total, more) {
             return Err(Refusal::TooLong);
@@ -246,7 +250,8 @@ impl<F> Layout<F> {
         F: Drop,
         requires align { IfSome attributes.align (λ k. k ≤ 9) }
         requires new { numbered 0 name.now (sections_of self.old).all ≡ None }
-        ensures { Leaves result self.old self.new (begun name.now attributes (sections_of self.old) None) }
+        ensures { Leaves
+            result self.old self.new (begun name.now attributes (sections_of self.old) None) }
     {
         let number = self.sections.len();
         let copy = copied(alloc, name).map_err(|_| Refusal::NoMemory)?;
@@ -274,7 +279,8 @@ impl<F> Layout<F> {
     where
         F: Drop,
         requires { IfSome attributes.align (λ k. k ≤ 9) }
-        ensures { Leaves result self.old self.new (selected name.now attributes (sections_of self.old)) }
+        ensures { Leaves
+            result self.old self.new (selected name.now attributes (sections_of self.old)) }
     {
         match self.number_of(name) {
             Some(i) => self.go_back(i, attributes),

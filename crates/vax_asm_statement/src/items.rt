@@ -67,7 +67,8 @@ fn split_item<'a>(tokens: &'a [Token]) -> Item<'a>
 pub fn read_item<'a>(tokens: &'a [Token]) -> Item<'a>
     ensures item { item_seen result ≡ item_of tokens.now }
     // It is made of the tokens.
-    ensures within { (line : List ℕ) → All (IsTokenOf line) tokens.now → ItemWithin line (item_of tokens.now) }
+    ensures within { (line : List ℕ) →
+        All (IsTokenOf line) tokens.now → ItemWithin line (item_of tokens.now) }
 {
     split_item(tokens)
 }
@@ -151,7 +152,8 @@ pub fn pieces<'a>(alloc: Global, tokens: &'a [Token]) -> Result<Option<Vec<Piece
     requires { length tokens.now < 2 ^ 32 }
     ensures pieces { IfOk result (λ o. pieces_seen o ≡ pieces_of tokens.now) }
     // They are made of the tokens.
-    ensures within { (line : List ℕ) → All (IsTokenOf line) tokens.now → IfSome (pieces_of tokens.now) (All (PieceWithin line)) }
+    ensures within { (line : List ℕ) →
+        All (IsTokenOf line) tokens.now → IfSome (pieces_of tokens.now) (All (PieceWithin line)) }
 {
     split_pieces(alloc, tokens)
 }

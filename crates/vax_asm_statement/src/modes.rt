@@ -1,6 +1,6 @@
 // The addressing modes, as they are written.
 
-ghost use Rattle.std.specs.Prelude.{◌≡◌, ◌<◌, ◌≤◌, ◌-◌, ◌+◌, true, [], All, IfSome, length, take, drop};
+ghost use Rattle.std.specs.Prelude.{◌≡◌, ◌<◌, ◌≤◌, ◌-◌, ◌+◌, true, [], All, IfSome, length};
 ghost use Rattle.vax_lex.specs.Tokens.{IsTokenOf};
 ghost use Rattle.vax_asm_statement.specs.Modes.{register_token, between, enclosed_last, register_deferred, incremented, decremented, register_alone, letter_of, prefix_letter, size_named, size_before, addressed, perhaps_sized, deferred_form, is_prefixed, is_hashed, register_form, direct_form, unindexed, operand_of, form_seen, seen};
 

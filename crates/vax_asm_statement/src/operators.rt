@@ -1,6 +1,6 @@
 // The operands of a statement.
 
-ghost use Rattle.std.specs.Prelude.{◌≡◌, ◌≤◌, ◌<◌, ◌^◌, ℕ, List, [], All, IfOk, length, map};
+ghost use Rattle.std.specs.Prelude.{◌≡◌, ◌<◌, ◌^◌, ℕ, List, [], All, IfOk, length, map};
 ghost use Rattle.vax_asm_statement.specs.Parts.{depth_after, separates, split_from, parts};
 ghost use Rattle.vax_lex.specs.Tokens.{IsTokenOf};
 
@@ -54,7 +54,8 @@ pub fn parts<'a>(alloc: Global, tokens: &'a [Token]) -> Result<Vec<&'a [Token]>,
     requires { length tokens.now < 2 ^ 32 }
     ensures parts { IfOk result (λ v. map (λ s. s.now) v.items ≡ parts tokens.now) }
     // They are made of the tokens.
-    ensures within { (line : List ℕ) → All (IsTokenOf line) tokens.now → All (All (IsTokenOf line)) (parts tokens.now) }
+    ensures within { (line : List ℕ) →
+        All (IsTokenOf line) tokens.now → All (All (IsTokenOf line)) (parts tokens.now) }
 {
     if tokens.is_empty() {
         Ok(Vec::new(alloc))

@@ -5,7 +5,7 @@ ghost use Rattle.vax_lex.specs.Tokens.{IsTokenOf};
 ghost use Rattle.vax_asm_statement.specs.Within.{Within};
 ghost use Rattle.vax_asm_statement.specs.Reading.{doubled, behind_marks, headed, operation, parsed, body_seen, statement_seen, head_seen};
 
-use crate::tokens::{begins_with, is_mark, is_name_token};
+use crate::tokens::{is_mark, is_name_token};
 use vax_lex::Token;
 
 /// The name before `:`.
@@ -119,7 +119,8 @@ fn operation<'a>(tokens: &'a [Token]) -> Body<'a>
 pub fn read_statement<'a>(tokens: &'a [Token]) -> Statement<'a>
     ensures statement { statement_seen result ≡ parsed tokens.now }
     // Its parts are made of the tokens.
-    ensures within { (line : List ℕ) → All (IsTokenOf line) tokens.now → Within line (parsed tokens.now) }
+    ensures within { (line : List ℕ) →
+        All (IsTokenOf line) tokens.now → Within line (parsed tokens.now) }
 {
     if let Some(head) = headed(b':', tokens) {
         let label = Label {

@@ -1,6 +1,6 @@
 // Tokens and their bytes.
 
-ghost use Rattle.std.specs.Prelude.{◌≡◌, ◌<◌, ◌≤◌, ◌+◌, true, length, IfSome};
+ghost use Rattle.std.specs.Prelude.{◌≡◌, ◌<◌, true, length};
 ghost use Rattle.vax_lex.specs.Tokens.{IsTokenOf, token_text};
 ghost use Rattle.vax_asm_statement.specs.Tokens.{is_mark, begins_with, is_name_token, is_text_token};
 

@@ -1,6 +1,6 @@
 // How values come to be known.
 
-ghost use Rattle.std.specs.Prelude.{◌≡◌, ◌<◌, ◌≤◌, ◌+◌, ◌++◌, ◌∷◌, [], All, IfOk, OnOk, length, map, true, slice_set, option_map, nat_lt, ◌&&◌};
+ghost use Rattle.std.specs.Prelude.{◌≡◌, ◌<◌, ◌≤◌, ◌+◌, ◌++◌, ◌∷◌, [], All, OnOk, length, map, true, slice_set, option_map, nat_lt, ◌&&◌};
 ghost use Rattle.std.specs.Str.{bytes_eq};
 ghost use Rattle.vax_asm_values.specs.Certain.{certain};
 ghost use Rattle.vax_asm_values.specs.Values.{named, worth, source_at, value_under, ToCome as to_come};
@@ -84,7 +84,8 @@ fn wait_for_all(
 ) -> Result<(), NoMemory>
     requires { All (λ m. m.definition < length waiting.old.items) names.now }
     ensures grown { OnOk result (Grown (lists_in waiting.old) (lists_in waiting.new)) }
-    ensures listed { OnOk result (All (λ m. listed number (waiters (lists_in waiting.new) m.definition) ≡ true) names.now) }
+    ensures listed { OnOk result
+        (All (λ m. listed number (waiters (lists_in waiting.new) m.definition) ≡ true) names.now) }
     ensures length { length waiting.new.items ≡ length waiting.old.items }
 {
     for meaning in names {
@@ -129,7 +130,8 @@ impl Board {
     }
 
     pub(crate) fn is_to_come(&self, number: usize) -> bool
-        ensures { result ≡ (nat_lt number (length (sources_in self.now.sources)) && is_to_come (source_at (sources_in self.now.sources) number)) }
+        ensures { result ≡ (nat_lt number (length (sources_in self.now.sources))
+            && is_to_come (source_at (sources_in self.now.sources) number)) }
     {
         match self.sources.get(number) {
             Some(Source::ToCome) => true,
@@ -139,7 +141,8 @@ impl Board {
 
     /// Whether a name means a definition that is still to come.
     fn is_open(&self, meaning: &Meaning) -> bool
-        ensures { result ≡ is_to_come (source_at (sources_in self.now.sources) (meaning_of meaning.now).definition) }
+        ensures { result ≡ is_to_come (source_at (sources_in self.now.sources)
+            (meaning_of meaning.now).definition) }
     {
         match self.sources.get(meaning.definition) {
             None | Some(Source::ToCome) => true,
@@ -161,7 +164,8 @@ impl Board {
     }
 
     pub(crate) fn expression(&self, number: usize) -> Option<&Expression>
-        ensures { option_map (λ e. written_of e.now) result ≡ expression_in (source_at (sources_in self.now.sources) number) }
+        ensures { option_map (λ e. written_of e.now) result
+            ≡ expression_in (source_at (sources_in self.now.sources) number) }
     {
         match self.sources.get(number) {
             Some(Source::Worked(expression)) => Some(expression),
@@ -194,7 +198,8 @@ impl Board {
     /// What a definition is worth by the values so far.
     fn worth(&self, number: usize) -> Option<Value>
         requires { number < length (sources_in self.now.sources) }
-        ensures { result ≡ value_under (known self.now.values.items) (source_at (sources_in self.now.sources) number) }
+        ensures { result ≡ value_under (known self.now.values.items)
+            (source_at (sources_in self.now.sources) number) }
     {
         match &self.sources[number] {
             Source::ToCome => None,
@@ -207,11 +212,15 @@ impl Board {
     /// wait for it are to be looked at.
     #[tactic(auto, using(crate::proofs::Stepping::known_already, crate::proofs::Stepping::nothing_new, crate::proofs::Stepping::looked_at, crate::proofs::Stepping::resolved, crate::proofs::Stepping::weight_less))]
     fn look(&mut self, number: usize, work: &mut Vec<usize>) -> Result<(), NoMemory>
-        requires standing { Standing (sources_in self.old.sources) self.old.values.items (lists_in self.old.waiting) (work.old.items ++ number ∷ []) }
+        requires standing { Standing (sources_in self.old.sources)
+            self.old.values.items (lists_in self.old.waiting) (work.old.items ++ number ∷ []) }
         requires values { length self.old.values.items ≡ length self.old.sources.items }
         requires waiting { length self.old.waiting.items ≡ length self.old.sources.items }
-        ensures standing { OnOk result (Standing (sources_in self.new.sources) self.new.values.items (lists_in self.new.waiting) work.new.items) }
-        ensures fewer { OnOk result (weight self.new.values.items (lists_in self.new.waiting) + length work.new.items ≤ weight self.old.values.items (lists_in self.old.waiting) + length work.old.items) }
+        ensures standing { OnOk result (Standing (sources_in self.new.sources)
+            self.new.values.items (lists_in self.new.waiting) work.new.items) }
+        ensures fewer { OnOk result
+            (weight self.new.values.items (lists_in self.new.waiting) + length work.new.items
+            ≤ weight self.old.values.items (lists_in self.old.waiting) + length work.old.items) }
         ensures sources { self.new.sources ≡ self.old.sources }
         ensures waiting { self.new.waiting ≡ self.old.waiting }
         ensures values { length self.new.values.items ≡ length self.old.values.items }
@@ -233,10 +242,12 @@ impl Board {
     /// Looks at a definition, and at all that it makes known.
     #[tactic(auto, using(crate::proofs::Stepping::at_rest))]
     fn settle(&mut self, alloc: Global, first: usize) -> Result<(), NoMemory>
-        requires standing { Standing (sources_in self.old.sources) self.old.values.items (lists_in self.old.waiting) (first ∷ []) }
+        requires standing { Standing (sources_in self.old.sources)
+            self.old.values.items (lists_in self.old.waiting) (first ∷ []) }
         requires values { length self.old.values.items ≡ length self.old.sources.items }
         requires waiting { length self.old.waiting.items ≡ length self.old.sources.items }
-        ensures settled { OnOk result (Settled (sources_in self.new.sources) self.new.values.items (lists_in self.new.waiting)) }
+        ensures settled { OnOk result (Settled (sources_in self.new.sources)
+            self.new.values.items (lists_in self.new.waiting)) }
         ensures sources { self.new.sources ≡ self.old.sources }
         ensures waiting { self.new.waiting ≡ self.old.waiting }
         ensures values { length self.new.values.items ≡ length self.old.values.items }
@@ -256,16 +267,21 @@ impl Board {
         number: usize,
         source: Source,
     ) -> Result<(), NoMemory>
-        requires settled { Settled (sources_in self.old.sources) self.old.values.items (lists_in self.old.waiting) }
+        requires settled { Settled (sources_in self.old.sources)
+            self.old.values.items (lists_in self.old.waiting) }
         requires values { length self.old.values.items ≡ length self.old.sources.items }
         requires waiting { length self.old.waiting.items ≡ length self.old.sources.items }
         requires within { number < length self.old.sources.items }
         requires first { source_at (sources_in self.old.sources) number ≡ to_come }
         requires means { Means (length self.old.sources.items) (source_of source) }
-        ensures settled { OnOk result (Settled (sources_in self.new.sources) self.new.values.items (lists_in self.new.waiting)) }
-        ensures sources { OnOk result (sources_in self.new.sources ≡ slice_set (sources_in self.old.sources) number (source_of source)) }
-        ensures values { OnOk result (length self.new.values.items ≡ length self.new.sources.items) }
-        ensures waiting { OnOk result (length self.new.waiting.items ≡ length self.new.sources.items) }
+        ensures settled { OnOk result (Settled (sources_in self.new.sources)
+            self.new.values.items (lists_in self.new.waiting)) }
+        ensures sources { OnOk result (sources_in self.new.sources
+            ≡ slice_set (sources_in self.old.sources) number (source_of source)) }
+        ensures values { OnOk result (length self.new.values.items
+            ≡ length self.new.sources.items) }
+        ensures waiting { OnOk result (length self.new.waiting.items
+            ≡ length self.new.sources.items) }
     {
         wait(&mut self.waiting, &source, number)?;
         self.sources[number] = source;
@@ -275,13 +291,18 @@ impl Board {
 
     /// One more definition, which is to come.
     pub(crate) fn open(&mut self, alloc: Global) -> Result<(), NoMemory>
-        requires settled { Settled (sources_in self.old.sources) self.old.values.items (lists_in self.old.waiting) }
+        requires settled { Settled (sources_in self.old.sources)
+            self.old.values.items (lists_in self.old.waiting) }
         requires values { length self.old.values.items ≡ length self.old.sources.items }
         requires waiting { length self.old.waiting.items ≡ length self.old.sources.items }
-        ensures settled { OnOk result (Settled (sources_in self.new.sources) self.new.values.items (lists_in self.new.waiting)) }
-        ensures sources { OnOk result (sources_in self.new.sources ≡ sources_in self.old.sources ++ to_come ∷ []) }
-        ensures values { OnOk result (length self.new.values.items ≡ length self.new.sources.items) }
-        ensures waiting { OnOk result (length self.new.waiting.items ≡ length self.new.sources.items) }
+        ensures settled { OnOk result (Settled (sources_in self.new.sources)
+            self.new.values.items (lists_in self.new.waiting)) }
+        ensures sources { OnOk result (sources_in self.new.sources
+            ≡ sources_in self.old.sources ++ to_come ∷ []) }
+        ensures values { OnOk result (length self.new.values.items
+            ≡ length self.new.sources.items) }
+        ensures waiting { OnOk result (length self.new.waiting.items
+            ≡ length self.new.sources.items) }
     {
         add_last(&mut self.sources, Source::ToCome)?;
         add_last(&mut self.values, None)?;

@@ -11,7 +11,8 @@ use vax_space::NoMemory;
 /// One more meaning, the same as this one.
 #[tactic(auto, using(crate::proofs::Copying::meaning_added))]
 fn add_copy(alloc: Global, names: &mut Vec<Meaning>, meaning: &Meaning) -> Result<(), NoMemory>
-    ensures { OnOk result (map meaning_of names.new.items ≡ map meaning_of names.old.items ++ meaning_of meaning.now ∷ []) }
+    ensures { OnOk result (map meaning_of names.new.items
+        ≡ map meaning_of names.old.items ++ meaning_of meaning.now ∷ []) }
 {
     let name = meaning.name.to_vec(alloc).map_err(|_| NoMemory)?;
     let definition = meaning.definition;

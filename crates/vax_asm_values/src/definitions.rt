@@ -62,7 +62,8 @@ impl Definitions {
 
     fn define(&mut self, alloc: Global, number: usize, source: Source) -> Result<(), NoMemory>
         requires means { Means (length (sources_of self.old)) (source_of source) }
-        ensures { OnOk result (sources_of self.new ≡ with_source number (source_of source) (sources_of self.old)) }
+        ensures { OnOk result (sources_of self.new
+            ≡ with_source number (source_of source) (sources_of self.old)) }
     {
         if !self.board.is_to_come(number) {
             return Ok(());
@@ -76,7 +77,8 @@ impl Definitions {
 
     /// A definition that was to come has this value. One that is there already stays.
     pub fn give(&mut self, alloc: Global, number: usize, value: Value) -> Result<(), NoMemory>
-        ensures { OnOk result (sources_of self.new ≡ with_source number (given value) (sources_of self.old)) }
+        ensures { OnOk result (sources_of self.new
+            ≡ with_source number (given value) (sources_of self.old)) }
     {
         self.define(alloc, number, Source::Given(value))
     }
@@ -90,7 +92,8 @@ impl Definitions {
         expression: Expression,
     ) -> Result<(), NoMemory>
         requires means { Means (length (sources_of self.old)) (worked (written_of expression)) }
-        ensures { OnOk result (sources_of self.new ≡ with_source number (worked (written_of expression)) (sources_of self.old)) }
+        ensures { OnOk result (sources_of self.new
+            ≡ with_source number (worked (written_of expression)) (sources_of self.old)) }
     {
         self.define(alloc, number, Source::Worked(expression))
     }
@@ -129,7 +132,8 @@ impl Definitions {
 
     /// The expression that a definition is, if it is one.
     pub fn expression(&self, number: usize) -> Option<&Expression>
-        ensures { option_map (λ e. written_of e.now) result ≡ expression_in (source_at (sources_of self.now) number) }
+        ensures { option_map (λ e. written_of e.now) result
+            ≡ expression_in (source_at (sources_of self.now) number) }
     {
         self.board.expression(number)
     }

@@ -32,7 +32,10 @@ impl Expression {
     /// These tokens of a text, with what the names in them mean.
     pub fn new(text: Rc<Vec<u8>>, tokens: Vec<Token>, names: Vec<Meaning>) -> Expression
         requires { All (IsTokenOf text.value.items) tokens.items }
-        ensures { written_of result ≡ record { symbols = symbols_of text.value.items tokens.items; names = map meaning_of names.items } }
+        ensures { written_of result ≡ record {
+          symbols = symbols_of text.value.items tokens.items;
+          names = map meaning_of names.items;
+        } }
     {
         Expression {
             text,

@@ -34,13 +34,10 @@ fn tells_errors_of_images(rt: HostRuntime) -> Result<(), Fail> {
     test_text(&rt, alloc, &fault, "byte 20: fault 8")?;
     test_text(&rt, alloc, &ImageError::NoMemory, "out of memory")?;
     let rows = [
-        (
-            LinkError::Duplicate(name(alloc)?),
-            "a name is defined twice",
-        ),
+        (LinkError::Duplicate(name(alloc)?), "NAME is defined twice"),
         (
             LinkError::Undefined(name(alloc)?),
-            "a name is defined nowhere",
+            "NAME is defined nowhere",
         ),
         (LinkError::Pages, "the sections have no room"),
         (LinkError::NoTransfer, "the program has no beginning"),

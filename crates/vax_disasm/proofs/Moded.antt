@@ -7,7 +7,7 @@ use Rattle.std.proofs.lemmas.Int.{ints}
 use Rattle.vax_outside.specs.Hex.{hex}
 use Rattle.vax_isa.specs.declared.actions.Narrow.{Narrow}
 use Rattle.vax_isa.specs.declared.actions.Narrow.TheVariants as narrow
-use Rattle.vax_lex.specs.Grammar.{Symbol, symbols_of}
+use Rattle.vax_lex.specs.Grammar.{symbols_of}
 use Rattle.vax_lex.specs.Grammar as symbols
 use Rattle.vax_lex.specs.Expressions.{value_at, term_in, joined_in}
 use Rattle.vax_lex.specs.declared.value.Value.{Value}

@@ -40,7 +40,9 @@ fn push_operands(
     requires few { length kinds.now ≤ 6 }
     requires opcode { 1 ≤ length bytes.now }
     requires room { length text.old.bytes ≤ 6 }
-    ensures { option_map (with_length text.new.bytes) result ≡ option_map (behind 1 text.old.bytes 32 addr) (unreserved (read_operands kinds.now (drop 1 bytes.now))) }
+    ensures { option_map (with_length text.new.bytes) result
+        ≡ option_map (behind 1 text.old.bytes 32 addr)
+        (unreserved (read_operands kinds.now (drop 1 bytes.now))) }
 {
     let mut length = 1;
     let mut separator = ' ';

@@ -1,9 +1,9 @@
 // Operands, read by the grammar of operand specifiers (VAX Architecture Reference Manual, operand specifier addressing mode formats).
 
-ghost use Rattle.std.specs.Prelude.{◌≡◌, ℕ, ◌+◌, ◌<◌, ◌≤◌, ◌^◌, length, option_map, IfSome};
+ghost use Rattle.std.specs.Prelude.{◌≡◌, ◌+◌, ◌<◌, ◌≤◌, ◌^◌, length, option_map, IfSome};
 ghost use Rattle.vax_isa.specs.Rows.{IsKind, IsWidth, IsBranchWidth};
-ghost use Rattle.vax_flat.specs.Operand.{form_of, extended, is_reserved, is_no_base, is_result, reaches_pc};
-ghost use Rattle.vax_flat.specs.Grammar.{value_of_bytes, placed, based, unindexed, incremented, in_a_register, read_form, read_specifier, read_displacement, read_operand, is_read, takes_register};
+ghost use Rattle.vax_flat.specs.Operand.{form_of, extended, is_reserved, is_no_base, is_result};
+ghost use Rattle.vax_flat.specs.Grammar.{value_of_bytes, placed, based, unindexed, incremented, in_a_register, read_form, read_specifier, read_displacement, read_operand};
 ghost use Rattle.vax_disasm.specs.Seen.{width_of, read_seen, specifier_seen, place_seen, found, number_at, placed_by, at_place, bytes_before, literal_reading, IsForm, IsDisplacement, HasPlaceRegisters, IsSound};
 
 use crate::specifier::{Place, Specifier};
@@ -121,7 +121,8 @@ fn found_at(place: Place, index: Option<u8>, more: u8) -> Option<Read>
 fn placed(form: Form, index: Option<u8>, bytes: &[u8]) -> Option<Read>
     requires form { IsForm form }
     requires index { IfSome index (λ x. x < 16) }
-    ensures exact { option_map read_seen result ≡ found (placed form (placed_by index) (bytes_before index) bytes.now) }
+    ensures exact { option_map read_seen result
+        ≡ found (placed form (placed_by index) (bytes_before index) bytes.now) }
     ensures sound { IfSome result IsSound }
 {
     match form {

@@ -100,7 +100,8 @@ fn size_letter(size: Narrow) -> &'static str
 fn push_displaced(text: &mut Text, size: Narrow, displacement: u32, register: u8)
     requires register { register < 16 }
     requires room { length text.old.bytes + 18 ≤ 160 }
-    ensures exact { text.new.bytes ≡ text.old.bytes ++ displaced (width_of size) displacement register }
+    ensures exact { text.new.bytes
+        ≡ text.old.bytes ++ displaced (width_of size) displacement register }
     ensures short { length text.new.bytes ≤ length text.old.bytes + 18 }
 {
     text.push_str(size_letter(size));
@@ -157,7 +158,8 @@ pub(crate) fn push_specifier(text: &mut Text, kind: OperandKind, next: u32, spec
     requires width { IsWidth kind.width }
     requires registers { HasRegisters specifier }
     requires room { length text.old.bytes + 24 ≤ 160 }
-    ensures exact { text.new.bytes ≡ text.old.bytes ++ specifier_text kind next (specifier_seen specifier) }
+    ensures exact { text.new.bytes
+        ≡ text.old.bytes ++ specifier_text kind next (specifier_seen specifier) }
     ensures short { length text.new.bytes ≤ length text.old.bytes + 24 }
 {
     match specifier {

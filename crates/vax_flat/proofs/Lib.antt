@@ -19,6 +19,7 @@ pub mod OperandBounds
 pub mod Bounds
 pub mod Steps
 pub mod Attempts
+pub mod Suspended
 pub mod Parts
 pub mod Results
 pub mod Returned

@@ -1,10 +1,8 @@
 -- A step in parts is the step.
-use Rattle.std.proofs.Common.{◌≡◌, ℕ, zero, suc, ◌+◌, ◌<◌, ◌^◌, ◌/◌, ◌%◌, Bool, true, false, Option, Some, None, List, [], ◌∷◌, length, slice_index, slice_set, length-set, refl, sym, ap, subst, ◌∙◌, inl, inr, arith}
+use Rattle.std.proofs.Common.{◌≡◌, ℕ, zero, suc, ◌<◌, Bool, true, false, Option, Some, None, List, [], ◌∷◌, slice_index, slice_set, refl, sym, ap, subst, ◌∙◌, arith}
 use Rattle.std.specs.Prelude.{nat_lt, if◌then◌else◌}
-use Rattle.std.proofs.lemmas.Bool.{cases_Bool}
 use Rattle.vax_word.specs.declared.Core.{Core}
-use Rattle.vax_word.specs.declared.Psl.{Psl}
-use Rattle.vax_space.specs.declared.Access.TheVariants.{Read, Write}
+use Rattle.vax_space.specs.declared.Access.TheVariants.{Read}
 use Rattle.vax_space.specs.declared.Area.{Area}
 use Rattle.vax_space.specs.declared.Violation.{Violation}
 use Rattle.vax_space.specs.Reference.{violation}
@@ -14,7 +12,6 @@ use Rattle.vax_isa.specs.declared.actions.Text.{Text}
 use Rattle.vax_isa.specs.Rows.{action_of}
 use Rattle.vax_strpart.specs.declared.packing.Progress.{Progress}
 use Rattle.vax_strpart.specs.Packing.{packed, unpacked, IsProper}
-use Rattle.vax_flat.specs.declared.Exception.{Exception}
 use Rattle.vax_flat.specs.declared.Exception.TheVariants as exception
 use Rattle.vax_flat.specs.declared.Flow.{Flow}
 use Rattle.vax_flat.specs.declared.Flow.TheVariants as flow
@@ -26,22 +23,22 @@ use Rattle.vax_flat.specs.Operand.{plus, read_at, fetched}
 use Rattle.vax_flat.specs.Delivery.{interrupt}
 use Rattle.vax_flat.specs.System.{flow_of_delivery}
 use Rattle.vax_flat.specs.Instruction.{acted, acted_if, acted_part, acted_part_if, instruction, first_part}
-use Rattle.vax_flat.specs.Step.{Flat, state_of, level, begun, whole, whole_step, leaf, finished, step, step_from, after_instruction}
-use Rattle.vax_flat.specs.String.{low_registers, with_low, left, suspended, continued, from_registers, IsReady}
+use Rattle.vax_flat.specs.Step.{Flat, state_of, level, begun, whole, whole_step, leaf, step, step_from, after_instruction}
+use Rattle.vax_flat.specs.String.{low_registers, left, suspended, from_registers, IsReady}
 use Rattle.vax_flat.specs.StringOperands as operands
-use Rattle.vax_flat.specs.StringMove.{moved_count}
 use Rattle.vax_flat.specs.StringAgree.{and_rest}
-use Rattle.vax_flat.specs.StringParts.{remaining, remaining_in, resumed, text_part, text_whole}
-use Rattle.vax_flat.specs.Parts.{Partway, Place, At, Within, Completes, Leaves, GoesBy, begun_part, part, part_step, later, later_step, gone_back, left_by, after_part, partway, outcome_at, Turn, turn, turn_from, units_after}
+use Rattle.vax_flat.specs.StringParts.{remaining, remaining_in, resumed}
+use Rattle.vax_flat.specs.Parts.{Partway, Place, At, Within, Completes, Leaves, GoesBy, begun_part, part, later, left_by, after_part, partway, outcome_at, Turn, turn, turn_from, units_after}
 use Rattle.vax_flat.specs.Bound.{IsWhole, LeavesNoPart, is_string}
 use Rattle.vax_flat.proofs.Closed.{leaves_no_part}
 use Rattle.vax_flat.proofs.Windows.{near_here}
 use Rattle.vax_flat.proofs.Bounds.{acted_adds, interrupt_begins, finished_adds}
 use Rattle.vax_flat.proofs.Steps.{whole_leaf}
 use Rattle.vax_flat.proofs.Readings.{IsAtAddress, set_read, with_regs}
-use Rattle.vax_flat.proofs.StringState.{Sixteen, sixteen, is_sixteen, mode_low, continued_suspended, unpacked_suspended}
-use Rattle.vax_flat.proofs.StringGoing.{Family, Seeking, Scanning, Comparing, Moving, Escaping, Matching, only_reads, Holds, IsSound, Goes, Completed, Leaving, Failing, fin, later_of, later_is, all_of, part_of, agrees, goes}
-use Rattle.vax_flat.proofs.StringBeginning.{family_of, opcode_of, resumed_is, IsFresh, Begins, Stopping, Going, Starts, TextBegins, Unread, Read as IsRead, text_begins}
+use Rattle.vax_flat.proofs.StringState.{unpacked_suspended}
+use Rattle.vax_flat.proofs.StringGoing.{Family, only_reads, IsSound, Goes, Completed, Leaving, Failing, fin, later_of, all_of, part_of, agrees}
+use Rattle.vax_flat.proofs.Suspended.{suspended_kept, state_there, kept_low, on, by_registers, sound_on, ready_on, later_part, later_goes}
+use Rattle.vax_flat.proofs.StringBeginning.{family_of, opcode_of, resumed_is, Begins, Stopping, Going, TextBegins, Unread, Read as IsRead, text_begins}
 
 -- The string instruction of this machine is left here: the machine with a progress in its registers. The whole step comes to what remains.
 pub record IsOpen (m : Flat) (opcode : ℕ) (start : Core) (now : Flat) : Type 0 where
@@ -147,76 +144,10 @@ module _ (m : Flat) where
       by true = interrupt_first _ refl
       by false = instruction_first
 
--- what a machine with this core, memory and input place goes on from
-suspended_kept : (q : Progress) (u : State) → ((suspended q u).input ≡ u.input) × ((suspended q u).taken ≡ u.taken) × ((suspended q u).sent ≡ u.sent)
-unfolding suspended left with_low
-suspended_kept q u = (refl, refl, refl)
-
-state_there : (m : Flat) (s : State) (memory : List Area) → s.input ≡ m.input → s.sent ≡ None → state_of (record m { core = s.core; memory = memory; taken = s.taken }) ≡ s
-state_there m s memory input sent k = record { core = s.core; input = sym input k; taken = s.taken; sent = sym sent k }
-
-ready_low_by : (s : State) (regs : List ℕ) (psl : Psl) (xs : List ℕ) → Sixteen regs → slice_index regs 15 < 2 ^ 32 → psl.0 / 2 ^ 27 % 2 ≡ 0 → IsReady (with_low xs (record s { core = record s.core { regs = regs; psl = psl } }))
-unfolding with_low
-ready_low_by s regs psl xs (sixteen a b c d e f g h i j k l m n o p) pc clear = record { full = refl; pc = pc; clear = clear }
-
-ready_low : (s : State) (xs : List ℕ) → IsReady s → IsReady (with_low xs s)
-ready_low s xs ready = ready_low_by s s.core.regs s.core.psl xs (is_sixteen s.core.regs ready.full) ready.pc ready.clear
-
-holds_low : (f : Family) (p : Progress) (s : State) (xs : List ℕ) (m : List Area) → Holds f p s m → Holds f p (with_low xs s) m
-holds_low (Seeking equal) p s xs m h = h
-holds_low (Scanning some) p s xs m h = h
-holds_low Comparing p s xs m h = h
-holds_low (Moving translate) p s xs m h = (
-  h.0,
-  record {
-    source = ap (λ k. violation m p.addr1 (moved_count p) k Read) (mode_low s xs) ∙ h.1.source;
-    table = λ t. ap (λ k. violation m p.table 256 k Read) (mode_low s xs) ∙ h.1.table t;
-    apart = h.1.apart;
-    destination = ap (λ k. violation m p.addr2 p.len2 k Write) (mode_low s xs) ∙ h.1.destination;
-  },
-  h.2,
-)
-holds_low Escaping p s xs m h = (
-  h.0,
-  record {
-    source = ap (λ k. violation m p.addr1 (moved_count p) k Read) (mode_low s xs) ∙ h.1.source;
-    table = λ t. ap (λ k. violation m p.table 256 k Read) (mode_low s xs) ∙ h.1.table t;
-    apart = h.1.apart;
-    destination = ap (λ k. violation m p.addr2 (moved_count p) k Write) (mode_low s xs) ∙ h.1.destination;
-  },
-  h.2,
-)
-holds_low Matching p s xs m h = h
-
-kept_low : (xs : List ℕ) (u : State) → ((with_low xs u).input ≡ u.input) × ((with_low xs u).taken ≡ u.taken) × ((with_low xs u).sent ≡ u.sent)
-unfolding with_low
-kept_low xs u = (refl, refl, refl)
-
--- from registers that were left
-module _ (f : Family) (opcode : ℕ) (q : Progress) (u : State) (memory : List Area) (same : q.op ≡ opcode) (ready : IsReady u) (sound : IsSound f q u memory) where
-  abbrev on : State
-  on = with_low (packed q (low_registers u)) u
-
-  by_registers : (tree : Progress → State → (Flow → State → Accesses Leaf) → Accesses Leaf) → from_registers q.op tree (suspended q u) fin ≡ tree q on fin
-  by_registers tree =
-      ap (λ r. tree r (continued r.delta (suspended q u)) fin) (unpacked_suspended q u ready.full sound.proper)
-      ∙ ap (λ s. tree q s fin) (continued_suspended q u ready sound.short)
-
-  sound_on : IsSound f q on memory
-  sound_on = record { proper = sound.proper; short = sound.short; holds = holds_low f q u (packed q (low_registers u)) memory sound.holds }
-
-  ready_on : IsReady on
-  ready_on = ready_low u (packed q (low_registers u)) ready
-
-  -- the next part, and how it goes
-  later_part : outcome_of (from_registers q.op (later_of f) (suspended q u) fin) memory ≡ outcome_of (part_of f q on fin) memory
-  later_part = ap (λ tree. outcome_of tree memory) (by_registers (later_of f) ∙ later_is f q on memory fin sound_on.holds)
-
-  later_goes : Goes f q on memory (outcome_of (part_of f q on fin) memory)
-  later_goes = goes f q on memory ready_on sound_on
-
-  rest_agrees : outcome_of (from_registers q.op (all_of f) (suspended q u) fin) memory ≡ and_rest (λ v. from_registers q.op (all_of f) v fin) (outcome_of (part_of f q on fin) memory)
-  rest_agrees = ap (λ tree. outcome_of tree memory) (by_registers (all_of f)) ∙ agrees f q on memory ready_on sound_on
+-- the whole from registers that were left is the next part, and the whole behind it
+rest_agrees : (f : Family) (q : Progress) (u : State) (memory : List Area) (ready : IsReady u) (sound : IsSound f q u memory) → outcome_of (from_registers q.op (all_of f) (suspended q u) fin) memory ≡ and_rest (λ v. from_registers q.op (all_of f) v fin) (outcome_of (part_of f q (on f q u memory ready sound) fin) memory)
+rest_agrees f q u memory ready sound =
+    ap (λ tree. outcome_of tree memory) (by_registers f q u memory ready sound (all_of f)) ∙ agrees f q (on f q u memory ready sound) memory (ready_on f q u memory ready sound) (sound_on f q u memory ready sound)
 
 abbrev left_there : Flat → Progress → State → ℕ → List Area → Partway
 left_there m q u units memory = record {
@@ -295,7 +226,7 @@ module _ (m : Flat) where
     f = family_of o.text
 
     abbrev here : State
-    here = on f o.rest.op o.rest o.state p.now.memory refl o.ready o.sound
+    here = on f o.rest o.state p.now.memory o.ready o.sound
 
     later_outcome : outcome_at (Within p) ≡ outcome_of (part_of f o.rest here fin) p.now.memory
     unfolding later
@@ -304,7 +235,7 @@ module _ (m : Flat) where
         ∙ (ap (λ tree. outcome_of tree p.now.memory) (resumed_is o.text (state_of p.now) fin)
         ∙ (ap (λ opcode. outcome_of (from_registers opcode (later_of f) (state_of p.now) fin) p.now.memory) (sym o.is_text)
         ∙ (ap (λ s. outcome_of (from_registers o.rest.op (later_of f) s fin) p.now.memory) o.here
-        ∙ later_part f o.rest.op o.rest o.state p.now.memory refl o.ready o.sound)))
+        ∙ later_part f o.rest o.state p.now.memory o.ready o.sound)))
 
     abbrev back : Flat
     back = record m { memory = p.now.memory }
@@ -313,7 +244,7 @@ module _ (m : Flat) where
     later_turn = ap (λ n. turn_from n p.units (outcome_at (Within p))) (back_is p.now p.start _ o.registers o.begun) ∙ ap (turn_from back p.units) later_outcome
 
     whole_is : (outcome : Outcome Leaf) → outcome_of (part_of f o.rest here fin) p.now.memory ≡ outcome → whole_outcome ≡ and_rest (λ v. from_registers o.rest.op (all_of f) v fin) outcome
-    whole_is outcome is = o.same ∙ (rest_agrees f o.rest.op o.rest o.state p.now.memory refl o.ready o.sound ∙ ap (and_rest (λ v. from_registers o.rest.op (all_of f) v fin)) is)
+    whole_is outcome is = o.same ∙ (rest_agrees f o.rest o.state p.now.memory o.ready o.sound ∙ ap (and_rest (λ v. from_registers o.rest.op (all_of f) v fin)) is)
 
     later_completes : (outcome : Outcome Leaf) → Goes f o.rest here p.now.memory outcome → outcome_of (part_of f o.rest here fin) p.now.memory ≡ outcome → (next : Flat) → m.ending ≡ None → turn_from back p.units outcome ≡ Completes next → step m ≡ next
     later_completes outcome (Completed t memory) is next running e =
@@ -336,7 +267,7 @@ module _ (m : Flat) where
         let taken : o.state.taken ≡ m.taken = sym s.1 ∙ (sym (ap (λ x. x.taken) o.here) ∙ ap (λ n. n.taken) o.registers) in
         let sent : o.state.sent ≡ None = sym s.2 ∙ sym (ap (λ x. x.sent) o.here) in
         subst (λ x. IsOpen m x.opcode x.start x.now) there
-        (opened o.text q here (units_after p.units units) memory (same ∙ o.is_text) (ready_on f o.rest.op o.rest o.state p.now.memory refl o.ready o.sound) sound (k.0 ∙ input) (k.1 ∙ taken) (k.2 ∙ sent)
+        (opened o.text q here (units_after p.units units) memory (same ∙ o.is_text) (ready_on f o.rest o.state p.now.memory o.ready o.sound) sound (k.0 ∙ input) (k.1 ∙ taken) (k.2 ∙ sent)
         (λ reads. kept reads ∙ o.kept reads)
         (whole_is outcome is ∙ ap (λ opcode. outcome_of (from_registers opcode (all_of f) (suspended q here) fin) memory) (sym same)))
 
@@ -349,8 +280,8 @@ module _ (m : Flat) where
       by None open_before e = absurd (cc)
       by (Some q) open_before e =
           let o = open_before q refl in
-          later_opens q o (outcome_of (part_of (family_of o.text) o.rest (on (family_of o.text) o.rest.op o.rest o.state q.now.memory refl o.ready o.sound) fin) q.now.memory)
-          (later_goes (family_of o.text) o.rest.op o.rest o.state q.now.memory refl o.ready o.sound) refl p (sym (ap left_by (later_turn q o)) ∙ e)
+          later_opens q o (outcome_of (part_of (family_of o.text) o.rest (on (family_of o.text) o.rest o.state q.now.memory o.ready o.sound) fin) q.now.memory)
+          (later_goes (family_of o.text) o.rest o.state q.now.memory o.ready o.sound) refl p (sym (ap left_by (later_turn q o)) ∙ e)
 
 -- what remains, by the registers
 low_of : (s : State) → low_registers (record { core = s.core; input = []; taken = 0; sent = None }) ≡ low_registers s
@@ -366,22 +297,22 @@ module _ (m : Flat) (p : Partway) (o : IsOpen m p.opcode p.start p.now) where
       ap (λ opcode. remaining_in opcode p.now.core) o.is_opcode
       ∙ (ap (λ (s : State). remaining_in o.rest.op s.core) o.here ∙ remains o.rest o.state o.ready o.sound.proper)
 
-  leaves_less : (outcome : Outcome Leaf) → Goes (family_of o.text) o.rest (on (family_of o.text) o.rest.op o.rest o.state p.now.memory refl o.ready o.sound) p.now.memory outcome → (next : Partway) → turn_from (record m { memory = p.now.memory }) p.units outcome ≡ Leaves next →
+  leaves_less : (outcome : Outcome Leaf) → Goes (family_of o.text) o.rest (on (family_of o.text) o.rest o.state p.now.memory o.ready o.sound) p.now.memory outcome → (next : Partway) → turn_from (record m { memory = p.now.memory }) p.units outcome ≡ Leaves next →
       remaining_in next.opcode next.now.core < remaining_in p.opcode p.now.core
   leaves_less outcome (Completed t memory) next e = absurd (cc)
   leaves_less outcome (Failing x reads) next e = absurd (cc)
   leaves_less outcome (Leaving q units memory same sound kept less) next e =
-      let here = on (family_of o.text) o.rest.op o.rest o.state p.now.memory refl o.ready o.sound in
+      let here = on (family_of o.text) o.rest o.state p.now.memory o.ready o.sound in
       let there : left_there m q here (units_after p.units units) memory ≡ next = cc in
-      let after : remaining_in q.op (suspended q here).core ≡ remaining q = remains q here (ready_on (family_of o.text) o.rest.op o.rest o.state p.now.memory refl o.ready o.sound) sound.proper in
+      let after : remaining_in q.op (suspended q here).core ≡ remaining q = remains q here (ready_on (family_of o.text) o.rest o.state p.now.memory o.ready o.sound) sound.proper in
       let before = remains_there in
       subst (λ (x : Partway). remaining_in x.opcode x.now.core < remaining_in p.opcode p.now.core) there (subst (λ n. n < remaining_in p.opcode p.now.core) (sym after) (subst (λ n. remaining q < n) (sym before) less))
 
 pub parts_less : (m : Flat) (p next : Partway) → GoesBy m (Within p) → turn (Within p) ≡ Leaves next → remaining_in next.opcode next.now.core < remaining_in p.opcode p.now.core
 parts_less m p next by is =
     let o = open_after m by.0 p by.1 in
-    leaves_less m p o (outcome_of (part_of (family_of o.text) o.rest (on (family_of o.text) o.rest.op o.rest o.state p.now.memory refl o.ready o.sound) fin) p.now.memory)
-    (later_goes (family_of o.text) o.rest.op o.rest o.state p.now.memory refl o.ready o.sound) next (sym (later_turn m p o) ∙ is)
+    leaves_less m p o (outcome_of (part_of (family_of o.text) o.rest (on (family_of o.text) o.rest o.state p.now.memory o.ready o.sound) fin) p.now.memory)
+    (later_goes (family_of o.text) o.rest o.state p.now.memory o.ready o.sound) next (sym (later_turn m p o) ∙ is)
 
 -- whatever the number of its parts, a step in parts comes to the step
 pub turns_agree : (m : Flat) (place : Place) (next : Flat) → m.ending ≡ None → GoesBy m place → turn place ≡ Completes next → step m ≡ next
@@ -389,4 +320,4 @@ turns_agree m (At n) next running same is =
     first_completes m (outcome_at (At m)) (first_is m) next running (ap (λ x. turn (At x)) (sym same) ∙ is)
 turns_agree m (Within p) next running by is =
     let o = open_after m by.0 p by.1 in
-    later_completes m p o (outcome_of (part_of (family_of o.text) o.rest (on (family_of o.text) o.rest.op o.rest o.state p.now.memory refl o.ready o.sound) fin) p.now.memory) (later_goes (family_of o.text) o.rest.op o.rest o.state p.now.memory refl o.ready o.sound) refl next running (sym (later_turn m p o) ∙ is)
+    later_completes m p o (outcome_of (part_of (family_of o.text) o.rest (on (family_of o.text) o.rest o.state p.now.memory o.ready o.sound) fin) p.now.memory) (later_goes (family_of o.text) o.rest o.state p.now.memory o.ready o.sound) refl next running (sym (later_turn m p o) ∙ is)

@@ -1,28 +1,24 @@
 -- At every place within a step the units that are done and those that are left come to the same.
-use Rattle.std.proofs.Common.{◌≡◌, ℕ, zero, suc, ◌+◌, ◌-◌, ◌<◌, ◌≤◌, ◌^◌, ◌/◌, ◌%◌, true, Option, Some, None, List, slice_index, refl, sym, ap, subst, ◌∙◌, arith}
+use Rattle.std.proofs.Common.{◌≡◌, ℕ, zero, suc, ◌+◌, ◌-◌, ◌<◌, ◌≤◌, ◌^◌, true, Option, Some, None, List, refl, sym, ap, subst, ◌∙◌, arith}
 use Rattle.std.specs.Prelude.{nat_lt}
 use Rattle.std.proofs.lemmas.Bool.Decides.{nat_tests}
 use Rattle.vax_word.specs.declared.Core.{Core}
-use Rattle.vax_word.specs.declared.Psl.{Psl}
-use Rattle.vax_space.specs.declared.Access.TheVariants.{Read, Write}
 use Rattle.vax_space.specs.declared.Area.{Area}
-use Rattle.vax_space.specs.Reference.{violation}
 use Rattle.vax_isa.specs.declared.actions.Text.{Text}
 use Rattle.vax_strpart.specs.declared.packing.Progress.{Progress}
 use Rattle.vax_strpart.specs.Packing.{packed, unpacked}
-use Rattle.vax_flat.specs.declared.Flow.{Flow}
 use Rattle.vax_flat.specs.declared.Flow.TheVariants as flow
 use Rattle.vax_flat.specs.State.{State}
-use Rattle.vax_flat.specs.Accesses.{Accesses, Leaf, Went, Found}
+use Rattle.vax_flat.specs.Accesses.{Leaf, Went, Found}
 use Rattle.vax_flat.specs.Outcome.{Outcome, Ends, Raised, outcome_of}
 use Rattle.vax_flat.specs.Step.{Flat, state_of}
-use Rattle.vax_flat.specs.String.{low_registers, with_low, left, suspended, continued, from_registers, IsReady}
-use Rattle.vax_flat.specs.StringMove.{moved_count}
+use Rattle.vax_flat.specs.String.{low_registers, left, suspended, from_registers, IsReady}
 use Rattle.vax_flat.specs.StringParts.{resumed}
 use Rattle.vax_flat.specs.Parts.{Partway, Place, At, Within, Leaves, GoesBy, later, gone_back, units_done, left_by, after_part, partway, outcome_at, turn, turn_from, units_after}
 use Rattle.vax_flat.specs.Bound.{LeavesNoPart}
-use Rattle.vax_flat.proofs.StringState.{Sixteen, sixteen, is_sixteen, mode_low, continued_suspended, unpacked_suspended}
-use Rattle.vax_flat.proofs.StringGoing.{Family, Seeking, Scanning, Comparing, Moving, Escaping, Matching, Holds, IsSound, Goes, Completed, Leaving, Failing, fin, later_of, later_is, part_of, goes}
+use Rattle.vax_flat.proofs.StringState.{unpacked_suspended}
+use Rattle.vax_flat.proofs.StringGoing.{Family, IsSound, Goes, Completed, Leaving, Failing, fin, later_of, part_of}
+use Rattle.vax_flat.proofs.Suspended.{suspended_kept, state_there, kept_low, on, sound_on, ready_on, later_part, later_goes}
 use Rattle.vax_flat.proofs.StringBeginning.{family_of, opcode_of, resumed_is}
 use Rattle.vax_flat_units.specs.Units.{Counts, units_left}
 use Rattle.vax_flat_units.specs.Places.{AreMade, units_of, units_from}
@@ -42,74 +38,9 @@ pub record IsOpen (total : ℕ) (p : Partway) : Type 0 where
   pub some : 1 ≤ units_by (family_of text) rest p.now.memory
   pub sum : total ≡ p.units + units_by (family_of text) rest p.now.memory
 
-suspended_kept : (q : Progress) (u : State) → ((suspended q u).input ≡ u.input) × ((suspended q u).sent ≡ u.sent)
-unfolding suspended left with_low
-suspended_kept q u = (refl, refl)
-
-low_kept : (xs : List ℕ) (u : State) → ((with_low xs u).input ≡ u.input) × ((with_low xs u).sent ≡ u.sent)
-unfolding with_low
-low_kept xs u = (refl, refl)
-
-state_there : (m : Flat) (s : State) (memory : List Area) → s.input ≡ m.input → s.sent ≡ None → state_of (record m { core = s.core; memory = memory; taken = s.taken }) ≡ s
-state_there m s memory input sent k = record { core = s.core; input = sym input k; taken = s.taken; sent = sym sent k }
-
-ready_low_by : (s : State) (regs : List ℕ) (psl : Psl) (xs : List ℕ) → Sixteen regs → slice_index regs 15 < 2 ^ 32 → psl.0 / 2 ^ 27 % 2 ≡ 0 → IsReady (with_low xs (record s { core = record s.core { regs = regs; psl = psl } }))
-unfolding with_low
-ready_low_by s regs psl xs (sixteen a b c d e f g h i j k l m n o p) pc clear = record { full = refl; pc = pc; clear = clear }
-
-ready_low : (s : State) (xs : List ℕ) → IsReady s → IsReady (with_low xs s)
-ready_low s xs ready = ready_low_by s s.core.regs s.core.psl xs (is_sixteen s.core.regs ready.full) ready.pc ready.clear
-
-holds_low : (f : Family) (p : Progress) (s : State) (xs : List ℕ) (m : List Area) → Holds f p s m → Holds f p (with_low xs s) m
-holds_low (Seeking equal) p s xs m h = h
-holds_low (Scanning some) p s xs m h = h
-holds_low Comparing p s xs m h = h
-holds_low (Moving translate) p s xs m h = (
-  h.0,
-  record {
-    source = ap (λ k. violation m p.addr1 (moved_count p) k Read) (mode_low s xs) ∙ h.1.source;
-    table = λ t. ap (λ k. violation m p.table 256 k Read) (mode_low s xs) ∙ h.1.table t;
-    apart = h.1.apart;
-    destination = ap (λ k. violation m p.addr2 p.len2 k Write) (mode_low s xs) ∙ h.1.destination;
-  },
-  h.2,
-)
-holds_low Escaping p s xs m h = (
-  h.0,
-  record {
-    source = ap (λ k. violation m p.addr1 (moved_count p) k Read) (mode_low s xs) ∙ h.1.source;
-    table = λ t. ap (λ k. violation m p.table 256 k Read) (mode_low s xs) ∙ h.1.table t;
-    apart = h.1.apart;
-    destination = ap (λ k. violation m p.addr2 (moved_count p) k Write) (mode_low s xs) ∙ h.1.destination;
-  },
-  h.2,
-)
-holds_low Matching p s xs m h = h
-
--- from registers that were left
-module _ (f : Family) (q : Progress) (u : State) (memory : List Area) (ready : IsReady u) (sound : IsSound f q u memory) where
-  abbrev on : State
-  on = with_low (packed q (low_registers u)) u
-
-  by_registers : (tree : Progress → State → (Flow → State → Accesses Leaf) → Accesses Leaf) → from_registers q.op tree (suspended q u) fin ≡ tree q on fin
-  by_registers tree =
-      ap (λ r. tree r (continued r.delta (suspended q u)) fin) (unpacked_suspended q u ready.full sound.proper)
-      ∙ ap (λ s. tree q s fin) (continued_suspended q u ready sound.short)
-
-  sound_on : IsSound f q on memory
-  sound_on = record { proper = sound.proper; short = sound.short; holds = holds_low f q u (packed q (low_registers u)) memory sound.holds }
-
-  ready_on : IsReady on
-  ready_on = ready_low u (packed q (low_registers u)) ready
-
-  later_part : outcome_of (from_registers q.op (later_of f) (suspended q u) fin) memory ≡ outcome_of (part_of f q on fin) memory
-  later_part = ap (λ tree. outcome_of tree memory) (by_registers (later_of f) ∙ later_is f q on memory fin sound_on.holds)
-
-  later_goes : Goes f q on memory (outcome_of (part_of f q on fin) memory)
-  later_goes = goes f q on memory ready_on sound_on
-
-  later_counts : Counts (units_by f) q.op (units_by f q memory) (outcome_of (part_of f q on fin) memory)
-  later_counts = counts f q on memory ready_on sound_on
+-- the part from registers that were left makes units, and leaves as many fewer
+later_counts : (f : Family) (q : Progress) (u : State) (memory : List Area) (ready : IsReady u) (sound : IsSound f q u memory) → Counts (units_by f) q.op (units_by f q memory) (outcome_of (part_of f q (on f q u memory ready sound) fin) memory)
+later_counts f q u memory ready sound = counts f q (on f q u memory ready sound) memory (ready_on f q u memory ready sound) (sound_on f q u memory ready sound)
 
 abbrev left_there : Flat → Core → Progress → State → ℕ → List Area → Partway
 left_there m start q u units memory = record {
@@ -130,7 +61,7 @@ opened m start t q u total units memory op ready sound input sent some sum =
       op = op;
       ready = ready;
       sound = sound;
-      here = state_there m (suspended q u) memory (s.0 ∙ input) (s.1 ∙ sent);
+      here = state_there m (suspended q u) memory (s.0 ∙ input) (s.2 ∙ sent);
       some = some;
       sum = sum;
     }
@@ -193,12 +124,12 @@ module _ (total : ℕ) (few : total < 2 ^ 32) (p : Partway) (o : IsOpen total p)
       let sum : total ≡ p.units + made + units_by f q memory = omega arith in
       let count : units_after p.units made ≡ p.units + made = all_counted p.units made (omega arith) in
       let there : left_there (gone_back (Within p)) p.start q here (units_after p.units made) memory ≡ next = cc in
-      let low = low_kept (packed o.rest (low_registers o.state)) o.state in
+      let low = kept_low (packed o.rest (low_registers o.state)) o.state in
       let s = suspended_kept o.rest o.state in
       let input : o.state.input ≡ p.now.input = sym s.0 ∙ sym (ap (λ x. x.input) o.here) in
-      let sent : o.state.sent ≡ None = sym s.1 ∙ sym (ap (λ x. x.sent) o.here) in
+      let sent : o.state.sent ≡ None = sym s.2 ∙ sym (ap (λ x. x.sent) o.here) in
       subst (IsNext total p.units) there (record {
-        opens = opened (gone_back (Within p)) p.start o.text q here total (units_after p.units made) memory (same ∙ o.op) ready sound (low.0 ∙ input) (low.1 ∙ sent) (subst (λ r. 1 ≤ units_by f r memory) left_now c.rest) (sum ∙ ap (λ n. n + units_by f q memory) (sym count));
+        opens = opened (gone_back (Within p)) p.start o.text q here total (units_after p.units made) memory (same ∙ o.op) ready sound (low.0 ∙ input) (low.2 ∙ sent) (subst (λ r. 1 ≤ units_by f r memory) left_now c.rest) (sum ∙ ap (λ n. n + units_by f q memory) (sym count));
         more = omega (arith, count, some);
       })
 

@@ -1,5 +1,5 @@
 -- The fields that both versions have: what is read was written so, and what was written is read again.
-use Rattle.std.proofs.Common.{◌≡◌, ℕ, zero, suc, ◌+◌, ◌*◌, ◌^◌, ◌<◌, ◌≤◌, Bool, true, false, cond, eqb, ltb, ◌||◌, List, [], ◌∷◌, ◌++◌, length, Result, Ok, Err, refl, sym, ap, subst, ◌∙◌, arith}
+use Rattle.std.proofs.Common.{◌≡◌, ℕ, zero, suc, ◌+◌, ◌*◌, ◌^◌, ◌<◌, ◌≤◌, Bool, true, false, eqb, ltb, ◌||◌, List, ◌++◌, length, Ok, refl, sym, ap, subst, ◌∙◌, arith}
 use Rattle.std.specs.Prelude.{not}
 use Rattle.std.specs.Str.{bytes_eq}
 use Rattle.std.proofs.lemmas.Bool.{ltb-false, le-ltb, eqb-false, ne_eqb}
@@ -7,12 +7,11 @@ use Rattle.std.proofs.lemmas.Slice.Eq.{bytes_eq-Decides}
 use Rattle.vax_space.specs.Faults.{is_protection}
 use Rattle.vax_image.specs.declared.Base.{Base}
 use Rattle.vax_image.specs.declared.Base.TheVariants.{Bare, User}
-use Rattle.vax_image.specs.declared.ImageError.{ImageError}
-use Rattle.vax_image.specs.Kinds.{no_magic, other_version, other_base, wrong_count, wrong_pages, no_protection, wrong_length, ends_early}
+use Rattle.vax_image.specs.Kinds.{no_magic, other_version, other_base, wrong_count, wrong_pages, no_protection, wrong_length}
 use Rattle.vax_image.specs.Image.{end_page}
 use Rattle.vax_image.specs.File.{word, longword, magic, base_number}
 use Rattle.vax_image.specs.Reading.{Cursor, ◌>>=◌, unless, bytes_at, number_at, magic_at, version_at, base_of, base_at, count_at, text_count_at, pages_at, protection_at, length_at}
-use Rattle.vax_image.proofs.Steps.{IsBytes, ok_is, bind_ok, unless_ok, Takes, Takes-then, bytes_take, bytes_again, wide2, wide4, number_takes, number_again, Found, checked_takes, checked_again}
+use Rattle.vax_image.proofs.Steps.{IsBytes, bind_ok, unless_ok, Takes, Takes-then, bytes_take, bytes_again, wide2, wide4, number_takes, number_again, checked_takes, checked_again}
 
 pub not_false : (b : Bool) → not b ≡ false → b ≡ true
 not_false true e = refl

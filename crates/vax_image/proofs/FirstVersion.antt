@@ -1,14 +1,13 @@
 -- Version 1: what is read is spelled so, and what is spelled so is read.
-use Rattle.std.proofs.Common.{◌≡◌, ℕ, zero, suc, ◌+◌, ◌*◌, ◌^◌, ◌<◌, ◌≤◌, Bool, true, List, [], ◌∷◌, ◌++◌, length, Result, Ok, Err, refl, sym, ap, subst, ◌∙◌, append_assoc, arith}
+use Rattle.std.proofs.Common.{◌≡◌, ℕ, zero, suc, ◌+◌, ◌*◌, ◌^◌, ◌<◌, ◌≤◌, true, List, [], ◌∷◌, ◌++◌, length, Ok, refl, sym, ap, subst, ◌∙◌, append_assoc, arith}
 use Rattle.std.specs.List.{flat_map}
 use Rattle.vax_space.specs.declared.Area.{Area}
 use Rattle.vax_space.specs.Areas.{end_of}
 use Rattle.vax_image.specs.declared.Base.{Base}
 use Rattle.vax_image.specs.declared.Base.TheVariants.{Bare, User}
 use Rattle.vax_image.specs.declared.Image.{Image}
-use Rattle.vax_image.specs.declared.ImageError.{ImageError}
 use Rattle.vax_image.specs.Image.{first_page, end_page, IsAreaFrom, AscendFrom}
-use Rattle.vax_image.specs.File.{word, longword, base_number, placing, counted, area_field, entry, fields_1}
+use Rattle.vax_image.specs.File.{word, longword, base_number, placing, area_field, entry, fields_1}
 use Rattle.vax_image.specs.Reading.{Cursor, Contents, ◌>>=◌, bytes_at, number_at, base_at, count_at, pages_at, protection_at, length_at, area_at, areas_at, contents_1}
 use Rattle.vax_image.proofs.Steps.{IsBytes, ok_is, bind_ok, Takes, Takes-then, Reads, bytes_take, bytes_again, wide4, number_takes, number_again}
 use Rattle.vax_image.proofs.FieldLaws.{base_takes, base_again, count_takes, count_again, ArePages, at_pages, pages_take, pages_again, protection_takes, protection_again, length_takes, length_again}

@@ -1,10 +1,10 @@
 -- Version 2: what is read is spelled so, and what is spelled so is read.
-use Rattle.std.proofs.Common.{◌≡◌, ◌⊎◌, ℕ, zero, suc, ◌+◌, ◌*◌, ◌^◌, ◌<◌, ◌≤◌, Bool, true, false, cond, eqb, ltb, leb, ◌||◌, ◌&&◌, List, [], ◌∷◌, ◌++◌, length, take, drop, get_or, map, Result, Ok, Err, refl, sym, ap, subst, ◌∙◌, append_assoc, arith, inl, inr, lit<}
+use Rattle.std.proofs.Common.{◌≡◌, ◌⊎◌, ℕ, zero, suc, ◌+◌, ◌*◌, ◌^◌, ◌<◌, ◌≤◌, Bool, true, false, cond, eqb, ltb, leb, ◌||◌, ◌&&◌, List, [], ◌∷◌, ◌++◌, length, take, get_or, map, Result, Ok, Err, refl, sym, ap, subst, ◌∙◌, append_assoc, arith, inl, inr, lit<}
 use Rattle.std.specs.Prelude.{not}
 use Rattle.std.specs.Str.{bytes_eq}
-use Rattle.std.specs.List.{flat_map, AllByRecursion, position_or_len}
-use Rattle.std.proofs.lemmas.Bool.{cases_eq, ltb-false, le-ltb, leb-false, leb-true, lt-leb, eqb-true, eqb-false, eq-eqb, ne_eqb}
-use Rattle.std.proofs.lemmas.List.{append-nil, length-append, length-map, length_push, map_push, map-append, get_or_at, get_or_push, get_or_append_left, take_all, take_more, get_or-map}
+use Rattle.std.specs.List.{flat_map, AllByRecursion}
+use Rattle.std.proofs.lemmas.Bool.{cases_eq, ltb-false, le-ltb, leb-false, lt-leb, eqb-true, eqb-false, eq-eqb, ne_eqb}
+use Rattle.std.proofs.lemmas.List.{append-nil, length-append, length-map, length_push, map_push, get_or_push, get_or_append_left, take_all, take_more, get_or-map}
 use Rattle.std.proofs.lemmas.List.Sums.{prefix_len-le-length, prefix_len_stops}
 use Rattle.std.proofs.lemmas.Slice.Eq.{bytes_eq-Decides}
 use Rattle.vax_space.specs.declared.Area.{Area}
@@ -16,13 +16,13 @@ use Rattle.vax_image.specs.declared.ImageError.{ImageError}
 use Rattle.vax_image.specs.declared.ImageError.TheVariants.{Fault}
 use Rattle.vax_image.specs.Kinds.{wrong_text, wrong_length}
 use Rattle.vax_image.specs.Texts.{no_text}
-use Rattle.vax_image.specs.Image.{first_page, end_page, IsAreaFrom, AscendFrom}
+use Rattle.vax_image.specs.Image.{first_page, IsAreaFrom, AscendFrom}
 use Rattle.vax_image.specs.Texts.{Text, is_constant, is_shared, place_among, number_among, number_of, texts_with, texts_behind, texts_of}
 use Rattle.vax_image.specs.File.{word, longword, base_number, placing, counted, entry, text_field, numbered, fields_2}
 use Rattle.vax_image.specs.Reading.{Cursor, Contents, ◌>>=◌, unless, bytes_at, number_at, base_at, count_at, text_count_at, text_at, texts_at, pages_at, protection_at, named, numbered_area_at, numbered_areas_at, contents_2}
 use Rattle.vax_image.proofs.Steps.{IsBytes, ok_is, bind_ok, unless_ok, Takes, Takes-then, Reads, bytes_take, bytes_again, wide4, number_takes, number_again}
-use Rattle.vax_image.proofs.FieldLaws.{not_false, or_false, base_takes, base_again, count_takes, count_again, text_count_takes, text_count_again, ArePages, at_pages, pages_take, pages_again, protection_takes, protection_again}
-use Rattle.vax_image.proofs.FirstVersion.{HasAreas, are_pages, bytes_small, end_low}
+use Rattle.vax_image.proofs.FieldLaws.{not_false, base_takes, base_again, count_takes, count_again, text_count_takes, text_count_again, at_pages, pages_take, pages_again, protection_takes, protection_again}
+use Rattle.vax_image.proofs.FirstVersion.{HasAreas, are_pages}
 
 -- ---- texts
 

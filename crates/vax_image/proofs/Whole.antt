@@ -1,8 +1,8 @@
 -- Whole files, of either version.
-use Rattle.std.proofs.Common.{◌≡◌, ◌⊎◌, ℕ, zero, suc, ◌+◌, ◌*◌, ◌/◌, ◌^◌, ◌<◌, ◌≤◌, Bool, true, false, cond, eqb, ltb, leb, ◌||◌, ◌&&◌, List, [], ◌∷◌, ◌++◌, length, Result, Ok, Err, refl, sym, ap, subst, ◌∙◌, append_assoc, arith, inl, inr}
+use Rattle.std.proofs.Common.{◌≡◌, ◌⊎◌, ℕ, ◌+◌, ◌<◌, Bool, true, false, cond, eqb, ltb, leb, ◌||◌, ◌&&◌, List, [], ◌∷◌, ◌++◌, length, Result, Ok, Err, refl, sym, ap, subst, ◌∙◌, append_assoc, arith, inl, inr}
 use Rattle.std.specs.Prelude.{not, IfOk}
 use Rattle.std.specs.List.{list_any}
-use Rattle.std.proofs.lemmas.Bool.{leb-true, ltb-true, eqb-true, eq-eqb}
+use Rattle.std.proofs.lemmas.Bool.{ltb-true, eqb-true}
 use Rattle.std.proofs.lemmas.List.{append-nil, nil_from_length}
 use Rattle.vax_space.specs.declared.Area.{Area}
 use Rattle.vax_space.specs.Areas.{end_of, has_page}
@@ -10,7 +10,7 @@ use Rattle.vax_space.specs.Reference.{page_of}
 use Rattle.vax_image.specs.declared.Base.{Base}
 use Rattle.vax_image.specs.declared.Image.{Image}
 use Rattle.vax_image.specs.declared.ImageError.{ImageError}
-use Rattle.vax_image.specs.declared.ImageError.TheVariants.{Fault, NoMemory}
+use Rattle.vax_image.specs.declared.ImageError.TheVariants.{Fault}
 use Rattle.vax_image.specs.Kinds.{goes_on, wrong_text, begins_nowhere}
 use Rattle.vax_image.specs.Image.{first_page, end_page, AscendFrom, is_in, IsImage}
 use Rattle.vax_image.specs.File.{word, magic, fields_1, fields_2, spelling_1, spelling_2, File, File2, IsSpelled}

@@ -1,5 +1,5 @@
 -- A file that is written area by area.
-use Rattle.std.proofs.Common.{◌≡◌, ℕ, zero, suc, ◌+◌, ◌*◌, ◌^◌, ◌<◌, ◌≤◌, true, List, [], ◌∷◌, ◌++◌, length, take, drop, get_or, map, All, refl, sym, ap, ◌∙◌, append_assoc, arith}
+use Rattle.std.proofs.Common.{◌≡◌, ℕ, ◌+◌, ◌^◌, ◌<◌, ◌≤◌, true, List, [], ◌∷◌, ◌++◌, length, take, drop, get_or, All, sym, ap, ◌∙◌, append_assoc, arith}
 use Rattle.std.specs.List.{flat_map, AllByRecursion}
 use Rattle.std.proofs.lemmas.List.{append-nil, take_more, drop_more, drop_all, flat_map_more}
 use Rattle.std.proofs.lemmas.List.Elements.{All-from_recursion}
@@ -8,7 +8,7 @@ use Rattle.vax_space.specs.Areas.{end_of}
 use Rattle.vax_space.specs.Faults.{is_protection}
 use Rattle.vax_image.specs.declared.Base.{Base}
 use Rattle.vax_image.specs.declared.Image.{Image}
-use Rattle.vax_image.specs.Image.{first_page, IsAreaFrom, AscendFrom, IsImage}
+use Rattle.vax_image.specs.Image.{first_page, AscendFrom, IsImage}
 use Rattle.vax_image.specs.Texts.{Text, number_of, texts_behind, texts_of}
 use Rattle.vax_image.specs.File.{magic, word, longword, placing, counted, entry, area_field, text_field, numbered, fields_2, spelling_2}
 use Rattle.vax_image.proofs.FirstVersion.{bytes_small}

@@ -1,5 +1,5 @@
 -- What the code keeps of a file, without where it lies in memory.
-use Rattle.std.specs.Prelude.{ℕ, Bool, List, map}
+use Rattle.std.specs.Prelude.{List, map}
 use Rattle.vax_image.specs.declared.fields.Cursor.{Cursor as Kept}
 use Rattle.vax_image.specs.declared.first_version.Contents.{Contents as Found}
 use Rattle.vax_image.specs.declared.texts.Text.{Text as Shared}

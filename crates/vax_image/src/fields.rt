@@ -1,5 +1,5 @@
 //! The fields of a file, read one after the other.
-ghost use Rattle.std.specs.Prelude.{◌≡◌, ◌≢◌, ◌+◌, ◌*◌, ◌^◌, ◌<◌, ◌≤◌, ◌⊎◌, length, IfOk, true};
+ghost use Rattle.std.specs.Prelude.{◌≡◌, ◌+◌, ◌*◌, ◌^◌, ◌<◌, ◌≤◌, length, IfOk, true};
 ghost use Rattle.vax_space.specs.Faults.{is_protection};
 ghost use Rattle.vax_image.specs.Image as image;
 ghost use Rattle.vax_image.specs.Reading as spec;
@@ -20,7 +20,8 @@ pub(crate) struct Cursor<'a> {
 #[tactic(auto, unfolding(crate::specs::Reading::bytes_at))]
 pub(crate) fn bytes_at<'a>(len: u32, from: Cursor<'a>) -> Result<(&'a [u8], Cursor<'a>), ImageError>
     requires { from.place + len < 2 ^ 32 }
-    ensures gives { Gives (λ x. (x.0.now, cursor x.1)) result (spec.bytes_at len (cursor from.entry)) }
+    ensures gives { Gives (λ x. (x.0.now, cursor x.1)) result
+        (spec.bytes_at len (cursor from.entry)) }
     ensures all { IfOk result (λ x. length x.0.now ≡ len) }
     ensures moved { IfOk result (λ x. x.1.place ≡ from.entry.place + len) }
 {
@@ -150,7 +151,8 @@ pub(crate) fn pages_at<'a>(
     from: Cursor<'a>,
 ) -> Result<((u32, u32), Cursor<'a>), ImageError>
     requires { from.place + 8 < 2 ^ 32 }
-    ensures gives { Gives (λ x. (x.0, cursor x.1)) result (spec.pages_at base low (cursor from.entry)) }
+    ensures gives { Gives (λ x. (x.0, cursor x.1)) result
+        (spec.pages_at base low (cursor from.entry)) }
     ensures behind { IfOk result (λ x. low ≤ x.0.0) }
     ensures within { IfOk result (λ x. x.0.0 + x.0.1 ≤ image.end_page base) }
     ensures small { IfOk result (λ x. x.0.0 + x.0.1 ≤ 0x400800) }
@@ -191,7 +193,8 @@ pub(crate) fn protection_at<'a>(from: Cursor<'a>) -> Result<(u8, Cursor<'a>), Im
 #[tactic(auto, unfolding(crate::specs::Reading::length_at))]
 pub(crate) fn length_at<'a>(pages: u32, from: Cursor<'a>) -> Result<(u32, Cursor<'a>), ImageError>
     requires { from.place + 4 < 2 ^ 32 }
-    ensures gives { Gives (λ x. (x.0, cursor x.1)) result (spec.length_at pages (cursor from.entry)) }
+    ensures gives { Gives (λ x. (x.0, cursor x.1)) result
+        (spec.length_at pages (cursor from.entry)) }
     ensures fits { IfOk result (λ x. x.0 ≤ 512 * pages) }
     ensures moved { IfOk result (λ x. x.1.place ≡ from.entry.place + 4) }
 {

@@ -1,5 +1,5 @@
 //! Files of version 1.
-ghost use Rattle.std.specs.Prelude.{◌≡◌, ◌+◌, ◌*◌, ◌^◌, ◌<◌, ◌≤◌, IfOk};
+ghost use Rattle.std.specs.Prelude.{◌+◌, ◌*◌, ◌<◌, ◌≤◌, IfOk};
 ghost use Rattle.vax_image.specs.Image as image;
 ghost use Rattle.vax_image.specs.Reading as spec;
 ghost use Rattle.vax_image.specs.Reading.{Gives};
@@ -32,7 +32,8 @@ fn area_at<'a>(
 ) -> Result<(Area, Cursor<'a>), ImageError>
     requires early { from.place ≤ 2048 + 512 * low }
     requires low { low ≤ image.end_page base }
-    ensures gives { Gives (λ x. (x.0, cursor x.1)) result (spec.area_at base low (cursor from.entry)) }
+    ensures gives { Gives (λ x. (x.0, cursor x.1)) result
+        (spec.area_at base low (cursor from.entry)) }
     ensures behind { IfOk result (λ x. low ≤ x.0.first) }
     ensures within { IfOk result (λ x. x.0.first + x.0.pages ≤ image.end_page base) }
     ensures small { IfOk result (λ x. x.0.first + x.0.pages ≤ 0x400800) }
@@ -63,7 +64,8 @@ fn areas_at<'a>(
 ) -> Result<(Vec<Area>, Cursor<'a>), ImageError>
     requires few { count ≤ 64 }
     requires early { from.place ≤ 24 }
-    ensures { Gives (λ x. (x.0.items, cursor x.1)) result (spec.areas_at base (image.first_page base) count (cursor from.entry)) }
+    ensures { Gives (λ x. (x.0.items, cursor x.1)) result
+        (spec.areas_at base (image.first_page base) count (cursor from.entry)) }
 {
     let mut areas = Vec::new(alloc);
     let mut low = base.first_page();

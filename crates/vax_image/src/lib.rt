@@ -57,7 +57,7 @@ pub enum Base {
 impl Base {
     ghost use Rattle.vax_image.specs.Image.{first_page, end_page};
     ghost use Rattle.vax_image.specs.File.{base_number};
-    ghost use Rattle.std.specs.Prelude.{◌≤◌, ◌<◌, ◌+◌};
+    ghost use Rattle.std.specs.Prelude.{◌≤◌, ◌<◌};
 
     /// The first page that an area may have.
     pub fn first_page(self) -> u32

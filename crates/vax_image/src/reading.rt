@@ -17,7 +17,8 @@ use vax_space::{Area, PAGE_BYTES};
 /// The fields of a file.
 #[tactic(auto, unfolding(crate::specs::Reading::contents_at))]
 fn contents_at<'a>(alloc: Global, bytes: &'a [u8]) -> Result<Contents<'a>, ImageError>
-    ensures { Gives view.contents result (spec.contents_at (record { place = 0; rest = bytes.entry.now })) }
+    ensures { Gives view.contents result
+        (spec.contents_at (record { place = 0; rest = bytes.entry.now })) }
 {
     let start = Cursor {
         rest: bytes,
@@ -83,8 +84,10 @@ pub fn read(alloc: Global, bytes: &[u8]) -> Result<Image, ImageError>
     ensures found { IfOk result (λ image. File image bytes.now ⊎ File2 image bytes.now) }
     ensures image { IfOk result IsImage }
     // What is spelled so is read, unless memory is refused.
-    ensures first { (image : Image) → File image bytes.now → Gives (λ read. read) result (Ok image) }
-    ensures second { (image : Image) → File2 image bytes.now → Gives (λ read. read) result (Ok image) }
+    ensures first { (image : Image) →
+        File image bytes.now → Gives (λ read. read) result (Ok image) }
+    ensures second { (image : Image) →
+        File2 image bytes.now → Gives (λ read. read) result (Ok image) }
     // Which fault it is.
     ensures exact { Gives (λ image. image) result (spec.image_of bytes.now) }
 {
@@ -93,5 +96,6 @@ pub fn read(alloc: Global, bytes: &[u8]) -> Result<Image, ImageError>
 
 /// No file of an image begins another file: a file that goes on behind an image's fields is none.
 pub fn one_spelling()
-    ensures { (a b : Image) (x y rest : List ℕ) → IsSpelled a x → IsSpelled b y → x ++ rest ≡ y → (a ≡ b) × (rest ≡ []) }
+    ensures { (a b : Image) (x y rest : List ℕ) →
+        IsSpelled a x → IsSpelled b y → x ++ rest ≡ y → (a ≡ b) × (rest ≡ []) }
 {}

@@ -1,12 +1,11 @@
 //! Files of version 2.
-ghost use Rattle.std.specs.Prelude.{◌≡◌, ◌+◌, ◌*◌, ◌^◌, ◌<◌, ◌≤◌, IfOk, OnOk, OnErr, length, map, true, Result, Ok, Err};
+ghost use Rattle.std.specs.Prelude.{◌≡◌, ◌+◌, ◌*◌, ◌^◌, ◌<◌, ◌≤◌, IfOk, OnOk, length, map, Result, Ok, Err};
 ghost use Rattle.vax_image.specs.Image as image;
 ghost use Rattle.vax_image.specs.Reading as spec;
 ghost use Rattle.vax_image.specs.Reading.{Gives};
 ghost use Rattle.vax_image.specs.Views as view;
 ghost use Rattle.vax_image.specs.Views.{contents, cursor};
 ghost use Rattle.std.specs.Prelude.{[]};
-ghost use Rattle.vax_space.specs.Faults.{is_protection};
 
 use crate::fields::{
     Cursor, base_at, bytes_at, count_at, longword_at, pages_at, protection_at, text_count_at,
@@ -44,7 +43,8 @@ fn texts_at<'a>(
 ) -> Result<(Vec<&'a [u8]>, Cursor<'a>), ImageError>
     requires few { count ≤ 64 }
     requires early { from.place ≤ 24 }
-    ensures gives { Gives (λ x. (map (λ t. t.now) x.0.items, cursor x.1)) result (spec.texts_at count (cursor from.entry)) }
+    ensures gives { Gives (λ x. (map (λ t. t.now) x.0.items, cursor x.1)) result
+        (spec.texts_at count (cursor from.entry)) }
     ensures moved { IfOk result (λ x. x.1.place ≤ 24 + 64 * 16777220) }
 {
     let mut texts = Vec::new(alloc);
@@ -69,7 +69,8 @@ fn named<'a>(
 ) -> Result<&'a [u8], ImageError>
     requires code { prot ≤ 15 }
     requires few { length taken.now ≤ 64 }
-    ensures { Gives (λ x. x.now) result (spec.named (map (λ t. t.now) texts.now) (view.texts taken.now) pages prot place number) }
+    ensures { Gives (λ x. x.now) result
+        (spec.named (map (λ t. t.now) texts.now) (view.texts taken.now) pages prot place number) }
 {
     if number == NO_TEXT {
         return Ok(&[]);
@@ -101,7 +102,9 @@ fn numbered_area_at<'a>(
 ) -> Result<(Area, Cursor<'a>), ImageError>
     requires early { from.place + 16 < 2 ^ 32 }
     requires few { length taken.old.items < 64 }
-    ensures gives { Gives (λ x. ((x.0, view.texts taken.new.items), cursor x.1)) result (spec.numbered_area_at base low (map (λ t. t.now) texts.now) (view.texts taken.old.items) (cursor from.entry)) }
+    ensures gives { Gives (λ x. ((x.0, view.texts taken.new.items), cursor x.1)) result
+        (spec.numbered_area_at base low (map (λ t. t.now) texts.now)
+        (view.texts taken.old.items) (cursor from.entry)) }
     ensures behind { IfOk result (λ x. low ≤ x.0.first) }
     ensures within { IfOk result (λ x. x.0.first + x.0.pages ≤ image.end_page base) }
     ensures small { IfOk result (λ x. x.0.first + x.0.pages ≤ 0x400800) }
@@ -135,7 +138,9 @@ fn numbered_areas_at<'a>(
 ) -> Result<(Vec<Area>, Vec<Text<'a>>, Cursor<'a>), ImageError>
     requires few { count ≤ 64 }
     requires early { from.place ≤ 24 + 64 * 16777220 }
-    ensures { Gives (λ x. ((x.0.items, view.texts x.1.items), cursor x.2)) result (spec.numbered_areas_at base (image.first_page base) (map (λ t. t.now) texts.now) [] count (cursor from.entry)) }
+    ensures { Gives (λ x. ((x.0.items, view.texts x.1.items), cursor x.2)) result
+        (spec.numbered_areas_at base (image.first_page base)
+        (map (λ t. t.now) texts.now) [] count (cursor from.entry)) }
 {
     let mut areas = Vec::new(alloc);
     let mut taken = Vec::new(alloc);

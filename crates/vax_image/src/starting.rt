@@ -24,7 +24,8 @@ fn push_area(
     prot: u8,
     bytes: &[u8],
 ) -> Result<(), AllocError>
-    ensures { OnOk result (areas.new.items ≡ areas.old.items ++ spec.area first pages prot bytes.now ∷ []) }
+    ensures { OnOk result (areas.new.items
+        ≡ areas.old.items ++ spec.area first pages prot bytes.now ∷ []) }
 {
     let bytes = Vec::from_slice(alloc, bytes)?.into();
     areas.push(Area {
@@ -152,8 +153,10 @@ pub fn start(alloc: Global, system: &Image, user: Option<&Image>) -> Result<(Spa
     requires bare { system.now.base ≡ Base.Bare }
     requires user { IfSome (option_copied user) IsImage }
     requires base { IfSome (option_copied user) (λ image. image.base ≡ Base.User) }
-    ensures space { IfOk result (λ started. started.0 ≡ spec.start_areas system.now (option_copied user.entry)) }
-    ensures core { IfOk result (λ started. started.1 ≡ spec.start_core system.now (option_copied user.entry)) }
+    ensures space { IfOk result (λ started. started.0
+        ≡ spec.start_areas system.now (option_copied user.entry)) }
+    ensures core { IfOk result (λ started. started.1
+        ≡ spec.start_core system.now (option_copied user.entry)) }
     // Whatever the programs, these areas are a space.
     ensures sound { IsSpace (spec.start_areas system.now (option_copied user.entry)) }
 {

@@ -1,5 +1,5 @@
 //! The texts of a file of version 2, which areas that no mode may write share.
-ghost use Rattle.std.specs.Prelude.{◌≡◌, ◌+◌, ◌++◌, ◌≤◌, ◌<◌, ◌∷◌, [], OnOk, IfOk, length};
+ghost use Rattle.std.specs.Prelude.{◌≡◌, ◌+◌, ◌≤◌, ◌<◌, OnOk, IfOk, length};
 ghost use Rattle.vax_image.specs.Texts as spec;
 ghost use Rattle.vax_image.specs.Views as view;
 ghost use Rattle.vax_image.specs.Views.{texts};
@@ -50,8 +50,10 @@ pub(crate) fn take_text<'a>(
 ) -> Result<u32, AllocError>
     requires code { prot ≤ 15 }
     requires few { length taken.old.items < 64 }
-    ensures number { IfOk result (λ number. number ≡ spec.number_among (texts taken.old.items) bytes.entry.now prot) }
-    ensures taken { OnOk result (texts taken.new.items ≡ spec.texts_with (texts taken.old.items) bytes.entry.now prot) }
+    ensures number { IfOk result (λ number. number
+        ≡ spec.number_among (texts taken.old.items) bytes.entry.now prot) }
+    ensures taken { OnOk result (texts taken.new.items
+        ≡ spec.texts_with (texts taken.old.items) bytes.entry.now prot) }
     ensures few { OnOk result (length taken.new.items ≤ length taken.old.items + 1) }
 {
     let number = number_among(taken, bytes, prot);

@@ -1,5 +1,5 @@
 //! Writes an image as a file.
-ghost use Rattle.std.specs.Prelude.{◌≡◌, ◌^◌, ◌<◌, ◌≤◌, ◌++◌, length, All, IfOk, OnOk};
+ghost use Rattle.std.specs.Prelude.{◌≡◌, ◌^◌, ◌<◌, ◌++◌, length, All, IfOk, OnOk};
 ghost use Rattle.std.specs.List.{flat_map};
 ghost use Rattle.vax_image.specs.Views as view;
 ghost use Rattle.vax_image.specs.File.{File, File2, word, longword, entry, placing, counted, text_field};
@@ -57,7 +57,8 @@ fn put_counted(out: &mut Vec<u8>, bytes: &[u8]) -> Result<(), AllocError>
 /// The texts, each counted.
 fn put_texts(out: &mut Vec<u8>, texts: &[Text]) -> Result<(), AllocError>
     requires { All (λ text. length text.bytes < 2 ^ 32) (view.texts texts.now) }
-    ensures { OnOk result (out.new.items ≡ out.old.items ++ flat_map text_field (view.texts texts.now)) }
+    ensures { OnOk result (out.new.items
+        ≡ out.old.items ++ flat_map text_field (view.texts texts.now)) }
 {
     for text in texts {
         put_counted(out, text.bytes)?;

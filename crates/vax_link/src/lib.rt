@@ -13,7 +13,9 @@ mod joining;
 mod layout;
 mod names;
 mod placed;
+mod texts;
 
+use crate::texts::text_of;
 pub use joining::link;
 pub use layout::addresses;
 use std::alloc::{AllocError, AllocFailed};
@@ -25,10 +27,10 @@ use vax_space::Bytes;
 pub enum LinkError {
     /// The first global name that stands before, in the order of the modules and of their lists; where there is none, the
     /// name of a second transfer address.
-    #[error("a name is defined twice")]
+    #[error("{name} is defined twice", name = text_of(.0))]
     Duplicate(Bytes),
     /// The first external name that no module defines, or whose definition leads back to a name that it has met.
-    #[error("a name is defined nowhere")]
+    #[error("{name} is defined nowhere", name = text_of(.0))]
     Undefined(Bytes),
     /// A section passes the last page of its part of memory, the system control block has more than 512 bytes, or there
     /// are more than 64 sections.

@@ -3,8 +3,8 @@
 //! Nothing here takes memory: lines are held in a buffer of fixed size, and written when that is full.
 #![tactic(auto)]
 
-ghost use Rattle.std.specs.Prelude.{◌≡◌, ◌+◌, ◌<◌, ◌≤◌, ◌++◌, List, ℕ, Option, None, length, slice_index, OnErr, OnOk, is_err};
-ghost use Rattle.vax_outside.specs.Channels.{Channels, Grew, GrewByPrefix, only};
+ghost use Rattle.std.specs.Prelude.{◌≡◌, ◌+◌, ◌<◌, ◌≤◌, ◌++◌, None, length, slice_index, OnErr, OnOk, is_err};
+ghost use Rattle.vax_outside.specs.Channels.{Grew, GrewByPrefix, only};
 ghost use Rattle.vax_outside.specs.Faults.{CountsFailure};
 ghost use Rattle.vax_disasm.specs.Listed.{listed};
 ghost use Rattle.vax_listing.specs.Listing.{area_lines, length_of, line, listing, text_of};
@@ -73,7 +73,8 @@ fn push_first(lines: &mut Lines, addr: u32, bytes: &[u8]) -> u8
 
 /// Writes the lines that are held, where there is no room for another.
 fn make_room<K: Sink>(lines: &mut Lines, sink: &mut K) -> Result<(), Failed>
-    ensures ok { OnOk result (GoesOn (K.contents sink.old) (K.contents sink.new) lines.old.items lines.new.items) }
+    ensures ok { OnOk result (GoesOn (K.contents sink.old)
+        (K.contents sink.new) lines.old.items lines.new.items) }
     ensures room { OnOk result (length lines.new.items + 170 ≤ 4096) }
     ensures prefix { OnErr result (GrewByPrefix (K.contents sink.old) (K.contents sink.new)
         (only Chan.Out lines.old.items)) }

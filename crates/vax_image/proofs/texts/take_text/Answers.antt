@@ -1,8 +1,8 @@
-use Rattle.std.proofs.Common.{◌≡◌, ◌≤◌, ◌++◌, ◌∷◌, [], ℕ, Bool, List, length, map, sym, ap, ◌∙◌, arith, rules}
+use Rattle.std.proofs.Common.{◌≡◌, ◌++◌, ◌∷◌, [], Bool, List, length, map, sym, ap, ◌∙◌, arith, rules}
 use Rattle.std.specs.Prelude.{not}
 use Rattle.std.proofs.lemmas.List.{map_push, length-map}
 use Rattle.vax_image.specs.declared.texts.Text.{Text as Kept}
-use Rattle.vax_image.specs.Texts.{Text, number_among}
+use Rattle.vax_image.specs.Texts.{number_among}
 use Rattle.vax_image.specs.Views.{text, texts}
 use Rattle.vax_image.proofs.Taking.{taken_new, taken_old}
 use Rattle.vax_image.proofs.texts.take_text.Goals as goal

@@ -1,4 +1,4 @@
-use Rattle.std.proofs.Common.{◌≡◌, ◌++◌, ℕ, List, ap, ◌∙◌, append_assoc}
+use Rattle.std.proofs.Common.{◌++◌, ℕ, List, ap, ◌∙◌, append_assoc}
 use Rattle.vax_image.specs.File.{longword}
 use Rattle.vax_image.proofs.writing.put_placing.Goals as goal
 
