@@ -48,10 +48,14 @@ impl Walk {
     #[tactic(auto, using(crate::proofs::Statements::behind_stands, crate::proofs::Statements::behind_faulty, crate::proofs::Statements::behind_label), unfolding(crate::specs::Walk::said))]
     pub fn say(&mut self, alloc: Global, origin: Origin, text: Vec<u8>) -> Result<(), FillError>
         requires { length text.items ≤ 1024 }
-        ensures says { Says result origin text.items (assembly_of self.old.standing self.old.assignments) (assembly_of self.new.standing self.new.assignments) self.old.met self.new.met }
+        ensures says { Says result origin text.items
+            (assembly_of self.old.standing self.old.assignments)
+            (assembly_of self.new.standing self.new.assignments) self.old.met self.new.met }
         // Where no fault was met, the statement stands.
-        ensures stands { OnOk result (self.new.met ≡ None → (self.old.met ≡ None) × Stood origin text.items
-            (assembly_of self.old.standing self.old.assignments) (assembly_of self.new.standing self.new.assignments)) }
+        ensures stands { OnOk result (self.new.met ≡ None →
+            (self.old.met ≡ None) × Stood origin text.items
+            (assembly_of self.old.standing self.old.assignments)
+            (assembly_of self.new.standing self.new.assignments)) }
     {
         if let Some(met) = of_another(self.met, origin) {
             return Err(self.stopped(alloc, met));
