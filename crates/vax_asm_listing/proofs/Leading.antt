@@ -1,8 +1,7 @@
 -- Rows as the lines of which the laws of places speak.
-use Rattle.std.proofs.Common.{◌≡◌, List, [], ◌∷◌, Option, map, refl, sym, subst}
+use Rattle.std.proofs.Common.{◌≡◌, List, [], ◌∷◌, map, refl, sym, subst}
 use Rattle.vax_asm.specs.Placing.{placed, waiting_in}
 use Rattle.vax_asm.specs.Walk.{Assembly}
-use Rattle.vax_asm_first.specs.Fixups.{Assignment}
 use Rattle.vax_asm_laws.specs.Leading.{Leads, with_statement}
 use Rattle.vax_asm_listing.specs.Lines.{line_of}
 use Rattle.vax_asm_listing.specs.Rows as rows

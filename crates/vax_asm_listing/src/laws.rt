@@ -10,5 +10,6 @@ ghost use Rattle.vax_asm_listing.specs.declared.types.Row.{Row};
 /// The statements of rows are those of which `vax_asm_laws` speaks: where they have led to a row's beginning, there begin in the module the bytes that
 /// its statement and those behind it put there.
 pub fn rows_are_statements()
-    ensures { (a : Assembly) → (rows : List Row) → (b : Assembly) → LeadAll a rows b → laws.Leads a (map line_of rows) b }
+    ensures { (a : Assembly) → (rows : List Row) → (b : Assembly) → LeadAll a rows b →
+        laws.Leads a (map line_of rows) b }
 {}
