@@ -1,7 +1,7 @@
 // The faults that the whole source decides.
 
 ghost use Rattle.std.specs.Prelude.{◌≡◌, map, option_map};
-ghost use Rattle.vax_asm_second.specs.Faults.{precedes, earlier, first, first_of, unknown, fault_of_error, told, value_in, value_filled, kind_of, fault_at, assigned_faults, unclosed_faults};
+ghost use Rattle.vax_asm_second.specs.Faults.{precedes, earlier, first, first_of, unknown, fault_of_error, value_in, value_filled, kind_of, fault_at, assigned_faults, unclosed_faults};
 ghost use Rattle.vax_macro.specs.View.{opening_of};
 ghost use Rattle.vax_asm_first.specs.View.{assignment_of, filling_of};
 ghost use Rattle.vax_asm_scope.specs.Kept.{scope_of};

@@ -1,6 +1,6 @@
 // What fields hold.
 
-ghost use Rattle.std.specs.Prelude.{◌≡◌, ◌≤◌, ◌<◌, ◌+◌, ◌^◌, IfOk};
+ghost use Rattle.std.specs.Prelude.{◌≡◌, ◌<◌, ◌+◌, ◌^◌, IfOk};
 ghost use Rattle.vax_asm_encode.specs.Bytes.{HoldsIn};
 ghost use Rattle.vax_asm_second.specs.Laid.{is_known, link_to, holding, held};
 ghost use Rattle.vax_asm_second.specs.View.{known_of};

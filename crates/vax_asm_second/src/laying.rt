@@ -1,6 +1,6 @@
 // Sections with their fields filled in.
 
-ghost use Rattle.std.specs.Prelude.{◌≡◌, ◌≤◌, ◌<◌, ◌+◌, ◌^◌, ◌++◌, ◌∷◌, [], IfOk, OnOk, length, map, replicate};
+ghost use Rattle.std.specs.Prelude.{◌≡◌, ◌<◌, ◌+◌, ◌^◌, ◌++◌, ◌∷◌, [], IfOk, OnOk, length, replicate};
 ghost use Rattle.vax_asm_second.specs.Contents.{before_field};
 ghost use Rattle.vax_asm_second.specs.Faults.{first, first_of, fault_at};
 ghost use Rattle.vax_asm_second.specs.Laid.{linked, fixed, output, outputs, laid, section_of as laid_section};
