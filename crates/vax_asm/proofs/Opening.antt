@@ -1,5 +1,5 @@
 -- A walk by single steps is one by the statements that they open.
-use Rattle.std.proofs.Common.{◌≡◌, ◌<◌, ℕ, zero, suc, List, [], Option, Some, None, refl, sym, ap, ◌∙◌}
+use Rattle.std.proofs.Common.{◌≡◌, ℕ, zero, suc, List, [], Option, None, refl}
 use Rattle.vax_macro.specs.Expansion.{Stepped, Steps, Says, Faults, Ends, behind as opens_behind, opened, step}
 use Rattle.vax_macro.specs.Rest.{Rest, started, work}
 use Rattle.vax_asm_second.specs.declared.types.Fault.{Fault}

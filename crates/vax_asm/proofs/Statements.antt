@@ -1,6 +1,9 @@
 -- How a walk goes on behind a statement.
-use Rattle.std.proofs.Common.{◌≡◌, List, Option, Some, None, Result, refl, ap, ◌∙◌}
-use Rattle.vax_asm.specs.Placing.{Placed, Stands, FaultyLabel, Faulty, waiting_in, with_range}
+use Rattle.std.proofs.Common.{◌≡◌, ℕ, ◌&&◌, Bool, true, false, not, if◌then◌else◌, List, Option, Some, None, refl, ap}
+use Rattle.vax_asm.specs.Placing.{Placed, Stands, FaultyLabel, Faulty, if_wide, is_bad, is_listing, is_wide, placed_as, stated, waiting_in, with_range}
+use Rattle.std.specs.List.{list_any}
+use Rattle.vax_lex.specs.declared.token.Piece.{Piece}
+use Rattle.vax_asm_statement.specs.Reading.{Parsed}
 use Rattle.vax_asm.specs.PlacingView.{IsPlaced}
 use Rattle.vax_asm.specs.Walk.{Assembly, Next, behind, least, stopped}
 use Rattle.vax_asm.specs.declared.placing.Placed.TheVariants as code
@@ -52,3 +55,15 @@ pub range_faulty : (before after : Standing) (assignments more : List Assignment
 range_faulty before after assignments more kind (Stands s waiting) h = cc
 range_faulty before after assignments more kind (FaultyLabel other) h = cc
 range_faulty before after assignments more kind (Faulty other waiting) h = (ap (λ (k : FaultKind). Faulty (first_of k fault.Range) waiting) (ap (kind_in kind) h.0), h.1)
+
+-- a line of which each piece is a token is carried out as its statement
+of_tokens : (listing bad wide : Bool) (p : Placed) → (not bad && not wide) ≡ true
+    → (if listing then p else (if bad then Faulty fault.Token None else if_wide wide p)) ≡ p
+of_tokens true bad wide p e = refl
+of_tokens false true wide p e = cc
+of_tokens false false true p e = cc
+of_tokens false false false p e = refl
+
+pub tokens_stated : (origin : Origin) (line : List ℕ) (pieces : List Piece) (p : Parsed) (s : Standing) → (not (list_any is_bad pieces) && not (list_any is_wide pieces)) ≡ true
+    → placed_as origin line pieces p s ≡ stated origin line p s
+tokens_stated origin line pieces p s e = of_tokens (is_listing line p.what) (list_any is_bad pieces) (list_any is_wide pieces) (stated origin line p s) e

@@ -1,5 +1,5 @@
 -- What a statement does (VAX MACRO and Instruction Set Reference Manual, "VAX MACRO source statement format").
-use Rattle.std.specs.Prelude.{ℕ, ◌^◌, ◌-◌, Bool, true, false, ◌==◌, nat_lt, if◌then◌else◌, List, [], ◌∷◌, map, Option, Some, None, Result, Ok, Err}
+use Rattle.std.specs.Prelude.{ℕ, ◌^◌, ◌-◌, Bool, true, false, nat_lt, if◌then◌else◌, List, map, Option, Some, None, Result, Ok, Err}
 use Rattle.std.specs.List.{list_all, list_any}
 use Rattle.vax_asm_data.specs.Data.{Plain, Counted_first, Zero_last, data_stated, addresses_stated, text_stated, space_stated, align_stated, even_stated}
 use Rattle.vax_asm_instruction.specs.Stating.{instruction_stated}

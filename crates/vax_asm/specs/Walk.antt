@@ -1,6 +1,6 @@
 -- What a source assembles to: its statements one after another, as its macros, repeats and conditions open (VAX MACRO and Instruction Set
 -- Reference Manual, "VAX MACRO assembler directives" and "Diagnostic messages").
-use Rattle.std.specs.Prelude.{ℕ, zero, suc, ◌==◌, if◌then◌else◌, List, [], Option, Some, None, Result, Ok, Err}
+use Rattle.std.specs.Prelude.{ℕ, zero, suc, ◌==◌, if◌then◌else◌, List, [], Option, Some, None, Result, Err}
 use Rattle.vax_lex.specs.declared.value.Value.{Value}
 use Rattle.vax_macro.specs.Expansion.{Stepped, Steps, Says, Faults, Ends, Opened, Given, Faulty as Stops, AtEnd, Later, step}
 use Rattle.vax_macro.specs.Rest.{Opening, Rest, started, work}

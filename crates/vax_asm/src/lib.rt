@@ -12,4 +12,4 @@ mod walk;
 
 pub use error::AsmError;
 pub use vax_macro::FaultKind;
-pub use walk::assemble;
+pub use walk::{Walk, assemble};

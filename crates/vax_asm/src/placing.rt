@@ -5,22 +5,23 @@ ghost use Rattle.vax_asm.specs.Placing.{Placed as Meant, alone, placed, placed_a
 ghost use Rattle.vax_asm.specs.Sound.{IsSound, IsSoundWhat};
 ghost use Rattle.vax_asm_first.specs.Standing.{Standing as Before};
 ghost use Rattle.vax_asm_statement.specs.Within.{Within, WhatWithin};
-ghost use Rattle.vax_asm.specs.PlacingView.{IsPlaced};
+ghost use Rattle.vax_asm.specs.PlacingView.{IsPlaced, Places};
+ghost use Rattle.vax_asm.specs.View.{assembly_of};
 ghost use Rattle.vax_lex.specs.Tokens.{IsTokenOf, pieces_of};
-ghost use Rattle.vax_asm_labels.specs.View.{Waits};
+ghost use Rattle.vax_asm_labels.specs.View.{Leaves};
 ghost use Rattle.vax_asm_first.specs.Fixups.{Assignment as Waiting};
-ghost use Rattle.vax_asm_first.specs.View.{assignment_of, standing_of, Stands};
+ghost use Rattle.vax_asm_first.specs.View.{standing_of, Stands, States};
 ghost use Rattle.vax_asm_statement.specs.Reading.{body_seen, parsed, statement_seen};
 
-use crate::tokens::{directive, has_bad, has_wide, instruction, tokens_of};
+use crate::tokens::{are_tokens, directive, has_bad, has_wide, instruction, tokens_of};
 use std::alloc::Global;
 use std::rc::Rc;
 use vax_asm_data::{TextForm, addresses, align, data, even, space, text};
 use vax_asm_first::{Assignment, Origin, Refused, Standing, first_of};
 use vax_asm_labels::{assignment, end, entry, label, names, section};
 use vax_asm_statement::{Body, Directive, Statement, read_statement, text_of};
-use vax_lex::{Piece, Token, pieces};
-use vax_macro::FaultKind;
+use vax_lex::{Piece, Token};
+use vax_macro::{FaultKind, Line};
 use vax_space::NoMemory;
 
 /// What comes of a statement.
@@ -43,7 +44,8 @@ fn direct(
 ) -> Result<(), Refused>
     requires tokens { All (IsTokenOf line.now.value.items) operands.now }
     requires few { length operands.now < 2 ^ 32 }
-    ensures { Stands result (standing_of standing.new) (directed directive origin line.now.value.items operands.now (standing_of standing.old)) }
+    ensures { States (directed directive origin line.now.value.items operands.now)
+        result standing.old standing.new }
 {
     match directive {
         Directive::Section => section(standing, alloc, line, operands),
@@ -81,7 +83,9 @@ fn instruct(
 ) -> Result<(), Refused>
     requires tokens { All (IsTokenOf line.now.value.items) operands.now }
     requires few { length operands.now < 2 ^ 32 }
-    ensures { Stands result (standing_of standing.new) (instructed (instruction_named name.now) origin line.now.value.items operands.now (standing_of standing.old)) }
+    ensures { States
+        (instructed (instruction_named name.now) origin line.now.value.items operands.now)
+        result standing.old standing.new }
 {
     match instruction(name) {
         Some(row) => vax_asm_instruction::instruction(
@@ -102,7 +106,8 @@ fn operate(
 ) -> Result<(), Refused>
     requires tokens { All (IsTokenOf line.now.value.items) operands.now }
     requires few { length operands.now < 2 ^ 32 }
-    ensures { Stands result (standing_of standing.new) (operation_stated origin line.now.value.items name.now operands.now (standing_of standing.old)) }
+    ensures { States (operation_stated origin line.now.value.items name.now operands.now)
+        result standing.old standing.new }
 {
     match directive(name) {
         Some(found) => direct(standing, alloc, origin, line, found, operands),
@@ -122,8 +127,11 @@ fn state_body(
 ) -> Result<(), Refused>
     requires within { WhatWithin line.now.value.items (body_seen body) }
     requires sound { IsSoundWhat (2 ^ 32 - 1) (body_seen body) }
-    ensures stands { Stands result (standing_of standing.new) (body_stated origin line.now.value.items (body_seen body.entry) (standing_of standing.old)).result }
-    ensures waits { Waits result (map assignment_of assignments.old.items) (map assignment_of assignments.new.items) (body_stated origin line.now.value.items (body_seen body.entry) (standing_of standing.old)).waiting }
+    ensures stands { States
+        (λ s. (body_stated origin line.now.value.items (body_seen body.entry) s).result)
+        result standing.old standing.new }
+    ensures waits { Leaves (body_stated origin line.now.value.items (body_seen body.entry)
+        (standing_of standing.old)).waiting result assignments.old assignments.new }
 {
     match body {
         Body::Nothing => Ok(()),
@@ -159,7 +167,9 @@ fn state_rest(
 ) -> Result<Placed, NoMemory>
     requires within { WhatWithin line.now.value.items (body_seen body) }
     requires sound { IsSoundWhat (2 ^ 32 - 1) (body_seen body) }
-    ensures { IfOk result (λ p. IsPlaced p (standing_of standing.old) (standing_of standing.new) (map assignment_of assignments.old.items) (map assignment_of assignments.new.items) (alone (body_stated origin line.now.value.items (body_seen body.entry) (standing_of standing.old)))) }
+    ensures { Places
+        (λ s. alone (body_stated origin line.now.value.items (body_seen body.entry) s)) result
+        (assembly_of standing.old assignments.old) (assembly_of standing.new assignments.new) }
 {
     match state_body(standing, assignments, alloc, origin, line, body) {
         Ok(()) => Ok(Placed::Stands),
@@ -180,7 +190,9 @@ fn state_beside(
 ) -> Result<Placed, NoMemory>
     requires within { WhatWithin line.now.value.items (body_seen body) }
     requires sound { IsSoundWhat (2 ^ 32 - 1) (body_seen body) }
-    ensures { IfOk result (λ p. IsPlaced p (standing_of standing.old) (standing_of standing.new) (map assignment_of assignments.old.items) (map assignment_of assignments.new.items) (beside kind (body_seen body.entry) (body_stated origin line.now.value.items (body_seen body.entry) (standing_of standing.old)))) }
+    ensures { Places (λ s. beside kind (body_seen body.entry)
+        (body_stated origin line.now.value.items (body_seen body.entry) s)) result
+        (assembly_of standing.old assignments.old) (assembly_of standing.new assignments.new) }
 {
     if let Body::Nothing = body {
         return Ok(Placed::FaultyLabel(kind));
@@ -204,7 +216,8 @@ fn state(
 ) -> Result<Placed, NoMemory>
     requires within { Within line.now.value.items (statement_seen statement) }
     requires sound { IsSound (2 ^ 32 - 1) (statement_seen statement) }
-    ensures { IfOk result (λ p. IsPlaced p (standing_of standing.old) (standing_of standing.new) (map assignment_of assignments.old.items) (map assignment_of assignments.new.items) (stated origin line.now.value.items (statement_seen statement.entry) (standing_of standing.old))) }
+    ensures { Places (stated origin line.now.value.items (statement_seen statement.entry)) result
+        (assembly_of standing.old assignments.old) (assembly_of standing.new assignments.new) }
 {
     let Some(found) = statement.label else {
         return state_rest(standing, assignments, alloc, origin, line, statement.body);
@@ -241,7 +254,9 @@ fn is_listing(line: &[u8], body: Body<'_>) -> bool
 /// A number above 64 bits is out of range.
 #[tactic(auto, using(crate::proofs::Statements::range_stands, crate::proofs::Statements::range_label, crate::proofs::Statements::range_faulty))]
 fn with_range(placed: Placed) -> Placed
-    ensures { (before : Before) (after : Before) (assignments : List Waiting) (more : List Waiting) (p : Meant) → IsPlaced placed before after assignments more p → IsPlaced result before after assignments more (with_range p) }
+    ensures { (before after : Before) (assignments more : List Waiting) (p : Meant) →
+        IsPlaced placed before after assignments more p →
+        IsPlaced result before after assignments more (with_range p) }
 {
     match placed {
         Placed::Stands => Placed::Faulty(FaultKind::Range),
@@ -251,7 +266,7 @@ fn with_range(placed: Placed) -> Placed
     }
 }
 
-/// Carries out the statement that the tokens of a line are.
+/// Carries out the statement that the tokens of a line are. What may be no token is asked of few lines.
 fn carry_out(
     standing: &mut Standing,
     assignments: &mut Vec<Assignment>,
@@ -263,8 +278,13 @@ fn carry_out(
 ) -> Result<Placed, NoMemory>
     requires within { Within line.now.value.items (statement_seen statement) }
     requires sound { IsSound (2 ^ 32 - 1) (statement_seen statement) }
-    ensures { IfOk result (λ p. IsPlaced p (standing_of standing.old) (standing_of standing.new) (map assignment_of assignments.old.items) (map assignment_of assignments.new.items) (placed_as origin line.now.value.items found.now (statement_seen statement.entry) (standing_of standing.old))) }
+    ensures { Places
+        (placed_as origin line.now.value.items found.now (statement_seen statement.entry)) result
+        (assembly_of standing.old assignments.old) (assembly_of standing.new assignments.new) }
 {
+    if are_tokens(found) {
+        return state(standing, assignments, alloc, origin, line, statement);
+    }
     if is_listing(line, statement.body) {
         return state(standing, assignments, alloc, origin, line, statement);
     }
@@ -278,45 +298,42 @@ fn carry_out(
     Ok(placed)
 }
 
-/// The pieces of a text, and its tokens.
+/// The tokens of a statement.
 #[tactic(auto, using(crate::proofs::Within::few_tokens))]
-fn read(alloc: Global, text: &[u8]) -> Result<(Vec<Piece>, Vec<Token>), NoMemory>
-    requires { length text.now ≤ 1024 }
-    ensures pieces { IfOk result (λ r. r.0.items ≡ pieces_of text.now) }
-    ensures tokens { IfOk result (λ r. r.1.items ≡ map token_of (pieces_of text.now)) }
-    ensures within { IfOk result (λ r. All (IsTokenOf text.now) r.1.items) }
-    ensures few { IfOk result (λ r. length r.1.items ≤ length text.now) }
+fn read(alloc: Global, said: &Line) -> Result<Vec<Token>, NoMemory>
+    ensures tokens { IfOk result (λ v. v.items ≡ map token_of (pieces_of said.now.text.items)) }
+    ensures within { IfOk result (λ v. All (IsTokenOf said.now.text.items) v.items) }
+    ensures few { IfOk result (λ v. length v.items ≤ length said.now.text.items) }
 {
-    let Ok(found) = pieces(alloc, text) else {
-        return Err(NoMemory);
-    };
-    let tokens = tokens_of(alloc, &found)?;
-    Ok((found, tokens))
+    let tokens = tokens_of(alloc, &said.pieces)?;
+    Ok(tokens)
 }
 
 /// The statement that the tokens of a line are.
 fn statement_of<'a>(tokens: &'a [Token]) -> Statement<'a>
     requires few { length tokens.now ≤ 1024 }
     ensures statement { statement_seen result ≡ parsed tokens.now }
-    ensures within { (line : List ℕ) → All (IsTokenOf line) tokens.now → Within line (statement_seen result) }
+    ensures within { (line : List ℕ) →
+        All (IsTokenOf line) tokens.now → Within line (statement_seen result) }
     ensures sound { IsSound (2 ^ 32 - 1) (statement_seen result) }
 {
     read_statement(tokens)
 }
 
-/// Carries out the statement of a text, from what stands before it.
+/// Carries out a statement, from what stands before it.
 #[tactic(auto, unfolding(crate::specs::Placing::placed))]
 pub(crate) fn place(
     standing: &mut Standing,
     assignments: &mut Vec<Assignment>,
     alloc: Global,
     origin: Origin,
-    text: Vec<u8>,
+    said: Line,
 ) -> Result<Placed, NoMemory>
-    requires { length text.items ≤ 1024 }
-    ensures { IfOk result (λ p. IsPlaced p (standing_of standing.old) (standing_of standing.new) (map assignment_of assignments.old.items) (map assignment_of assignments.new.items) (placed origin text.items (standing_of standing.old))) }
+    ensures { Places (placed origin said.text.items) result
+        (assembly_of standing.old assignments.old) (assembly_of standing.new assignments.new) }
 {
-    let (found, tokens) = read(alloc, &text)?;
+    let tokens = read(alloc, &said)?;
+    let Line { text, pieces, .. } = said;
     let Ok(line) = Rc::new(alloc, text) else {
         return Err(NoMemory);
     };
@@ -326,7 +343,7 @@ pub(crate) fn place(
         alloc,
         origin,
         &line,
-        &found,
+        &pieces,
         statement_of(&tokens),
     )
 }

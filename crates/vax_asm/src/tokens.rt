@@ -1,6 +1,6 @@
 // What a line is cut into.
 
-ghost use Rattle.std.specs.Prelude.{◌≡◌, cond, IfOk, IfSome, None, Some, map, option_map};
+ghost use Rattle.std.specs.Prelude.{◌≡◌, ◌&&◌, not, cond, IfOk, IfSome, None, Some, map, option_map};
 ghost use Rattle.std.specs.List.{list_any};
 ghost use Rattle.vax_asm.specs.Placing.{directive_named as named_directive, instruction_named, in_ascii, is_bad, is_wide, kind_of, token_of};
 ghost use Rattle.vax_isa.specs.Rows.{IsFormed, plain, row_of};
@@ -68,6 +68,13 @@ pub(crate) fn has_wide(pieces: &[Piece]) -> bool
         }
     }
     false
+}
+
+/// Whether each piece of a line is a token.
+pub(crate) fn are_tokens(pieces: &[Piece]) -> bool
+    ensures { result ≡ (not (list_any is_bad pieces.now) && not (list_any is_wide pieces.now)) }
+{
+    !has_bad(pieces) && !has_wide(pieces)
 }
 
 /// The pieces of a line as tokens.

@@ -1,13 +1,12 @@
 // A source from its first statement to its last.
 
-ghost use Rattle.std.specs.Prelude.{◌≡◌, ◌≤◌, ◌<◌, ℕ, Err, IfOk, None, length, map, option_map};
-ghost use Rattle.vax_asm.specs.View.{assembly_of, Answers, Says};
+ghost use Rattle.std.specs.Prelude.{◌≡◌, ◌<◌, Err, IfOk, OnOk, None, map, option_map};
+ghost use Rattle.vax_asm.specs.View.{assembly_of, Answers, Says, Stood};
 ghost use Rattle.vax_asm.specs.Walk.{assembled, ended, resumed, stopped, unless_circle};
 ghost use Rattle.vax_asm_second.specs.Modules.{filled_in};
 ghost use Rattle.vax_asm_second.specs.View.{Fills};
-ghost use Rattle.vax_macro.specs.Expanders.{rest_of, error_of, unclosed_of, read_of, FaultIs};
+ghost use Rattle.vax_macro.specs.Expanders.{unclosed_of, read_of, FaultIs};
 ghost use Rattle.vax_macro.specs.Expansion.{Opened};
-ghost use Rattle.vax_macro.specs.Rest.{started};
 ghost use Rattle.vax_macro.specs.View.{opening_of};
 ghost use Rattle.vax_module.specs.Formed.{Formed};
 ghost use Rattle.vax_asm_first.specs.Circles.{first_circle};
@@ -26,17 +25,18 @@ use vax_space::NoMemory;
 
 /// What the statements so far leave, and the fault that was met in the line that is being read.
 #[derive(Drop)]
-struct Walk {
-    standing: Standing,
+pub struct Walk {
+    pub standing: Standing,
     /// The assignments that have no value yet, in order.
-    assignments: Vec<Assignment>,
-    met: Option<Fault>,
+    pub assignments: Vec<Assignment>,
+    pub met: Option<Fault>,
 }
 
 impl Walk {
     /// The fault that ends the walk where this one is met.
     fn stopped(&self, alloc: Global, fault: Fault) -> FillError
-        ensures { Fills (Err result) (stopped (map assignment_of self.now.assignments.items) fault) }
+        ensures { Fills (Err result)
+            (stopped (map assignment_of self.now.assignments.items) fault) }
     {
         match first_circle(alloc, &self.assignments) {
             Ok(circle) => FillError::Fault(behind_circle(circle, fault)),
@@ -44,11 +44,17 @@ impl Walk {
         }
     }
 
-    /// Carries out the statement of a text.
+    /// Carries out a statement.
     #[tactic(auto, using(crate::proofs::Statements::behind_stands, crate::proofs::Statements::behind_faulty, crate::proofs::Statements::behind_label), unfolding(crate::specs::Walk::said))]
-    fn say(&mut self, alloc: Global, origin: Origin, text: Vec<u8>) -> Result<(), FillError>
-        requires { length text.items ≤ 1024 }
-        ensures { Says result origin text.items (assembly_of self.old.standing self.old.assignments) (assembly_of self.new.standing self.new.assignments) self.old.met self.new.met }
+    pub fn say(&mut self, alloc: Global, origin: Origin, said: Line) -> Result<(), FillError>
+        ensures says { Says result origin said.text.items
+            (assembly_of self.old.standing self.old.assignments)
+            (assembly_of self.new.standing self.new.assignments) self.old.met self.new.met }
+        // Where no fault was met, the statement stands.
+        ensures stands { OnOk result (self.new.met ≡ None → (self.old.met ≡ None)
+            × Stood origin said.text.items
+                (assembly_of self.old.standing self.old.assignments)
+                (assembly_of self.new.standing self.new.assignments)) }
     {
         if let Some(met) = of_another(self.met, origin) {
             return Err(self.stopped(alloc, met));
@@ -58,7 +64,7 @@ impl Walk {
             &mut self.assignments,
             alloc,
             origin,
-            text,
+            said,
         ) else {
             return Err(FillError::NoMemory);
         };
@@ -77,7 +83,10 @@ impl Walk {
 
     /// The module of all that was read, unless an assignment makes its name come back to itself.
     fn fill(self, alloc: Global, begin: Option<Begin>) -> Result<Module, FillError>
-        ensures module { Fills result (unless_circle (first_circle (map assignment_of self.assignments.items)) (filled_in (standing_of self.standing) (map assignment_of self.assignments.items) (option_map opening_of begin))) }
+        ensures module { Fills result
+            (unless_circle (first_circle (map assignment_of self.assignments.items))
+            (filled_in (standing_of self.standing)
+            (map assignment_of self.assignments.items) (option_map opening_of begin))) }
         ensures formed { IfOk result Formed }
     {
         match first_circle(alloc, &self.assignments) {
@@ -91,8 +100,9 @@ impl Walk {
     }
 
     /// The module, once the source is read to its end.
-    fn end(self, alloc: Global, begin: Option<Begin>) -> Result<Module, FillError>
-        ensures module { Fills result (ended (assembly_of self.standing self.assignments) self.met (option_map opening_of begin)) }
+    pub fn end(self, alloc: Global, begin: Option<Begin>) -> Result<Module, FillError>
+        ensures module { Fills result (ended (assembly_of self.standing self.assignments)
+            self.met (option_map opening_of begin)) }
         ensures formed { IfOk result Formed }
     {
         match self.met {
@@ -102,14 +112,16 @@ impl Walk {
     }
 
     /// The source ends with a fault that macros, repeats and conditions show, or with a begin without its end.
-    fn stop(
+    pub fn stop(
         self,
         alloc: Global,
         expander: &Expander,
         line: u32,
         kind: FaultKind,
     ) -> Result<Module, FillError>
-        ensures module { (o : Opened) → FaultIs (unclosed_of expander.now) (read_of expander.now) line kind o → Fills result (resumed o (assembly_of self.standing self.assignments) self.met) }
+        ensures module { (o : Opened) →
+            FaultIs (unclosed_of expander.now) (read_of expander.now) line kind o →
+            Fills result (resumed o (assembly_of self.standing self.assignments) self.met) }
         ensures formed { IfOk result Formed }
     {
         match expander.unclosed() {
@@ -149,12 +161,12 @@ fn module_of(alloc: Global, source: &[u8]) -> Result<Module, FillError>
             here,
         };
         match expander.next(&names) {
-            Ok(Some(Line { number, text, .. })) => {
+            Ok(Some(said)) => {
                 let origin = Origin {
-                    line: number,
+                    line: said.number,
                     place: expander.lines_read(),
                 };
-                walk.say(alloc, origin, text)?;
+                walk.say(alloc, origin, said)?;
             }
             Ok(None) => return walk.end(alloc, None),
             Err(MacroError::Fault { line, kind }) => return walk.stop(alloc, &expander, line, kind),

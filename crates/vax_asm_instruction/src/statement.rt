@@ -1,16 +1,15 @@
 // Instructions as statements.
 
-ghost use Rattle.std.specs.Prelude.{◌≡◌, ◌≤◌, ◌<◌, ◌+◌, ◌*◌, ◌^◌, ◌∷◌, [], true, All, IfOk, OnOk, length, map};
+ghost use Rattle.std.specs.Prelude.{◌≡◌, ◌≤◌, ◌<◌, ◌+◌, ◌^◌, true, All, IfOk, OnOk, length, map};
 ghost use Rattle.vax_asm_encode.specs.Operands.{may_stand};
 ghost use Rattle.vax_asm_instruction.specs.Bytes.{HasInstruction};
 ghost use Rattle.vax_asm_instruction.specs.Stating.{fault_at, fault_in, fixed, instruction_stated, opcode_stated, operand_stated, operands_stated, prepared, stands_at, unless_here};
-ghost use Rattle.vax_asm_instruction.specs.View.{prepared_seen, reached_seen};
+ghost use Rattle.vax_asm_instruction.specs.View.{prepared_seen, reached_seen, Reaches};
 ghost use Rattle.vax_isa.specs.Rows.{IsKind, IsFormed, plain};
 ghost use Rattle.vax_asm_sections.specs.Layout.{current_of};
 ghost use Rattle.vax_lex.specs.Tokens.{IsTokenOf};
 ghost use Rattle.vax_asm_first.specs.Progress.{site_of};
-ghost use Rattle.vax_asm_first.specs.Standing.{with_scope};
-ghost use Rattle.vax_asm_first.specs.View.{Stands, filling_of, progress_of, site_seen, standing_of};
+ghost use Rattle.vax_asm_first.specs.View.{filling_of, progress_of, site_seen, standing_of, ChangesScope, States};
 ghost use Rattle.vax_asm_scope.specs.Kept.{scope_of};
 ghost use Rattle.vax_asm_statement.specs.Modes.{seen};
 ghost use Rattle.vax_asm_statement.specs.Parts.{parts};
@@ -59,8 +58,9 @@ fn prepare(
     operand: Written<'_>,
 ) -> Result<Prepared, NoMemory>
     requires { All (IsTokenOf site.line.now.value.items) operand.expression.now }
-    ensures prepared { IfOk result (λ p. prepared_seen p (scope_of standing.new.scope) ≡ prepared (site_seen site.entry) (seen operand.entry) (scope_of standing.old.scope)) }
-    ensures same { OnOk result (standing_of standing.new ≡ with_scope (scope_of standing.new.scope) (standing_of standing.old)) }
+    ensures prepared { IfOk result (λ p. prepared_seen p (scope_of standing.new.scope)
+        ≡ prepared (site_seen site.entry) (seen operand.entry) (scope_of standing.old.scope)) }
+    ensures same { OnOk result (ChangesScope standing.old standing.new) }
 {
     let Written {
         mode,
@@ -126,7 +126,8 @@ fn fix(
     requires kind { IsKind kind }
     requires stands { may_stand kind operand ≡ true }
     requires near { at + 6 < 2 ^ 32 }
-    ensures { IfOk result (λ f. progress_of f standing.new ≡ fixed (site_seen site.entry) kind operand (filling_of filling) at (standing_of standing.old) None) }
+    ensures { IfOk result (λ f. progress_of f standing.new ≡ fixed (site_seen site.entry)
+        kind operand (filling_of filling) at (standing_of standing.old) None) }
 {
     let fixup = Fixup {
         origin: site.origin,
@@ -147,7 +148,9 @@ fn place(
 ) -> Result<Reached, NoMemory>
     requires kind { IsKind kind }
     requires near { at + 9 < 2 ^ 32 }
-    ensures reached { IfOk result (λ r. reached_seen r standing.new ≡ stands_at (site_seen site.entry) kind (prepared_seen prepared (scope_of standing.old.scope)) at (standing_of standing.old)) }
+    ensures reached { Reaches (stands_at (site_seen site.entry)
+        kind (prepared_seen prepared (scope_of standing.old.scope)) at)
+        result standing.old standing.new }
     ensures near { IfOk result (λ r. r.at ≤ at + 9) }
 {
     let section = u32::try_from(standing.layout.number()).map_err(|_| NoMemory)?;
@@ -178,7 +181,8 @@ fn state_operand(
     requires kind { IsKind kind }
     requires tokens { All (IsTokenOf site.line.now.value.items) tokens.now }
     requires near { at + 9 < 2 ^ 32 }
-    ensures reached { IfOk result (λ r. reached_seen r standing.new ≡ operand_stated (site_seen site.entry) kind tokens.now at (standing_of standing.old)) }
+    ensures reached { Reaches (operand_stated (site_seen site.entry) kind tokens.now at)
+        result standing.old standing.new }
     ensures near { IfOk result (λ r. r.at ≤ at + 9) }
 {
     let written = operand_as(kind, site.line, tokens);
@@ -200,7 +204,9 @@ fn state_operands(
     requires count { length operands.now ≡ row.now.count }
     requires tokens { All (λ o. All (IsTokenOf site.line.now.value.items) o.now) operands.now }
     requires near { before.at ≤ 1048577 }
-    ensures { IfOk result (λ f. progress_of f standing.new ≡ (operands_stated (site_seen site.entry) (map (λ o. o.now) operands.now) row.now.operands (reached_seen before standing.old)).progress) }
+    ensures { IfOk result (λ f. progress_of f standing.new
+        ≡ (operands_stated (site_seen site.entry) (map (λ o. o.now) operands.now)
+        row.now.operands (reached_seen before standing.old)).progress) }
 {
     let Reached { mut at, mut fault } = before;
     for i in 0..operands.len() {
@@ -213,7 +219,7 @@ fn state_operands(
 
 /// The opcode.
 fn state_opcode(standing: &mut Standing, alloc: Global, row: &Row) -> Result<Reached, NoMemory>
-    ensures reached { IfOk result (λ r. reached_seen r standing.new ≡ opcode_stated (plain row.now) (standing_of standing.old)) }
+    ensures reached { Reaches (opcode_stated (plain row.now)) result standing.old standing.new }
     ensures near { IfOk result (λ r. r.at ≤ 1048577) }
 {
     let at = standing.section_size() + 1;
@@ -233,7 +239,9 @@ fn state(
     requires formed { IsFormed (plain row.now) }
     requires count { length operands.now ≡ row.now.count }
     requires tokens { All (λ o. All (IsTokenOf site.line.now.value.items) o.now) operands.now }
-    ensures { IfOk result (λ f. progress_of f standing.new ≡ (operands_stated (site_seen site.entry) (map (λ o. o.now) operands.now) row.now.operands (opcode_stated (plain row.now) (standing_of standing.old))).progress) }
+    ensures { IfOk result (λ f. progress_of f standing.new
+        ≡ (operands_stated (site_seen site.entry) (map (λ o. o.now) operands.now)
+        row.now.operands (opcode_stated (plain row.now) (standing_of standing.old))).progress) }
 {
     let before = state_opcode(standing, alloc, row)?;
     state_operands(standing, alloc, site, row, operands, before)
@@ -257,9 +265,13 @@ pub fn instruction(
     requires formed { IsFormed (plain row.now) }
     requires tokens { All (IsTokenOf line.now.value.items) operands.now }
     requires few { length operands.now < 2 ^ 32 }
-    ensures stated { Stands result (standing_of standing.new) (instruction_stated (plain row.now) origin line.now.value.items operands.now (standing_of standing.old)) }
+    ensures stated { States
+        (instruction_stated (plain row.now) origin line.now.value.items operands.now)
+        result standing.old standing.new }
     // The current section has grown by an instruction with this opcode, as the grammar of instructions reads it.
-    ensures read_back { OnOk result (HasInstruction (plain row.now) (current_of (standing_of standing.old).sections) (current_of (standing_of standing.new).sections)) }
+    ensures read_back { OnOk result
+        (HasInstruction (plain row.now) (current_of (standing_of standing.old).sections)
+        (current_of (standing_of standing.new).sections)) }
 {
     let Ok(list) = parts(alloc, operands) else {
         return Err(Refused::NoMemory);

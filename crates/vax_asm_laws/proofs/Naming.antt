@@ -18,7 +18,6 @@ use Rattle.vax_asm_scope.specs.Scope.{Scope, assigned, begun_block, entry, is_lo
 use Rattle.vax_asm_statement.specs.Items.{whole}
 use Rattle.vax_asm_statement.specs.Parts.{parts}
 use Rattle.vax_asm_statement.specs.declared.reading.Label.{Label}
-use Rattle.vax_asm_values.specs.Values.{Written}
 use Rattle.vax_word.specs.declared.Size.TheVariants as size
 use Rattle.vax_asm_encode.specs.declared.operand.DataKind.TheVariants.{Number}
 use Rattle.vax_asm_data.specs.Data.{item_stated}

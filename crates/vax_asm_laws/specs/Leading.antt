@@ -42,3 +42,26 @@ pub record LiesBehind (i size : ℕ) (s t : Standing) (section : Section) : Type
   pub more : List ℕ
   pub bytes : section.bytes ≡ (outputs (known_in t) i 0 (section_at i s.sections).parts).bytes ++ more
   pub place : length (outputs (known_in t) i 0 (section_at i s.sections).parts).bytes ≡ size
+
+-- a statement without a fault leads from what stood before to this
+pub record LeadsOn (line : Line) (before after : Standing) : Type 0 where
+  pub waiting : Option Assignment
+  pub placed : placed line.origin line.text before ≡ Stands after waiting
+
+-- a row of statements in two halves, with what stands between them and behind them, and the first begin without its end
+pub record Halves : Type 0 where
+  pub first : List Line
+  pub middle : Assembly
+  pub rest : List Line
+  pub end : Assembly
+  pub begin : Option Opening
+
+-- the module is of these statements
+pub record IsOf (h : Halves) (m : Module) : Type 0 where
+  pub before : Leads nothing h.first h.middle
+  pub behind : Leads h.middle h.rest h.end
+  pub filled : filled_in h.end.standing h.end.assignments h.begin ≡ Ok m
+
+-- where the second half begins in a section
+abbrev pub place_in : ℕ → Halves → ℕ
+place_in i h = (section_at i h.middle.standing.sections).size

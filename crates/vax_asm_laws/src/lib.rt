@@ -2,25 +2,22 @@
 //! behind it lie in the module. Each is the contract of a call that does nothing.
 #![tactic(auto)]
 
-ghost use Rattle.std.specs.Prelude.{◌≡◌, ◌<◌, ℕ, List, Ok, Some, Option, length, slice_get};
-ghost use Rattle.vax_asm.specs.Placing.{Stands, placed};
-ghost use Rattle.vax_asm.specs.Walk.{Assembly, assembled, nothing};
-ghost use Rattle.vax_asm_second.specs.Modules.{filled_in};
-ghost use Rattle.vax_macro.specs.Rest.{Opening};
+ghost use Rattle.std.specs.Prelude.{◌≡◌, ◌<◌, ℕ, List, Ok, Some, length, slice_get};
+ghost use Rattle.vax_asm.specs.Walk.{assembled};
 ghost use Rattle.vax_module.specs.declared.Module.{Module};
 ghost use Rattle.vax_module.specs.declared.Section.{Section};
-ghost use Rattle.vax_asm_first.specs.Fixups.{Assignment};
 ghost use Rattle.vax_asm_first.specs.Standing.{Standing, at_start};
-ghost use Rattle.vax_asm_first.specs.declared.types.Origin.{Origin};
-ghost use Rattle.vax_asm_laws.specs.Counted.{AreCounted, Keeps, section_at};
-ghost use Rattle.vax_asm_laws.specs.Leading.{IsStated, Leads, LiesBehind, Line};
+ghost use Rattle.vax_asm_laws.specs.Counted.{AreCounted, Keeps};
+ghost use Rattle.vax_asm_laws.specs.Leading.{Halves, IsOf, IsStated, LeadsOn, LiesBehind, Line, place_in};
 
 /// A statement adds parts to sections one behind another, and counts their bytes: before it and behind it each section's size is the number
 /// of bytes of its parts, and each part that is filled in later knows where it begins. What was there before stays.
 pub fn statements_are_counted()
     ensures start { AreCounted at_start.sections }
-    ensures counted { (origin : Origin) → (text : List ℕ) → (s : Standing) → (t : Standing) → (waiting : Option Assignment) → AreCounted s.sections → placed origin text s ≡ Stands t waiting → AreCounted t.sections }
-    ensures keeps { (origin : Origin) → (text : List ℕ) → (s : Standing) → (t : Standing) → (waiting : Option Assignment) → AreCounted s.sections → placed origin text s ≡ Stands t waiting → Keeps s.sections t.sections }
+    ensures counted { (line : Line) (s t : Standing) →
+        AreCounted s.sections → LeadsOn line s t → AreCounted t.sections }
+    ensures keeps { (line : Line) (s t : Standing) →
+        AreCounted s.sections → LeadsOn line s t → Keeps s.sections t.sections }
 {}
 
 /// A source that assembles is a row of statements, and each section of its module has as many bytes as these have counted.
@@ -31,5 +28,7 @@ pub fn modules_have_what_was_counted()
 /// Where a statement begins in a section, there the bytes begin in the module that it and those behind it put into the section. So a label,
 /// whose value is the place where its statement begins, names what stands behind it.
 pub fn labels_name_what_stands_behind()
-    ensures { (first : List Line) → (rest : List Line) → (a : Assembly) → (b : Assembly) → (begin : Option Opening) → (m : Module) → (i : ℕ) → (section : Section) → Leads nothing first a → Leads a rest b → filled_in b.standing b.assignments begin ≡ Ok m → i < length a.standing.sections.all → slice_get m.sections i ≡ Some section → LiesBehind i (section_at i a.standing.sections).size a.standing b.standing section }
+    ensures { (halves : Halves) (m : Module) (i : ℕ) (section : Section) → IsOf halves m →
+        i < length halves.middle.standing.sections.all → slice_get m.sections i ≡ Some section →
+        LiesBehind i (place_in i halves) halves.middle.standing halves.end.standing section }
 {}

@@ -1,5 +1,6 @@
 //! The texts that errors are shown with.
 use std::test::Fail;
+use vax_outside::{Failed, FilesFault};
 use vax_space::{NoMemory, SpaceError};
 
 #[test]
@@ -27,5 +28,23 @@ fn tells_errors(rt: HostRuntime) -> Result<(), Fail> {
     }
     let shown = format!(in alloc; "{}", NoMemory)?;
     assert!(rt; shown.as_str() == "out of memory");
+    Ok(())
+}
+
+#[test]
+fn tells_failed_calls(rt: HostRuntime) -> Result<(), Fail> {
+    let alloc = rt.alloc();
+    let rows = [
+        (FilesFault::Missing, "there is no file of this name"),
+        (FilesFault::Large, "the file has more bytes than the limit"),
+        (FilesFault::Failed, "the file can't be read"),
+        (FilesFault::NoMemory, "out of memory"),
+    ];
+    for (error, text) in rows {
+        let shown = format!(in alloc; "{error}")?;
+        assert!(rt; shown.as_str() == text, "{text}: {shown}");
+    }
+    let shown = format!(in alloc; "{}", Failed)?;
+    assert!(rt; shown.as_str() == "a call to the outside failed");
     Ok(())
 }

@@ -21,42 +21,48 @@ fn summary_of<'a>(verb: Verb) -> Summary<'a> {
             about: "Run a program in kernel mode and report the registers on standard error",
             example: "Example: at most 5000 steps, then 16 bytes of memory in the report\n  \
                 vax bare COUNT.MAR --steps 5000 --dump 80000200:16\n\n\
-                Sources, reports, exit statuses and kinds of faults: docs/MACHINE.md",
+                Sources: docs/ASSEMBLER.md\n\
+                Reports, exit statuses and kinds of faults: docs/MESSAGES.md",
         },
         Verb::Run => Summary {
             name: "vax run",
             about: "Run a program in user mode under a system and report the registers on standard error",
             example: "Example: two sources, linked in this order, read the console's input from a file\n  \
                 vax run MAIN.MAR WORDS.MAR --input TEXT.TXT\n\n\
-                Sources, reports, exit statuses and kinds of faults: docs/MACHINE.md",
+                Sources: docs/ASSEMBLER.md\n\
+                Reports, exit statuses and kinds of faults: docs/MESSAGES.md",
         },
         Verb::Build => Summary {
             name: "vax build",
             about: "Write the image of a program to standard output",
             example: "Example: an image that `vax bare` takes in place of the source\n  \
                 vax build COUNT.MAR --base bare >COUNT.IMG\n\n\
-                Sources, images, exit statuses and kinds of faults: docs/MACHINE.md",
+                Sources: docs/ASSEMBLER.md\n\
+                Images: docs/MACHINE.md\n\
+                Exit statuses and kinds of faults: docs/MESSAGES.md",
         },
         Verb::List => Summary {
             name: "vax list",
             about: "Write the instructions of a program to standard output",
             example: "Example: what a source is assembled to\n  \
                 vax list COUNT.MAR --base bare\n\n\
-                Sources, exit statuses and kinds of faults: docs/MACHINE.md",
+                Sources: docs/ASSEMBLER.md\n\
+                Exit statuses and kinds of faults: docs/MESSAGES.md",
         },
         Verb::Console => Summary {
             name: "vax console",
             about: "Run a program as the lines of a script say, and answer each on standard error",
             example: "Example: a script of the lines EXAMINE R1, NEXT 10 and CONTINUE\n  \
                 vax console COUNT.MAR --base bare --script LINES.TXT\n\n\
-                Sources, scripts, exit statuses and kinds of faults: docs/MACHINE.md",
+                Sources: docs/ASSEMBLER.md\n\
+                Scripts, exit statuses and kinds of faults: docs/MESSAGES.md",
         },
         Verb::Work => Summary {
             name: "vax work",
             about: "Make a program from a number, run it, and report the registers on standard error",
             example: "Example: a longer program, with few pages resident\n  \
                 vax work --seed 7 --size 5000 --frames 64\n\n\
-                Reports, exit statuses and kinds of faults: docs/MACHINE.md",
+                Reports, exit statuses and kinds of faults: docs/MESSAGES.md",
         },
     }
 }
@@ -181,7 +187,8 @@ fn command_line<'a>(alloc: Global) -> Result<Command<'a>, AllocError> {
         .after_help(
             "Example: run a source, then ask what else `vax run` takes\n  \
                 vax run HELLO.MAR\n  vax run --help\n\n\
-                Sources, reports, exit statuses and kinds of faults: docs/MACHINE.md",
+                Sources: docs/ASSEMBLER.md\n\
+                Reports, exit statuses and kinds of faults: docs/MESSAGES.md",
         )
         .no_binary_name(true)
         .subcommand_required(true)

@@ -4,10 +4,11 @@ ghost use Rattle.std.specs.Option.{option_and_then, option_map};
 ghost use Rattle.vax_cli.specs.Table.{keys_of, takes_files};
 ghost use Rattle.vax_cli.specs.Items.{items_from, names};
 ghost use Rattle.vax_cli.specs.Words.{asks_about, asks_help, behind, build_of, checked, command_of, console_of, is_session, options_of, said_of, work_of};
+ghost use Rattle.vax_cli.specs.declared.command.Command.TheVariants.{About};
 ghost use Rattle.vax_cli.specs.Said.{AreFiles, AreWithin, IsWithin, items_of, names_of, options, said, texts};
 
 use crate::command::{Base, Command, Names, Options};
-use crate::items::{Item, are_distinct, names_in, read_items, value_in};
+use crate::items::{Item, Items, are_distinct, names_in, read_items, value_in};
 use crate::table::{Key, Verb, verb_of};
 use crate::values::{
     base_of, dumps_of, format_of, frames_of, record_of, seed_of, size_of, steps_of, turns_of,
@@ -152,33 +153,62 @@ fn asks_about(words: &[String]) -> bool
     }
 }
 
+/// A command, and the items behind its word that say it.
+#[derive(Drop)]
+pub(crate) struct Plain<'a> {
+    pub(crate) command: Command<'a>,
+    pub(crate) said: Option<Said<'a>>,
+}
+
+/// The items behind the word of a command.
+#[derive(Drop)]
+pub(crate) struct Said<'a> {
+    pub(crate) verb: Verb,
+    pub(crate) items: Items<'a>,
+}
+
 /// What names and options say, in any order.
 #[tactic(auto, using(crate::proofs::Counted::few_checked, crate::proofs::Counted::none_checked))]
-fn read_command<'a>(verb: Verb, words: &'a [String]) -> Option<Command<'a>>
-    ensures said { option_map said result ≡ option_and_then (checked verb) (items_from (keys_of verb) None (texts words.entry.now)) }
-    ensures within { IfSome result (λ c. IsWithin (said c)) }
+fn read_command<'a>(verb: Verb, words: &'a [String]) -> Option<Plain<'a>>
+    ensures said { option_map (λ p. said p.command) result
+        ≡ option_and_then (checked verb) (items_from (keys_of verb) None (texts words.entry.now)) }
+    ensures within { IfSome result (λ p. IsWithin (said p.command)) }
 {
-    checked(verb, &read_items(verb.keys(), words)?)
+    let items = read_items(verb.keys(), words)?;
+    let command = checked(verb, &items)?;
+    let said = Some(Said { verb, items });
+    Some(Plain { command, said })
+}
+
+/// The command that asks for a text about the program.
+fn about<'a>() -> Plain<'a>
+    ensures { result ≡ record { command = About; said = None } }
+{
+    Plain {
+        command: Command::About,
+        said: None,
+    }
 }
 
 /// What stands behind a command.
-fn behind<'a>(verb: Verb, words: &'a [String]) -> Option<Command<'a>>
-    ensures said { option_map said result ≡ behind verb (texts words.entry.now) }
-    ensures within { IfSome result (λ c. IsWithin (said c)) }
+fn behind<'a>(verb: Verb, words: &'a [String]) -> Option<Plain<'a>>
+    ensures said { option_map (λ p. said p.command) result
+        ≡ behind verb (texts words.entry.now) }
+    ensures within { IfSome result (λ p. IsWithin (said p.command)) }
 {
     if asks_help(words) {
-        return Some(Command::About);
+        return Some(about());
     }
     read_command(verb, words)
 }
 
 /// The command that plain words name.
-pub(crate) fn plain_command<'a>(words: &'a [String]) -> Option<Command<'a>>
-    ensures said { option_map said result ≡ command_of (texts words.entry.now) }
-    ensures within { IfSome result (λ c. IsWithin (said c)) }
+pub(crate) fn plain_command<'a>(words: &'a [String]) -> Option<Plain<'a>>
+    ensures said { option_map (λ p. said p.command) result ≡ command_of (texts words.entry.now) }
+    ensures within { IfSome result (λ p. IsWithin (said p.command)) }
 {
     if asks_about(words) {
-        return Some(Command::About);
+        return Some(about());
     }
     let (word, words) = words.split_first()?;
     behind(verb_of(word)?, words)

@@ -5,34 +5,34 @@ ghost use Rattle.vax_cli.specs.Said.{IsWithin, said, texts};
 
 use crate::clap_words::{FILES, read};
 use crate::command::Command;
-use crate::items::{names_in, read_items, value_in};
-use crate::plain::plain_command;
-use crate::table::verb_of;
+use crate::items::{names_in, value_in};
+use crate::plain::{Said, plain_command};
 use clap::error::ErrorKind;
 use std::alloc::Global;
+use thiserror::Error;
 
 /// Why the words have no command.
-#[derive(Clone, Copy, PartialEq, Eq)]
+#[derive(Clone, Copy, PartialEq, Eq, Debug, Error)]
 pub enum WordsError {
     /// The words aren't plain words of the table of commands.
+    #[error("these are no words of a command")]
     Usage,
+    #[error("out of memory")]
     NoMemory,
 }
 
-/// `clap` finds the same files, and the same value of each option; none where the words aren't plain or memory was refused.
-fn reads_alike(alloc: Global, words: &[String]) -> Option<bool> {
-    let (first, rest) = words.split_first()?;
-    let verb = verb_of(first.as_str())?;
-    let items = read_items(verb.keys(), rest)?;
-    let files = names_in(&items)?;
+/// `clap` finds the same files, and the same value of each option; none where the command has more than eight files or memory
+/// was refused.
+fn reads_alike(alloc: Global, words: &[String], said: &Said) -> Option<bool> {
+    let files = names_in(&said.items)?;
     let matches = read(alloc, words).ok()?;
-    let found = matches.subcommand_matches(verb.name())?;
+    let found = matches.subcommand_matches(said.verb.name())?;
     let found_files = found.get_strs(FILES).unwrap_or(&[]);
     if found_files != files.as_slice() {
         return Some(false);
     }
-    for key in verb.keys() {
-        if found.get_str(key.name()) != value_in(*key, &items) {
+    for key in said.verb.keys() {
+        if found.get_str(key.name()) != value_in(*key, &said.items) {
             return Some(false);
         }
     }
@@ -46,13 +46,15 @@ pub fn command_of<'a>(alloc: Global, words: &'a [String]) -> Result<Command<'a>,
     ensures usage { IsErrOf result WordsError.Usage → said_of (texts words.entry.now) ≡ None }
     ensures not_plain { said_of (texts words.entry.now) ≡ None → IsErrOf result WordsError.Usage }
 {
-    match plain_command(words) {
-        None => Err(WordsError::Usage),
-        Some(Command::About) => Ok(Command::About),
-        Some(command) => match reads_alike(alloc, words) {
-            Some(true) => Ok(command),
-            _ => Err(WordsError::NoMemory),
-        },
+    let Some(plain) = plain_command(words) else {
+        return Err(WordsError::Usage);
+    };
+    let Some(said) = &plain.said else {
+        return Ok(plain.command);
+    };
+    match reads_alike(alloc, words, said) {
+        Some(true) => Ok(plain.command),
+        _ => Err(WordsError::NoMemory),
     }
 }
 

@@ -1,12 +1,14 @@
 -- What a run under a schedule comes to, from what the machine did.
-use Rattle.std.proofs.Common.{◌≡◌, ◌⊎◌, ℕ, Bool, true, false, List, [], map, Option, Some, None, refl, sym, ap, subst, ◌∙◌, inl, inr, arith}
+use Rattle.std.proofs.Common.{◌≡◌, ◌⊎◌, ◌++◌, ◌<◌, ◌-◌, ◌^◌, ℕ, suc, Bool, true, false, List, [], map, Option, Some, None, refl, sym, ap, subst, ◌∙◌, inl, inr, arith}
 use Rattle.std.specs.List.{flat_map}
 use Rattle.vax_space.specs.declared.Area.{Area}
+use Rattle.vax_space.specs.Faults.{IsSpace}
 use Rattle.vax_outside.specs.Blocks.{BlockFile}
 use Rattle.vax_outside.specs.Channels.{Channels, Grew, GrewByPrefix, append, nothing, only}
 use Rattle.vax_outside.specs.declared.traits.Chan.TheVariants.{Report}
 use Rattle.vax_outside.proofs.Growth.{append-nothing, grew_more, grew_nothing, prefix_in}
 use Rattle.vax_flat.specs.Parts.{Place, At, Within, machine_at, units_done}
+use Rattle.vax_flat.specs.Port.{layout}
 use Rattle.vax_flat.specs.Step.{Flat}
 use Rattle.vax_cpu.specs.Attempt.{open_at}
 use Rattle.vax_pager.specs.Listing.{is_listed}
@@ -23,17 +25,24 @@ use Rattle.vax_report.specs.declared.Last.TheVariants as lasts
 use Rattle.vax_machine.specs.Console.{IsBetween}
 use Rattle.vax_machine.specs.Machine.{Means, keeping, residence}
 use Rattle.vax_machine.specs.Meaning.{starts_at, units_of}
-use Rattle.vax_machine.specs.Paged.{Paged, Why, ByEnding, BySteps, ByTurns, all_evicted, fresh, paged}
+use Rattle.vax_machine.specs.Laws.{IsProper}
+use Rattle.vax_machine.specs.Paged.{Paged, Why, ByEnding, BySteps, ByTurns, all_evicted, fresh, stops}
 use Rattle.vax_machine.specs.Run as machine
 use Rattle.vax_machine.specs.Blocks.{Moved}
-use Rattle.vax_machine.specs.Run.{FewTurns, IsLost, IsWhole, begun, why_of}
-use Rattle.vax_machine.specs.Writing.{OnlyWrote, Wrote, WrotePart, eviction_line, lines_of, output_of}
+use Rattle.vax_machine.specs.Run.{FewTurns, IsLost, IsWhole, Runs, begun, why_of}
+use Rattle.vax_machine.specs.Writing.{OnlyWrote, Wrote, WrotePart, both, eviction_line, lines_of, output_of}
+use Rattle.vax_machine.proofs.Halting.{going_on}
 use Rattle.vax_machine.proofs.Tracking.{many_evicted}
+use Rattle.vax_machine.proofs.Unwritten.{writes_suffice}
 use Rattle.vax_machine.specs.Touched.{PinsTouched}
 use Rattle.vax_machine.specs.declared.engine.Engine.{Engine}
 use Rattle.vax_machine.specs.declared.event.Limits.{Limits}
 use Rattle.vax_machine.specs.declared.event.RunEnd.{RunEnd}
 use Rattle.vax_machine.specs.declared.event.RunEnd.TheVariants as run_end
+use Rattle.vax_machine_laws.specs.FlatRun.{GoesOnFor, Stage, stage_of}
+use Rattle.vax_machine_laws.proofs.Reaching.{run_comes, shorter, stops_there}
+use Rattle.vax_machine_laws.proofs.Spoiling.{due_spoiled}
+use Rattle.vax_machine_laws.proofs.Sufficing.{turns_suffice}
 use Rattle.vax_word.specs.declared.Core.{Core}
 use Rattle.vax_cli.specs.Words.{Options, Text}
 use Rattle.vax_cli.specs.declared.command.DumpItem.{DumpItem}
@@ -43,8 +52,9 @@ use Rattle.vax_command.specs.Fresh.{IsFresh, IsPrepared, IsReported, machine_rep
 use Rattle.vax_command.specs.Status.{refusal_growth}
 use Rattle.vax_command.specs.Loaded.{Loaded}
 use Rattle.vax_command.specs.Pages.{HasRun}
-use Rattle.vax_command.specs.Running.{IsFaulty, Ran}
-use Rattle.vax_command.specs.Went.{IsRunAnswer, Went, WentFrom, dumps_at, last_of, limits_of, run_output, run_report, shown, status_of}
+use Rattle.vax_command.specs.Running.{IsFaulty, Ran, setup_for}
+use Rattle.vax_command.specs.Setup.{Setup, after_turns, before_turns, run_of}
+use Rattle.vax_command.specs.Went.{IsRunAnswer, IsUntold, Stop, Went, WentFrom, dumps_at, last_of, recorded, run_output, run_report, shown, status_of}
 use Rattle.vax_command.specs.declared.status.Status.{Status}
 use Rattle.vax_command.specs.declared.status.Status.TheVariants.{Done, NoMemory, PageFault, WriteFault}
 
@@ -70,17 +80,17 @@ reported_at m file place steps why dumps s means i =
     let units : units_of m.cpu.latch ≡ units_done place = ap units_of means.processor.open_one ∙ open_units place in
     report ((k i).core) why (s i) (units i) ((k i).taken) dumps
 
-reported : (m : Engine) (file : Option BlockFile) (p : Paged) (why : Last) (dumps : List Dump) → m.steps ≡ p.steps → Means m file p.place → machine_report m why dumps ≡ run_report p why dumps
+reported : (m : Engine) (file : Option BlockFile) (s : Stage) (why : Last) (dumps : List Dump) → m.steps ≡ s.steps → Means m file s.place → machine_report m why dumps ≡ run_report s why dumps
 unfolding run_report
-reported m file p why dumps s means = reported_at m file p.place p.steps why dumps s means
+reported m file s why dumps steps means = reported_at m file s.place s.steps why dumps steps means
 
-outputs : (listed : Bool) (p : Paged) (why : Last) (dumps : List Dump) (grown : Channels) → grown ≡ only Report (run_report p why dumps) → append (output_of listed p) grown ≡ run_output listed p why dumps
+outputs : (s : Stage) (lines : Text) (why : Last) (dumps : List Dump) (grown : Channels) → grown ≡ only Report (run_report s why dumps) → append (both (machine_at s.place).output lines) grown ≡ run_output s lines why dumps
 unfolding run_output
-outputs listed p why dumps grown e = ap (append (output_of listed p)) e
+outputs s lines why dumps grown e = ap (append (both (machine_at s.place).output lines)) e
 
-as_shown : (p : Paged) (items : List DumpItem) (dumps : List Dump) → dumps ≡ map (shown (machine_at p.place).memory) items → dumps ≡ dumps_at p items
+as_shown : (s : Stage) (items : List DumpItem) (dumps : List Dump) → dumps ≡ map (shown (machine_at s.place).memory) items → dumps ≡ dumps_at s items
 unfolding dumps_at
-as_shown p items dumps e = e
+as_shown s items dumps e = e
 
 -- a run from the start has written all that its turns write
 
@@ -111,131 +121,197 @@ as_whole limits areas rules b before run_end.Turns why m file old now is h = h
 as_whole limits areas rules b before run_end.PageFault why m file old now is h = cc
 as_whole limits areas rules b before run_end.WriteFault why m file old now is h = cc
 
+-- nothing was recorded
+unlisted : (a b : Channels) → a.recorded ≡ [] → b.recorded ≡ [] → (append a b).recorded ≡ []
+unlisted a b x y = ap (λ (xs : List ℕ). xs ++ b.recorded) x ∙ y
+
 -- how a run went, and how its call ends
-abbrev pub Told : Outside → Limits → List Area → List Rule → Paged → List DumpItem → Status → Type 0
-Told outside limits areas rules b items result = EndsSo outside.sink (Went outside limits areas rules b items) result
+abbrev pub Told : Outside → Setup → Status → Type 0
+Told outside setup result = EndsSo outside.sink (Went outside setup) result
 
 -- memory may have been read behind a run
-ran_and_read : (areas : List Area) (b p : Paged) (items : List DumpItem) (file : BlockFile) (middle last : Option BlockFile) → FewTurns b p → Moved areas b p (Some file) middle → OnlyRead middle last → (items ≡ [] → last ≡ middle) → HasRun areas b p items file last
-ran_and_read areas b p items file middle last few moved reads unread =
+ran_and_read : (setup : Setup) (count : ℕ) (file : BlockFile) (middle last : Option BlockFile) → FewTurns (before_turns setup) (after_turns setup count) → Moved setup.areas (before_turns setup) (after_turns setup count) (Some file) middle → OnlyRead middle last → (setup.items ≡ [] → last ≡ middle) → HasRun setup count file last
+ran_and_read setup count file middle last few moved reads unread =
     let m = moved file refl in
-    record { few = few; between = m.0; moved = m.2; told = reads ∙ ap without_reads m.1; unread = λ none. unread none ∙ m.1 }
+    record { few = few; between = m.0; moved = m.2; needed = λ turn low absent page small clean. writes_suffice (run_of setup) turn absent page small clean; told = reads ∙ ap without_reads m.1; unread = λ none. unread none ∙ m.1 }
 
 -- what the machine did with whatever its page file told
-abbrev pub Did : Limits → List Area → List Rule → Engine → Option BlockFile → RunEnd → Engine → Option BlockFile → (old between : Option Channels) → Type 0
-Did limits areas rules m told end n after old between =
-    (place : Place) → Means m told place → PinsTouched (residence m) place → machine.Ends limits areas rules (begun m place) told end n after old between
+abbrev pub Did : Setup → Engine → Option BlockFile → RunEnd → Engine → Option BlockFile → (old between : Option Channels) → Type 0
+Did setup m told end n after old between =
+    (place : Place) → Means m told place → PinsTouched (residence m) place → machine.Ends setup.limits setup.areas setup.rules (begun m place) told end n after old between
+
+-- a machine starts such a run
+pub record Starts (setup : Setup) (m : Engine) : Type 0 where
+  pub is_fresh : IsFresh m setup.frames setup.start
+  pub areas : (keeping m).areas ≡ setup.areas
+  pub low : setup.limits.turns < 2 ^ 64 - 1
+
+module _ (setup : Setup) (m : Engine) (f : Starts setup m) where
+  proper : BlockFile → IsProper (run_of setup)
+  proper file = record {
+    space = subst IsSpace f.areas f.is_fresh.space;
+    memory = (f.is_fresh.means file).memory.areas ∙ ap layout f.areas;
+  }
+
+  -- the run is that from the start
+  from_start : (file : BlockFile) (end : RunEnd) (n : Engine) (after : Option BlockFile) (old between : Option Channels) → Did setup m (Some file) end n after old between
+      → machine.Ends setup.limits setup.areas setup.rules (before_turns setup) (Some file) end n after old between
+  from_start file end n after old between did =
+      subst (λ (z : Paged). machine.Ends setup.limits setup.areas setup.rules z (Some file) end n after old between) f.is_fresh.begins
+      (did (At setup.start) (f.is_fresh.means file) (none_pinned m setup.frames setup.start f.is_fresh))
+
+  -- it stopped by itself
+  abbrev stop_of : (file : BlockFile) (count : ℕ) (why : Why) → Runs setup.limits setup.areas setup.rules (before_turns setup) count → stops setup.limits.steps setup.limits.turns (after_turns setup count) ≡ Some why → Stop setup
+  stop_of file count why goes stopped =
+      let g : GoesOnFor setup.limits (run_of setup) count = record { going = goes.going } in
+      let comes = run_comes setup.limits (run_of setup) count g in
+      record {
+        at = stage_of (after_turns setup count);
+        why = why;
+        reaches = comes.reaches;
+        whole = stops_there why setup.limits setup.start (after_turns setup count) stopped comes;
+        count = count;
+        leads = refl;
+        goes = g;
+        stopped = stopped;
+        short = λ e. record {
+          few = λ parts over. turns_suffice setup.limits (run_of setup) count parts (proper file) f.low g (stopped ∙ ap (λ (w : Why). Some w) e) over;
+          spoiled = due_spoiled setup.limits (run_of setup) count g;
+        };
+      }
 
 -- What is known of a run of a machine that starts so: what it sees of the outside, the machine it leaves, the sink behind it, and the answer.
-module _ (outside : Outside) (limits : Limits) (areas : List Area) (rules : List Rule) (m n : Engine) (frames : ℕ) (start : Flat) (f : IsFresh m frames start) (items : List DumpItem) (mid : Seen Channels) (result : Status) where
+module _ (outside : Outside) (setup : Setup) (m n : Engine) (f : Starts setup m) (mid : Seen Channels) (result : Status) where
   abbrev b : Paged
-  b = begun m (At start)
+  b = before_turns setup
 
   -- what is told of it, whatever the page file told before
   abbrev By : Option BlockFile → Type 0
-  By told = EndsSo outside.sink (WentFrom told outside limits areas rules b items) result
+  By told = EndsSo outside.sink (WentFrom told outside setup) result
 
-  silent_start : output_of limits.listed b ≡ nothing
-  silent_start = nothing_yet limits.listed b f.silent refl
+  silent_start : output_of setup.limits.listed b ≡ nothing
+  silent_start = nothing_yet setup.limits.listed b f.is_fresh.silent refl
 
-  wrote_out : (told : Option BlockFile) (p : Paged) → Wrote (machine.origin limits areas b told outside.sink.before.told) p mid.told → Grew outside.sink.before.told mid.told (output_of limits.listed p)
-  wrote_out told p w = subst (λ (c : Channels). Grew outside.sink.before.told mid.told c) (all_of_it limits.listed b p w.more silent_start w.is) w.grew
-
-  at_fresh : By outside.pages.before.told → Told outside limits areas rules (fresh frames start) items result
-  at_fresh h = subst (λ (z : Paged). Told outside limits areas rules z items result) f.begins h
+  wrote_out : (told : Option BlockFile) (p : Paged) → Wrote (machine.origin setup.limits setup.areas b told outside.sink.before.told) p mid.told → Grew outside.sink.before.told mid.told (output_of setup.limits.listed p)
+  wrote_out told p w = subst (λ (c : Channels). Grew outside.sink.before.told mid.told c) (all_of_it setup.limits.listed b p w.more silent_start w.is) w.grew
 
   -- the report behind what the run wrote
-  behind : (listed : Bool) (p : Paged) (why : Last) (dumps : List Dump) (status : Status) (grown : Channels) → Grew outside.sink.before.told mid.told (output_of listed p) → mid.faults ≡ outside.sink.before.faults → grown ≡ only Report (run_report p why dumps) → EndsFrom mid outside.sink.after status grown result → Ends outside.sink status (run_output listed p why dumps) result
-  behind listed p why dumps status grown wrote quiet is ends =
-      subst (λ (g : Channels). Ends outside.sink status g result) (outputs listed p why dumps grown is) (ends_after outside.sink.before mid outside.sink.after status (output_of listed p) grown result wrote quiet ends)
+  behind : (s : Stage) (lines : Text) (why : Last) (dumps : List Dump) (status : Status) (grown : Channels) → Grew outside.sink.before.told mid.told (both (machine_at s.place).output lines) → mid.faults ≡ outside.sink.before.faults → grown ≡ only Report (run_report s why dumps) → EndsFrom mid outside.sink.after status grown result → Ends outside.sink status (run_output s lines why dumps) result
+  behind s lines why dumps status grown wrote quiet is ends =
+      subst (λ (g : Channels). Ends outside.sink status g result) (outputs s lines why dumps grown is) (ends_after outside.sink.before mid outside.sink.after status (both (machine_at s.place).output lines) grown result wrote quiet ends)
 
   -- it stopped by itself, and the report was written: `read` is the page file before and after the memory for the report was read
-  module _ (read : Change BlockFile) (up : HasFailed read → HasFailed outside.pages) (reads : OnlyRead read.before.told outside.pages.after.told) (unread : items ≡ [] → outside.pages.after.told ≡ read.before.told) (end : RunEnd) (why : Why) (is : why_of end ≡ Some why) (status : Status) (grown : Channels) (out : OnlyWrote limits.listed outside.sink.before.told mid.told) (quiet : mid.faults ≡ outside.sink.before.faults) (ends : EndsFrom mid outside.sink.after status grown result) where
-    answer_is : IsReported read n (last_of why) (status_of why) items status grown → IsRunAnswer (HasFailed outside.pages) status
-    answer_is (inl r) = subst (IsRunAnswer (HasFailed outside.pages)) (sym r.0) (answers (HasFailed outside.pages) why)
-    answer_is (inr r) = subst (IsRunAnswer (HasFailed outside.pages)) (sym r.1) (up r.0)
+  module _ (read : Change BlockFile) (up : HasFailed read → HasFailed outside.pages) (reads : OnlyRead read.before.told outside.pages.after.told) (unread : setup.items ≡ [] → outside.pages.after.told ≡ read.before.told) (end : RunEnd) (why : Why) (is : why_of end ≡ Some why) (status : Status) (grown : Channels) (out : OnlyWrote setup.limits.listed outside.sink.before.told mid.told) (quiet : mid.faults ≡ outside.sink.before.faults) (ends : EndsFrom mid outside.sink.after status grown result) where
+    answer_is : IsReported read n (last_of why) (status_of why) setup.items status grown → IsUntold setup outside status (append out.more grown)
+    answer_is (inl r) = record { answer = subst (IsRunAnswer (HasFailed outside.pages)) (sym r.0) (answers (HasFailed outside.pages) why); unlisted = λ off. unlisted out.more grown (out.unlisted off) (let d = r.1 in ap (λ (c : Channels). c.recorded) d.2) }
+    answer_is (inr r) = record { answer = subst (IsRunAnswer (HasFailed outside.pages)) (sym r.1) (up r.0); unlisted = λ off. unlisted out.more grown (out.unlisted off) (ap (λ (c : Channels). c.recorded) r.2) }
 
-    whole_by : (file : BlockFile) → IsWhole limits areas rules b end (Some file) n read.before.told outside.sink.before.told mid.told → IsReported read n (last_of why) (status_of why) items status grown → By (Some file)
+    whole_by : (file : BlockFile) → IsWhole setup.limits setup.areas setup.rules b end (Some file) n read.before.told outside.sink.before.told mid.told → IsReported read n (last_of why) (status_of why) setup.items status grown → By (Some file)
     whole_by file w (inl r) =
-        let p = paged areas (due rules) w.count b in
+        let p = after_turns setup w.count in
+        let s = stage_of p in
         let d = r.1 in
-        let shows : d.0 ≡ dumps_at p items = as_shown p items d.0 (d.1 p.place w.tracks.means) in
-        let text : grown ≡ only Report (run_report p (last_of why) (dumps_at p items)) =
-        d.2 ∙ (ap (only Report) (reported n read.before.told p (last_of why) d.0 w.tracks.steps w.tracks.means) ∙ ap (λ dumps. only Report (run_report p (last_of why) dumps)) shows) in
+        let shows : d.0 ≡ dumps_at s setup.items = as_shown s setup.items d.0 (d.1 p.place w.tracks.means) in
+        let text : grown ≡ only Report (run_report s (last_of why) (dumps_at s setup.items)) =
+        d.2 ∙ (ap (only Report) (reported n read.before.told s (last_of why) d.0 w.tracks.steps w.tracks.means) ∙ ap (λ dumps. only Report (run_report s (last_of why) dumps)) shows) in
         record {
           meant = status;
-          grown = run_output limits.listed p (last_of why) (dumps_at p items);
-          so = inl (record { count = w.count; goes = w.goes; why = why; stopped = w.stopped ∙ is; answer = r.0; wrote = refl; blocks = inl (ran_and_read areas b p items file read.before.told outside.pages.after.told w.few w.moved reads unread) });
-          ends = behind limits.listed p (last_of why) (dumps_at p items) status grown (wrote_out (Some file) p w.wrote) quiet text ends;
+          grown = run_output s (recorded setup p) (last_of why) (dumps_at s setup.items);
+          so = inl (record { stop = stop_of setup m f file w.count why w.goes (w.stopped ∙ is); answer = r.0; wrote = refl; blocks = inl (ran_and_read setup w.count file read.before.told outside.pages.after.told w.few w.moved reads unread) });
+          ends = behind s (recorded setup p) (last_of why) (dumps_at s setup.items) status grown (wrote_out (Some file) p w.wrote) quiet text ends;
         }
     whole_by file w (inr r) =
-        let p = paged areas (due rules) w.count b in
-        let text : grown ≡ only Report (run_report p lasts.PageFault []) = r.2 ∙ ap (only Report) (reported n read.before.told p lasts.PageFault [] w.tracks.steps w.tracks.means) in
+        let p = after_turns setup w.count in
+        let s = stage_of p in
+        let text : grown ≡ only Report (run_report s lasts.PageFault []) = r.2 ∙ ap (only Report) (reported n read.before.told s lasts.PageFault [] w.tracks.steps w.tracks.means) in
         record {
           meant = status;
-          grown = run_output limits.listed p lasts.PageFault [];
-          so = inr (up r.0, inl (record { count = w.count; goes = w.goes; why = why; stopped = w.stopped ∙ is; answer = r.1; wrote = refl; blocks = ran_and_read areas b p items file read.before.told outside.pages.after.told w.few w.moved reads unread }));
-          ends = behind limits.listed p lasts.PageFault [] status grown (wrote_out (Some file) p w.wrote) quiet text ends;
+          grown = run_output s (recorded setup p) lasts.PageFault [];
+          so = inr (up r.0, inl (record { stop = stop_of setup m f file w.count why w.goes (w.stopped ∙ is); answer = r.1; wrote = refl; blocks = ran_and_read setup w.count file read.before.told outside.pages.after.told w.few w.moved reads unread }));
+          ends = behind s (recorded setup p) lasts.PageFault [] status grown (wrote_out (Some file) p w.wrote) quiet text ends;
         }
 
-    stopped_by : (told : Option BlockFile) → Did limits areas rules m told end n read.before.told outside.sink.before.told mid.told → IsReported read n (last_of why) (status_of why) items status grown → By told
+    stopped_by : (told : Option BlockFile) → Did setup m told end n read.before.told outside.sink.before.told mid.told → IsReported read n (last_of why) (status_of why) setup.items status grown → By told
     stopped_by None did r = record { meant = status; grown = append out.more grown; so = answer_is r; ends = ends_after outside.sink.before mid outside.sink.after status out.more grown result out.grew quiet ends }
     stopped_by (Some file) did r =
-        whole_by file (as_whole limits areas rules b (Some file) end why n read.before.told outside.sink.before.told mid.told is (did (At start) (f.means file) (none_pinned m frames start f))) r
+        whole_by file (as_whole setup.limits setup.areas setup.rules b (Some file) end why n read.before.told outside.sink.before.told mid.told is (from_start setup m f file end n read.before.told outside.sink.before.told mid.told did)) r
 
-  pub went_whole : (read : Change BlockFile) → (HasFailed read → HasFailed outside.pages) → OnlyRead read.before.told outside.pages.after.told → (items ≡ [] → outside.pages.after.told ≡ read.before.told) → (end : RunEnd) (why : Why) → why_of end ≡ Some why
-      → Did limits areas rules m outside.pages.before.told end n read.before.told outside.sink.before.told mid.told → OnlyWrote limits.listed outside.sink.before.told mid.told → mid.faults ≡ outside.sink.before.faults
-      → (status : Status) (grown : Channels) → IsReported read n (last_of why) (status_of why) items status grown → EndsFrom mid outside.sink.after status grown result → Told outside limits areas rules (fresh frames start) items result
-  went_whole read up reads unread end why is did out quiet status grown r ends = at_fresh (stopped_by read up reads unread end why is status grown out quiet ends outside.pages.before.told did r)
+  pub went_whole : (read : Change BlockFile) → (HasFailed read → HasFailed outside.pages) → OnlyRead read.before.told outside.pages.after.told → (setup.items ≡ [] → outside.pages.after.told ≡ read.before.told) → (end : RunEnd) (why : Why) → why_of end ≡ Some why
+      → Did setup m outside.pages.before.told end n read.before.told outside.sink.before.told mid.told → OnlyWrote setup.limits.listed outside.sink.before.told mid.told → mid.faults ≡ outside.sink.before.faults
+      → (status : Status) (grown : Channels) → IsReported read n (last_of why) (status_of why) setup.items status grown → EndsFrom mid outside.sink.after status grown result → Told outside setup result
+  went_whole read up reads unread end why is did out quiet status grown r ends = stopped_by read up reads unread end why is status grown out quiet ends outside.pages.before.told did r
 
-  cut_by : (told : Option BlockFile) → HasFailed outside.pages → Did limits areas rules m told run_end.PageFault n outside.pages.after.told outside.sink.before.told mid.told → OnlyWrote limits.listed outside.sink.before.told mid.told → mid.faults ≡ outside.sink.before.faults → EndsFrom mid outside.sink.after PageFault (only Report (machine_report n lasts.PageFault [])) result → By told
+  cut_by : (told : Option BlockFile) → HasFailed outside.pages → Did setup m told run_end.PageFault n outside.pages.after.told outside.sink.before.told mid.told → OnlyWrote setup.limits.listed outside.sink.before.told mid.told → mid.faults ≡ outside.sink.before.faults → EndsFrom mid outside.sink.after PageFault (only Report (machine_report n lasts.PageFault [])) result → By told
   cut_by None rose did out quiet ends =
       let text = only Report (machine_report n lasts.PageFault []) in
-      record { meant = PageFault; grown = append out.more text; so = rose; ends = ends_after outside.sink.before mid outside.sink.after PageFault out.more text result out.grew quiet ends }
+      record { meant = PageFault; grown = append out.more text; so = record { answer = rose; unlisted = λ off. unlisted out.more text (out.unlisted off) refl }; ends = ends_after outside.sink.before mid outside.sink.after PageFault out.more text result out.grew quiet ends }
   cut_by (Some file) rose did out quiet ends =
-      let w = did (At start) (f.means file) (none_pinned m frames start f) in
-      let q = paged areas (due rules) w.count b in
+      let w = from_start setup m f file run_end.PageFault n outside.pages.after.told outside.sink.before.told mid.told did in
+      let q = after_turns setup w.count in
+      let s = stage_of q in
       let p = all_evicted w.front q in
-      let kept = many_evicted w.front q in
-      let text = reported n outside.pages.after.told p lasts.PageFault [] (w.steps ∙ sym kept.steps) (subst (λ (z : Place). Means n outside.pages.after.told z) (sym kept.place) w.means) in
+      let g : GoesOnFor setup.limits (run_of setup) (suc w.count) = record { going = w.goes.going } in
+      let going = going_on setup.limits q (g.going w.count (omega arith)) in
+      let wrote : Grew outside.sink.before.told mid.told (both (machine_at s.place).output (recorded setup p)) =
+      subst (λ (z : Place). Grew outside.sink.before.told mid.told (both (machine_at z).output (recorded setup p))) (many_evicted w.front q).place (wrote_out (Some file) p w.wrote) in
+      let text = ap (only Report) (reported n outside.pages.after.told s lasts.PageFault [] w.steps w.means) in
       record {
         meant = PageFault;
-        grown = run_output limits.listed p lasts.PageFault [];
-        so = inr (rose, inr (record { count = w.count; goes = w.goes; front = w.front; rest = w.rest; splits = w.splits; answer = refl; wrote = refl; blocks = w.moved }));
-        ends = behind limits.listed p lasts.PageFault [] PageFault (only Report (machine_report n lasts.PageFault [])) (wrote_out (Some file) p w.wrote) quiet (ap (only Report) text) ends;
+        grown = run_output s (recorded setup p) lasts.PageFault [];
+        so = inr (
+          rose,
+          inr (record {
+            at = s;
+            reaches = (run_comes setup.limits (run_of setup) w.count (shorter setup.limits (run_of setup) w.count g)).reaches;
+            unfinished = record { ending = going.ending; left = going.steps };
+            count = w.count;
+            leads = refl;
+            goes = g;
+            front = w.front;
+            rest = w.rest;
+            splits = w.splits;
+            calls = w.calls;
+            answer = refl;
+            wrote = refl;
+            blocks = w.moved;
+          }),
+        );
+        ends = behind s (recorded setup p) lasts.PageFault [] PageFault (only Report (machine_report n lasts.PageFault [])) wrote quiet text ends;
       }
 
-  pub went_cut : HasFailed outside.pages → Did limits areas rules m outside.pages.before.told run_end.PageFault n outside.pages.after.told outside.sink.before.told mid.told → OnlyWrote limits.listed outside.sink.before.told mid.told → mid.faults ≡ outside.sink.before.faults
-      → EndsFrom mid outside.sink.after PageFault (only Report (machine_report n lasts.PageFault [])) result → Told outside limits areas rules (fresh frames start) items result
-  went_cut rose did out quiet ends = at_fresh (cut_by outside.pages.before.told rose did out quiet ends)
+  pub went_cut : HasFailed outside.pages → Did setup m outside.pages.before.told run_end.PageFault n outside.pages.after.told outside.sink.before.told mid.told → OnlyWrote setup.limits.listed outside.sink.before.told mid.told → mid.faults ≡ outside.sink.before.faults
+      → EndsFrom mid outside.sink.after PageFault (only Report (machine_report n lasts.PageFault [])) result → Told outside setup result
+  went_cut rose did out quiet ends = cut_by outside.pages.before.told rose did out quiet ends
 
-module _ (outside : Outside) (limits : Limits) (areas : List Area) (rules : List Rule) (m n : Engine) (frames : ℕ) (start : Flat) (f : IsFresh m frames start) (items : List DumpItem) where
-  lost_prefix : (told : Option BlockFile) (p : Paged) (why : Last) (dumps : List Dump) → WrotePart (machine.origin limits areas (begun m (At start)) told outside.sink.before.told) p outside.sink.after.told → GrewByPrefix outside.sink.before.told outside.sink.after.told (run_output limits.listed p why dumps)
+module _ (outside : Outside) (setup : Setup) (m n : Engine) (f : Starts setup m) where
+  lost_prefix : (told : Option BlockFile) (p : Paged) (why : Last) (dumps : List Dump) → WrotePart (machine.origin setup.limits setup.areas (before_turns setup) told outside.sink.before.told) p outside.sink.after.told → GrewByPrefix outside.sink.before.told outside.sink.after.told (run_output (stage_of p) (recorded setup p) why dumps)
   unfolding run_output
   lost_prefix told p why dumps w =
-      let e = all_of_it limits.listed (begun m (At start)) p w.more (nothing_yet limits.listed (begun m (At start)) f.silent refl) w.is in
-      let text = only Report (run_report p why dumps) in
-      prefix_in outside.sink.before.told outside.sink.before.told outside.sink.after.told nothing w.more text (append (output_of limits.listed p) text) (ap (λ (c : Channels). append c text) e) (grew_nothing outside.sink.before.told) w.grew
+      let listed = setup.limits.listed in
+      let e = all_of_it listed (before_turns setup) p w.more (nothing_yet listed (before_turns setup) f.is_fresh.silent refl) w.is in
+      let text = only Report (run_report (stage_of p) why dumps) in
+      prefix_in outside.sink.before.told outside.sink.before.told outside.sink.after.told nothing w.more text (append (output_of listed p) text) (ap (λ (c : Channels). append c text) e) (grew_nothing outside.sink.before.told) w.grew
 
-  lost_by : (told : Option BlockFile) → Did limits areas rules m told run_end.WriteFault n outside.pages.after.told outside.sink.before.told outside.sink.after.told → OnlyWrote limits.listed outside.sink.before.told outside.sink.after.told → HasFailed outside.sink → EndsSo outside.sink (WentFrom told outside limits areas rules (begun m (At start)) items) WriteFault
+  lost_by : (told : Option BlockFile) → Did setup m told run_end.WriteFault n outside.pages.after.told outside.sink.before.told outside.sink.after.told → OnlyWrote setup.limits.listed outside.sink.before.told outside.sink.after.told → HasFailed outside.sink → EndsSo outside.sink (WentFrom told outside setup) WriteFault
   lost_by None did out rose = record {
     meant = Done;
     grown = out.more;
-    so = tt;
+    so = record { answer = tt; unlisted = out.unlisted };
     ends = inr (record { answer = refl; prefix = record { prefix = out.more; rest = nothing; splits = append-nothing out.more; grew = out.grew }; cause = rose });
   }
   lost_by (Some file) did out rose =
-      let w = did (At start) (f.means file) (none_pinned m frames start f) in
-      let p = paged areas (due rules) w.count (begun m (At start)) in
+      let w = from_start setup m f file run_end.WriteFault n outside.pages.after.told outside.sink.before.told outside.sink.after.told did in
+      let p = after_turns setup w.count in
+      let s = stage_of p in
       record {
         meant = status_of w.why;
-        grown = run_output limits.listed p (last_of w.why) (dumps_at p items);
-        so = inl (record { count = w.count; goes = w.goes; why = w.why; stopped = w.stopped; answer = refl; wrote = refl; blocks = inr (rose, w.moved) });
-        ends = inr (record { answer = refl; prefix = lost_prefix (Some file) p (last_of w.why) (dumps_at p items) w.wrote; cause = rose });
+        grown = run_output s (recorded setup p) (last_of w.why) (dumps_at s setup.items);
+        so = inl (record { stop = stop_of setup m f file w.count w.why w.goes w.stopped; answer = refl; wrote = refl; blocks = inr (rose, w.moved) });
+        ends = inr (record { answer = refl; prefix = lost_prefix (Some file) p (last_of w.why) (dumps_at s setup.items) w.wrote; cause = rose });
       }
 
-  pub went_lost : Did limits areas rules m outside.pages.before.told run_end.WriteFault n outside.pages.after.told outside.sink.before.told outside.sink.after.told → OnlyWrote limits.listed outside.sink.before.told outside.sink.after.told → HasFailed outside.sink → Told outside limits areas rules (fresh frames start) items WriteFault
-  went_lost did out rose = subst (λ (z : Paged). Told outside limits areas rules z items WriteFault) f.begins (lost_by outside.pages.before.told did out rose)
+  pub went_lost : Did setup m outside.pages.before.told run_end.WriteFault n outside.pages.after.told outside.sink.before.told outside.sink.after.told → OnlyWrote setup.limits.listed outside.sink.before.told outside.sink.after.told → HasFailed outside.sink → Told outside setup WriteFault
+  went_lost did out rose = lost_by outside.pages.before.told did out rose
 
 -- a call of the page file that failed isn't hidden
 pub cut_answers : (before after : Seen Channels) (grown : Channels) (result : Status) → EndsFrom before after PageFault grown result → (result ≡ PageFault) ⊎ (result ≡ WriteFault)
@@ -244,20 +320,20 @@ cut_answers before after grown result (inr c) = inr c.answer
 
 -- a machine at the start of a program
 
-abbrev Starts : Engine → ℕ → Core → List Area → List ℕ → Type 0
-Starts m frames k space input =
+abbrev Begins : Engine → ℕ → Core → List Area → List ℕ → Type 0
+Begins m frames k space input =
     ((file : BlockFile) → Means m (Some file) (At (starts_at k (start_memory space) input)))
     × (begun m (At (starts_at k (start_memory space) input)) ≡ fresh frames (starts_at k (start_memory space) input))
     × ((keeping m).areas ≡ space)
 
 pub prepared : (m : Engine) (frames : ℕ) (program : Loaded) (input : List ℕ) (k : Core) (space : List Area) → k ≡ start_core program.system program.user → space ≡ start_areas program.system program.user
-    → Starts m frames k space input → IsBetween m → IsPrepared m frames (Start program.system program.user input) (start_areas program.system program.user)
-prepared m frames program input k space a b h between =
+    → Begins m frames k space input → IsBetween m → IsSpace (start_areas program.system program.user) → IsPrepared m frames (Start program.system program.user input) (start_areas program.system program.user)
+prepared m frames program input k space a b h between sound =
     let areas = start_areas program.system program.user in
     let registers = start_core program.system program.user in
-    let one : Starts m frames registers space input = subst (λ (z : Core). Starts m frames z space input) a h in
-    let both : Starts m frames registers areas input = subst (λ (z : List Area). Starts m frames registers z input) b one in
-    record { is_fresh = record { means = both.0; begins = both.1; silent = refl }; has_areas = both.2; between = between }
+    let one : Begins m frames registers space input = subst (λ (z : Core). Begins m frames z space input) a h in
+    let both : Begins m frames registers areas input = subst (λ (z : List Area). Begins m frames registers z input) b one in
+    record { is_fresh = record { means = both.0; begins = both.1; silent = refl; space = subst IsSpace (sym both.2) sound }; has_areas = both.2; between = between }
 
 -- what a run came to
 
@@ -266,10 +342,5 @@ module _ (outside : Outside) (program : Loaded) (input schedule : Text) (options
   run_misplanned status (inl r) k ends = record { meant = status; grown = refusal_growth status; so = inr (inl (record { fault = r; wrote = refl; keeps = k })); ends = ends }
   run_misplanned status (inr e) k ends = record { meant = status; grown = refusal_growth status; so = inl (e, ap refusal_growth e, k); ends = ends }
 
-  pub run_went : (rules : List Rule) (space : List Area) → Denotes (start_areas program.system program.user) schedule rules → space ≡ start_areas program.system program.user
-      → Told outside (limits_of options) space rules (fresh options.frames (Start program.system program.user input)) options.dumps result → Ran outside program input schedule options result
-  run_went rules space planned same h =
-      let begins = fresh options.frames (Start program.system program.user input) in
-      let went : Went outside (limits_of options) (start_areas program.system program.user) rules begins options.dumps h.meant h.grown =
-      subst (λ (z : List Area). Went outside (limits_of options) z rules begins options.dumps h.meant h.grown) same h.so in
-      record { meant = h.meant; grown = h.grown; so = inr (inr (record { rules = rules; planned = planned; went = went })); ends = h.ends }
+  pub run_went : (rules : List Rule) → Denotes (start_areas program.system program.user) schedule rules → Told outside (setup_for program input rules options) result → Ran outside program input schedule options result
+  run_went rules planned h = record { meant = h.meant; grown = h.grown; so = inr (inr (record { rules = rules; planned = planned; went = h.so })); ends = h.ends }

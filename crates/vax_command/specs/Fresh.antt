@@ -1,6 +1,7 @@
 -- A machine at the start of a program.
 use Rattle.std.specs.Prelude.{◌≡◌, ◌⊎◌, ℕ, List, [], map, Option, Some}
 use Rattle.vax_space.specs.declared.Area.{Area}
+use Rattle.vax_space.specs.Faults.{IsSpace}
 use Rattle.vax_outside.specs.Blocks.{BlockFile}
 use Rattle.vax_outside.specs.Channels.{Channels, only}
 use Rattle.vax_outside.specs.declared.traits.Chan.TheVariants.{Report}
@@ -37,11 +38,13 @@ IsReported pages m why meant items status grown =
     ((status ≡ meant) × ((dumps : List Dump) × AreShown m pages.before.told items dumps × (grown ≡ only Report (machine_report m why dumps))))
     ⊎ (HasFailed pages × (status ≡ PageFault) × (grown ≡ only Report (machine_report m last.PageFault [])))
 
--- with every page file that tells its contents it stands for this flat machine, nothing is resident, and nothing was counted
+-- With every page file that tells its contents it stands for this flat machine, nothing is resident, and nothing was counted. Its areas are those of a
+-- space.
 pub record IsFresh (m : Engine) (frames : ℕ) (start : Flat) : Type 0 where
   pub means : (file : BlockFile) → Means m (Some file) (At start)
   pub begins : begun m (At start) ≡ fresh frames start
   pub silent : start.output ≡ []
+  pub space : IsSpace (keeping m).areas
 
 -- it has these areas, and stands between two steps with no page pinned
 pub record IsPrepared (m : Engine) (frames : ℕ) (start : Flat) (areas : List Area) : Type 0 where

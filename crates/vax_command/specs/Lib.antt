@@ -4,6 +4,7 @@ pub mod Ends
 pub mod Reading
 pub mod ReadingView
 pub mod Loaded
+pub mod Setup
 pub mod Pages
 pub mod Went
 pub mod Room

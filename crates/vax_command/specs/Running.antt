@@ -6,7 +6,6 @@ use Rattle.vax_outside.specs.Channels.{Channels}
 use Rattle.vax_image.specs.Start.{Start, start_areas}
 use Rattle.vax_sched.specs.Faults.{Denotes, IsFirstFault}
 use Rattle.vax_sched.specs.declared.rule.Rule.{Rule}
-use Rattle.vax_machine.specs.Paged.{fresh}
 use Rattle.vax_cli.specs.Words.{Options, Text}
 use Rattle.vax_command.specs.Around.{Change, Outside}
 use Rattle.vax_command.specs.Ends.{EndsSo}
@@ -14,6 +13,7 @@ use Rattle.vax_command.specs.Status.{refusal_growth}
 use Rattle.vax_command.specs.declared.status.Status.{Status}
 use Rattle.vax_command.specs.declared.status.Status.TheVariants.{NoMemory, Schedule}
 use Rattle.vax_command.specs.Loaded.{Loaded}
+use Rattle.vax_command.specs.Setup.{Setup}
 use Rattle.vax_command.specs.Went.{Went, limits_of}
 
 -- a schedule has this first fault, for these areas
@@ -26,11 +26,22 @@ pub record IsMisplanned (pages : Change BlockFile) (program : Loaded) (schedule 
   pub wrote : grown ≡ refusal_growth status
   pub keeps : pages.same
 
+-- what a program's run is given: its input, the rules of its schedule and its options
+abbrev pub setup_for : Loaded → (input : Text) → List Rule → Options → Setup
+setup_for program input rules options = record {
+  limits = limits_of options;
+  areas = start_areas program.system program.user;
+  rules = rules;
+  frames = options.frames;
+  start = Start program.system program.user input;
+  items = options.dumps;
+}
+
 -- a program was run with its input under a schedule, from its start on and with no page resident
 pub record IsRun (outside : Outside) (program : Loaded) (input schedule : Text) (options : Options) (status : Status) (grown : Channels) : Type 0 where
   pub rules : List Rule
   pub planned : Denotes (start_areas program.system program.user) schedule rules
-  pub went : Went outside (limits_of options) (start_areas program.system program.user) rules (fresh options.frames (Start program.system program.user input)) options.dumps status grown
+  pub went : Went outside (setup_for program input rules options) status grown
 
 abbrev pub RunsSo : Outside → Loaded → (input schedule : Text) → Options → Status → Channels → Type 0
 RunsSo outside program input schedule options status grown =

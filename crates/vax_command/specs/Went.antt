@@ -1,5 +1,5 @@
--- How a run goes, by the turns of the flat machine, and what it writes.
-use Rattle.std.specs.Prelude.{◌≡◌, ◌+◌, ◌⊎◌, ℕ, suc, Bool, List, [], ◌++◌, map, Option, None, Some}
+-- How a run goes, by the flat machine's run and by the turns of its paged run, and what it writes.
+use Rattle.std.specs.Prelude.{◌≡◌, ◌+◌, ◌*◌, ◌<◌, ◌≤◌, ◌⊎◌, ℕ, suc, false, List, [], ◌++◌, map, Option, None, Some}
 use Rattle.vax_space.specs.declared.Area.{Area}
 use Rattle.vax_outside.specs.Blocks.{BlockFile}
 use Rattle.vax_outside.specs.Channels.{Channels, only, append}
@@ -10,17 +10,19 @@ use Rattle.vax_report.specs.declared.Dump.{Dump}
 use Rattle.vax_report.specs.declared.Last.{Last}
 use Rattle.vax_report.specs.declared.Last.TheVariants as last
 use Rattle.vax_sched.specs.Due.{due}
-use Rattle.vax_sched.specs.declared.rule.Rule.{Rule}
+use Rattle.vax_machine.specs.Calling.{CallsFile}
 use Rattle.vax_machine.specs.Console.{memory_from}
-use Rattle.vax_machine.specs.Paged.{Paged, Why, ByEnding, BySteps, ByTurns, all_evicted, all_named, paged, stops}
+use Rattle.vax_machine.specs.Paged.{Paged, Why, ByEnding, BySteps, ByTurns, all_evicted, all_named, stops}
 use Rattle.vax_machine.specs.Blocks.{MovedUpTo}
-use Rattle.vax_machine.specs.Run.{Runs}
-use Rattle.vax_machine.specs.Writing.{output_of}
+use Rattle.vax_machine.specs.Writing.{both, lines_of}
 use Rattle.vax_machine.specs.declared.event.Limits.{Limits}
+use Rattle.vax_machine_laws.specs.Enough.{pages_due}
+use Rattle.vax_machine_laws.specs.FlatRun.{GoesOnFor, IsOver, IsUnfinished, Reaches, Stage, StopsSo, stage, stage_of}
 use Rattle.vax_cli.specs.Words.{Options, Text}
 use Rattle.vax_cli.specs.declared.command.DumpItem.{DumpItem}
 use Rattle.vax_command.specs.Around.{HasFailed, Outside}
 use Rattle.vax_command.specs.Pages.{HasRun, RunsOrLoses}
+use Rattle.vax_command.specs.Setup.{Setup, after_turns, before_turns, run_of}
 use Rattle.vax_command.specs.declared.status.Status.{Status}
 use Rattle.vax_command.specs.declared.status.Status.TheVariants.{Done, Usage, Missing, Large, Refused, Link, Schedule, Image, Turns, PageFault, ReadFault, WriteFault, NoMemory}
 
@@ -31,17 +33,21 @@ limits_of options = record { steps = options.steps; turns = options.turns; liste
 abbrev pub shown : List Area → DumpItem → Dump
 shown memory item = record { addr = item.address; bytes = memory_from memory item.address item.count }
 
--- those that all items ask for, of the memory of a machine in a paged run
-unfoldable pub dumps_at : Paged → List DumpItem → List Dump
-dumps_at p items = map (shown (machine_at p.place).memory) items
+-- those that all items ask for, of the memory of a machine
+unfoldable pub dumps_at : Stage → List DumpItem → List Dump
+dumps_at s items = map (shown (machine_at s.place).memory) items
 
--- the report on such a machine
-unfoldable pub run_report : Paged → Last → List Dump → Text
-run_report p why dumps = report (machine_at p.place).core why p.steps (units_done p.place) (machine_at p.place).taken dumps
+-- the report on a machine
+unfoldable pub run_report : Stage → Last → List Dump → Text
+run_report s why dumps = report (machine_at s.place).core why s.steps (units_done s.place) (machine_at s.place).taken dumps
 
--- what such a run has written in the end: the guest's output, the evictions where they are listed, and the report
-unfoldable pub run_output : Bool → Paged → Last → List Dump → Channels
-run_output listed p why dumps = append (output_of listed p) (only channel.Report (run_report p why dumps))
+-- what a run has written in the end: the guest's output, the lines of the evictions that are listed, and the report
+unfoldable pub run_output : Stage → (recorded : Text) → Last → List Dump → Channels
+run_output s recorded why dumps = append (both (machine_at s.place).output recorded) (only channel.Report (run_report s why dumps))
+
+-- the lines of the evictions of a paged run, where they are to be listed
+abbrev pub recorded : Setup → Paged → Text
+recorded setup p = lines_of setup.limits.listed p.evictions
 
 -- why a run stopped, as its report and as the answer tell it
 abbrev pub last_of : Why → Last
@@ -54,36 +60,56 @@ status_of (ByEnding ending) = Done
 status_of BySteps = Done
 status_of ByTurns = Turns
 
--- it stopped by itself, after so many turns
-pub record IsStopped (limits : Limits) (areas : List Area) (rules : List Rule) (b : Paged) (items : List DumpItem) (file : BlockFile) (outside : Outside) (status : Status) (grown : Channels) : Type 0 where
-  pub count : ℕ
-  pub goes : Runs limits areas rules b count
-  pub why : Why
-  pub stopped : stops limits.steps limits.turns (paged areas (due rules) count b) ≡ Some why
-  pub answer : status ≡ status_of why
-  pub wrote : grown ≡ run_output limits.listed (paged areas (due rules) count b) (last_of why) (dumps_at (paged areas (due rules) count b) items)
-  pub blocks : RunsOrLoses areas b (paged areas (due rules) count b) items file outside
+-- The limit of turns is too low for the flat machine's run: whenever this is over after some parts, the limit is below 41 for each of them and one for
+-- each eviction of a pinned page. These are no more than the pages that the schedule names for these turns.
+pub record IsTooLow (setup : Setup) (count : ℕ) : Type 0 where
+  pub few : (parts : ℕ) → IsOver setup.limits.steps (stage setup.start parts)
+      → setup.limits.turns < 41 * parts + (after_turns setup count).residence.spoiled
+  pub spoiled : (after_turns setup count).residence.spoiled ≤ pages_due setup.areas (due setup.rules) count
 
--- so it did, and a call of the page file failed while the memory was read that the report was to show
-pub record IsUnread (limits : Limits) (areas : List Area) (rules : List Rule) (b : Paged) (items : List DumpItem) (file : BlockFile) (outside : Outside) (status : Status) (grown : Channels) : Type 0 where
-  pub count : ℕ
-  pub goes : Runs limits areas rules b count
+-- A run stopped by itself. First where it is in the flat machine's run from its start: by an ending or at the limit of steps it is the whole of it.
+-- Then by the turns of its paged run: it stopped there first, and the limit of turns stops it only where it is too low.
+pub record Stop (setup : Setup) : Type 0 where
+  pub at : Stage
   pub why : Why
-  pub stopped : stops limits.steps limits.turns (paged areas (due rules) count b) ≡ Some why
+  pub reaches : Reaches setup.start at
+  pub whole : StopsSo why setup.limits.steps setup.start at
+  pub count : ℕ
+  pub leads : at ≡ stage_of (after_turns setup count)
+  pub goes : GoesOnFor setup.limits (run_of setup) count
+  pub stopped : stops setup.limits.steps setup.limits.turns (after_turns setup count) ≡ Some why
+  pub short : why ≡ ByTurns → IsTooLow setup count
+
+-- it stopped so, and the report on it was written
+pub record IsStopped (setup : Setup) (file : BlockFile) (outside : Outside) (status : Status) (grown : Channels) : Type 0 where
+  pub stop : Stop setup
+  pub answer : status ≡ status_of stop.why
+  pub wrote : grown ≡ run_output stop.at (recorded setup (after_turns setup stop.count)) (last_of stop.why) (dumps_at stop.at setup.items)
+  pub blocks : RunsOrLoses setup stop.count file outside
+
+-- it stopped so, and a call of the page file failed while the memory was read that the report was to show
+pub record IsUnread (setup : Setup) (file : BlockFile) (outside : Outside) (status : Status) (grown : Channels) : Type 0 where
+  pub stop : Stop setup
   pub answer : status ≡ PageFault
-  pub wrote : grown ≡ run_output limits.listed (paged areas (due rules) count b) last.PageFault []
-  pub blocks : HasRun areas b (paged areas (due rules) count b) items file outside.pages.after.told
+  pub wrote : grown ≡ run_output stop.at (recorded setup (after_turns setup stop.count)) last.PageFault []
+  pub blocks : HasRun setup stop.count file outside.pages.after.told
 
--- a call of the page file failed in the turn behind so many, when the first of what was due had been made absent
-pub record IsCut (limits : Limits) (areas : List Area) (rules : List Rule) (b : Paged) (file : BlockFile) (outside : Outside) (status : Status) (grown : Channels) : Type 0 where
+-- A call of the page file failed in the turn behind so many, when the first of what was due had been made absent: the next of this is to be written, or the
+-- attempt misses a page. The flat machine's run wasn't over, and is where these turns lead.
+pub record IsCut (setup : Setup) (file : BlockFile) (outside : Outside) (status : Status) (grown : Channels) : Type 0 where
+  pub at : Stage
+  pub reaches : Reaches setup.start at
+  pub unfinished : IsUnfinished setup.limits.steps at
   pub count : ℕ
-  pub goes : Runs limits areas rules b (suc count)
+  pub leads : at ≡ stage_of (after_turns setup count)
+  pub goes : GoesOnFor setup.limits (run_of setup) (suc count)
   pub front : List ℕ
   pub rest : List ℕ
-  pub splits : all_named areas (due rules ((paged areas (due rules) count b).turns + 1)) ≡ front ++ rest
+  pub splits : all_named setup.areas (due setup.rules ((after_turns setup count).turns + 1)) ≡ front ++ rest
+  pub calls : CallsFile rest (all_evicted front (after_turns setup count))
   pub answer : status ≡ PageFault
-  pub wrote : grown ≡ run_output limits.listed (all_evicted front (paged areas (due rules) count b)) last.PageFault []
-  pub blocks : MovedUpTo areas b (all_evicted front (paged areas (due rules) count b)) rest (Some file) outside.pages.after.told
+  pub wrote : grown ≡ run_output at (recorded setup (all_evicted front (after_turns setup count))) last.PageFault []
+  pub blocks : MovedUpTo setup.areas (before_turns setup) (all_evicted front (after_turns setup count)) rest (Some file) outside.pages.after.told
 
 -- an answer of a run
 abbrev pub IsRunAnswer : Type 0 → Status → Type 0
@@ -101,13 +127,18 @@ IsRunAnswer failed ReadFault = ⊥
 IsRunAnswer failed WriteFault = ⊥
 IsRunAnswer failed NoMemory = ⊥
 
--- It stopped by itself, or a call of the page file failed; of what it wrote nothing is said where the page file doesn't tell its contents.
+-- an answer of a run whose page file doesn't tell its contents; Record is empty where evictions aren't to be listed
+pub record IsUntold (setup : Setup) (outside : Outside) (status : Status) (grown : Channels) : Type 0 where
+  pub answer : IsRunAnswer (HasFailed outside.pages) status
+  pub unlisted : setup.limits.listed ≡ false → grown.recorded ≡ []
 
-abbrev pub WentFrom : Option BlockFile → Outside → Limits → List Area → List Rule → Paged → List DumpItem → Status → Channels → Type 0
-WentFrom None outside limits areas rules b items status grown = IsRunAnswer (HasFailed outside.pages) status
-WentFrom (Some file) outside limits areas rules b items status grown =
-    IsStopped limits areas rules b items file outside status grown
-    ⊎ (HasFailed outside.pages × (IsUnread limits areas rules b items file outside status grown ⊎ IsCut limits areas rules b file outside status grown))
+-- It stopped by itself, or a call of the page file failed; of what it wrote little is said where the page file doesn't tell its contents.
 
-abbrev pub Went : Outside → Limits → List Area → List Rule → Paged → List DumpItem → Status → Channels → Type 0
-Went outside limits areas rules b items status grown = WentFrom outside.pages.before.told outside limits areas rules b items status grown
+abbrev pub WentFrom : Option BlockFile → Outside → Setup → Status → Channels → Type 0
+WentFrom None outside setup status grown = IsUntold setup outside status grown
+WentFrom (Some file) outside setup status grown =
+    IsStopped setup file outside status grown
+    ⊎ (HasFailed outside.pages × (IsUnread setup file outside status grown ⊎ IsCut setup file outside status grown))
+
+abbrev pub Went : Outside → Setup → Status → Channels → Type 0
+Went outside setup status grown = WentFrom outside.pages.before.told outside setup status grown

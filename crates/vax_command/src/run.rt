@@ -7,7 +7,6 @@ ghost use Rattle.vax_image.specs.Start.{Start, start_areas};
 ghost use Rattle.vax_pager.specs.Poking.{OnlyRead};
 ghost use Rattle.vax_machine.specs.Meaning.{engine};
 ghost use Rattle.vax_machine.specs.Machine.{keeping};
-ghost use Rattle.vax_machine.specs.Paged.{fresh};
 ghost use Rattle.vax_sched.specs.Faults.{Denotes, IsFirstFault};
 ghost use Rattle.vax_cli.specs.Said.{AreWithin, options as said_options};
 ghost use Rattle.vax_command.specs.Around.{change, outside};
@@ -98,8 +97,15 @@ fn execute<K: Sink, F: PageFile>(
         EndsSo (change K.faults K.contents sink.old sink.new)
         (Went (outside (change K.faults K.contents sink.old sink.new)
         (change F.faults F.contents pages.old pages.new))
-        limits.now (keeping (engine machine)).areas schedule.now (fresh frames m)
-        (items_of room.blanks.items)) result }
+        (record {
+          limits = limits.now;
+          areas = (keeping (engine machine)).areas;
+          rules = schedule.now;
+          frames = frames;
+          start = m;
+          items = items_of room.blanks.items;
+        }))
+        result }
     ensures failed { Admits (F.faults pages.old) (F.faults pages.new) Status.PageFault result }
 {
     let mut machine = machine;

@@ -140,6 +140,24 @@ fn changes_one_byte_alone(rt: HostRuntime) -> Result<(), Fail> {
     Ok(())
 }
 
+/// The second segment is 0 throughout: it has no bytes in the file, and an offset behind the file's end, as linkers write it.
+#[test]
+fn loads_zeros_that_no_file_has(rt: HostRuntime) -> Result<(), Fail> {
+    let mut file = file_with(&rt, None)?;
+    file.truncate(0x400);
+    for (place, byte) in [(89, 0x14), (101, 0)] {
+        if let Some(cell) = file.get_mut(place) {
+            *cell = byte;
+        }
+    }
+    let image = read(rt.alloc(), &file)?;
+    assert!(rt;
+        matches!(image.areas.as_slice(), [_, data]
+            if data.first == 2 && data.pages == 3 && data.bytes.as_slice().is_empty())
+    );
+    Ok(())
+}
+
 #[test]
 fn refuses_an_interpreter(rt: HostRuntime) -> Result<(), Fail> {
     let mut file = file_with(&rt, None)?;

@@ -3,6 +3,7 @@ use std::alloc::Global;
 use std::fmt::Display;
 use std::process::Abort;
 use std::test::Fail;
+use vax_cli::WordsError;
 use vax_image::{ImageError, SHORT};
 use vax_link::LinkError;
 use vax_program::{ProgramError, Refusal};
@@ -83,4 +84,12 @@ fn tells_errors_of_programs(rt: HostRuntime) -> Result<(), Fail> {
         test_text(&rt, alloc, &ProgramError::Refused(refusal), text)?;
     }
     test_text(&rt, alloc, &ProgramError::NoMemory, "out of memory")
+}
+
+#[test]
+fn tells_errors_of_words(rt: HostRuntime) -> Result<(), Fail> {
+    let alloc = rt.alloc();
+    let usage = "these are no words of a command";
+    test_text(&rt, alloc, &WordsError::Usage, usage)?;
+    test_text(&rt, alloc, &WordsError::NoMemory, "out of memory")
 }

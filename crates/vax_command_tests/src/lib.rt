@@ -14,6 +14,8 @@ mod link;
 #[cfg(test)]
 mod program;
 #[cfg(test)]
+mod program_listing;
+#[cfg(test)]
 mod top;
 #[cfg(test)]
 mod words;

@@ -12,7 +12,7 @@ use Rattle.vax_elf.specs.declared.faults.ElfFault.TheVariants.{Class, Order, Ver
 use Rattle.vax_elf.specs.declared.faults.ElfError.{ElfError}
 use Rattle.vax_elf.specs.declared.faults.ElfError.TheVariants.{Fault}
 use Rattle.vax_elf.specs.declared.segments.Segment.{Segment}
-use Rattle.vax_elf.specs.Executable.{half_at, word_at, headers_begin, header_count, entry_of, segment_at, segments_from, segments_of, told_len, base_of, is_loaded, is_aligned, area_of, IsSegment, ElfImage}
+use Rattle.vax_elf.specs.Executable.{half_at, word_at, headers_begin, header_count, entry_of, segment_at, segments_from, segments_of, told_len, base_of, is_loaded, is_aligned, file_end, area_of, IsSegment, ElfImage}
 use Rattle.vax_elf.specs.Faults.{◌>>=◌, Gives}
 use Rattle.vax_elf.specs.Reading.{fault_of, unless_fault, loaded_at, behind, areas_at, header_of, told_by, named_by, sized_by, ended, image_of}
 use Rattle.vax_elf.proofs.Images.{bind_ok, if_ok, if_none, or_false, same, not_false, skip, pick, image_is}
@@ -92,7 +92,7 @@ taken_is base low file place n e =
                 let c = if_none (not (is_aligned s)) (Fault (place + 28) Alignment) _ loaded.1.0 in
                 let d = if_none (ltb (page_of s.address) (first_page base) || ltb (512 * end_page base) (s.address + s.memory_size)) (Fault (place + 8) Outside) _ c.1 in
                 let f = if_none (ltb (page_of s.address) low) (Fault (place + 8) Overlap) _ d.1 in
-                let g = if_none (ltb (length file) (s.offset + s.file_size)) (Fault (place + 4) Short) None f.1 in
+                let g = if_none (ltb (length file) (file_end s)) (Fault (place + 4) Short) None f.1 in
                 let outside = or_false _ _ d.0 in
                 record {
                   segment = record {

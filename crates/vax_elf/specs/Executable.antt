@@ -67,6 +67,10 @@ is_aligned segment =
     segment.alignment == 0
     || (is_power_of_two segment.alignment && (segment.address % segment.alignment == segment.offset % segment.alignment))
 
+-- where its bytes end in the file; one that has none there needs no place in it
+abbrev pub file_end : Segment → ℕ
+file_end segment = if segment.file_size == 0 then 0 else segment.offset + segment.file_size
+
 -- the page behind the segment's last
 abbrev pub page_behind : Segment → ℕ
 page_behind segment = page_of (segment.address + segment.memory_size + 511)
@@ -102,7 +106,7 @@ pub record IsSegment (base : Base) (len : ℕ) (segment : Segment) : Type 0 wher
   pub aligned : is_loaded segment ≡ true → is_aligned segment ≡ true
   pub behind : is_loaded segment ≡ true → first_page base ≤ page_of segment.address
   pub within : is_loaded segment ≡ true → segment.address + segment.memory_size ≤ 512 * end_page base
-  pub there : is_loaded segment ≡ true → segment.offset + segment.file_size ≤ len
+  pub there : is_loaded segment ≡ true → file_end segment ≤ len
 
 -- an executable with fixed addresses for the VAX, and its image: each field as the format's specification has it
 pub record ElfImage (file : List ℕ) (image : Image) : Type 0 where

@@ -12,7 +12,7 @@ use Rattle.vax_elf.specs.declared.faults.ElfFault.TheVariants.{Class, Order, Ver
 use Rattle.vax_elf.specs.declared.faults.ElfError.{ElfError}
 use Rattle.vax_elf.specs.declared.faults.ElfError.TheVariants.{Fault}
 use Rattle.vax_elf.specs.declared.segments.Segment.{Segment}
-use Rattle.vax_elf.specs.Executable.{half_at, word_at, headers_begin, header_count, entry_of, segment_at, told_len, base_of, is_aligned, area_of}
+use Rattle.vax_elf.specs.Executable.{half_at, word_at, headers_begin, header_count, entry_of, segment_at, told_len, base_of, is_aligned, file_end, area_of}
 use Rattle.vax_elf.specs.Faults.{◌>>=◌}
 
 -- the number, or a fault at an offset
@@ -54,7 +54,7 @@ fault_of base low len place segment =
     else (if nat_lt (page_of segment.address) (first_page base) || nat_lt (512 * end_page base) (segment.address + segment.memory_size)
     then Some (Fault (place + 8) Outside)
     else (if nat_lt (page_of segment.address) low then Some (Fault (place + 8) Overlap)
-    else (if nat_lt len (segment.offset + segment.file_size) then Some (Fault (place + 4) Short) else None)))
+    else (if nat_lt len (file_end segment) then Some (Fault (place + 4) Short) else None)))
 
 abbrev pub unless_fault : {X : Type 0} → Option ElfError → X → Result X ElfError
 unless_fault None x = Ok x

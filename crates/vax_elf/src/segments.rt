@@ -79,6 +79,16 @@ impl Segment {
         u64::from(self.address) + u64::from(self.memory_size)
     }
 
+    /// Where its bytes end in the file, of 33 bits; 0 for one that has none there.
+    fn file_end(&self) -> u64
+        ensures { result ≡ spec.file_end self.now }
+    {
+        if self.file_size == 0 {
+            return 0;
+        }
+        u64::from(self.offset) + u64::from(self.file_size)
+    }
+
     /// Its fault as a segment that is loaded at page `low` or behind it; its program header stands at `place`.
     #[tactic(auto, unfolding(crate::specs::Reading::fault_of))]
     fn fault(&self, base: Base, low: u32, file: &[u8], place: u32) -> Option<ElfError>
@@ -95,7 +105,7 @@ impl Segment {
         if first < low {
             return at(place + 8, ElfFault::Overlap);
         }
-        if (file.len() as u64) < u64::from(self.offset) + u64::from(self.file_size) {
+        if (file.len() as u64) < self.file_end() {
             return at(place + 4, ElfFault::Short);
         }
         None
@@ -103,7 +113,7 @@ impl Segment {
 
     /// Its area: its pages, with zeros before it and behind its bytes.
     fn area(&self, alloc: Global, base: Base, file: &[u8]) -> Result<Area, AllocError>
-        requires within { self.now.offset + self.now.file_size ≤ length file.now }
+        requires within { spec.file_end self.now ≤ length file.now }
         requires low { self.now.address + self.now.memory_size ≤ 512 * end_page base }
         ensures { IfOk result (λ area. area ≡ spec.area_of base file.now self.now) }
     {
@@ -112,7 +122,9 @@ impl Segment {
         let start = self.offset as usize;
         let mut bytes = Vec::new(alloc);
         bytes.resize((self.address % PAGE_BYTES) as usize, 0)?;
-        bytes.extend_from_slice(&file[start..start + self.file_size as usize])?;
+        if self.file_size != 0 {
+            bytes.extend_from_slice(&file[start..start + self.file_size as usize])?;
+        }
         Ok(Area {
             first,
             pages: behind - first,

@@ -1,7 +1,9 @@
 //! Runs each example over the system's files, and then each row of the files in `rows` over objects in memory, and shows what each leaves.
 #![tactic(auto)]
 
+mod pages;
 mod rows;
+mod series;
 mod setup;
 
 use crate::rows::show_rows;
@@ -14,7 +16,7 @@ use vax_top::vax_main;
 const CALLS: &str = "calls.txt";
 
 /// The files of rows.
-const ROWS: [&str; 10] = [
+const ROWS: [&str; 11] = [
     "rows/pages.txt",
     "rows/instructions.txt",
     "rows/modes.txt",
@@ -25,6 +27,7 @@ const ROWS: [&str; 10] = [
     "rows/executive.txt",
     "rows/console.txt",
     "rows/refusals.txt",
+    "rows/failures.txt",
 ];
 
 /// The words of a line behind the program's name, as the program is given them. A word `''` is the empty one.

@@ -3,13 +3,20 @@
 //! `file NAME` and `bytes NAME` begin a file, whose text or bytes stand in the lines behind it, four blanks further in; it stays until the name
 //! is given another one. `cut` takes the last end of line off it, and `blanks N` appends N blanks. `fail OBJECT read N` or `fail OBJECT write N` lets the
 //! Nth such call of `files`, `channels` or `pages` fail, and `any blocks` leaves the writes of blocks uncounted, both in the next call alone.
-//! `$ vax WORDS` makes the call. Lines that begin with `#`, and empty ones, are shown as they are.
-use crate::setup::{Form, Setup};
+//! `adds N` lets the page file add N to the first byte of each block that it gives in the next call, and
+//! `bites N` lets the channels take N bytes at a time in the next call, in place of 7. `$ vax WORDS` makes the call.
+//!
+//! `series fail OBJECT N` makes the next call with the first, the second, .. and the Nth call of the object failing, until the failure is met no more;
+//! `series cut NAME` with the file cut to each of its lengths, and `series turn NAME` with each of its bytes changed to 255 less its value. What these calls
+//! leave is shown beside what the call leaves as it is: the first two lines of the report, and how much there is of Out and Record. Lines that begin with `#`, and empty ones, are shown as they are.
+use crate::pages::Pages;
+use crate::series::show_series;
+use crate::setup::{Change, Form, Setup};
 use crate::words_of;
-use anyhow::{Result, bail};
+use anyhow::{Context, Result, bail};
 use std::alloc::Global;
 use std::io::Print;
-use vax_outside::{Chan, MemPages, MemSink};
+use vax_outside::{Chan, MemSink};
 use vax_top::vax_main;
 
 /// Shows what a channel was written: a text as it is, and few bytes, or their number.
@@ -37,20 +44,15 @@ fn show_channel<R: Print>(rt: &R, bytes: &[u8]) -> Result<()> {
 }
 
 /// Shows what a call left: Out and Report, Record where there is one, how many blocks were written, and its exit status.
-fn show_call<R: Print>(
-    rt: &R,
-    sink: &MemSink,
-    blocks: Option<&MemPages>,
-    status: u8,
-) -> Result<()> {
+fn show_call<R: Print>(rt: &R, sink: &MemSink, pages: Option<&Pages>, status: u8) -> Result<()> {
     show_channel(rt, sink.bytes(Chan::Out))?;
     show_channel(rt, sink.bytes(Chan::Report))?;
     if !sink.bytes(Chan::Record).is_empty() {
         rt.println("record:")?;
         show_channel(rt, sink.bytes(Chan::Record))?;
     }
-    if let Some(pages) = blocks {
-        let count = pages.writes().len();
+    if let Some(pages) = pages {
+        let count = pages.blocks.writes().len();
         if count > 0 {
             println!(rt; "blocks written: {count}")?;
         }
@@ -59,18 +61,59 @@ fn show_call<R: Print>(
     Ok(())
 }
 
-/// Makes a call, and shows what it left.
-fn call<R: Print>(rt: &R, alloc: Global, setup: &mut Setup, line: &str) -> Result<()> {
-    let (mut files, mut sink, mut pages) = setup.objects()?;
+/// What a call left.
+#[derive(Drop)]
+pub(crate) struct Left {
+    pub(crate) status: u8,
+    sink: MemSink,
+    pages: Pages,
+}
+
+impl Left {
+    pub(crate) fn out(&self) -> &[u8] {
+        self.sink.bytes(Chan::Out)
+    }
+
+    pub(crate) fn report(&self) -> &[u8] {
+        self.sink.bytes(Chan::Report)
+    }
+
+    pub(crate) fn record(&self) -> &[u8] {
+        self.sink.bytes(Chan::Record)
+    }
+}
+
+/// Makes a call, with a change if one is given.
+pub(crate) fn call(
+    alloc: Global,
+    setup: &Setup,
+    line: &str,
+    change: Option<Change>,
+) -> Result<Left> {
+    let (mut files, mut sink, mut pages) = setup.objects(change)?;
     let words = words_of(alloc, line)?;
     let status = vax_main(alloc, words.as_slice(), &mut files, &mut sink, &mut pages);
-    let blocks = if setup.has_any_blocks {
+    Ok(Left {
+        status: status.code(),
+        sink,
+        pages,
+    })
+}
+
+/// Makes a call, and shows what it left; then those of a series, where one was said. What was said of the call alone is taken back.
+fn show_all<R: Print>(rt: &R, alloc: Global, setup: &mut Setup, line: &str) -> Result<()> {
+    let left = call(alloc, setup, line, None)?;
+    let pages = if setup.has_any_blocks {
         None
     } else {
-        Some(&pages)
+        Some(&left.pages)
     };
-    setup.has_any_blocks = false;
-    show_call(rt, &sink, blocks, status.code())
+    show_call(rt, &left.sink, pages, left.status)?;
+    if let Some(series) = setup.series.take() {
+        show_series(rt, alloc, setup, line, &series)?;
+    }
+    setup.take_back();
+    Ok(())
 }
 
 /// Carries out a line that sets something up, and answers how the lines behind it give bytes.
@@ -84,6 +127,12 @@ fn prepare(setup: &mut Setup, line: &str) -> Result<Form> {
         setup.append_blanks(count)?;
     } else if let Some(said) = line.strip_prefix("fail ") {
         setup.fail(said)?;
+    } else if let Some(count) = line.strip_prefix("bites ") {
+        setup.bites = count.parse::<u32>().context("no count")?;
+    } else if let Some(number) = line.strip_prefix("adds ") {
+        setup.added = number.parse::<u8>().context("no number")?;
+    } else if let Some(said) = line.strip_prefix("series ") {
+        setup.begin_series(said)?;
     } else if line == "cut" {
         setup.cut();
     } else if line == "any blocks" {
@@ -103,7 +152,7 @@ pub(crate) fn show_rows<R: Print>(rt: &R, alloc: Global, text: &str) -> Result<(
             setup.go_on(form, said)?;
         } else if let Some(words) = line.strip_prefix("$ ") {
             rt.println(line)?;
-            call(rt, alloc, &mut setup, words)?;
+            show_all(rt, alloc, &mut setup, words)?;
         } else if line.is_empty() || line.starts_with('#') {
             rt.println(line)?;
         } else {

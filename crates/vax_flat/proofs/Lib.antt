@@ -22,6 +22,7 @@ pub mod Attempts
 pub mod Parts
 pub mod Results
 pub mod Returned
+pub mod Longwords
 pub mod Pushed
 pub mod Worked
 pub mod Fronts

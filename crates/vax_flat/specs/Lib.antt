@@ -31,4 +31,6 @@ pub mod Step
 pub mod Parts
 pub mod Bound
 pub mod StringAgree
+pub mod Laws
+pub mod StringLaws
 pub mod Start

@@ -22,7 +22,7 @@ use Rattle.vax_flat.specs.Returned.{AreThere}
 use Rattle.vax_flat.proofs.Memory.{whole_written}
 use Rattle.vax_flat_laws.specs.Machines.{IsMachine}
 use Rattle.vax_flat_laws.specs.Handlers.{vector_at, ends_there, IsAtHandler, IsConsistent, Returns}
-use Rattle.vax_flat_laws.proofs.Longwords.{allowed, there_more}
+use Rattle.vax_flat.proofs.Longwords.{allowed, there_more}
 use Rattle.vax_flat_laws.proofs.Entering.{IsPushed, pushes_come, taken, taken_top, taken_full, pointer_small, same_sp, vector_comes}
 use Rattle.vax_flat_laws.proofs.Handling.{mode_below, ipl_below, at_fields, refuses_ending, may_return, rei_returns}
 

@@ -25,7 +25,8 @@ use Rattle.vax_flat.specs.Returned.{AreThere, behind}
 use Rattle.vax_flat.proofs.Memory.{whole_written}
 use Rattle.vax_flat_laws.specs.Machines.{IsMachine, AreWords}
 use Rattle.vax_flat_laws.specs.Handlers.{vector_at, level_by, stack_by}
-use Rattle.vax_flat_laws.proofs.Longwords.{decided, behind_more, there_more}
+use Rattle.vax_flat.proofs.Longwords.{there_more}
+use Rattle.vax_flat_laws.proofs.Longwords.{decided, behind_more}
 
 -- ---- pushes that ask first
 

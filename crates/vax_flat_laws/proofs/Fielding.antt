@@ -28,7 +28,8 @@ use Rattle.vax_flat.specs.Rows.{value_at, stored, with_value, answered, settled,
 use Rattle.vax_flat.specs.Field.{bits_of, number_of, part, with_part, holder, is_reserved_field, held, put, field_bits, widened, extracted, compared_field, inserted, bytes_before, before_first}
 use Rattle.vax_flat.specs.Step.{leaf}
 use Rattle.vax_flat_laws.specs.Places.{put_and_extracted, IsFirstBit}
-use Rattle.vax_flat_laws.proofs.Longwords.{decided, allowed, bytes_pow, number_written}
+use Rattle.vax_flat.proofs.Longwords.{allowed}
+use Rattle.vax_flat_laws.proofs.Longwords.{decided, bytes_pow, number_written}
 use Rattle.vax_flat_laws.proofs.Queueing.{codes_set}
 use Rattle.std.proofs.Math.Path.{fun_ext}
 use Rattle.vax_flat.proofs.Memory.{byte_at-written}

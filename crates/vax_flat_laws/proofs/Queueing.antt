@@ -26,7 +26,8 @@ use Rattle.vax_flat.proofs.Bytes.{put_back}
 use Rattle.vax_flat.proofs.Memory.{whole_written}
 use Rattle.vax_flat_laws.specs.Machines.{longword_at, AreApart}
 use Rattle.vax_flat_laws.specs.Places.{put_and_removed, IsOutside, with_links, probe_codes}
-use Rattle.vax_flat_laws.proofs.Longwords.{allowed, bytes_are, read_back, stays_apart}
+use Rattle.vax_flat.proofs.Longwords.{allowed, bytes_are, read_back}
+use Rattle.vax_flat_laws.proofs.Longwords.{stays_apart}
 
 -- codes that are set are there
 pub codes_set : (p : Psl) (k : Codes) → codes_of (with_codes p k) ≡ k

@@ -23,7 +23,8 @@ use Rattle.vax_flat.proofs.Memory.{whole_written}
 use Rattle.vax_flat.proofs.Returned.{set_register}
 use Rattle.vax_flat_laws.specs.Machines.{IsMachine, AreWords}
 use Rattle.vax_flat_laws.specs.Places.{pushed_and_popped}
-use Rattle.vax_flat_laws.proofs.Longwords.{behind_more, there_more, allowed}
+use Rattle.vax_flat.proofs.Longwords.{there_more, allowed}
+use Rattle.vax_flat_laws.proofs.Longwords.{behind_more}
 
 -- ---- what is pushed
 

@@ -17,7 +17,7 @@ pub fn deliveries_enter_handlers()
         ExceptionComes e s memory t end → IsRaisedTo e s memory t }
     ensures interrupts { (level : ℕ) → (s t : State) → (memory end : List Area) →
         InterruptComes level s memory t end → IsInterruptedTo level s memory t }
-    ensures changes { (target : AccessMode) → (code : ℕ) → (s t : State) → (memory end : List Area) →
+    ensures changes { (target : AccessMode) (code : ℕ) (s t : State) (memory end : List Area) →
         ChangeComes target code s memory t end → IsChangedTo target s memory t }
 {}
 
@@ -28,7 +28,7 @@ pub fn rei_undoes_deliveries()
         IsConsistent s.core.psl → ExceptionComes e s memory t end → Returns (length (parameters e)) s t end }
     ensures interrupts { (level : ℕ) → (s t : State) → (memory end : List Area) →
         IsConsistent s.core.psl → priority s < level → InterruptComes level s memory t end → Returns 0 s t end }
-    ensures changes { (target : AccessMode) → (code : ℕ) → (s t : State) → (memory end : List Area) →
+    ensures changes { (target : AccessMode) (code : ℕ) (s t : State) (memory end : List Area) →
         IsConsistent s.core.psl → ChangeComes target code s memory t end → Returns 1 s t end }
 {}
 
@@ -54,6 +54,8 @@ pub fn deliveries_may_end_the_run()
 /// REI goes to exactly the statuses that go together, with a mode that isn't more privileged, on the interrupt stack only from there, and at a priority
 /// that isn't higher.
 pub fn rei_refuses_all_others()
-    ensures accepts { (old new : Psl) → IsConsistent new → MayFollow old new → is_refused old new ≡ false }
-    ensures refuses { (old new : Psl) → is_refused old new ≡ false → IsConsistent new × MayFollow old new }
+    ensures accepts { (old new : Psl) → IsConsistent new → MayFollow old new →
+        is_refused old new ≡ false }
+    ensures refuses { (old new : Psl) → is_refused old new ≡ false →
+        IsConsistent new × MayFollow old new }
 {}

@@ -21,7 +21,8 @@ pub fn fields_are_read_back()
     ensures registers { (source position size n : ℕ) → (s : State) → (next : ℕ → Accesses Leaf) →
         length s.core.regs ≡ 16 → n < 15 → is_reserved_field position size (FieldRegister n) ≡ false →
         put_and_extracted source position size (FieldRegister n) s next ≡ next (source % 2 ^ size) }
-    ensures memory { (source position size addr : ℕ) → (s : State) → (memory end : List Area) → (x : Leaf) →
+    ensures memory { (source position size addr : ℕ) (s : State) (memory end : List Area)
+        (x : Leaf) →
         (next : ℕ → Accesses Leaf) → IsWhole memory → 0 < size → size ≤ 32 →
         outcome_of (put_and_extracted source position size (Memory addr) s next) memory ≡ Ends x end →
         (after : List Area) × (outcome_of (next (source % 2 ^ size)) after ≡ Ends x end) }

@@ -18,21 +18,25 @@ ghost use Rattle.vax_flat_laws.specs.Maximal.{IfLeft, after_units, match_needs, 
 /// A part of a string instruction that leaves something goes as far as it may: to 512 units, to the first fill
 /// behind what is moved, to a byte whose table byte may not be read, or to the first unit that needs a page which its first doesn't. The registers are then those of a progress with as many more units done.
 pub fn parts_are_maximal()
-    ensures search { (equal : Bool) → (p : Progress) → (s : State) → (memory : List Area) → p.addr1 < 2 ^ 32 →
+    ensures search { (equal : Bool) (p : Progress) (s : State) (memory : List Area) →
+        p.addr1 < 2 ^ 32 →
         IfLeft (LeavesPart (search_needs p) never (λ made. suspended (searched p made) s))
         (outcome_of (search_part equal p s leaf) memory) }
-    ensures scan { (some : Bool) → (p : Progress) → (s : State) → (memory : List Area) → AreBytes (byte_at memory) →
+    ensures scan { (some : Bool) (p : Progress) (s : State) (memory : List Area) →
+        AreBytes (byte_at memory) →
         p.addr1 < 2 ^ 32 → p.table < 2 ^ 32 →
         IfLeft (LeavesPart (search_needs p) (entry_barred p (mode s) memory) (λ made. suspended (searched p made) s))
         (outcome_of (scan_part some p s leaf) memory) }
     ensures compare { (p : Progress) → (s : State) → (memory : List Area) → IsPlain p →
         IfLeft (LeavesPart (compare_needs p) never (λ made. suspended (record p { done = p.done + made }) s))
         (outcome_of (compare_part p s leaf) memory) }
-    ensures moves { (translate : Bool) → (p : Progress) → (s : State) → (memory : List Area) → IsMovePlain p →
+    ensures moves { (translate : Bool) (p : Progress) (s : State) (memory : List Area) →
+        IsMovePlain p →
         p.done < moved_count p →
         IfLeft (LeavesPart (move_needs p) (turns_to_fills p) (λ made. suspended (record p { done = p.done + made }) s))
         (outcome_of (move_part translate p s leaf) memory) }
-    ensures escape { (p : Progress) → (s : State) → (memory : List Area) → IsMovePlain p → p.done < moved_count p →
+    ensures escape { (p : Progress) (s : State) (memory : List Area) → IsMovePlain p →
+        p.done < moved_count p →
         IfLeft (LeavesPart (escape_needs p) (turns_to_fills p) (λ made. suspended (record p { done = p.done + made }) s))
         (outcome_of (escape_part p s leaf) memory) }
     ensures matching { (p : Progress) → (s : State) → (memory : List Area) →

@@ -25,10 +25,12 @@ pub fn registers_are_read_back()
 /// What MTPR wrote is in no other place: another stack's pointer stays, and so does the status beside its priority. The clock's count begins anew
 /// with its control. A byte that is sent is the low one.
 pub fn registers_stay_apart()
-    ensures pointers { (n k value : ℕ) → (s : State) → (next : ℕ → Accesses Leaf) → n ≤ 4 → k ≤ 4 → k ≢ n →
+    ensures pointers { (n k value : ℕ) (s : State) (next : ℕ → Accesses Leaf) → n ≤ 4 → k ≤ 4 →
+        k ≢ n →
         length s.core.regs ≡ 16 → length s.core.stacks ≡ 5 →
         read_after n value k s next ≡ get_processor k s (λ x u. next x) }
-    ensures status { (level : ℕ) → (s : State) → level < 32 → IsAtLevel level s.core.psl (with_priority level s).core.psl }
+    ensures status { (level : ℕ) (s : State) → level < 32 →
+        IsAtLevel level s.core.psl (with_priority level s).core.psl }
     ensures clock { (value : ℕ) → (s : State) → (next : Flow → ℕ → Accesses Leaf) →
         set_processor 24 value s (λ how t. next how t.core.clock) ≡ next Clocked 0 }
     ensures output { (value : ℕ) → (s : State) → (next : Option ℕ → Accesses Leaf) →
@@ -44,7 +46,8 @@ pub fn consoles_are_read()
         get_processor 33 s next ≡ next (slice_index s.input s.taken) (with_taken s (s.taken + 1)) }
     ensures empty { (s : State) → (next : ℕ → State → Accesses Leaf) → length s.input ≤ s.taken →
         get_processor 33 s next ≡ next 0 s }
-    ensures sender { (s : State) → (next : ℕ → State → Accesses Leaf) → get_processor 34 s next ≡ next 128 s }
+    ensures sender { (s : State) (next : ℕ → State → Accesses Leaf) →
+        get_processor 34 s next ≡ next 128 s }
     ensures quiet { (value : ℕ) → (s : State) → (next : Flow → State → Accesses Leaf) →
         AllEqual (map (λ n. set_processor n value s next) (32 ∷ 34 ∷ 57 ∷ 58 ∷ [])) (next Done s) }
 {}

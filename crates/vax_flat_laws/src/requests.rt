@@ -16,8 +16,10 @@ ghost use Rattle.vax_flat_laws.specs.Requests.{IsClockTakenBack, IsCounted, IsHi
 
 /// The clock's request, where it is on and has run out, is taken first, and else the highest of the others. A request that is made changes no other.
 pub fn the_highest_request_is_taken()
-    ensures clock { (core : Core) → (is_one core.iccs 6 && is_one core.iccs 7) ≡ true → level core ≡ 22 }
-    ensures others { (core : Core) → (is_one core.iccs 6 && is_one core.iccs 7) ≡ false → IsHighest core.sisr (level core) }
+    ensures clock { (core : Core) → (is_one core.iccs 6 && is_one core.iccs 7) ≡ true →
+        level core ≡ 22 }
+    ensures others { (core : Core) → (is_one core.iccs 6 && is_one core.iccs 7) ≡ false →
+        IsHighest core.sisr (level core) }
     ensures made { (k : ℕ) → (s : State) → IsRequested k s.core (requested k s).core }
 {}
 
@@ -33,8 +35,9 @@ pub fn interrupts_take_their_request()
 pub fn clocks_count_steps()
     ensures instructions { (s t : State) → (memory end : List Area) →
         ComesTo (finished Done s leaf) memory t end → IsCounted s.core.iccs s.core.clock t.core }
-    ensures exceptions { (e : Exception) → (s t : State) → (memory end : List Area) → IsMachine s memory →
+    ensures exceptions { (e : Exception) (s t : State) (memory end : List Area) →
+        IsMachine s memory →
         AreWords (parameters e) → ComesTo (whole_delivery e s) memory t end → IsCounted s.core.iccs s.core.clock t.core }
-    ensures traps { (kind : TrapKind) → (s t : State) → (memory end : List Area) → IsMachine s memory →
+    ensures traps { (kind : TrapKind) (s t : State) (memory end : List Area) → IsMachine s memory →
         ComesTo (finished (Trap kind) s leaf) memory t end → IsCounted s.core.iccs s.core.clock t.core }
 {}

@@ -17,7 +17,7 @@ ghost use Rattle.vax_flat_laws.specs.Places.{pushed_and_popped};
 
 /// POPR undoes PUSHR with the same mask: all registers are as they were, and the status.
 pub fn pops_undo_pushes()
-    ensures registers { (mask n : ℕ) → (s t : State) → (memory end : List Area) → IsMachine s memory →
+    ensures registers { (mask n : ℕ) (s t : State) (memory end : List Area) → IsMachine s memory →
         ComesTo (pushed_and_popped mask s) memory t end → register t n ≡ register s n }
     ensures status { (mask : ℕ) → (s t : State) → (memory end : List Area) → IsMachine s memory →
         ComesTo (pushed_and_popped mask s) memory t end → t.core.psl ≡ s.core.psl }
@@ -35,7 +35,8 @@ pub fn pushes_name_their_registers()
     ensures there { (mask : ℕ) → (s t : State) → (memory end : List Area) → IsMachine s memory →
         ComesTo (registers_pushed mask s leaf) memory t end →
         AreThere end (mode s) (register t 14) (map (register s) (named 15 mask)) }
-    ensures all { named 15 0xFFFF ≡ 0 ∷ 1 ∷ 2 ∷ 3 ∷ 4 ∷ 5 ∷ 6 ∷ 7 ∷ 8 ∷ 9 ∷ 10 ∷ 11 ∷ 12 ∷ 13 ∷ 14 ∷ [] }
+    ensures all { named 15 0xFFFF
+        ≡ 0 ∷ 1 ∷ 2 ∷ 3 ∷ 4 ∷ 5 ∷ 6 ∷ 7 ∷ 8 ∷ 9 ∷ 10 ∷ 11 ∷ 12 ∷ 13 ∷ 14 ∷ [] }
     ensures some { named 15 0xC025 ≡ 0 ∷ 2 ∷ 5 ∷ 14 ∷ [] }
     ensures none { named 15 0x8000 ≡ [] }
     ensures saved { named 12 0xF822 ≡ 1 ∷ 5 ∷ 11 ∷ [] }

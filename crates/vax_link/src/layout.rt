@@ -274,3 +274,19 @@ pub(crate) fn lay_out<'a>(
         firsts,
     }))
 }
+
+/// Where each section of modules lies, one module after another; none where they have no room.
+pub fn addresses(
+    alloc: Global,
+    base: Base,
+    modules: &[Module],
+) -> Result<Option<Vec<u32>>, AllocError>
+    ensures { IfOk result (λ found. MatchOption found
+        (spec.is_too_large base (spec.pieces_of modules.now) ≡ true)
+        (λ places. places.items ≡ spec.addresses base (spec.pieces_of modules.now))) }
+{
+    let Some(Layout { addresses, .. }) = lay_out(alloc, base, modules)? else {
+        return Ok(None);
+    };
+    Ok(Some(addresses))
+}

@@ -15,6 +15,7 @@ mod names;
 mod placed;
 
 pub use joining::link;
+pub use layout::addresses;
 use std::alloc::{AllocError, AllocFailed};
 use thiserror::Error;
 use vax_space::Bytes;

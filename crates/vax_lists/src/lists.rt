@@ -59,113 +59,106 @@ impl Lists {
 
     /// A page comes into a frame that no list has.
     #[inline]
-    pub fn serve(&mut self, page: u32, frame: u32)
-        requires below { frame < self.old.limit }
-        requires new { frame_in self.old.order page ≡ None }
-        requires unserved { (other : ℕ) → frame_in self.old.order other ≢ Some frame }
-        requires unkept { (other : ℕ) → frame_in self.old.kept other ≢ Some frame }
-        requires unmodified { (other : ℕ) → frame_in self.old.modified other ≢ Some frame }
-        ensures { self.new ≡ with_order self.old (appended self.old.order page frame) }
+    pub fn serve(&mut self, item: Placed)
+        requires below { item.frame < self.old.limit }
+        requires new { frame_in self.old.order item.page ≡ None }
+        requires unserved { (other : ℕ) → frame_in self.old.order other ≢ Some item.frame }
+        requires unkept { (other : ℕ) → frame_in self.old.kept other ≢ Some item.frame }
+        requires unmodified { (other : ℕ) → frame_in self.old.modified other ≢ Some item.frame }
+        ensures { self.new ≡ with_order self.old (appended self.old.order item.page item.frame) }
     {
-        self.pages[frame as usize] = page;
-        self.held.push_first(frame);
+        self.pages[item.frame as usize] = item.page;
+        self.held.push_first(item.frame);
     }
 
     /// A resident page gives up its frame.
     #[inline]
-    pub fn give_up(&mut self, page: u32, frame: u32)
-        requires there { frame_in self.old.order page ≡ Some frame }
-        ensures order { self.new ≡ with_order self.old (without page self.old.order) }
+    pub fn give_up(&mut self, item: Placed)
+        requires there { frame_in self.old.order item.page ≡ Some item.frame }
+        ensures order { self.new ≡ with_order self.old (without item.page self.old.order) }
         ensures fewer { length self.new.order + 1 ≡ length self.old.order }
     {
-        let _ = page;
-        self.held.remove_first(frame);
+        self.held.remove_first(item.frame);
     }
 
     /// A resident page is kept in its frame.
     #[inline]
-    pub fn keep(&mut self, page: u32, frame: u32)
-        requires below { frame < self.old.limit }
-        requires there { frame_in self.old.order page ≡ Some frame }
-        requires new { frame_in self.old.kept page ≡ None }
-        ensures moved { self.new ≡ with_kept (with_order self.old (without page self.old.order))
-            (appended self.old.kept page frame) }
+    pub fn keep(&mut self, item: Placed)
+        requires below { item.frame < self.old.limit }
+        requires there { frame_in self.old.order item.page ≡ Some item.frame }
+        requires new { frame_in self.old.kept item.page ≡ None }
+        ensures moved { self.new ≡ with_kept (with_order self.old (without item.page self.old.order))
+            (appended self.old.kept item.page item.frame) }
         ensures fewer { length self.new.order + 1 ≡ length self.old.order }
     {
-        let _ = page;
-        self.held.remove_first(frame);
-        self.held.push_second(frame);
+        self.held.remove_first(item.frame);
+        self.held.push_second(item.frame);
     }
 
     /// A kept page is resident again.
     #[inline]
-    pub fn take_back(&mut self, page: u32, frame: u32)
-        requires below { frame < self.old.limit }
-        requires there { frame_in self.old.kept page ≡ Some frame }
-        requires new { frame_in self.old.order page ≡ None }
-        ensures moved { self.new ≡ with_order (with_kept self.old (without page self.old.kept))
-            (appended self.old.order page frame) }
+    pub fn take_back(&mut self, item: Placed)
+        requires below { item.frame < self.old.limit }
+        requires there { frame_in self.old.kept item.page ≡ Some item.frame }
+        requires new { frame_in self.old.order item.page ≡ None }
+        ensures moved { self.new ≡ with_order (with_kept self.old (without item.page self.old.kept))
+            (appended self.old.order item.page item.frame) }
         ensures fewer { length self.new.kept + 1 ≡ length self.old.kept }
     {
-        let _ = page;
-        self.held.remove_second(frame);
-        self.held.push_first(frame);
+        self.held.remove_second(item.frame);
+        self.held.push_first(item.frame);
     }
 
     /// A kept page gives up its frame.
     #[inline]
-    pub fn forget(&mut self, page: u32, frame: u32)
-        requires there { frame_in self.old.kept page ≡ Some frame }
-        ensures kept { self.new ≡ with_kept self.old (without page self.old.kept) }
+    pub fn forget(&mut self, item: Placed)
+        requires there { frame_in self.old.kept item.page ≡ Some item.frame }
+        ensures kept { self.new ≡ with_kept self.old (without item.page self.old.kept) }
         ensures fewer { length self.new.kept + 1 ≡ length self.old.kept }
     {
-        let _ = page;
-        self.held.remove_second(frame);
+        self.held.remove_second(item.frame);
     }
 
     /// A resident page that wasn't modified is modified.
     #[inline]
-    pub fn touch(&mut self, page: u32, frame: u32)
-        requires below { frame < self.old.limit }
-        requires there { frame_in self.old.order page ≡ Some frame }
-        requires new { frame_in self.old.modified page ≡ None }
-        ensures { self.new ≡ with_modified self.old (appended self.old.modified page frame) }
+    pub fn touch(&mut self, item: Placed)
+        requires below { item.frame < self.old.limit }
+        requires there { frame_in self.old.order item.page ≡ Some item.frame }
+        requires new { frame_in self.old.modified item.page ≡ None }
+        ensures { self.new ≡ with_modified self.old (appended self.old.modified item.page item.frame) }
     {
-        let _ = page;
-        self.modified.push_first(frame);
+        self.modified.push_first(item.frame);
     }
 
     /// A modified page is modified no more.
     #[inline]
-    pub fn clean(&mut self, page: u32, frame: u32)
-        requires there { frame_in self.old.modified page ≡ Some frame }
-        ensures { self.new ≡ with_modified self.old (without page self.old.modified) }
+    pub fn clean(&mut self, item: Placed)
+        requires there { frame_in self.old.modified item.page ≡ Some item.frame }
+        ensures { self.new ≡ with_modified self.old (without item.page self.old.modified) }
     {
-        let _ = page;
-        self.modified.remove_first(frame);
+        self.modified.remove_first(item.frame);
     }
 
     /// Writes a modified page to its block, and cleans it. After a failure the lists are as before.
     pub fn write_one<F: PageFile>(
         &mut self,
-        page: u32,
-        frame: u32,
+        item: Placed,
         block: u32,
         bytes: &[u8; 512],
         file: &mut F,
     ) -> Result<(), Failed>
-        requires there { frame_in self.old.modified page ≡ Some frame }
+        requires there { frame_in self.old.modified item.page ≡ Some item.frame }
         ensures wrote { OnOk result
             (PutsBlock block bytes.now (F.contents file.old) (F.contents file.new)) }
         ensures modified { OnOk result
-            (self.new ≡ with_modified self.old (without page self.old.modified)) }
+            (self.new ≡ with_modified self.old (without item.page self.old.modified)) }
         ensures err { OnErr result (self.new ≡ self.old) }
         ensures unwritten { OnErr result (F.contents file.new ≡ F.contents file.old) }
         ensures counts { CountsFailure (is_err result) (F.faults file.old) (F.faults file.new) }
     {
         match file.write_block(block, bytes) {
             Ok(()) => {
-                self.clean(page, frame);
+                self.clean(item);
                 Ok(())
             }
             Err(failed) => Err(failed),
@@ -224,13 +217,12 @@ impl Lists {
     }
 
     /// Whether a resident page is among so many that were served last; looks at so many pages.
-    pub fn is_among_last(&self, page: u32, frame: u32, count: u32) -> bool
-        requires there { frame_in self.now.order page ≡ Some frame }
+    pub fn is_among_last(&self, item: Placed, count: u32) -> bool
+        requires there { frame_in self.now.order item.page ≡ Some item.frame }
         requires few { count ≤ length self.now.order }
         ensures { result ≡ is_some
-            (frame_in (drop (length self.now.order - count) self.now.order) page) }
+            (frame_in (drop (length self.now.order - count) self.now.order) item.page) }
     {
-        let _ = page;
-        self.held.is_among_last(frame, count)
+        self.held.is_among_last(item.frame, count)
     }
 }

@@ -31,7 +31,7 @@ use Rattle.vax_machine.specs.Paged.{Paged, all_evicted, all_named, attempted, at
 use Rattle.vax_machine.specs.Residence.{Residence, is_resident, served, taken_out, victim, without_victim}
 use Rattle.vax_machine.specs.Run.{FewTurns}
 use Rattle.vax_machine.specs.Touched.{PinsTouched, is_touched}
-use Rattle.vax_machine.specs.Turn.{Misses}
+use Rattle.vax_machine.specs.Calling.{Misses}
 
 -- a page that is missed first is one of an area
 

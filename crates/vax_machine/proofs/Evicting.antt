@@ -10,6 +10,7 @@ use Rattle.vax_machine.proofs.Listing.{grows_evicted}
 use Rattle.vax_machine.proofs.Outputs.{IsErrLike, lost_on}
 use Rattle.vax_machine.proofs.Tracking.{evicted_append, evicted_none}
 use Rattle.vax_machine.specs.Paged.{Paged, all_evicted}
+use Rattle.vax_machine.specs.Calling.{WritesFirst}
 use Rattle.vax_machine.specs.Turn.{EvictedAll, Follows, IsBegun, LostPart}
 use Rattle.vax_machine.specs.Writing.{Origin}
 use Rattle.vax_machine.specs.declared.engine.Engine.{Engine}
@@ -30,6 +31,13 @@ begun_in o p m file now left done next rest all e b = record {
   splits =
       e ∙ (ap (λ (xs : List ℕ). done ++ (xs ++ rest)) b.splits
       ∙ (ap (λ (xs : List ℕ). done ++ xs) (append_assoc b.front b.rest rest) ∙ sym (append_assoc done b.front (b.rest ++ rest))));
+  next = subst (WritesFirst (b.rest ++ rest)) (sym (evicted_append done b.front p)) (record {
+    page = b.next.page;
+    others = b.next.others ++ rest;
+    is = ap (λ (xs : List ℕ). xs ++ rest) b.next.is;
+    resident = b.next.resident;
+    modified = b.next.modified;
+  });
   follows = subst (λ (z : Paged). Follows o z m file now left) (sym (evicted_append done b.front p)) b.follows;
 }
 

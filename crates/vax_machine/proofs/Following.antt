@@ -45,7 +45,7 @@ left_is : (t : Turn) (q : Partway) → left_by t ≡ Some q → t ≡ Leaves q
 left_is (Completes m) q e = cc
 left_is (Leaves p) q e = let k : p ≡ q = cc in ap (λ (z : Partway). Leaves z) k
 
-part_ending : (place : Place) (q : Partway) → left_by (turn place) ≡ Some q → q.now.ending ≡ (machine_at place).ending
+pub part_ending : (place : Place) (q : Partway) → left_by (turn place) ≡ Some q → q.now.ending ≡ (machine_at place).ending
 part_ending place q e = leaves_ending (gone_back place) (units_done place) (outcome_at place) q (left_is (turn place) q e)
 
 after_ending : (o : Option Partway) (q : Partway) (how : Option Ending) → ((p : Partway) → o ≡ Some p → p.now.ending ≡ how) → after_part o ≡ Some q → q.now.ending ≡ how
@@ -57,13 +57,13 @@ unfolding partway
 partway_ending zero m q e = part_ending (At m) q e
 partway_ending (suc count) m q e = after_ending (partway count m) q m.ending (λ p is. partway_ending count m p is) e
 
-goes_ending : (m : Flat) (place : Place) → GoesBy m place → (machine_at place).ending ≡ m.ending
+pub goes_ending : (m : Flat) (place : Place) → GoesBy m place → (machine_at place).ending ≡ m.ending
 goes_ending m (At n) e = ap (λ (z : Flat). z.ending) e
 goes_ending m (Within q) (count, e) = partway_ending count m q e
 
 -- the parts of a step
 
-goes_further : (m : Flat) (place : Place) (q : Partway) → GoesBy m place → turn place ≡ Leaves q → GoesBy m (Within q)
+pub goes_further : (m : Flat) (place : Place) (q : Partway) → GoesBy m place → turn place ≡ Leaves q → GoesBy m (Within q)
 unfolding partway
 goes_further m (At n) q e t = (0, ap (λ (z : Flat). left_by (turn (At z))) (sym e) ∙ ap left_by t)
 goes_further m (Within p) q (count, e) t = (suc count, ap after_part e ∙ ap left_by t)
@@ -73,7 +73,7 @@ goes_further m (Within p) q (count, e) t = (suc count, ap after_part e ∙ ap le
 running : (m : Engine) (file : Option BlockFile) (place : Place) → m.ended ≡ None → Means m file place → (machine_at place).ending ≡ None
 running m file place going means = sym (ap (λ (z : Flat). z.ending) means.processor.machine) ∙ going
 
-one_further : (steps n : ℕ) (start next : Flat) → n ≡ steps + 1 → step (run steps start) ≡ next → next ≡ run n start
+pub one_further : (steps n : ℕ) (start next : Flat) → n ≡ steps + 1 → step (run steps start) ≡ next → next ≡ run n start
 unfolding run
 one_further steps n start next e is = let k : n ≡ suc steps = omega (arith, e) in sym is ∙ ap (λ (z : ℕ). run z start) (sym k)
 

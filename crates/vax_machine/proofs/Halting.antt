@@ -113,18 +113,25 @@ paged_more areas asks (suc a) n b =
 
 -- every run stops, at the latest at the limit of turns
 
-halted_not : (how : Option Ending) (steps turns : Bool) → stop_by how steps turns ≡ None → (how ≡ None) × (turns ≡ false)
+halted_not : (how : Option Ending) (steps turns : Bool) → stop_by how steps turns ≡ None → (how ≡ None) × (steps ≡ false) × (turns ≡ false)
 halted_not (Some e) steps turns h = cc
 halted_not None true turns h = cc
 halted_not None false true h = cc
-halted_not None false false h = (refl, refl)
+halted_not None false false h = (refl, refl, refl)
 
-going_on : (limits : Limits) (p : Paged) → stops limits.steps limits.turns p ≡ None → ((machine_at p.place).ending ≡ None) × (p.turns < limits.turns)
+-- a run that isn't stopped there goes on: it hasn't ended, and is below both limits
+pub record IsGoingOn (limits : Limits) (p : Paged) : Type 0 where
+  pub ending : (machine_at p.place).ending ≡ None
+  pub steps : p.steps < limits.steps
+  pub turns : p.turns < limits.turns
+
+pub going_on : (limits : Limits) (p : Paged) → stops limits.steps limits.turns p ≡ None → IsGoingOn limits p
 unfolding stops
 going_on limits p h =
     let k = halted_not (machine_at p.place).ending (nat_le limits.steps p.steps) (nat_le limits.turns p.turns) h in
-    let f = k.1 in
-    (k.0, grind (arith, nat_tests, f))
+    let s = k.1 in
+    let t = k.2 in
+    record { ending = k.0; steps = grind (arith, nat_tests, s); turns = grind (arith, nat_tests, t) }
 
 counted_by : (m : Option ℕ) (p : Paged) → (attempted_by m p).turns ≡ p.turns + 1
 counted_by None p = refl
@@ -134,7 +141,7 @@ counted : (p : Paged) → (machine_at p.place).ending ≡ None → (attempted p)
 unfolding attempted
 counted p going = rw going (counted_by (first_missing (is_resident p.residence) (touches_at p.place)) (marked p))
 
-turn_counted : (areas : List Area) (asks : ℕ → List Target) (p : Paged) → (machine_at p.place).ending ≡ None → (next_turn areas asks p).turns ≡ p.turns + 1
+pub turn_counted : (areas : List Area) (asks : ℕ → List Target) (p : Paged) → (machine_at p.place).ending ≡ None → (next_turn areas asks p).turns ≡ p.turns + 1
 turn_counted areas asks p going =
     let pages = all_named areas (asks (p.turns + 1)) in
     let o = many_evicted pages p in
@@ -179,10 +186,10 @@ module _ (limits : Limits) (areas : List Area) (rules : List Rule) where
   halts_or p None e more = more refl
 
   halts : (left : ℕ) (p : Paged) → limits.turns ≤ p.turns + left → Halts limits areas rules p
-  halts zero p few = halts_or p (stops limits.steps limits.turns p) refl (λ none. let g = (going_on limits p none).1 in absurd (omega (arith, g, few)))
+  halts zero p few = halts_or p (stops limits.steps limits.turns p) refl (λ none. let g = (going_on limits p none).turns in absurd (omega (arith, g, few)))
   halts (suc left) p few = halts_or p (stops limits.steps limits.turns p) refl (λ none.
       let g = going_on limits p none in
-      let t = turn_counted areas (due rules) p g.0 in
+      let t = turn_counted areas (due rules) p g.ending in
       halts_later p none (halts left (next_turn areas (due rules) p) (omega (arith, t, few))))
 
   -- a prefix of what some turns write is one of what the whole run writes

@@ -116,3 +116,34 @@ write_still h r old mid new g p = record {
   listed = refl;
   only = then_wrote h.listed old mid new (record { more = only Out h.bytes.items; silent = refl; unlisted = λ e. refl; grew = g }) (only_puts h.listed mid new r (only Record (if h.listed then h.lines else [])) refl (lines_only h.listed h.lines) p);
 }
+
+-- the bytes are written first
+
+pub bytes_first : (bytes lines : List ℕ) → both bytes lines ≡ append (only Out bytes) (both [] lines)
+bytes_first bytes lines = let e = sym (append-nil bytes) in λ i. record { out = e i; report = []; recorded = lines }
+
+pub bytes_whole : (bytes lines : List ℕ) → append (only Out bytes) (both [] lines) ≡ append (both bytes lines) nothing
+bytes_whole bytes lines = let e = sym (append-nil lines) in λ i. record { out = bytes ++ []; report = []; recorded = e i }
+
+-- more passed on, and then what is held was written, or not all of it
+module _ (before more mid after : Channels) (old between new : Option Channels) where
+  pub passes_on : (r : Result (Unit {0}) Fault) → Passes before more mid old between → Passed r mid nothing after between new → Passed r before more after old new
+  passes_on (Ok x) p q = record {
+    sent = append p.sent q.sent;
+    is = channels_assoc p.sent q.sent after ∙ (ap (append p.sent) (q.is ∙ append-nothing mid) ∙ p.is);
+    wrote = grew_more old between new p.sent q.sent p.wrote q.wrote;
+  }
+  passes_on (Err Page) p q = absurd q
+  passes_on (Err Write) p q =
+      prefix_in old between new p.sent (append mid nothing) nothing (append before more)
+      (ap (append p.sent) (append-nothing (append mid nothing) ∙ append-nothing mid) ∙ p.is) p.wrote q
+
+-- where a call failed alike
+pub passed_like : (before more mid after : Channels) (old new : Option Channels) (r q : Result (Unit {0}) Fault) → IsErrLike r q → Passed q before more mid old new → Passed r before more after old new
+passed_like before more mid after old new (Ok a) (Ok b) l h = absurd l
+passed_like before more mid after old new (Ok a) (Err b) l h = absurd l
+passed_like before more mid after old new (Err a) (Ok b) l h = absurd l
+passed_like before more mid after old new (Err Page) (Err Page) l h = h
+passed_like before more mid after old new (Err Page) (Err Write) l h = cc
+passed_like before more mid after old new (Err Write) (Err Page) l h = absurd h
+passed_like before more mid after old new (Err Write) (Err Write) l h = h

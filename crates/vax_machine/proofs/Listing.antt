@@ -77,9 +77,25 @@ module _ (o : Origin) (p : Paged) (old new : Engine) (before after : Option Bloc
     moved = subst (λ (z : Option BlockFile). Moved o.areas o.at p o.file z) (sym x.1) f.moved;
   }
 
+  failed_step : (b : Bool) → Evicts page b (keeping old) Failed (keeping new) → b ≡ true
+  failed_step true x = refl
+  failed_step false x = let bad : Failed ≡ Nothing = x.0 in cc
+
   pub evict_cut : Does Failed → Leaves Failed → EvictedAll (Err Page) o (page ∷ []) p new after was left
   unfolding all_evicted
-  evict_cut h x = record { front = []; rest = page ∷ []; splits = refl; follows = untouched Failed h (λ e. cc) x }
+  evict_cut h x = record {
+    front = [];
+    rest = page ∷ [];
+    splits = refl;
+    next = record {
+      page = page;
+      others = [];
+      is = refl;
+      resident = there_too true (failed_step (is_listed page (pages old.pager).order) h.0);
+      modified = ap (λ (z : ℕ → Bool). z page) (sym f.tracks.modified) ∙ x.2;
+    };
+    follows = untouched Failed h (λ e. cc) (x.0, x.1);
+  }
 
   away_step : (b : Bool) → Evicts page b (keeping old) Nothing (keeping new) → b ≡ false
   away_step true (inl x) = let bad : Nothing ≡ Failed = x.0 in cc

@@ -33,7 +33,8 @@ use Rattle.vax_machine.specs.Paged.{Paged, ByEnding, BySteps, ByTurns, all_evict
 use Rattle.vax_machine.specs.Residence.{Residence, is_resident, served, victim, without_victim}
 use Rattle.vax_machine.specs.Run.{Ends, FewTurns, IsCut, IsLost, IsWhole, Runs, Tracks, begun, origin, why_of}
 use Rattle.vax_machine.specs.Touched.{PinsTouched, is_touched}
-use Rattle.vax_machine.specs.Turn.{AreCut, AreLost, AreMade, AreWhole, AttemptsCut, AttemptsDone, AttemptsFollow, AttemptsLost, EvictedAll, Finishes, Follows, IsBegun, IsCutTurn, IsStop, IsUnserved, LostPart, Misses, Reached, TurnsMade, attempted_times}
+use Rattle.vax_machine.specs.Calling.{Misses}
+use Rattle.vax_machine.specs.Turn.{AreCut, AreLost, AreMade, AreWhole, AttemptsCut, AttemptsDone, AttemptsFollow, AttemptsLost, EvictedAll, Finishes, Follows, IsBegun, IsCutTurn, IsStop, IsUnserved, LostPart, Reached, TurnsMade, attempted_times}
 use Rattle.vax_machine.specs.Writing.{Origin, Sends, WrotePart, held_in}
 use Rattle.vax_machine.specs.declared.engine.Engine.{Engine}
 use Rattle.vax_machine.specs.declared.event.Fault.{Fault}
@@ -177,6 +178,7 @@ module _ (limits : Limits) (o : Origin) (areas : List Area) (rules : List Rule) 
           residence = h.follows.tracks.residence;
           means = subst (λ (z : Place). Means m file z) e.place h.follows.tracks.means;
           steps = h.follows.tracks.steps ∙ e.steps;
+          calls = inl h.next;
           made = inl (h.follows.tracks.turns ∙ e.turns);
           missed = inl (h.follows.tracks.turns ∙ e.turns);
           moved = inl h.follows.moved;
@@ -262,6 +264,7 @@ module _ (limits : Limits) (o : Origin) (areas : List Area) (rules : List Rule) 
           residence = r;
           means = subst (λ (z : Place). Means m file z) e.place means;
           steps = s ∙ e.steps;
+          calls = inr (refl, missed);
           made = inr (u ∙ ap (λ (n : ℕ). n + 1) e.turns, refl);
           missed = inr missed;
           moved = moved_up here moved;
@@ -280,6 +283,7 @@ module _ (limits : Limits) (o : Origin) (areas : List Area) (rules : List Rule) 
           residence = r ∙ ap (λ (z : Paged). z.residence) none_more;
           means = means;
           steps = s;
+          calls = inr (refl, subst Misses none_more missed);
           made = inr (u, refl);
           missed = inr (subst Misses none_more missed);
           moved = subst (λ (z : Paged). MovedUpTo o.areas o.at z [] o.file file) none_more (moved_up x moved);
@@ -411,6 +415,7 @@ module _ (limits : Limits) (areas : List Area) (rules : List Rule) (b : Paged) (
           residence = k.residence;
           means = k.means;
           steps = k.steps;
+          calls = k.calls;
           made = k.made;
           wrote = wrote_all o (all_evicted k.front (paged areas (due rules) (h.count + r.made) b)) mid (held_in held) k.sends next g;
           moved = k.moved;

@@ -14,6 +14,7 @@ use Rattle.vax_machine.proofs.Residents.{resident}
 use Rattle.vax_machine.proofs.Tracking.{evicted_append, evicted_away, evicted_there}
 use Rattle.vax_machine.specs.Paged.{Paged, all_evicted, evicted}
 use Rattle.vax_machine.specs.Residence.{Residence, taken_out}
+use Rattle.vax_machine.specs.Calling.{WritesFirst}
 use Rattle.vax_machine.specs.Turn.{EvictedAll, Follows, IsBegun, LostPart}
 use Rattle.vax_machine.specs.Writing.{Origin}
 use Rattle.vax_machine.specs.declared.engine.Engine.{Engine}
@@ -63,31 +64,41 @@ skipped q (x ∷ xs) p h = elim (cases_Bool (q x)) [
   | inr f ↦ rw f (skipped q xs p h ∙ ap (all_evicted xs) (sym (evicted_away x p (not_listed q x p h f))))
 ]
 
--- the pages up to the first that isn't done
-record IsCut (q : ℕ → Bool) (all front : List ℕ) : Type 0 where
+-- the pages up to one that is kept
+record IsCut (q : ℕ → Bool) (all front : List ℕ) (page : ℕ) : Type 0 where
   first : List ℕ
   last : List ℕ
-  splits : all ≡ first ++ last
+  splits : all ≡ first ++ page ∷ last
   kept : filter q first ≡ front
 
 both_same : (x y : ℕ) (xs ys : List ℕ) → x ≡ y → xs ≡ ys → x ∷ xs ≡ y ∷ ys
 both_same x y xs ys e f = cc
 
-cut_at : (q : ℕ → Bool) (all front rest : List ℕ) → filter q all ≡ front ++ rest → IsCut q all front
-cut_at q [] [] rest e = record { first = []; last = []; splits = refl; kept = refl }
-cut_at q [] (f ∷ front) rest e = absurd (cc)
-cut_at q (x ∷ xs) [] rest e = record { first = []; last = x ∷ xs; splits = refl; kept = refl }
-cut_at q (x ∷ xs) (f ∷ front) rest e = elim (cases_Bool (q x)) [
+further : (q : ℕ → Bool) (x page : ℕ) (xs front : List ℕ) → q x ≡ false → IsCut q xs front page → IsCut q (x ∷ xs) front page
+further q x page xs front o c = record { first = x ∷ c.first; last = c.last; splits = both_same x x xs (c.first ++ page ∷ c.last) refl c.splits; kept = rw o c.kept }
+
+cut_at : (q : ℕ → Bool) (all front rest : List ℕ) (page : ℕ) → filter q all ≡ front ++ page ∷ rest → IsCut q all front page
+cut_at q [] [] rest page e = absurd (cc)
+cut_at q [] (f ∷ front) rest page e = absurd (cc)
+cut_at q (x ∷ xs) [] rest page e = elim (cases_Bool (q x)) [
   | inl t ↦
-      let k : x ∷ filter q xs ≡ f ∷ (front ++ rest) = rw t at e in
-      let same : x ≡ f = cc in
-      let behind : filter q xs ≡ front ++ rest = cc in
-      let c = cut_at q xs front rest behind in
-      record { first = x ∷ c.first; last = c.last; splits = both_same x x xs (c.first ++ c.last) refl c.splits; kept = rw t (both_same x f (filter q c.first) front same c.kept) }
+      let k : x ∷ filter q xs ≡ page ∷ rest = rw t at e in
+      let same : x ≡ page = cc in
+      record { first = []; last = xs; splits = both_same x page xs xs same refl; kept = refl }
   | inr o ↦
-      let k : filter q xs ≡ f ∷ (front ++ rest) = rw o at e in
-      let c = cut_at q xs (f ∷ front) rest k in
-      record { first = x ∷ c.first; last = c.last; splits = both_same x x xs (c.first ++ c.last) refl c.splits; kept = rw o c.kept }
+      let k : filter q xs ≡ page ∷ rest = rw o at e in
+      further q x page xs [] o (cut_at q xs [] rest page k)
+]
+cut_at q (x ∷ xs) (f ∷ front) rest page e = elim (cases_Bool (q x)) [
+  | inl t ↦
+      let k : x ∷ filter q xs ≡ f ∷ (front ++ page ∷ rest) = rw t at e in
+      let same : x ≡ f = cc in
+      let behind : filter q xs ≡ front ++ page ∷ rest = cc in
+      let c = cut_at q xs front rest page behind in
+      record { first = x ∷ c.first; last = c.last; splits = both_same x x xs (c.first ++ page ∷ c.last) refl c.splits; kept = rw t (both_same x f (filter q c.first) front same c.kept) }
+  | inr o ↦
+      let k : filter q xs ≡ f ∷ (front ++ page ∷ rest) = rw o at e in
+      further q x page xs (f ∷ front) o (cut_at q xs (f ∷ front) rest page k)
 ]
 
 module _ (q : ℕ → Bool) (o : Origin) (all some : List ℕ) (p : Paged) (m : Engine) (file : Option BlockFile) (now : Option Channels) (left : Held) (e : some ≡ filter q all) (h : Covers q p) where
@@ -96,12 +107,14 @@ module _ (q : ℕ → Bool) (o : Origin) (all some : List ℕ) (p : Paged) (m : 
 
   begun_all : IsBegun o some p m file now left → IsBegun o all p m file now left
   begun_all b =
-      let c = cut_at q all b.front b.rest (sym e ∙ b.splits) in
+      let c = cut_at q all b.front b.next.others b.next.page (sym e ∙ (b.splits ∙ ap (λ (l : List ℕ). b.front ++ l) b.next.is)) in
+      let there : all_evicted b.front p ≡ all_evicted c.first p = ap (λ (l : List ℕ). all_evicted l p) (sym c.kept) ∙ skipped q c.first p h in
       record {
         front = c.first;
-        rest = c.last;
+        rest = b.next.page ∷ c.last;
         splits = c.splits;
-        follows = subst (λ (z : Paged). Follows o z m file now left) (ap (λ (l : List ℕ). all_evicted l p) (sym c.kept) ∙ skipped q c.first p h) b.follows;
+        next = subst (WritesFirst (b.next.page ∷ c.last)) there (record { page = b.next.page; others = c.last; is = refl; resident = b.next.resident; modified = b.next.modified });
+        follows = subst (λ (z : Paged). Follows o z m file now left) there b.follows;
       }
 
   -- what is so of these pages is so of all

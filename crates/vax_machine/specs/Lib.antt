@@ -4,6 +4,7 @@ pub mod Conclusion
 pub mod Batch
 pub mod Touched
 pub mod Paged
+pub mod Calling
 pub mod Events
 pub mod Blocks
 pub mod Laws

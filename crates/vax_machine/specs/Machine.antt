@@ -176,7 +176,7 @@ abbrev pub ServesAs : Option ℕ → Applied → Paging → Option BlockFile →
 ServesAs None result s before t after = (t ≡ s) × (after ≡ before)
 ServesAs (Some page) result s before t after = ServesFrom page result s before t after
 
--- an eviction: one write of the page, where it is modified
+-- an eviction: one write of the page, where it is modified; it fails only there
 abbrev pub EvictsFrom : ℕ → Applied → Paging → Option BlockFile → Paging → Option BlockFile → Type 0
 EvictsFrom page Evicted s before t after = (t ≡ after_evict page s) × (after ≡ wrote_back page s before)
 EvictsFrom page (Stepped sent) s before t after = ⊥
@@ -186,7 +186,7 @@ EvictsFrom page (Ended e) s before t after = ⊥
 EvictsFrom page (Served v) s before t after = ⊥
 EvictsFrom page Flushed s before t after = ⊥
 EvictsFrom page Nothing s before t after = (t ≡ s) × (after ≡ before)
-EvictsFrom page Failed s before t after = (t ≡ s) × (after ≡ before)
+EvictsFrom page Failed s before t after = (t ≡ s) × (after ≡ before) × (is_listed page s.modified ≡ true)
 
 -- a flush: one write of the page, where it is modified
 abbrev pub FlushesFrom : ℕ → Applied → Paging → Option BlockFile → Paging → Option BlockFile → Type 0

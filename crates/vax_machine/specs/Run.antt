@@ -8,6 +8,7 @@ use Rattle.vax_pager.specs.Meaning.{pages}
 use Rattle.vax_sched.specs.Due.{due}
 use Rattle.vax_sched.specs.declared.rule.Rule.{Rule}
 use Rattle.vax_machine.specs.Blocks.{Moved, MovedFirst, MovedUpTo}
+use Rattle.vax_machine.specs.Calling.{CallsFile}
 use Rattle.vax_machine.specs.Machine.{Means, modified_of, residence}
 use Rattle.vax_machine.specs.Paged.{Paged, Why, ByEnding, BySteps, ByTurns, all_evicted, all_named, paged, stops}
 use Rattle.vax_machine.specs.Touched.{PinsTouched}
@@ -61,7 +62,8 @@ pub record IsWhole (limits : Limits) (areas : List Area) (rules : List Rule) (b 
   pub moved : Moved areas b (paged areas (due rules) count b) before file
   pub few : FewTurns b (paged areas (due rules) count b)
 
--- a call of the page file failed: the place is that after so many whole turns, and the first of what was due then was made absent
+-- A call of the page file failed: the place is that after so many whole turns, and the first of what was due then was made absent. The next of these is
+-- to be written, or all were made absent and the attempt misses a page.
 pub record IsCut (limits : Limits) (areas : List Area) (rules : List Rule) (b : Paged) (before : Option BlockFile) (m : Engine) (file : Option BlockFile) (old new : Option Channels) : Type 0 where
   pub count : ℕ
   pub goes : Runs limits areas rules b (suc count)
@@ -71,6 +73,7 @@ pub record IsCut (limits : Limits) (areas : List Area) (rules : List Rule) (b : 
   pub residence : residence m ≡ (all_evicted front (paged areas (due rules) count b)).residence
   pub means : Means m file (paged areas (due rules) count b).place
   pub steps : m.steps ≡ (paged areas (due rules) count b).steps
+  pub calls : CallsFile rest (all_evicted front (paged areas (due rules) count b))
   pub made : (m.turns ≡ (paged areas (due rules) count b).turns) ⊎ ((m.turns ≡ (paged areas (due rules) count b).turns + 1) × (rest ≡ []))
   pub wrote : Wrote (origin limits areas b before old) (all_evicted front (paged areas (due rules) count b)) new
   pub moved : MovedUpTo areas b (all_evicted front (paged areas (due rules) count b)) rest before file

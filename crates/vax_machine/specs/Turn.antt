@@ -3,15 +3,14 @@ use Rattle.std.specs.Prelude.{ℕ, zero, suc, ◌≡◌, ◌≤◌, ◌<◌, ◌
 use Rattle.vax_space.specs.declared.Area.{Area}
 use Rattle.vax_outside.specs.Blocks.{BlockFile}
 use Rattle.vax_outside.specs.Channels.{Channels, Grew, GrewByPrefix, append}
-use Rattle.vax_flat.specs.Outcome.{first_missing}
-use Rattle.vax_flat.specs.Parts.{machine_at, touches_at}
+use Rattle.vax_flat.specs.Parts.{machine_at}
 use Rattle.vax_pager.specs.Meaning.{pages}
 use Rattle.vax_sched.specs.Due.{due}
 use Rattle.vax_sched.specs.declared.rule.Rule.{Rule}
 use Rattle.vax_machine.specs.Blocks.{Moved, MovedFirst, MovedUpTo}
+use Rattle.vax_machine.specs.Calling.{CallsFile, Misses, WritesFirst}
 use Rattle.vax_machine.specs.Machine.{KeepsPlace, Means, Serves, ServesAs, keeping, residence}
 use Rattle.vax_machine.specs.Paged.{Paged, Why, all_evicted, all_named, attempted, paged, stops}
-use Rattle.vax_machine.specs.Residence.{is_resident}
 use Rattle.vax_machine.specs.Run.{Runs, System, Tracks, system_of, why_of}
 use Rattle.vax_machine.specs.Touched.{PinsTouched}
 use Rattle.vax_machine.specs.Writing.{Origin, Passed, Sends, WrotePart, held_in, listed_by, output_of}
@@ -52,11 +51,12 @@ pub record LostPart (o : Origin) (p : Paged) (file : Option BlockFile) (now : Op
   pub wrote : WrotePart o p now
   pub moved : MovedFirst o.areas o.at p o.file file
 
--- the first of these pages were made absent
+-- the first of these pages were made absent, and the next is to be written
 pub record IsBegun (o : Origin) (all : List ℕ) (p : Paged) (m : Engine) (file : Option BlockFile) (now : Option Channels) (left : Held) : Type 0 where
   pub front : List ℕ
   pub rest : List ℕ
   pub splits : all ≡ front ++ rest
+  pub next : WritesFirst rest (all_evicted front p)
   pub follows : Follows o (all_evicted front p) m file now left
 
 abbrev pub EvictedAll : Result (Unit {0}) Fault → Origin → List ℕ → Paged → Engine → Option BlockFile → Option Channels → Held → Type 0
@@ -99,12 +99,6 @@ pub record IsServed (most : ℕ) (areas : List Area) (p : Paged) (more : Bool �
   pub writes : (listed : Bool) → output_of listed (attempted_times (suc count) p) ≡ append (output_of listed p) (more listed)
   pub alike : (pages m.pager).areas ≡ areas
   pub moved : Moved areas p (attempted_times (suc count) p) before file
-
--- the attempt that comes misses a page
-pub record Misses (p : Paged) : Type 0 where
-  pub page : ℕ
-  pub missing : first_missing (is_resident p.residence) (touches_at p.place) ≡ Some page
-  pub going : (machine_at p.place).ending ≡ None
 
 -- one attempt behind these was made, and the page that it missed wasn't served
 pub record IsUnserved (most : ℕ) (areas : List Area) (p : Paged) (before : Option BlockFile) (m : Engine) (file : Option BlockFile) : Type 0 where
@@ -153,6 +147,7 @@ pub record IsCutTurn (o : Origin) (areas : List Area) (rules : List Rule) (p : P
   pub residence : residence m ≡ (all_evicted front p).residence
   pub means : Means m file p.place
   pub steps : m.steps ≡ p.steps
+  pub calls : CallsFile rest (all_evicted front p)
   pub made : (m.turns ≡ p.turns) ⊎ ((m.turns ≡ p.turns + 1) × (rest ≡ []))
   pub missed : (m.turns ≡ p.turns) ⊎ Misses (all_evicted front p)
   pub moved : MovedUpTo o.areas o.at (all_evicted front p) rest o.file file

@@ -54,9 +54,7 @@ fn settle_after(pager: &mut Pager, steps: u64)
 
 impl Engine {
     ghost use Rattle.vax_space.specs.Areas.{area_of};
-    ghost use Rattle.vax_space.specs.Faults.{IsSpace};
     ghost use Rattle.vax_flat.specs.Parts.{Place};
-    ghost use Rattle.vax_pager.specs.Calls.{IsPaging};
     ghost use Rattle.vax_machine.specs.Touched.{PinsTouched};
     ghost use Rattle.vax_cpu.specs.Attempt.{StopsInside};
     ghost use Rattle.vax_pager.specs.Paging.{view_of};
@@ -66,15 +64,6 @@ impl Engine {
     ghost use Rattle.vax_machine.specs.Machine.{Applies, HasSpent, IsSound, Moves, has_failed, keeping};
     ghost use Rattle.vax_machine.specs.Events.{KeepsPins};
     ghost use Rattle.vax_machine.specs.declared.event.Event.TheVariants as event;
-
-    /// What is so of every machine's memory.
-    pub(crate) fn facts(&self)
-        ensures paging { IsPaging (pages self.now.pager) }
-        ensures space { IsSpace (pages self.now.pager).areas }
-    {
-        self.pager.facts();
-        let _areas = self.pager.space().areas();
-    }
 
     /// Makes one attempt. It calls no page file.
     pub(crate) fn attempt(&mut self) -> Applied
@@ -86,7 +75,6 @@ impl Engine {
         if let Some(ending) = self.ended {
             return Applied::Ended(ending);
         }
-        self.pager.facts();
         let last = self.cpu.attempt(&mut self.pager);
         self.conclude(last)
     }
@@ -103,7 +91,6 @@ impl Engine {
         ensures tried { HasTriedSeveral most self.old result self.new }
         ensures goes_on { MayGoOn (self.old.steps + most) self.new }
     {
-        self.pager.facts();
         let batch = self.cpu.attempts(&mut self.pager, most);
         settle_after(&mut self.pager, batch.steps);
         self.steps += batch.steps;
@@ -159,7 +146,6 @@ impl Engine {
         match self.wanted {
             None => Applied::Nothing,
             Some(page) => {
-                self.pager.facts();
                 match self.pager.serve(page, file) {
                     Ok(victim) => {
                         self.wanted = None;
@@ -183,7 +169,6 @@ impl Engine {
             → is_some (area_of (pages self.new.pager).areas page) ≡ true }
         ensures counts { CountsFailure (has_failed result) (F.faults file.old) (F.faults file.new) }
     {
-        self.pager.facts();
         if !self.pager.has(page) {
             return Applied::Nothing;
         }
@@ -209,7 +194,6 @@ impl Engine {
             (F.contents file.new) }
         ensures counts { CountsFailure (has_failed result) (F.faults file.old) (F.faults file.new) }
     {
-        self.pager.facts();
         if !self.pager.has(page) {
             return Applied::Nothing;
         }
@@ -237,7 +221,6 @@ impl Engine {
         ensures spends { HasSpent result (keeping self.old) (keeping self.new) }
         ensures counts { CountsFailure (has_failed result) (F.faults file.old) (F.faults file.new) }
     {
-        self.facts();
         match event {
             Event::Attempt => self.attempt(),
             Event::Serve => self.serve(file),

@@ -12,12 +12,17 @@ use vax_sched::push_at;
 /// The most bytes of lines beside which another line has room.
 const MOST_LINES: usize = 479;
 
+/// The most steps for which a byte is held back.
+pub const MOST_STEPS: u64 = 1_000_000;
+
 /// Bytes on their way to Out, and lines on their way to Record, where evictions are listed.
 #[derive(Drop)]
 pub struct Held {
     pub bytes: ArrayVec<u8, 512>,
     pub lines: Text,
     pub listed: bool,
+    /// After how many steps the bytes are written.
+    pub due: u64,
 }
 
 /// Writes all the bytes to a channel.
@@ -31,6 +36,18 @@ fn put<K: Sink>(sink: &mut K, chan: Chan, bytes: &[u8]) -> Result<(), Fault>
     }
 }
 
+/// Writes bytes to Out, and holds none then.
+fn write_bytes<K: Sink>(bytes: &mut ArrayVec<u8, 512>, sink: &mut K) -> Result<(), Fault>
+    ensures none { OnOk result (bytes.new.items ≡ []) }
+    ensures passes { Passed result (only Out bytes.old.items) nothing (only Out bytes.new.items)
+        (K.contents sink.old) (K.contents sink.new) }
+    ensures counts { (file : ℕ) → Counts result file file (K.faults sink.old) (K.faults sink.new) }
+{
+    put(sink, Chan::Out, bytes)?;
+    bytes.clear();
+    Ok(())
+}
+
 /// Writes bytes to Out where another has no room beside them, and holds none then.
 fn make_space<K: Sink>(bytes: &mut ArrayVec<u8, 512>, sink: &mut K) -> Result<(), Fault>
     ensures space { OnOk result (length bytes.new.items < 512) }
@@ -39,8 +56,7 @@ fn make_space<K: Sink>(bytes: &mut ArrayVec<u8, 512>, sink: &mut K) -> Result<()
     ensures counts { (file : ℕ) → Counts result file file (K.faults sink.old) (K.faults sink.new) }
 {
     if bytes.is_full() {
-        put(sink, Chan::Out, bytes)?;
-        bytes.clear();
+        return write_bytes(bytes, sink);
     }
     Ok(())
 }
@@ -71,11 +87,46 @@ impl Held {
             bytes: ArrayVec::new(),
             lines: Text::new(),
             listed,
+            due: 0,
         }
     }
 
+    /// Writes the bytes that are held, at once or where they are due after so many steps.
+    pub fn write_due<K: Sink>(
+        &mut self,
+        at_once: bool,
+        steps: u64,
+        sink: &mut K,
+    ) -> Result<(), Fault>
+        ensures passes { Passed result (held_in self.old) nothing (held_in self.new)
+            (K.contents sink.old) (K.contents sink.new) }
+        ensures still { StillWrites self.old self.new (K.contents sink.old) (K.contents sink.new) }
+        ensures counts { (file : ℕ)
+            → Counts result file file (K.faults sink.old) (K.faults sink.new) }
+    {
+        if !at_once && steps < self.due {
+            return Ok(());
+        }
+        write_bytes(&mut self.bytes, sink)?;
+        self.due = steps.saturating_add(MOST_STEPS);
+        Ok(())
+    }
+
+    /// Holds a byte more for Out, if one was sent after so many steps. Those that are held are written behind an LF, where there is no room, and where
+    /// they are due.
+    pub fn send<K: Sink>(&mut self, sent: Option<u8>, steps: u64, sink: &mut K) -> Result<(), Fault>
+        ensures passes { Passed result (held_in self.old) (sent_by sent) (held_in self.new)
+            (K.contents sink.old) (K.contents sink.new) }
+        ensures still { StillWrites self.old self.new (K.contents sink.old) (K.contents sink.new) }
+        ensures counts { (file : ℕ)
+            → Counts result file file (K.faults sink.old) (K.faults sink.new) }
+    {
+        self.hold_sent(sent, sink)?;
+        self.write_due(matches!(sent, Some(b'\n')), steps, sink)
+    }
+
     /// Holds a byte more for Out, if one was sent, and writes those that are held first where there is no room.
-    pub fn send<K: Sink>(&mut self, sent: Option<u8>, sink: &mut K) -> Result<(), Fault>
+    fn hold_sent<K: Sink>(&mut self, sent: Option<u8>, sink: &mut K) -> Result<(), Fault>
         ensures passes { Passed result (held_in self.old) (sent_by sent) (held_in self.new)
             (K.contents sink.old) (K.contents sink.new) }
         ensures still { StillWrites self.old self.new (K.contents sink.old) (K.contents sink.new) }

@@ -8,7 +8,7 @@ ghost use Rattle.vax_machine.specs.Writing.{OnlyWrote, held_in};
 
 use crate::engine::Engine;
 use crate::event::{Applied, Fault, Limits, RunEnd};
-use crate::held::Held;
+use crate::held::{Held, MOST_STEPS};
 use vax_outside::{PageFile, Sink};
 use vax_sched::{Schedule, Target};
 
@@ -29,8 +29,6 @@ fn finish<K: Sink>(held: &Held, end: RunEnd, sink: &mut K) -> RunEnd
 impl Engine {
     ghost use Rattle.std.specs.List.{filter, flat_map};
     ghost use Rattle.vax_space.specs.Areas.{area_of, pages_of};
-    ghost use Rattle.vax_space.specs.Faults.{IsSpace};
-    ghost use Rattle.vax_pager.specs.Calls.{IsPaging};
     ghost use Rattle.vax_pager.specs.Listing.{is_listed};
     ghost use Rattle.vax_pager.specs.Meaning.{pages};
     ghost use Rattle.vax_sched.specs.Due.{due};
@@ -43,7 +41,7 @@ impl Engine {
     ghost use Rattle.vax_machine.specs.Turn.{HasGone, IsStop, MakesAbsent, MakesAttempts, MakesTurns, ServesWanted, Still, underway_of, why_stopped};
     ghost use Rattle.vax_machine.specs.Writing.{Counts, Origin, Passed, StillWrites, listed_by};
 
-    /// Lists a page, if one was made absent before the attempt that comes.
+    /// Lists a page, if one was made absent before the attempt that comes, and writes what is due.
     fn list<K: Sink>(
         &self,
         evicted: Option<u32>,
@@ -60,7 +58,27 @@ impl Engine {
         ensures counts { (file : ℕ)
             → Counts result file file (K.faults sink.old) (K.faults sink.new) }
     {
-        self.facts();
+        self.list_one(evicted, held, sink)?;
+        held.write_due(false, self.steps, sink)
+    }
+
+    /// Lists a page, if one was made absent before the attempt that comes.
+    fn list_one<K: Sink>(
+        &self,
+        evicted: Option<u32>,
+        held: &mut Held,
+        sink: &mut K,
+    ) -> Result<(), Fault>
+        requires turns { self.now.turns < 2 ^ 64 - 1 }
+        requires inside { (page : ℕ) → evicted ≡ Some page
+            → is_some (area_of (pages self.now.pager).areas page) ≡ true }
+        ensures passes { Passed result (held_in held.old)
+            (listed_by held.old.listed (self.now.turns + 1) evicted) (held_in held.new)
+            (K.contents sink.old) (K.contents sink.new) }
+        ensures writes { StillWrites held.old held.new (K.contents sink.old) (K.contents sink.new) }
+        ensures counts { (file : ℕ)
+            → Counts result file file (K.faults sink.old) (K.faults sink.new) }
+    {
         match evicted {
             None => Ok(()),
             Some(page) => held.list(self.turns + 1, page, sink),
@@ -87,7 +105,6 @@ impl Engine {
         ensures counts { Counts result (F.faults file.old) (F.faults file.new) (K.faults sink.old)
             (K.faults sink.new) }
     {
-        self.facts();
         match self.evict(page, file) {
             Applied::Failed => Err(Fault::Page),
             Applied::Evicted => self.list(Some(page), held, sink),
@@ -129,7 +146,6 @@ impl Engine {
             ≡ filter (λ page. is_listed page (pages self.now.pager).order)
             (flat_map pages_of (pages self.now.pager).areas) }
     {
-        self.facts();
         let count = self.pager.residents(found);
         found[..count].sort_unstable();
         count
@@ -242,13 +258,9 @@ impl Engine {
         ensures counts { Counts result (F.faults file.old) (F.faults file.new) (K.faults sink.old)
             (K.faults sink.new) }
     {
-        self.facts();
         match self.attempts(most) {
-            Applied::Stepped(sent) => held.send(sent, sink),
-            Applied::Absent(_) => {
-                self.facts();
-                self.serve_and_list(held, file, sink)
-            }
+            Applied::Stepped(sent) => held.send(sent, self.steps, sink),
+            Applied::Absent(_) => self.serve_and_list(held, file, sink),
             _ => Ok(()),
         }
     }
@@ -279,7 +291,7 @@ impl Engine {
         }
     }
 
-    /// How many attempts may follow at once: up to a limit, or to the next turn but one at which something is due.
+    /// How many attempts may follow at once: up to a limit, to the next turn but one at which something is due, or to where bytes are due.
     fn most_attempts(&self, limits: &Limits, schedule: &Schedule) -> u64
         requires steps { self.now.steps < limits.now.steps }
         requires turns { self.now.turns < limits.now.turns }
@@ -291,7 +303,7 @@ impl Engine {
     {
         let quiet = schedule.quiet(self.turns + 2);
         let room = (limits.steps - self.steps).min(limits.turns - self.turns);
-        room.min(quiet + 1)
+        room.min(quiet + 1).min(MOST_STEPS)
     }
 
     /// Makes several turns. What is due at the first of them is made absent, and nothing is due at the others.
@@ -386,7 +398,6 @@ impl Engine {
         ensures written { result ≢ RunEnd.WriteFault → K.faults sink.new ≡ K.faults sink.old }
         ensures only { OnlyWrote limits.now.listed (K.contents sink.old) (K.contents sink.new) }
     {
-        self.facts();
         let mut held = Held::new(limits.listed);
         loop {
             if let Some(end) = self.stopped(limits) {

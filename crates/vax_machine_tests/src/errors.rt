@@ -1,5 +1,6 @@
 //! The texts that errors are shown with.
 use std::test::Fail;
+use vax_pager::PageFault;
 use vax_sched::SchedError;
 
 #[test]
@@ -16,5 +17,7 @@ fn tells_errors(rt: HostRuntime) -> Result<(), Fail> {
         let shown = format!(in alloc; "{error}")?;
         assert!(rt; shown.as_str() == text, "{text}: {shown}");
     }
+    let shown = format!(in alloc; "{}", PageFault)?;
+    assert!(rt; shown.as_str() == "a call of the page file failed");
     Ok(())
 }

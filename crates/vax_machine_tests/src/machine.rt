@@ -127,6 +127,46 @@ fn events_one_by_one(rt: HostRuntime) -> Result<(), Fail> {
     Ok(())
 }
 
+/// Behind each step the page that has been modified longest is written to its block; the run goes as it goes without.
+#[test]
+fn flushes_behind_each_step(rt: HostRuntime) -> Result<(), Fail> {
+    let alloc = rt.alloc();
+    let mut machine = machine(alloc, PROGRAM)?;
+    let mut file = MemPages::new(alloc, 8, 100, Vec::new(alloc))?;
+    for _ in 0..8 {
+        match machine.apply(Event::Attempt, &mut file) {
+            Applied::Absent(_) => {
+                assert!(rt; machine.apply(Event::Serve, &mut file) == Applied::Served(None));
+            }
+            Applied::Stepped(_) => {
+                if let Some(page) = machine.next_flush() {
+                    assert!(rt; machine.apply(Event::Flush(page), &mut file) == Applied::Flushed);
+                }
+                assert!(rt; machine.next_flush().is_none());
+            }
+            _ => {}
+        }
+    }
+    assert!(rt; machine.ended() == Some(Ending::Halt));
+    assert!(rt; [machine.steps(), machine.turns(), machine.counts().written] == [3, 5, 1]);
+    assert!(rt; machine.core().regs.get(1) == Some(&0x89AB_CDEF));
+    Ok(())
+}
+
+/// With no page left before each attempt no step is completed, and each turn but the first takes a pinned page away.
+#[test]
+fn spends_turns_on_pinned_pages(rt: HostRuntime) -> Result<(), Fail> {
+    let alloc = rt.alloc();
+    let mut machine = machine(alloc, PROGRAM)?;
+    let schedule = read(alloc, b"each 1 all\n", &space(alloc, &[])?)?;
+    let mut file = MemPages::new(alloc, 8, 100, Vec::new(alloc))?;
+    let mut sink = MemSink::new(alloc, [2000; 3], 100, Vec::new(alloc))?;
+    let end = run_up(&mut machine, &schedule, &mut file, &mut sink);
+    assert!(rt; end == RunEnd::Turns);
+    assert!(rt; [machine.steps(), machine.turns(), machine.spoiled()] == [0, 100, 99]);
+    Ok(())
+}
+
 #[test]
 fn lists_evictions(rt: HostRuntime) -> Result<(), Fail> {
     let alloc = rt.alloc();

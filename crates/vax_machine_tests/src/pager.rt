@@ -358,7 +358,6 @@ fn runs(rt: HostRuntime) -> Result<(), Fail> {
     assert!(rt; pager.read_run(0x20F, &mut run, USER) == Ok(()));
     assert!(rt; run == [0, 5, 6, 7]);
     assert!(rt; pager.check(0x2_0000, 1, USER, Access::Read) == Ok(()));
-    pager.facts();
     assert!(rt; pager.space().areas().len() == 2);
     Ok(())
 }

@@ -22,7 +22,7 @@ use vax_word::Size;
 
 /// The bytes of a size, as an operand's kind has them.
 #[inline(always)]
-fn width_of(size: Size) -> u8
+pub fn width_of(size: Size) -> u8
     ensures exact { result ≡ bytes_of size }
     ensures width { IsWidth result }
 {
@@ -36,7 +36,7 @@ fn width_of(size: Size) -> u8
 
 /// The bytes of a displacement to branch by.
 #[inline(always)]
-fn displacement_width(size: Narrow) -> u8
+pub fn displacement_width(size: Narrow) -> u8
     ensures exact { result ≡ bytes_of (size_of size) }
     ensures displacement { IsDisplacement result }
     ensures width { IsWidth result }

@@ -10,9 +10,12 @@ mod memory;
 mod results;
 mod specifier;
 
-pub use crate::access::{next_address, next_modified, next_place, next_target, next_value, store};
+pub use crate::access::{
+    displacement_width, next_address, next_modified, next_place, next_target, next_value, store,
+    width_of,
+};
 pub use crate::memory::{check, fetch, is_allowed, read, read_in, write, write_in};
 pub use crate::results::{answer, push, set_codes, settle};
-pub use crate::specifier::next;
+pub use crate::specifier::{decode, extend, is_no_base, is_reserved, next, reaches_pc};
 pub use vax_flat::{Cut, Flow, Operand};
 pub use vax_undo::CutShort;

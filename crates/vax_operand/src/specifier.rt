@@ -13,9 +13,9 @@ use vax_space::Access;
 use vax_undo::{CutShort, Port, Txn};
 
 /// A specifier byte's form.
-#[inline]
+#[inline(always)]
 #[tactic(auto, unfolding(vax_flat::specs::Operand::form_of))]
-fn decode(byte: u8) -> Form
+pub fn decode(byte: u8) -> Form
     ensures form { result ≡ form_of byte }
     ensures sound { IsForm result }
 {
@@ -40,7 +40,7 @@ fn decode(byte: u8) -> Form
 /// A displacement of 1, 2 or 4 bytes, sign-extended to 32 bits.
 #[inline(always)]
 #[tactic(auto, unfolding(vax_flat::specs::Operand::extended))]
-pub(crate) fn extend(width: u8, value: u64) -> u32
+pub fn extend(width: u8, value: u64) -> u32
     requires width { IsDisplacement width }
     requires fits { value < 256 ^ width }
     ensures { result ≡ extended width value }
@@ -122,7 +122,7 @@ pub(crate) fn value_in<P: Port>(txn: &Txn<P>, width: u8, n: u8) -> u64
 
 /// Whether a register is PC, or has PC as the upper half of a quadword: it holds no operand.
 #[inline(always)]
-pub(crate) fn reaches_pc(width: u8, n: u8) -> bool
+pub fn reaches_pc(width: u8, n: u8) -> bool
     ensures { result ≡ reaches_pc width n }
 {
     n == 15 || (width == 8 && n == 14)
@@ -200,9 +200,9 @@ fn address<P: Port>(txn: &mut Txn<P>, width: u8, form: Form) -> Result<u32, CutS
 }
 
 /// Whether a memory form with PC has no meaning for an operand.
-#[inline]
+#[inline(always)]
 #[tactic(auto, unfolding(vax_flat::specs::Operand::is_reserved))]
-fn is_reserved(letter: Letter, form: Form) -> bool
+pub fn is_reserved(letter: Letter, form: Form) -> bool
     ensures { result ≡ is_reserved letter form }
 {
     match form {
@@ -229,9 +229,9 @@ fn is_reserved(letter: Letter, form: Form) -> bool
 }
 
 /// Whether a form is no base for an index by register `x`.
-#[inline]
+#[inline(always)]
 #[tactic(auto, unfolding(vax_flat::specs::Operand::is_no_base))]
-fn is_no_base(x: u8, form: Form) -> bool
+pub fn is_no_base(x: u8, form: Form) -> bool
     ensures { result ≡ is_no_base x form }
 {
     match form {

@@ -6,22 +6,28 @@ ghost use Rattle.vax_outside.specs.Directory.{Directory, AnswersRead, is_failed}
 ghost use Rattle.vax_outside.specs.Faults.{CountsFailure};
 
 use std::alloc::Global;
+use thiserror::Error;
 
 /// Why a file gave no bytes.
-#[derive(Clone, Copy, PartialEq, Eq)]
+#[derive(Clone, Copy, PartialEq, Eq, Debug, Error)]
 pub enum FilesFault {
     /// There is no file of this name.
+    #[error("there is no file of this name")]
     Missing,
     /// The file has more bytes than the limit.
+    #[error("the file has more bytes than the limit")]
     Large,
     /// The call failed.
+    #[error("the file can't be read")]
     Failed,
     /// Memory was refused.
+    #[error("out of memory")]
     NoMemory,
 }
 
 /// A call to the outside failed.
-#[derive(Clone, Copy, PartialEq, Eq)]
+#[derive(Clone, Copy, PartialEq, Eq, Debug, Error)]
+#[error("a call to the outside failed")]
 pub struct Failed;
 
 /// Files by name.

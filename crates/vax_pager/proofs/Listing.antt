@@ -1,10 +1,11 @@
 -- Lists of pages, and lists of pages in frames.
 use Rattle.std.proofs.Common.{ℕ, zero, suc, ◌≡◌, ◌≢◌, Bool, true, false, ◌==◌, List, [], ◌∷◌, ◌++◌, drop, length, if◌then◌else◌, refl, ap, sym, ◌∙◌, inl, inr, Option, Some, None}
 use Rattle.std.specs.Prelude.{is_some, slice_get}
-use Rattle.std.proofs.lemmas.Bool.{cases_eq, eq-eqb, ne_eqb}
+use Rattle.std.proofs.lemmas.Bool.{cases_eq, eq-eqb, ne_eqb, false≢true}
 use Rattle.vax_lists.specs.declared.lists.Placed.{Placed}
-use Rattle.vax_lists.specs.Lines.{frame_in, without, pages_of, placed}
-use Rattle.vax_pager.specs.Listing.{is_listed, leave_out, first, page_in}
+use Rattle.vax_lists.specs.Lines.{EachOnce, appended, frame_in, without, pages_of, placed}
+use Rattle.vax_lists.proofs.Pages.{once_append, once_without}
+use Rattle.vax_pager.specs.Listing.{are_once, is_listed, leave_out, first, page_in}
 
 if_true : (b : Bool) → true ≡ (if b then true else true)
 if_true true = refl
@@ -101,3 +102,25 @@ out-append p (x ∷ xs) ys = elim (cases_eq x p) [
   | inl e ↦ rw (eq-eqb x p e) (out-append p xs ys)
   | inr o ↦ rw (ne_eqb x p o) (ap (λ (zs : List ℕ). x ∷ zs) (out-append p xs ys))
 ]
+
+-- each page has one frame
+
+pub once_test : (xs : List Placed) → EachOnce xs → are_once xs ≡ true
+unfolding EachOnce are_once
+once_test [] once = refl
+once_test (x ∷ xs) once = rw once.0 (once_test xs once.1)
+
+split_once : (o : Option ℕ) (rest : Bool) → (if is_some o then false else rest) ≡ true → (o ≡ None) × (rest ≡ true)
+split_once None rest h = (refl, h)
+split_once (Some frame) rest h = absurd (false≢true h)
+
+pub test_once : (xs : List Placed) → are_once xs ≡ true → EachOnce xs
+unfolding EachOnce are_once
+test_once [] h = tt
+test_once (x ∷ xs) h = let k = split_once (frame_in xs x.page) (are_once xs) h in (k.0, test_once xs k.1)
+
+pub once_left : (p : ℕ) (xs : List Placed) → are_once xs ≡ true → are_once (without p xs) ≡ true
+once_left p xs h = once_test (without p xs) (once_without p xs (test_once xs h))
+
+pub once_more : (xs : List Placed) (p f : ℕ) → frame_in xs p ≡ None → are_once xs ≡ true → are_once (appended xs p f) ≡ true
+once_more xs p f new h = once_test (appended xs p f) (once_append xs p f new (test_once xs h))

@@ -14,7 +14,7 @@ use Rattle.vax_tb.specs.Buffer.{Agrees, dropped}
 use Rattle.vax_tb.specs.Meaning.{buffered}
 use Rattle.vax_lists.specs.Lines.{frame_in}
 use Rattle.vax_pager.specs.declared.store.Store.{Store}
-use Rattle.vax_pager.specs.Listing.{is_listed}
+use Rattle.vax_pager.specs.Listing.{are_once, is_listed}
 use Rattle.vax_pager.specs.Steps.{at}
 use Rattle.vax_pager.specs.Frames.{held_by, dirty_frame}
 use Rattle.vax_pager.specs.Store.{held, bytes_at, paging, Fits, IsSound, IsFree}
@@ -91,6 +91,7 @@ pub record Moved (m : ℕ) (s t : Store) (p : ℕ) (w : Walk) (k : Option ℕ) :
   pub small : (frame i : ℕ) → slice_index (slice_index_or t.frames.items frame []) i < 256
   pub limit : t.lists.limit ≡ s.lists.limit
   pub pins : t.pinned ≤ length t.lists.order
+  pub once : are_once t.lists.order ≡ true
 
 agrees_changed : (b : ℕ → Option Walk) (f : ℕ → Walk) (p : ℕ) (w : Walk) → Agrees b f → Agrees (dropped b p) (changed f p w)
 unfolding dropped
@@ -133,6 +134,8 @@ sound_moved n m s t p w k h v = record {
   small = v.small;
   limit = v.limit ∙ h.limit ∙ sym v.frames;
   pins = v.pins;
+  once = v.once;
+  space = rw v.space h.space;
 }
 
 -- what the lists and the tables say of a page

@@ -1,7 +1,6 @@
 -- What bytes that are written from outside make of a pager as a whole.
 use Rattle.std.proofs.Common.{ℕ, ◌≡◌, Bool, List, [], length, ap, sym, ◌∙◌, subst, Option}
 use Rattle.std.specs.Prelude.{◌||◌}
-use Rattle.vax_space.specs.declared.Area.{Area}
 use Rattle.vax_outside.specs.Blocks.{BlockFile}
 use Rattle.vax_flat.specs.Memory.{written_run}
 use Rattle.vax_flat.specs.Port.{is_in}

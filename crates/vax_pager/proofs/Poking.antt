@@ -1,5 +1,5 @@
 -- Bytes that are written from outside.
-use Rattle.std.proofs.Common.{ℕ, zero, suc, ◌≡◌, ◌+◌, ◌-◌, ◌*◌, ◌/◌, ◌%◌, ◌^◌, ◌<◌, ◌≤◌, ◌==◌, Bool, true, false, List, [], ◌∷◌, ◌++◌, length, length-append, length-drop, take, drop, take-append-drop, slice_index, refl, ap, sym, ◌∙◌, subst, arith, inl, inr, Option, Some, None, Result, Ok, Err}
+use Rattle.std.proofs.Common.{ℕ, suc, ◌≡◌, ◌+◌, ◌-◌, ◌*◌, ◌%◌, ◌^◌, ◌<◌, ◌≤◌, ◌==◌, Bool, true, false, List, [], ◌∷◌, ◌++◌, length, length-append, length-drop, take, drop, take-append-drop, slice_index, refl, ap, sym, ◌∙◌, subst, arith, inl, inr, Option, Some, None, Result, Ok, Err}
 use Rattle.std.specs.Prelude.{◌||◌, IsErr, is_err, is_some}
 use Rattle.std.specs.Option.{option_map}
 use Rattle.std.proofs.lemmas.Bool.{cases_Bool, eq-eqb}
@@ -14,7 +14,7 @@ use Rattle.vax_outside.specs.Blocks.{BlockFile}
 use Rattle.vax_flat.specs.declared.Stop.{Stop}
 use Rattle.vax_flat.specs.Outcome.{is_allowed}
 use Rattle.vax_flat.specs.Memory.{after, byte_at, with_byte, written_run}
-use Rattle.vax_flat.specs.Port.{StandsFor, View, first_absent, is_in, layout, stop, stop_of, stored_run, unless_cut, with_run}
+use Rattle.vax_flat.specs.Port.{StandsFor, View, first_absent, is_in, stop, stop_of, stored_run, unless_cut, with_run}
 use Rattle.vax_flat.proofs.Alike.{violation-alike}
 use Rattle.vax_flat.proofs.Bytes.{put_run-absent}
 use Rattle.vax_flat.proofs.Memory.{byte_at-written_run}
@@ -23,14 +23,13 @@ use Rattle.vax_undo.specs.Answers.{err_of}
 use Rattle.vax_undo.proofs.Accesses.{fine}
 use Rattle.vax_pager.specs.Calls.{Back, Empty, IsLeft, IsPaging, Nowhere, OfKept, OfVictim, Source, after_flush, begun, came}
 use Rattle.vax_pager.specs.Listing.{is_listed}
-use Rattle.vax_pager.specs.Paging.{ComesFrom, Keeps, Numbers, Paging, StandsWith, view_of}
-use Rattle.vax_pager.specs.Poking.{BringsIn, HasFailed, HasPoked, IsPage, Pokes, StaysAlike, WritesThere}
-use Rattle.vax_pager.specs.Steps.{OnlyWritten, brought, flushed, forgotten, removed, settled, taken_back}
+use Rattle.vax_pager.specs.Paging.{ComesFrom, Paging, view_of}
+use Rattle.vax_pager.specs.Poking.{BringsIn, HasFailed, IsPage, Pokes, StaysAlike, WritesThere}
+use Rattle.vax_pager.specs.Steps.{OnlyWritten, brought, flushed, forgotten, removed, taken_back}
 use Rattle.vax_pager.specs.declared.calls.PageFault.{PageFault}
 use Rattle.vax_pager.proofs.Apart.{in_parts}
 use Rattle.vax_pager.proofs.Effects.{peek_absent, peek_kept, peek_resident}
 use Rattle.vax_pager.proofs.Listing.{in_push}
-use Rattle.vax_pager.proofs.Turned.{port_stands, stands_settled, stands_turned}
 use Rattle.vax_pager.proofs.Views.{only_then}
 
 -- the bytes of a page

@@ -14,6 +14,7 @@ use Rattle.vax_table.specs.Mapping.{all_absent, inside, mapped, none_kept}
 use Rattle.vax_table.specs.Tables.{walked, kept}
 use Rattle.vax_tb.specs.Buffer.{empty}
 use Rattle.vax_tb.specs.Meaning.{buffered}
+use Rattle.vax_space.specs.Faults.{IsSpace}
 use Rattle.vax_lists.specs.Lines.{PageLists, frame_in, pages_of}
 use Rattle.vax_flat.specs.Memory.{byte_at, IsWhole}
 use Rattle.vax_flat.specs.Start.{start_memory}
@@ -21,7 +22,7 @@ use Rattle.vax_undo.proofs.PlainMemory.{layout_start}
 use Rattle.vax_outside.specs.Blocks.{BlockFile}
 use Rattle.vax_pager.specs.declared.store.Store.{Store}
 use Rattle.vax_pager.specs.Marks.{has_mark, no_mark}
-use Rattle.vax_pager.specs.Listing.{is_listed}
+use Rattle.vax_pager.specs.Listing.{are_once, is_listed}
 use Rattle.vax_pager.specs.Paging.{Backs, bytes_in, content, home, is_clean, start_in, start_of}
 use Rattle.vax_pager.specs.Calls.{fresh}
 use Rattle.vax_pager.specs.Frames.{held_by}
@@ -88,9 +89,9 @@ held_new : (s : Store) (frames q : ℕ) → IsNew s frames → held s q ≡ None
 unfolding held mapped
 held_new s frames q n = rw (n.tables, n.kept) (none_held (prot_of s.space q) (is_past_region s.space q))
 
-pub sound_new : (s : Store) (frames : ℕ) → frames ≤ 32768 → IsNew s frames → IsSound 0 s
-unfolding mapped frame_in is_listed pages_of
-sound_new s frames few n = record {
+pub sound_new : (s : Store) (frames : ℕ) → frames ≤ 32768 → IsSpace s.space → IsNew s frames → IsSound 0 s
+unfolding mapped frame_in is_listed pages_of are_once
+sound_new s frames few space n = record {
   fine = λ q. rw (n.tables, n.kept, n.lists, n.used) (fits_fresh (prot_of s.space q) (block_of s.space q) (is_past_region s.space q));
   one = λ p q f a b. let none = held_new s frames p n in let bad : None ≡ Some f = sym none ∙ a in absurd (no_some f bad);
   agrees = rw n.buffer (record { holds = λ page walk e. cc });
@@ -101,6 +102,8 @@ sound_new s frames few n = record {
   small = λ f k. rw n.frames (zeros_small frames f k);
   limit = ap (λ (l : PageLists). l.limit) n.lists ∙ sym (so_many s frames n);
   pins = omega (arith, n.pinned);
+  once = rw n.lists refl;
+  space = space;
 }
 
 no_flag : (o : Option ℕ) → flag_of (λ block. false) o ≡ false

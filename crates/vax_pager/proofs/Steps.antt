@@ -25,7 +25,7 @@ use Rattle.vax_pager.specs.Listing.{is_listed, leave_out}
 use Rattle.vax_pager.specs.Steps.{at, flushed, released, taken_back, brought, forgotten, removed, settled}
 use Rattle.vax_pager.specs.Frames.{held_by, dirty_frame}
 use Rattle.vax_pager.specs.Store.{held, flag_of, has_block, last_of, lowered_if, paging, Fits, IsSound, IsFree}
-use Rattle.vax_pager.proofs.Listing.{pages_push, pages_without, pages-length, out_none, out-append, listed_is}
+use Rattle.vax_pager.proofs.Listing.{pages_push, pages_without, pages-length, out_none, out-append, listed_is, once_left, once_more}
 use Rattle.vax_pager.proofs.Last.{drop_push, last_none, last_parts, last-length, one_less}
 use Rattle.vax_pager.proofs.Moves.{at_same, at_other, Changes, sound_moved, held_changes, frames_of, frames_same, frames_gone, frames_set, held_low, order_held, kept_held, modified_held, resident_is, kept_is, one_held}
 
@@ -317,6 +317,7 @@ sound_flushed s p f w tables buffer lists blocked c b el there h =
       whole = h.whole;
       small = h.small;
       limit = rw el refl;
+      once = rw el h.once;
       pins = rw el h.pins;
     })
 
@@ -359,6 +360,7 @@ sound_released s p f ev sp pn tables buffer lists c b el fewer en there clean h 
       whole = h.whole;
       small = h.small;
       limit = rw el refl;
+      once = rw el (once_left p s.lists.order h.once);
       pins = rw (el, en) (lowered_few s p h.pins less);
     })
 
@@ -399,6 +401,7 @@ sound_taken s p f se pn tables buffer lists c b el fewer en there h =
       whole = h.whole;
       small = h.small;
       limit = rw el refl;
+      once = rw el (once_more s.lists.order p f new h.once);
       pins = rw (el, en) (omega (arith, h.pins, length-append s.lists.order (placed p f ∷ [])));
     })
 
@@ -437,6 +440,7 @@ sound_forgotten s p f tables buffer lists c b el fewer there h =
       whole = h.whole;
       small = h.small;
       limit = rw el refl;
+      once = rw el h.once;
       pins = rw el h.pins;
     })
 
@@ -488,6 +492,7 @@ sound_given s p f ev tables buffer lists c b el fewer there clean unpinned h =
       whole = h.whole;
       small = h.small;
       limit = rw el refl;
+      once = rw el (once_left p s.lists.order h.once);
       pins = rw el (few_out s p h.pins unpinned);
     })
 
@@ -521,6 +526,8 @@ sound_grown s h room = record {
   whole = h.whole;
   small = h.small;
   limit = h.limit;
+  once = h.once;
+  space = h.space;
   pins = h.pins;
 }
 
@@ -577,6 +584,7 @@ sound_brought s p f se pn bytes tables buffer frames lists c b ef el en within a
       whole = rw ef (whole_set s.frames.items f bytes size h.whole);
       small = rw ef (small_set s.frames.items f bytes low few h.small);
       limit = rw el refl;
+      once = rw el (once_more s.lists.order p f new h.once);
       pins = rw (el, en) (omega (arith, h.pins, length-append s.lists.order (placed p f ∷ [])));
     })
 
@@ -612,6 +620,8 @@ sound_settled s h = record {
   whole = h.whole;
   small = h.small;
   limit = h.limit;
+  once = h.once;
+  space = h.space;
   pins = omega arith;
 }
 

@@ -11,13 +11,16 @@ use Rattle.vax_table.specs.Mapping.{frame_of, is_inside, is_resident, prot_said}
 use Rattle.vax_table.specs.Tables.{walked, kept}
 use Rattle.vax_lists.specs.declared.lists.Placed.{Placed}
 use Rattle.vax_lists.specs.Lines.{EachOnce, frame_in, pages_of}
+use Rattle.vax_space.specs.Faults.{IsSpace}
+use Rattle.vax_pager.specs.declared.pager.Pager.{Pager}
 use Rattle.vax_pager.specs.declared.store.Store.{Store}
+use Rattle.vax_pager.specs.Meaning.{pages}
 use Rattle.vax_pager.specs.Listing.{AreOnce, is_listed, first, first_outside, page_in}
 use Rattle.vax_pager.specs.Marks.{has_mark}
 use Rattle.vax_pager.specs.Calls.{IsPaging}
 use Rattle.vax_pager.specs.Frames.{dirty_frame, held_by}
 use Rattle.vax_pager.specs.Store.{held, flag_of, has_block, last_of, paging, IsSound, IsFree}
-use Rattle.vax_pager.proofs.Listing.{pages-length, pages_drop, listed_is, first_page, first_frame}
+use Rattle.vax_pager.proofs.Listing.{pages-length, pages_drop, listed_is, first_page, first_frame, test_once}
 use Rattle.vax_pager.proofs.Last.{last-length}
 use Rattle.vax_pager.proofs.Moves.{held_room, kept_held, modified_held, resident_is, frame_means, modified_is, kept_is}
 use Rattle.vax_pager.proofs.Steps.{dirty_inside, none_frame, kept_absent, area_inside, front_of, parts}
@@ -293,10 +296,10 @@ some_whole None s p e there h = absurd (false≢true there)
 resident_whole : (s : Store) (p : ℕ) → IsSound 0 s → is_listed p (paging s).order ≡ true → length ((paging s).frame p) ≡ 512
 resident_whole s p h r = some_whole (held s p) s p refl (unfold held in held_resident (walked s.tables p) (kept s.tables p) (sym (resident_is 0 s p h) ∙ r)) h
 
-pub is_paging : (s : Store) → EachOnce s.lists.order → IsSound 0 s → IsPaging (paging s)
-is_paging s once h = record {
-  once = order_once s once;
-  pinned_once = pinned_once s once h;
+pub is_paging : (s : Store) → IsSound 0 s → IsPaging (paging s)
+is_paging s h = record {
+  once = order_once s (test_once _ h.once);
+  pinned_once = pinned_once s (test_once _ h.once) h;
   apart = λ p. resident_unkept s p h;
   pinned = λ p. pinned_resident s p h;
   dirty = λ p. dirty_there s p h;
@@ -305,6 +308,14 @@ is_paging s once h = record {
   held = omega (arith, order-length s, kept-length s, frames_are s, h.lengths, h.used);
   whole = λ p. resident_whole s p h;
 }
+
+-- what is so of every pager
+pub pager_is : (p : Pager) → IsPaging (pages p)
+pager_is p = is_paging p.store p.sound
+
+pub space_is : (p : Pager) → IsSpace (pages p).areas
+unfolding paging
+space_is p = p.sound.space
 
 pub frames_few : (s : Store) → IsSound 0 s → length s.frames.items < 2 ^ 32
 frames_few s h = omega (arith, h.few)

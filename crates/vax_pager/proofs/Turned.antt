@@ -1,5 +1,5 @@
 -- What a pager stands for when the bytes of its resident pages turn.
-use Rattle.std.proofs.Common.{ℕ, ◌≡◌, ◌%◌, Bool, true, false, List, refl, ap, sym, ◌∙◌, inl, inr, Option, Some, None, slice_index}
+use Rattle.std.proofs.Common.{ℕ, ◌≡◌, ◌%◌, true, false, List, refl, ap, sym, ◌∙◌, inl, inr, Option, Some, None, slice_index}
 use Rattle.std.specs.Option.{option_map}
 use Rattle.std.specs.Prelude.{is_some}
 use Rattle.std.proofs.lemmas.Bool.{cases_Bool}

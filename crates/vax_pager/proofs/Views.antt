@@ -256,6 +256,8 @@ sound_buffer s b a h = record {
   whole = h.whole;
   small = h.small;
   limit = h.limit;
+  once = h.once;
+  space = h.space;
   pins = h.pins;
 }
 

@@ -72,6 +72,7 @@ sound_touched s p f tables buffer lists c b el there resident clean writable h =
       whole = h.whole;
       small = h.small;
       limit = rw el refl;
+      once = rw el h.once;
       pins = rw el h.pins;
     })
 
@@ -126,6 +127,8 @@ sound_filled s f bytes frames ef low size few h =
       whole = rw ef (whole_set s.frames.items f bytes size h.whole);
       small = rw ef (small_set s.frames.items f bytes low few h.small);
       limit = h.limit ∙ sym lens;
+      once = h.once;
+      space = h.space;
       pins = h.pins;
     }
 

@@ -1,5 +1,6 @@
 -- Lists of pages.
-use Rattle.std.specs.Prelude.{ℕ, ◌≡◌, ◌==◌, ◌||◌, Bool, false, if◌then◌else◌, Option, Some, None, List, [], ◌∷◌}
+use Rattle.std.specs.Prelude.{ℕ, ◌≡◌, ◌==◌, ◌||◌, Bool, true, false, if◌then◌else◌, Option, Some, None, is_some, List, [], ◌∷◌}
+use Rattle.vax_lists.specs.Lines.{frame_in}
 use Rattle.vax_lists.specs.declared.lists.Placed.{Placed}
 
 -- the page stands in the list
@@ -25,6 +26,11 @@ first (x ∷ xs) = Some x
 abbrev pub page_in : Option Placed → Option ℕ
 page_in None = None
 page_in (Some placed) = Some placed.page
+
+-- each page has one frame
+unfoldable pub are_once : List Placed → Bool
+are_once [] = true
+are_once (x ∷ xs) = if is_some (frame_in xs x.page) then false else are_once xs
 
 -- each page stands once
 unfoldable pub AreOnce : List ℕ → Type 0

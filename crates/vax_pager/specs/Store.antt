@@ -1,6 +1,7 @@
 -- The parts of a pager, and what they mean.
 use Rattle.std.specs.Prelude.{ℕ, ◌≡◌, ◌≢◌, ◌+◌, ◌<◌, ◌≤◌, Bool, true, false, if◌then◌else◌, Option, Some, None, is_some, List, [], ◌++◌, take, drop, ◌-◌, ◌%◌, slice_index, slice_index_or, length}
 use Rattle.vax_space.specs.Areas.{block_of, prot_of}
+use Rattle.vax_space.specs.Faults.{IsSpace}
 use Rattle.vax_space.specs.Reference.{page_of}
 use Rattle.vax_outside.specs.Faults.{raised}
 use Rattle.vax_table.specs.declared.Walk.{Walk}
@@ -10,6 +11,7 @@ use Rattle.vax_tb.specs.Buffer.{Agrees}
 use Rattle.vax_tb.specs.Meaning.{buffered}
 use Rattle.vax_lists.specs.Lines.{frame_in, pages_of}
 use Rattle.vax_pager.specs.declared.store.Store.{Store}
+use Rattle.vax_pager.specs.Listing.{are_once}
 use Rattle.vax_pager.specs.Marks.{has_mark}
 use Rattle.vax_pager.specs.Paging.{Paging}
 use Rattle.vax_pager.specs.Steps.{filled}
@@ -93,6 +95,8 @@ pub record IsSound (spare : ℕ) (s : Store) : Type 0 where
   pub small : (frame k : ℕ) → slice_index (slice_index_or s.frames.items frame []) k < 256
   pub limit : s.lists.limit ≡ length s.frames.items
   pub pins : s.pinned ≤ length s.lists.order
+  pub once : are_once s.lists.order ≡ true
+  pub space : IsSpace s.space
 
 -- no page has this frame
 pub record IsFree (frame : ℕ) (s : Store) : Type 0 where

@@ -4,6 +4,7 @@ ghost use Rattle.vax_table.specs.Mapping.{frame_of};
 
 use crate::store::Store;
 use vax_flat::Stop;
+use vax_lists::Placed;
 use vax_space::{Access, PAGE_BYTES, Violation};
 use vax_table::Walk;
 use vax_undo::{number_of, number_of_parts, put_number};
@@ -109,7 +110,7 @@ impl Store {
         }
         self.tables.mark(page);
         self.buffer.forget(page);
-        self.lists.touch(page, frame);
+        self.lists.touch(Placed { page, frame });
     }
 
     /// Writes a number to a frame.

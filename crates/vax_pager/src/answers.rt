@@ -7,16 +7,7 @@ use vax_space::Space;
 
 impl Store {
     ghost use Rattle.vax_pager.specs.Listing.{first};
-    ghost use Rattle.vax_pager.specs.Calls.{IsPaging};
     ghost use Rattle.vax_pager.specs.Store.{IsSound, paging};
-
-    #[tactic(auto, using(crate::proofs::Told::is_paging))]
-    pub(crate) fn facts(&self)
-        requires sound { IsSound 0 self.now }
-        ensures { IsPaging (paging self.now) }
-    {
-        let _ = self.lists.first();
-    }
 
     #[tactic(auto, unfolding(crate::specs::Store::paging))]
     pub(crate) fn space(&self) -> &Space

@@ -4,12 +4,14 @@ ghost use Rattle.std.specs.Option.{option_map};
 ghost use Rattle.vax_outside.specs.Faults.{CountsFailure};
 
 use crate::store::Store;
+use thiserror::Error;
 use vax_lists::Placed;
 use vax_outside::PageFile;
 use vax_space::{PAGE_BYTES, PAGES};
 
 /// A call of the page file failed.
-#[derive(Clone, Copy, PartialEq, Eq)]
+#[derive(Clone, Copy, PartialEq, Eq, Debug, Error)]
+#[error("a call of the page file failed")]
 pub struct PageFault;
 
 impl Store {

@@ -39,7 +39,7 @@ impl Pager {
     ghost use Rattle.vax_flat.specs.Start.{start_memory};
     ghost use Rattle.vax_outside.specs.Blocks.{BlockFile};
     ghost use Rattle.vax_pager.specs.Steps.{settled};
-    ghost use Rattle.vax_pager.specs.Calls.{FillsFrame, IsByte, IsLeft, IsPaging, PeekedFrom, WhereNoCall, after_evict, after_flush, came, file_after, fresh, source, victim_of, wrote_back};
+    ghost use Rattle.vax_pager.specs.Calls.{FillsFrame, IsByte, IsLeft, PeekedFrom, WhereNoCall, after_evict, after_flush, came, file_after, fresh, source, victim_of, wrote_back};
     ghost use Rattle.vax_pager.specs.Meaning.{hits, pages};
     ghost use Rattle.vax_pager.specs.Poking.{IsPage, OnlyRead, Pokes};
 
@@ -196,13 +196,6 @@ impl Pager {
         ensures counts { CountsFailure (is_err result) (F.faults file.old) (F.faults file.new) }
     {
         self.store.poke(addr, bytes, file)
-    }
-
-    /// What is so of every pager.
-    pub fn facts(&self)
-        ensures { IsPaging (pages self.now) }
-    {
-        self.store.facts();
     }
 
     /// The space.

@@ -67,7 +67,6 @@ impl Store {
     {
         if !self.is_resident(page) {
             self.serve(page, file)?;
-            self.facts();
         }
         Ok(())
     }
@@ -97,7 +96,6 @@ impl Store {
         self.bring_in(low, file)?;
         self.bring_in(high, file)?;
         self.bring_in(low, file)?;
-        self.facts();
         Ok(())
     }
 
@@ -170,7 +168,6 @@ impl Store {
         let brought = self.bring_both(addr / PAGE_BYTES, last / PAGE_BYTES, file);
         self.settle();
         brought?;
-        self.facts();
         self.put_bytes(addr, bytes);
         Ok(true)
     }

@@ -174,7 +174,7 @@ impl Store {
     {
         self.tables.set(page, frame);
         self.buffer.forget(page);
-        self.lists.clean(page, frame);
+        self.lists.clean(Placed { page, frame });
         self.blocked.set(block);
         self.written = raised(self.written);
     }
@@ -188,10 +188,14 @@ impl Store {
         ensures paging { paging self.new ≡ released evicted (paging self.old) }
     {
         let frame = self.resident_frame(evicted);
-        let was_pinned = self.lists.is_among_last(evicted, frame, self.pinned);
+        let placed = Placed {
+            page: evicted,
+            frame,
+        };
+        let was_pinned = self.lists.is_among_last(placed, self.pinned);
         self.tables.keep(evicted);
         self.buffer.forget(evicted);
-        self.lists.keep(evicted, frame);
+        self.lists.keep(placed);
         self.pinned = lowered_if(was_pinned, self.pinned);
         self.evicted = raised(self.evicted);
         self.spoiled = raised_if(was_pinned, self.spoiled);
@@ -206,7 +210,7 @@ impl Store {
     {
         self.tables.set(page, frame);
         self.buffer.forget(page);
-        self.lists.take_back(page, frame);
+        self.lists.take_back(Placed { page, frame });
         self.pinned += 1;
         self.served = raised(self.served);
     }
@@ -235,7 +239,7 @@ impl Store {
     {
         self.tables.clear(page);
         self.buffer.forget(page);
-        self.lists.forget(page, frame);
+        self.lists.forget(Placed { page, frame });
     }
 
     /// A resident page gives up its frame.
@@ -251,7 +255,7 @@ impl Store {
         let frame = self.resident_frame(page);
         self.tables.clear(page);
         self.buffer.forget(page);
-        self.lists.give_up(page, frame);
+        self.lists.give_up(Placed { page, frame });
         self.evicted = raised(self.evicted);
         frame
     }
@@ -269,7 +273,7 @@ impl Store {
         self.tables.set(page, frame);
         self.buffer.forget(page);
         self.frames[frame as usize] = *bytes;
-        self.lists.serve(page, frame);
+        self.lists.serve(Placed { page, frame });
         self.pinned += 1;
         self.served = raised(self.served);
     }

@@ -3,3 +3,5 @@ pub mod Windows
 pub mod Trees
 pub mod Quiet
 pub mod Steps
+pub mod Frames
+pub mod Opcodes

@@ -1,6 +1,9 @@
 -- Trees that come to the same.
 use Rattle.std.proofs.Common.{◌≡◌, ℕ, Option, Some, None, refl, ap, ◌∙◌}
-use Rattle.vax_isa.specs.declared.Letter.TheVariants.{Address, Read}
+use Rattle.vax_isa.specs.declared.Letter.TheVariants.{Address, Field, Read}
+use Rattle.vax_flat.specs.Field.{base_kind}
+use Rattle.vax_flat.specs.declared.Operand.{Operand}
+use Rattle.vax_flat.specs.declared.Operand.TheVariants.{Memory}
 use Rattle.vax_flat.specs.declared.Form.{Form}
 use Rattle.vax_flat.specs.declared.Form.TheVariants as form
 use Rattle.vax_flat.specs.State.{State}
@@ -21,6 +24,11 @@ gives_by a b (Some found) old new same gives = λ next. ap (λ tree. over_port t
 pub immediate_is : (width : ℕ) (s : State) (next : ℕ → State → Accesses Leaf) → located Read width (form.Increment 15) s (λ addr t. read_at addr width t next) ≡ fetched width s next
 unfolding located direct is_reserved addressed fetched read_at
 immediate_is width s next = refl
+
+-- the base of a field in memory
+pub base_located : (shape : Form) (s : State) (next : Operand → State → Accesses Leaf) → IsMemory shape → formed base_kind shape s next ≡ located Field 1 shape s (λ addr t. next (Memory addr) t)
+unfolding at_address
+base_located shape s next m = formed_located base_kind shape s next m
 
 -- the address of an operand in memory
 pub address_located : (width : ℕ) (shape : Form) (s : State) (next : ℕ → State → Accesses Leaf) → IsMemory shape → formed (address_of width) shape s (λ o t. next (address_in o) t) ≡ located Address width shape s next

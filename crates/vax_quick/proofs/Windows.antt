@@ -74,7 +74,7 @@ unfolding fetched
 fetched_seen view s window n within seen next =
     read_loaded view s (register s 15) n (window.bytes % 256 ^ n) (low_seen view (register s 15) window.left n (mode s) window.bytes seen.bytes seen.small within seen.seen) (λ x t. next x (with_register t 15 (plus (register t 15) n)))
 
-done_by : (st : Option Stop) (old new after : View) (value y : ℕ) → Ok y ≡ loaded_by st value → after ≡ unless_cut st old new → (None ≡ st) × (after ≡ new)
+pub done_by : (st : Option Stop) (old new after : View) (value y : ℕ) → Ok y ≡ loaded_by st value → after ≡ unless_cut st old new → (None ≡ st) × (after ≡ new)
 done_by None old new after value y h k = (refl, k)
 done_by (Some s) old new after value y h k = absurd (let z : ⊥ = cc in z)
 

@@ -4,8 +4,10 @@ use Rattle.vax_word.specs.declared.Codes.{Codes}
 use Rattle.vax_word.specs.declared.Core.{Core}
 use Rattle.vax_word.specs.declared.Psl.{Psl}
 use Rattle.vax_word.specs.Status.{is_one, mode_of}
+use Rattle.vax_isa.specs.Rows.{action_of}
 use Rattle.vax_flat.specs.declared.Flow.{Flow}
 use Rattle.vax_flat.specs.declared.Flow.TheVariants as flow
+use Rattle.vax_flat.specs.Instruction.{acted_part_if}
 use Rattle.vax_flat.specs.State.{State}
 use Rattle.vax_flat.specs.Accesses.{Accesses, Leaf, Went}
 use Rattle.vax_flat.specs.OverPort.{Present, Comes, over_port}
@@ -44,6 +46,10 @@ Acts tree (Some done) old new = Proceeds tree old new
 abbrev pub Makes : (State → (Flow → State → Accesses Leaf) → Accesses Leaf) → Option (Unit {0}) → Present → Present → Type 0
 Makes tree None old new = new.view ≡ old.view
 Makes tree (Some done) old new = GoesOn tree flow.Done old new
+
+-- what an opcode stands for, of which PC is past
+unfoldable pub made_by : ℕ → State → (Flow → State → Accesses Leaf) → Accesses Leaf
+made_by opcode s next = acted_part_if (action_of opcode) s next
 
 -- A call changes registers at most.
 pub record IsKept (old new : Core) : Type 0 where

@@ -11,12 +11,11 @@ ghost use Rattle.vax_undo.specs.Transaction.{seen, state_of};
 ghost use Rattle.vax_operand.specs.Addressed.{located, checked, modified, modified_there, IsMemory};
 ghost use Rattle.vax_quick.specs.Made.{Acts, Gives, IsKept, IsSeen, Reads};
 
-use crate::forms::{displacement_width, extend, reaches_pc, width_of};
 use crate::memory::{check, read, write};
 use crate::specifier::address_near;
 use crate::window::{Window, fetch};
 use vax_isa::{Letter, Narrow};
-use vax_operand::Operand;
+use vax_operand::{Operand, displacement_width, extend, reaches_pc, width_of};
 use vax_undo::{Port, Term};
 use vax_word::{Core, Size};
 
@@ -43,7 +42,7 @@ fn value_in(core: &Core, term: &Term, width: u8, n: u8) -> u64
 /// Sets a register, or the pair of a quadword. A byte or a word leaves the register's other bits.
 #[inline(always)]
 #[tactic(auto, unfolding(vax_flat::specs::Rows::with_value))]
-fn set_value(core: &mut Core, term: &Term, width: u8, n: u8, value: u64)
+pub(crate) fn set_value(core: &mut Core, term: &Term, width: u8, n: u8, value: u64)
     requires width { IsWidth width }
     requires below { n < 15 }
     requires pair { width ≡ 8 → n < 14 }

@@ -4,64 +4,24 @@ ghost use Rattle.vax_word.specs.Arithmetic.{bytes_of};
 ghost use Rattle.vax_isa.specs.Actions.{size_of};
 ghost use Rattle.vax_flat.specs.declared.Flow.TheVariants as flow;
 ghost use Rattle.vax_flat.specs.Control as control;
-ghost use Rattle.vax_flat.specs.Control.{compares, holds};
 ghost use Rattle.vax_flat.specs.Operand.{IsPlace};
 ghost use Rattle.vax_undo.specs.Transaction.{seen, state_of};
 ghost use Rattle.vax_quick.specs.Made.{IsKept, IsSeen, Leaves, Makes};
 
 use crate::access::{next_address, next_modified, next_target, next_value, store};
-use crate::forms::extend;
 use crate::memory::read;
 use crate::results::{is_quiet, push, set_codes, settle};
 use crate::window::Window;
 use vax_isa::{Condition, Control, Narrow, Relation};
-use vax_operand::Operand;
+use vax_operand::{Operand, extend};
 use vax_undo::{Port, Term};
-use vax_word::{Codes, Core, Size, add, compare, signed_less, sub};
-
-/// Whether the condition codes are those for which a branch is taken.
-#[inline(always)]
-#[tactic(auto, unfolding(vax_flat::specs::Control::holds))]
-fn holds(condition: Condition, codes: Codes) -> bool
-    ensures { result ≡ holds condition codes }
-{
-    match condition {
-        Condition::Always => true,
-        Condition::NotEqual => !codes.z,
-        Condition::Equal => codes.z,
-        Condition::Greater => !(codes.n || codes.z),
-        Condition::LessOrEqual => codes.n || codes.z,
-        Condition::GreaterOrEqual => !codes.n,
-        Condition::Less => codes.n,
-        Condition::GreaterUnsigned => !(codes.c || codes.z),
-        Condition::LessOrEqualUnsigned => codes.c || codes.z,
-        Condition::OverflowClear => !codes.v,
-        Condition::OverflowSet => codes.v,
-        Condition::CarryClear => !codes.c,
-        Condition::CarrySet => codes.c,
-    }
-}
-
-/// How two signed longwords compare.
-#[inline(always)]
-#[tactic(auto, unfolding(vax_flat::specs::Control::compares))]
-fn compares(relation: Relation, a: u64, b: u64) -> bool
-    requires a { a < 256 ^ 4 }
-    requires b { b < 256 ^ 4 }
-    ensures { result ≡ compares relation a b }
-{
-    match relation {
-        Relation::Less => signed_less(Size::L, a, b),
-        Relation::LessOrEqual => !signed_less(Size::L, b, a),
-        Relation::Greater => signed_less(Size::L, b, a),
-        Relation::GreaterOrEqual => !signed_less(Size::L, a, b),
-    }
-}
+use vax_word::{Codes, Core, Size, add, compare, sub};
+use vax_x_flow::{compares, holds};
 
 /// Lets control go on at the target, if the branch is taken.
 #[inline(always)]
 #[tactic(auto, unfolding(vax_flat::specs::Control::jumped_if))]
-fn jump_if(core: &mut Core, term: &Term, taken: bool, target: u32)
+pub(crate) fn jump_if(core: &mut Core, term: &Term, taken: bool, target: u32)
     ensures exact { state_of core.new term.now
         ≡ control.jumped_if taken target (state_of core.old term.now) }
     ensures kept { IsKept core.old core.new }
@@ -75,7 +35,7 @@ fn jump_if(core: &mut Core, term: &Term, taken: bool, target: u32)
 /// BRB, BRW, and the branches on the condition codes.
 #[inline(always)]
 #[tactic(auto, unfolding(vax_flat::specs::Control::branch))]
-fn branch<P: Port>(
+pub(crate) fn branch<P: Port>(
     core: &mut Core,
     term: &Term,
     port: &mut P,
@@ -239,7 +199,7 @@ fn go_on<P: Port>(
 /// AOBLSS, AOBLEQ.
 #[inline(always)]
 #[tactic(auto, unfolding(vax_flat::specs::Control::add_one))]
-fn add_one<P: Port>(
+pub(crate) fn add_one<P: Port>(
     core: &mut Core,
     term: &Term,
     port: &mut P,
@@ -262,7 +222,7 @@ fn add_one<P: Port>(
 /// SOBGEQ, SOBGTR.
 #[inline(always)]
 #[tactic(auto, unfolding(vax_flat::specs::Control::subtract_one))]
-fn subtract_one<P: Port>(
+pub(crate) fn subtract_one<P: Port>(
     core: &mut Core,
     term: &Term,
     port: &mut P,

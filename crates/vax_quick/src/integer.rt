@@ -3,21 +3,23 @@ ghost use Rattle.std.specs.Prelude.{◌≡◌, ◌^◌, ◌<◌};
 ghost use Rattle.vax_word.specs.Arithmetic.{bytes_of};
 ghost use Rattle.vax_isa.specs.Actions.{size_of};
 ghost use Rattle.vax_flat.specs.Integer as integer;
-ghost use Rattle.vax_flat.specs.Rows.{carry_of};
+ghost use Rattle.vax_flat.specs.Operand.{IsPlace};
+ghost use Rattle.vax_flat.specs.Rows.{carry_of, stored};
 ghost use Rattle.vax_undo.specs.Transaction.{seen, state_of};
-ghost use Rattle.vax_quick.specs.Made.{IsSeen, Leaves, Makes};
+ghost use Rattle.vax_quick.specs.Made.{Acts, IsKept, IsSeen, Leaves, Makes};
 
-use crate::access::{next_address, next_modified, next_place, next_value};
+use crate::access::{next_address, next_modified, next_place, next_value, set_value};
 use crate::results::{answer, push, set_codes, settle};
 use crate::window::Window;
 use vax_isa::{Binary, Integer, Narrow, Unary};
+use vax_operand::Operand;
 use vax_undo::{Port, Term};
-use vax_word::{Core, Size, compare as compared, emul, shift};
+use vax_word::{Core, Size, compare as compared, ediv, emul, shift};
 use vax_x_int::{answer_of, is_by_zero, of_one, of_two, rotated};
 
 /// The carry as it is.
 #[inline(always)]
-fn carry(core: &Core, term: &Term) -> bool
+pub(crate) fn carry(core: &Core, term: &Term) -> bool
     ensures { result ≡ carry_of (state_of core.now term.now) }
 {
     let _ = term;
@@ -27,7 +29,7 @@ fn carry(core: &Core, term: &Term) -> bool
 /// MOV, MCOM, MNEG, MOVZ, CVT.
 #[inline(always)]
 #[tactic(auto, unfolding(vax_flat::specs::Integer::unary))]
-fn unary<P: Port>(
+pub(crate) fn unary<P: Port>(
     core: &mut Core,
     term: &Term,
     port: &mut P,
@@ -50,7 +52,7 @@ fn unary<P: Port>(
 /// ADDx2, SUBx2, MULx2, DIVx2, BISx2, BICx2, XORx2, ADWC, SBWC.
 #[inline(always)]
 #[tactic(auto, unfolding(vax_flat::specs::Integer::two))]
-fn two<P: Port>(
+pub(crate) fn two<P: Port>(
     core: &mut Core,
     term: &Term,
     port: &mut P,
@@ -73,7 +75,7 @@ fn two<P: Port>(
 /// ADDx3, SUBx3, MULx3, DIVx3, BISx3, BICx3, XORx3.
 #[inline(always)]
 #[tactic(auto, unfolding(vax_flat::specs::Integer::three))]
-fn three<P: Port>(
+pub(crate) fn three<P: Port>(
     core: &mut Core,
     term: &Term,
     port: &mut P,
@@ -97,7 +99,7 @@ fn three<P: Port>(
 /// INC, DEC.
 #[inline(always)]
 #[tactic(auto, unfolding(vax_flat::specs::Integer::by_one))]
-fn by_one<P: Port>(
+pub(crate) fn by_one<P: Port>(
     core: &mut Core,
     term: &Term,
     port: &mut P,
@@ -119,7 +121,7 @@ fn by_one<P: Port>(
 /// CLR.
 #[inline(always)]
 #[tactic(auto, unfolding(vax_flat::specs::Integer::clear))]
-fn clear<P: Port>(
+pub(crate) fn clear<P: Port>(
     core: &mut Core,
     term: &Term,
     port: &mut P,
@@ -139,7 +141,7 @@ fn clear<P: Port>(
 /// TST.
 #[inline(always)]
 #[tactic(auto, unfolding(vax_flat::specs::Integer::test_value))]
-fn test<P: Port>(
+pub(crate) fn test<P: Port>(
     core: &mut Core,
     term: &Term,
     port: &mut P,
@@ -159,7 +161,7 @@ fn test<P: Port>(
 /// CMP.
 #[inline(always)]
 #[tactic(auto, unfolding(vax_flat::specs::Integer::compare))]
-fn compare<P: Port>(
+pub(crate) fn compare<P: Port>(
     core: &mut Core,
     term: &Term,
     port: &mut P,
@@ -201,7 +203,7 @@ fn bit_test<P: Port>(
 /// ASH.
 #[inline(always)]
 #[tactic(auto, using(vax_x_int::proofs::Sizes::signed_count), unfolding(vax_flat::specs::Integer::shift))]
-fn shift_by<P: Port>(
+pub(crate) fn shift_by<P: Port>(
     core: &mut Core,
     term: &Term,
     port: &mut P,
@@ -223,7 +225,12 @@ fn shift_by<P: Port>(
 /// ROTL.
 #[inline(always)]
 #[tactic(auto, unfolding(vax_flat::specs::Integer::rotate))]
-fn rotate<P: Port>(core: &mut Core, term: &Term, port: &mut P, window: Window) -> Option<()>
+pub(crate) fn rotate<P: Port>(
+    core: &mut Core,
+    term: &Term,
+    port: &mut P,
+    window: Window,
+) -> Option<()>
     requires window { IsSeen (P.view port.old) core.old window }
     ensures exact { Makes integer.rotate result
         (seen P.view core.old term.now port.old) (seen P.view core.new term.now port.new) }
@@ -239,7 +246,7 @@ fn rotate<P: Port>(core: &mut Core, term: &Term, port: &mut P, window: Window) -
 /// MOVA.
 #[inline(always)]
 #[tactic(auto, unfolding(vax_flat::specs::Integer::move_address))]
-fn move_address<P: Port>(
+pub(crate) fn move_address<P: Port>(
     core: &mut Core,
     term: &Term,
     port: &mut P,
@@ -293,7 +300,12 @@ fn push_address<P: Port>(
 /// PUSHL.
 #[inline(always)]
 #[tactic(auto, unfolding(vax_flat::specs::Integer::push))]
-fn push_long<P: Port>(core: &mut Core, term: &Term, port: &mut P, window: Window) -> Option<()>
+pub(crate) fn push_long<P: Port>(
+    core: &mut Core,
+    term: &Term,
+    port: &mut P,
+    window: Window,
+) -> Option<()>
     requires window { IsSeen (P.view port.old) core.old window }
     ensures exact { Makes integer.push result
         (seen P.view core.old term.now port.old) (seen P.view core.new term.now port.new) }
@@ -306,7 +318,7 @@ fn push_long<P: Port>(core: &mut Core, term: &Term, port: &mut P, window: Window
 /// EMUL.
 #[inline(always)]
 #[tactic(auto, using(vax_x_int::proofs::Sizes::product_fits), unfolding(vax_flat::specs::Integer::extended_multiply))]
-fn extended_multiply<P: Port>(
+pub(crate) fn extended_multiply<P: Port>(
     core: &mut Core,
     term: &Term,
     port: &mut P,
@@ -325,10 +337,63 @@ fn extended_multiply<P: Port>(
     answer(core, term, port, Size::Q, product, false, made)
 }
 
-/// The instruction by its shape. EDIV and INDEX are left out.
+/// Writes a longword to a register, as an operand. One in memory is left out.
+#[inline(always)]
+#[tactic(auto, unfolding(vax_flat::specs::Rows::stored))]
+fn store_in_register<P: Port>(
+    core: &mut Core,
+    term: &Term,
+    port: &P,
+    operand: Operand,
+    value: u64,
+) -> Option<()>
+    requires place { IsPlace 4 operand }
+    requires fits { value < 256 ^ 4 }
+    ensures exact { Acts (stored 4 operand value) result
+        (seen P.view core.old term.now port.now) (seen P.view core.new term.now port.now) }
+    ensures kept { IsKept core.old core.new }
+{
+    let _ = port;
+    match operand {
+        Operand::Register(n) => {
+            set_value(core, term, 4, n, value);
+            Some(())
+        }
+        Operand::Value(_) => None,
+        Operand::Memory(_) => None,
+        Operand::FieldRegister(_) => None,
+        Operand::Target(_) => None,
+    }
+}
+
+/// EDIV of which the quotient goes to a register.
+#[inline(never)]
+#[tactic(auto, unfolding(vax_flat::specs::Integer::extended_divide, vax_flat::specs::Rows::answered))]
+fn extended_divide<P: Port>(
+    core: &mut Core,
+    term: &Term,
+    port: &mut P,
+    window: Window,
+) -> Option<()>
+    requires window { IsSeen (P.view port.old) core.old window }
+    ensures exact { Makes integer.extended_divide result
+        (seen P.view core.old term.now port.old) (seen P.view core.new term.now port.new) }
+    ensures leaves { Leaves P.since core.old port.old core.new port.new }
+{
+    let (divisor, window) = next_value(core, term, port, window, Size::L)?;
+    let (dividend, window) = next_value(core, term, port, window, Size::Q)?;
+    let (quotient, window) = next_place(core, term, port, window, Size::L)?;
+    let (remainder, _) = next_place(core, term, port, window, Size::L)?;
+    let made = ediv(divisor as u32, dividend);
+    store_in_register(core, term, port, quotient, made.0 as u64)?;
+    let rest = (made.1 as u64, made.2);
+    answer(core, term, port, Size::L, remainder, divisor == 0, rest)
+}
+
+/// The instruction by its shape. INDEX is left out.
 #[inline(never)]
 #[tactic(auto, unfolding(vax_flat::specs::Integer::performed))]
-fn perform_any<P: Port>(
+pub(crate) fn perform<P: Port>(
     core: &mut Core,
     term: &Term,
     port: &mut P,
@@ -359,85 +424,7 @@ fn perform_any<P: Port>(
         Integer::PushAddress(size) => push_address(core, term, port, window, size),
         Integer::Push => push_long(core, term, port, window),
         Integer::ExtendedMultiply => extended_multiply(core, term, port, window),
-        Integer::ExtendedDivide => None,
+        Integer::ExtendedDivide => extended_divide(core, term, port, window),
         Integer::Index => None,
-    }
-}
-
-/// The instruction by its shape. The commonest have arms of their own, each with its operation and sizes as constants.
-#[inline(never)]
-#[tactic(auto, unfolding(vax_flat::specs::Integer::performed))]
-pub(crate) fn perform<P: Port>(
-    core: &mut Core,
-    term: &Term,
-    port: &mut P,
-    window: Window,
-    instruction: Integer,
-) -> Option<()>
-    requires window { IsSeen (P.view port.old) core.old window }
-    ensures exact { Makes (integer.performed instruction) result
-        (seen P.view core.old term.now port.old) (seen P.view core.new term.now port.new) }
-    ensures leaves { Leaves P.since core.old port.old core.new port.new }
-{
-    match instruction {
-        Integer::Unary {
-            operation: Unary::Move,
-            from: Size::L,
-            to: Size::L,
-        } => unary(core, term, port, window, Unary::Move, Size::L, Size::L),
-        Integer::Unary {
-            operation: Unary::Move,
-            from: Size::B,
-            to: Size::B,
-        } => unary(core, term, port, window, Unary::Move, Size::B, Size::B),
-        Integer::Unary {
-            operation: Unary::ZeroExtend,
-            from: Size::B,
-            to: Size::L,
-        } => unary(
-            core,
-            term,
-            port,
-            window,
-            Unary::ZeroExtend,
-            Size::B,
-            Size::L,
-        ),
-        Integer::Two {
-            operation: Binary::Add,
-            size: Narrow::L,
-        } => two(core, term, port, window, Binary::Add, Narrow::L),
-        Integer::Two {
-            operation: Binary::Subtract,
-            size: Narrow::L,
-        } => two(core, term, port, window, Binary::Subtract, Narrow::L),
-        Integer::Two {
-            operation: Binary::BitClear,
-            size: Narrow::L,
-        } => two(core, term, port, window, Binary::BitClear, Narrow::L),
-        Integer::Three {
-            operation: Binary::Add,
-            size: Narrow::L,
-        } => three(core, term, port, window, Binary::Add, Narrow::L),
-        Integer::Three {
-            operation: Binary::Subtract,
-            size: Narrow::L,
-        } => three(core, term, port, window, Binary::Subtract, Narrow::L),
-        Integer::Three {
-            operation: Binary::BitClear,
-            size: Narrow::L,
-        } => three(core, term, port, window, Binary::BitClear, Narrow::L),
-        Integer::ByOne {
-            operation: Binary::Add,
-            size: Narrow::L,
-        } => by_one(core, term, port, window, Binary::Add, Narrow::L),
-        Integer::ByOne {
-            operation: Binary::Subtract,
-            size: Narrow::L,
-        } => by_one(core, term, port, window, Binary::Subtract, Narrow::L),
-        Integer::Clear(Size::L) => clear(core, term, port, window, Size::L),
-        Integer::Test(Narrow::L) => test(core, term, port, window, Size::L),
-        Integer::Compare(Narrow::L) => compare(core, term, port, window, Size::L),
-        _ => perform_any(core, term, port, window, instruction),
     }
 }

@@ -1,16 +1,21 @@
 //! Common instructions, each made at once on the registers from the bytes that were seen of it, with no log.
 //!
-//! An instruction here writes to memory at most once, and last of all that can fail. One that can't be made so, or that would trap, is left
-//! to a transaction, with everything as it was.
+//! An instruction here writes to memory last of all that can fail: once, or a frame within one page. One that can't be made so, or that
+//! would trap, is left to a transaction, with everything as it was.
 #![tactic(auto)]
 
 mod access;
+mod arms;
+mod bases;
+mod branches;
+mod call;
 mod control;
-mod forms;
+mod field;
 mod integer;
 mod memory;
 mod results;
 mod specifier;
+mod stack;
 mod step;
 mod window;
 

@@ -1,8 +1,9 @@
 //! Single accesses, in the current access mode.
-ghost use Rattle.std.specs.Prelude.{◌≡◌, ◌^◌, ◌<◌, ◌≤◌, IfSome};
+ghost use Rattle.std.specs.Prelude.{◌≡◌, ◌^◌, ◌<◌, ◌≤◌, None, IfSome};
 ghost use Rattle.vax_flat.specs.Operand.{check_at, read_at, write_at};
 ghost use Rattle.vax_undo.specs.Transaction.{seen};
 ghost use Rattle.vax_quick.specs.Made.{Acts, GoesOn, IsSeen};
+ghost use Rattle.vax_quick.specs.Frames.{IsWritten, MayWrite};
 ghost use Rattle.vax_quick.specs.declared.window.Window.{Window};
 
 use vax_space::Access;
@@ -39,7 +40,7 @@ pub(crate) fn read<P: Port>(
 
 /// Writes the `n` bytes of a number.
 #[inline(always)]
-#[tactic(auto, using(crate::proofs::Windows::write_there, crate::proofs::Windows::write_failed))]
+#[tactic(auto, using(crate::proofs::Windows::write_there, crate::proofs::Windows::write_failed, crate::proofs::Frames::written, crate::proofs::Frames::refused))]
 pub(crate) fn write<P: Port>(
     core: &Core,
     term: &Term,
@@ -53,6 +54,9 @@ pub(crate) fn write<P: Port>(
     requires fits { value < 256 ^ n }
     ensures exact { Acts (write_at addr n value) result (seen P.view core.now term.now port.old)
         (seen P.view core.now term.now port.new) }
+    ensures written { IfSome result
+        (λ done. IsWritten (P.view port.old) core.now addr n value (P.view port.new)) }
+    ensures refused { result ≡ None → MayWrite (P.view port.old) core.now addr n → ⊥ }
     ensures since { (start : P) → P.since start port.old → P.since start port.new }
 {
     let _ = term;

@@ -1,5 +1,6 @@
 //! Operand specifiers: the addresses of operands that lie in memory.
 ghost use Rattle.std.specs.Prelude.{◌≡◌, ◌*◌, ◌^◌, ◌<◌, ◌≤◌, IfSome};
+ghost use Rattle.vax_flat.specs.declared.Form.TheVariants as form;
 ghost use Rattle.vax_flat.specs.Operand.{form_of, addressed, IsWidth};
 ghost use Rattle.vax_flat.specs.State.{with_register};
 ghost use Rattle.vax_undo.specs.Transaction.{seen, state_of};
@@ -7,11 +8,11 @@ ghost use Rattle.vax_operand.specs.Addressed.{direct, based, prefixed, located};
 ghost use Rattle.vax_operand.specs.Form.{IsForm};
 ghost use Rattle.vax_quick.specs.Made.{Gives, IsKept, IsSeen, Reads};
 
-use crate::forms::{decode, extend, is_no_base, is_reserved};
 use crate::memory::read;
 use crate::window::{Window, fetch};
 use vax_flat::Form;
 use vax_isa::Letter;
+use vax_operand::{decode, extend, is_no_base, is_reserved};
 use vax_undo::{Port, Term};
 use vax_word::Core;
 
@@ -29,6 +30,27 @@ fn set_register<P: Port>(core: &mut Core, term: &Term, port: &P, window: Window,
     let _ = port;
     let _ = window;
     core.regs[n as usize] = value;
+}
+
+/// An absolute address, which lies in the instruction itself.
+#[inline(always)]
+#[tactic(auto, unfolding(vax_flat::specs::Operand::addressed, vax_flat::specs::Operand::fetched, vax_flat::specs::Operand::read_at))]
+fn absolute<P: Port>(
+    core: &mut Core,
+    term: &Term,
+    port: &mut P,
+    window: Window,
+    width: u8,
+) -> Option<(u32, Window)>
+    requires window { IsSeen (P.view port.old) core.old window }
+    ensures exact { Gives (addressed width (form.IncrementDeferred 15)) result
+        (seen P.view core.old term.now port.old) (seen P.view core.new term.now port.new) }
+    ensures left { IfSome result (λ r. IsSeen (P.view port.new) core.new r.1) }
+    ensures reads { Reads P.view P.since core.old port.old core.new port.new }
+{
+    let _ = width;
+    let (addr, behind) = fetch(core, term, port, window, 4)?;
+    Some((addr as u32, behind))
 }
 
 /// The address that a memory form gives, with what it does to its register. A form that steps PC is left out.
@@ -73,7 +95,7 @@ fn address<P: Port>(
         }
         Form::IncrementDeferred(n) => {
             if n == 15 {
-                return None;
+                return absolute(core, term, port, window, width);
             }
             let at = core.regs[n as usize];
             let pointer = read(core, term, port, at, 4)?;
@@ -219,6 +241,30 @@ fn address_of<P: Port>(
     }
 }
 
+/// The address behind the prefix of an index.
+#[inline(always)]
+#[tactic(auto, unfolding(vax_operand::specs::Addressed::located))]
+fn indexed_address<P: Port>(
+    core: &mut Core,
+    term: &Term,
+    port: &mut P,
+    window: Window,
+    letter: Letter,
+    width: u8,
+    x: u8,
+) -> Option<(u32, Window)>
+    requires width { IsWidth width }
+    requires of_core { x < 16 }
+    requires window { IsSeen (P.view port.old) core.old window }
+    ensures exact { Gives (located letter width (form.Index x)) result
+        (seen P.view core.old term.now port.old) (seen P.view core.new term.now port.new) }
+    ensures left { IfSome result (λ r. IsSeen (P.view port.new) core.new r.1) }
+    ensures reads { Reads P.view P.since core.old port.old core.new port.new }
+{
+    let _ = letter;
+    prefixed_address(core, term, port, window, width, x)
+}
+
 /// The address in a register.
 #[inline(always)]
 #[tactic(auto, unfolding(vax_operand::specs::Addressed::located, vax_operand::specs::Addressed::direct, vax_flat::specs::Operand::is_reserved, vax_flat::specs::Operand::addressed))]
@@ -273,7 +319,7 @@ fn near_address<P: Port>(
     Some((core.regs[n as usize].wrapping_add(displacement), behind))
 }
 
-/// The address of an operand that lies in memory, by its specifier byte. The two commonest forms are told from the byte alone.
+/// The address of an operand that lies in memory, by its specifier byte. The three commonest forms are told from the byte alone.
 #[inline(always)]
 #[tactic(auto, unfolding(vax_flat::specs::Operand::form_of))]
 pub(crate) fn address_near<P: Port>(
@@ -293,6 +339,7 @@ pub(crate) fn address_near<P: Port>(
     ensures reads { Reads P.view P.since core.old port.old core.new port.new }
 {
     match byte >> 4 {
+        4 => indexed_address(core, term, port, window, letter, width, byte & 15),
         6 => deferred_address(core, term, port, window, letter, width, byte & 15),
         10 => near_address(core, term, port, window, letter, width, byte & 15),
         _ => address_of(core, term, port, window, letter, width, decode(byte)),

@@ -3,10 +3,25 @@ ghost use Rattle.std.specs.Prelude.{◌≡◌, ◌≤◌, true, false};
 ghost use Rattle.vax_flat.specs.Instruction.{acted_part, acted_part_if, first_part};
 ghost use Rattle.vax_undo.specs.FirstPart.{first_part_done};
 ghost use Rattle.vax_undo.specs.Transaction.{seen};
-ghost use Rattle.vax_quick.specs.Made.{IsSeen, IsStill, Leaves, Makes, MakesStep, MakesSteps};
+ghost use Rattle.vax_quick.specs.Made.{IsSeen, IsStill, Leaves, Makes, MakesStep, MakesSteps, made_by};
 
+use crate::arms::{
+    add_long, add_three_long, add_with_carry, add_word, clear_bits_long, clear_bits_three_long,
+    clear_long, compare_byte, compare_long, compare_word, complement_long, convert_byte,
+    decrement_long, exclusive_or_long, exclusive_or_three_long, increment_long,
+    move_address_of_byte, move_address_of_long, move_byte, move_long, move_word, multiply_extended,
+    multiply_long, multiply_three_long, push_longword, rotate_long, set_bits_long,
+    set_bits_three_long, shift_long, subtract_long, subtract_three_long, test_byte, test_long,
+    zero_extend_byte, zero_extend_word,
+};
+use crate::branches::{
+    add_one_below, branch_byte, branch_carry_clear, branch_carry_set, branch_equal, branch_greater,
+    branch_greater_or_equal, branch_greater_unsigned, branch_less, branch_less_or_equal,
+    branch_less_or_equal_unsigned, branch_not_equal, branch_word, subtract_one_above_zero,
+    subtract_one_to_zero,
+};
 use crate::window::{Window, fetch, look};
-use crate::{control, integer};
+use crate::{call, control, field, integer};
 use vax_isa::{Action, action};
 use vax_undo::{Port, Term};
 use vax_word::Core;
@@ -20,7 +35,7 @@ pub fn is_still(core: &Core) -> bool
     core.iccs / 0x40 % 2 != 1 && core.sisr == 0
 }
 
-/// What an instruction does whose opcode PC is past: arithmetic, or control. All else is left out.
+/// What an instruction does whose opcode PC is past: arithmetic, control, a field of bits, or a call. All else is left out.
 #[inline(always)]
 #[tactic(auto, unfolding(vax_flat::specs::Instruction::acted_part))]
 fn act<P: Port>(
@@ -38,6 +53,8 @@ fn act<P: Port>(
     match action {
         Action::Integer(instruction) => { integer::perform(core, term, port, window, instruction) }
         Action::Control(instruction) => { control::perform(core, term, port, window, instruction) }
+        Action::Field(instruction) => field::perform(core, term, port, window, instruction),
+        Action::Call(instruction) => call::perform(core, term, port, window, instruction),
         _ => None,
     }
 }
@@ -63,9 +80,97 @@ fn act_if<P: Port>(
     }
 }
 
+/// What an opcode stands for that has no arm of its own.
+#[inline(never)]
+#[tactic(auto, unfolding(crate::specs::Made::made_by))]
+fn act_by_table<P: Port>(
+    core: &mut Core,
+    term: &Term,
+    port: &mut P,
+    window: Window,
+    opcode: u8,
+) -> Option<()>
+    requires window { IsSeen (P.view port.old) core.old window }
+    ensures exact { Makes (made_by opcode) result
+        (seen P.view core.old term.now port.old) (seen P.view core.new term.now port.new) }
+    ensures leaves { Leaves P.since core.old port.old core.new port.new }
+{
+    act_if(core, term, port, window, action(opcode))
+}
+
+/// What an opcode stands for.
+#[inline(always)]
+#[tactic(auto, using(crate::proofs::Opcodes::as_opcode))]
+fn act_by_opcode<P: Port>(
+    core: &mut Core,
+    term: &Term,
+    port: &mut P,
+    window: Window,
+    opcode: u8,
+) -> Option<()>
+    requires window { IsSeen (P.view port.old) core.old window }
+    ensures exact { Makes (made_by opcode) result
+        (seen P.view core.old term.now port.old) (seen P.view core.new term.now port.new) }
+    ensures leaves { Leaves P.since core.old port.old core.new port.new }
+{
+    match opcode {
+        0x11 => branch_byte(core, term, port, window),
+        0x12 => branch_not_equal(core, term, port, window),
+        0x13 => branch_equal(core, term, port, window),
+        0x14 => branch_greater(core, term, port, window),
+        0x15 => branch_less_or_equal(core, term, port, window),
+        0x18 => branch_greater_or_equal(core, term, port, window),
+        0x19 => branch_less(core, term, port, window),
+        0x1A => branch_greater_unsigned(core, term, port, window),
+        0x1B => branch_less_or_equal_unsigned(core, term, port, window),
+        0x1E => branch_carry_clear(core, term, port, window),
+        0x1F => branch_carry_set(core, term, port, window),
+        0x31 => branch_word(core, term, port, window),
+        0x3C => zero_extend_word(core, term, port, window),
+        0x78 => shift_long(core, term, port, window),
+        0x7A => multiply_extended(core, term, port, window),
+        0x90 => move_byte(core, term, port, window),
+        0x91 => compare_byte(core, term, port, window),
+        0x95 => test_byte(core, term, port, window),
+        0x98 => convert_byte(core, term, port, window),
+        0x9A => zero_extend_byte(core, term, port, window),
+        0x9C => rotate_long(core, term, port, window),
+        0x9E => move_address_of_byte(core, term, port, window),
+        0xA0 => add_word(core, term, port, window),
+        0xB0 => move_word(core, term, port, window),
+        0xB1 => compare_word(core, term, port, window),
+        0xC0 => add_long(core, term, port, window),
+        0xC1 => add_three_long(core, term, port, window),
+        0xC2 => subtract_long(core, term, port, window),
+        0xC3 => subtract_three_long(core, term, port, window),
+        0xC4 => multiply_long(core, term, port, window),
+        0xC5 => multiply_three_long(core, term, port, window),
+        0xC8 => set_bits_long(core, term, port, window),
+        0xC9 => set_bits_three_long(core, term, port, window),
+        0xCA => clear_bits_long(core, term, port, window),
+        0xCB => clear_bits_three_long(core, term, port, window),
+        0xCC => exclusive_or_long(core, term, port, window),
+        0xCD => exclusive_or_three_long(core, term, port, window),
+        0xD0 => move_long(core, term, port, window),
+        0xD1 => compare_long(core, term, port, window),
+        0xD2 => complement_long(core, term, port, window),
+        0xD4 => clear_long(core, term, port, window),
+        0xD5 => test_long(core, term, port, window),
+        0xD6 => increment_long(core, term, port, window),
+        0xD7 => decrement_long(core, term, port, window),
+        0xD8 => add_with_carry(core, term, port, window),
+        0xDD => push_longword(core, term, port, window),
+        0xDE => move_address_of_long(core, term, port, window),
+        0xF2 => add_one_below(core, term, port, window),
+        0xF4 => subtract_one_to_zero(core, term, port, window),
+        0xF5 => subtract_one_above_zero(core, term, port, window),
+        _ => act_by_table(core, term, port, window, opcode),
+    }
+}
+
 /// The instruction at PC.
 #[inline(always)]
-#[tactic(auto, unfolding(vax_flat::specs::Instruction::first_part))]
+#[tactic(auto, unfolding(vax_flat::specs::Instruction::first_part, crate::specs::Made::made_by))]
 fn execute<P: Port>(core: &mut Core, term: &Term, port: &mut P, window: Window) -> Option<()>
     requires window { IsSeen (P.view port.old) core.old window }
     ensures exact { Makes first_part result
@@ -73,7 +178,7 @@ fn execute<P: Port>(core: &mut Core, term: &Term, port: &mut P, window: Window) 
     ensures leaves { Leaves P.since core.old port.old core.new port.new }
 {
     let (opcode, behind) = fetch(core, term, port, window, 1)?;
-    act_if(core, term, port, behind, action(opcode as u8))
+    act_by_opcode(core, term, port, behind, opcode as u8)
 }
 
 /// Makes the step at PC at once, where it can, and says whether it did. Where it didn't, nothing has changed.

@@ -9,12 +9,10 @@ use Rattle.vax_outside.specs.declared.traits.FilesFault.TheVariants as faults
 use Rattle.vax_space.specs.declared.Area.{Area}
 use Rattle.vax_sched.specs.declared.rule.Rule.{Rule}
 use Rattle.vax_image.specs.declared.Image.{Image}
-use Rattle.vax_machine.specs.Paged.{Paged, Why, ByEnding, BySteps, ByTurns}
-use Rattle.vax_machine.specs.declared.event.Limits.{Limits}
+use Rattle.vax_machine.specs.Paged.{Why, ByEnding, BySteps, ByTurns}
 use Rattle.vax_program.specs.Program.{Refusal, Source, Link as FromLinker, InImage}
 use Rattle.vax_cli.specs.Words.{Text, Options, Said, bare, run, build, list, console, work, about, command_of}
 use Rattle.vax_cli.specs.declared.command.Base as words_base
-use Rattle.vax_cli.specs.declared.command.DumpItem.{DumpItem}
 use Rattle.vax_cli.specs.declared.command.Format.{Format}
 use Rattle.vax_command.specs.Around.{Around, Change, HasFailed, Outside, around, outside_of, untouched}
 use Rattle.vax_command.specs.Ends.{Ends, EndsSo}
@@ -24,6 +22,7 @@ use Rattle.vax_top.specs.Loaded.{IsRefused, image_from, refused_as}
 use Rattle.vax_command.specs.Reading.{HasTexts, ReadEnds, Reads, Texts, of_options, texts_of}
 use Rattle.vax_command.specs.Status.{refusal, refusal_growth}
 use Rattle.vax_top.specs.Top.{Carries, Comes, CommandComes, Does, ImageDoes, IsAbout, IsFile, IsListing, IsRunOf, IsSessionOf, IsWriting, RanOf, RunDoes, SessionDoes, base_for, reads, reads_of, run_of, session_of, session_programs}
+use Rattle.vax_command.specs.Setup.{Setup}
 use Rattle.vax_command.specs.Went.{IsCut, IsRunAnswer, IsUnread, WentFrom, status_of}
 use Rattle.vax_command.specs.declared.status.Status.{Status}
 use Rattle.vax_command.specs.declared.status.Status.TheVariants.{Done, Usage, Missing, Large, Refused, Link, Schedule, Image as BadImage, Turns, PageFault, ReadFault, WriteFault, NoMemory}
@@ -204,14 +203,14 @@ module _ (seen : Around) (names : List Text) (grown : Channels) where
   why_allowed BySteps = tt
   why_allowed ByTurns = tt
 
-  module _ (limits : Limits) (areas : List Area) (rules : List Rule) (b : Paged) (items : List DumpItem) (status : Status) where
-    cut_allowed : (file : BlockFile) → HasFailed seen.pages → IsUnread limits areas rules b items file (outside_of seen) status grown ⊎ IsCut limits areas rules b file (outside_of seen) status grown → Allowed seen names grown status
+  module _ (setup : Setup) (status : Status) where
+    cut_allowed : (file : BlockFile) → HasFailed seen.pages → IsUnread setup file (outside_of seen) status grown ⊎ IsCut setup file (outside_of seen) status grown → Allowed seen names grown status
     cut_allowed file r (inl u) = subst (Allowed seen names grown) (sym u.answer) r
     cut_allowed file r (inr u) = subst (Allowed seen names grown) (sym u.answer) r
 
-    went_allowed : (told : Option BlockFile) → WentFrom told (outside_of seen) limits areas rules b items status grown → Allowed seen names grown status
-    went_allowed None h = run_allowed status h
-    went_allowed (Some file) (inl s) = subst (Allowed seen names grown) (sym s.answer) (why_allowed s.why)
+    went_allowed : (told : Option BlockFile) → WentFrom told (outside_of seen) setup status grown → Allowed seen names grown status
+    went_allowed None h = run_allowed status h.answer
+    went_allowed (Some file) (inl s) = subst (Allowed seen names grown) (sym s.answer) (why_allowed s.stop.why)
     went_allowed (Some file) (inr c) = cut_allowed file c.0 c.1
 
   planned_allowed : (areas : List Area) (schedule : Text) (status : Status) → IsFaulty areas schedule status → grown ≡ refusal_growth status → Allowed seen names grown status
@@ -219,7 +218,7 @@ module _ (seen : Around) (names : List Text) (grown : Channels) where
 
   runs_allowed : (program : Loaded) (input schedule : Text) (options : Options) (status : Status) → RunsSo (outside_of seen) program input schedule options status grown → Allowed seen names grown status
   runs_allowed program input schedule options status (inl m) = planned_allowed _ schedule status m.fault m.wrote
-  runs_allowed program input schedule options status (inr r) = went_allowed _ _ _ _ _ status seen.pages.before.told r.went
+  runs_allowed program input schedule options status (inr r) = went_allowed _ status seen.pages.before.told r.went
 
   does_allowed : (loaded : Result Loaded Refusal) (input schedule : Text) (options : Options) (status : Status) → RunDoes (outside_of seen) loaded input schedule options status grown → Allowed seen names grown status
   does_allowed loaded input schedule options status (inl r) = refused_allowed loaded status r.refused r.wrote

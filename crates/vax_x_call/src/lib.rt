@@ -14,6 +14,8 @@ ghost use Rattle.vax_undo.specs.Rooms.{room_of_call};
 ghost use Rattle.vax_undo.specs.Transaction.{room, Keeps, Does};
 ghost use Rattle.vax_operand.specs.Located.{GoesEverywhere};
 
+pub use crate::shapes::{entry_status, frame_word, is_status, return_status};
+pub use crate::stack::end_of_named;
 use vax_flat::Flow;
 use vax_isa::Call;
 use vax_undo::{CutShort, Port, Txn};

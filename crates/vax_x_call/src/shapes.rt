@@ -41,7 +41,7 @@ fn pop_registers<P: Port>(txn: &mut Txn<P>) -> Result<Flow, CutShort>
 /// The longword of a frame that says how it was made.
 #[inline]
 #[tactic(auto, unfolding(vax_flat::specs::Call::frame_word))]
-fn frame_word(offset: u32, on_stack: bool, mask: u32, psl: Psl) -> u32
+pub fn frame_word(offset: u32, on_stack: bool, mask: u32, psl: Psl) -> u32
     requires { offset < 4 }
     ensures { result ≡ call.frame_word offset on_stack mask psl }
 {
@@ -55,7 +55,7 @@ fn frame_word(offset: u32, on_stack: bool, mask: u32, psl: Psl) -> u32
 /// The status of a procedure that is entered.
 #[inline]
 #[tactic(auto, unfolding(vax_flat::specs::Call::entry_status))]
-fn entry_status(mask: u32, psl: Psl) -> Psl
+pub fn entry_status(mask: u32, psl: Psl) -> Psl
     ensures { result ≡ call.entry_status mask psl }
 {
     let Psl(bits) = psl;
@@ -147,7 +147,7 @@ fn call_with_stack<P: Port>(txn: &mut Txn<P>) -> Result<Flow, CutShort>
 /// Whether a frame's status can be given back.
 #[inline]
 #[tactic(auto, unfolding(vax_flat::specs::Call::is_status))]
-fn is_status(word: u32) -> bool
+pub fn is_status(word: u32) -> bool
     ensures { result ≡ call.is_status word }
 {
     word / 0x100 % 0x100 == 0 && word / 16 % 2 == 0
@@ -156,7 +156,7 @@ fn is_status(word: u32) -> bool
 /// The status that a frame gives back.
 #[inline]
 #[tactic(auto, unfolding(vax_flat::specs::Call::return_status))]
-fn return_status(word: u32, psl: Psl) -> Psl
+pub fn return_status(word: u32, psl: Psl) -> Psl
     ensures { result ≡ call.return_status word psl }
 {
     let Psl(bits) = psl;

@@ -84,7 +84,7 @@ fn restore_if<P: Port>(txn: &mut Txn<P>, mask: u32, n: u8, from: u32) -> Result<
 
 /// A number from which on, up to another, a mask names no register. Few registers are named as a rule, and those are low ones.
 #[inline(always)]
-fn end_of_named(mask: u32, count: u8) -> u8
+pub fn end_of_named(mask: u32, count: u8) -> u8
     requires { count ≤ 15 }
     ensures named { named result mask ≡ named count mask }
     ensures within { result ≤ count }

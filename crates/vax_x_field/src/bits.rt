@@ -17,7 +17,7 @@ fn ones(count: u8) -> u64
 
 /// The bits of a field, from all those of what holds it.
 #[inline(always)]
-pub(crate) fn part(holder: Holder, held: u64, size: u8) -> u64
+pub fn part(holder: Holder, held: u64, size: u8) -> u64
     requires within { holder.first + size ≤ 8 * holder.width }
     requires first { holder.first < 32 }
     requires short { size ≤ 32 }
@@ -30,7 +30,7 @@ pub(crate) fn part(holder: Holder, held: u64, size: u8) -> u64
 
 /// All the bits of what holds a field, with the lowest of another number in the field's place.
 #[inline(always)]
-pub(crate) fn with_part(holder: Holder, held: u64, size: u8, new: u64) -> u64
+pub fn with_part(holder: Holder, held: u64, size: u8, new: u64) -> u64
     requires within { holder.first + size ≤ 8 * holder.width }
     requires first { holder.first < 32 }
     requires short { size ≤ 32 }
@@ -45,7 +45,7 @@ pub(crate) fn with_part(holder: Holder, held: u64, size: u8, new: u64) -> u64
 
 /// The same where the field is one bit.
 #[inline(always)]
-pub(crate) fn with_bit(holder: Holder, held: u64, new: bool) -> u64
+pub fn with_bit(holder: Holder, held: u64, new: bool) -> u64
     requires within { holder.first + 1 ≤ 8 * holder.width }
     requires first { holder.first < 32 }
     requires fits { held < 256 ^ holder.width }
@@ -68,7 +68,7 @@ fn is_negative_field(size: u8, field: u64) -> bool
 
 /// A field as a longword, with its sign or with zeros in front.
 #[inline(always)]
-pub(crate) fn widen(signed: bool, size: u8, field: u64) -> u64
+pub fn widen(signed: bool, size: u8, field: u64) -> u64
     requires short { size ≤ 32 }
     requires fits { field < 2 ^ size }
     ensures exact { result ≡ widened signed (bits_of size field) }
@@ -94,7 +94,7 @@ fn before_one(size: u8, field: u64) -> u32
 
 /// How many bits of a field come before the first that is so, all of them where none is.
 #[inline(always)]
-pub(crate) fn before_first(set: bool, size: u8, field: u64) -> u32
+pub fn before_first(set: bool, size: u8, field: u64) -> u32
     requires short { size ≤ 32 }
     requires fits { field < 2 ^ size }
     ensures exact { result ≡ before_first set (bits_of size field) }
@@ -110,7 +110,7 @@ pub(crate) fn before_first(set: bool, size: u8, field: u64) -> u32
 /// A longword as a result, with the codes that are read from it and the carry as it was.
 #[inline(always)]
 #[tactic(auto, unfolding(vax_word::specs::Arithmetic::answer))]
-pub(crate) fn answer_of(value: u64, carry: bool) -> (u64, Codes)
+pub fn answer_of(value: u64, carry: bool) -> (u64, Codes)
     requires { value < 256 ^ 4 }
     ensures exact { result ≡ answer Size.L value false carry }
     ensures fits { result.0 < 256 ^ 4 }

@@ -32,7 +32,7 @@ pub(crate) fn next_base<P: Port>(txn: &mut Txn<P>) -> Result<Operand, CutShort>
 /// Whether a field is a reserved operand: larger than 32 bits, or in registers and not begun in the first, or with a part of it in PC.
 #[inline(always)]
 #[tactic(auto, unfolding(vax_flat::specs::Field::is_reserved_field))]
-pub(crate) fn is_reserved(position: u32, size: u8, base: Operand) -> bool
+pub fn is_reserved(position: u32, size: u8, base: Operand) -> bool
     ensures { result ≡ is_reserved_field position size base }
 {
     size > 32
@@ -76,7 +76,7 @@ fn bytes_at(addr: u32, position: u32, size: u8) -> Holder
 /// What holds a field that isn't empty.
 #[inline(always)]
 #[tactic(auto, unfolding(vax_flat::specs::Field::holder, vax_flat::specs::Field::is_reserved_field))]
-pub(crate) fn holder_of(position: u32, size: u8, base: Operand) -> Holder
+pub fn holder_of(position: u32, size: u8, base: Operand) -> Holder
     requires allowed { is_reserved_field position size base ≡ false }
     requires some { 1 ≤ size }
     requires base { IsBase base }

@@ -15,6 +15,8 @@ ghost use Rattle.vax_undo.specs.Rooms.{room_of_field};
 ghost use Rattle.vax_undo.specs.Transaction.{room, Keeps, Does};
 ghost use Rattle.vax_operand.specs.Located.{GoesEverywhere};
 
+pub use crate::bits::{answer_of, before_first, part, widen, with_bit, with_part};
+pub use crate::fields::{holder_of, is_reserved};
 use vax_flat::Flow;
 use vax_isa::Field;
 use vax_undo::{CutShort, Port, Txn};

@@ -9,7 +9,7 @@ use vax_word::{Codes, Size, is_negative, signed_less};
 /// Whether the condition codes are those for which a branch is taken.
 #[inline(always)]
 #[tactic(auto, unfolding(vax_flat::specs::Control::holds))]
-pub(crate) fn holds(condition: Condition, codes: Codes) -> bool
+pub fn holds(condition: Condition, codes: Codes) -> bool
     ensures { result ≡ holds condition codes }
 {
     match condition {
@@ -32,7 +32,7 @@ pub(crate) fn holds(condition: Condition, codes: Codes) -> bool
 /// How two signed longwords compare.
 #[inline(always)]
 #[tactic(auto, unfolding(vax_flat::specs::Control::compares))]
-pub(crate) fn compares(relation: Relation, a: u64, b: u64) -> bool
+pub fn compares(relation: Relation, a: u64, b: u64) -> bool
     requires a { a < 256 ^ 4 }
     requires b { b < 256 ^ 4 }
     ensures { result ≡ compares relation a b }

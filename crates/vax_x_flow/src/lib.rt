@@ -12,6 +12,7 @@ ghost use Rattle.vax_undo.specs.Rooms.{room_of_transfer};
 ghost use Rattle.vax_undo.specs.Transaction.{room, Keeps, Does};
 ghost use Rattle.vax_operand.specs.Located.{GoesEverywhere};
 
+pub use crate::conditions::{compares, holds};
 use vax_flat::Flow;
 use vax_isa::Control;
 use vax_undo::{CutShort, Port, Txn};

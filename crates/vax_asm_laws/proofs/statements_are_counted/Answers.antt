@@ -5,6 +5,6 @@ use Rattle.vax_asm_laws.proofs.statements_are_counted.Goals as goal
 pub returns : goal.returns
 returns c = record {
   start = start_counted;
-  counted = λ origin text s t waiting counted placed. (statement_goes origin text s t waiting counted placed).counted;
-  keeps = λ origin text s t waiting counted placed. (statement_goes origin text s t waiting counted placed).keeps;
+  counted = λ line s t counted leads. (statement_goes line.origin line.text s t leads.waiting counted leads.placed).counted;
+  keeps = λ line s t counted leads. (statement_goes line.origin line.text s t leads.waiting counted leads.placed).keeps;
 }

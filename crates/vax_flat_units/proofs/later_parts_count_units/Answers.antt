@@ -2,4 +2,4 @@ use Rattle.vax_flat_units.proofs.Resuming.{resumed_right}
 use Rattle.vax_flat_units.proofs.later_parts_count_units.Goals as goal
 
 pub returns : goal.returns
-returns c = λ opcode s memory next behind full words fine. resumed_right opcode s memory next behind full words fine
+returns c = λ opcode s memory next behind can. resumed_right opcode s memory next behind can.full can.words can.unreserved

@@ -1,4 +1,6 @@
-use Rattle.std.proofs.Common.{ap, ◌∙◌}
+use Rattle.std.proofs.Common.{Option, ap, subst, ◌∙◌}
+use Rattle.vax_space.specs.Faults.{IsSpace}
+use Rattle.vax_image.specs.declared.Image.{Image}
 use Rattle.vax_image.specs.Start.{start_areas, start_core}
 use Rattle.vax_machine.specs.Meaning.{engine}
 use Rattle.vax_command.specs.Loaded.{loaded_seen}
@@ -11,3 +13,4 @@ returns-in-Ok-new-clause-prepared c =
     prepared (engine c.in-Ok-new.machine) c.args.frames (loaded_seen programs) c.args.input.items c.in-Ok.core c.in-Ok.space
     (c.in-Ok.ensures.core ∙ ap (start_core programs.system) c.as_ref.ensures.value) (c.in-Ok.ensures.space ∙ ap (start_areas programs.system) c.as_ref.ensures.value)
     (c.in-Ok-new.ensures.start, c.in-Ok-new.ensures.begun, c.in-Ok-new.ensures.kept) c.in-Ok-new.ensures.between
+    (subst (λ (o : Option Image). IsSpace (start_areas programs.system o)) c.as_ref.ensures.value c.start.ensures.sound)

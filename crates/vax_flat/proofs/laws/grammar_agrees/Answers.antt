@@ -4,7 +4,7 @@ use Rattle.vax_flat.proofs.laws.grammar_agrees.Goals as goal
 
 pub returns : goal.returns
 returns c = record {
-  operand = λ kind memory s bytes reading next ahead read. operand_agrees kind memory s next bytes ahead reading read;
-  operands = λ kinds memory s bytes sequence next ahead read. operands_agree kinds memory s bytes next ahead sequence read;
-  instruction = λ memory s bytes row operands count next ahead is. instruction_agrees memory s bytes row operands count next ahead is;
+  operand = λ kind memory s reading is next. operand_agrees kind memory s next is.bytes is.ahead reading is.reads;
+  operands = λ kinds memory s operands is next. operands_agree kinds memory s is.bytes next is.ahead operands is.reads;
+  instruction = λ memory s row operands is next. instruction_agrees memory s is.bytes row operands is.count next is.ahead is.is;
 }

@@ -4,5 +4,5 @@ use Rattle.vax_flat.proofs.laws.operands_are_listed.Goals as goal
 pub returns : goal.returns
 returns c = record {
   listed = λ action. action_takes action;
-  instruction = λ memory s bytes row operands count privileged takes next ahead is. listed_agrees memory s bytes row operands count privileged takes next ahead is;
+  instruction = λ memory s row operands is privileged takes next. listed_agrees memory s is.bytes row operands is.count privileged takes next is.ahead is.is;
 }

@@ -4,6 +4,6 @@ use Rattle.vax_flat.proofs.string_laws.moves_agree.Goals as goal
 
 pub returns : goal.returns
 returns c = record {
-  rest = λ translate p s memory next behind ready proper is checked few. move_agrees translate p s memory next behind ready proper is checked few;
-  start = λ translate p s memory next behind ready proper is few. move_starts translate p s memory next behind ready proper is few;
+  rest = λ translate p s memory next behind ready proper is. move_agrees translate p s memory next behind ready proper is.move.is is.checked is.move.within;
+  start = λ translate p s memory next behind ready proper is. move_starts translate p s memory next behind ready proper is.is is.within;
 }

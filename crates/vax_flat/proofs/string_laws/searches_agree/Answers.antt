@@ -4,6 +4,6 @@ use Rattle.vax_flat.proofs.string_laws.searches_agree.Goals as goal
 
 pub returns : goal.returns
 returns c = record {
-  search = λ equal p s memory next behind ready proper kind small short. search_agrees equal p s memory next behind ready proper kind small short;
-  scan = λ some p s memory next behind ready proper kind small near short. scan_agrees some p s memory next behind ready proper kind small near short;
+  search = λ equal p s memory next behind ready proper is. search_agrees equal p s memory next behind ready proper is.layout is.address is.delta;
+  scan = λ some p s memory next behind ready proper is. scan_agrees some p s memory next behind ready proper is.layout is.address is.table is.delta;
 }

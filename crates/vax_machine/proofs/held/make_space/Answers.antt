@@ -1,9 +1,5 @@
-use Rattle.vax_machine.proofs.Outputs.{counts_like, err_like, pass_nothing}
+use Rattle.vax_machine.proofs.Outputs.{pass_nothing}
 use Rattle.vax_machine.proofs.held.make_space.Goals as goal
 
-pub returns-else-is_full-clause-passes : goal.returns-else-is_full-clause-passes
-returns-else-is_full-clause-passes g c = pass_nothing _ _
-
-pub returns-in_err-put-clause-counts : goal.returns-in_err-put-clause-counts
-returns-in_err-put-clause-counts g c = λ file.
-    counts_like c.from_residual.result c.put.result _ _ _ _ (err_like c.from_residual.result c.put.result _ c.from_residual.ensures.1 c.in_err-put.was) (c.put.ensures.counts file)
+pub returns-clause-passes : goal.returns-clause-passes
+returns-clause-passes g c = pass_nothing _ _

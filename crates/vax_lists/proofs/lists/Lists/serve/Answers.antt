@@ -14,4 +14,4 @@ pub invariant_of-self : goal.invariant_of-self
 invariant_of-self c = rw c.push_first.ensures (serves _ _ _ _ _ _ c.self.view_is c.self.invariant c.requires.below c.requires.new c.requires.unserved c.requires.unkept c.requires.unmodified).holds
 
 pub returns : goal.returns
-returns c = ap (λ (z : FrameLists). page_lists z c.self.inside.modified (slice_set c.self.inside.pages.items c.args.frame c.args.page)) c.push_first.ensures ∙ (serves _ _ _ _ _ _ c.self.view_is c.self.invariant c.requires.below c.requires.new c.requires.unserved c.requires.unkept c.requires.unmodified).value
+returns c = ap (λ (z : FrameLists). page_lists z c.self.inside.modified (slice_set c.self.inside.pages.items c.args.item.frame c.args.item.page)) c.push_first.ensures ∙ (serves _ _ _ _ _ _ c.self.view_is c.self.invariant c.requires.below c.requires.new c.requires.unserved c.requires.unkept c.requires.unmodified).value

@@ -1,6 +1,7 @@
 use Rattle.std.proofs.Common.{refl}
 use Rattle.vax_pager.specs.Meaning.{pages}
 use Rattle.vax_pager.proofs.Views.{only_itself}
+use Rattle.vax_pager.proofs.Told.{pager_is}
 use Rattle.vax_machine.proofs.Attempts.{has_tried, sound_before, still_missing, tries_running}
 use Rattle.vax_machine.proofs.engine.Engine.attempt.Goals as goal
 
@@ -17,6 +18,6 @@ conclude-requires-clause-missing c =
 pub returns-clause-applies : goal.returns-clause-applies
 returns-clause-applies c = λ file. (
   tries_running c.args.self.now.ended c.args.self.now _ _ c.in_default.is
-      (has_tried c.args.self.now _ _ _ _ c.attempt-last.result (c.attempt-last.ensures.since c.args.self.now.pager (only_itself (pages c.args.self.now.pager))) c.facts.ensures c.in_default.is c.conclude.ensures.concludes c.attempt-last.ensures.attempted c.attempt-last.ensures.before c.attempt-last.ensures.latch),
+      (has_tried c.args.self.now _ _ _ _ c.attempt-last.result (c.attempt-last.ensures.since c.args.self.now.pager (only_itself (pages c.args.self.now.pager))) (pager_is c.args.self.now.pager) c.in_default.is c.conclude.ensures.concludes c.attempt-last.ensures.attempted c.attempt-last.ensures.before c.attempt-last.ensures.latch),
   refl,
 )

@@ -1,5 +1,6 @@
 use Rattle.std.proofs.Common.{ap, arith, refl}
 use Rattle.std.specs.Prelude.{is_some}
+use Rattle.vax_pager.proofs.Told.{pager_is, space_is}
 use Rattle.vax_machine.proofs.Between.{served_and_listed}
 use Rattle.vax_machine.proofs.Following.{attempts_follow}
 use Rattle.vax_machine.proofs.Outputs.{counts_none, writes_nothing}
@@ -32,7 +33,7 @@ serve_and_list-requires-clause-turns g c =
 pub returns-in-Absent-clause-done : goal.returns-in-Absent-clause-done
 returns-in-Absent-clause-done g c = λ o p f pins.
     let low = c.requires.turns in
-    served_on o p c.args.self.now c.attempts.new.self c.serve_and_list.new.self _ _ _ _ c.args.most c.in-Absent.field-0 f c.requires.going c.requires.steps (omega (arith, low)) c.in-Absent.ensures.tried c.facts.ensures.paging c.facts.ensures.space c.attempts.ensures.sound pins c.facts-in-Absent.ensures.paging
+    served_on o p c.args.self.now c.attempts.new.self c.serve_and_list.new.self _ _ _ _ c.args.most c.in-Absent.field-0 f c.requires.going c.requires.steps (omega (arith, low)) c.in-Absent.ensures.tried (pager_is c.args.self.now.pager) (space_is c.args.self.now.pager) c.attempts.ensures.sound pins (pager_is c.attempts.new.self.pager)
     c.serve_and_list.result _ _ c.serve_and_list.ensures.writes.listed c.serve_and_list.ensures.served
 
 pub returns-in-Absent-clause-gone : goal.returns-in-Absent-clause-gone

@@ -4,13 +4,14 @@ use Rattle.vax_space.specs.declared.Area.{Area}
 use Rattle.vax_space.specs.Areas.{area_of}
 use Rattle.vax_pager.specs.Meaning.{pages}
 use Rattle.vax_pager.specs.Paging.{Paging}
+use Rattle.vax_pager.proofs.Told.{pager_is}
 use Rattle.vax_machine.specs.Residence.{residence_of}
 use Rattle.vax_machine.proofs.Services.{areas_evicted, evicted_nothing, evicts_as, keeping_same, keeps_place, not_there, outside_absent, residence_evicted, sound_evicted, wrote_nothing_of}
 use Rattle.vax_machine.proofs.engine.Engine.evict.Goals as goal
 
 pub returns-then-not-has-clause-applies : goal.returns-then-not-has-clause-applies
 returns-then-not-has-clause-applies g c = (
-  evicts_as _ _ false _ _ _ (outside_absent c.args.page (pages c.args.self.now.pager) c.facts.ensures (sym c.if-not-has.ensures)) (refl, refl),
+  evicts_as _ _ false _ _ _ (outside_absent c.args.page (pages c.args.self.now.pager) (pager_is c.args.self.now.pager) (sym c.if-not-has.ensures)) (refl, refl),
   λ place m. m,
 )
 
@@ -40,7 +41,7 @@ returns-in-Err-clause-sound g c = record { pages = rw c.in-Err.ensures.err c.req
 
 pub returns-in-Err-clause-applies : goal.returns-in-Err-clause-applies
 returns-in-Err-clause-applies g c =
-    let yes = c.facts.ensures.dirty c.args.page c.in-Err.ensures.needed in (
+    let yes = (pager_is c.args.self.now.pager).dirty c.args.page c.in-Err.ensures.needed in (
       evicts_as _ _ true _ _ _ yes (inl (refl, keeping_same c.args.self.now c.evict.new.self (ap (λ (z : Paging). residence_of z) c.in-Err.ensures.err, ap (λ (z : Paging). z.areas) c.in-Err.ensures.err))),
       keeps_place c.args.self.now _ _ _ _ c.in-Err.ensures.keeps,
     )
@@ -48,7 +49,7 @@ returns-in-Err-clause-applies g c =
 pub returns-then-resident-clause-inside : goal.returns-then-resident-clause-inside
 returns-then-resident-clause-inside g c = λ is.
     subst (λ (z : List Area). is_some (area_of z c.args.page) ≡ true) (sym (areas_evicted (pages c.args.self.now.pager) (pages c.evict.new.self) _ c.in-Ok.ensures.ok))
-    (c.facts.ensures.inside c.args.page (sym c.in-Ok.ensures.answer ∙ c.if-resident.true))
+    ((pager_is c.args.self.now.pager).inside c.args.page (sym c.in-Ok.ensures.answer ∙ c.if-resident.true))
 
 pub returns-then-resident-clause-moves : goal.returns-then-resident-clause-moves
 returns-then-resident-clause-moves g c = (c.in-Ok.ensures.ok, c.in-Ok.ensures.wrote)
@@ -57,8 +58,8 @@ pub returns-else-resident-clause-moves : goal.returns-else-resident-clause-moves
 returns-else-resident-clause-moves g c =
     let away = sym c.in-Ok.ensures.answer ∙ c.if-resident.false in (
       c.in-Ok.ensures.ok ∙ evicted_nothing c.args.page (pages c.args.self.now.pager) away,
-      c.in-Ok.ensures.wrote ∙ wrote_nothing_of c.args.page (pages c.args.self.now.pager) _ c.facts.ensures away,
+      c.in-Ok.ensures.wrote ∙ wrote_nothing_of c.args.page (pages c.args.self.now.pager) _ (pager_is c.args.self.now.pager) away,
     )
 
 pub returns-in-Err-clause-moves : goal.returns-in-Err-clause-moves
-returns-in-Err-clause-moves g c = (c.in-Err.ensures.err, c.in-Err.ensures.unwritten)
+returns-in-Err-clause-moves g c = (c.in-Err.ensures.err, c.in-Err.ensures.unwritten, c.in-Err.ensures.needed)

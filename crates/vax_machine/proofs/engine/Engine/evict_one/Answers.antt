@@ -2,6 +2,7 @@ use Rattle.std.proofs.Common.{◌≡◌, ℕ, Some, arith, refl, subst, true}
 use Rattle.std.specs.Prelude.{is_some}
 use Rattle.vax_space.specs.Areas.{area_of}
 use Rattle.vax_pager.specs.Meaning.{pages}
+use Rattle.vax_pager.proofs.Told.{pager_is, space_is}
 use Rattle.vax_machine.proofs.Following.{evict_follows}
 use Rattle.vax_machine.proofs.Listing.{evict_away, evict_cut, evict_listed}
 use Rattle.vax_outside.proofs.Counting.{counts_still, still_on}
@@ -37,7 +38,7 @@ list-requires-clause-inside g c = λ page is.
 pub returns-in-Evicted-clause-done : goal.returns-in-Evicted-clause-done
 returns-in-Evicted-clause-done g c = λ o p f.
     let still = still_evict c.args.self.now c.evict.new.self _ _ _ c.evict.ensures.applies.0 in
-    evict_listed o p c.args.self.now c.evict.new.self _ _ _ _ c.args.page f c.in-Evicted.ensures.applies c.in-Evicted.ensures.moves c.facts.ensures.paging c.facts.ensures.space _ _ c.evict.new.self.turns _ still.turns c.list.ensures.passes c.list.ensures.writes.listed
+    evict_listed o p c.args.self.now c.evict.new.self _ _ _ _ c.args.page f c.in-Evicted.ensures.applies c.in-Evicted.ensures.moves (pager_is c.args.self.now.pager) (space_is c.args.self.now.pager) _ _ c.evict.new.self.turns _ still.turns c.list.ensures.passes c.list.ensures.writes.listed
 
 pub returns-in-Evicted-clause-still : goal.returns-in-Evicted-clause-still
 returns-in-Evicted-clause-still g c = still_evict c.args.self.now c.evict.new.self _ _ _ c.evict.ensures.applies.0

@@ -1,13 +1,14 @@
 use Rattle.std.proofs.Common.{ap, refl, sym, ◌∙◌, inl, inr, true, false}
 use Rattle.vax_pager.specs.Meaning.{pages}
 use Rattle.vax_pager.specs.Paging.{Paging}
+use Rattle.vax_pager.proofs.Told.{pager_is}
 use Rattle.vax_machine.specs.Residence.{residence_of}
 use Rattle.vax_machine.proofs.Services.{flushed_nothing, flushes_as, keeping_same, keeps_place, outside_clean, residence_flushed, sound_same, wrote_clean}
 use Rattle.vax_machine.proofs.engine.Engine.flush.Goals as goal
 
 pub returns-then-not-has-clause-applies : goal.returns-then-not-has-clause-applies
 returns-then-not-has-clause-applies g c = (
-  flushes_as _ false _ _ _ (outside_clean c.args.page (pages c.args.self.now.pager) c.facts.ensures (sym c.if-not-has.ensures)) (refl, refl),
+  flushes_as _ false _ _ _ (outside_clean c.args.page (pages c.args.self.now.pager) (pager_is c.args.self.now.pager) (sym c.if-not-has.ensures)) (refl, refl),
   λ place m. m,
 )
 

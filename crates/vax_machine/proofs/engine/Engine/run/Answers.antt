@@ -2,6 +2,7 @@ use Rattle.std.proofs.Common.{◌≡◌, inl, refl, ap, arith, subst, ◌∙◌,
 use Rattle.vax_space.specs.declared.Area.{Area}
 use Rattle.vax_pager.specs.Meaning.{pages}
 use Rattle.vax_sched.specs.Due.{due}
+use Rattle.vax_pager.proofs.Told.{pager_is, space_is}
 use Rattle.vax_machine.specs.Paged.{paged}
 use Rattle.vax_machine.specs.Run.{begun, origin}
 use Rattle.vax_machine.specs.Turn.{AreMade, TurnsMade}
@@ -31,7 +32,7 @@ returns-in-Some-clause-sound g c = c.loop-end.invariant.sound
 
 pub returns-in-Some-clause-ends : goal.returns-in-Some-clause-ends
 returns-in-Some-clause-ends g c = λ place m pins.
-    finishes_whole c.args.limits.now _ c.args.schedule.now (begun c.args.self.now place) _ c.loop-end.self _ _ _ _ (c.loop-end.invariant.at place m pins) (begins_bounded c.args.self.now _ place c.facts.ensures.paging c.facts.ensures.space m pins) c.facts.ensures.space c.in-Some.end c.finish.result _ _ c.in-Some.ensures.whole (λ p t. c.in-Some.ensures.stops _ p t) c.finish.ensures.done
+    finishes_whole c.args.limits.now _ c.args.schedule.now (begun c.args.self.now place) _ c.loop-end.self _ _ _ _ (c.loop-end.invariant.at place m pins) (begins_bounded c.args.self.now _ place (pager_is c.args.self.now.pager) (space_is c.args.self.now.pager) m pins) (space_is c.args.self.now.pager) c.in-Some.end c.finish.result _ _ c.in-Some.ensures.whole (λ p t. c.in-Some.ensures.stops _ p t) c.finish.ensures.done
 
 pub returns-in-Some-clause-between : goal.returns-in-Some-clause-between
 returns-in-Some-clause-between g c = λ s b. finished c.in-Some.end c.finish.result _ _ _ _ c.loop-end.self c.finish.ensures.done (λ stop. c.in-Some.ensures.between (c.loop-end.invariant.goes_on b) stop) s
@@ -83,7 +84,7 @@ loop-end-preserved g c = record {
       let o = origin c.args.limits.now (pages c.args.self.now.pager).areas (begun c.args.self.now place) (g.F.PageFile.contents c.args.file.now) (g.K.Sink.contents c.args.sink.now) in
       let here = pins_paged _ (due c.args.schedule.now) r.made (begun c.args.self.now place) pins in
       let p = paged (pages c.args.self.now.pager).areas (due c.args.schedule.now) r.made (begun c.args.self.now place) in
-      goes_further c.args.limits.now _ c.args.schedule.now (begun c.args.self.now place) _ c.loop-end.self _ _ _ _ r (begins_bounded c.args.self.now _ place c.facts.ensures.paging c.facts.ensures.space m pins) c.facts.ensures.space c.several_turns.new.self _ _ _
+      goes_further c.args.limits.now _ c.args.schedule.now (begun c.args.self.now place) _ c.loop-end.self _ _ _ _ r (begins_bounded c.args.self.now _ place (pager_is c.args.self.now.pager) (space_is c.args.self.now.pager) m pins) (space_is c.args.self.now.pager) c.several_turns.new.self _ _ _
       (subst (λ (z : List Area). AreMade c.args.limits.now o z c.args.schedule.now p c.several_turns.new.self (g.F.PageFile.contents c.several_turns.new.file) (g.K.Sink.contents c.several_turns.new.sink) c.several_turns.new.held) c.loop-end.invariant.areas (c.in-Ok.ensures.done o p r.follows here));
   goes_on = λ b. c.in-Ok.ensures.goes_on;
   quiet = c.in-Ok.ensures.counts.file.quiet ∙ c.loop-end.invariant.quiet;
@@ -99,7 +100,7 @@ returns-in-Err-Page-clause-ends g c = λ place m pins.
     let p = paged (pages c.args.self.now.pager).areas (due c.args.schedule.now) r.made (begun c.args.self.now place) in
     let e : c.several_turns.result ≡ Err Page = c.in-Err-Page.is ∙ ap (λ x. Err x) c.in-Err-Page.field-0-is in
     let cut = subst (λ (z : List Area). TurnsMade c.several_turns.result c.args.limits.now o z c.args.schedule.now p c.several_turns.new.self (g.F.PageFile.contents c.several_turns.new.file) (g.K.Sink.contents c.several_turns.new.sink) c.several_turns.new.held) c.loop-end.invariant.areas (c.several_turns.ensures.done o p r.follows here) in
-    finishes_cut c.args.limits.now _ c.args.schedule.now (begun c.args.self.now place) _ c.loop-end.self _ _ _ _ r (begins_bounded c.args.self.now _ place c.facts.ensures.paging c.facts.ensures.space m pins) c.facts.ensures.space c.several_turns.new.self _ _ c.several_turns.new.held c.finish-in-Err-Page.result _ _
+    finishes_cut c.args.limits.now _ c.args.schedule.now (begun c.args.self.now place) _ c.loop-end.self _ _ _ _ r (begins_bounded c.args.self.now _ place (pager_is c.args.self.now.pager) (space_is c.args.self.now.pager) m pins) (space_is c.args.self.now.pager) c.several_turns.new.self _ _ c.several_turns.new.held c.finish-in-Err-Page.result _ _
     (subst (λ (z : Result (Unit {0}) Fault). TurnsMade z c.args.limits.now o (pages c.args.self.now.pager).areas c.args.schedule.now p c.several_turns.new.self (g.F.PageFile.contents c.several_turns.new.file) (g.K.Sink.contents c.several_turns.new.sink) c.several_turns.new.held) e cut)
     c.finish-in-Err-Page.ensures.done
 
@@ -117,7 +118,7 @@ returns-in-Err-Write-clause-ends g c = λ place m pins.
     let p = paged (pages c.args.self.now.pager).areas (due c.args.schedule.now) r.made (begun c.args.self.now place) in
     let e : c.several_turns.result ≡ Err Write = c.in-Err-Write.is ∙ ap (λ x. Err x) c.in-Err-Write.field-0-is in
     let lost = subst (λ (z : List Area). TurnsMade c.several_turns.result c.args.limits.now o z c.args.schedule.now p c.several_turns.new.self (g.F.PageFile.contents c.several_turns.new.file) (g.K.Sink.contents c.several_turns.new.sink) c.several_turns.new.held) c.loop-end.invariant.areas (c.several_turns.ensures.done o p r.follows here) in
-    lost_turns c.args.limits.now _ c.args.schedule.now (begun c.args.self.now place) _ c.loop-end.self _ _ _ _ r (begins_bounded c.args.self.now _ place c.facts.ensures.paging c.facts.ensures.space m pins) c.facts.ensures.space _ _
+    lost_turns c.args.limits.now _ c.args.schedule.now (begun c.args.self.now place) _ c.loop-end.self _ _ _ _ r (begins_bounded c.args.self.now _ place (pager_is c.args.self.now.pager) (space_is c.args.self.now.pager) m pins) (space_is c.args.self.now.pager) _ _
     (subst (λ (z : Result (Unit {0}) Fault). TurnsMade z c.args.limits.now o (pages c.args.self.now.pager).areas c.args.schedule.now p c.several_turns.new.self (g.F.PageFile.contents c.several_turns.new.file) (g.K.Sink.contents c.several_turns.new.sink) c.several_turns.new.held) e lost)
 
 pub returns-in-Err-Write-clause-only : goal.returns-in-Err-Write-clause-only

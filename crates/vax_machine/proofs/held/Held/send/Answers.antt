@@ -1,8 +1,22 @@
-use Rattle.vax_machine.proofs.Outputs.{pass_nothing, writes_nothing}
+use Rattle.std.proofs.Common.{refl}
+use Rattle.vax_machine.proofs.Holding.{passed_like, passes_on}
+use Rattle.vax_machine.proofs.Outputs.{counts_like, err_like, then_counts, then_writes}
 use Rattle.vax_machine.proofs.held.Held.send.Goals as goal
 
-pub returns-in-None-clause-passes : goal.returns-in-None-clause-passes
-returns-in-None-clause-passes g c = rw c.in-None.is (pass_nothing _ _)
+pub returns-in_err-hold_sent-clause-passes : goal.returns-in_err-hold_sent-clause-passes
+returns-in_err-hold_sent-clause-passes g c =
+    passed_like _ _ _ _ _ _ c.from_residual.result c.hold_sent.result
+    (err_like c.from_residual.result c.hold_sent.result _ c.from_residual.ensures.1 c.in_err-hold_sent.was) c.hold_sent.ensures.passes
 
-pub returns-in-None-clause-still : goal.returns-in-None-clause-still
-returns-in-None-clause-still g c = writes_nothing _ _
+pub returns-in_err-hold_sent-clause-counts : goal.returns-in_err-hold_sent-clause-counts
+returns-in_err-hold_sent-clause-counts g c = λ file.
+    counts_like c.from_residual.result c.hold_sent.result _ _ _ _ (err_like c.from_residual.result c.hold_sent.result _ c.from_residual.ensures.1 c.in_err-hold_sent.was) (c.hold_sent.ensures.counts file)
+
+pub returns-clause-passes : goal.returns-clause-passes
+returns-clause-passes g c = passes_on _ _ _ _ _ _ _ c.write_due.result c.in_ok-hold_sent.ensures.passes c.write_due.ensures.passes
+
+pub returns-clause-still : goal.returns-clause-still
+returns-clause-still g c = then_writes _ _ _ _ _ _ c.hold_sent.ensures.still c.write_due.ensures.still
+
+pub returns-clause-counts : goal.returns-clause-counts
+returns-clause-counts g c = λ file. then_counts c.write_due.result file file file _ _ _ refl (c.in_ok-hold_sent.ensures.counts file).sink.quiet (c.write_due.ensures.counts file)

@@ -4,6 +4,7 @@ use Rattle.vax_space.specs.declared.Area.{Area}
 use Rattle.vax_space.specs.Areas.{area_of}
 use Rattle.vax_outside.proofs.Counting.{counts_then}
 use Rattle.vax_pager.proofs.Marking.{then_none}
+use Rattle.vax_pager.proofs.Told.{is_paging}
 use Rattle.vax_pager.proofs.Poking.{both_here, pins_in, then_alike}
 use Rattle.vax_pager.proofs.store.Store.bring_both.Goals as goal
 
@@ -62,7 +63,7 @@ pub returns-clause-low : goal.returns-clause-low
 returns-clause-low g c = c.in_ok-bring_in-3.ensures.brings.here
 
 pub returns-clause-high : goal.returns-clause-high
-returns-clause-high g c = both_here c.args.low c.args.high _ _ _ _ c.in_ok-bring_in.ensures.brings c.in_ok-bring_in-2.ensures.brings c.in_ok-bring_in-3.ensures.brings c.facts.ensures
+returns-clause-high g c = both_here c.args.low c.args.high _ _ _ _ c.in_ok-bring_in.ensures.brings c.in_ok-bring_in-2.ensures.brings c.in_ok-bring_in-3.ensures.brings (is_paging _ c.bring_in-3.ensures.sound)
 
 pub returns-clause-keeps : goal.returns-clause-keeps
 returns-clause-keeps g c = λ memory st. c.bring_in-3.ensures.keeps memory (c.bring_in-2.ensures.keeps memory (c.bring_in.ensures.keeps memory st))

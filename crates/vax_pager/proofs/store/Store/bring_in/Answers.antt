@@ -1,5 +1,6 @@
 use Rattle.std.proofs.Common.{rules}
 use Rattle.vax_pager.proofs.Marking.{came_none, left_none, none_itself}
+use Rattle.vax_pager.proofs.Told.{is_paging}
 use Rattle.vax_pager.proofs.Poking.{alike_itself, came_alike, left_alike, served_in, was_in}
 use Rattle.vax_pager.proofs.store.Store.bring_in.Goals as goal
 
@@ -10,7 +11,7 @@ pub returns-in_ok-serve-clause-alike : goal.returns-in_ok-serve-clause-alike
 returns-in_ok-serve-clause-alike g c = came_alike _ c.args.page _ _ _ c.in_ok-serve.ensures.ok
 
 pub returns-in_ok-serve-clause-brings : goal.returns-in_ok-serve-clause-brings
-returns-in_ok-serve-clause-brings g c = served_in c.args.page _ _ (search rules) c.in_ok-serve.ensures.pinned c.facts.ensures
+returns-in_ok-serve-clause-brings g c = served_in c.args.page _ _ (search rules) c.in_ok-serve.ensures.pinned (is_paging _ c.serve.ensures.sound)
 
 pub returns-else-not-is_resident-clause-alike : goal.returns-else-not-is_resident-clause-alike
 returns-else-not-is_resident-clause-alike g c = alike_itself _

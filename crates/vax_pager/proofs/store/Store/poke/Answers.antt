@@ -7,6 +7,7 @@ use Rattle.vax_space.specs.Reference.{byte_after, page_of, violation}
 use Rattle.vax_pager.specs.Listing.{is_listed}
 use Rattle.vax_pager.specs.Store.{paging}
 use Rattle.vax_pager.proofs.Poked.{all_alike, areas_settled, frames_settled, has_failed, has_poked, order_settled, pins_settled}
+use Rattle.vax_pager.proofs.Told.{is_paging}
 use Rattle.vax_pager.proofs.Poking.{allowed_by, failed_pokes, first_inside, range_inside}
 use Rattle.vax_pager.proofs.store.Store.poke.Goals as goal
 
@@ -47,4 +48,4 @@ put_bytes-requires-clause-high g c = ap (is_listed (page_of (byte_after c.args.a
 
 pub returns-clause-pokes : goal.returns-clause-pokes
 returns-clause-pokes g c =
-    has_poked _ _ _ _ _ _ c.settle.ensures.paging c.bring_both-brought.ensures.alike c.bring_both-brought.ensures.keeps c.settle-2.ensures.paging c.bring_both-brought.ensures.marks _ c.args.addr c.args.bytes.now c.facts.ensures c.put_bytes.ensures.writes
+    has_poked _ _ _ _ _ _ c.settle.ensures.paging c.bring_both-brought.ensures.alike c.bring_both-brought.ensures.keeps c.settle-2.ensures.paging c.bring_both-brought.ensures.marks _ c.args.addr c.args.bytes.now (is_paging _ c.settle-2.ensures.sound) c.put_bytes.ensures.writes

@@ -1,4 +1,3 @@
-use Rattle.std.proofs.Common.{sym, ◌∙◌}
 use Rattle.vax_pager.proofs.Poking.{never_stopped, one_written, unstopped}
 use Rattle.vax_pager.specs.Store.{paging}
 use Rattle.vax_pager.proofs.store.Store.put_there.Goals as goal

@@ -1,0 +1,4 @@
+pub mod Leading
+pub mod Naming
+pub mod Programs
+pub mod Rows

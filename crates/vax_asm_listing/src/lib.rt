@@ -1,0 +1,19 @@
+//! Listings of programs: what each statement of a source put where, as VAX MACRO's listings and linkers' maps tell it.
+#![tactic(auto)]
+
+ghost use Rattle.std.specs.Prelude.{◌≡◌};
+
+mod bytes;
+mod laws;
+mod lines;
+mod names;
+mod program;
+mod tables;
+mod tracing;
+mod types;
+
+pub use laws::rows_are_statements;
+pub use program::{ListingError, list_sources};
+pub use tables::listing;
+pub use tracing::trace;
+pub use types::{Label, Notes, Part, Point, Program, Row, Trace};

@@ -1,0 +1,72 @@
+//! Listings of programs.
+use std::test::Fail;
+use vax_asm_listing::{ListingError, list_sources};
+use vax_image::Base;
+
+/// A program with a text, a macro and a call of it.
+const SOURCE: &str = "        .PSECT CODE,NOWRT
+; a text, and a doubling
+MSG:    .ASCII /Hello, world!/
+BUF:    .BLKB 20
+        .MACRO TWICE X
+        ADDL2 X,X
+        .ENDM
+        .ENTRY START,0
+        TWICE R1
+        RET
+        .END START
+";
+
+const LISTING: &str = "MODULE 1
+     1 00000200                                  .PSECT CODE,NOWRT
+     2 00000200                          ; a text, and a doubling
+     3 00000200 48 65 6C 6C 6F 2C 20 77  MSG:    .ASCII /Hello, world!/
+       00000208 6F 72 6C 64 21
+     4 0000020D 00 * 20                  BUF:    .BLKB 20
+     5                                           .MACRO TWICE X
+     6                                           ADDL2 X,X
+     7                                           .ENDM
+     8 00000221 00 00                            .ENTRY START,0
+     9                                           TWICE R1
+     + 00000223 C0 51 51                             ADDL2 R1,R1
+    10 00000226 04                               RET
+    11 00000227                                  .END START
+SECTIONS
+00000200      0 WRT   . BLANK .
+00000200     39 NOWRT CODE
+NAMES
+00000200 REL        MSG
+0000020D REL        BUF
+00000221 REL GLOBAL START
+ENTRY 00000221
+";
+
+/// The listing of a source.
+fn listing_of(rt: &HostRuntime, source: &str) -> Result<Vec<u8>, ListingError> {
+    let file = Vec::from_slice(rt.alloc(), source.as_bytes())?;
+    let files = vec![in rt.alloc(); file]?;
+    list_sources(rt.alloc(), Base::User, &files)
+}
+
+#[test]
+fn lists_lines_sections_and_names(rt: HostRuntime) -> Result<(), Fail> {
+    let text = listing_of(&rt, SOURCE)?;
+    assert!(rt; text.as_slice() == LISTING.as_bytes());
+    Ok(())
+}
+
+#[test]
+fn tells_a_fault_by_its_line(rt: HostRuntime) -> Result<(), Fail> {
+    let found = listing_of(&rt, " NOP\n FROB\n .END\n");
+    assert!(rt;
+        matches!(
+            found,
+            Err(ListingError::Source {
+                file: 1,
+                line: 2,
+                ..
+            })
+        )
+    );
+    Ok(())
+}

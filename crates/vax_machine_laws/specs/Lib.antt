@@ -1,0 +1,3 @@
+pub mod FlatRun
+pub mod Enough
+pub mod Happenings

@@ -1,0 +1,286 @@
+//! The commonest branches and loops, each with its condition and size as constants.
+ghost use Rattle.std.specs.Prelude.{◌≡◌};
+ghost use Rattle.vax_undo.specs.Transaction.{seen};
+ghost use Rattle.vax_quick.specs.Made.{IsSeen, Leaves, Makes, made_by};
+
+use crate::control::{add_one, branch, subtract_one};
+use crate::window::Window;
+use vax_isa::{Condition, Narrow, Relation};
+use vax_undo::{Port, Term};
+use vax_word::Core;
+
+/// BRB.
+#[inline(never)]
+#[tactic(auto, using(crate::proofs::Opcodes::at_11))]
+pub(crate) fn branch_byte<P: Port>(
+    core: &mut Core,
+    term: &Term,
+    port: &mut P,
+    window: Window,
+) -> Option<()>
+    requires window { IsSeen (P.view port.old) core.old window }
+    ensures exact { Makes (made_by 0x11) result
+        (seen P.view core.old term.now port.old) (seen P.view core.new term.now port.new) }
+    ensures leaves { Leaves P.since core.old port.old core.new port.new }
+{
+    branch(core, term, port, window, Condition::Always, Narrow::B)
+}
+
+/// BNEQ.
+#[inline(never)]
+#[tactic(auto, using(crate::proofs::Opcodes::at_12))]
+pub(crate) fn branch_not_equal<P: Port>(
+    core: &mut Core,
+    term: &Term,
+    port: &mut P,
+    window: Window,
+) -> Option<()>
+    requires window { IsSeen (P.view port.old) core.old window }
+    ensures exact { Makes (made_by 0x12) result
+        (seen P.view core.old term.now port.old) (seen P.view core.new term.now port.new) }
+    ensures leaves { Leaves P.since core.old port.old core.new port.new }
+{
+    branch(core, term, port, window, Condition::NotEqual, Narrow::B)
+}
+
+/// BEQL.
+#[inline(never)]
+#[tactic(auto, using(crate::proofs::Opcodes::at_13))]
+pub(crate) fn branch_equal<P: Port>(
+    core: &mut Core,
+    term: &Term,
+    port: &mut P,
+    window: Window,
+) -> Option<()>
+    requires window { IsSeen (P.view port.old) core.old window }
+    ensures exact { Makes (made_by 0x13) result
+        (seen P.view core.old term.now port.old) (seen P.view core.new term.now port.new) }
+    ensures leaves { Leaves P.since core.old port.old core.new port.new }
+{
+    branch(core, term, port, window, Condition::Equal, Narrow::B)
+}
+
+/// BGTR.
+#[inline(never)]
+#[tactic(auto, using(crate::proofs::Opcodes::at_14))]
+pub(crate) fn branch_greater<P: Port>(
+    core: &mut Core,
+    term: &Term,
+    port: &mut P,
+    window: Window,
+) -> Option<()>
+    requires window { IsSeen (P.view port.old) core.old window }
+    ensures exact { Makes (made_by 0x14) result
+        (seen P.view core.old term.now port.old) (seen P.view core.new term.now port.new) }
+    ensures leaves { Leaves P.since core.old port.old core.new port.new }
+{
+    branch(core, term, port, window, Condition::Greater, Narrow::B)
+}
+
+/// BLEQ.
+#[inline(never)]
+#[tactic(auto, using(crate::proofs::Opcodes::at_15))]
+pub(crate) fn branch_less_or_equal<P: Port>(
+    core: &mut Core,
+    term: &Term,
+    port: &mut P,
+    window: Window,
+) -> Option<()>
+    requires window { IsSeen (P.view port.old) core.old window }
+    ensures exact { Makes (made_by 0x15) result
+        (seen P.view core.old term.now port.old) (seen P.view core.new term.now port.new) }
+    ensures leaves { Leaves P.since core.old port.old core.new port.new }
+{
+    branch(core, term, port, window, Condition::LessOrEqual, Narrow::B)
+}
+
+/// BGEQ.
+#[inline(never)]
+#[tactic(auto, using(crate::proofs::Opcodes::at_18))]
+pub(crate) fn branch_greater_or_equal<P: Port>(
+    core: &mut Core,
+    term: &Term,
+    port: &mut P,
+    window: Window,
+) -> Option<()>
+    requires window { IsSeen (P.view port.old) core.old window }
+    ensures exact { Makes (made_by 0x18) result
+        (seen P.view core.old term.now port.old) (seen P.view core.new term.now port.new) }
+    ensures leaves { Leaves P.since core.old port.old core.new port.new }
+{
+    branch(
+        core,
+        term,
+        port,
+        window,
+        Condition::GreaterOrEqual,
+        Narrow::B,
+    )
+}
+
+/// BLSS.
+#[inline(never)]
+#[tactic(auto, using(crate::proofs::Opcodes::at_19))]
+pub(crate) fn branch_less<P: Port>(
+    core: &mut Core,
+    term: &Term,
+    port: &mut P,
+    window: Window,
+) -> Option<()>
+    requires window { IsSeen (P.view port.old) core.old window }
+    ensures exact { Makes (made_by 0x19) result
+        (seen P.view core.old term.now port.old) (seen P.view core.new term.now port.new) }
+    ensures leaves { Leaves P.since core.old port.old core.new port.new }
+{
+    branch(core, term, port, window, Condition::Less, Narrow::B)
+}
+
+/// BGTRU.
+#[inline(never)]
+#[tactic(auto, using(crate::proofs::Opcodes::at_1a))]
+pub(crate) fn branch_greater_unsigned<P: Port>(
+    core: &mut Core,
+    term: &Term,
+    port: &mut P,
+    window: Window,
+) -> Option<()>
+    requires window { IsSeen (P.view port.old) core.old window }
+    ensures exact { Makes (made_by 0x1A) result
+        (seen P.view core.old term.now port.old) (seen P.view core.new term.now port.new) }
+    ensures leaves { Leaves P.since core.old port.old core.new port.new }
+{
+    branch(
+        core,
+        term,
+        port,
+        window,
+        Condition::GreaterUnsigned,
+        Narrow::B,
+    )
+}
+
+/// BLEQU.
+#[inline(never)]
+#[tactic(auto, using(crate::proofs::Opcodes::at_1b))]
+pub(crate) fn branch_less_or_equal_unsigned<P: Port>(
+    core: &mut Core,
+    term: &Term,
+    port: &mut P,
+    window: Window,
+) -> Option<()>
+    requires window { IsSeen (P.view port.old) core.old window }
+    ensures exact { Makes (made_by 0x1B) result
+        (seen P.view core.old term.now port.old) (seen P.view core.new term.now port.new) }
+    ensures leaves { Leaves P.since core.old port.old core.new port.new }
+{
+    branch(
+        core,
+        term,
+        port,
+        window,
+        Condition::LessOrEqualUnsigned,
+        Narrow::B,
+    )
+}
+
+/// BCC.
+#[inline(never)]
+#[tactic(auto, using(crate::proofs::Opcodes::at_1e))]
+pub(crate) fn branch_carry_clear<P: Port>(
+    core: &mut Core,
+    term: &Term,
+    port: &mut P,
+    window: Window,
+) -> Option<()>
+    requires window { IsSeen (P.view port.old) core.old window }
+    ensures exact { Makes (made_by 0x1E) result
+        (seen P.view core.old term.now port.old) (seen P.view core.new term.now port.new) }
+    ensures leaves { Leaves P.since core.old port.old core.new port.new }
+{
+    branch(core, term, port, window, Condition::CarryClear, Narrow::B)
+}
+
+/// BCS.
+#[inline(never)]
+#[tactic(auto, using(crate::proofs::Opcodes::at_1f))]
+pub(crate) fn branch_carry_set<P: Port>(
+    core: &mut Core,
+    term: &Term,
+    port: &mut P,
+    window: Window,
+) -> Option<()>
+    requires window { IsSeen (P.view port.old) core.old window }
+    ensures exact { Makes (made_by 0x1F) result
+        (seen P.view core.old term.now port.old) (seen P.view core.new term.now port.new) }
+    ensures leaves { Leaves P.since core.old port.old core.new port.new }
+{
+    branch(core, term, port, window, Condition::CarrySet, Narrow::B)
+}
+
+/// BRW.
+#[inline(never)]
+#[tactic(auto, using(crate::proofs::Opcodes::at_31))]
+pub(crate) fn branch_word<P: Port>(
+    core: &mut Core,
+    term: &Term,
+    port: &mut P,
+    window: Window,
+) -> Option<()>
+    requires window { IsSeen (P.view port.old) core.old window }
+    ensures exact { Makes (made_by 0x31) result
+        (seen P.view core.old term.now port.old) (seen P.view core.new term.now port.new) }
+    ensures leaves { Leaves P.since core.old port.old core.new port.new }
+{
+    branch(core, term, port, window, Condition::Always, Narrow::W)
+}
+
+/// AOBLSS.
+#[inline(never)]
+#[tactic(auto, using(crate::proofs::Opcodes::at_f2))]
+pub(crate) fn add_one_below<P: Port>(
+    core: &mut Core,
+    term: &Term,
+    port: &mut P,
+    window: Window,
+) -> Option<()>
+    requires window { IsSeen (P.view port.old) core.old window }
+    ensures exact { Makes (made_by 0xF2) result
+        (seen P.view core.old term.now port.old) (seen P.view core.new term.now port.new) }
+    ensures leaves { Leaves P.since core.old port.old core.new port.new }
+{
+    add_one(core, term, port, window, Relation::Less)
+}
+
+/// SOBGEQ.
+#[inline(never)]
+#[tactic(auto, using(crate::proofs::Opcodes::at_f4))]
+pub(crate) fn subtract_one_to_zero<P: Port>(
+    core: &mut Core,
+    term: &Term,
+    port: &mut P,
+    window: Window,
+) -> Option<()>
+    requires window { IsSeen (P.view port.old) core.old window }
+    ensures exact { Makes (made_by 0xF4) result
+        (seen P.view core.old term.now port.old) (seen P.view core.new term.now port.new) }
+    ensures leaves { Leaves P.since core.old port.old core.new port.new }
+{
+    subtract_one(core, term, port, window, Relation::GreaterOrEqual)
+}
+
+/// SOBGTR.
+#[inline(never)]
+#[tactic(auto, using(crate::proofs::Opcodes::at_f5))]
+pub(crate) fn subtract_one_above_zero<P: Port>(
+    core: &mut Core,
+    term: &Term,
+    port: &mut P,
+    window: Window,
+) -> Option<()>
+    requires window { IsSeen (P.view port.old) core.old window }
+    ensures exact { Makes (made_by 0xF5) result
+        (seen P.view core.old term.now port.old) (seen P.view core.new term.now port.new) }
+    ensures leaves { Leaves P.since core.old port.old core.new port.new }
+{
+    subtract_one(core, term, port, window, Relation::Greater)
+}

@@ -1,0 +1,185 @@
+//! Procedure calls whose frame lies within one page: one function for each instruction, which follows its definition in `vax_flat`.
+ghost use Rattle.std.specs.Prelude.{◌≡◌, true};
+ghost use Rattle.vax_flat.specs.Call as call;
+ghost use Rattle.vax_flat.specs.State.{register};
+ghost use Rattle.vax_undo.specs.Transaction.{seen, state_of};
+ghost use Rattle.vax_quick.specs.Made.{IsSeen, Leaves, Makes};
+ghost use Rattle.vax_quick.specs.Frames.{Finds};
+
+use crate::access::{next_address, next_value};
+use crate::memory::read;
+use crate::stack::{push_below, push_frame, restore_frame};
+use crate::window::Window;
+use vax_isa::Call;
+use vax_undo::{Port, Term};
+use vax_word::{Core, Size};
+use vax_x_call::{entry_status, frame_word, is_status, return_status};
+
+/// Lets control go on at a procedure, behind its entry mask.
+#[inline(always)]
+#[tactic(auto, using(vax_x_call::proofs::Closed::entry_closed), unfolding(vax_flat::specs::Call::at_procedure))]
+fn go_to<P: Port>(
+    core: &mut Core,
+    term: &Term,
+    port: &P,
+    procedure: u32,
+    mask: u32,
+    arguments: u32,
+    bottom: u32,
+)
+    ensures exact { state_of core.new term.now
+        ≡ call.at_procedure procedure mask arguments bottom (state_of core.old term.now) }
+    ensures leaves { Leaves P.since core.old port.now core.new port.now }
+{
+    let _ = term;
+    let _ = port;
+    core.psl = entry_status(mask, core.psl);
+    core.regs[12] = arguments;
+    core.regs[13] = bottom;
+    core.regs[14] = bottom;
+    core.regs[15] = procedure.wrapping_add(2);
+}
+
+/// Reads a procedure's entry mask. One that is reserved is left out.
+#[inline(always)]
+#[tactic(auto, unfolding(vax_flat::specs::Call::entry_mask))]
+fn entry_mask<P: Port>(core: &Core, term: &Term, port: &mut P, procedure: u32) -> Option<u32>
+    ensures exact { Finds (call.entry_mask procedure) result
+        (seen P.view core.now term.now port.old) (seen P.view core.now term.now port.new) }
+    ensures same { P.view port.new ≡ P.view port.old }
+    ensures since { (start : P) → P.since start port.old → P.since start port.new }
+{
+    let mask = read(core, term, port, procedure, 2)?;
+    if mask / 0x1000 % 4 != 0 {
+        return None;
+    }
+    Some(mask as u32)
+}
+
+/// Pushes the number of arguments and a frame, and enters the procedure, where all that lies within one page.
+#[inline(always)]
+#[tactic(auto, using(crate::proofs::Frames::room_aligned), unfolding(vax_flat::specs::Call::entered))]
+fn enter<P: Port>(
+    core: &mut Core,
+    term: &Term,
+    port: &mut P,
+    procedure: u32,
+    mask: u32,
+    count: u32,
+) -> Option<()>
+    ensures exact { Makes (λ s next. call.pushed_one count (register s 14) s (λ arguments s.
+        call.entered procedure mask arguments arguments true s next)) result
+        (seen P.view core.old term.now port.old) (seen P.view core.new term.now port.new) }
+    ensures leaves { Leaves P.since core.old port.old core.new port.new }
+{
+    let top = core.regs[14];
+    if top.wrapping_sub(4) % 512 < 72 {
+        return None;
+    }
+    let arguments = push_below(core, term, port, count, top)?;
+    let word = frame_word(arguments % 4, true, mask, core.psl);
+    let bottom = push_frame(core, term, port, mask, word, arguments / 4 * 4);
+    go_to(core, term, port, procedure, mask, arguments, bottom);
+    Some(())
+}
+
+/// CALLS.
+#[inline(always)]
+#[tactic(auto, unfolding(vax_flat::specs::Call::call_with_stack, vax_flat::specs::Call::called_with_stack))]
+fn call_with_stack<P: Port>(
+    core: &mut Core,
+    term: &Term,
+    port: &mut P,
+    window: Window,
+) -> Option<()>
+    requires window { IsSeen (P.view port.old) core.old window }
+    ensures exact { Makes call.call_with_stack result
+        (seen P.view core.old term.now port.old) (seen P.view core.new term.now port.new) }
+    ensures leaves { Leaves P.since core.old port.old core.new port.new }
+{
+    let (count, window) = next_value(core, term, port, window, Size::L)?;
+    let (procedure, _) = next_address(core, term, port, window, Size::B)?;
+    let mask = entry_mask(core, term, port, procedure)?;
+    enter(core, term, port, procedure, mask, count as u32)
+}
+
+/// The address behind the arguments on the stack.
+#[inline(always)]
+#[tactic(auto, unfolding(vax_flat::specs::Call::behind_arguments))]
+fn behind_arguments<P: Port>(
+    core: &Core,
+    term: &Term,
+    port: &mut P,
+    on_stack: bool,
+    top: u32,
+) -> Option<u32>
+    ensures exact { Finds (call.behind_arguments on_stack top) result
+        (seen P.view core.now term.now port.old) (seen P.view core.now term.now port.new) }
+    ensures same { P.view port.new ≡ P.view port.old }
+    ensures since { (start : P) → P.since start port.old → P.since start port.new }
+{
+    if !on_stack {
+        return Some(top);
+    }
+    let count = read(core, term, port, top, 4)?;
+    Some(top.wrapping_add(4 + 4 * (count as u32 % 0x100)))
+}
+
+/// Pops a frame whose longword was read, and the arguments behind it.
+#[inline(always)]
+#[tactic(auto, using(vax_x_call::proofs::Closed::return_closed), unfolding(vax_flat::specs::Call::unwound))]
+fn unwind<P: Port>(core: &mut Core, term: &Term, port: &mut P, word: u32) -> Option<()>
+    ensures exact { Makes (call.unwound word) result
+        (seen P.view core.old term.now port.old) (seen P.view core.new term.now port.new) }
+    ensures leaves { Leaves P.since core.old port.old core.new port.new }
+{
+    let from = core.regs[13].wrapping_add(8);
+    let behind = restore_frame(core, term, port, word / 0x1_0000 % 0x1000, from)?;
+    let on_stack = word / 0x2000_0000 % 2 == 1;
+    let behind = behind.wrapping_add(word / 0x4000_0000);
+    let top = behind_arguments(core, term, port, on_stack, behind)?;
+    let status = return_status(word, core.psl);
+    core.regs[14] = top;
+    core.psl = status;
+    Some(())
+}
+
+/// RET.
+#[inline(always)]
+#[tactic(auto, unfolding(vax_flat::specs::Call::return_from))]
+fn return_from<P: Port>(core: &mut Core, term: &Term, port: &mut P) -> Option<()>
+    ensures exact { Makes call.return_from result
+        (seen P.view core.old term.now port.old) (seen P.view core.new term.now port.new) }
+    ensures leaves { Leaves P.since core.old port.old core.new port.new }
+{
+    let at = core.regs[13].wrapping_add(4);
+    let word = read(core, term, port, at, 4)? as u32;
+    if !is_status(word) {
+        return None;
+    }
+    unwind(core, term, port, word)
+}
+
+/// The instruction by its name. CALLG, PUSHR and POPR are left out.
+#[inline(never)]
+#[tactic(auto, unfolding(vax_flat::specs::Call::performed))]
+pub(crate) fn perform<P: Port>(
+    core: &mut Core,
+    term: &Term,
+    port: &mut P,
+    window: Window,
+    instruction: Call,
+) -> Option<()>
+    requires window { IsSeen (P.view port.old) core.old window }
+    ensures exact { Makes (call.performed instruction) result
+        (seen P.view core.old term.now port.old) (seen P.view core.new term.now port.new) }
+    ensures leaves { Leaves P.since core.old port.old core.new port.new }
+{
+    match instruction {
+        Call::WithList => None,
+        Call::WithStack => call_with_stack(core, term, port, window),
+        Call::Return => return_from(core, term, port),
+        Call::PushRegisters => None,
+        Call::PopRegisters => None,
+    }
+}
