@@ -53,8 +53,8 @@ impl Walk {
         // Where no fault was met, the statement stands.
         ensures stands { OnOk result (self.new.met ≡ None → (self.old.met ≡ None)
             × Stood origin said.text.items
-                (assembly_of self.old.standing self.old.assignments)
-                (assembly_of self.new.standing self.new.assignments)) }
+            (assembly_of self.old.standing self.old.assignments)
+            (assembly_of self.new.standing self.new.assignments)) }
     {
         if let Some(met) = of_another(self.met, origin) {
             return Err(self.stopped(alloc, met));
