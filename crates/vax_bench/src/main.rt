@@ -1,17 +1,21 @@
-//! Makes steps of a small loop, to be timed from outside: `vax_bench LOOP STEPS` over plain memory, `vax_bench LOOP STEPS FRAMES` over a
-//! pager with so many frames and a page file in memory.
+//! Makes steps, to be timed from outside: `vax_bench LOOP STEPS` those of a small loop over plain memory, `vax_bench LOOP STEPS FRAMES` over a
+//! pager with so many frames and a page file in memory, and `vax_bench image FILE STEPS FRAMES` those of a program in user mode with no input.
 #![tactic(auto)]
 
 ghost use Rattle.std.specs.Prelude.{◌≡◌, ◌≤◌, None, length};
 
+mod image;
 mod loops;
 mod paged;
 
 use anyhow::bail;
+use image::started;
 use loops::{clock_of, code_of, data_of};
-use paged::{make_paged_steps, pager_of};
+use paged::{make_paged_steps, pager_of, pager_over};
 use std::alloc::Global;
 use std::env;
+use std::fs;
+use std::io::Print;
 use vax_bare::{core_at, memory_of};
 use vax_cpu::{Attempt, Cpu};
 use vax_outside::MemPages;
@@ -82,35 +86,76 @@ fn run_paged(
     Ok((cpu.core, left, pager.counts()))
 }
 
-fn main(rt: HostRuntime) -> anyhow::Result<()> {
-    let alloc = rt.alloc();
-    let words: Vec<String> = env::args(&rt)?.skip(1).collect(alloc)?;
-    let (name, steps, frames) = match words.as_slice() {
-        [name, steps] => (name, steps, None),
-        [name, steps, frames] => (name, steps, Some(frames)),
-        _ => bail!("use: vax_bench LOOP STEPS [FRAMES]"),
-    };
-    let Some(code) = code_of(name.as_str()) else {
+/// Says what the pages of a run did.
+fn show_counts<R: Print>(rt: &R, counts: Counts) -> anyhow::Result<()> {
+    let Counts {
+        served,
+        evicted,
+        written,
+    } = counts;
+    println!(rt; "served {served} evicted {evicted} written {written}")?;
+    Ok(())
+}
+
+/// Makes so many steps of the program in a file, over a pager.
+fn run_image<R: Print>(
+    rt: &R,
+    alloc: Global,
+    file: Vec<u8>,
+    steps: u64,
+    frames: u32,
+) -> anyhow::Result<()> {
+    let (space, core) = started(alloc, file)?;
+    let mut pager = pager_over(alloc, space, frames)?;
+    let mut blocks = MemPages::new(alloc, 0x9000, 4_000_000, Vec::new(alloc))?;
+    let mut cpu = cpu_with(alloc, core);
+    let left = make_paged_steps(&mut cpu, &mut pager, &mut blocks, steps);
+    show_counts(rt, pager.counts())?;
+    println!(rt; "image left {left}")?;
+    Ok(())
+}
+
+/// Makes so many steps of a loop, over a pager where frames are given.
+fn run_loop<R: Print>(
+    rt: &R,
+    alloc: Global,
+    name: &str,
+    steps: u64,
+    frames: Option<u32>,
+) -> anyhow::Result<()> {
+    let Some(code) = code_of(name) else {
         bail!(
             "loops: count registers memory calls subroutine procedure field addition change ticks interrupts pages"
         );
     };
-    let steps: u64 = steps.as_str().parse()?;
     let (core, left) = match frames {
-        None => run_plain(alloc, name.as_str(), code, steps)?,
+        None => run_plain(alloc, name, code, steps)?,
         Some(frames) => {
-            let frames: u32 = frames.as_str().parse()?;
-            let (core, left, counts) = run_paged(alloc, name.as_str(), code, steps, frames)?;
-            let Counts {
-                served,
-                evicted,
-                written,
-            } = counts;
-            println!(rt; "served {served} evicted {evicted} written {written}")?;
+            let (core, left, counts) = run_paged(alloc, name, code, steps, frames)?;
+            show_counts(rt, counts)?;
             (core, left)
         }
     };
     let [r0, r1, r2, ..] = core.regs;
     println!(rt; "{name} left {left} R0 {r0:08X} R1 {r1:08X} R2 {r2:08X}")?;
     Ok(())
+}
+
+fn main(rt: HostRuntime) -> anyhow::Result<()> {
+    let alloc = rt.alloc();
+    let words: Vec<String> = env::args(&rt)?.skip(1).collect(alloc)?;
+    match words.as_slice() {
+        [image, file, steps, frames] if image.as_str() == "image" => {
+            let file = fs::read(&rt, file.as_str())?;
+            let steps: u64 = steps.as_str().parse()?;
+            run_image(&rt, alloc, file, steps, frames.as_str().parse()?)
+        }
+        [name, steps] => run_loop(&rt, alloc, name.as_str(), steps.as_str().parse()?, None),
+        [name, steps, frames] => {
+            let frames: u32 = frames.as_str().parse()?;
+            let steps: u64 = steps.as_str().parse()?;
+            run_loop(&rt, alloc, name.as_str(), steps, Some(frames))
+        }
+        _ => bail!("use: vax_bench LOOP STEPS [FRAMES], or vax_bench image FILE STEPS FRAMES"),
+    }
 }

@@ -13,9 +13,6 @@ const PAGES: u32 = 0x8000;
 
 /// A pager with so many frames, over the loop's code at 80000200, a stack at 80100000 and all of the program region.
 pub(crate) fn pager_of(alloc: Global, code: &[u8], frames: u32) -> anyhow::Result<Pager> {
-    if frames < 64 || 32768 < frames {
-        bail!("frames: 64 to 32768");
-    }
     let areas = [
         Area {
             first: 0,
@@ -45,6 +42,14 @@ pub(crate) fn pager_of(alloc: Global, code: &[u8], frames: u32) -> anyhow::Resul
     let Ok(space) = Space::new(alloc, Vec::from_array(alloc, areas)?) else {
         bail!("no space");
     };
+    pager_over(alloc, space, frames)
+}
+
+/// A pager with so many frames over a space.
+pub(crate) fn pager_over(alloc: Global, space: Space, frames: u32) -> anyhow::Result<Pager> {
+    if frames < 64 || 32768 < frames {
+        bail!("frames: 64 to 32768");
+    }
     let Ok(pager) = Pager::new(alloc, space, frames) else {
         bail!("no memory");
     };

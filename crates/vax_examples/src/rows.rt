@@ -43,24 +43,6 @@ fn show_channel<R: Print>(rt: &R, bytes: &[u8]) -> Result<()> {
     Ok(())
 }
 
-/// Shows what a call left: Out and Report, Record where there is one, how many blocks were written, and its exit status.
-fn show_call<R: Print>(rt: &R, sink: &MemSink, pages: Option<&Pages>, status: u8) -> Result<()> {
-    show_channel(rt, sink.bytes(Chan::Out))?;
-    show_channel(rt, sink.bytes(Chan::Report))?;
-    if !sink.bytes(Chan::Record).is_empty() {
-        rt.println("record:")?;
-        show_channel(rt, sink.bytes(Chan::Record))?;
-    }
-    if let Some(pages) = pages {
-        let count = pages.blocks.writes().len();
-        if count > 0 {
-            println!(rt; "blocks written: {count}")?;
-        }
-    }
-    println!(rt; "status {status}")?;
-    Ok(())
-}
-
 /// What a call left.
 #[derive(Drop)]
 pub(crate) struct Left {
@@ -83,6 +65,22 @@ impl Left {
     }
 }
 
+/// Shows what a call left: Out and Report, Record where there is one, how many blocks were written where these are counted, and its exit status.
+fn show_left<R: Print>(rt: &R, left: &Left, is_counted: bool) -> Result<()> {
+    show_channel(rt, left.out())?;
+    show_channel(rt, left.report())?;
+    if !left.record().is_empty() {
+        rt.println("record:")?;
+        show_channel(rt, left.record())?;
+    }
+    let count = left.pages.blocks.writes().len();
+    if is_counted && count > 0 {
+        println!(rt; "blocks written: {count}")?;
+    }
+    println!(rt; "status {}", left.status)?;
+    Ok(())
+}
+
 /// Makes a call, with a change if one is given.
 pub(crate) fn call(
     alloc: Global,
@@ -103,12 +101,7 @@ pub(crate) fn call(
 /// Makes a call, and shows what it left; then those of a series, where one was said. What was said of the call alone is taken back.
 fn show_all<R: Print>(rt: &R, alloc: Global, setup: &mut Setup, line: &str) -> Result<()> {
     let left = call(alloc, setup, line, None)?;
-    let pages = if setup.has_any_blocks {
-        None
-    } else {
-        Some(&left.pages)
-    };
-    show_call(rt, &left.sink, pages, left.status)?;
+    show_left(rt, &left, !setup.has_any_blocks)?;
     if let Some(series) = setup.series.take() {
         show_series(rt, alloc, setup, line, &series)?;
     }
