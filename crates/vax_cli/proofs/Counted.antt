@@ -89,6 +89,7 @@ few_names verb.Bare count e = grind (arith, nat_tests)
 few_names verb.Run count e = grind (arith, nat_tests)
 few_names verb.Build count e = grind (arith, nat_tests)
 few_names verb.List count e = grind (arith, nat_tests)
+few_names verb.Listing count e = grind (arith, nat_tests)
 few_names verb.Console count e = grind (arith, nat_tests)
 few_names verb.Work count e = grind (arith, nat_tests)
 

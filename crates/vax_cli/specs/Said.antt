@@ -5,7 +5,7 @@ use Rattle.std.specs.Global.{Global}
 use Rattle.std.specs.declared.string.String.{String}
 use Rattle.std.specs.Borrow.{Bor}
 use Rattle.vax_cli.specs.Words as words
-use Rattle.vax_cli.specs.Words.{Text, Said, bare, run, build, list, console, work, about}
+use Rattle.vax_cli.specs.Words.{Text, Said, bare, run, build, list, listing, console, work, about}
 use Rattle.vax_cli.specs.Items as plain
 use Rattle.vax_cli.specs.declared.command.DumpItem.{DumpItem}
 use Rattle.vax_cli.specs.declared.command.Options.{Options}
@@ -50,6 +50,7 @@ said (command.Bare files o) = bare (names_of files.items) (options o)
 said (command.Run files o) = run (names_of files.items) (options o)
 said (command.Build files base format) = build (names_of files.items) base format
 said (command.List files base) = list (names_of files.items) base
+said (command.Listing files base) = listing (names_of files.items) base
 said (command.Console files base script o) = console (names_of files.items) base script.now (options o)
 said (command.Work seed size o) = work seed size (options o)
 said command.About = about
@@ -77,6 +78,7 @@ IsWithin (bare files o) = AreFiles files × AreWithin o
 IsWithin (run files o) = AreFiles files × AreWithin o
 IsWithin (build files linked format) = AreFiles files
 IsWithin (list files linked) = AreFiles files
+IsWithin (listing files linked) = AreFiles files
 IsWithin (console files linked script o) = AreFiles files × AreWithin o
 IsWithin (work seed size o) = (1 ≤ size) × (size ≤ 5000) × AreWithin o
 IsWithin about = Unit {0}

@@ -11,13 +11,14 @@ Text = List ℕ
 
 -- the commands
 abbrev pub verbs : List Verb
-verbs = verb.Bare ∷ verb.Run ∷ verb.Build ∷ verb.List ∷ verb.Console ∷ verb.Work ∷ []
+verbs = verb.Bare ∷ verb.Run ∷ verb.Build ∷ verb.List ∷ verb.Listing ∷ verb.Console ∷ verb.Work ∷ []
 
 abbrev pub verb_name : Verb → Text
 verb_name verb.Bare = codes "bare"
 verb_name verb.Run = codes "run"
 verb_name verb.Build = codes "build"
 verb_name verb.List = codes "list"
+verb_name verb.Listing = codes "listing"
 verb_name verb.Console = codes "console"
 verb_name verb.Work = codes "work"
 
@@ -43,6 +44,7 @@ keys_of verb.Bare = key.Input ∷ key.Schedule ∷ key.Frames ∷ key.Steps ∷ 
 keys_of verb.Run = key.Input ∷ key.System ∷ key.Schedule ∷ key.Frames ∷ key.Steps ∷ key.Turns ∷ key.Dump ∷ key.Record ∷ []
 keys_of verb.Build = key.Base ∷ key.Format ∷ []
 keys_of verb.List = key.Base ∷ []
+keys_of verb.Listing = key.Base ∷ []
 keys_of verb.Console = key.Script ∷ key.Base ∷ key.Input ∷ key.System ∷ key.Schedule ∷ key.Frames ∷ key.Steps ∷ key.Turns ∷ []
 keys_of verb.Work = key.Seed ∷ key.Size ∷ key.Schedule ∷ key.Frames ∷ key.Steps ∷ key.Turns ∷ key.Dump ∷ key.Record ∷ []
 

@@ -34,6 +34,7 @@ pub data Said : Type 0 where
   run : List Text → Options → Said
   build : List Text → Base → Format → Said
   list : List Text → Base → Said
+  listing : List Text → Base → Said
   console : List Text → Base → Text → Options → Said
   work : ℕ → ℕ → Options → Said
   about : Said
@@ -87,6 +88,7 @@ said_of verb.Bare items = option_map (λ options. bare (names items) options) (o
 said_of verb.Run items = option_map (λ options. run (names items) options) (options_of items)
 said_of verb.Build items = build_of items
 said_of verb.List items = option_map (λ base. list (names items) base) (base_of (value key.Base items))
+said_of verb.Listing items = option_map (λ base. listing (names items) base) (base_of (value key.Base items))
 said_of verb.Console items = console_of items
 said_of verb.Work items = work_of items
 

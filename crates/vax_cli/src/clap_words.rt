@@ -49,6 +49,15 @@ fn summary_of<'a>(verb: Verb) -> Summary<'a> {
                 Sources: docs/ASSEMBLER.md\n\
                 Exit statuses and kinds of faults: docs/MESSAGES.md",
         },
+        Verb::Listing => Summary {
+            name: "vax listing",
+            about: "Write the lines of a program's sources with their addresses and bytes to standard output",
+            example: "Example: what each line of a source is assembled to\n  \
+                vax listing COUNT.MAR --base bare\n\n\
+                Sources: docs/ASSEMBLER.md\n\
+                Listings: docs/MACHINE.md\n\
+                Exit statuses and kinds of faults: docs/MESSAGES.md",
+        },
         Verb::Console => Summary {
             name: "vax console",
             about: "Run a program as the lines of a script say, and answer each on standard error",
@@ -146,13 +155,21 @@ fn option<'a>(alloc: Global, key: Key) -> Arg<'a> {
         .help(help)
 }
 
+/// What help says of a command's files.
+fn files_help<'a>(verb: Verb) -> &'a str {
+    match verb {
+        Verb::Listing => "1 to 8 sources, which are linked in this order",
+        _ => "1 to 8 sources, which are linked in this order, or one image",
+    }
+}
+
 /// The files of a command.
-fn files<'a>(alloc: Global) -> Arg<'a> {
+fn files<'a>(alloc: Global, verb: Verb) -> Arg<'a> {
     Arg::new(alloc, FILES)
         .required(true)
         .num_args(1..=8)
         .action(ArgAction::Append)
-        .help("1 to 8 sources, which are linked in this order, or one image")
+        .help(files_help(verb))
 }
 
 /// A command with its files and options.
@@ -169,7 +186,7 @@ fn command<'a>(alloc: Global, verb: Verb) -> Result<Command<'a>, AllocError> {
         command = command.arg(option(alloc, *key))?;
     }
     if verb.takes_files(1) {
-        command = command.arg(files(alloc))?;
+        command = command.arg(files(alloc, verb))?;
     }
     Ok(command)
 }

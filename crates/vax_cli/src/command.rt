@@ -31,6 +31,11 @@ pub enum Command<'a> {
         files: Names<'a>,
         base: Base,
     },
+    /// `listing FILE..`: write the listing of a program's sources.
+    Listing {
+        files: Names<'a>,
+        base: Base,
+    },
     /// `console FILE..`: run a program as a script says.
     Console {
         files: Names<'a>,

@@ -116,6 +116,10 @@ fn said_of<'a>(verb: Verb, files: Names<'a>, items: &[Item<'a>]) -> Option<Comma
             files,
             base: base_of(value_in(Key::Base, items))?,
         }),
+        Verb::Listing => Some(Command::Listing {
+            files,
+            base: base_of(value_in(Key::Base, items))?,
+        }),
         Verb::Console => console_of(files, items),
         Verb::Work => work_of(items),
     }

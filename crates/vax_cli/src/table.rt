@@ -9,6 +9,7 @@ pub(crate) enum Verb {
     Run,
     Build,
     List,
+    Listing,
     Console,
     Work,
 }
@@ -32,11 +33,12 @@ pub(crate) enum Key {
 }
 
 /// The commands.
-pub(crate) const VERBS: [Verb; 6] = [
+pub(crate) const VERBS: [Verb; 7] = [
     Verb::Bare,
     Verb::Run,
     Verb::Build,
     Verb::List,
+    Verb::Listing,
     Verb::Console,
     Verb::Work,
 ];
@@ -51,6 +53,7 @@ impl Verb {
             Verb::Run => "run",
             Verb::Build => "build",
             Verb::List => "list",
+            Verb::Listing => "listing",
             Verb::Console => "console",
             Verb::Work => "work",
         }
@@ -81,7 +84,7 @@ impl Verb {
                 Key::Record,
             ],
             Verb::Build => &[Key::Base, Key::Format],
-            Verb::List => &[Key::Base],
+            Verb::List | Verb::Listing => &[Key::Base],
             Verb::Console => &[
                 Key::Script,
                 Key::Base,
@@ -111,9 +114,9 @@ impl Verb {
     {
         match self {
             Verb::Work => count == 0,
-            Verb::Bare | Verb::Run | Verb::Build | Verb::List | Verb::Console => {
-                1 <= count && count <= 8
-            }
+            Verb::Bare | Verb::Run | Verb::Build | Verb::List | Verb::Listing | Verb::Console => 1
+                <= count
+                && count <= 8,
         }
     }
 }

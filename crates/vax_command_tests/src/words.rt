@@ -115,7 +115,7 @@ fn reads_options(rt: HostRuntime) -> Result<(), Fail> {
 /// Plain words of each command; clap reads them all.
 #[test]
 fn reads_commands(rt: HostRuntime) -> Result<(), Fail> {
-    let rows: [(&str, Command); 11] = [
+    let rows: [(&str, Command); 12] = [
         (
             "run A B C D E F G H",
             Command::Run {
@@ -154,6 +154,13 @@ fn reads_commands(rt: HostRuntime) -> Result<(), Fail> {
             Command::List {
                 files: names(&["A"]),
                 base: Base::User,
+            },
+        ),
+        (
+            "listing A B --base=bare",
+            Command::Listing {
+                files: names(&["A", "B"]),
+                base: Base::Bare,
             },
         ),
         (
@@ -221,7 +228,7 @@ fn reads_commands(rt: HostRuntime) -> Result<(), Fail> {
 
 #[test]
 fn refuses_other_words(rt: HostRuntime) -> Result<(), Fail> {
-    let rows: [&str; 47] = [
+    let rows: [&str; 49] = [
         "",
         "boot A",
         "bare",
@@ -264,6 +271,8 @@ fn refuses_other_words(rt: HostRuntime) -> Result<(), Fail> {
         "build A --steps 1",
         "list A --base system",
         "list A --format 1",
+        "listing",
+        "listing A --format 1",
         "console A",
         "console A --script L --dump 00000200:4",
         "console A --script L --base bare --system S",
@@ -289,7 +298,7 @@ fn has_all(parts: &[&str], text: &str) -> bool {
 
 #[test]
 fn shows_help(rt: HostRuntime) -> Result<(), Fail> {
-    let rows: [(&str, &[&str]); 8] = [
+    let rows: [(&str, &[&str]); 9] = [
         (
             "--help",
             &[
@@ -313,6 +322,10 @@ fn shows_help(rt: HostRuntime) -> Result<(), Fail> {
         ),
         ("build --help", &["--base <user|bare>", "--format <1|2>"]),
         ("list --help", &["--base <user|bare>"]),
+        (
+            "listing --help",
+            &["--base <user|bare>", "vax listing COUNT.MAR"],
+        ),
         ("console --help", &["--script <FILE>", "CONTINUE and SHOW"]),
         (
             "work --help",

@@ -1,6 +1,6 @@
 // The image of a program's parts.
 
-ghost use Rattle.std.specs.Prelude.{◌≡◌, ◌≤◌, All, IfOk, length};
+ghost use Rattle.std.specs.Prelude.{◌≡◌, ◌≤◌, All, Err, IfOk, length};
 ghost use Rattle.vax_image.specs.Image.{IsImage};
 ghost use Rattle.vax_link.specs.Linked.{linked};
 ghost use Rattle.vax_module.specs.Formed.{Formed};
@@ -25,6 +25,21 @@ fn found(kind: u8, name: Bytes, address: u32) -> ProgramError
     })
 }
 
+/// Why what the linker found leaves files without a program.
+pub fn link_refusal(alloc: Global, error: LinkError) -> ProgramError
+    ensures refusal { Answers (λ image. image) (Err result) (from_link (Err error)) }
+    ensures memory { error ≡ LinkError.NoMemory → result ≡ ProgramError.NoMemory }
+{
+    match error {
+        LinkError::Undefined(name) => found(1, name, 0),
+        LinkError::Duplicate(name) => found(2, name, 0),
+        LinkError::Pages => found(3, Bytes::from(Vec::new(alloc)), 0),
+        LinkError::NoTransfer => found(4, Bytes::from(Vec::new(alloc)), 0),
+        LinkError::Reach(address) => found(5, Bytes::from(Vec::new(alloc)), address),
+        LinkError::NoMemory => ProgramError::NoMemory,
+    }
+}
+
 /// The image of modules.
 #[tactic(auto, using(crate::proofs::Bases::linked_base))]
 fn link_modules(alloc: Global, base: Base, modules: &[Module]) -> Result<Image, ProgramError>
@@ -37,12 +52,7 @@ fn link_modules(alloc: Global, base: Base, modules: &[Module]) -> Result<Image, 
 {
     match link(alloc, modules, base) {
         Ok(image) => Ok(image),
-        Err(LinkError::Undefined(name)) => Err(found(1, name, 0)),
-        Err(LinkError::Duplicate(name)) => Err(found(2, name, 0)),
-        Err(LinkError::Pages) => Err(found(3, Bytes::from(Vec::new(alloc)), 0)),
-        Err(LinkError::NoTransfer) => Err(found(4, Bytes::from(Vec::new(alloc)), 0)),
-        Err(LinkError::Reach(address)) => Err(found(5, Bytes::from(Vec::new(alloc)), address)),
-        Err(LinkError::NoMemory) => Err(ProgramError::NoMemory),
+        Err(error) => Err(link_refusal(alloc, error)),
     }
 }
 

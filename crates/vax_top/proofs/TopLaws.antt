@@ -9,24 +9,26 @@ use Rattle.vax_outside.specs.declared.traits.FilesFault.TheVariants as faults
 use Rattle.vax_space.specs.declared.Area.{Area}
 use Rattle.vax_sched.specs.declared.rule.Rule.{Rule}
 use Rattle.vax_image.specs.declared.Image.{Image}
+use Rattle.vax_asm_listing.specs.Listed as listed
 use Rattle.vax_machine.specs.Paged.{Why, ByEnding, BySteps, ByTurns}
 use Rattle.vax_program.specs.Program.{Refusal, Source, Link as FromLinker, InImage}
-use Rattle.vax_cli.specs.Words.{Text, Options, Said, bare, run, build, list, console, work, about, command_of}
+use Rattle.vax_cli.specs.Words.{Text, Options, Said, bare, run, build, list, listing, console, work, about, command_of}
 use Rattle.vax_cli.specs.declared.command.Base as words_base
 use Rattle.vax_cli.specs.declared.command.Format.{Format}
 use Rattle.vax_command.specs.Around.{Around, Change, HasFailed, Outside, around, outside_of, untouched}
 use Rattle.vax_command.specs.Ends.{Ends, EndsSo}
 use Rattle.vax_command.specs.Loaded.{Loaded}
 use Rattle.vax_command.specs.Running.{IsFaulty, IsRunning, LacksMemory, Ran, RunsSo}
-use Rattle.vax_top.specs.Loaded.{IsRefused, image_from, refused_as}
+use Rattle.vax_top.specs.Loaded.{IsRefused, image_from, refused_as, sources_image}
 use Rattle.vax_command.specs.Reading.{HasTexts, ReadEnds, Reads, Texts, of_options, texts_of}
 use Rattle.vax_command.specs.Status.{refusal, refusal_growth}
-use Rattle.vax_top.specs.Top.{Carries, Comes, CommandComes, Does, ImageDoes, IsAbout, IsFile, IsListing, IsRunOf, IsSessionOf, IsWriting, RanOf, RunDoes, SessionDoes, base_for, reads, reads_of, run_of, session_of, session_programs}
+use Rattle.vax_top.specs.Top.{Carries, Comes, CommandComes, Does, ImageDoes, IsAbout, IsFile, IsListing, IsSourceListing, IsRunOf, IsSessionOf, IsWriting, RanOf, RunDoes, SessionDoes, base_for, reads, reads_of, run_of, session_of, session_programs}
 use Rattle.vax_command.specs.Setup.{Setup}
 use Rattle.vax_command.specs.Went.{IsCut, IsRunAnswer, IsUnread, WentFrom, status_of}
 use Rattle.vax_command.specs.declared.status.Status.{Status}
 use Rattle.vax_command.specs.declared.status.Status.TheVariants.{Done, Usage, Missing, Large, Refused, Link, Schedule, Image as BadImage, Turns, PageFault, ReadFault, WriteFault, NoMemory}
 use Rattle.vax_command.proofs.LoadLaws.{reads_none}
+use Rattle.vax_top.proofs.SourceLaws.{sources_built}
 use Rattle.vax_command.specs.Holding.{Held, HeldSo, IsHolding}
 use Rattle.vax_command.specs.SessionWent.{Opening, SessionFrom}
 
@@ -114,6 +116,20 @@ module _ (seen : Around) where
     image_refused built Writes status (inl r) k ends = record { meant = status; grown = refusal_growth status; so = inr (inl (record { refused = r; wrote = refl; keeps = k })); ends = ends }
     image_refused built Writes status (inr e) k ends = record { meant = status; grown = refusal_growth status; so = inl (e, ap refusal_growth e, k); ends = ends }
 
+    -- the listing of sources was written, or they were refused
+    module _ (names : List Text) (linked : words_base.Base) (files : List Text) (h : Reads seen.files.before.told names (Ok files)) (k : seen.pages.same) where
+      pub sources_listed : (text : Text) → listed.IsListing (base_for linked) files text → Ends seen.sink Done (only channel.Out text) result → Carries seen (listing names linked) result
+      sources_listed text l ends = record {
+        meant = Done;
+        grown = only channel.Out text;
+        comes = inr (files, h, inr (record { image = l.image; is_built = sources_built (base_for linked) files text l; text = text; writes = l; answer = refl; wrote = refl }, k));
+        ends = ends;
+      }
+
+      pub sources_refused : (status : Status) → IsRefused (sources_image (base_for linked) files) status ⊎ (status ≡ NoMemory) → Ends seen.sink status (refusal_growth status) result → Carries seen (listing names linked) result
+      sources_refused status (inl r) ends = record { meant = status; grown = refusal_growth status; comes = inr (files, h, inl (record { refused = r; wrote = refl; keeps = k })); ends = ends }
+      sources_refused status (inr e) ends = record { meant = status; grown = refusal_growth status; comes = no_memory (listing names linked) status (refusal_growth status) (e, ap refusal_growth e, k); ends = ends }
+
     -- a text about the program was shown
     about_comes : (status : Status) (grown : Channels) → IsAbout status grown → seen.pages.same → CommandComes seen about status grown
     about_comes status grown (inl e) k = no_memory about status grown (e.0, e.1, k)
@@ -122,7 +138,7 @@ module _ (seen : Around) where
     pub about_carries : EndsSo seen.sink IsAbout result → seen.pages.same → Carries seen about result
     about_carries t k = record { meant = t.meant; grown = t.grown; comes = about_comes t.meant t.grown t.so k; ends = t.ends }
 
--- what `build` and `list` come to, beside a page file that they leave alone
+-- what `build`, `list` and `listing` come to, beside a page file that they leave alone
 
 does_beside : (pages : Change BlockFile) (built : Result Image Refusal) (Writes : Image → Text → Type 0) (status : Status) (grown : Channels) → pages.same → ImageDoes untouched built Writes status grown → ImageDoes pages built Writes status grown
 does_beside pages built Writes status grown k (inl r) = inl (record { refused = r.refused; wrote = r.wrote; keeps = k })
@@ -142,6 +158,13 @@ module _ (files : Change Directory) (sink : Change Channels) (pages : Change Blo
 
   pub list_kept : pages.same → Carries (around files sink untouched) (list names linked) result → Carries (around files sink pages) (list names linked) result
   list_kept k c = record { meant = c.meant; grown = c.grown; comes = list_beside c.meant c.grown k c.comes; ends = c.ends }
+
+  listing_beside : (status : Status) (grown : Channels) → pages.same → CommandComes (around files sink untouched) (listing names linked) status grown → CommandComes (around files sink pages) (listing names linked) status grown
+  listing_beside status grown k (inl e) = inl (e.0, e.1, k)
+  listing_beside status grown k (inr d) = inr (d.0, d.1, does_beside pages (sources_image (base_for linked) d.0) (IsSourceListing (base_for linked) d.0) status grown k d.2)
+
+  pub listing_kept : pages.same → Carries (around files sink untouched) (listing names linked) result → Carries (around files sink pages) (listing names linked) result
+  listing_kept k c = record { meant = c.meant; grown = c.grown; comes = listing_beside c.meant c.grown k c.comes; ends = c.ends }
 
 -- Which answers a command may give that reads these names, and what it writes where it refuses.
 abbrev Allowed : Around → List Text → Channels → Status → Type 0
@@ -248,6 +271,7 @@ module _ (seen : Around) (grown : Channels) where
   carried_allowed (run names options) files status d = does_allowed seen (reads_of (run names options)) grown _ _ _ options status d
   carried_allowed (build names linked format) files status d = image_allowed seen names grown _ (IsFile format) status d
   carried_allowed (list names linked) files status d = image_allowed seen names grown _ IsListing status d
+  carried_allowed (listing names linked) files status d = image_allowed seen names grown _ (IsSourceListing (base_for linked) files) status d
   carried_allowed (console names linked script options) files status d =
       let texts = texts_of (length names) options (Some script) files in console_allowed seen (reads_of (console names linked script options)) grown (session_programs linked texts) texts options status d
   carried_allowed (work seed size options) files status d = does_allowed seen (of_options options None) grown _ _ _ options status d

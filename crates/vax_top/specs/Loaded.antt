@@ -1,10 +1,12 @@
 -- The programs of a command: what its files come to.
-use Rattle.std.specs.Prelude.{◌≡◌, List, [], ◌∷◌, Option, Some, None, Result, Ok, Err}
+use Rattle.std.specs.Prelude.{◌≡◌, ℕ, suc, false, List, [], ◌∷◌, Option, Some, None, Result, Ok, Err}
+use Rattle.vax_asm.specs.Walk.{assembled}
 use Rattle.vax_guest.specs.Executive.{executive_source}
 use Rattle.vax_image.specs.declared.Base.{Base}
 use Rattle.vax_image.specs.declared.Base.TheVariants as base
 use Rattle.vax_image.specs.declared.Image.{Image}
-use Rattle.vax_program.specs.Program.{Parts, Refusal, Source, Link, InImage, parts_of, linked_of}
+use Rattle.vax_module.specs.declared.Module.{Module}
+use Rattle.vax_program.specs.Program.{Parts, Refusal, Source, Link, InImage, and_others, as_parts, is_linked, parts_of, linked_of}
 use Rattle.vax_cli.specs.Words.{Text}
 use Rattle.vax_command.specs.Loaded.{Loaded}
 use Rattle.vax_command.specs.declared.status.Status.{Status}
@@ -21,6 +23,20 @@ and_then (Err refusal) next = Err refusal
 -- The image of a program's files, which are numbered from 1.
 abbrev pub image_from : Base → List Text → Result Image Refusal
 image_from base texts = and_then (parts_of base 1 texts) linked_of
+
+-- The modules of sources, numbered from the first number on. A file that begins as an image or an executable is a source here like any other.
+abbrev pub sources_from : ℕ → List Text → Result (List Module) Refusal
+sources_from file [] = Ok []
+sources_from file (text ∷ texts) = and_others file (assembled text) (sources_from (suc file) texts)
+
+-- The image that sources are linked to, which are numbered from 1.
+abbrev pub sources_image : Base → List Text → Result Image Refusal
+sources_image base texts = and_then (as_parts base (sources_from 1 texts)) linked_of
+
+-- none of them begins as an image or an executable
+abbrev pub AreSources : List Text → Type 0
+AreSources [] = Unit {0}
+AreSources (text ∷ texts) = (is_linked text ≡ false) × AreSources texts
 
 -- A program for the bare machine.
 abbrev pub bare_loaded : List Text → Result Loaded Refusal

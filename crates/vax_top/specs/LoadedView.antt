@@ -1,10 +1,15 @@
 -- What the code's programs mean.
-use Rattle.std.specs.Prelude.{◌≡◌, ◌⊎◌, Result, Ok, Err}
+use Rattle.std.specs.Prelude.{◌≡◌, ◌⊎◌, ℕ, List, Result, Ok, Err}
+use Rattle.vax_asm_listing.specs.Listed.{Refuses}
+use Rattle.vax_asm_listing.specs.declared.program.ListingError.{ListingError}
+use Rattle.vax_image.specs.declared.Base.{Base}
+use Rattle.vax_image.specs.declared.Image.{Image}
 use Rattle.vax_program.specs.Program as specs
+use Rattle.vax_program.specs.View as program
 use Rattle.vax_program.specs.View.{refusal_seen}
 use Rattle.vax_program.specs.declared.types.ProgramError.{ProgramError}
 use Rattle.vax_program.specs.declared.types.ProgramError.TheVariants as errors
-use Rattle.vax_top.specs.Loaded.{IsRefused, refused_as}
+use Rattle.vax_top.specs.Loaded.{IsRefused, refused_as, sources_image}
 use Rattle.vax_command.specs.declared.status.Status.{Status}
 use Rattle.vax_command.specs.declared.status.Status.TheVariants.{NoMemory}
 
@@ -17,3 +22,9 @@ Loads seen (Err status) loaded = IsRefused loaded status ⊎ (status ≡ NoMemor
 abbrev pub Answers : ProgramError → Status → Type 0
 Answers (errors.Refused refusal) status = status ≡ refused_as (refusal_seen refusal)
 Answers errors.NoMemory status = status ≡ NoMemory
+
+-- this is why sources give no program where that is why they have no listing
+abbrev pub AnswersListing : ListingError → ProgramError → Type 0
+AnswersListing error answer =
+    (region : Base) → (sources : List (List ℕ)) → Refuses region sources error
+    → program.Answers (λ (image : Image). image) (Err answer) (sources_image region sources)

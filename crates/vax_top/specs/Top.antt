@@ -4,7 +4,7 @@ use Rattle.std.specs.Option.{option_map_or}
 use Rattle.vax_outside.specs.Channels.{Channels, only}
 use Rattle.vax_outside.specs.Blocks.{BlockFile}
 use Rattle.vax_outside.specs.declared.traits.Chan.TheVariants as channel
-use Rattle.vax_cli.specs.Words.{Text, Options, Said, bare, run, build, list, console, work, about, command_of}
+use Rattle.vax_cli.specs.Words.{Text, Options, Said, bare, run, build, list, listing as source_listing, console, work, about, command_of}
 use Rattle.vax_cli.specs.declared.command.Base as words_base
 use Rattle.vax_cli.specs.declared.command.Base.TheVariants as words_bases
 use Rattle.vax_cli.specs.declared.command.Format.{Format}
@@ -17,9 +17,10 @@ use Rattle.vax_image.specs.declared.Base.TheVariants as bases
 use Rattle.vax_image.specs.declared.Image.{Image}
 use Rattle.vax_program.specs.Program.{Refusal}
 use Rattle.vax_listing.specs.Listing.{listing}
+use Rattle.vax_asm_listing.specs.Listed as listed
 use Rattle.vax_command.specs.Around.{Around, Change, Outside, outside_of}
 use Rattle.vax_command.specs.Ends.{Ends, EndsSo}
-use Rattle.vax_top.specs.Loaded.{IsRefused, bare_loaded, image_from, system_text, user_loaded}
+use Rattle.vax_top.specs.Loaded.{IsRefused, bare_loaded, image_from, sources_image, system_text, user_loaded}
 use Rattle.vax_command.specs.Reading.{ReadEnds, Reads, Texts, of_options, texts_of}
 use Rattle.vax_command.specs.Loaded.{Loaded}
 use Rattle.vax_command.specs.Running.{LacksMemory, RunsSo}
@@ -34,6 +35,7 @@ reads_of (bare names options) = names ++ of_options options None
 reads_of (run names options) = names ++ of_options options None
 reads_of (build names linked format) = names
 reads_of (list names linked) = names
+reads_of (source_listing names linked) = names
 reads_of (console names linked script options) = names ++ of_options options (Some script)
 reads_of (work seed size options) = of_options options None
 reads_of about = []
@@ -69,6 +71,10 @@ IsFile Second image bytes = File2 image bytes
 abbrev pub IsListing : Image → Text → Type 0
 IsListing image text = text ≡ listing image.areas
 
+-- the listing of sources, which goes with the image that they are linked to
+abbrev pub IsSourceListing : Base → List Text → Image → Text → Type 0
+IsSourceListing linked sources image text = listed.IsListing linked sources text
+
 -- the image of a program was written to Out, so
 pub record IsWritten (built : Result Image Refusal) (Writes : Image → Text → Type 0) (status : Status) (grown : Channels) : Type 0 where
   pub image : Image
@@ -78,7 +84,7 @@ pub record IsWritten (built : Result Image Refusal) (Writes : Image → Text →
   pub answer : status ≡ Done
   pub wrote : grown ≡ only channel.Out text
 
--- `build` and `list`: a program with a fault is refused, and the image of any other is written
+-- `build`, `list` and `listing`: a program with a fault is refused, and the image of any other is written
 abbrev pub ImageDoes : Change BlockFile → Result Image Refusal → (Image → Text → Type 0) → Status → Channels → Type 0
 ImageDoes pages built Writes status grown =
     IsTurnedAway pages built status grown ⊎ (IsWritten built Writes status grown × pages.same)
@@ -147,6 +153,8 @@ Does outside (build names linked format) files status grown =
     ImageDoes outside.pages (image_from (base_for linked) files) (IsFile format) status grown
 Does outside (list names linked) files status grown =
     ImageDoes outside.pages (image_from (base_for linked) files) IsListing status grown
+Does outside (source_listing names linked) files status grown =
+    ImageDoes outside.pages (sources_image (base_for linked) files) (IsSourceListing (base_for linked) files) status grown
 Does outside (console names linked script options) files status grown =
     session_of outside (session_programs linked) (texts_of (length names) options (Some script) files) options status grown
 Does outside about files status grown =

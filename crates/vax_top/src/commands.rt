@@ -4,7 +4,7 @@ ghost use Rattle.vax_outside.specs.Channels.{only};
 ghost use Rattle.vax_guest.specs.Workload.{workload};
 ghost use Rattle.vax_image.specs.Image.{IsImage};
 ghost use Rattle.vax_listing.specs.Listing.{listing};
-ghost use Rattle.vax_cli.specs.Words.{bare, build, list, run, work};
+ghost use Rattle.vax_cli.specs.Words.{bare, build, list, listing as source_listing, run, work};
 ghost use Rattle.vax_cli.specs.Said.{AreWithin, names_of, options as said_options};
 ghost use Rattle.vax_command.specs.Around.{around, change, outside, untouched};
 ghost use Rattle.vax_command.specs.Ends.{Admits, Ends};
@@ -14,6 +14,7 @@ ghost use Rattle.vax_command.specs.ReadingView.{bytes_of, texts as texts_seen};
 ghost use Rattle.vax_top.specs.Top.{Carries, IsFile, RanOf, base_for};
 
 use crate::programs::{alone, load_bare, load_image, load_user, system_files};
+use crate::sources::load_listing;
 use std::alloc::Global;
 use vax_cli::{Base, Format, Options};
 use vax_command::{Given, Status, load_files, load_options, load_run, refuse, run_programs};
@@ -264,6 +265,33 @@ pub(crate) fn list<S: Files, K: Sink>(
     };
     match load_image(alloc, base_for(base), &texts) {
         Ok(image) => show_listing(&image, sink),
+        Err(status) => refuse(status, sink),
+    }
+}
+
+/// `listing`: writes the listing of a program's sources to Out.
+pub(crate) fn list_sources<S: Files, K: Sink>(
+    alloc: Global,
+    names: &[&str],
+    base: Base,
+    files: &mut S,
+    sink: &mut K,
+) -> Status
+    requires some { 1 ≤ length names.now }
+    requires few { length names.now ≤ 8 }
+    ensures carries { Carries (around
+        (change S.faults S.contents files.old files.new)
+        (change K.faults K.contents sink.old sink.new)
+        untouched)
+        (source_listing (names_of names.now) base) result }
+    ensures read_failed { Admits (S.faults files.old) (S.faults files.new) Status.ReadFault result }
+{
+    let texts = match load_files(alloc, names, files) {
+        Ok(texts) => texts,
+        Err(status) => return refuse(status, sink),
+    };
+    match load_listing(alloc, base_for(base), &texts) {
+        Ok(text) => show(&text, sink),
         Err(status) => refuse(status, sink),
     }
 }

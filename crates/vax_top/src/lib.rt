@@ -3,8 +3,11 @@
 
 mod commands;
 mod console;
+mod laws;
 mod programs;
+mod sources;
 mod top;
 
+pub use laws::sources_are_listed_as_they_are_built;
 pub use top::vax_main;
 pub use vax_command::{Name, Status};

@@ -15,7 +15,7 @@ use vax_image::{Base, Image};
 use vax_program::{Parts, ProgramError, Refusal, link_parts, read_parts};
 
 /// The answer to an error.
-fn answer_to(error: ProgramError) -> Status
+pub(crate) fn answer_to(error: ProgramError) -> Status
     ensures { Answers error result }
 {
     match error {

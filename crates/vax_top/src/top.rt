@@ -12,7 +12,7 @@ ghost use Rattle.vax_command.specs.Reading.{Reads};
 ghost use Rattle.vax_command.specs.Status.{refusal};
 ghost use Rattle.vax_top.specs.Top.{Carries, Comes, IsAbout, reads};
 
-use crate::commands::{build, list, run_bare, run_user, run_work, show};
+use crate::commands::{build, list, list_sources, run_bare, run_user, run_work, show};
 use crate::console::run_console;
 use std::alloc::Global;
 use vax_cli::{Command, WordsError, command_of};
@@ -68,6 +68,9 @@ fn carry_out<S: Files, K: Sink, F: PageFile>(
         } => run_work(alloc, seed, size, &options, files, sink, pages),
         Command::About => tell(alloc, words, sink),
         Command::List { files: names, base } => list(alloc, names.as_slice(), base, files, sink),
+        Command::Listing { files: names, base } => {
+            list_sources(alloc, names.as_slice(), base, files, sink)
+        }
         Command::Console {
             files: names,
             base,
