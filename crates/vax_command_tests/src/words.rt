@@ -313,7 +313,7 @@ fn shows_help(rt: HostRuntime) -> Result<(), Fail> {
             &[
                 "Usage: vax bare [OPTIONS] <FILE>...",
                 "vax bare COUNT.MAR --steps 5000",
-                "docs/MACHINE.md",
+                "docs/MESSAGES.md",
             ],
         ),
         (
