@@ -86,6 +86,7 @@ pub(crate) fn make_paged_steps(
         left -= batch.steps;
         match batch.last {
             Attempt::Step(_) => left -= 1,
+            Attempt::Part => {}
             Attempt::Absent(page) if bring_in(pager, page, file) => {}
             _ => return left,
         }
