@@ -124,7 +124,7 @@ impl Walk {
             Fills result (resumed o (assembly_of self.standing self.assignments) self.met) }
         ensures formed { IfOk result Formed }
     {
-        match expander.unclosed() {
+        match expander.open_begin() {
             Some(begin) => self.end(alloc, Some(begin)),
             None => {
                 let place = expander.lines_read();

@@ -8,7 +8,7 @@ ghost use Rattle.vax_asm_scope.specs.Kept.{scope_of};
 
 use std::alloc::Global;
 use std::rc::Rc;
-use vax_asm_first::{FaultKind, Origin, Refused, Site, Standing, counted, number_of, site_of};
+use vax_asm_first::{FaultKind, Origin, Refused, Site, Standing, known_count, number_of, site_of};
 use vax_asm_scope::uses_place;
 use vax_asm_sections::Piece;
 use vax_asm_statement::{name_alone, parts, text_of};
@@ -62,7 +62,7 @@ pub fn space(
     let Ok(site) = site_of(origin, line, standing) else {
         return Err(Refused::NoMemory);
     };
-    match counted(standing, alloc, site, count) {
+    match known_count(standing, alloc, site, count) {
         Ok(Ok(count)) => make_room(standing, size, count),
         Ok(Err(kind)) => Err(Refused::Fault(kind)),
         Err(NoMemory) => Err(Refused::NoMemory),

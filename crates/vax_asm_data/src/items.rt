@@ -13,8 +13,8 @@ use std::alloc::Global;
 use std::rc::Rc;
 use vax_asm_encode::DataKind;
 use vax_asm_first::{
-    Content, FaultKind, Filling, Fixup, Origin, Refused, Site, Standing, add, counted,
-    fault_of_value, filling_of, lowest, site_of, unless_place,
+    Content, FaultKind, Filling, Fixup, Origin, Refused, Site, Standing, add, fault_of_value,
+    filling_of, known_count, lowest, site_of, unless_place,
 };
 use vax_asm_scope::uses_place;
 use vax_asm_sections::Piece;
@@ -66,7 +66,7 @@ fn state_item(
     let here = uses_place(site.line, item.expression);
     let told = standing.tell(alloc, site.line, item.expression, site.here)?;
     let fault = unless_place(here, fault_of_value(kind.field(), 0, 0, told.settled));
-    let count = counted(standing, alloc, site, item.count)?;
+    let count = known_count(standing, alloc, site, item.count)?;
     let count = match count {
         Ok(count) => count,
         Err(other) => return Ok(lowest(fault, Some(other))),

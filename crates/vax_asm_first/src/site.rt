@@ -67,7 +67,7 @@ pub fn add(
 
 /// A number that must be known where it stands, as a count; 1 where none is written. Its fault where it is no number, isn't
 /// known or is negative.
-pub fn counted(
+pub fn known_count(
     standing: &mut Standing,
     alloc: Global,
     site: Site<'_>,

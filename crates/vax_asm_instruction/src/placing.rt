@@ -9,7 +9,7 @@ ghost use Rattle.vax_lex.specs.Tokens.{IsTokenOf};
 ghost use Rattle.vax_asm_statement.specs.Modes.{seen};
 
 use vax_asm_encode::{Base, Operand, may_stand};
-use vax_asm_statement::{Mode, Written, operand, sized};
+use vax_asm_statement::{Mode, Written, memory_operand, operand};
 use vax_isa::{Letter, Narrow, OperandKind};
 use vax_lex::{ExprError, Token, Value};
 
@@ -88,7 +88,7 @@ fn specified_at(kind: OperandKind, addressed: Addressed, section: u32, at: u32) 
     ensures stands { IfSome result (λ o. may_stand kind o ≡ true) }
 {
     let field = at + specifier_length(addressed.index);
-    let operand = sized(
+    let operand = memory_operand(
         addressed.mode,
         addressed.index,
         section,

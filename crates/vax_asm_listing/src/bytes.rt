@@ -1,6 +1,6 @@
 // The bytes of a statement, as a listing shows them.
 
-ghost use Rattle.std.specs.Prelude.{◌≡◌, ◌++◌, ◌≤◌, ◌<◌, ◌+◌, ◌^◌, IfOk, OnOk, length, take, drop, decimal};
+ghost use Rattle.std.specs.Prelude.{◌≡◌, ◌++◌, ◌≤◌, ◌<◌, ◌+◌, IfOk, OnOk, length, take, drop};
 ghost use Rattle.std.specs.List.{flat_map};
 ghost use Rattle.vax_outside.specs.Hex.{hex};
 ghost use Rattle.vax_asm_listing.specs.Listing as spec;

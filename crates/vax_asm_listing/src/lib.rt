@@ -1,8 +1,6 @@
 //! Listings of programs: what each statement of a source put where, as VAX MACRO's listings and linkers' maps tell it.
 #![tactic(auto)]
 
-ghost use Rattle.std.specs.Prelude.{◌≡◌};
-
 mod bytes;
 mod laws;
 mod lines;

@@ -1,6 +1,6 @@
 // The lines of a source, each with what its statements put where.
 
-ghost use Rattle.std.specs.Prelude.{◌≡◌, ◌++◌, ◌≤◌, ◌<◌, ◌+◌, ◌-◌, ◌^◌, IfOk, OnOk, Some, None, length, slice_index};
+ghost use Rattle.std.specs.Prelude.{◌≡◌, ◌++◌, ◌≤◌, ◌<◌, ◌+◌, ◌-◌, IfOk, OnOk, Some, None, slice_index};
 ghost use Rattle.vax_lines.specs.Lines.{lines};
 ghost use Rattle.vax_asm_listing.specs.Listing as spec;
 ghost use Rattle.vax_asm_listing.specs.Placings.{placing_of};

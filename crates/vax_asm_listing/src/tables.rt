@@ -1,6 +1,6 @@
 // The sections and the names of a module, and all of its listing.
 
-ghost use Rattle.std.specs.Prelude.{◌≡◌, ◌++◌, IfOk, OnOk, slice_index};
+ghost use Rattle.std.specs.Prelude.{◌≡◌, ◌++◌, IfOk, OnOk};
 ghost use Rattle.vax_link.specs.Names.{low_longword};
 ghost use Rattle.vax_asm_listing.specs.Listing as spec;
 ghost use Rattle.vax_asm_listing.specs.Placings.{part_of, parts_of, placing_of};

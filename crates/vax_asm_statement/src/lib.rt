@@ -2,7 +2,7 @@
 //! Reference Manual, "VAX MACRO source statement format" and "Addressing modes").
 //!
 //! [`read_statement`] finds the label, the assignment or the operator of a line, [`parts`] its operands, [`operand`] the
-//! addressing mode that one is written in, and [`sized`] the operand in memory, once as much is known of its value as
+//! addressing mode that one is written in, and [`memory_operand`] the operand in memory, once as much is known of its value as
 //! stands before it.
 #![tactic(auto)]
 
@@ -21,5 +21,5 @@ pub use modes::{Mode, Written, operand};
 pub use operators::parts;
 pub use reading::{Body, Label, Statement, read_statement};
 pub use registers::register_named;
-pub use sizes::sized;
+pub use sizes::memory_operand;
 pub use tokens::text_of;

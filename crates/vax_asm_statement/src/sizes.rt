@@ -148,7 +148,7 @@ fn outright(mode: Mode, value: Result<Value, ExprError>) -> Operand
 /// `at` is where the field of the operand lies in its section, and `value` what is known of the expression by what
 /// stands before it. A constant from 0 to 63 is a short literal, and every other one an immediate. Where no size is written, a displacement is the shortest that
 /// holds a known number, and a word otherwise; a displacement from PC is the shortest that reaches a known place of the same section, and a longword otherwise.
-pub fn sized(
+pub fn memory_operand(
     mode: Mode,
     index: Option<u8>,
     section: u32,

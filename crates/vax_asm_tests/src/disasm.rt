@@ -7,7 +7,7 @@ use std::alloc::Global;
 use std::str;
 use std::test::Fail;
 use vax_asm_encode::{Operand, field_of, fill, may_stand, write_operand};
-use vax_asm_statement::{operand, sized};
+use vax_asm_statement::{memory_operand, operand};
 use vax_disasm::decode;
 use vax_isa::{Letter, OperandKind, Row, by_code, by_name};
 use vax_lex::{Names, Value, evaluate, scan};
@@ -137,7 +137,7 @@ fn assemble_operand(
     let found = if branches {
         Some(Operand::Branch)
     } else {
-        sized(written.mode, written.index, 0, 1, value)
+        memory_operand(written.mode, written.index, 0, 1, value)
     };
     let Some(found) = found else {
         return Err(Fail::from("no operand"));

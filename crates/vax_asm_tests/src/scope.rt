@@ -1,5 +1,5 @@
 //! Names, labels and assignments as statements make them.
-ghost use Rattle.std.specs.Prelude.{◌≡◌, ◌≤◌, IfOk, length};
+ghost use Rattle.std.specs.Prelude.{◌≤◌, IfOk, length};
 ghost use Rattle.vax_asm_scope.specs.Kept.{scope_of};
 ghost use Rattle.vax_asm_values.specs.Values.{Means, Worked};
 ghost use Rattle.vax_asm_values.specs.View.{written_of};

@@ -148,7 +148,10 @@ fn chooses_sizes(rt: HostRuntime) {
     ];
     for (i, (mode, index, (section, at), value, want)) in rows.into_iter().enumerate() {
         assert!(rt; at < 1000, "row {i}");
-        assert!(rt; sized(mode, index, section, at, value) == want, "row {i}");
+        assert!(rt;
+            memory_operand(mode, index, section, at, value) == want,
+            "row {i}"
+        );
     }
 }
 

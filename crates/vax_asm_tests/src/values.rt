@@ -1,6 +1,5 @@
 //! Definitions that rest on later ones, and on themselves.
-ghost use Rattle.std.specs.Prelude.{◌≡◌, ◌≤◌, ◌<◌, ℕ, IfOk, length};
-ghost use Rattle.vax_asm_values.specs.Definitions.{sources_of};
+ghost use Rattle.std.specs.Prelude.{◌≤◌, ◌<◌, ℕ, IfOk, length};
 ghost use Rattle.vax_asm_values.specs.Values.{Means, Worked};
 ghost use Rattle.vax_asm_values.specs.View.{written_of};
 

@@ -1,5 +1,5 @@
 //! Runs.
-ghost use Rattle.std.specs.Prelude.{is_err, ◌≡◌, ◌+◌, ◌<◌, ◌≤◌, ℕ, List, [], None, IfOk, OnErr, OnOk};
+ghost use Rattle.std.specs.Prelude.{is_err, ◌≡◌, ◌+◌, ◌<◌, List, [], None, IfOk, OnErr};
 ghost use Rattle.vax_space.specs.declared.Area.{Area};
 ghost use Rattle.vax_outside.specs.Faults.{CountsFailure};
 ghost use Rattle.vax_flat.specs.Port.{StandsFor};

@@ -1,7 +1,6 @@
 //! The memory and the registers with which a bare program starts.
-ghost use Rattle.std.specs.Prelude.{◌≡◌, ◌≤◌, ◌*◌, IfOk, length};
+ghost use Rattle.std.specs.Prelude.{◌≡◌, ◌≤◌, IfOk, length};
 ghost use Rattle.vax_flat.specs.Port.{StandsFor};
-ghost use Rattle.vax_flat.specs.Start.{start_memory};
 ghost use Rattle.vax_flat.specs.Memory.{AllResident};
 ghost use Rattle.vax_undo.specs.Plain.{view_of};
 ghost use Rattle.vax_bare.specs.Start.{area, areas, core, memory, vectors};

@@ -1,5 +1,5 @@
 //! Numbers.
-ghost use Rattle.std.specs.Prelude.{◌≡◌, ◌<◌, ◌≤◌, ◌==◌, ◌^◌, IfSome, slice_index};
+ghost use Rattle.std.specs.Prelude.{◌≡◌, ◌<◌, ◌≤◌, ◌==◌, IfSome, slice_index};
 ghost use Rattle.std.specs.Option.{option_copied};
 ghost use Rattle.vax_cli.specs.Values.{decimal, digits, from_least, is_padded, number_of};
 

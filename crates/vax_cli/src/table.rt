@@ -1,6 +1,6 @@
 //! The table of commands and their options.
 ghost use Rattle.std.specs.Prelude.{◌≡◌};
-ghost use Rattle.vax_cli.specs.Table.{is_same, key_name, key_of, keys_of, takes_files, verb_name, verb_of, verbs};
+ghost use Rattle.vax_cli.specs.Table.{is_same, key_name, key_of, keys_of, takes_files, verb_name, verb_of};
 
 /// A command.
 #[derive(Clone, Copy, PartialEq, Eq)]

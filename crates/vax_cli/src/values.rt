@@ -2,7 +2,7 @@
 ghost use Rattle.std.specs.Prelude.{◌≡◌, ◌<◌, ◌≤◌, ◌^◌, ◌∷◌, All, IfSome, length};
 ghost use Rattle.std.specs.List.{slice_split};
 ghost use Rattle.std.specs.Option.{option_copied, option_map};
-ghost use Rattle.vax_cli.specs.Values.{address_of, base_of, count_of, dump_item, dump_items, dumps_of, format_of, frames_of, is_comma, parts_behind, record_of, seed_of, size_of, steps_of, turns_of};
+ghost use Rattle.vax_cli.specs.Values.{address_of, base_of, dump_item, dump_items, dumps_of, format_of, frames_of, is_comma, parts_behind, record_of, seed_of, size_of, steps_of, turns_of};
 ghost use Rattle.vax_cli.specs.Said.{IsDump};
 
 use crate::command::{Base, DumpItem, Dumps, Format};

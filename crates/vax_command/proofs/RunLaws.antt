@@ -15,7 +15,6 @@ use Rattle.vax_pager.specs.Listing.{is_listed}
 use Rattle.vax_pager.specs.Poking.{OnlyRead, without_reads}
 use Rattle.vax_image.specs.Start.{Start, start_areas, start_core}
 use Rattle.vax_flat.specs.Start.{start_memory}
-use Rattle.vax_sched.specs.Due.{due}
 use Rattle.vax_sched.specs.Faults.{Denotes}
 use Rattle.vax_sched.specs.declared.rule.Rule.{Rule}
 use Rattle.vax_report.specs.Report.{report}
@@ -29,7 +28,7 @@ use Rattle.vax_machine.specs.Laws.{IsProper}
 use Rattle.vax_machine.specs.Paged.{Paged, Why, ByEnding, BySteps, ByTurns, all_evicted, fresh, stops}
 use Rattle.vax_machine.specs.Run as machine
 use Rattle.vax_machine.specs.Blocks.{Moved}
-use Rattle.vax_machine.specs.Run.{FewTurns, IsLost, IsWhole, Runs, begun, why_of}
+use Rattle.vax_machine.specs.Run.{FewTurns, IsWhole, Runs, begun, why_of}
 use Rattle.vax_machine.specs.Writing.{OnlyWrote, Wrote, WrotePart, both, eviction_line, lines_of, output_of}
 use Rattle.vax_machine.proofs.Halting.{going_on}
 use Rattle.vax_machine.proofs.Tracking.{many_evicted}

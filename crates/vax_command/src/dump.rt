@@ -1,5 +1,5 @@
 //! The memory that a report shows.
-ghost use Rattle.std.specs.Prelude.{◌≡◌, ◌≤◌, ◌<◌, ◌^◌, [], IfOk, is_err, List, ℕ, length, map, vec_capacity, All};
+ghost use Rattle.std.specs.Prelude.{◌≡◌, ◌≤◌, ◌<◌, [], IfOk, is_err, length, vec_capacity, All};
 ghost use Rattle.vax_outside.specs.Faults.{CountsFailure};
 ghost use Rattle.vax_machine.specs.Machine.{keeping};
 ghost use Rattle.vax_pager.specs.Poking.{OnlyRead};

@@ -1,5 +1,5 @@
 //! The lines of refusals.
-ghost use Rattle.std.specs.Prelude.{◌≡◌, ◌≤◌, codes, OnErr, OnOk, true, false, is_err};
+ghost use Rattle.std.specs.Prelude.{◌≡◌, OnErr, OnOk, true, false, is_err};
 ghost use Rattle.vax_outside.specs.Channels.{Grew, GrewByPrefix, only};
 ghost use Rattle.vax_outside.specs.Faults.{CountsFailure};
 ghost use Rattle.vax_command.specs.Status.{image_fault, is_named, link_fault, named, refusal_growth, schedule_fault, source_fault};

@@ -7,7 +7,7 @@ ghost use Rattle.vax_image.specs.Start.{Start, start_areas};
 ghost use Rattle.vax_pager.specs.Poking.{OnlyRead};
 ghost use Rattle.vax_machine.specs.Meaning.{engine};
 ghost use Rattle.vax_machine.specs.Machine.{keeping};
-ghost use Rattle.vax_sched.specs.Faults.{Denotes, IsFirstFault};
+ghost use Rattle.vax_sched.specs.Faults.{Denotes};
 ghost use Rattle.vax_cli.specs.Said.{AreWithin, options as said_options};
 ghost use Rattle.vax_command.specs.Around.{change, outside};
 ghost use Rattle.vax_command.specs.Ends.{Admits, Ends, EndsSo};

@@ -1,5 +1,5 @@
 // Modules made by hand, joined.
-ghost use Rattle.std.specs.Prelude.{◌≡◌, true, length, All, IfSome, IfOk};
+ghost use Rattle.std.specs.Prelude.{◌≡◌, true, All, IfSome, IfOk};
 ghost use Rattle.vax_module.specs.Formed.{Formed, IsAlignment, IsKnown, IsFieldOf};
 ghost use Rattle.vax_image.specs.Image.{IsImage};
 

@@ -18,7 +18,7 @@ use Rattle.vax_machine.specs.Touched.{PinsTouched}
 use Rattle.vax_pager.specs.Listing.{is_listed}
 use Rattle.vax_machine.specs.Paged.{Paged, ByEnding, BySteps, ByTurns, all_evicted, paged, stop_by, stops}
 use Rattle.vax_machine.specs.Run as run_spec
-use Rattle.vax_machine.specs.Run.{IsCut, IsLost, IsWhole, Tracks, begun, origin}
+use Rattle.vax_machine.specs.Run.{begun}
 use Rattle.vax_machine.specs.Writing.{lines_of, output_of}
 use Rattle.vax_machine.specs.declared.engine.Engine.{Engine}
 use Rattle.vax_machine.specs.declared.event.Limits.{Limits}

@@ -1,5 +1,5 @@
 //! The requests that make no steps.
-ghost use Rattle.std.specs.Prelude.{◌≡◌, ◌+◌, ◌<◌, ◌≤◌, ◌++◌, List, [], ◌∷◌, IsOk, length};
+ghost use Rattle.std.specs.Prelude.{◌≡◌, ◌<◌, ◌≤◌, List, [], ◌∷◌, length};
 ghost use Rattle.vax_sched.specs.declared.rule.Rule.{Rule};
 ghost use Rattle.vax_machine.specs.Console.{IsBetween};
 ghost use Rattle.vax_machine.specs.Meaning.{engine};

@@ -10,7 +10,7 @@ ghost use Rattle.vax_flat.specs.Step.{finished, handed_over, leaf, ticked, deliv
 ghost use Rattle.vax_flat.specs.Parts.{begun_part, part, part_step, later, later_step};
 ghost use Rattle.vax_undo.specs.FirstPart.{NothingOpen};
 ghost use Rattle.vax_undo.specs.Rooms.{room_of_beginning, room_of_end, room_of_step, room_of_tick};
-ghost use Rattle.vax_undo.specs.Transaction.{bare, present, room, told, undone, IsReady, IsSame, Keeps, KeepsUnlessDone, Does, Updates, seen};
+ghost use Rattle.vax_undo.specs.Transaction.{present, room, told, undone, IsReady, IsSame, Keeps, KeepsUnlessDone, Does, Updates, seen};
 ghost use Rattle.vax_x_str.specs.Ends.{ClosesIfDone};
 ghost use Rattle.vax_cpu.specs.Tried.{IsFinal, IsLast, IsTried, KeepsClosed, KeepsClosedLater, KeepsTime, LeadsBack, Made, UnlessDone, came, is_done, put_again, start_by, tree_of, with_registers};
 ghost use Rattle.vax_cpu.specs.Attempt.{open_after};

@@ -1,14 +1,13 @@
 -- An attempt touches few windows and pages, and misses none where all are resident.
-use Rattle.std.proofs.Common.{◌≡◌, ℕ, Bool, None, List, [], refl, ap, ◌∙◌, arith}
+use Rattle.std.proofs.Common.{◌≡◌, ℕ, Bool, None, List, [], ap, ◌∙◌, arith}
 use Rattle.vax_space.specs.declared.Area.{Area}
-use Rattle.vax_flat.specs.declared.Flow.{Flow}
 use Rattle.vax_flat.specs.declared.Flow.TheVariants as flow
 use Rattle.vax_flat.specs.State.{State}
 use Rattle.vax_flat.specs.Outcome.{first_missing, or_else, outcome_of, touches_of}
 use Rattle.vax_flat.specs.Memory.{AllResident}
 use Rattle.vax_flat.specs.Step.{Flat, state_of, leaf, touches_after}
 use Rattle.vax_flat.specs.Parts.{Place, At, Within, machine_at, tree_at, gone_back, outcome_at, touches_at}
-use Rattle.vax_flat.specs.Bound.{AreFew, LieIn, IsWhole}
+use Rattle.vax_flat.specs.Bound.{AreFew, LieIn}
 use Rattle.vax_flat.proofs.Closed.{touches_lie}
 use Rattle.vax_flat.proofs.Joined.{first_missing-append}
 use Rattle.vax_flat.proofs.Runs.{after_none, none_missing}

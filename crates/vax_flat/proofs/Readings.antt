@@ -1,5 +1,5 @@
 -- What a reading of operands comes to on a memory: it changes registers alone, and gives what it read, or raises an exception.
-use Rattle.std.proofs.Common.{◌≡◌, ℕ, suc, zero, ◌+◌, ◌-◌, ◌*◌, ◌%◌, ◌^◌, ◌<◌, Bool, true, false, Option, Some, None, List, [], ◌∷◌, slice_index, slice_set, refl, sym, ap, subst, ◌∙◌, inl, inr, arith}
+use Rattle.std.proofs.Common.{◌≡◌, ℕ, suc, zero, ◌-◌, ◌*◌, ◌^◌, ◌<◌, Bool, true, false, Option, Some, None, List, [], ◌∷◌, slice_index, slice_set, refl, sym, subst, ◌∙◌, inl, inr, arith}
 use Rattle.std.specs.Prelude.{◌==◌, if◌then◌else◌}
 use Rattle.std.proofs.lemmas.Bool.{cases_eq}
 use Rattle.std.proofs.lemmas.List.{get_or-set_other}
@@ -19,7 +19,7 @@ use Rattle.vax_flat.specs.declared.Operand.TheVariants as operand
 use Rattle.vax_flat.specs.Memory.{byte_at, number}
 use Rattle.vax_flat.specs.State.{State, mode, register, with_register}
 use Rattle.vax_flat.specs.Accesses.{Accesses, Raises, Leaf}
-use Rattle.vax_flat.specs.Outcome.{Outcome, Raised, outcome_of, unless_violated}
+use Rattle.vax_flat.specs.Outcome.{Raised, outcome_of, unless_violated}
 use Rattle.vax_flat.specs.Operand.{plus, extended, read_at, check_at, fetched, at_address, literal, register_value, reaches_pc, in_register, addressed, is_reserved, is_no_base, indexed, in_memory, after_prefix, form_of, formed, specified, next_operand}
 use Rattle.vax_flat.specs.Rows.{value_of}
 use Rattle.vax_flat.specs.Evaluation.{taken, next_operands}

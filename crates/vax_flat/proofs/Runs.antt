@@ -10,10 +10,9 @@ use Rattle.vax_flat.specs.declared.Flow.TheVariants as flow
 use Rattle.vax_flat.specs.Memory.{AllResident, after, byte_at, number, bytes_from, written, written_run}
 use Rattle.vax_flat.specs.Port.{first_absent}
 use Rattle.vax_flat.specs.Accesses.{Accesses, Done, Raises, Checks, Asks, Reads, Writes, ReadsRun, WritesRun, Leaf, Went, Found}
-use Rattle.vax_flat.specs.Outcome.{Outcome, Ends, Raised, Range, outcome_of, touches_of, first_missing, unless_stopped, is_allowed, or_else}
+use Rattle.vax_flat.specs.Outcome.{Outcome, Ends, Raised, Range, outcome_of, touches_of, first_missing, unless_stopped, is_allowed}
 use Rattle.vax_flat.specs.Step.{Flat, step, step_from, run, state_of, whole_step, whole_delivery, concluded, after_instruction, after_delivery, touches_after, with_byte_sent}
 use Rattle.vax_flat.proofs.Memory.{allowed_first, mapped_where_accessible, is_mapped-written, is_mapped-written_run}
-use Rattle.vax_flat.proofs.Joined.{first_missing-append}
 
 -- a range that is allowed has no absent page then
 none_absent : (resident : ℕ → Bool) (areas : List Area) (addr len mode : ℕ) (access : Access) → AllResident resident areas → violation areas addr len mode access ≡ None → first_absent resident addr len ≡ None

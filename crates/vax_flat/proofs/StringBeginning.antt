@@ -1,22 +1,22 @@
 -- A string instruction at its start: from the state before it to the end of its first part.
-use Rattle.std.proofs.Common.{◌≡◌, ℕ, suc, zero, ◌+◌, ◌-◌, ◌*◌, ◌/◌, ◌%◌, ◌^◌, ◌<◌, ◌≤◌, Bool, true, false, if◌then◌else◌, List, [], ◌∷◌, length, slice_index, refl, sym, ap, subst, ◌∙◌, inl, inr, arith}
+use Rattle.std.proofs.Common.{◌≡◌, ℕ, ◌-◌, ◌^◌, ◌<◌, ◌≤◌, Bool, true, false, if◌then◌else◌, List, refl, sym, ap, subst, ◌∙◌, inl, inr, arith}
 use Rattle.std.proofs.lemmas.Bool.{cases_Bool}
 use Rattle.vax_space.specs.declared.Area.{Area}
 use Rattle.vax_isa.specs.declared.actions.Text.{Text}
 use Rattle.vax_isa.specs.declared.actions.Text.TheVariants as text
 use Rattle.vax_isa.specs.Actions.{of_text}
 use Rattle.vax_strpart.specs.declared.packing.Progress.{Progress}
-use Rattle.vax_strpart.specs.declared.packing.Layout.TheVariants.{Moves, Compares, Searches, Scans, Translates}
+use Rattle.vax_strpart.specs.declared.packing.Layout.TheVariants.{Moves, Translates}
 use Rattle.vax_strpart.specs.Packing.{layout_of, IsProper}
 use Rattle.vax_flat.specs.declared.Exception.{Exception}
 use Rattle.vax_flat.specs.declared.Exception.TheVariants as exception
 use Rattle.vax_flat.specs.declared.Operand.{Operand}
 use Rattle.vax_flat.specs.declared.Flow.{Flow}
-use Rattle.vax_flat.specs.State.{State, register, with_psl}
+use Rattle.vax_flat.specs.State.{State}
 use Rattle.vax_flat.specs.Accesses.{Accesses, Leaf}
 use Rattle.vax_flat.specs.Evaluation.{next_operands}
 use Rattle.vax_flat.specs.Outcome.{Outcome, Raised, outcome_of}
-use Rattle.vax_flat.specs.String.{from_registers, no_part_done, IsReady}
+use Rattle.vax_flat.specs.String.{from_registers, IsReady}
 use Rattle.vax_flat.specs.StringOperands.{begun, length_of, sixteen}
 use Rattle.vax_flat.specs.StringAgree.{and_rest}
 use Rattle.vax_flat.specs.StringMove.{is_reserved, moved_count, move_checked, move_part, move_start, whole_move, IsMove}
@@ -25,7 +25,7 @@ use Rattle.vax_flat.specs.StringParts.{resumed, text_part, text_whole}
 use Rattle.vax_flat.proofs.Listed.{begins, whole_by, first_by, text_takes, part_takes}
 use Rattle.vax_flat.proofs.Readings.{IsAtAddress, AreReadOnly, Reading, Gives, Fails, reading_operands, with_regs}
 use Rattle.vax_flat.proofs.StringMove.{table_due}
-use Rattle.vax_flat.proofs.StringStarts.{Passes, checks, move_starts, escape_starts}
+use Rattle.vax_flat.proofs.StringStarts.{checks, move_starts, escape_starts}
 use Rattle.vax_flat.proofs.StringGoing.{Family, Seeking, Scanning, Comparing, Moving, Escaping, Matching, Goes, IsSound, fin, behind_fin, later_of, all_of, part_of, agrees, goes}
 
 abbrev pub family_of : Text → Family

@@ -1,6 +1,6 @@
 -- What a part of a string instruction adds to what is touched: at most four windows beside those of its operands.
-use Rattle.std.proofs.Common.{◌≡◌, ℕ, suc, zero, ◌+◌, ◌-◌, ◌*◌, ◌/◌, ◌%◌, ◌^◌, ◌<◌, ◌≤◌, Bool, true, false, ◌==◌, ◌&&◌, ◌||◌, Option, Some, None, List, [], ◌∷◌, ◌++◌, length, take, drop, replicate, refl, sym, ap, ◌∙◌, inl, inr, arith, length-append}
-use Rattle.std.specs.Prelude.{nat_lt, nat_le, min, if◌then◌else◌, slice_index}
+use Rattle.std.proofs.Common.{◌≡◌, ℕ, suc, zero, ◌+◌, ◌-◌, ◌*◌, ◌/◌, ◌%◌, ◌^◌, ◌<◌, ◌≤◌, Bool, true, false, ◌==◌, ◌&&◌, ◌||◌, Option, Some, None, List, ◌∷◌, ◌++◌, length, take, drop, replicate, refl, ap, ◌∙◌, inl, inr, arith, length-append}
+use Rattle.std.specs.Prelude.{nat_lt, nat_le, min, slice_index}
 use Rattle.std.specs.List.{position, position_or_len}
 use Rattle.std.proofs.lemmas.Bool.{cases_Bool, eqb-true}
 use Rattle.std.proofs.lemmas.Bool.Decides.{nat_tests}
@@ -11,23 +11,22 @@ use Rattle.vax_isa.specs.declared.actions.Text.{Text}
 use Rattle.vax_isa.specs.declared.actions.Text.TheVariants as text
 use Rattle.vax_strpart.specs.declared.packing.Progress.{Progress}
 use Rattle.vax_strpart.specs.Kernels.{translated, is_escape, first_difference}
-use Rattle.vax_strpart.specs.Packing.{unpacked}
 use Rattle.vax_flat.specs.declared.Exception.TheVariants as exception
 use Rattle.vax_flat.specs.declared.Flow.{Flow}
 use Rattle.vax_flat.specs.declared.Flow.TheVariants as flow
 use Rattle.vax_flat.specs.declared.Rest.{Rest}
-use Rattle.vax_flat.specs.State.{State, mode}
+use Rattle.vax_flat.specs.State.{State}
 use Rattle.vax_flat.specs.Accesses.{Accesses, Leaf}
 use Rattle.vax_flat.specs.Operand.{plus, read_at, check_at, asked}
 use Rattle.vax_flat.specs.Bound.{place, IsWithin, IsCovered, IsClosed}
-use Rattle.vax_flat.specs.String.{low_registers, continued, completed, leaves, read_run_at, write_run_at, read_span, to_page_end, from_registers, suspended}
-use Rattle.vax_flat.specs.StringSearch.{located, scanned, Finishes, search_room, if_found, search_end, scan_end, search_run, search_part, piece_read, table_read, table_split, scan_run, scan_part, is_masked_entry}
+use Rattle.vax_flat.specs.String.{completed, leaves, read_run_at, write_run_at, read_span, to_page_end}
+use Rattle.vax_flat.specs.StringSearch.{located, scanned, Finishes, search_room, if_found, search_end, scan_end, search_run, search_part, piece_read, table_read, table_split, scan_run, scan_part}
 use Rattle.vax_flat.specs.StringCompare.{differs, equals, filled_run, first_read, first_checked, compare_room, compare_end, compare_run, compare_part, first_of, second_of, behind, pairs_of}
-use Rattle.vax_flat.specs.StringMove.{moved, moved_count, is_reserved, table_checked, by_table, move_checked, write_pieces, pieces_of, write_high_last, write_low_last, write_span, lowest, move_room, move_end, table_applied, move_run, fill_room, fill_run, move_part, move_start}
-use Rattle.vax_flat.specs.StringEscape.{escaped, is_escape_reserved, escape_room, source_room, written_some, escape_close, escape_end, escape_run, escape_part, escape_start}
-use Rattle.vax_flat.specs.StringMatch.{matched, unmatched, at_next_place, match_unit, is_near, match_end, match_on, match_part}
-use Rattle.vax_flat.specs.StringParts.{done_within, resumed}
-use Rattle.vax_flat.proofs.Windows.{place_behind, at_most, either}
+use Rattle.vax_flat.specs.StringMove.{moved, moved_count, is_reserved, table_checked, by_table, move_checked, write_pieces, pieces_of, write_high_last, write_low_last, write_span, move_room, move_end, table_applied, move_run, fill_room, fill_run, move_part, move_start}
+use Rattle.vax_flat.specs.StringEscape.{escaped, is_escape_reserved, source_room, written_some, escape_close, escape_end, escape_run, escape_part, escape_start}
+use Rattle.vax_flat.specs.StringMatch.{matched, unmatched, match_unit, is_near, match_end, match_on, match_part}
+use Rattle.vax_flat.specs.StringParts.{resumed}
+use Rattle.vax_flat.proofs.Windows.{place_behind, either}
 use Rattle.vax_flat.proofs.Listed.{first_by}
 
 place_plus : (addr k : ℕ) → 1 ≤ k → plus addr k ≡ place addr k

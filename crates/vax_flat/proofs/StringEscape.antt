@@ -1,10 +1,10 @@
 -- A move up to an escape, in parts, is the move.
-use Rattle.std.proofs.Common.{ℕ, zero, suc, ◌≡◌, ◌≢◌, ◌+◌, ◌-◌, ◌*◌, ◌/◌, ◌%◌, ◌^◌, ◌<◌, ◌≤◌, ◌⊎◌, min, max, Bool, true, false, cond, not, ◌&&◌, ◌||◌, ◌==◌, nat_lt, if◌then◌else◌, Option, Some, None, List, [], ◌∷◌, ◌++◌, length, take, drop, slice_index, map, refl, sym, ap, ◌∙◌, inl, inr, arith, length-take, length-drop}
+use Rattle.std.proofs.Common.{ℕ, zero, suc, ◌≡◌, ◌+◌, ◌-◌, ◌/◌, ◌^◌, ◌<◌, ◌≤◌, ◌⊎◌, min, Bool, true, false, not, ◌&&◌, ◌||◌, ◌==◌, nat_lt, if◌then◌else◌, None, List, [], ◌∷◌, ◌++◌, length, take, slice_index, map, refl, sym, ap, ◌∙◌, inl, inr, arith, length-take}
 use Rattle.std.specs.Prelude.{nat_le}
 use Rattle.std.specs.List.{position_or_len}
 use Rattle.std.proofs.lemmas.Bool.{cases_Bool, cases_lt, eqb-true, eq-eqb, ne_eqb, cases_eq}
 use Rattle.std.proofs.lemmas.Bool.Decides.{nat_tests}
-use Rattle.std.proofs.lemmas.List.{length-map, map-append, take-append-drop, length-take-le}
+use Rattle.std.proofs.lemmas.List.{length-map, map-append, length-take-le}
 use Rattle.std.proofs.lemmas.List.Sums.{prefix_len-le-length, position_or_len_is}
 use Rattle.std.proofs.lemmas.List.Folds.{prefix_len-append}
 use Rattle.std.proofs.Math.Seq.{take-append-add}
@@ -12,26 +12,25 @@ use Rattle.vax_space.specs.declared.Access.TheVariants.{Read, Write}
 use Rattle.vax_space.specs.declared.Area.{Area}
 use Rattle.vax_space.specs.Reference.{page_of, may_access, violation}
 use Rattle.vax_strpart.specs.declared.packing.Progress.{Progress}
-use Rattle.vax_strpart.specs.declared.packing.Layout.TheVariants.{Moves, Translates}
-use Rattle.vax_strpart.specs.Packing.{layout_of, packed, unpacked, IsProper, AreUnusedZero}
+use Rattle.vax_strpart.specs.Packing.{layout_of, packed, IsProper}
 use Rattle.vax_strpart.specs.Kernels.{translated, is_escape}
 use Rattle.vax_flat.specs.declared.Flow.{Flow}
 use Rattle.vax_flat.specs.declared.Flow.TheVariants as flow
-use Rattle.vax_flat.specs.Memory.{after, byte_at, bytes_from, written_run}
-use Rattle.vax_flat.specs.State.{State, mode, with_conditions}
+use Rattle.vax_flat.specs.Memory.{byte_at, bytes_from, written_run}
+use Rattle.vax_flat.specs.State.{State, mode}
 use Rattle.vax_flat.specs.Accesses.{Accesses, Leaf}
 use Rattle.vax_flat.specs.Outcome.{Outcome, outcome_of}
 use Rattle.vax_flat.specs.Operand.{plus}
 use Rattle.vax_flat.specs.Bound.{LeavesNoPart}
-use Rattle.vax_flat.specs.String.{low_registers, with_low, suspended, continued, completed, leaves, read_run_at, write_run_at, read_span, room_up, from_registers, IsReady}
-use Rattle.vax_flat.specs.StringMove.{distance, overlaps, moved_count, is_reserved, by_table, write_span, IsMove}
-use Rattle.vax_flat.specs.StringEscape.{is_escape_reserved, escaped_low, escaped, escape_rest, escape_room, source_room, written_some, escape_end, escape_run, escape_part, IsEscapeChecked}
+use Rattle.vax_flat.specs.String.{low_registers, with_low, suspended, continued, completed, leaves, read_span, from_registers, IsReady}
+use Rattle.vax_flat.specs.StringMove.{distance, overlaps, moved_count, is_reserved, IsMove}
+use Rattle.vax_flat.specs.StringEscape.{escaped_low, escaped, escape_rest, escape_room, source_room, written_some, escape_end, escape_run, escape_part, IsEscapeChecked}
 use Rattle.vax_flat.specs.StringAgree.{and_rest, IsBehind}
 use Rattle.vax_flat.proofs.StringState.{mode_low, conditions_low, continued_suspended, unpacked_suspended}
 use Rattle.vax_flat.proofs.StringSearch.{length_run, rest_of_whole, last, left_so}
 use Rattle.vax_flat.proofs.StringScan.{take_run}
 use Rattle.vax_flat.proofs.StringCompare.{run_append, run_is, span_is}
-use Rattle.vax_flat.proofs.StringMemory.{Apart, runs_commute, run-append, bytes_outside, still_allowed, allowed_part, allowed_at, nothing_written, run_written, span_written}
+use Rattle.vax_flat.proofs.StringMemory.{runs_commute, run-append, bytes_outside, still_allowed, allowed_part, allowed_at, nothing_written, run_written, span_written}
 use Rattle.vax_flat.proofs.StringMove.{some_up, unused_alike}
 
 -- what isn't reserved

@@ -1,6 +1,6 @@
 -- How a part of a string instruction ends: it completes the instruction, or leaves what a later part can go on with, or raises an exception.
-use Rattle.std.proofs.Common.{◌≡◌, ℕ, suc, zero, ◌+◌, ◌-◌, ◌*◌, ◌/◌, ◌%◌, ◌^◌, ◌<◌, ◌≤◌, Bool, true, false, ◌==◌, ◌&&◌, ◌||◌, Option, Some, None, List, [], ◌∷◌, ◌++◌, length, take, replicate, refl, sym, ap, subst, ◌∙◌, inl, inr, arith}
-use Rattle.std.specs.Prelude.{nat_lt, nat_le, min, max, if◌then◌else◌}
+use Rattle.std.proofs.Common.{◌≡◌, ℕ, suc, zero, ◌+◌, ◌-◌, ◌/◌, ◌^◌, ◌<◌, ◌≤◌, Bool, true, false, ◌==◌, ◌||◌, Option, Some, None, List, ◌++◌, length, take, refl, sym, ap, subst, ◌∙◌, arith}
+use Rattle.std.specs.Prelude.{nat_lt, nat_le, min, if◌then◌else◌}
 use Rattle.std.specs.List.{position}
 use Rattle.std.proofs.Common.{length-take}
 use Rattle.std.proofs.lemmas.Bool.{eq-eqb}
@@ -14,7 +14,7 @@ use Rattle.vax_space.specs.Reference.{violation}
 use Rattle.vax_strpart.specs.declared.packing.Progress.{Progress}
 use Rattle.vax_strpart.specs.declared.packing.Layout.{Layout}
 use Rattle.vax_strpart.specs.declared.packing.Layout.TheVariants.{Moves, Compares, Searches, Scans, Translates}
-use Rattle.vax_strpart.specs.Packing.{layout_of, packed, IsProper, AreUnusedZero}
+use Rattle.vax_strpart.specs.Packing.{layout_of, IsProper, AreUnusedZero}
 use Rattle.vax_strpart.specs.Kernels.{first_difference}
 use Rattle.vax_flat.specs.declared.Exception.{Exception}
 use Rattle.vax_flat.specs.declared.Exception.TheVariants as exception
@@ -26,8 +26,8 @@ use Rattle.vax_flat.specs.State.{State, mode}
 use Rattle.vax_flat.specs.Accesses.{Accesses, Leaf, Went}
 use Rattle.vax_flat.specs.Outcome.{Outcome, Ends, Raised, outcome_of, unless_violated, is_allowed}
 use Rattle.vax_flat.specs.Operand.{plus, read_at, check_at, asked}
-use Rattle.vax_flat.specs.Step.{finished, leaf, ticked}
-use Rattle.vax_flat.specs.String.{low_registers, with_low, suspended, continued, completed, leaves, read_run_at, read_span, to_page_end, room_up, from_registers, IsReady}
+use Rattle.vax_flat.specs.Step.{finished, leaf}
+use Rattle.vax_flat.specs.String.{suspended, completed, leaves, read_run_at, read_span, to_page_end, room_up, from_registers, IsReady}
 use Rattle.vax_flat.specs.StringAgree.{and_rest, IsBehind}
 use Rattle.vax_flat.specs.StringSearch.{located, scanned, Finishes, searched, search_room, if_found, search_end, scan_end, search_run, search_part, whole_search, piece_read, table_read, table_split, scan_run, scan_part, whole_scan}
 use Rattle.vax_flat.specs.StringCompare.{differs, equals, filled_run, first_read, first_checked, compare_room, compare_end, compare_run, compare_part, whole_compare, first_of, second_of, first_page, string_room, behind, pairs_of}
@@ -35,7 +35,6 @@ use Rattle.vax_flat.specs.StringMove.{moved, moved_count, move_end, move_part, m
 use Rattle.vax_flat.specs.StringEscape.{escaped, escape_part, escape_rest, IsEscapeChecked}
 use Rattle.vax_flat.specs.StringMatch.{matched, unmatched, at_next_place, match_unit, is_near, match_end, match_on, match_part, whole_match}
 use Rattle.vax_flat.specs.StringParts.{done_within, remaining}
-use Rattle.vax_flat.proofs.StringState.{mode_low}
 use Rattle.vax_flat.proofs.StringSearch.{length_run, search_agrees}
 use Rattle.vax_flat.proofs.StringSearch.{unused_alike as unused_searched}
 use Rattle.vax_flat.proofs.StringScan.{scan_agrees}

@@ -1,6 +1,6 @@
 -- Moves at their start.
-use Rattle.std.proofs.Common.{ℕ, ◌≡◌, ◌+◌, ◌<◌, ◌≤◌, ◌^◌, ◌⊎◌, Bool, true, false, ◌==◌, ◌&&◌, not, Option, Some, None, List, refl, sym, ap, ◌∙◌, inl, inr, arith}
-use Rattle.std.proofs.lemmas.Bool.{cases_Bool, ne_eqb}
+use Rattle.std.proofs.Common.{ℕ, ◌≡◌, ◌≤◌, ◌⊎◌, Bool, true, false, Option, Some, None, List, refl, sym, ap, ◌∙◌, inl, inr}
+use Rattle.std.proofs.lemmas.Bool.{cases_Bool}
 use Rattle.vax_space.specs.declared.Access.TheVariants.{Read, Write}
 use Rattle.vax_space.specs.declared.Area.{Area}
 use Rattle.vax_space.specs.declared.Violation.{Violation}
@@ -10,14 +10,13 @@ use Rattle.vax_strpart.specs.Packing.{IsProper}
 use Rattle.vax_flat.specs.declared.Exception.{Exception}
 use Rattle.vax_flat.specs.declared.Exception.TheVariants as exception
 use Rattle.vax_flat.specs.declared.Flow.{Flow}
-use Rattle.vax_flat.specs.Memory.{byte_at}
 use Rattle.vax_flat.specs.State.{State, mode}
 use Rattle.vax_flat.specs.Accesses.{Accesses, Raises, Leaf}
-use Rattle.vax_flat.specs.Outcome.{Outcome, Raised, outcome_of, unless_violated}
+use Rattle.vax_flat.specs.Outcome.{Raised, outcome_of, unless_violated}
 use Rattle.vax_flat.specs.Operand.{check_at}
 use Rattle.vax_flat.specs.String.{from_registers, IsReady}
-use Rattle.vax_flat.specs.StringMove.{moved_count, by_table, is_reserved, table_checked, move_checked, move_rest, whole_move, move_part, move_start, IsMove, IsChecked}
-use Rattle.vax_flat.specs.StringEscape.{is_escape_reserved, escape_rest, whole_escape, escape_part, escape_start, IsEscapeChecked}
+use Rattle.vax_flat.specs.StringMove.{moved_count, by_table, is_reserved, table_checked, move_checked, move_rest, whole_move, move_start, IsMove}
+use Rattle.vax_flat.specs.StringEscape.{is_escape_reserved, escape_rest, whole_escape, escape_start}
 use Rattle.vax_flat.specs.StringAgree.{and_rest, IsBehind}
 use Rattle.vax_flat.proofs.StringMove.{move_agrees, table_due}
 use Rattle.vax_flat.proofs.StringEscape.{escape_agrees}

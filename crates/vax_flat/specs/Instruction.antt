@@ -1,5 +1,5 @@
 -- The instruction at PC, by the action that the table gives its opcode (VAX Architecture Reference Manual, instruction descriptions).
-use Rattle.std.specs.Prelude.{ℕ, Bool, true, false, Option, Some, None}
+use Rattle.std.specs.Prelude.{Bool, false, Option, Some, None}
 use Rattle.vax_isa.specs.declared.actions.Action.{Action}
 use Rattle.vax_isa.specs.declared.actions.Action.TheVariants as action
 use Rattle.vax_isa.specs.Rows.{action_of}

@@ -1,5 +1,5 @@
 -- What the laws of the string instructions say, and of which instructions.
-use Rattle.std.specs.Prelude.{true, ◌≡◌, ◌<◌, ◌≤◌, ◌^◌, ℕ, Bool, List}
+use Rattle.std.specs.Prelude.{true, ◌≡◌, ◌<◌, ◌≤◌, ◌^◌, Bool, List}
 use Rattle.vax_space.specs.declared.Area.{Area}
 use Rattle.vax_strpart.specs.declared.packing.Progress.{Progress}
 use Rattle.vax_strpart.specs.declared.packing.Layout.TheVariants.{Searches, Scans, Compares}

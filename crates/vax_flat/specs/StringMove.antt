@@ -1,6 +1,6 @@
 -- MOVC3, MOVC5, MOVTC and MOVTUC: a string is moved, as it is or by a table
 -- (VAX MACRO and Instruction Set Reference Manual, character string instructions).
-use Rattle.std.specs.Prelude.{◌≡◌, ℕ, ◌<◌, suc, zero, ◌+◌, ◌-◌, ◌*◌, ◌/◌, ◌^◌, Bool, true, false, not, ◌==◌, ◌&&◌, ◌||◌, nat_le, nat_lt, min, max, if◌then◌else◌, None, List, [], ◌∷◌, length, take, drop, replicate, slice_index}
+use Rattle.std.specs.Prelude.{◌≡◌, ℕ, ◌<◌, suc, zero, ◌+◌, ◌-◌, ◌/◌, ◌^◌, Bool, true, false, not, ◌==◌, ◌&&◌, ◌||◌, nat_le, nat_lt, min, max, if◌then◌else◌, None, List, [], ◌∷◌, length, take, drop, replicate}
 use Rattle.vax_word.specs.declared.Size.TheVariants.{W}
 use Rattle.vax_word.specs.Arithmetic.{compared}
 use Rattle.vax_space.specs.declared.Access.TheVariants.{Read, Write}
@@ -14,7 +14,7 @@ use Rattle.vax_flat.specs.declared.Exception.TheVariants.{Operand}
 use Rattle.vax_flat.specs.declared.Flow.{Flow}
 use Rattle.vax_flat.specs.State.{State, mode}
 use Rattle.vax_flat.specs.Accesses.{Accesses, Raises, Leaf}
-use Rattle.vax_flat.specs.Operand.{plus, check_at, write_at}
+use Rattle.vax_flat.specs.Operand.{plus, check_at}
 use Rattle.vax_flat.specs.String.{leaves, completed, read_run_at, write_run_at, read_span, to_page_end, room_up, room_down}
 
 -- how far one address lies behind another

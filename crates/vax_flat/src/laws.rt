@@ -1,5 +1,5 @@
 //! The laws of the flat machine, each the contract of a call that does nothing.
-ghost use Rattle.std.specs.Prelude.{◌≡◌, ◌<◌, ◌%◌, ◌^◌, pos, ℕ, ◌≤◌, Bool, false, None, Some, IsSome, if◌then◌else◌, ◌==◌, List, ◌++◌, length};
+ghost use Rattle.std.specs.Prelude.{◌≡◌, ◌<◌, ◌%◌, pos, ℕ, ◌≤◌, Bool, false, None, Some, IsSome, if◌then◌else◌, ◌==◌, List, ◌++◌, length};
 ghost use Rattle.std.specs.List.{list_any};
 ghost use Rattle.vax_space.specs.declared.Area.{Area};
 ghost use Rattle.vax_flat.specs.Accesses.{Accesses, Leaf, Went};

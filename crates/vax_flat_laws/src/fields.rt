@@ -1,5 +1,5 @@
 //! Fields (VAX Architecture Reference Manual, variable-length bit field instructions).
-ghost use Rattle.std.specs.Prelude.{◌≡◌, ◌+◌, ◌%◌, ◌^◌, ◌<◌, ◌≤◌, ◌⊎◌, ℕ, Bool, true, false, List, length, slice_index_or};
+ghost use Rattle.std.specs.Prelude.{◌≡◌, ◌+◌, ◌%◌, ◌^◌, ◌<◌, ◌≤◌, ◌⊎◌, ℕ, Bool, false, List, length, slice_index_or};
 ghost use Rattle.vax_space.specs.declared.Area.{Area};
 ghost use Rattle.vax_word.specs.declared.Size.TheVariants.{L};
 ghost use Rattle.vax_word.specs.Arithmetic.{compared};

@@ -1,5 +1,5 @@
 //! How far a part of a string instruction goes (what the VAX Architecture Reference Manual leaves to the processor, first part done).
-ghost use Rattle.std.specs.Prelude.{◌+◌, ◌^◌, ◌<◌, ◌≤◌, ℕ, Bool, List};
+ghost use Rattle.std.specs.Prelude.{◌+◌, ◌^◌, ◌<◌, ◌≤◌, Bool, List};
 ghost use Rattle.vax_space.specs.declared.Area.{Area};
 ghost use Rattle.vax_strpart.specs.declared.packing.Progress.{Progress};
 ghost use Rattle.vax_flat.specs.Memory.{byte_at};

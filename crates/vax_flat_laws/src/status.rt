@@ -1,5 +1,5 @@
 //! The processor status word (VAX Architecture Reference Manual, BISPSW, BICPSW; procedure call instructions).
-ghost use Rattle.std.specs.Prelude.{◌≡◌, ◌/◌, ◌^◌, ◌<◌, ◌⊎◌, ◌≢◌, ℕ, List, false, true};
+ghost use Rattle.std.specs.Prelude.{◌≡◌, ◌/◌, ◌^◌, ◌<◌, ◌⊎◌, ◌≢◌, ℕ, List};
 ghost use Rattle.std.specs.Int.{bit_at};
 ghost use Rattle.vax_space.specs.declared.Area.{Area};
 ghost use Rattle.vax_word.specs.declared.Psl.{Psl};

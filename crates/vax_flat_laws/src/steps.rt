@@ -1,5 +1,5 @@
 //! Steps (VAX Architecture Reference Manual, exceptions and interrupts).
-ghost use Rattle.std.specs.Prelude.{ℕ, List};
+ghost use Rattle.std.specs.Prelude.{List};
 ghost use Rattle.vax_space.specs.declared.Area.{Area};
 ghost use Rattle.vax_flat.specs.declared.Exception.{Exception};
 ghost use Rattle.vax_flat.specs.Outcome.{outcome_of};

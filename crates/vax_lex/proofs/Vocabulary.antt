@@ -7,7 +7,7 @@ use Rattle.std.proofs.Common.{length-append}
 use Rattle.std.proofs.Math.Seq.{take-append_seam, drop-append_seam}
 use Rattle.std.proofs.lemmas.Bool.Decides.{nat_tests}
 use Rattle.vax_lex.specs.Characters.{is_blank, is_digit, is_name_character, radix_of, number_of}
-use Rattle.vax_lex.specs.Tokens.{Head, blank, no_more, begins, too_wide, no_token, plain, numeral, caret, number_head, is_label_number, is_operator_letter, digit_run, HeadFits}
+use Rattle.vax_lex.specs.Tokens.{Head, blank, no_more, begins, too_wide, no_token, plain, numeral, caret, number_head, is_label_number, is_operator_letter, digit_run}
 use Rattle.vax_lex.specs.Tokens as tokens
 use Rattle.vax_lex.specs.Parts.{Element, gap, token, wide, stray, characters}
 use Rattle.vax_lex.specs.Vocabulary.{IsName, AreDigits, IsLocalLabel, IsNumber, decimal, based, BeginsOperator, IsMark, IsWord}

@@ -1,7 +1,7 @@
 // Faults that hold whatever names stand for.
 
 ghost use Rattle.std.specs.Prelude.{◌≡◌, ◌<◌, ◌+◌, ◌&&◌, All, IfSome, drop, length, slice_get};
-ghost use Rattle.vax_lex.specs.Certain.{HasNone, begins_with_zero, certain_at, certain_by, divides_by_zero, is_zero};
+ghost use Rattle.vax_lex.specs.Certain.{HasNone, begins_with_zero, certain_at, divides_by_zero, is_zero};
 ghost use Rattle.vax_lex.specs.Grammar.{is_that_mark, symbols_of};
 ghost use Rattle.vax_lex.specs.Tokens.{IsTokenOf};
 

@@ -1,6 +1,6 @@
 // What the tokens so far say of the next one.
 
-ghost use Rattle.std.specs.Prelude.{◌≡◌, ◌<◌, ◌+◌, ◌≤◌};
+ghost use Rattle.std.specs.Prelude.{◌≡◌, ◌<◌, ◌+◌};
 ghost use Rattle.vax_lex.specs.Statements.{operator_of, operand_place, subject_of, argument_place, argument_after, expression_after, condition_after, operand_after, is_size_letter, place_after, before_after, context_after, context_after_blank, line_start, text_due, open_brackets};
 ghost use Rattle.vax_lex.specs.Words.{text_start};
 ghost use Rattle.vax_lex.specs.Views.{operator_view, subject_view, place_view, before_view, context_view};

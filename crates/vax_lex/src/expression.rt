@@ -1,6 +1,6 @@
 // The value of an expression.
 
-ghost use Rattle.std.specs.Prelude.{◌≡◌, ◌≤◌, ◌<◌, ◌+◌, ◌^◌, All, Some, None, Ok, true, IfSome, slice_get, length, take, option_map};
+ghost use Rattle.std.specs.Prelude.{◌≡◌, ◌<◌, ◌+◌, ◌^◌, All, Some, None, Ok, true, IfSome, slice_get, length, option_map};
 ghost use Rattle.vax_lex.specs.Views.{operation_view};
 ghost use Rattle.std.specs.Bool.{OnTrue};
 ghost use Rattle.std.specs.Int.{cast_signed, w64};

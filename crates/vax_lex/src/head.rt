@@ -1,8 +1,8 @@
 // The longest token at the head of what is left of a line.
 
-ghost use Rattle.std.specs.Prelude.{◌≡◌, ◌<◌, ◌+◌, ◌≤◌, ◌^◌, ◌≢◌, length, IfSome, SomeIff, position, ◌==◌, [], ◌∷◌};
+ghost use Rattle.std.specs.Prelude.{◌≡◌, ◌<◌, ◌+◌, ◌≤◌, ◌^◌, ◌≢◌, length, IfSome, SomeIff, position, ◌==◌, []};
 ghost use Rattle.std.specs.List.{prefix_len};
-ghost use Rattle.vax_lex.specs.Characters.{is_digit, is_name_character, number_of, number_after};
+ghost use Rattle.vax_lex.specs.Characters.{is_name_character, number_of};
 ghost use Rattle.vax_lex.specs.Tokens.{stray_kind, digit_run, numeral, based, caret, quoted, plain, head_of};
 ghost use Rattle.vax_lex.specs.Words.{word_of};
 ghost use Rattle.vax_lex.specs.Views.{context_view, head_view};

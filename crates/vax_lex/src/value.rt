@@ -1,6 +1,6 @@
 // Values, and what the operators of expressions make of them.
 
-ghost use Rattle.std.specs.Prelude.{◌≡◌, ℕ, ℤ, List, Option, ◌+◌, ◌<◌, ◌≤◌, length, IfSome};
+ghost use Rattle.std.specs.Prelude.{◌≡◌, ℕ, List, Option, ◌+◌, ◌<◌, ◌≤◌, length, IfSome};
 ghost use Rattle.vax_lex.specs.Views.{operation_view};
 ghost use Rattle.vax_lex.specs.Values.{quotient, shifted, arithmetic, apply, first_error, refuses_left, refuses_right, combine, negated, complemented, named, little_endian, characters_value, mask_bit};
 ghost use Rattle.vax_lex.specs.declared.value.Value.{Value};

@@ -1,5 +1,5 @@
 //! The words of a line.
-ghost use Rattle.std.specs.Prelude.{◌≡◌, ◌≤◌, ◌==◌, not, length, false, ℕ, List, MatchOption, [], ◌∷◌};
+ghost use Rattle.std.specs.Prelude.{◌≡◌, ◌≤◌, ◌==◌, length, MatchOption, [], ◌∷◌};
 ghost use Rattle.std.specs.List.{prefix_len};
 ghost use Rattle.vax_lines.specs.Words.{is_trimmed, is_word_byte, words};
 

@@ -1,5 +1,5 @@
 //! The fields that the linker fills in.
-ghost use Rattle.std.specs.Prelude.{◌≡◌, ◌≤◌, ◌+◌, ◌++◌, length, map, List, All, IfOk, OnOk, None, Some, slice_get};
+ghost use Rattle.std.specs.Prelude.{◌≡◌, ◌≤◌, ◌+◌, ◌++◌, length, map, List, All, IfOk, OnOk, None, Some};
 ghost use Rattle.std.specs.List.{fold};
 ghost use Rattle.vax_image.specs.declared.Base.{Base};
 ghost use Rattle.vax_module.specs.declared.Module.{Module};

@@ -1,5 +1,5 @@
 //! Where sections lie.
-ghost use Rattle.std.specs.Prelude.{◌≡◌, ◌≢◌, ◌<◌, ◌≤◌, ◌+◌, ◌*◌, true, false, IfOk, IfSome, IfNone, MatchOption, length, All, slice_index};
+ghost use Rattle.std.specs.Prelude.{◌≡◌, ◌<◌, ◌≤◌, ◌+◌, ◌*◌, true, false, IfOk, IfSome, IfNone, MatchOption, length, All, slice_index};
 ghost use Rattle.std.specs.List.{position_or_len};
 ghost use Rattle.std.specs.Str.{bytes_eq};
 ghost use Rattle.vax_link.specs.Layout as spec;

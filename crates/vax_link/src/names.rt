@@ -1,5 +1,5 @@
 //! The names that modules share.
-ghost use Rattle.std.specs.Prelude.{◌≡◌, ◌≤◌, [], ℕ, IfOk, OnOk, length, option_copied};
+ghost use Rattle.std.specs.Prelude.{◌≡◌, ◌≤◌, [], IfOk, OnOk, length, option_copied};
 ghost use Rattle.vax_link.specs.Names as spec;
 ghost use Rattle.vax_link.specs.Names.{Entries};
 ghost use Rattle.vax_link.specs.Tables.{IsTable, Adds, DefinesAll, IsNamed};

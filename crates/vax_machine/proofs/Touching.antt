@@ -10,7 +10,7 @@ use Rattle.vax_space.specs.Reference.{page_of}
 use Rattle.vax_space.proofs.PastRegions.{tables_have_none}
 use Rattle.vax_space.proofs.References.{after_more}
 use Rattle.vax_flat.specs.Bound as bound
-use Rattle.vax_flat.specs.Bound.{AreFew, AreOn, IsOneOf}
+use Rattle.vax_flat.specs.Bound.{AreOn, IsOneOf}
 use Rattle.vax_flat.specs.Memory.{after}
 use Rattle.vax_flat.specs.Outcome.{Range, first_missing, or_else}
 use Rattle.vax_flat.specs.Parts.{Place, touches_at}

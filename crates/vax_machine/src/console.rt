@@ -1,9 +1,7 @@
 //! What a console asks of a machine: bytes shown, and bytes and registers changed.
-ghost use Rattle.std.specs.Prelude.{is_err, ◌≡◌, ◌≢◌, ℕ, ◌%◌, ◌+◌, ◌<◌, ◌≤◌, ◌^◌, List, Option, None, IfOk, IfSome, OnOk, OnErr, false, is_some, length};
+ghost use Rattle.std.specs.Prelude.{is_err, ◌≡◌, ◌≢◌, ◌%◌, ◌<◌, ◌≤◌, ◌^◌, List, Option, None, IfOk, IfSome, OnOk, false, length};
 ghost use Rattle.vax_space.specs.declared.Area.{Area};
-ghost use Rattle.vax_space.specs.Areas.{area_of};
 ghost use Rattle.vax_space.specs.Reference.{page_of};
-ghost use Rattle.vax_outside.specs.Blocks.{BlockFile};
 ghost use Rattle.vax_outside.specs.Faults.{CountsFailure};
 ghost use Rattle.vax_pager.specs.Meaning.{pages};
 ghost use Rattle.vax_pager.specs.Paging.{Keeps, StandsWith};
@@ -89,10 +87,8 @@ fn cell(page: &Option<[u8; 512]>, addr: u32) -> Option<u8>
 impl Engine {
     ghost use Rattle.vax_space.specs.Reference.{violation};
     ghost use Rattle.vax_flat.specs.Outcome.{is_allowed};
-    ghost use Rattle.vax_flat.specs.Parts.{At, Place, machine_at};
-    ghost use Rattle.vax_flat.specs.Step.{Flat};
     ghost use Rattle.vax_machine.specs.Console.{Deposits, DepositsRegister, ShowsMemory, cpu_with_register, let_go};
-    ghost use Rattle.vax_machine.specs.Machine.{IsSound, KeepsPlace, Means, keeping, modified_of};
+    ghost use Rattle.vax_machine.specs.Machine.{IsSound, KeepsPlace, keeping, modified_of};
     ghost use Rattle.vax_machine.specs.Marking.{Marks};
 
     /// Fills cells with the bytes of memory from an address on, None where no area has one.

@@ -1,5 +1,5 @@
 //! A processor over a pager, with what a run counts.
-ghost use Rattle.std.specs.Prelude.{◌≡◌, ◌≢◌, ℕ, ◌+◌, ◌-◌, ◌<◌, ◌≤◌, ◌^◌, Option, None, Some, is_some, true};
+ghost use Rattle.std.specs.Prelude.{◌≡◌, ℕ, ◌+◌, ◌-◌, ◌<◌, ◌≤◌, ◌^◌, Option, None, Some, is_some, true};
 ghost use Rattle.vax_outside.specs.Blocks.{BlockFile};
 ghost use Rattle.vax_outside.specs.Faults.{CountsFailure, raised};
 ghost use Rattle.vax_pager.specs.Meaning.{pages};
@@ -54,8 +54,6 @@ fn settle_after(pager: &mut Pager, steps: u64)
 
 impl Engine {
     ghost use Rattle.vax_space.specs.Areas.{area_of};
-    ghost use Rattle.vax_flat.specs.Parts.{Place};
-    ghost use Rattle.vax_machine.specs.Touched.{PinsTouched};
     ghost use Rattle.vax_cpu.specs.Attempt.{StopsInside};
     ghost use Rattle.vax_pager.specs.Paging.{view_of};
     ghost use Rattle.vax_machine.specs.Conclusion.{Concludes};

@@ -1,6 +1,6 @@
 //! What a run has to write, held back until there is much of it.
-ghost use Rattle.std.specs.Prelude.{◌≡◌, ℕ, [], ◌∷◌, ◌+◌, ◌<◌, ◌≤◌, ◌^◌, length, OnOk, Some, None, if◌then◌else◌};
-ghost use Rattle.vax_outside.specs.Channels.{append, nothing, only};
+ghost use Rattle.std.specs.Prelude.{◌≡◌, ℕ, [], ◌+◌, ◌<◌, ◌≤◌, ◌^◌, length, OnOk, Some, None, if◌then◌else◌};
+ghost use Rattle.vax_outside.specs.Channels.{nothing, only};
 ghost use Rattle.vax_outside.specs.declared.traits.Chan.TheVariants.{Out, Record};
 ghost use Rattle.vax_machine.specs.Writing.{Counts, Passed, Puts, StillWrites};
 

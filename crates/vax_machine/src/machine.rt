@@ -1,5 +1,5 @@
 //! The machine as callers have it.
-ghost use Rattle.std.specs.Prelude.{is_err, ◌≡◌, ◌≢◌, ◌-◌, ◌≤◌, ◌<◌, ◌^◌, ◌⊎◌, ℕ, List, Option, Some, None, IfOk, IfSome, OnErr, OnOk, is_some, true, false, length};
+ghost use Rattle.std.specs.Prelude.{is_err, ◌≡◌, ◌≢◌, ◌-◌, ◌≤◌, ◌<◌, ◌^◌, Option, Some, None, IfOk, IfSome, OnErr, OnOk, is_some, false, length};
 ghost use Rattle.vax_outside.specs.Blocks.{BlockFile};
 ghost use Rattle.vax_outside.specs.Faults.{CountsFailure, Rose};
 ghost use Rattle.vax_machine.specs.Machine.{IsSound};
@@ -34,9 +34,7 @@ impl Machine {
     ghost use Rattle.vax_space.specs.Areas.{area_of};
     ghost use Rattle.vax_space.specs.Reference.{page_of, violation};
     ghost use Rattle.vax_flat.specs.Outcome.{is_allowed};
-    ghost use Rattle.vax_flat.specs.Parts.{Place, At, machine_at};
-    ghost use Rattle.vax_flat.specs.Start.{start_memory};
-    ghost use Rattle.vax_flat.specs.Step.{Flat};
+    ghost use Rattle.vax_flat.specs.Parts.{At};
     ghost use Rattle.vax_pager.specs.Calls.{IsByte};
     ghost use Rattle.vax_pager.specs.Listing.{first};
     ghost use Rattle.vax_pager.specs.Poking.{OnlyRead, WritesBlocks};
@@ -46,9 +44,7 @@ impl Machine {
     ghost use Rattle.vax_machine.specs.Events.{FollowsRun, KeepsPins, KeepsRun};
     ghost use Rattle.vax_machine.specs.Meaning.{engine, flat_start, memory_of, units_of};
     ghost use Rattle.vax_machine.specs.Paged.{fresh};
-    ghost use Rattle.vax_machine.specs.Residence.{is_resident};
     ghost use Rattle.vax_machine.specs.Run.{RunsTo, begun, system_of};
-    ghost use Rattle.vax_machine.specs.Touched.{PinsTouched};
     ghost use Rattle.vax_machine.specs.Writing.{OnlyWrote};
 
     /// A machine at the start: these registers, this input of at most 4,194,304 bytes, and a space of which no page is resident, with so many

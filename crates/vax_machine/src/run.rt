@@ -2,7 +2,6 @@
 ghost use Rattle.std.specs.Prelude.{◌≡◌, ◌≢◌, ℕ, ◌+◌, ◌-◌, ◌<◌, ◌≤◌, ◌^◌, None, Some, [], ◌∷◌, length, take, OnOk, Option, IfSome, is_some, true};
 ghost use Rattle.vax_outside.specs.Blocks.{BlockFile};
 ghost use Rattle.vax_outside.specs.Faults.{Rose};
-ghost use Rattle.vax_flat.specs.Parts.{Place};
 ghost use Rattle.vax_machine.specs.Turn.{Finishes};
 ghost use Rattle.vax_machine.specs.Writing.{OnlyWrote, held_in};
 
@@ -37,9 +36,8 @@ impl Engine {
     ghost use Rattle.vax_machine.specs.Machine.{IsSound, keeping};
     ghost use Rattle.vax_machine.specs.Paged.{Paged, all_named, evicted, named, stops};
     ghost use Rattle.vax_machine.specs.Run.{RunsTo, Tracks, system_of};
-    ghost use Rattle.vax_machine.specs.Touched.{PinsTouched};
     ghost use Rattle.vax_machine.specs.Turn.{HasGone, IsStop, MakesAbsent, MakesAttempts, MakesTurns, ServesWanted, Still, underway_of, why_stopped};
-    ghost use Rattle.vax_machine.specs.Writing.{Counts, Origin, Passed, StillWrites, listed_by};
+    ghost use Rattle.vax_machine.specs.Writing.{Counts, Passed, StillWrites, listed_by};
 
     /// Lists a page, if one was made absent before the attempt that comes, and writes what is due.
     fn list<K: Sink>(

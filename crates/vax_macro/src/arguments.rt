@@ -1,6 +1,6 @@
 // Arguments of macros as whole texts.
 
-ghost use Rattle.std.specs.Prelude.{◌≡◌, ◌+◌, ◌<◌, ◌≤◌, ◌^◌, ◌++◌, ◌∷◌, [], List, ℕ, Bool, length, map, option_map, IfOk, OnOk, IfSome};
+ghost use Rattle.std.specs.Prelude.{◌≡◌, ◌+◌, ◌<◌, ◌≤◌, ◌^◌, ◌++◌, ◌∷◌, [], List, ℕ, Bool, length, option_map, IfOk, OnOk, IfSome};
 ghost use Rattle.std.specs.List.{prefix_len};
 ghost use Rattle.vax_lex.specs.Characters.{is_blank, is_name_character};
 ghost use Rattle.vax_macro.specs.Names.{is_name};

@@ -1,8 +1,7 @@
 // Conditions, and counts of repeats.
 
-ghost use Rattle.std.specs.Prelude.{◌≡◌, ◌+◌, ◌-◌, ◌<◌, ◌≤◌, ◌^◌, [], List, ℕ, unwrap_or, All, length, drop, take, map, option_map, IfOk, IfSome, OnOk};
-ghost use Rattle.std.specs.List.{list_any, list_all, prefix_len};
-ghost use Rattle.vax_lex.specs.Characters.{canonical_name};
+ghost use Rattle.std.specs.Prelude.{◌≡◌, ◌+◌, ◌-◌, ◌<◌, ◌≤◌, ◌^◌, [], List, ℕ, unwrap_or, All, length, map, option_map, IfOk, IfSome};
+ghost use Rattle.std.specs.List.{prefix_len};
 ghost use Rattle.vax_lex.specs.Tokens.{IsPieceOf};
 ghost use Rattle.vax_macro.specs.Conditions.{token_of, depth_behind, comma_in, has_wide, absolute, unless_wide, number_in, comparison_holds, condition_named, is_defined, as_wanted, defined_name, defined_in, is_blank_text, blank_arguments, same_arguments, condition_on, no_condition, named_condition, behind_name, name_end, condition_in, at_comma, second_argument, comma_behind, comma_behind_two, guarded_pieces, guarded_text, ends_by, guarded_on, guarded_in};
 ghost use Rattle.vax_macro.specs.ArgumentViews.{argument_view, taken_view, lent_view, lent_arguments};

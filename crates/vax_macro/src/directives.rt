@@ -1,16 +1,14 @@
 // What the lines of a source do.
 
-ghost use Rattle.std.specs.Prelude.{◌≡◌, ◌+◌, ◌-◌, ◌<◌, ◌≤◌, ◌^◌, ◌++◌, ◌∷◌, [], ◌==◌, All, length, map, drop, option_map, IfOk, IfSome, OnOk};
-ghost use Rattle.vax_lex.specs.Characters.{canonical_name};
-ghost use Rattle.vax_lex.specs.Tokens.{IsPieceOf};
-ghost use Rattle.vax_macro.specs.Directives.{begins, ends, nested_after, finished, collect, is_skipping, open_condition, begin_condition, switched, at_condition, switch, switch_condition, end_condition, skip, guard, with_pending, begin_copies, begin_repeat, begin_macro, listed, is_named, end_fault, body_fault, iterated_in, begin_arguments, begin_characters, call, direct, read_word, read_operator, read, done, is_deep, opening, operands_fault, expansion, expansions, copies, one_formal, behind_comma, is_parted, macro_formals, argument_texts, character_texts, count_of};
+ghost use Rattle.std.specs.Prelude.{◌≡◌, ◌+◌, ◌-◌, ◌<◌, ◌∷◌, [], ◌==◌, length, map, option_map, IfOk};
+ghost use Rattle.vax_macro.specs.Directives.{begins, ends, nested_after, listed, is_named, end_fault, body_fault, iterated_in, call, read, operands_fault, expansion, expansions, copies, one_formal, behind_comma, is_parted, macro_formals, argument_texts, character_texts, count_of};
 ghost use Rattle.vax_macro.specs.Heads.{code_from};
 ghost use Rattle.vax_macro.specs.ArgumentViews.{arguments_view, lent_view};
 ghost use Rattle.vax_macro.specs.ConditionViews.{Decides, iterated_view, listed_view};
-ghost use Rattle.vax_macro.specs.HeadViews.{word_view, head_view};
-ghost use Rattle.vax_macro.specs.LineViews.{reading_of, lines_of, frame_lines, opened_lines};
+ghost use Rattle.vax_macro.specs.HeadViews.{word_view};
+ghost use Rattle.vax_macro.specs.LineViews.{frame_lines, opened_lines};
 ghost use Rattle.vax_macro.specs.TemplateViews.{template_view, formals_view, texts_view};
-ghost use Rattle.vax_macro.specs.View.{use_view, pending_view, opening_of, condition_view, macros_of, rest_in, Acts};
+ghost use Rattle.vax_macro.specs.View.{use_view, opening_of};
 
 use crate::arguments::{AnyName, Argument, arguments, bare_length, behind_blanks, closing};
 use crate::conditions::{Refusal, comma_in};

@@ -1,6 +1,6 @@
 // The expander.
 
-ghost use Rattle.std.specs.Prelude.{◌≡◌, ◌+◌, ◌<◌, ◌≤◌, ◌++◌, ◌∷◌, [], ℕ, None, Some, IfOk, IfErr, IfSome, OnOk, length, option_map};
+ghost use Rattle.std.specs.Prelude.{◌≡◌, ◌+◌, ◌<◌, ◌≤◌, ℕ, None, Some, IfOk, IfErr, IfSome, OnOk, length, option_map};
 ghost use Rattle.vax_lex.specs.Tokens.{pieces_of};
 
 use crate::error::{FaultKind, MacroError};
@@ -326,7 +326,7 @@ impl Expander {
     }
 
     /// The begin without its end, once `next` has answered that fault.
-    pub fn unclosed(&self) -> Option<Begin>
+    pub fn open_begin(&self) -> Option<Begin>
         ensures { option_map opening_of result ≡ unclosed_of self.now }
     {
         self.unclosed

@@ -1,9 +1,7 @@
 // The label and the operator of a line.
 
-ghost use Rattle.std.specs.Prelude.{◌≡◌, ◌+◌, ◌-◌, ◌<◌, ◌≤◌, ◌^◌, All, length, drop, take, option_map};
-ghost use Rattle.std.specs.List.{list_any};
-ghost use Rattle.vax_lex.specs.Tokens.{IsPieceOf};
-ghost use Rattle.vax_macro.specs.Heads.{is_name_piece, is_mark_piece, is_bad, is_wide, piece_text, label_pieces, first_end, end_of, operator_in, head_in, condition_word, word_of, word_in, has_bad, has_unprintable, is_unprintable, code_end, code_from};
+ghost use Rattle.std.specs.Prelude.{◌≡◌, ◌+◌, ◌-◌, ◌<◌, ◌≤◌, ◌^◌, length};
+ghost use Rattle.vax_macro.specs.Heads.{is_name_piece, is_mark_piece, is_bad, is_wide, piece_text, label_pieces, end_of, operator_in, head_in, condition_word, word_of, word_in, has_bad, has_unprintable, is_unprintable, code_end, code_from};
 ghost use Rattle.vax_macro.specs.HeadViews.{word_view, head_view};
 
 use crate::names::part;

@@ -1,10 +1,10 @@
 // The lines that are still to come.
 
-ghost use Rattle.std.specs.Prelude.{◌≡◌, ◌+◌, ◌<◌, ◌≤◌, ◌^◌, ◌++◌, ◌∷◌, [], ◌==◌, length, map, drop, IfOk, IfSome, OnOk};
+ghost use Rattle.std.specs.Prelude.{◌≡◌, ◌+◌, ◌<◌, ◌≤◌, ◌++◌, ◌∷◌, [], ◌==◌, length, drop, IfOk, OnOk};
 ghost use Rattle.std.specs.Bool.{OnTrue, OnFalse};
 ghost use Rattle.std.specs.List.{position_or_len};
 ghost use Rattle.std.specs.Str.Lines.{lines, strip_carriage_return};
-ghost use Rattle.vax_macro.specs.LineViews.{frame_lines, source_of, lines_of, Takes, line_of};
+ghost use Rattle.vax_macro.specs.LineViews.{frame_lines, source_of, lines_of, Takes};
 
 use crate::counts::one_more;
 use crate::line_types::{Frame, Lines, SourceLine};

@@ -1,6 +1,6 @@
 // Lines as they are read, with those that continue them.
 
-ghost use Rattle.std.specs.Prelude.{◌≡◌, ◌+◌, ◌<◌, ◌≤◌, ◌++◌, [], ℕ, All, IfOk, OnOk, length, take, false};
+ghost use Rattle.std.specs.Prelude.{◌≡◌, ◌+◌, ◌<◌, ◌≤◌, ◌++◌, [], IfOk, OnOk, length, take, false};
 ghost use Rattle.vax_lex.specs.Tokens.{pieces_of};
 ghost use Rattle.vax_macro.specs.Lines.{dash_in, with_part};
 ghost use Rattle.vax_macro.specs.LineViews.{line_of, lines_of, reading_of, remainder_of};

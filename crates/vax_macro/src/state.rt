@@ -1,11 +1,11 @@
 // What the lines of a source change.
 
-ghost use Rattle.std.specs.Prelude.{◌≡◌, ◌+◌, ◌-◌, ◌<◌, ◌≤◌, ◌^◌, ◌++◌, ◌∷◌, [], Some, ℕ, All, length, map, drop, nat_le, option_map, IfOk, OnOk};
+ghost use Rattle.std.specs.Prelude.{◌≡◌, ◌+◌, ◌-◌, ◌<◌, ◌≤◌, ◌++◌, [], Some, All, length, map, nat_le, option_map, IfOk, OnOk};
 ghost use Rattle.std.specs.Bool.{OnFalse};
 ghost use Rattle.vax_lex.specs.Tokens.{IsPieceOf};
 ghost use Rattle.vax_macro.specs.Heads.{word_in, piece_text};
 ghost use Rattle.vax_macro.specs.Templates.{template as made_of};
-ghost use Rattle.vax_macro.specs.Directives.{finished, line_copies, lines_for_each, with_lines, with_macro, collect, is_skipping, open_condition, begin_condition, switch_condition, end_condition, skip, guard, with_pending, begin_copies, begin_repeat, begin_macro, begin_arguments, begin_characters, call, direct, read_word, read_operator, read, done, is_deep, condition_fault};
+ghost use Rattle.vax_macro.specs.Directives.{finished, line_copies, lines_for_each, with_lines, with_macro, collect, is_skipping, open_condition, begin_condition, switch_condition, end_condition, skip, guard, with_pending, begin_copies, begin_repeat, begin_macro, begin_arguments, begin_characters, call, direct, read, done, is_deep, condition_fault};
 ghost use Rattle.vax_macro.specs.Names.{with_entry};
 ghost use Rattle.vax_lex.specs.Characters.{canonical_name};
 ghost use Rattle.vax_macro.specs.HeadViews.{word_view, head_view};

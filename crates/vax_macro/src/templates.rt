@@ -1,6 +1,6 @@
 // What macros and repeats keep of their lines, and what stands in their place.
 
-ghost use Rattle.std.specs.Prelude.{All, ◌≡◌, ◌+◌, ◌-◌, ◌<◌, ◌≤◌, ◌^◌, ◌++◌, ◌∷◌, ◌==◌, [], None, ℕ, length, map, drop, take, set, replicate, option_map, IfOk, OnOk, Some, slice_get, slice_index, unwrap_or};
+ghost use Rattle.std.specs.Prelude.{All, ◌≡◌, ◌+◌, ◌-◌, ◌<◌, ◌≤◌, ◌^◌, ◌++◌, ◌∷◌, ◌==◌, [], None, ℕ, length, map, set, replicate, option_map, IfOk, OnOk, Some, slice_get, slice_index, unwrap_or};
 ghost use Rattle.std.specs.Bool.{OnTrue, OnFalse};
 ghost use Rattle.std.specs.List.{prefix_len};
 ghost use Rattle.std.specs.Char.{to_ascii_uppercase};

@@ -1,5 +1,5 @@
 -- Operands that lie in memory, by their addresses.
-use Rattle.std.proofs.Common.{◌≡◌, ℕ, refl, ap}
+use Rattle.std.proofs.Common.{◌≡◌, ℕ, refl}
 use Rattle.vax_isa.specs.declared.OperandKind.{OperandKind}
 use Rattle.vax_isa.specs.declared.Letter.TheVariants.{Read, Write}
 use Rattle.vax_flat.specs.declared.Operand.{Operand}
@@ -8,7 +8,7 @@ use Rattle.vax_flat.specs.declared.Form.{Form}
 use Rattle.vax_flat.specs.declared.Form.TheVariants.{Literal, Index, Register, Deferred, Decrement, Increment, IncrementDeferred, Displacement, DisplacementDeferred}
 use Rattle.vax_flat.specs.State.{State}
 use Rattle.vax_flat.specs.Accesses.{Accesses, Leaf}
-use Rattle.vax_flat.specs.Operand.{form_of, formed, in_memory, indexed, after_prefix, at_address, read_at}
+use Rattle.vax_flat.specs.Operand.{formed, in_memory, indexed, after_prefix, at_address, read_at}
 use Rattle.vax_flat.specs.Rows.{read_of, modify_of, write_of, value_of, value_at}
 use Rattle.vax_operand.specs.Addressed.{located, direct, based, prefixed, checked, modified, modified_there, IsMemory}
 

@@ -1,12 +1,12 @@
 //! Values of operands, read and written.
-ghost use Rattle.std.specs.Prelude.{◌≡◌, ℕ, ◌+◌, ◌*◌, ◌/◌, ◌%◌, ◌^◌, ◌<◌, ◌≤◌, IfOk};
+ghost use Rattle.std.specs.Prelude.{◌≡◌, ◌+◌, ◌*◌, ◌/◌, ◌^◌, ◌<◌, ◌≤◌, IfOk};
 ghost use Rattle.vax_word.specs.Arithmetic.{bytes_of};
 ghost use Rattle.vax_isa.specs.Actions.{size_of};
 ghost use Rattle.vax_space.specs.declared.Access.TheVariants as access;
 ghost use Rattle.vax_isa.specs.declared.Letter.TheVariants as letter;
 ghost use Rattle.vax_flat.specs.declared.Operand.TheVariants as operand;
-ghost use Rattle.vax_flat.specs.Operand.{form_of, formed, in_register, read_at, check_at, IsWidth, IsPlace};
-ghost use Rattle.vax_flat.specs.Rows.{read_of, modify_of, write_of, value_at, value_of, address_in, with_value, stored, read_value, modify_value, write_place, address_value, branch_target};
+ghost use Rattle.vax_flat.specs.Operand.{form_of, formed, in_register, read_at, IsWidth, IsPlace};
+ghost use Rattle.vax_flat.specs.Rows.{read_of, write_of, value_at, value_of, address_in, with_value, stored, read_value, modify_value, write_place, address_value, branch_target};
 ghost use Rattle.vax_undo.specs.Transaction.{room, Keeps, Acts, Does, Updates};
 ghost use Rattle.vax_operand.specs.Addressed.{located, checked, modified, modified_there, IsMemory};
 ghost use Rattle.vax_flat.specs.declared.Form.TheVariants as form;

@@ -1,5 +1,5 @@
 //! Single accesses of an instruction, in the current access mode.
-ghost use Rattle.std.specs.Prelude.{◌≡◌, ℕ, ◌+◌, ◌*◌, ◌%◌, ◌^◌, ◌<◌, ◌≤◌, IfOk, Ok};
+ghost use Rattle.std.specs.Prelude.{◌≡◌, ◌^◌, ◌<◌, ◌≤◌, IfOk, Ok};
 ghost use Rattle.vax_flat.specs.Operand.{read_at, write_at, check_at, read_in, write_in, asked, fetched};
 ghost use Rattle.vax_undo.specs.Transaction.{present, room, Keeps, Acts, Does};
 

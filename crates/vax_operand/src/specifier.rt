@@ -1,6 +1,6 @@
 //! Operand specifiers.
-ghost use Rattle.std.specs.Prelude.{◌≡◌, ℕ, ◌+◌, ◌*◌, ◌%◌, ◌^◌, ◌<◌, ◌≤◌, IfOk};
-ghost use Rattle.vax_flat.specs.Operand.{form_of, extended, at_address, literal, in_register, register_value, addressed, is_reserved, is_no_base, is_result, reaches_pc, formed, specified, branched, next_operand, IsWidth, IsTarget, Fits};
+ghost use Rattle.std.specs.Prelude.{◌≡◌, ◌+◌, ◌^◌, ◌<◌, ◌≤◌, IfOk};
+ghost use Rattle.vax_flat.specs.Operand.{form_of, extended, at_address, literal, in_register, register_value, addressed, is_reserved, is_no_base, reaches_pc, formed, specified, branched, next_operand, IsWidth, IsTarget, Fits};
 ghost use Rattle.vax_undo.specs.Transaction.{present, room, Keeps, Does};
 ghost use Rattle.vax_operand.specs.Located.{LocatesEverywhere};
 ghost use Rattle.vax_operand.specs.Addressed.{direct, based, prefixed, located, IsMemory};

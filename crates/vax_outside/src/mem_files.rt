@@ -1,5 +1,5 @@
 //! Files in memory.
-ghost use Rattle.std.specs.Prelude.{◌≡◌, ◌≤◌, IfOk, IsErrOf, Some, false, length};
+ghost use Rattle.std.specs.Prelude.{◌≡◌, ◌≤◌, IfOk, Some, length};
 ghost use Rattle.std.specs.Option.{option_map};
 ghost use Rattle.vax_outside.specs.Directory.{bytes_of, directory, AnswersRead, is_failed};
 ghost use Rattle.vax_outside.specs.Faults.{CountsFailure, raised};

@@ -1,5 +1,5 @@
 //! A page file in memory.
-ghost use Rattle.std.specs.Prelude.{◌≡◌, ◌≤◌, ◌==◌, IfOk, OnErr, OnOk, Some, is_err, replicate, vec_capacity};
+ghost use Rattle.std.specs.Prelude.{◌≡◌, ◌≤◌, IfOk, OnErr, OnOk, Some, is_err, replicate, vec_capacity};
 ghost use Rattle.std.specs.FinMap.{get};
 ghost use Rattle.std.specs.Option.{option_map};
 ghost use Rattle.vax_outside.specs.Blocks.{CountsRead, GivesBlock, PutsBlock, zeroed};

@@ -1,5 +1,5 @@
 //! Output channels in memory.
-ghost use Rattle.std.specs.Prelude.{◌≡◌, ◌-◌, ◌<◌, ◌≤◌, ◌++◌, ℕ, [], length, take, min, is_err, slice_index, vec_capacity, IfOk, OnErr, OnOk, Some};
+ghost use Rattle.std.specs.Prelude.{◌≡◌, ◌-◌, ◌<◌, ◌≤◌, ◌++◌, [], length, take, min, is_err, vec_capacity, IfOk, OnErr, Some};
 ghost use Rattle.vax_outside.specs.Channels.{Grew, bytes_on, nothing, only};
 ghost use Rattle.vax_outside.specs.Faults.{CountsFailure, raised};
 

@@ -1,5 +1,5 @@
 //! Writing all of some bytes.
-ghost use Rattle.std.specs.Prelude.{is_err, ◌≡◌, ◌≤◌, OnErr, OnOk};
+ghost use Rattle.std.specs.Prelude.{is_err, OnErr, OnOk};
 ghost use Rattle.vax_outside.specs.Channels.{Grew, GrewByPrefix, only};
 ghost use Rattle.vax_outside.specs.Faults.{CountsFailure};
 

@@ -1,5 +1,5 @@
 //! Short texts that are built without memory: the lines of a report, a record or a reply.
-ghost use Rattle.std.specs.Prelude.{◌≡◌, ◌+◌, ◌<◌, ◌≤◌, ◌^◌, ◌++◌, [], decimal, length};
+ghost use Rattle.std.specs.Prelude.{◌≡◌, ◌+◌, ◌<◌, ◌≤◌, ◌++◌, [], decimal, length};
 ghost use Rattle.vax_outside.specs.Hex.{hex, hex_digit};
 
 use arrayvec::ArrayVec;

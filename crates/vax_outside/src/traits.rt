@@ -1,5 +1,5 @@
 //! The traits of the outside, and what their calls answer.
-ghost use Rattle.std.specs.Prelude.{is_err, ◌≡◌, ◌<◌, ◌≤◌, ℕ, length, take, IfOk, OnErr, OnOk, IsErrOf, Option, false};
+ghost use Rattle.std.specs.Prelude.{is_err, ◌≡◌, ◌<◌, ◌≤◌, ℕ, length, take, IfOk, OnErr, OnOk, Option};
 ghost use Rattle.vax_outside.specs.Blocks.{BlockFile, GivesBlock, CountsRead, PutsBlock};
 ghost use Rattle.vax_outside.specs.Channels.{Channels, Grew, only};
 ghost use Rattle.vax_outside.specs.Directory.{Directory, AnswersRead, is_failed};

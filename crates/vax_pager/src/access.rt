@@ -1,5 +1,5 @@
 //! Reads and writes of resident pages.
-ghost use Rattle.std.specs.Prelude.{◌≡◌, ◌+◌, ◌-◌, ◌<◌, ◌≤◌, ◌%◌, ◌^◌, ℕ, true, false, length, is_some, IfSome, OnErr, OnOk, Some, None};
+ghost use Rattle.std.specs.Prelude.{◌≡◌, ◌+◌, ◌-◌, ◌<◌, ◌≤◌, ◌%◌, true, length, is_some, IfSome, OnErr, OnOk, Some, None};
 ghost use Rattle.vax_table.specs.Mapping.{frame_of};
 
 use crate::store::Store;
@@ -30,7 +30,6 @@ impl Store {
     ghost use Rattle.vax_space.specs.Reference.{byte_after, page_of, violation};
     ghost use Rattle.vax_tb.specs.Meaning.{buffered};
     ghost use Rattle.vax_tb.specs.Buffer.{raised_if};
-    ghost use Rattle.vax_outside.specs.Faults.{raised};
     ghost use Rattle.vax_flat.specs.Memory.{bytes_from, number};
     ghost use Rattle.vax_flat.specs.Port.{AreBytes, loaded, stop, stored, stored_run};
     ghost use Rattle.vax_undo.specs.Answers.{err_of, replaced};

@@ -1,5 +1,5 @@
 //! What a pager answers of itself.
-ghost use Rattle.std.specs.Prelude.{◌≡◌, length, is_some};
+ghost use Rattle.std.specs.Prelude.{◌≡◌, length};
 
 use crate::Counts;
 use crate::store::Store;

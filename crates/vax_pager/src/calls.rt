@@ -1,6 +1,5 @@
 //! The calls of a pager on a page file.
-ghost use Rattle.std.specs.Prelude.{is_err, ◌≡◌, ◌+◌, ◌<◌, ◌≤◌, ◌/◌, ◌⊎◌, ◌%◌, ◌++◌, ◌∷◌, [], true, false, length, slice_index, slice_index_or, is_some, IfOk, OnOk, OnErr, Some, None, IfSome};
-ghost use Rattle.std.specs.Option.{option_map};
+ghost use Rattle.std.specs.Prelude.{is_err, ◌≡◌, ◌+◌, ◌<◌, ◌/◌, ◌%◌, ◌++◌, ◌∷◌, [], true, false, length, slice_index, slice_index_or, is_some, IfOk, OnOk, OnErr, Some, None, IfSome};
 ghost use Rattle.vax_outside.specs.Faults.{CountsFailure};
 
 use crate::store::Store;

@@ -1,6 +1,5 @@
 //! The pager.
 ghost use Rattle.std.specs.Prelude.{is_err, ◌≡◌, ◌<◌, ◌≤◌, IfOk, OnOk, OnErr, IfSome, true, false, length, is_some, take};
-ghost use Rattle.std.specs.Option.{option_map};
 ghost use Rattle.vax_outside.specs.Faults.{CountsFailure};
 ghost use Rattle.vax_pager.specs.Store.{IsSound};
 
@@ -35,7 +34,7 @@ impl Pager {
     ghost use Rattle.vax_space.specs.Reference.{page_of, violation};
     ghost use Rattle.vax_flat.specs.Outcome.{is_allowed};
     ghost use Rattle.vax_pager.specs.Listing.{first, is_listed};
-    ghost use Rattle.vax_pager.specs.Paging.{Backs, ComesFrom, Keeps};
+    ghost use Rattle.vax_pager.specs.Paging.{Backs, Keeps};
     ghost use Rattle.vax_flat.specs.Start.{start_memory};
     ghost use Rattle.vax_outside.specs.Blocks.{BlockFile};
     ghost use Rattle.vax_pager.specs.Steps.{settled};

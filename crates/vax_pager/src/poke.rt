@@ -13,7 +13,6 @@ const KERNEL: u8 = 0;
 impl Store {
     ghost use Rattle.vax_space.specs.Areas.{area_of};
     ghost use Rattle.vax_space.specs.Reference.{byte_after, page_of, violation};
-    ghost use Rattle.vax_flat.specs.Memory.{written_run};
     ghost use Rattle.vax_flat.specs.Outcome.{is_allowed};
     ghost use Rattle.vax_pager.specs.Listing.{is_listed};
     ghost use Rattle.vax_pager.specs.Paging.{Keeps};

@@ -1,7 +1,7 @@
 //! The parts of a pager, and its steps.
 ghost use Rattle.vax_pager.specs.Paging.{bytes_in};
 ghost use Rattle.vax_pager.specs.Frames.{dirty_frame};
-ghost use Rattle.std.specs.Prelude.{◌≡◌, ◌<◌, ◌≤◌, ◌+◌, ℕ, true, false, length, IfOk, IfSome, OnOk, Some, None, [], is_some, nat_lt, replicate, slice_get, slice_index, slice_index_or, take};
+ghost use Rattle.std.specs.Prelude.{◌≡◌, ◌<◌, ◌≤◌, ◌+◌, true, false, length, IfOk, IfSome, OnOk, Some, None, [], is_some, nat_lt, replicate, slice_index_or, take};
 
 use crate::counts::{lowered_if, raised, raised_if};
 use crate::marks::Marks;

@@ -1,5 +1,5 @@
 -- What is linked for a base is an image for that base.
-use Rattle.std.proofs.Common.{◌≡◌, ℕ, Bool, true, false, cond, List, Option, Some, None, sym, ap, refl, ◌∙◌}
+use Rattle.std.proofs.Common.{◌≡◌, ℕ, Bool, true, false, cond, List, Option, Some, None}
 use Rattle.std.specs.Prelude.{Result, Ok, Err}
 use Rattle.vax_space.specs.declared.Area.{Area}
 use Rattle.vax_module.specs.declared.Module.{Module}

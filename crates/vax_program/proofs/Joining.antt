@@ -1,5 +1,5 @@
 -- Sources are read one behind another.
-use Rattle.std.proofs.Common.{◌≡◌, ◌<◌, ◌+◌, ℕ, suc, add-one, Bool, true, false, cond, List, [], ◌∷◌, ◌++◌, length, map, drop, sym, ap, refl, append_assoc, append-nil, subst, IsErrAnd, ◌∙◌, drop-cons}
+use Rattle.std.proofs.Common.{◌≡◌, ◌<◌, ◌+◌, ℕ, suc, add-one, Bool, true, false, cond, List, [], ◌∷◌, ◌++◌, length, drop, sym, ap, refl, append_assoc, append-nil, subst, IsErrAnd, ◌∙◌, drop-cons}
 use Rattle.std.specs.Prelude.{Vec, Result, Ok, Err, slice_index_or}
 use Rattle.std.specs.Global.{Global}
 use Rattle.vax_asm.specs.Walk.{assembled}

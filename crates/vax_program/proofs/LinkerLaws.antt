@@ -1,6 +1,6 @@
 -- What the linker found, in place of what was meant.
 use Rattle.std.proofs.Common.{◌≡◌, refl, subst, sym}
-use Rattle.std.specs.Prelude.{Result, Ok, Err}
+use Rattle.std.specs.Prelude.{Result, Err}
 use Rattle.vax_image.specs.declared.Image.{Image}
 use Rattle.vax_link.specs.Linked.{Gives}
 use Rattle.vax_link.specs.declared.LinkError.{LinkError}

@@ -5,7 +5,6 @@ use Rattle.vax_image.specs.declared.Base.{Base}
 use Rattle.vax_image.specs.declared.Image.{Image}
 use Rattle.vax_image.specs.Image.{IsImage}
 use Rattle.vax_module.specs.Formed.{Formed}
-use Rattle.vax_module.specs.declared.Module.{Module}
 use Rattle.vax_program.specs.Program as specs
 use Rattle.vax_program.specs.Program.{Link, Source, InImage}
 use Rattle.vax_program.specs.declared.types.Refusal.{Refusal}

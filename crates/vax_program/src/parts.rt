@@ -1,11 +1,11 @@
 // What the files of a program are.
 
-ghost use Rattle.std.specs.Prelude.{◌≡◌, ◌≤◌, ◌+◌, ◌∷◌, [], ℕ, All, IfOk, Ok, length, true};
+ghost use Rattle.std.specs.Prelude.{◌≡◌, ◌≤◌, ◌+◌, ◌∷◌, [], All, IfOk, Ok, length, true};
 ghost use Rattle.vax_image.specs.Image.{IsImage};
 ghost use Rattle.vax_image.specs.Reading.{image_of};
 ghost use Rattle.vax_module.specs.Formed.{Formed};
 ghost use Rattle.vax_elf.specs.Reading as elf;
-ghost use Rattle.vax_program.specs.Program.{as_parts, for_base, from_executable, from_image, is_image, is_linked, modules_of, parts_of, same_base};
+ghost use Rattle.vax_program.specs.Program.{for_base, from_executable, from_image, is_image, is_linked, modules_of, parts_of, same_base};
 ghost use Rattle.vax_program.specs.View.{Answers, IsSound, base_of, parts_seen, texts};
 
 use crate::types::{Parts, ProgramError, Refusal};

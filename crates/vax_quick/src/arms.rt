@@ -1,5 +1,4 @@
 //! The commonest moves, sums and tests, each with its operation and sizes as constants.
-ghost use Rattle.std.specs.Prelude.{◌≡◌};
 ghost use Rattle.vax_undo.specs.Transaction.{seen};
 ghost use Rattle.vax_quick.specs.Made.{IsSeen, Leaves, Makes, made_by};
 

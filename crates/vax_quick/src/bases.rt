@@ -1,5 +1,5 @@
 //! Where fields of bits are based, and what holds them.
-ghost use Rattle.std.specs.Prelude.{◌≡◌, ◌*◌, ◌^◌, ◌<◌, ◌≤◌, IfSome};
+ghost use Rattle.std.specs.Prelude.{◌≡◌, ◌^◌, ◌<◌, ◌≤◌, IfSome};
 ghost use Rattle.vax_isa.specs.declared.Letter.TheVariants as letter;
 ghost use Rattle.vax_flat.specs.declared.Operand.TheVariants as operand;
 ghost use Rattle.vax_flat.specs.Field.{base_kind, base_place, field_bits};

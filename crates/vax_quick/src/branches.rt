@@ -1,5 +1,4 @@
 //! The commonest branches and loops, each with its condition and size as constants.
-ghost use Rattle.std.specs.Prelude.{◌≡◌};
 ghost use Rattle.vax_undo.specs.Transaction.{seen};
 ghost use Rattle.vax_quick.specs.Made.{IsSeen, Leaves, Makes, made_by};
 

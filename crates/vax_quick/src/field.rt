@@ -1,5 +1,5 @@
 //! Fields of bits: one function for each shape of instruction, which follows the shape's definition in `vax_flat`.
-ghost use Rattle.std.specs.Prelude.{◌≡◌, ◌+◌, ◌*◌, ◌^◌, ◌<◌, ◌≤◌};
+ghost use Rattle.std.specs.Prelude.{◌+◌, ◌*◌, ◌^◌, ◌<◌, ◌≤◌};
 ghost use Rattle.vax_flat.specs.Field as field;
 ghost use Rattle.vax_flat.specs.Field.{bits_of};
 ghost use Rattle.vax_flat.specs.Operand.{IsBase};

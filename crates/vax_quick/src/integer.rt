@@ -1,6 +1,5 @@
 //! Moves, arithmetic, logic and addresses: one function for each shape of instruction, which follows the shape's definition in `vax_flat`.
 ghost use Rattle.std.specs.Prelude.{◌≡◌, ◌^◌, ◌<◌};
-ghost use Rattle.vax_word.specs.Arithmetic.{bytes_of};
 ghost use Rattle.vax_isa.specs.Actions.{size_of};
 ghost use Rattle.vax_flat.specs.Integer as integer;
 ghost use Rattle.vax_flat.specs.Operand.{IsPlace};

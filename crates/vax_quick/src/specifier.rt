@@ -1,5 +1,5 @@
 //! Operand specifiers: the addresses of operands that lie in memory.
-ghost use Rattle.std.specs.Prelude.{◌≡◌, ◌*◌, ◌^◌, ◌<◌, ◌≤◌, IfSome};
+ghost use Rattle.std.specs.Prelude.{◌≡◌, ◌<◌, IfSome};
 ghost use Rattle.vax_flat.specs.declared.Form.TheVariants as form;
 ghost use Rattle.vax_flat.specs.Operand.{form_of, addressed, IsWidth};
 ghost use Rattle.vax_flat.specs.State.{with_register};

@@ -1,5 +1,5 @@
 //! Longwords and registers on the stack.
-ghost use Rattle.std.specs.Prelude.{◌≡◌, ℕ, ◌+◌, ◌-◌, ◌*◌, ◌%◌, ◌^◌, ◌<◌, ◌≤◌, ◌∷◌, [], None, IfSome};
+ghost use Rattle.std.specs.Prelude.{◌≡◌, ℕ, ◌+◌, ◌-◌, ◌%◌, ◌^◌, ◌<◌, ◌≤◌, ◌∷◌, [], None, IfSome};
 ghost use Rattle.vax_word.specs.Status.{is_one};
 ghost use Rattle.vax_flat.specs.Call.{frame, linked, named, pushed_below, pushed_one, restored, saved};
 ghost use Rattle.vax_flat.specs.Operand.{plus};

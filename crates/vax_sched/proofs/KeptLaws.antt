@@ -1,5 +1,5 @@
 -- What a schedule keeps after one more line.
-use Rattle.std.proofs.Common.{◌≡◌, ◌<◌, ◌≤◌, ℕ, ◌+◌, ◌-◌, true, false, not, Bool, ◌||◌, ◌&&◌, List, [], ◌∷◌, ◌++◌, Option, Some, None, length, length-append, get_or, zero, suc, refl, sym, ap, ◌∙◌, arith, nat_lt, nat_le, ◌^◌, subst}
+use Rattle.std.proofs.Common.{◌≡◌, ◌<◌, ◌≤◌, ℕ, ◌+◌, ◌-◌, true, false, Bool, ◌||◌, ◌&&◌, List, [], ◌∷◌, ◌++◌, Some, None, length, length-append, get_or, zero, suc, refl, sym, ap, ◌∙◌, arith, nat_lt, nat_le, ◌^◌, subst}
 use Rattle.std.specs.Prelude.{slice_get}
 use Rattle.std.specs.List.{filter_map, list_all, list_any}
 use Rattle.std.specs.List.Sorted.{IsNonDecreasingBy}

@@ -1,22 +1,20 @@
 -- A printed schedule is read as the same schedule.
-use Rattle.std.proofs.Common.{◌≡◌, ◌<◌, ◌≤◌, ℕ, ◌+◌, ◌-◌, ◌*◌, ◌/◌, ◌%◌, ◌^◌, ◌==◌, true, false, not, Bool, ◌||◌, ◌&&◌, List, [], ◌∷◌, ◌++◌, Option, Some, None, length, map, take, drop, get_or, zero, suc, refl, sym, ap, ◌∙◌, arith, nat_lt, nat_le, length-append, append_assoc, if◌then◌else◌, subst, lit<}
+use Rattle.std.proofs.Common.{◌≡◌, ◌<◌, ◌≤◌, ℕ, ◌+◌, ◌-◌, ◌*◌, ◌/◌, ◌%◌, ◌^◌, ◌==◌, true, false, not, Bool, ◌&&◌, List, [], ◌∷◌, ◌++◌, Some, length, map, get_or, zero, suc, refl, sym, ap, ◌∙◌, arith, nat_lt, nat_le, length-append, append_assoc, subst, lit<}
 use Rattle.std.specs.Prelude.{decimal, codes}
 use Rattle.std.specs.Char.{digit_value}
-use Rattle.std.specs.List.{list_all, list_any, filter_map, flat_map}
+use Rattle.std.specs.List.{list_all, flat_map}
 use Rattle.std.specs.Str.Parse.{AllDigits, digits_value, digits_value_after}
 use Rattle.std.proofs.lemmas.Bool.Decides.{nat_tests}
 use Rattle.std.proofs.lemmas.Fmt.{decimal_is_IsNumeral, first_decimal, decimal_nonempty}
-use Rattle.std.proofs.lemmas.List.{take-map, get_or-map, length-map}
-use Rattle.std.proofs.lemmas.List.Folds.{list_all-append, list_any_none}
-use Rattle.std.proofs.lemmas.List.Elements.{filter_map-append}
+use Rattle.std.proofs.lemmas.List.Folds.{list_all-append}
 use Rattle.vax_outside.specs.Hex.{hex, hex_digit}
 use Rattle.vax_lines.specs.Lines.{Text, lines, begun}
-use Rattle.vax_lines.specs.Words.{words, longer, is_trimmed, is_word_byte}
+use Rattle.vax_lines.specs.Words.{words, longer, is_trimmed}
 use Rattle.std.specs.Str.{bytes_eq}
 use Rattle.vax_lines.specs.Numbers.{number, number_in, are_digits}
-use Rattle.vax_sched.specs.Rules.{page, page_at, target, rule_of, is_silent, line_of, Reading, silent, says, readings, rule_in, rules}
+use Rattle.vax_sched.specs.Rules.{page, target, rule_of, is_silent, line_of, says, readings, rules}
 use Rattle.vax_lines.proofs.WordLaws.{words-longer, words-alone}
-use Rattle.vax_sched.specs.Printed.{page_text, target_text, at_line, each_line, rule_line, printed}
+use Rattle.vax_sched.specs.Printed.{page_text, target_text, at_line, rule_line, printed}
 use Rattle.vax_sched.specs.Kept.{is_proper, is_page}
 use Rattle.vax_sched.specs.declared.rule.Target.{Target}
 use Rattle.vax_sched.specs.declared.rule.Target.TheVariants.{Page, All}

@@ -1,14 +1,14 @@
 -- One line after the other.
-use Rattle.std.proofs.Common.{◌≡◌, ◌<◌, ◌≤◌, ℕ, ◌+◌, true, false, not, Bool, List, [], ◌∷◌, ◌++◌, Option, Some, None, length, map, take, drop, get_or, refl, sym, ap, ◌∙◌, arith, add-one, below_more, subst, length-append, Result, Ok, Err, if◌then◌else◌}
+use Rattle.std.proofs.Common.{◌≡◌, ◌<◌, ◌≤◌, ℕ, ◌+◌, true, false, not, Bool, List, [], ◌∷◌, ◌++◌, Option, Some, None, length, take, drop, get_or, refl, sym, ap, ◌∙◌, arith, add-one, below_more, length-append, if◌then◌else◌}
 use Rattle.std.proofs.Math.Seq.{drop-cons}
-use Rattle.std.proofs.lemmas.List.{take_more, take_all, length-drop, length-take, append-nil}
+use Rattle.std.proofs.lemmas.List.{take_more, take_all, length-drop, append-nil}
 use Rattle.std.proofs.lemmas.List.Elements.{filter_map-append, All-push}
 use Rattle.std.specs.List.{filter_map, All}
 use Rattle.vax_space.specs.declared.Area.{Area}
 use Rattle.vax_lines.specs.Lines.{Text, lines}
 use Rattle.vax_sched.specs.Rules.{Reading, silent, says, malformed, line_of, readings, rule_in, rules}
 use Rattle.vax_sched.specs.Kept.{is_late_reading}
-use Rattle.vax_sched.specs.Faults.{fault_of, fault_at, is_placed, is_late, rule_fault, PassesTo, IsRead, IsFirst, ArePlaced}
+use Rattle.vax_sched.specs.Faults.{fault_of, fault_at, is_placed, is_late, PassesTo, IsRead, IsFirst, ArePlaced}
 use Rattle.vax_sched.specs.declared.rule.Rule.{Rule}
 use Rattle.vax_sched.proofs.DueLaws.{picked}
 

@@ -1,17 +1,16 @@
 -- The rules of a schedule have no fault where they are printed and read again.
-use Rattle.std.proofs.Common.{◌≡◌, ◌<◌, ◌≤◌, ℕ, ◌+◌, true, false, not, Bool, List, [], ◌∷◌, ◌++◌, Some, None, length, map, take, drop, get_or, zero, suc, refl, sym, ap, ◌∙◌, arith, nat_lt, length-append, subst, if◌then◌else◌}
-use Rattle.std.specs.List.{list_all, list_any, filter_map, All}
-use Rattle.std.specs.List.Sorted.{IsNonDecreasingBy}
+use Rattle.std.proofs.Common.{◌≡◌, ◌<◌, ◌≤◌, ℕ, ◌+◌, true, false, not, Bool, List, [], ◌∷◌, ◌++◌, None, length, map, take, drop, get_or, zero, suc, refl, sym, ap, ◌∙◌, arith, nat_lt, length-append, subst}
+use Rattle.std.specs.List.{list_any, filter_map}
 use Rattle.std.proofs.lemmas.Bool.Decides.{nat_tests}
-use Rattle.std.proofs.lemmas.List.{take-map, get_or-map, length-map, take_more, take-append-drop}
+use Rattle.std.proofs.lemmas.List.{take-map, get_or-map, length-map, take-append-drop}
 use Rattle.std.proofs.lemmas.List.Folds.{list_any_none}
 use Rattle.std.proofs.lemmas.List.Elements.{filter_map-append}
 use Rattle.std.proofs.Math.Seq.{drop-cons}
 use Rattle.vax_space.specs.declared.Area.{Area}
-use Rattle.vax_sched.specs.Rules.{Reading, silent, says, readings, rule_in, rules}
-use Rattle.vax_sched.specs.Faults.{fault_of, fault_at, rule_fault, is_placed, is_late, is_after, PassesTo, IsRead, ArePlaced}
+use Rattle.vax_sched.specs.Rules.{Reading, silent, says, readings, rules}
+use Rattle.vax_sched.specs.Faults.{fault_at, is_placed, is_late, IsRead, ArePlaced}
 use Rattle.vax_sched.specs.Printed.{printed}
-use Rattle.vax_sched.specs.Kept.{IsKept, Ascends, fixed_in, is_proper}
+use Rattle.vax_sched.specs.Kept.{IsKept, Ascends, fixed_in}
 use Rattle.vax_sched.specs.declared.rule.Fixed.{Fixed}
 use Rattle.vax_sched.specs.declared.rule.Repeated.{Repeated}
 use Rattle.vax_sched.specs.declared.rule.Rule.{Rule}

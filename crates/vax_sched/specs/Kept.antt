@@ -1,5 +1,5 @@
 -- What a schedule keeps: its rules, and those of each kind by themselves.
-use Rattle.std.specs.Prelude.{◌≡◌, ◌<◌, ℕ, ◌^◌, Bool, true, false, ◌&&◌, nat_lt, nat_le, List, length, Option, None, Some}
+use Rattle.std.specs.Prelude.{◌≡◌, ◌<◌, ◌^◌, Bool, true, false, ◌&&◌, nat_lt, nat_le, List, length, Option, None, Some}
 use Rattle.std.specs.List.{filter_map, list_all}
 use Rattle.std.specs.List.Sorted.{IsNonDecreasingBy}
 use Rattle.vax_sched.specs.Rules.{Reading, silent, says, malformed}

@@ -1,17 +1,13 @@
 -- What a line says.
-use Rattle.std.specs.Prelude.{ℕ, ◌*◌, ◌/◌, ◌%◌, ◌^◌, ◌==◌, Bool, true, false, not, ◌&&◌, ◌||◌, nat_lt, nat_le, List, [], ◌∷◌, length, map, codes, Option, None, Some, if◌then◌else◌}
+use Rattle.std.specs.Prelude.{ℕ, ◌/◌, ◌%◌, ◌^◌, ◌==◌, Bool, ◌||◌, List, [], ◌∷◌, length, map, codes, Option, None, Some, if◌then◌else◌}
 use Rattle.std.specs.Option.{option_map}
 use Rattle.std.specs.List.{list_all, filter_map}
-use Rattle.std.specs.Char.{digit_value}
-use Rattle.std.specs.Str.Parse.{digits_value}
 use Rattle.std.specs.Str.{bytes_eq}
 use Rattle.vax_lines.specs.Lines.{Text, begins_with, lines}
 use Rattle.vax_lines.specs.Words.{words, is_trimmed}
 use Rattle.vax_lines.specs.Numbers.{number, number_in}
 use Rattle.vax_sched.specs.declared.rule.Target.{Target}
 use Rattle.vax_sched.specs.declared.rule.Target.TheVariants.{Page, All}
-use Rattle.vax_sched.specs.declared.rule.Fixed.{Fixed}
-use Rattle.vax_sched.specs.declared.rule.Repeated.{Repeated}
 use Rattle.vax_sched.specs.declared.rule.Rule.{Rule}
 use Rattle.vax_sched.specs.declared.rule.Rule.TheVariants.{At, Each}
 

@@ -1,7 +1,6 @@
 //! What a line says.
-ghost use Rattle.std.specs.Prelude.{◌≡◌, ◌<◌, ◌≤◌, ◌^◌, [], ◌∷◌, true, IfSome};
+ghost use Rattle.std.specs.Prelude.{◌≡◌, ◌<◌, ◌^◌, [], ◌∷◌, true, IfSome};
 ghost use Rattle.std.specs.List.{list_all};
-ghost use Rattle.std.specs.Char.{digit_value};
 ghost use Rattle.vax_lines.specs.Words.{words};
 ghost use Rattle.vax_sched.specs.Rules.{is_silent, is_blank, line_of, page, rule_of, target};
 ghost use Rattle.vax_sched.specs.Kept.{is_page, is_proper, is_proper_reading};

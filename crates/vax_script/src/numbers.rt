@@ -1,5 +1,5 @@
 //! The numbers of a script.
-ghost use Rattle.std.specs.Prelude.{◌≡◌, ◌<◌, ◌≤◌, ◌-◌, ◌*◌, ◌^◌, length, IfSome};
+ghost use Rattle.std.specs.Prelude.{◌≡◌, ◌<◌, ◌≤◌, ◌-◌, ◌*◌, length, IfSome};
 ghost use Rattle.vax_script.specs.Numbers.{byte, bytes, longword, register, register_number, some_bytes};
 
 use crate::request::Deposit;

@@ -1,5 +1,5 @@
 //! The table that a space keeps beside its areas, so that a reference finds a page's protection code in one step.
-ghost use Rattle.std.specs.Prelude.{◌≡◌, ◌≤◌, ◌<◌, ◌+◌, true, length, IfSome, IfOk, drop};
+ghost use Rattle.std.specs.Prelude.{◌≡◌, ◌≤◌, ◌<◌, ◌+◌, true, length, IfSome, IfOk};
 ghost use Rattle.vax_space.specs.Faults.{is_placed, IsSpace};
 ghost use Rattle.vax_space.specs.Lookup as spec;
 

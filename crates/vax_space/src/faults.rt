@@ -1,5 +1,5 @@
 //! Finds the first area at fault in a list of areas.
-ghost use Rattle.std.specs.Prelude.{◌≡◌, ◌≤◌, ◌<◌, ◌+◌, ◌^◌, IfSome, IfNone};
+ghost use Rattle.std.specs.Prelude.{◌≡◌, ◌<◌, ◌+◌, IfSome, IfNone};
 ghost use Rattle.vax_space.specs.Areas as areas_spec;
 ghost use Rattle.vax_space.specs.Faults as spec;
 

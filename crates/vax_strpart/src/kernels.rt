@@ -1,5 +1,5 @@
 //! The kernels.
-ghost use Rattle.std.specs.Prelude.{◌≡◌, ◌+◌, ◌<◌, ◌≤◌, ◌==◌, not, IfSome, length, map};
+ghost use Rattle.std.specs.Prelude.{◌≡◌, ◌<◌, ◌==◌, not, IfSome, length, map};
 ghost use Rattle.std.specs.List.{position, zip};
 ghost use Rattle.vax_strpart.specs.Kernels.{first_difference, is_escape, is_hit, is_miss, translated, translated_until};
 

@@ -1,5 +1,5 @@
 //! Tests of 32 bytes at a time. Bit k of an answer is the answer at byte k.
-ghost use Rattle.std.specs.Prelude.{◌≡◌, ◌+◌, ◌≤◌, ◌==◌, not, length, map, take, drop, slice_index, bit_and};
+ghost use Rattle.std.specs.Prelude.{◌≡◌, ◌+◌, ◌≤◌, ◌==◌, not, length, map, take, drop};
 ghost use Rattle.std.specs.List.{zip};
 ghost use Rattle.std.specs.Simd.Lanes.{mask_l};
 ghost use Rattle.vax_strpart.specs.Kernels.{is_escape, is_hit, is_miss, translated};

@@ -1,5 +1,5 @@
 -- What a changed entry says, and what a change makes of the meaning of the tables.
-use Rattle.std.proofs.Common.{◌≡◌, ℕ, ◌<◌, ◌≤◌, ◌^◌, Bool, true, false, refl, ◌∙◌, ap, sym, arith, cond, nat_eq, inl, inr, List, Option, Some, None}
+use Rattle.std.proofs.Common.{◌≡◌, ℕ, ◌<◌, ◌≤◌, ◌^◌, Bool, true, false, refl, ◌∙◌, ap, sym, arith, nat_eq, inl, inr, List, Option, Some, None}
 use Rattle.std.specs.Prelude.{option_map, if◌then◌else◌}
 use Rattle.std.proofs.Math.Path.{fun_ext}
 use Rattle.std.proofs.lemmas.Bool.{cases_eq, false≢true}
@@ -12,7 +12,7 @@ use Rattle.vax_table.specs.declared.Walk.TheVariants.{Resident, Absent, Outside}
 use Rattle.vax_table.specs.declared.memory.Memory.{Memory}
 use Rattle.vax_table.specs.Entry.{entry_at, said_by, kept_by, entry_with, prot_in, is_valid, is_modified, frame_in}
 use Rattle.vax_table.specs.Layout.{walked_in, kept_in, place_of, IsSound}
-use Rattle.vax_table.specs.Mapping.{changed, mapped, inside, present, is_inside, is_resident, frame_of, set_in, cleared, marked, dirty, Held}
+use Rattle.vax_table.specs.Mapping.{changed, mapped, inside, is_inside, is_resident, frame_of, set_in, cleared, marked, dirty, Held}
 use Rattle.vax_table.proofs.Entries.{valid_keeps_none, cleared_keeps_none, kept_keeps}
 use Rattle.vax_table.proofs.Filled.{said_made}
 use Rattle.vax_table.proofs.Walks.{said_at, walked_at, kept_at, kept_is, said_outside, changed_here, changed_other}

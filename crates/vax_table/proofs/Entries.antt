@@ -1,7 +1,7 @@
 -- What an entry that was made says.
-use Rattle.std.proofs.Common.{◌≡◌, ℕ, ◌+◌, ◌*◌, ◌/◌, ◌%◌, ◌<◌, ◌≤◌, ◌^◌, Bool, true, false, Option, Some, None, refl, ◌∙◌, ap, sym, arith}
+use Rattle.std.proofs.Common.{◌≡◌, ℕ, ◌<◌, ◌≤◌, ◌^◌, Bool, true, false, Some, None, refl, arith}
 use Rattle.std.proofs.lemmas.Bool.Decides.{nat_tests}
-use Rattle.vax_table.specs.Entry.{entry_with, said_by, kept_by, prot_in, is_valid, is_modified, frame_in, bit}
+use Rattle.vax_table.specs.Entry.{entry_with, kept_by, prot_in, is_valid, is_modified, frame_in}
 
 pub prot_made : (valid : Bool) (prot : ℕ) (modified : Bool) (frame : ℕ) → prot ≤ 15 → frame < 2 ^ 21 → prot_in (entry_with valid prot modified frame) ≡ prot
 unfolding entry_with

@@ -1,23 +1,22 @@
 -- New tables: every page of an area is absent, with its protection.
-use Rattle.std.proofs.Common.{◌≡◌, ℕ, ◌+◌, ◌-◌, ◌*◌, ◌/◌, ◌%◌, ◌<◌, ◌≤◌, ◌^◌, Bool, true, false, refl, ◌∙◌, ap, sym, arith, cond, nat_lt, nat_le, nat_eq, inl, inr, List, Option, Some, None, length}
-use Rattle.std.specs.Prelude.{option_map, if◌then◌else◌, unwrap_or}
+use Rattle.std.proofs.Common.{◌≡◌, ℕ, ◌+◌, ◌-◌, ◌*◌, ◌<◌, ◌≤◌, ◌^◌, Bool, true, false, refl, ◌∙◌, ap, sym, arith, nat_lt, nat_le, nat_eq, inl, inr, List, Option, Some, None, length}
+use Rattle.std.specs.Prelude.{if◌then◌else◌, unwrap_or}
 use Rattle.std.proofs.Math.Path.{fun_ext}
 use Rattle.std.proofs.lemmas.Bool.{cases_lt, cases_eq}
 use Rattle.std.proofs.lemmas.Bool.Decides.{nat_tests}
 use Rattle.std.proofs.lemmas.Option.{none-some}
 use Rattle.vax_space.specs.declared.Area.{Area}
 use Rattle.vax_space.specs.Areas.{prot_of}
-use Rattle.vax_space.specs.Faults.{IsSpace, is_protection}
+use Rattle.vax_space.specs.Faults.{IsSpace}
 use Rattle.vax_space.specs.Reference.{program_end, control_start, is_past_region}
 use Rattle.vax_space.proofs.PastRegions.{past_has_none, tables_have_none, prot_valid, prot_bounds}
-use Rattle.vax_table.specs.declared.Walk.{Walk}
 use Rattle.vax_table.specs.declared.Walk.TheVariants.{Resident, Absent, Outside}
 use Rattle.vax_table.specs.declared.memory.Memory.{Memory}
-use Rattle.vax_table.specs.Entry.{entry_at, said_by, kept_by, entry_with, prot_in, is_valid, is_modified, frame_in}
+use Rattle.vax_table.specs.Entry.{entry_at, said_by, kept_by, entry_with, prot_in}
 use Rattle.vax_table.specs.Layout.{walked_in, kept_in, frame_at, place_of, table_page, absent_entry, first_entry, p0_tables, p1_first, p1_place, total, IsFilled, IsSound}
 use Rattle.vax_table.specs.Mapping.{changed, mapped, all_absent, none_kept, inside}
 use Rattle.vax_table.proofs.Entries.{prot_made, valid_made, modified_made, frame_made, valid_keeps_none, cleared_keeps_none}
-use Rattle.vax_table.proofs.Places.{place_cases, place_within, place_p0, place_p0_past, place_p1, place_p1_past, place_system, place_past, InP0, InP1, InSystem}
+use Rattle.vax_table.proofs.Places.{place_cases, place_within, place_p0, place_p0_past, place_p1, place_p1_past, place_system, place_past}
 use Rattle.vax_table.proofs.Walks.{said_at, walked_at, kept_at, kept_is, said_outside, table_says, changed_here, changed_other}
 
 pub filled_more : (areas : List Area) (p0 p1 place entry : ℕ) (old new : List ℕ) → length new ≡ length old → ((n : ℕ) → entry_at new n ≡ changed (entry_at old) place entry n) → entry ≡ first_entry areas p0 p1 place → IsFilled areas p0 p1 place old → IsFilled areas p0 p1 (place + 1) new

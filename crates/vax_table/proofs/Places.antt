@@ -1,11 +1,10 @@
 -- Where the entries lie: the translation through the system page table finds a page's own place.
-use Rattle.std.proofs.Common.{◌≡◌, ℕ, ◌+◌, ◌-◌, ◌*◌, ◌/◌, ◌%◌, ◌<◌, ◌≤◌, ◌^◌, Bool, true, false, refl, ◌∙◌, ap, sym, arith, cond, nat_lt, nat_le, inl, inr, ◌⊎◌, List, Option, Some, None}
-use Rattle.std.specs.Prelude.{option_map, if◌then◌else◌}
+use Rattle.std.proofs.Common.{◌≡◌, ℕ, ◌+◌, ◌-◌, ◌*◌, ◌/◌, ◌%◌, ◌<◌, ◌≤◌, ◌^◌, true, false, refl, ◌∙◌, ap, sym, arith, nat_lt, nat_le, inl, inr, ◌⊎◌, List, Some, None}
 use Rattle.std.proofs.lemmas.Bool.{cases_lt, ltb-true, leb-true}
 use Rattle.std.proofs.lemmas.Bool.Decides.{nat_tests}
 use Rattle.std.proofs.lemmas.Option.{cond_some}
-use Rattle.vax_table.specs.Entry.{entry_at, frame_in, entry_with}
-use Rattle.vax_table.specs.Layout.{wired_frame, p0_base, p1_base, physical, process_entry, p0_tables, p1_first, p1_place, total, place_of, frame_at, table_entry, table_page}
+use Rattle.vax_table.specs.Entry.{entry_at, frame_in}
+use Rattle.vax_table.specs.Layout.{wired_frame, p0_base, p1_base, physical, p0_tables, p1_first, p1_place, total, place_of, frame_at, table_entry, table_page}
 use Rattle.vax_table.proofs.Entries.{frame_made}
 
 -- an address in the page of a table that lies in a frame of the wired memory

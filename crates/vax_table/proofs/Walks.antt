@@ -1,18 +1,17 @@
 -- What a walk says of each page, by the entries at the pages' places.
-use Rattle.std.proofs.Common.{◌≡◌, ℕ, ◌+◌, ◌-◌, ◌*◌, ◌/◌, ◌%◌, ◌<◌, ◌≤◌, ◌^◌, Bool, true, false, refl, ◌∙◌, ap, sym, arith, cond, nat_lt, nat_le, nat_eq, inl, inr, List, Option, Some, None, length}
+use Rattle.std.proofs.Common.{◌≡◌, ℕ, ◌+◌, ◌-◌, ◌*◌, ◌<◌, ◌≤◌, Bool, true, false, refl, ◌∙◌, ap, sym, arith, nat_lt, nat_le, nat_eq, inl, inr, List, Option, Some, None, length}
 use Rattle.std.specs.Prelude.{option_map, option_and_then, if◌then◌else◌}
 use Rattle.std.proofs.Math.Path.{fun_ext}
 use Rattle.std.proofs.lemmas.Bool.{cases_lt, cases_eq, false≢true}
 use Rattle.std.proofs.lemmas.Bool.Decides.{nat_tests}
-use Rattle.std.proofs.lemmas.Option.{none-some, same_Some}
 use Rattle.vax_table.specs.declared.Walk.{Walk}
-use Rattle.vax_table.specs.declared.Walk.TheVariants.{Resident, Absent, Outside}
+use Rattle.vax_table.specs.declared.Walk.TheVariants.{Outside}
 use Rattle.vax_table.specs.declared.memory.Memory.{Memory}
 use Rattle.vax_table.specs.Entry.{entry_at, said_by, kept_by, entry_with, prot_in}
-use Rattle.vax_table.specs.Layout.{p0_base, p1_base, process_entry, entry_of, said_or_past, walked_in, kept_in, place_of, table_page, table_entry, frame_at, p0_tables, p1_first, p1_place, total, IsSound}
+use Rattle.vax_table.specs.Layout.{entry_of, said_or_past, walked_in, kept_in, place_of, table_page, frame_at, p0_tables, p1_first, p1_place, IsSound}
 use Rattle.vax_table.specs.Mapping.{changed, is_inside}
 use Rattle.vax_table.proofs.Entries.{prot_made}
-use Rattle.vax_table.proofs.Places.{found_p0, found_p1, place_cases, place_within, place_apart, InP0, InP1, InSystem}
+use Rattle.vax_table.proofs.Places.{found_p0, found_p1, place_apart}
 
 -- the translation finds the entry at the page's place
 entry_found : (memory : Memory) (page : ℕ) → IsSound memory → entry_of memory page ≡ option_map (entry_at memory.bytes.items) (place_of memory.p0_end memory.p1_start page)

@@ -1,6 +1,6 @@
 -- The page tables in physical memory, and the translation through them
 -- (VAX Architecture Reference Manual, memory management, address translation).
-use Rattle.std.specs.Prelude.{◌≡◌, ℕ, ◌+◌, ◌-◌, ◌*◌, ◌/◌, ◌%◌, ◌^◌, ◌<◌, ◌≤◌, Bool, true, false, if◌then◌else◌, nat_lt, nat_le, Option, Some, None, option_and_then, unwrap_or, List, length}
+use Rattle.std.specs.Prelude.{◌≡◌, ℕ, ◌+◌, ◌-◌, ◌*◌, ◌/◌, ◌%◌, ◌^◌, ◌<◌, ◌≤◌, true, false, if◌then◌else◌, nat_lt, nat_le, Option, Some, None, option_and_then, unwrap_or, List, length}
 use Rattle.vax_space.specs.declared.Area.{Area}
 use Rattle.vax_space.specs.Areas.{prot_of}
 use Rattle.vax_table.specs.declared.Walk.{Walk}

@@ -1,12 +1,10 @@
 //! The wired memory in which the page tables lie.
-ghost use Rattle.std.specs.Prelude.{◌≡◌, ◌≤◌, ◌<◌, ◌*◌, ◌+◌, ◌-◌, ◌/◌, ◌^◌, ℕ, true, length, Some, IfOk, IfSome};
+ghost use Rattle.std.specs.Prelude.{◌≡◌, ◌≤◌, ◌<◌, ◌*◌, ◌+◌, ◌-◌, ◌/◌, ◌^◌, true, length, Some, IfOk, IfSome};
 ghost use Rattle.vax_table.specs.Entry as entry_spec;
 ghost use Rattle.vax_table.specs.Layout as layout;
 ghost use Rattle.vax_table.specs.Layout.{IsSound, walked_in, kept_in, total, IsFilled};
 ghost use Rattle.vax_table.specs.Mapping.{changed, is_inside, mapped, all_absent, none_kept};
-ghost use Rattle.vax_space.specs.Faults.{IsSpace};
 ghost use Rattle.vax_space.specs.Areas.{prot_of};
-ghost use Rattle.vax_space.specs.Reference.{program_end, control_start};
 
 use crate::entry::{NO_AREA, entry_at, entry_with, frame_in, put_entry};
 use std::alloc::Global;

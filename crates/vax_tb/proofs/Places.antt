@@ -1,8 +1,8 @@
 -- Entries of a translation buffer, and its places.
-use Rattle.std.proofs.Common.{ℕ, zero, suc, ◌≡◌, ◌≢◌, ◌+◌, ◌%◌, ◌<◌, ◌≤◌, Bool, true, false, List, [], ◌∷◌, length, cond, eqb, slice_index_or, slice_set, get_or-set_same, get_or-set_other, length-set, refl, ap, sym, ◌∙◌, subst, arith, inl, inr, Option, Some, None, replicate}
+use Rattle.std.proofs.Common.{ℕ, zero, suc, ◌≡◌, ◌≢◌, ◌%◌, ◌<◌, ◌≤◌, Bool, true, false, List, [], ◌∷◌, length, eqb, slice_index_or, slice_set, get_or-set_same, get_or-set_other, length-set, refl, ap, sym, ◌∙◌, subst, arith, inl, inr, Option, Some, None, replicate}
 use Rattle.std.specs.Prelude.{◌==◌, ◌&&◌, if◌then◌else◌, is_some}
 use Rattle.std.proofs.Math.Path.{fun_ext}
-use Rattle.std.proofs.lemmas.Bool.{cases_Bool, cases_eq, eq-eqb, ne_eqb, eqb-true}
+use Rattle.std.proofs.lemmas.Bool.{cases_Bool, cases_eq, eq-eqb, ne_eqb}
 use Rattle.std.proofs.lemmas.List.{length-replicate}
 use Rattle.vax_space.specs.declared.Access.{Access}
 use Rattle.vax_space.specs.declared.Access.TheVariants.{Read, Write}
@@ -12,7 +12,6 @@ use Rattle.vax_space.specs.Protection.{allows, permits, right_of}
 use Rattle.vax_table.specs.declared.Walk.{Walk}
 use Rattle.vax_table.specs.declared.Walk.TheVariants.{Resident, Absent, Outside}
 use Rattle.vax_tb.specs.declared.buffer.Entry.{Entry}
-use Rattle.vax_tb.specs.declared.buffer.Said.{Said}
 use Rattle.vax_tb.specs.declared.buffer.Said.TheVariants as said
 use Rattle.vax_tb.specs.Buffer.{Agrees, filled, dropped, empty, leaves_entry, at_once, raised_if}
 use Rattle.vax_tb.specs.Entries.{no_entry, told, entry_for, unless_new, AreRights, AreSound}

@@ -5,7 +5,7 @@ use Rattle.vax_table.specs.declared.Walk.{Walk}
 use Rattle.vax_table.specs.declared.Walk.TheVariants.{Resident, Absent, Outside}
 use Rattle.vax_space.specs.declared.Right.{Right}
 use Rattle.vax_space.specs.declared.Right.TheVariants.{Nothing, ReadOnly, ReadWrite}
-use Rattle.vax_space.specs.Protection.{allows, permits}
+use Rattle.vax_space.specs.Protection.{permits}
 use Rattle.vax_tb.specs.declared.buffer.Entry.{Entry}
 use Rattle.vax_tb.specs.declared.buffer.Said.{Said}
 use Rattle.vax_tb.specs.declared.buffer.Said.TheVariants as said

@@ -1,5 +1,5 @@
 -- What a command comes to, from what its parts did, and which answers that allows.
-use Rattle.std.proofs.Common.{◌≡◌, ◌⊎◌, ◌++◌, inl, inr, ℕ, true, List, [], length, Option, None, Some, is_some, IfSome, MatchOption, Result, Ok, Err, refl, sym, ap, subst, ◌∙◌}
+use Rattle.std.proofs.Common.{◌≡◌, ◌⊎◌, ◌++◌, inl, inr, true, List, [], length, Option, None, Some, is_some, IfSome, MatchOption, Result, Ok, Err, refl, sym, ap, subst, ◌∙◌}
 use Rattle.std.specs.Option.{option_map_or}
 use Rattle.vax_outside.specs.Blocks.{BlockFile}
 use Rattle.vax_outside.specs.Channels.{Channels, Grew, only}
@@ -7,7 +7,6 @@ use Rattle.vax_outside.specs.declared.traits.Chan.TheVariants as channel
 use Rattle.vax_outside.specs.Directory.{Directory}
 use Rattle.vax_outside.specs.declared.traits.FilesFault.TheVariants as faults
 use Rattle.vax_space.specs.declared.Area.{Area}
-use Rattle.vax_sched.specs.declared.rule.Rule.{Rule}
 use Rattle.vax_image.specs.declared.Image.{Image}
 use Rattle.vax_asm_listing.specs.Listed as listed
 use Rattle.vax_machine.specs.Paged.{Why, ByEnding, BySteps, ByTurns}

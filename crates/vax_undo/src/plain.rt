@@ -96,7 +96,7 @@ impl Plain {
     ghost use Rattle.vax_flat.specs.Port.{StandsFor, first_absent, loaded, loaded_by, stop, stop_of, stored, unless_cut, with_run, with_number};
     ghost use Rattle.vax_flat.specs.Start.{start_memory};
     ghost use Rattle.vax_space.specs.Areas.{area_of};
-    ghost use Rattle.vax_undo.specs.Answers.{err_of, replaced};
+    ghost use Rattle.vax_undo.specs.Answers.{replaced};
     ghost use Rattle.vax_undo.specs.Blocks.{owner_of};
     ghost use Rattle.vax_undo.specs.Plain.{view_of, with_page};
 

@@ -1,5 +1,5 @@
 //! Memory in which pages may be absent.
-ghost use Rattle.std.specs.Prelude.{◌≡◌, ℕ, ◌+◌, ◌%◌, ◌^◌, ◌<◌, ◌≤◌, length, IfOk, OnOk, OnErr};
+ghost use Rattle.std.specs.Prelude.{◌≡◌, ◌+◌, ◌%◌, ◌^◌, ◌<◌, ◌≤◌, length, OnOk, OnErr};
 ghost use Rattle.vax_space.specs.Reference.{violation};
 ghost use Rattle.vax_flat.specs.Memory.{bytes_from};
 ghost use Rattle.vax_flat.specs.Port.{View, AreBytes, stop, loaded, stored, stored_run};

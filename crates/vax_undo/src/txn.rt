@@ -1,5 +1,5 @@
 //! Transactions.
-ghost use Rattle.std.specs.Prelude.{◌≡◌, ℕ, ◌+◌, ◌%◌, ◌^◌, ◌<◌, ◌≤◌, None, Some, [], is_some, length, slice_get, slice_index, vec_len, IfOk, OnOk, OnErr};
+ghost use Rattle.std.specs.Prelude.{◌≡◌, ◌+◌, ◌%◌, ◌^◌, ◌<◌, ◌≤◌, None, Some, is_some, length, slice_get, slice_index, vec_len, IfOk, OnOk, OnErr};
 ghost use Rattle.vax_undo.specs.Answers.{err_of};
 
 use crate::entry::{Entry, Kept};
@@ -144,7 +144,7 @@ fn restore(entry: Entry, core: &mut Core)
 impl<'a, P: Port> Txn<'a, P> {
     ghost use Rattle.vax_space.specs.Reference.{violation};
     ghost use Rattle.vax_undo.specs.FirstPart.{first_part_done};
-    ghost use Rattle.vax_flat.specs.State.{register, with_register, with_psl, with_stack, with_requests, with_timer, with_clock, with_taken, with_sent};
+    ghost use Rattle.vax_flat.specs.State.{register, with_register, with_psl, with_stack, with_requests, with_timer, with_clock, with_sent};
     ghost use Rattle.vax_flat.specs.Memory.{bytes_from};
     ghost use Rattle.vax_flat.specs.Port.{loaded, stored, stored_run, stop, unmarked};
     ghost use Rattle.vax_undo.specs.Transaction.{bare, state_of, present, undone, room, IsLeft, IsLeftOpen, IsReady, IsSame, Keeps, Updates, seen, with_view, next_byte, after_take};

@@ -3,7 +3,7 @@
 //! Each result is the exact one modulo 2 to those bits, and N and Z are read from it.
 
 ghost use Rattle.std.specs.Prelude.{◌≡◌, ◌+◌, ◌*◌, ◌/◌, ◌%◌, ◌^◌, ◌<◌, ◌≤◌, ◌≢◌, unsigned_abs, false};
-ghost use Rattle.vax_word.specs.Arithmetic.{bytes_of, modulus, sign_bit, is_negative, signed, is_less, compared, low_bits, answer, signed_answer, sum, difference, product, quotient, shifted, converted, extended_product, extended_quotient};
+ghost use Rattle.vax_word.specs.Arithmetic.{bytes_of, modulus, sign_bit, is_negative, signed, is_less, compared, answer, signed_answer, sum, difference, product, quotient, shifted, converted, extended_product, extended_quotient};
 
 use crate::{Codes, Size};
 

@@ -8,7 +8,7 @@
 mod shapes;
 mod stack;
 
-ghost use Rattle.std.specs.Prelude.{◌≡◌, ◌≤◌};
+ghost use Rattle.std.specs.Prelude.{◌≤◌};
 ghost use Rattle.vax_flat.specs.Call.{performed};
 ghost use Rattle.vax_undo.specs.Rooms.{room_of_call};
 ghost use Rattle.vax_undo.specs.Transaction.{room, Keeps, Does};

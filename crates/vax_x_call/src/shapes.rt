@@ -1,5 +1,5 @@
 //! One function for each instruction.
-ghost use Rattle.std.specs.Prelude.{◌≡◌, ◌+◌, ◌<◌, ◌≤◌, ◌^◌, IfOk};
+ghost use Rattle.std.specs.Prelude.{◌≡◌, ◌+◌, ◌<◌, ◌≤◌};
 ghost use Rattle.vax_flat.specs.Call as call;
 ghost use Rattle.vax_undo.specs.Transaction.{present, room, Keeps, Does, Updates};
 

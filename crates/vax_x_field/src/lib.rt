@@ -9,7 +9,7 @@ mod bits;
 mod fields;
 mod shapes;
 
-ghost use Rattle.std.specs.Prelude.{◌≡◌, ◌≤◌};
+ghost use Rattle.std.specs.Prelude.{◌≤◌};
 ghost use Rattle.vax_flat.specs.Field.{performed};
 ghost use Rattle.vax_undo.specs.Rooms.{room_of_field};
 ghost use Rattle.vax_undo.specs.Transaction.{room, Keeps, Does};

@@ -6,7 +6,7 @@
 mod conditions;
 mod shapes;
 
-ghost use Rattle.std.specs.Prelude.{◌≡◌, ◌≤◌};
+ghost use Rattle.std.specs.Prelude.{◌≤◌};
 ghost use Rattle.vax_flat.specs.Control.{performed};
 ghost use Rattle.vax_undo.specs.Rooms.{room_of_transfer};
 ghost use Rattle.vax_undo.specs.Transaction.{room, Keeps, Does};

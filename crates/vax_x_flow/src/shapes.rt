@@ -1,5 +1,5 @@
 //! One function for each shape of instruction.
-ghost use Rattle.std.specs.Prelude.{◌≡◌, ℕ, ◌^◌, ◌<◌, ◌≤◌};
+ghost use Rattle.std.specs.Prelude.{◌≡◌, ◌^◌, ◌<◌, ◌≤◌};
 ghost use Rattle.vax_word.specs.Arithmetic.{bytes_of};
 ghost use Rattle.vax_isa.specs.Actions.{size_of};
 ghost use Rattle.vax_flat.specs.Control as control;

@@ -7,7 +7,7 @@
 mod results;
 mod shapes;
 
-ghost use Rattle.std.specs.Prelude.{◌≡◌, ◌≤◌};
+ghost use Rattle.std.specs.Prelude.{◌≤◌};
 ghost use Rattle.vax_flat.specs.Integer.{performed};
 ghost use Rattle.vax_undo.specs.Rooms.{room_of_integer};
 ghost use Rattle.vax_undo.specs.Transaction.{room, Keeps, Does};

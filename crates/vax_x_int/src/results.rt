@@ -1,5 +1,5 @@
 //! Results of one and of two operands, with their condition codes.
-ghost use Rattle.std.specs.Prelude.{◌≡◌, ◌+◌, ◌-◌, ◌*◌, ◌/◌, ◌%◌, ◌^◌, ◌<◌};
+ghost use Rattle.std.specs.Prelude.{◌≡◌, ◌+◌, ◌-◌, ◌/◌, ◌%◌, ◌^◌, ◌<◌};
 ghost use Rattle.vax_word.specs.Arithmetic.{bytes_of, modulus, answer};
 ghost use Rattle.vax_isa.specs.Actions.{size_of};
 ghost use Rattle.vax_flat.specs.Integer.{complement, of_one, of_two, is_by_zero, rotated};

@@ -1,6 +1,5 @@
 //! One function for each shape of instruction.
-ghost use Rattle.std.specs.Prelude.{◌≡◌, ℕ, ◌^◌, ◌<◌, ◌≤◌};
-ghost use Rattle.vax_word.specs.Arithmetic.{bytes_of};
+ghost use Rattle.std.specs.Prelude.{◌≡◌, ◌^◌, ◌<◌, ◌≤◌};
 ghost use Rattle.vax_isa.specs.Actions.{size_of};
 ghost use Rattle.vax_flat.specs.Integer as integer;
 ghost use Rattle.vax_flat.specs.Rows.{carry_of};

@@ -5,7 +5,7 @@
 
 mod shapes;
 
-ghost use Rattle.std.specs.Prelude.{◌≡◌, ◌≤◌};
+ghost use Rattle.std.specs.Prelude.{◌≤◌};
 ghost use Rattle.vax_flat.specs.Queue.{performed};
 ghost use Rattle.vax_undo.specs.Rooms.{room_of_queue};
 ghost use Rattle.vax_undo.specs.Transaction.{room, Keeps, Does};

@@ -1,5 +1,5 @@
 //! CMPC3 and CMPC5.
-ghost use Rattle.std.specs.Prelude.{◌≡◌, ℕ, ◌+◌, ◌-◌, ◌<◌, ◌≤◌, List, length};
+ghost use Rattle.std.specs.Prelude.{◌≡◌, ◌+◌, ◌-◌, ◌<◌, ◌≤◌, length};
 ghost use Rattle.vax_flat.specs.String as text;
 ghost use Rattle.vax_flat.specs.StringCompare as comparison;
 ghost use Rattle.vax_undo.specs.Transaction.{present, room, Keeps, KeepsUnlessDone, Acts, Does, Passes};

@@ -1,5 +1,5 @@
 //! MOVC3, MOVC5 and MOVTC.
-ghost use Rattle.std.specs.Prelude.{◌≡◌, ℕ, ◌+◌, ◌-◌, ◌/◌, ◌%◌, ◌<◌, ◌≤◌, List, Ok, length, min};
+ghost use Rattle.std.specs.Prelude.{◌≡◌, ◌+◌, ◌-◌, ◌/◌, ◌%◌, ◌<◌, ◌≤◌, Ok, length, min};
 ghost use Rattle.vax_flat.specs.String as text;
 ghost use Rattle.vax_flat.specs.StringMove as moving;
 ghost use Rattle.vax_undo.specs.Transaction.{present, room, Keeps, KeepsUnlessDone, Acts, Does, Passes};

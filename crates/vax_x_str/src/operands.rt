@@ -1,5 +1,5 @@
 //! The operands of an instruction, as the progress at its start.
-ghost use Rattle.std.specs.Prelude.{◌≡◌, ◌+◌, ◌-◌, ◌%◌, ◌^◌, ◌<◌, ◌≤◌, IfOk};
+ghost use Rattle.std.specs.Prelude.{◌≡◌, ◌-◌, ◌%◌, ◌^◌, ◌<◌, ◌≤◌, IfOk};
 ghost use Rattle.vax_flat.specs.Operand.{plus};
 ghost use Rattle.vax_flat.specs.StringOperands as operands;
 ghost use Rattle.vax_undo.specs.Transaction.{room, Keeps, Does};

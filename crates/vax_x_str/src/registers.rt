@@ -1,5 +1,5 @@
 //! R0 to R5, PC and the processor status between the parts of an instruction.
-ghost use Rattle.std.specs.Prelude.{◌≡◌, ◌+◌, ◌-◌, ◌^◌, ◌<◌, ◌≤◌};
+ghost use Rattle.std.specs.Prelude.{◌≡◌, ◌+◌, ◌-◌, ◌<◌, ◌≤◌};
 ghost use Rattle.vax_flat.specs.declared.Flow.TheVariants as flow;
 ghost use Rattle.vax_flat.specs.State.{with_conditions, with_psl};
 ghost use Rattle.vax_flat.specs.StringOperands.{begun};

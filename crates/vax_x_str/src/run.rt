@@ -1,5 +1,5 @@
 //! Runs of bytes, in the current access mode.
-ghost use Rattle.std.specs.Prelude.{◌≡◌, ℕ, ◌+◌, ◌-◌, ◌/◌, ◌%◌, ◌<◌, ◌≤◌, List, length, OnErr, OnOk};
+ghost use Rattle.std.specs.Prelude.{◌≡◌, ◌+◌, ◌-◌, ◌/◌, ◌%◌, ◌<◌, ◌≤◌, length, OnErr, OnOk};
 ghost use Rattle.vax_flat.specs.String.{read_run_at, read_span, write_run_at};
 ghost use Rattle.vax_flat.specs.StringMove.{pieces_of, write_high_last, write_low_last, write_pieces, write_span};
 ghost use Rattle.vax_undo.specs.Transaction.{present, room, IsLeft, IsLeftOpen, Keeps, Acts, Passes};

@@ -1,5 +1,5 @@
 //! LOCC, SKPC, SCANC and SPANC.
-ghost use Rattle.std.specs.Prelude.{◌≡◌, ℕ, ◌+◌, ◌-◌, ◌%◌, ◌<◌, ◌≤◌, Bool, IfSome, List, length, replicate};
+ghost use Rattle.std.specs.Prelude.{◌≡◌, ◌+◌, ◌-◌, ◌%◌, ◌<◌, ◌≤◌, IfSome, length};
 ghost use Rattle.std.specs.List.{position, position_or_len};
 ghost use Rattle.vax_flat.specs.StringSearch as search;
 ghost use Rattle.vax_undo.specs.Transaction.{present, room, Keeps, KeepsUnlessDone, Does, Passes};

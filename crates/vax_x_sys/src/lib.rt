@@ -11,7 +11,7 @@ mod registers;
 mod shapes;
 mod stacks;
 
-ghost use Rattle.std.specs.Prelude.{◌≡◌, ◌≤◌};
+ghost use Rattle.std.specs.Prelude.{◌≤◌};
 ghost use Rattle.vax_flat.specs.System.{performed};
 ghost use Rattle.vax_undo.specs.Rooms.{room_of_transfer};
 ghost use Rattle.vax_undo.specs.Transaction.{room, Keeps, Does};

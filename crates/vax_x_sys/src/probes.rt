@@ -1,5 +1,5 @@
 //! PROBER and PROBEW (VAX MACRO and Instruction Set Reference Manual, PROBE).
-ghost use Rattle.std.specs.Prelude.{◌≡◌, ◌^◌, ◌<◌, ◌≤◌, ℕ};
+ghost use Rattle.std.specs.Prelude.{◌≡◌, ◌^◌, ◌<◌, ◌≤◌};
 ghost use Rattle.vax_flat.specs.System.{accessing, probe, probed};
 ghost use Rattle.vax_undo.specs.Transaction.{room, Keeps, Does};
 

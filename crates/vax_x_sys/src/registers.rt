@@ -1,5 +1,5 @@
 //! The registers of the processor, MTPR and MFPR (VAX Architecture Reference Manual, processor registers).
-ghost use Rattle.std.specs.Prelude.{◌≡◌, ◌<◌, ◌≤◌, ◌%◌, ◌^◌, ℕ};
+ghost use Rattle.std.specs.Prelude.{◌≡◌, ◌<◌, ◌≤◌, ◌%◌};
 ghost use Rattle.vax_flat.specs.System.{clock_set, from_register, get_processor, pointer, requested, set_processor, to_register, with_moved, with_pointer, with_priority};
 ghost use Rattle.vax_undo.specs.Transaction.{present, room, Keeps, Does, Updates};
 

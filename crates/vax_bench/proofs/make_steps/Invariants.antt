@@ -1,4 +1,4 @@
-use Rattle.std.proofs.Common.{◌≡◌, None, ℕ}
+use Rattle.std.proofs.Common.{◌≡◌, None}
 use Rattle.vax_bench.proofs.make_steps.Given as goal
 
 -- nothing is left that was sent to the console

@@ -6,8 +6,8 @@ use Rattle.vax_asm_statement.specs.Parts.{parts}
 use Rattle.vax_asm_data.proofs.boundary.space.Goals as goal
 use Rattle.vax_asm_data.proofs.boundary.space.Goals.{in-empty, in-len1}
 
-pub counted-requires : goal.counted-requires
-counted-requires c =
+pub known_count-requires : goal.known_count-requires
+known_count-requires c =
     let line = c.in-Ok-site_of.site.line.now.value.items in
     let on_line : line ≡ c.args.line.now.value.items = ap (λ (s : Site). s.line) c.in-Ok-site_of.ensures in
     let tokens : All (IsTokenOf line) c.args.operands.now = rw on_line c.requires.tokens in

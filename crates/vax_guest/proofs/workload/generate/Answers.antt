@@ -1,4 +1,4 @@
-use Rattle.std.proofs.Common.{◌≡◌, ◌++◌, ℕ, Vec, Global, sym, ap, ◌∙◌, string_bytes}
+use Rattle.std.proofs.Common.{◌++◌, ℕ, Vec, Global, ap, ◌∙◌, string_bytes}
 use Rattle.std.specs.List.{flat_map}
 use Rattle.vax_guest.proofs.Lines.{lines_more, lines_all}
 use Rattle.vax_guest.specs.Executive.{line}

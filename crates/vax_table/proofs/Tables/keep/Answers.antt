@@ -1,4 +1,4 @@
-use Rattle.std.proofs.Common.{◌≡◌, true, false, ap, sym, ◌∙◌}
+use Rattle.std.proofs.Common.{true, false, ap, sym, ◌∙◌}
 use Rattle.vax_table.specs.Entry.{said_by, kept_by, entry_at, prot_in, frame_in, entry_with}
 use Rattle.vax_table.specs.Layout.{walked_in}
 use Rattle.vax_table.specs.Mapping.{changed, cleared, frame_of, is_inside, is_resident}

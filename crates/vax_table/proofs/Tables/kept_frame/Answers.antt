@@ -1,4 +1,4 @@
-use Rattle.std.proofs.Common.{◌≡◌, ap, sym, ◌∙◌}
+use Rattle.std.proofs.Common.{ap, sym, ◌∙◌}
 use Rattle.vax_table.specs.Entry.{kept_by, entry_at}
 use Rattle.vax_table.proofs.Changes.{old_keeps, none_keeps}
 use Rattle.vax_table.proofs.Tables.kept_frame.Goals as goal

@@ -1,7 +1,7 @@
-use Rattle.std.proofs.Common.{◌≡◌, ◌<◌, ◌^◌, None, arith, true, false, ap, sym, ◌∙◌}
+use Rattle.std.proofs.Common.{true, ap, sym, ◌∙◌}
 use Rattle.vax_table.specs.Entry.{said_by, kept_by, entry_at, prot_in, frame_in, entry_with}
-use Rattle.vax_table.specs.Mapping.{changed, set_in, cleared, marked, is_inside, is_resident}
-use Rattle.vax_table.proofs.Changes.{old_says, said_set, said_cleared, said_marked, change_mapped, set_mapped, cleared_mapped, marked_mapped, resident_is_inside, keeps_none, keeps_no_more, frame_fits_in}
+use Rattle.vax_table.specs.Mapping.{changed, marked, is_resident}
+use Rattle.vax_table.proofs.Changes.{old_says, said_marked, change_mapped, marked_mapped, keeps_none, frame_fits_in}
 use Rattle.vax_table.proofs.Tables.mark.Goals as goal
 
 pub returns-clause-walked : goal.returns-clause-walked

@@ -1,7 +1,7 @@
-use Rattle.std.proofs.Common.{◌≡◌, ◌<◌, ◌^◌, None, arith, true, false, ap, sym, ◌∙◌}
-use Rattle.vax_table.specs.Entry.{said_by, kept_by, entry_at, prot_in, frame_in, entry_with}
-use Rattle.vax_table.specs.Mapping.{changed, set_in, cleared, marked, is_inside, is_resident}
-use Rattle.vax_table.proofs.Changes.{old_says, said_set, said_cleared, said_marked, change_mapped, set_mapped, cleared_mapped, marked_mapped, resident_is_inside, keeps_none, keeps_no_more, frame_fits_in}
+use Rattle.std.proofs.Common.{arith, true, false, ap, sym, ◌∙◌}
+use Rattle.vax_table.specs.Entry.{said_by, kept_by, entry_at, prot_in, entry_with}
+use Rattle.vax_table.specs.Mapping.{changed, set_in, is_inside}
+use Rattle.vax_table.proofs.Changes.{old_says, said_set, change_mapped, set_mapped, keeps_none}
 use Rattle.vax_table.proofs.Tables.set.Goals as goal
 
 pub returns-clause-walked : goal.returns-clause-walked

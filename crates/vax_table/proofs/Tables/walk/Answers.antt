@@ -1,4 +1,4 @@
-use Rattle.std.proofs.Common.{◌≡◌, ap, sym, ◌∙◌}
+use Rattle.std.proofs.Common.{ap, sym, ◌∙◌}
 use Rattle.vax_table.specs.Entry.{said_by, entry_at}
 use Rattle.vax_table.proofs.Changes.{old_says, none_outside}
 use Rattle.vax_table.proofs.Tables.walk.Goals as goal

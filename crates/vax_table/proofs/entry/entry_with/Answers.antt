@@ -1,4 +1,4 @@
-use Rattle.std.proofs.Common.{◌≡◌, rules}
+use Rattle.std.proofs.Common.{rules}
 use Rattle.vax_table.specs.Entry.{entry_with}
 use Rattle.vax_table.proofs.entry.entry_with.Goals.{then-valid, else-valid, then-modified, else-modified}
 use Rattle.vax_table.proofs.entry.entry_with.Goals as goal

@@ -1,4 +1,4 @@
-use Rattle.std.proofs.Common.{◌≡◌, ap, sym, ◌∙◌, length}
+use Rattle.std.proofs.Common.{◌≡◌, ap, ◌∙◌, length}
 use Rattle.vax_space.proofs.Tables.{written_back}
 use Rattle.vax_table.proofs.Filled.{filled_more}
 use Rattle.vax_table.proofs.memory.first_bytes.Goals as goal

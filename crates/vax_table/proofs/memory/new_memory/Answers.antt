@@ -1,4 +1,3 @@
-use Rattle.std.proofs.Common.{◌≡◌, refl}
 use Rattle.vax_table.proofs.Filled.{sound_new, walked_new, kept_new}
 use Rattle.vax_table.proofs.memory.new_memory.Goals as goal
 

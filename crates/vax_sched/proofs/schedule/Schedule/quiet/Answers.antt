@@ -1,4 +1,4 @@
-use Rattle.std.proofs.Common.{◌≡◌, rules, min, sym}
+use Rattle.std.proofs.Common.{◌≡◌, rules, min}
 use Rattle.vax_sched.proofs.DueLaws.{gap_of}
 use Rattle.vax_sched.proofs.KeptLaws.{divisors-kept}
 use Rattle.vax_sched.proofs.schedule.Schedule.quiet.Goals as goal

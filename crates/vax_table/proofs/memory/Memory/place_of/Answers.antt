@@ -1,4 +1,4 @@
-use Rattle.std.proofs.Common.{◌≡◌, ap, sym, ◌∙◌, Some, arith, ◌≤◌}
+use Rattle.std.proofs.Common.{ap, sym, ◌∙◌, Some}
 use Rattle.vax_table.proofs.Places.{found_p0, found_p1, wired_p0, wired_p1, place_p0, place_p0_past, place_p1, place_p1_past, place_system, place_past, bytes_within}
 use Rattle.vax_table.proofs.memory.Memory.place_of.Goals as goal
 

@@ -1,4 +1,4 @@
-use Rattle.std.proofs.Common.{◌≡◌, refl, ap, ◌∙◌, length}
+use Rattle.std.proofs.Common.{refl, ap, ◌∙◌, length}
 use Rattle.std.specs.Vec.{with_items}
 use Rattle.vax_space.proofs.Tables.{written_back}
 use Rattle.vax_table.specs.Entry.{entry_at}

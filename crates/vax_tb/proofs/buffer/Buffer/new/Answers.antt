@@ -1,4 +1,4 @@
-use Rattle.std.proofs.Common.{◌≡◌, refl}
+use Rattle.std.proofs.Common.{refl}
 use Rattle.vax_tb.proofs.Places.{new_sound, new_empty}
 use Rattle.vax_tb.proofs.buffer.Buffer.new.Goals as goal
 

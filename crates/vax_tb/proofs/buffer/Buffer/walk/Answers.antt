@@ -1,4 +1,4 @@
-use Rattle.std.proofs.Common.{◌≡◌, sym, ◌∙◌}
+use Rattle.std.proofs.Common.{sym, ◌∙◌}
 use Rattle.vax_tb.specs.Meaning.{buffered}
 use Rattle.vax_tb.proofs.Places.{there_filled, set_here, sound_here, agrees_now, counts_hit, counts_miss}
 use Rattle.vax_tb.proofs.buffer.Buffer.walk.Goals as goal
