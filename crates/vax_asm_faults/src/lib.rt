@@ -14,17 +14,21 @@ ghost use Rattle.vax_module.specs.declared.Module.{Module};
 /// A source without a fault is the module of its statements. Any other is refused for the first of its faults: that of the first line that has one by
 /// itself and the lines before it, with the lowest kind; where no line has, the first that the whole source decides.
 pub fn sources_are_refused_for_their_first_fault()
-    ensures { (source : List ℕ) → assembled source ≡ unless_faulty (first_fault (faults_of source)) (module_behind (survey_of source)) }
+    ensures { (source : List ℕ) → assembled source
+        ≡ unless_faulty (first_fault (faults_of source)) (module_behind (survey_of source)) }
 {}
 
 /// The first fault is one of the list, the lines' or the whole source's. None stands on an earlier line, and none on the same line is of a lower kind.
 pub fn first_faults_are_the_least()
-    ensures lines { (faults : List Fault) → (f : Fault) → first_line None faults ≡ Some f → IsLeast faults f }
+    ensures lines { (faults : List Fault) → (f : Fault) → first_line None faults ≡ Some f
+        → IsLeast faults f }
     ensures whole { (faults : List Fault) → (f : Fault) → least faults ≡ Some f → IsLeast faults f }
 {}
 
 /// A source assembles exactly where it has no fault, and then to the module of its statements.
 pub fn sources_without_fault_assemble()
-    ensures only { (source : List ℕ) → (m : Module) → assembled source ≡ Ok m → IsFaultless source m }
-    ensures every { (source : List ℕ) → (m : Module) → IsFaultless source m → assembled source ≡ Ok m }
+    ensures only { (source : List ℕ) → (m : Module) → assembled source ≡ Ok m
+        → IsFaultless source m }
+    ensures every { (source : List ℕ) → (m : Module) → IsFaultless source m
+        → assembled source ≡ Ok m }
 {}

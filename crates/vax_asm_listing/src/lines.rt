@@ -44,7 +44,8 @@ fn push_head(out: &mut Vec<u8>, number: Option<u64>) -> Result<(), AllocError>
 /// Appends a text behind so many blanks, if it isn't empty, and LF.
 fn push_text(out: &mut Vec<u8>, gap: usize, text: &[u8]) -> Result<(), AllocError>
     requires { gap ≤ 64 }
-    ensures { OnOk result (out.new.items ≡ out.old.items ++ spec.text_behind (spec.blanks gap) text.now) }
+    ensures { OnOk result (out.new.items
+        ≡ out.old.items ++ spec.text_behind (spec.blanks gap) text.now) }
 {
     if !text.is_empty() {
         push_blanks(out, gap)?;

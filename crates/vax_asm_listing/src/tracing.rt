@@ -86,8 +86,10 @@ fn say(
 /// The module and the names, once the source is read to its end.
 #[tactic(auto, using(crate::proofs::Rows::trace_ended))]
 fn end(walk: Walk, alloc: Global, rows: Vec<Row>) -> Result<Trace, FillError>
-    requires { walk.met ≡ None → LeadAll nothing rows.items (assembly_of walk.standing walk.assignments) }
-    ensures module { Fills result (ended (assembly_of walk.standing walk.assignments) walk.met None) }
+    requires { walk.met ≡ None
+        → LeadAll nothing rows.items (assembly_of walk.standing walk.assignments) }
+    ensures module { Fills result
+        (ended (assembly_of walk.standing walk.assignments) walk.met None) }
     ensures trace { IfOk result IsTrace }
     ensures formed { IfOk result (λ t. Formed t.module) }
 {

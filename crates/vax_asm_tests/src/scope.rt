@@ -20,7 +20,8 @@ const HERE: Value = Value::Section {
 /// An expression where it stands.
 fn stands(alloc: Global, scope: &mut Scope, text: &[u8]) -> Result<Expression, Fail>
     requires { length text.now ≤ 1024 }
-    ensures { IfOk result (λ e. Means (length (scope_of scope.new).sources) (Worked (written_of e))) }
+    ensures { IfOk result (λ e. Means (length (scope_of scope.new).sources)
+        (Worked (written_of e))) }
 {
     let tokens = scan(alloc, text)?;
     let line = Rc::new(alloc, text.to_vec(alloc)?)?;

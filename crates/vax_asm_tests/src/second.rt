@@ -38,7 +38,8 @@ const M: Value = Value::Section {
 /// An expression where it stands.
 fn told(standing: &mut Standing, alloc: Global, text: &[u8]) -> Result<Told, Fail>
     requires { length text.now ≤ 1024 }
-    ensures { IfOk result (λ t. Means (length (scope_of standing.new.scope).sources) (Worked (written_of t.expression))) }
+    ensures { IfOk result (λ t. Means (length (scope_of standing.new.scope).sources)
+        (Worked (written_of t.expression))) }
 {
     let tokens = scan(alloc, text)?;
     let line = Rc::new(alloc, text.to_vec(alloc)?)?;

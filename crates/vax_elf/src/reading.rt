@@ -86,7 +86,8 @@ pub fn read(alloc: Global, file: &[u8]) -> Result<Image, ElfError>
     ensures found { IfOk result (spec.ElfImage file.now) }
     ensures image { IfOk result IsImage }
     // Each of these is read, unless memory is refused.
-    ensures first { (image : Image) → spec.ElfImage file.now image → Gives (λ read. read) result (Ok image) }
+    ensures first { (image : Image) → spec.ElfImage file.now image
+        → Gives (λ read. read) result (Ok image) }
     // Which fault it is.
     ensures exact { Gives (λ image. image) result (reading.image_of file.now) }
 {

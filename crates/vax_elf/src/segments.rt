@@ -208,7 +208,8 @@ pub(crate) fn areas_at(
 ) -> Result<Vec<Area>, ElfError>
     requires within { place + 32 * count ≤ length file.now }
     requires small { place + 32 * count < 2 ^ 32 }
-    ensures { Gives (λ areas. areas.items) result (reading.areas_at base (first_page base) file.now place count) }
+    ensures { Gives (λ areas. areas.items) result
+        (reading.areas_at base (first_page base) file.now place count) }
 {
     let mut areas = Vec::new(alloc);
     let mut low = base.first_page();

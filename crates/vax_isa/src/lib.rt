@@ -80,7 +80,8 @@ pub fn action(code: u8) -> Option<Action>
 /// The instruction with this name, or this alias, in letters of either case; None where none has it.
 pub fn by_name(name: &str) -> Option<Row>
     ensures row { option_map plain result ≡ option_map row_of (with_name name.now) }
-    ensures only { All (λ i. IsTrue (is_one_of (names_of i) name.now) → with_name name.now ≡ Some i) instructions }
+    ensures only { All (λ i. IsTrue (is_one_of (names_of i) name.now)
+        → with_name name.now ≡ Some i) instructions }
     ensures names { All (λ i. All IsName (names_of i)) instructions }
     ensures formed { IfSome result (λ r. IsFormed (plain r)) }
 {

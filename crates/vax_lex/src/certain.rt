@@ -21,7 +21,8 @@ fn is_zero(outcome: Outcome) -> bool
 /// Whether a term whose value is 0 begins at a place.
 fn is_zero_at<N: Names>(line: &[u8], tokens: &[Token], names: &N, at: usize) -> bool
     requires { All (IsTokenOf line.now) tokens.now }
-    ensures { result ≡ begins_with_zero (N.meaning names.now) (drop at (symbols_of line.now tokens.now)) }
+    ensures { result ≡ begins_with_zero (N.meaning names.now)
+        (drop at (symbols_of line.now tokens.now)) }
 {
     match term(line, tokens, names, at) {
         Some(read) => is_zero(read.answer),
@@ -33,7 +34,8 @@ fn is_zero_at<N: Names>(line: &[u8], tokens: &[Token], names: &N, at: usize) -> 
 fn divides_at<N: Names>(line: &[u8], tokens: &[Token], names: &N, at: usize) -> bool
     requires tokens { All (IsTokenOf line.now) tokens.now }
     requires within { at < length tokens.now }
-    ensures { result ≡ (is_that_mark 47 (slice_get tokens.now at) && begins_with_zero (N.meaning names.now) (drop (at + 1) (symbols_of line.now tokens.now))) }
+    ensures { result ≡ (is_that_mark 47 (slice_get tokens.now at)
+        && begins_with_zero (N.meaning names.now) (drop (at + 1) (symbols_of line.now tokens.now))) }
 {
     if !is_mark_at(tokens, at, b'/') {
         return false;
@@ -64,7 +66,8 @@ pub fn certain_fault<N: Names>(line: &[u8], tokens: &[Token], names: &N) -> Opti
     requires { All (IsTokenOf line.now) tokens.now }
     ensures fault { result ≡ certain_at (N.meaning names.now) (symbols_of line.now tokens.now) }
     // Where there is one, the expression has no value, whatever values more names have.
-    ensures stays { IfSome result (λ fault. HasNone (N.meaning names.now) (symbols_of line.now tokens.now)) }
+    ensures stays { IfSome result
+        (λ fault. HasNone (N.meaning names.now) (symbols_of line.now tokens.now)) }
 {
     match evaluate(line, tokens, names) {
         Ok(_) => None,

@@ -354,7 +354,8 @@ pub fn evaluate<N: Names>(line: &[u8], tokens: &[Token], names: &N) -> Result<Va
     // It is a function of the symbols.
     ensures value { result ≡ value_at (N.meaning names.now) (symbols_of line.now tokens.now) }
     // They spell no other expression.
-    ensures only { (e : Expression) → spelling e ≡ symbols_of line.now tokens.now → result ≡ value_of (N.meaning names.now) e }
+    ensures only { (e : Expression) → spelling e ≡ symbols_of line.now tokens.now
+        → result ≡ value_of (N.meaning names.now) e }
 {
     let Some(read) = expression(line, tokens, names, 0) else {
         return Err(ExprError::Form);

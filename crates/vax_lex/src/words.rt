@@ -30,7 +30,8 @@ fn next_word(context: Context, bytes: &[u8]) -> Word
     ensures exact { word_view result ≡ word (context_view context) bytes.now }
     ensures room { result.length ≤ length bytes.now }
     ensures goes { 0 < result.length }
-    ensures depth { open_brackets (place_view result.context.place) ≤ open_brackets (place_view context.place) + 1 }
+    ensures depth { open_brackets (place_view result.context.place)
+        ≤ open_brackets (place_view context.place) + 1 }
 {
     match word_of(context, bytes) {
         Head::Blank => Word {
@@ -59,7 +60,8 @@ fn next_word(context: Context, bytes: &[u8]) -> Word
 /// Adds the span of a name.
 fn add(names: &mut Vec<Span>, word: Word, at: usize) -> Result<(), AllocError>
     requires { at + word.length ≤ 1024 }
-    ensures { OnOk result ((spans : List Span) → names.new.items ++ spans ≡ names.old.items ++ with_name (word_view word) at spans) }
+    ensures { OnOk result ((spans : List Span)
+        → names.new.items ++ spans ≡ names.old.items ++ with_name (word_view word) at spans) }
 {
     if word.is_name {
         names.push(Span {
@@ -78,7 +80,8 @@ pub fn names(alloc: Global, text: &[u8]) -> Result<Vec<Span>, AllocError>
     // The text has these names in the language.
     ensures found { IfOk result (λ v. HasNames text.now v.items) }
     // It has no others.
-    ensures only { IfOk result (λ v. (spans : List Span) → HasNames text.now spans → spans ≡ v.items) }
+    ensures only { IfOk result
+        (λ v. (spans : List Span) → HasNames text.now spans → spans ≡ v.items) }
 {
     let mut names = Vec::new(alloc);
     let mut context = Context::text_start();

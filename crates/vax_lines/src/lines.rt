@@ -29,7 +29,8 @@ fn without_return(line: &[u8]) -> &[u8]
 /// The first line, and what stands behind it; None where nothing is left. A line ends with LF, and a CR right before that is dropped; the last
 /// LF may be missing.
 pub fn next_line<'a>(text: &'a [u8]) -> Option<(&'a [u8], &'a [u8])>
-    ensures lines { MatchOption result (lines text.entry.now ≡ []) (λ r. lines text.entry.now ≡ r.0.now ∷ lines r.1.now) }
+    ensures lines { MatchOption result (lines text.entry.now ≡ [])
+        (λ r. lines text.entry.now ≡ r.0.now ∷ lines r.1.now) }
     ensures shorter { IfSome result (λ r. length r.1.now < length text.entry.now) }
 {
     if text.is_empty() {

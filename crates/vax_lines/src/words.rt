@@ -31,7 +31,8 @@ fn word_len(text: &[u8]) -> usize
 
 /// The first word, and what stands behind it.
 pub fn next_word<'a>(text: &'a [u8]) -> Option<(&'a [u8], &'a [u8])>
-    ensures { MatchOption result (words text.entry.now ≡ []) (λ r. words text.entry.now ≡ r.0.now ∷ words r.1.now) }
+    ensures { MatchOption result (words text.entry.now ≡ [])
+        (λ r. words text.entry.now ≡ r.0.now ∷ words r.1.now) }
 {
     let text = text.split_at(space_len(text)).1;
     if text.is_empty() {

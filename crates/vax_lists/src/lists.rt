@@ -87,7 +87,8 @@ impl Lists {
         requires below { item.frame < self.old.limit }
         requires there { frame_in self.old.order item.page ≡ Some item.frame }
         requires new { frame_in self.old.kept item.page ≡ None }
-        ensures moved { self.new ≡ with_kept (with_order self.old (without item.page self.old.order))
+        ensures moved { self.new
+            ≡ with_kept (with_order self.old (without item.page self.old.order))
             (appended self.old.kept item.page item.frame) }
         ensures fewer { length self.new.order + 1 ≡ length self.old.order }
     {
@@ -125,7 +126,8 @@ impl Lists {
         requires below { item.frame < self.old.limit }
         requires there { frame_in self.old.order item.page ≡ Some item.frame }
         requires new { frame_in self.old.modified item.page ≡ None }
-        ensures { self.new ≡ with_modified self.old (appended self.old.modified item.page item.frame) }
+        ensures { self.new
+            ≡ with_modified self.old (appended self.old.modified item.page item.frame) }
     {
         self.modified.push_first(item.frame);
     }

@@ -18,7 +18,8 @@ pub fn statements_follow_their_lines()
 
 /// A line hands its label out once: the statement behind that of a label leaves nothing of the line.
 pub fn labels_are_handed_out_once()
-    ensures { (names other : List ℕ → Option Value) → (before between after : Rest) → (label st : Statement) → (line : Remainder) →
+    ensures { (names other : List ℕ → Option Value) → (before between after : Rest)
+        → (label st : Statement) → (line : Remainder) →
         step names before ≡ Says label between → between.again ≡ Some line → step other between ≡ Says st after →
         after.again ≡ None }
 {}

@@ -76,7 +76,8 @@ impl<'a> Iterator for Targets<'a> {
 fn count_before(rules: &[Fixed], turn: u64) -> usize
     requires { Ascends rules.now }
     ensures within { result ≤ length rules.now }
-    ensures split { IsPartitionPoint (λ rule. rule.turn < turn) (λ rule. turn ≤ rule.turn) rules.now result }
+    ensures split { IsPartitionPoint (λ rule. rule.turn < turn)
+        (λ rule. turn ≤ rule.turn) rules.now result }
 {
     rules.partition_point(|rule| rule.turn < turn)
 }
@@ -85,7 +86,8 @@ fn count_before(rules: &[Fixed], turn: u64) -> usize
 fn count_to(rules: &[Fixed], turn: u64) -> usize
     requires { Ascends rules.now }
     ensures within { result ≤ length rules.now }
-    ensures split { IsPartitionPoint (λ rule. rule.turn ≤ turn) (λ rule. turn < rule.turn) rules.now result }
+    ensures split { IsPartitionPoint (λ rule. rule.turn ≤ turn)
+        (λ rule. turn < rule.turn) rules.now result }
 {
     rules.partition_point(|rule| rule.turn <= turn)
 }

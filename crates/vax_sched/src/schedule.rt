@@ -85,7 +85,8 @@ impl Schedule {
     /// The text of the schedule, without comments and blank lines. Read again it is the same schedule.
     pub fn print(&self, alloc: Global) -> Result<Vec<u8>, NoMemory>
         ensures exact { IfOk result (λ text. text.items ≡ printed self.now) }
-        ensures same { IfOk result (λ text. (areas : List Area) → ArePlaced areas self.now → Denotes areas text.items self.now) }
+        ensures same { IfOk result (λ text. (areas : List Area) → ArePlaced areas self.now
+            → Denotes areas text.items self.now) }
     {
         Ok(text_of(alloc, &self.rules)?)
     }

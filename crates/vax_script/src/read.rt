@@ -109,7 +109,8 @@ fn put_at(what: &[u8], bytes: &[u8]) -> Option<Request>
 
 /// What a `DEPOSIT` of one value at one place asks for.
 fn put(what: &[u8], value: &[u8]) -> Option<Request>
-    ensures request { result ≡ else_by (put_in (register what.now) (longword value.now)) (put_at (longword what.now) (some_bytes value.now)) }
+    ensures request { result ≡ else_by (put_in (register what.now) (longword value.now))
+        (put_at (longword what.now) (some_bytes value.now)) }
     ensures proper { IfSome result IsProper }
 {
     match put_in(what, value) {

@@ -93,7 +93,8 @@ pub fn allows(prot: u8, mode: u8, access: Access) -> bool
     requires of_mode { mode ≤ 3 }
     ensures answer { result ≡ spec.allows prot mode access }
     // What may be written may be read.
-    ensures readable { spec.allows prot mode Access.Write ≡ true → spec.allows prot mode Access.Read ≡ true }
+    ensures readable { spec.allows prot mode Access.Write ≡ true
+        → spec.allows prot mode Access.Read ≡ true }
 {
     match right_of(prot, mode) {
         Nothing => false,
@@ -230,7 +231,8 @@ impl Space {
     pub fn new(alloc: Global, areas: Vec<Area>) -> Result<Space, SpaceError>
         ensures areas { IfOk result (λ space. space ≡ areas.items) }
         ensures sound { OnOk result (IsSpace areas.items) }
-        ensures fault { IfErr result (λ error. (error ≡ SpaceError.NoMemory) ⊎ IsFirstFault areas.items error) }
+        ensures fault { IfErr result
+            (λ error. (error ≡ SpaceError.NoMemory) ⊎ IsFirstFault areas.items error) }
     {
         if let Some(fault) = first_fault(&areas) {
             return Err(fault);
@@ -372,7 +374,8 @@ impl Space {
     /// for a page that no mode may write, and for a page in no area. It is below the number of pages.
     pub fn block_of(&self, page: u32) -> Option<u32>
         ensures rank { result ≡ areas_spec.block_of self.now page }
-        ensures page { IfSome result (λ block. areas_spec.page_of_block self.now block ≡ Some page) }
+        ensures page { IfSome result
+            (λ block. areas_spec.page_of_block self.now block ≡ Some page) }
         ensures few { IfSome result (λ block. block < PAGES) }
     {
         pages::block_of(&self.areas, page)

@@ -34,7 +34,8 @@ pub(crate) fn unequal(bytes: &[u8], at: usize, byte: u8) -> u64
 pub(crate) fn different(a: &[u8], b: &[u8], at: usize) -> u64
     requires first { at + 32 ≤ length a.now }
     requires second { at + 32 ≤ length b.now }
-    ensures { result ≡ mask_l (map (λ p. not (p.0 == p.1)) (zip (take 32 (drop at a.now)) (take 32 (drop at b.now)))) }
+    ensures { result ≡ mask_l
+        (map (λ p. not (p.0 == p.1)) (zip (take 32 (drop at a.now)) (take 32 (drop at b.now)))) }
 {
     u8x32::from_slice(&a[at..])
         .simd_ne(u8x32::from_slice(&b[at..]))

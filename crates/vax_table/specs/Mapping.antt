@@ -1,5 +1,5 @@
 -- What page tables mean: for each page, what a walk says of it.
-use Rattle.std.specs.Prelude.{ℕ, Bool, true, false, ◌==◌, if◌then◌else◌, Option, Some, None, List}
+use Rattle.std.specs.Prelude.{◌≡◌, ℕ, Bool, true, false, ◌==◌, if◌then◌else◌, Option, Some, None, List}
 use Rattle.vax_space.specs.declared.Area.{Area}
 use Rattle.vax_space.specs.Areas.{prot_of}
 use Rattle.vax_space.specs.Reference.{is_past_region}
@@ -10,6 +10,9 @@ use Rattle.vax_table.specs.declared.Walk.TheVariants.{Resident, Absent, Outside}
 pub record Held : Type 0 where
   pub frame : ℕ
   pub modified : Bool
+
+abbrev pub unmodified : ℕ → Held
+unmodified frame = record { frame = frame; modified = false }
 
 abbrev pub dirty : Held → Held
 dirty held = record { frame = held.frame; modified = true }
@@ -32,6 +35,15 @@ all_absent page = None
 -- a function of pages with a new value at one page
 unfoldable pub changed : {X : Type 0} → (ℕ → X) → ℕ → X → ℕ → X
 changed f page x q = if q == page then x else f q
+
+-- what is said of one page changes, by what was said of it
+abbrev pub ChangesAt : ℕ → (Walk → Walk) → (old new : ℕ → Walk) → Type 0
+ChangesAt page now old new = new ≡ changed old page (now (old page))
+
+-- tables that mean what was last done with each page mean it still, with this now done with one page
+abbrev pub MapsAt : ℕ → ((ℕ → Option Held) → Option Held) → (old new : ℕ → Walk) → Type 0
+MapsAt page now old new =
+    (areas : List Area) → (held : ℕ → Option Held) → old ≡ mapped areas held → new ≡ mapped areas (changed held page (now held))
 
 abbrev pub is_inside : Walk → Bool
 is_inside (Resident frame prot modified) = true

@@ -96,7 +96,8 @@ pub(crate) fn entry_at(bytes: &[u8], place: usize) -> u32
 pub(crate) fn put_entry(bytes: &mut [u8], place: usize, entry: u32)
     requires { 4 * place + 4 ≤ length bytes.old }
     ensures size { length bytes.new ≡ length bytes.old }
-    ensures entries { (n : ℕ) → spec.entry_at bytes.new n ≡ changed (spec.entry_at bytes.old) place entry n }
+    ensures entries { (n : ℕ)
+        → spec.entry_at bytes.new n ≡ changed (spec.entry_at bytes.old) place entry n }
 {
     LittleEndian::write_u32(&mut bytes[4 * place..4 * place + 4], entry);
 }

@@ -5,9 +5,9 @@
 //! of theirs is found through the system's entry for the page of the table. All entries are longwords, low byte first.
 #![tactic(auto)]
 
-ghost use Rattle.std.specs.Prelude.{◌≡◌, ◌<◌, ◌≤◌, true, false, ℕ, List, Option, Some, None, IfOk, IfSome, option_map};
+ghost use Rattle.std.specs.Prelude.{◌≡◌, ◌<◌, ◌≤◌, true, false, Option, Some, None, IfOk, IfSome, option_map};
 ghost use Rattle.vax_table.specs.Layout.{IsSound};
-ghost use Rattle.vax_table.specs.Mapping.{mapped, all_absent, changed, is_inside, is_resident, frame_of, none_kept, prot_said, set_in, cleared, marked, dirty, Held};
+ghost use Rattle.vax_table.specs.Mapping.{ChangesAt, MapsAt, mapped, unmodified, all_absent, changed, is_inside, is_resident, frame_of, none_kept, prot_said, set_in, cleared, marked, dirty};
 
 mod entry;
 mod memory;
@@ -44,7 +44,6 @@ pub struct Tables {
 }
 
 impl Tables {
-    ghost use Rattle.vax_space.specs.declared.Area.{Area};
     ghost use Rattle.vax_table.specs.Tables.{walked, kept};
 
     /// The tables of a space, all its pages absent. They take less than 300 KB: a longword for each of the 4,608 pages
@@ -85,10 +84,11 @@ impl Tables {
     pub fn set(&mut self, page: u32, frame: u32)
         requires inside { is_inside (walked self.old page) ≡ true }
         requires frame { frame < 32768 }
-        ensures walked { walked self.new ≡ changed (walked self.old) page (set_in (walked self.old page) frame) }
+        ensures walked { ChangesAt page
+            (λ walk. set_in walk frame) (walked self.old) (walked self.new) }
         ensures kept { kept self.new ≡ changed (kept self.old) page None }
-        ensures mapped { (areas : List Area) → (held : ℕ → Option Held) → walked self.old ≡ mapped areas held
-            → walked self.new ≡ mapped areas (changed held page (Some (record { frame = frame; modified = false }))) }
+        ensures mapped { MapsAt page
+            (λ held. Some (unmodified frame)) (walked self.old) (walked self.new) }
     {
         let place = self.memory.place_inside(page);
         let old = entry_at(&self.memory.bytes, place);
@@ -100,10 +100,10 @@ impl Tables {
     #[inline]
     pub fn keep(&mut self, page: u32)
         requires resident { is_resident (walked self.old page) ≡ true }
-        ensures walked { walked self.new ≡ changed (walked self.old) page (cleared (walked self.old page)) }
-        ensures kept { kept self.new ≡ changed (kept self.old) page (frame_of (walked self.old page)) }
-        ensures mapped { (areas : List Area) → (held : ℕ → Option Held) → walked self.old ≡ mapped areas held
-            → walked self.new ≡ mapped areas (changed held page None) }
+        ensures walked { ChangesAt page cleared (walked self.old) (walked self.new) }
+        ensures kept { kept self.new
+            ≡ changed (kept self.old) page (frame_of (walked self.old page)) }
+        ensures mapped { MapsAt page (λ held. None) (walked self.old) (walked self.new) }
     {
         let place = self.memory.place_inside(page);
         let old = entry_at(&self.memory.bytes, place);
@@ -115,10 +115,9 @@ impl Tables {
     #[inline]
     pub fn clear(&mut self, page: u32)
         requires inside { is_inside (walked self.old page) ≡ true }
-        ensures walked { walked self.new ≡ changed (walked self.old) page (cleared (walked self.old page)) }
+        ensures walked { ChangesAt page cleared (walked self.old) (walked self.new) }
         ensures kept { kept self.new ≡ changed (kept self.old) page None }
-        ensures mapped { (areas : List Area) → (held : ℕ → Option Held) → walked self.old ≡ mapped areas held
-            → walked self.new ≡ mapped areas (changed held page None) }
+        ensures mapped { MapsAt page (λ held. None) (walked self.old) (walked self.new) }
     {
         let place = self.memory.place_inside(page);
         let old = entry_at(&self.memory.bytes, place);
@@ -130,10 +129,10 @@ impl Tables {
     #[inline]
     pub fn mark(&mut self, page: u32)
         requires resident { is_resident (walked self.old page) ≡ true }
-        ensures walked { walked self.new ≡ changed (walked self.old) page (marked (walked self.old page)) }
+        ensures walked { ChangesAt page marked (walked self.old) (walked self.new) }
         ensures kept { kept self.new ≡ changed (kept self.old) page None }
-        ensures mapped { (areas : List Area) → (held : ℕ → Option Held) → walked self.old ≡ mapped areas held
-            → walked self.new ≡ mapped areas (changed held page (option_map dirty (held page))) }
+        ensures mapped { MapsAt page
+            (λ held. option_map dirty (held page)) (walked self.old) (walked self.new) }
     {
         let place = self.memory.place_inside(page);
         let old = entry_at(&self.memory.bytes, place);

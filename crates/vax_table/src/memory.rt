@@ -95,8 +95,10 @@ impl Memory {
         requires within { 4 * place + 4 ≤ length self.old.bytes.items }
         requires inside { is_inside (walked_in self.old page) ≡ true }
         ensures sound { IsSound self.new }
-        ensures walked { walked_in self.new ≡ changed (walked_in self.old) page (entry_spec.said_by entry) }
-        ensures kept { kept_in self.new ≡ changed (kept_in self.old) page (entry_spec.kept_by entry) }
+        ensures walked { walked_in self.new
+            ≡ changed (walked_in self.old) page (entry_spec.said_by entry) }
+        ensures kept { kept_in self.new
+            ≡ changed (kept_in self.old) page (entry_spec.kept_by entry) }
     {
         put_entry(&mut self.bytes, place, entry);
     }
@@ -174,7 +176,8 @@ fn first_bytes(
     requires p0 { p0_end ≤ 0x8000 }
     requires low { 0x3F8000 ≤ p1_start }
     requires high { p1_start ≤ 0x400000 }
-    ensures { IfOk result (λ bytes. IsFilled space.now p0_end p1_start (total p0_end p1_start) bytes.items) }
+    ensures { IfOk result (λ bytes. IsFilled space.now p0_end p1_start
+        (total p0_end p1_start) bytes.items) }
 {
     let p1_first = p1_start - p1_start % ENTRIES;
     let total = SYSTEM_LENGTH + ENTRIES * p0_end.div_ceil(ENTRIES) + (0x40_0000 - p1_first);
