@@ -43,6 +43,7 @@ options o = record {
   turns = o.turns;
   dumps = o.dumps.items;
   recorded = o.recorded;
+  strict = o.strict;
 }
 
 abbrev pub said : Command → Said

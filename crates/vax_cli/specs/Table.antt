@@ -37,16 +37,17 @@ key_name key.Format = codes "--format"
 key_name key.Script = codes "--script"
 key_name key.Seed = codes "--seed"
 key_name key.Size = codes "--size"
+key_name key.Strict = codes "--strict"
 
 -- the options that a command takes
 abbrev pub keys_of : Verb → List Key
-keys_of verb.Bare = key.Input ∷ key.Schedule ∷ key.Frames ∷ key.Steps ∷ key.Turns ∷ key.Dump ∷ key.Record ∷ []
-keys_of verb.Run = key.Input ∷ key.System ∷ key.Schedule ∷ key.Frames ∷ key.Steps ∷ key.Turns ∷ key.Dump ∷ key.Record ∷ []
+keys_of verb.Bare = key.Input ∷ key.Schedule ∷ key.Frames ∷ key.Steps ∷ key.Turns ∷ key.Dump ∷ key.Record ∷ key.Strict ∷ []
+keys_of verb.Run = key.Input ∷ key.System ∷ key.Schedule ∷ key.Frames ∷ key.Steps ∷ key.Turns ∷ key.Dump ∷ key.Record ∷ key.Strict ∷ []
 keys_of verb.Build = key.Base ∷ key.Format ∷ []
 keys_of verb.List = key.Base ∷ []
 keys_of verb.Listing = key.Base ∷ []
 keys_of verb.Console = key.Script ∷ key.Base ∷ key.Input ∷ key.System ∷ key.Schedule ∷ key.Frames ∷ key.Steps ∷ key.Turns ∷ []
-keys_of verb.Work = key.Seed ∷ key.Size ∷ key.Schedule ∷ key.Frames ∷ key.Steps ∷ key.Turns ∷ key.Dump ∷ key.Record ∷ []
+keys_of verb.Work = key.Seed ∷ key.Size ∷ key.Schedule ∷ key.Frames ∷ key.Steps ∷ key.Turns ∷ key.Dump ∷ key.Record ∷ key.Strict ∷ []
 
 -- it takes so many files: one to eight, and `work` none
 abbrev pub takes_files : Verb → ℕ → Bool
@@ -76,6 +77,7 @@ place key.Format = 9
 place key.Script = 10
 place key.Seed = 11
 place key.Size = 12
+place key.Strict = 13
 
 abbrev pub is_same : Key → Key → Bool
 is_same a b = place a == place b

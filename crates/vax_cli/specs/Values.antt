@@ -10,6 +10,8 @@ use Rattle.vax_cli.specs.declared.command.DumpItem.{DumpItem}
 use Rattle.vax_cli.specs.declared.command.Base.{Base}
 use Rattle.vax_cli.specs.declared.command.Base.TheVariants as base
 use Rattle.vax_cli.specs.declared.command.Format.{Format}
+use Rattle.vax_cli.specs.declared.command.Strictness.{Strictness}
+use Rattle.vax_cli.specs.declared.command.Strictness.TheVariants.{Off}
 use Rattle.vax_cli.specs.declared.command.Format.TheVariants as format
 
 -- the number that digits alone write, if it isn't above the greatest
@@ -67,10 +69,15 @@ abbrev pub format_of : Option Text → Option Format
 format_of None = Some format.First
 format_of (Some word) = if bytes_eq word (codes "1") then Some format.First else if bytes_eq word (codes "2") then Some format.Second else None
 
--- whether evictions are recorded
-abbrev pub record_of : Option Text → Option Bool
-record_of None = Some false
-record_of (Some word) = if bytes_eq word (codes "on") then Some true else if bytes_eq word (codes "off") then Some false else None
+-- what an exit status tells of the end of a run, of which it may tell so much
+abbrev pub strictness : Strictness → Bool → Strictness
+strictness most true = most
+strictness most false = Off
+
+-- whether an option is on
+abbrev pub switch_of : Option Text → Option Bool
+switch_of None = Some false
+switch_of (Some word) = if bytes_eq word (codes "on") then Some true else if bytes_eq word (codes "off") then Some false else None
 
 abbrev pub is_colon : ℕ → Bool
 is_colon c = c == 58

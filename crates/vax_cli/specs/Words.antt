@@ -4,11 +4,13 @@ use Rattle.std.specs.Option.{option_map, option_and_then}
 use Rattle.std.specs.Str.{bytes_eq}
 use Rattle.vax_cli.specs.Table.{Text as Word, keys_of, takes_files, verb_of}
 use Rattle.vax_cli.specs.Items.{Item, are_distinct, items_from, names, value}
-use Rattle.vax_cli.specs.Values.{base_of, dumps_of, format_of, frames_of, record_of, seed_of, size_of, steps_of, turns_of}
+use Rattle.vax_cli.specs.Values.{base_of, dumps_of, format_of, frames_of, seed_of, size_of, steps_of, strictness, switch_of, turns_of}
 use Rattle.vax_cli.specs.declared.command.Base.{Base}
 use Rattle.vax_cli.specs.declared.command.Base.TheVariants as base
 use Rattle.vax_cli.specs.declared.command.DumpItem.{DumpItem}
 use Rattle.vax_cli.specs.declared.command.Format.{Format}
+use Rattle.vax_cli.specs.declared.command.Strictness.{Strictness}
+use Rattle.vax_cli.specs.declared.command.Strictness.TheVariants.{Halt, Success}
 use Rattle.vax_cli.specs.declared.table.Verb.{Verb}
 use Rattle.vax_cli.specs.declared.table.Verb.TheVariants as verb
 use Rattle.vax_cli.specs.declared.table.Key.TheVariants as key
@@ -17,7 +19,7 @@ abbrev pub Text : Type 0
 Text = Word
 
 -- what a run is given beside its program: the files of the console's input, of the system and of the schedule; how many pages may be resident; the
--- most steps and turns; the memory to report; and whether evictions are recorded
+-- most steps and turns; the memory to report; whether evictions are recorded; and what the exit status tells of the end
 pub record Options : Type 0 where
   pub input : Option Text
   pub system : Option Text
@@ -27,6 +29,7 @@ pub record Options : Type 0 where
   pub turns : ℕ
   pub dumps : List DumpItem
   pub recorded : Bool
+  pub strict : Strictness
 
 -- a command with its files and options, or a request for a text about the program itself
 pub data Said : Type 0 where
@@ -39,14 +42,15 @@ pub data Said : Type 0 where
   work : ℕ → ℕ → Options → Said
   about : Said
 
--- what the options of a run say
-abbrev pub options_of : List Item → Option Options
-options_of items =
+-- what the options of a run say, whose exit status may tell so much of its end
+abbrev pub options_of : Strictness → List Item → Option Options
+options_of most items =
     option_and_then (λ frames.
     option_and_then (λ steps.
     option_and_then (λ turns.
     option_and_then (λ dumps.
-    option_map (λ recorded. record {
+    option_and_then (λ recorded.
+    option_map (λ strict. record {
       input = value key.Input items;
       system = value key.System items;
       schedule = value key.Schedule items;
@@ -55,8 +59,9 @@ options_of items =
       turns = turns;
       dumps = dumps;
       recorded = recorded;
+      strict = strictness most strict;
     })
-    (record_of (value key.Record items))) (dumps_of (value key.Dump items))) (turns_of (value key.Turns items)))
+    (switch_of (value key.Strict items))) (switch_of (value key.Record items))) (dumps_of (value key.Dump items))) (turns_of (value key.Turns items)))
     (steps_of (value key.Steps items))) (frames_of (value key.Frames items))
 
 abbrev pub build_of : List Item → Option Said
@@ -73,19 +78,19 @@ console_of items =
     option_and_then (λ script.
     option_and_then (λ base.
     option_and_then (λ options. if is_session base options then Some (console (names items) base script options) else None)
-    (options_of items)) (base_of (value key.Base items))) (value key.Script items)
+    (options_of Halt items)) (base_of (value key.Base items))) (value key.Script items)
 
 abbrev pub work_of : List Item → Option Said
 work_of items =
     option_and_then (λ seed.
     option_and_then (λ size.
     option_map (λ options. work seed size options)
-    (options_of items)) (size_of (value key.Size items))) (seed_of (value key.Seed items))
+    (options_of Halt items)) (size_of (value key.Size items))) (seed_of (value key.Seed items))
 
 -- what a command's names and options say
 abbrev pub said_of : Verb → List Item → Option Said
-said_of verb.Bare items = option_map (λ options. bare (names items) options) (options_of items)
-said_of verb.Run items = option_map (λ options. run (names items) options) (options_of items)
+said_of verb.Bare items = option_map (λ options. bare (names items) options) (options_of Halt items)
+said_of verb.Run items = option_map (λ options. run (names items) options) (options_of Success items)
 said_of verb.Build items = build_of items
 said_of verb.List items = option_map (λ base. list (names items) base) (base_of (value key.Base items))
 said_of verb.Listing items = option_map (λ base. listing (names items) base) (base_of (value key.Base items))

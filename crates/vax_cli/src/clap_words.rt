@@ -132,6 +132,11 @@ fn value_and_help<'a>(key: Key) -> (&'a str, &'a str) {
             "N",
             "The size of the program, 1 to 5000; 100 where it isn't given",
         ),
+        Key::Strict => (
+            "on|off",
+            "Answer by an exit status how the program ended, 15 where not by HALT, and for `vax run` \
+                16 where R0 has neither 0 nor 1; off where it isn't given",
+        ),
     }
 }
 

@@ -75,6 +75,19 @@ pub struct Options<'a> {
     pub dumps: Dumps,
     /// `--record on` or `--record off`: whether evictions are recorded; off where no word says it.
     pub recorded: bool,
+    /// `--strict on` or `--strict off`: what the exit status tells of the end; nothing where no word says it.
+    pub strict: Strictness,
+}
+
+/// What the exit status of a run tells of its end.
+#[derive(Clone, Copy, PartialEq, Eq)]
+pub enum Strictness {
+    /// Nothing: `--strict off`.
+    Off,
+    /// Whether it was HALT: `--strict on` of a command whose program answers nothing.
+    Halt,
+    /// Whether it was HALT, and with success in R0: `--strict on` of `run`.
+    Success,
 }
 
 /// Bytes of memory from an address on: `AAAAAAAA:N`.

@@ -10,7 +10,7 @@ use crate::table::{Key, key_of};
 use arrayvec::ArrayVec;
 
 /// The items behind a command: at most 8 names, and each of the 13 options at most once.
-pub(crate) type Items<'a> = ArrayVec<Item<'a>, 21>;
+pub(crate) type Items<'a> = ArrayVec<Item<'a>, 22>;
 
 /// A name, or an option with its value.
 #[derive(Clone, Copy)]
@@ -69,10 +69,11 @@ fn read_word<'a>(keys: &[Key], pending: Option<Key>, word: &'a str) -> Option<Re
     }
 }
 
-/// The items that words say, names and options in any order, if there are at most 21.
+/// The items that words say, names and options in any order, if there are at most 22.
 #[tactic(auto, using(crate::proofs::Prefixes::few, crate::proofs::Prefixes::too_many, crate::proofs::Prefixes::cut_off))]
 pub(crate) fn read_items<'a>(keys: &[Key], words: &'a [String]) -> Option<Items<'a>>
-    ensures { option_map (λ v. items_of v.items) result ≡ option_and_then (at_most 21) (items_from keys.now None (texts words.entry.now)) }
+    ensures { option_map (λ v. items_of v.items) result
+        ≡ option_and_then (at_most 22) (items_from keys.now None (texts words.entry.now)) }
 {
     let mut items = ArrayVec::new();
     let mut pending = None;
@@ -93,7 +94,8 @@ pub(crate) fn read_items<'a>(keys: &[Key], words: &'a [String]) -> Option<Items<
 
 /// The names, in order, if there are at most eight.
 pub(crate) fn names_in<'a>(items: &[Item<'a>]) -> Option<Names<'a>>
-    ensures { MatchOption result (8 < length (names (items_of items.now))) (λ v. names_of v.items ≡ names (items_of items.now)) }
+    ensures { MatchOption result (8 < length (names (items_of items.now)))
+        (λ v. names_of v.items ≡ names (items_of items.now)) }
 {
     let mut names = ArrayVec::new();
     for item in items {

@@ -14,5 +14,5 @@ mod read;
 mod table;
 mod values;
 
-pub use command::{Base, Command, DumpItem, Dumps, Format, Names, Options};
+pub use command::{Base, Command, DumpItem, Dumps, Format, Names, Options, Strictness};
 pub use read::{WordsError, about, command_of};

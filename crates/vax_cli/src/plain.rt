@@ -7,23 +7,25 @@ ghost use Rattle.vax_cli.specs.Words.{asks_about, asks_help, behind, build_of, c
 ghost use Rattle.vax_cli.specs.declared.command.Command.TheVariants.{About};
 ghost use Rattle.vax_cli.specs.Said.{AreFiles, AreWithin, IsWithin, items_of, names_of, options, said, texts};
 
-use crate::command::{Base, Command, Names, Options};
+use crate::command::{Base, Command, Names, Options, Strictness};
 use crate::items::{Item, Items, are_distinct, names_in, read_items, value_in};
 use crate::table::{Key, Verb, verb_of};
 use crate::values::{
-    base_of, dumps_of, format_of, frames_of, record_of, seed_of, size_of, steps_of, turns_of,
+    base_of, dumps_of, format_of, frames_of, seed_of, size_of, steps_of, strictness, switch_of,
+    turns_of,
 };
 
-/// What the options of a run say.
-fn options_of<'a>(items: &[Item<'a>]) -> Option<Options<'a>>
-    ensures options { option_map options result ≡ options_of (items_of items.now) }
+/// What the options of a run say, whose exit status may tell so much of its end.
+fn options_of<'a>(most: Strictness, items: &[Item<'a>]) -> Option<Options<'a>>
+    ensures options { option_map options result ≡ options_of most (items_of items.now) }
     ensures within { IfSome result (λ o. AreWithin (options o)) }
 {
     let frames = frames_of(value_in(Key::Frames, items))?;
     let steps = steps_of(value_in(Key::Steps, items))?;
     let turns = turns_of(value_in(Key::Turns, items))?;
     let dumps = dumps_of(value_in(Key::Dump, items))?;
-    let recorded = record_of(value_in(Key::Record, items))?;
+    let recorded = switch_of(value_in(Key::Record, items))?;
+    let strict = switch_of(value_in(Key::Strict, items))?;
     Some(Options {
         input: value_in(Key::Input, items),
         system: value_in(Key::System, items),
@@ -33,6 +35,7 @@ fn options_of<'a>(items: &[Item<'a>]) -> Option<Options<'a>>
         turns,
         dumps,
         recorded,
+        strict: strictness(most, strict),
     })
 }
 
@@ -69,7 +72,7 @@ fn console_of<'a>(files: Names<'a>, items: &[Item<'a>]) -> Option<Command<'a>>
 {
     let script = value_in(Key::Script, items)?;
     let base = base_of(value_in(Key::Base, items))?;
-    let options = options_of(items)?;
+    let options = options_of(Strictness::Halt, items)?;
     if !is_session(base, &options) {
         return None;
     }
@@ -87,7 +90,7 @@ fn work_of<'a>(items: &[Item<'a>]) -> Option<Command<'a>>
 {
     let seed = seed_of(value_in(Key::Seed, items))?;
     let size = size_of(value_in(Key::Size, items))?;
-    let options = options_of(items)?;
+    let options = options_of(Strictness::Halt, items)?;
     Some(Command::Work {
         seed,
         size,
@@ -105,11 +108,11 @@ fn said_of<'a>(verb: Verb, files: Names<'a>, items: &[Item<'a>]) -> Option<Comma
     match verb {
         Verb::Bare => Some(Command::Bare {
             files,
-            options: options_of(items)?,
+            options: options_of(Strictness::Halt, items)?,
         }),
         Verb::Run => Some(Command::Run {
             files,
-            options: options_of(items)?,
+            options: options_of(Strictness::Success, items)?,
         }),
         Verb::Build => build_of(files, items),
         Verb::List => Some(Command::List {

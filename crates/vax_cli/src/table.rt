@@ -30,6 +30,7 @@ pub(crate) enum Key {
     Script,
     Seed,
     Size,
+    Strict,
 }
 
 /// The commands.
@@ -72,6 +73,7 @@ impl Verb {
                 Key::Turns,
                 Key::Dump,
                 Key::Record,
+                Key::Strict,
             ],
             Verb::Run => &[
                 Key::Input,
@@ -82,6 +84,7 @@ impl Verb {
                 Key::Turns,
                 Key::Dump,
                 Key::Record,
+                Key::Strict,
             ],
             Verb::Build => &[Key::Base, Key::Format],
             Verb::List | Verb::Listing => &[Key::Base],
@@ -104,6 +107,7 @@ impl Verb {
                 Key::Turns,
                 Key::Dump,
                 Key::Record,
+                Key::Strict,
             ],
         }
     }
@@ -140,6 +144,7 @@ impl Key {
             Key::Script => "--script",
             Key::Seed => "--seed",
             Key::Size => "--size",
+            Key::Strict => "--strict",
         }
     }
 

@@ -2,10 +2,10 @@
 ghost use Rattle.std.specs.Prelude.{◌≡◌, ◌<◌, ◌≤◌, ◌^◌, ◌∷◌, All, IfSome, length};
 ghost use Rattle.std.specs.List.{slice_split};
 ghost use Rattle.std.specs.Option.{option_copied, option_map};
-ghost use Rattle.vax_cli.specs.Values.{address_of, base_of, dump_item, dump_items, dumps_of, format_of, frames_of, is_comma, parts_behind, record_of, seed_of, size_of, steps_of, turns_of};
+ghost use Rattle.vax_cli.specs.Values.{address_of, base_of, dump_item, dump_items, dumps_of, format_of, frames_of, is_comma, parts_behind, seed_of, size_of, steps_of, strictness, switch_of, turns_of};
 ghost use Rattle.vax_cli.specs.Said.{IsDump};
 
-use crate::command::{Base, DumpItem, Dumps, Format};
+use crate::command::{Base, DumpItem, Dumps, Format, Strictness};
 use crate::number::{decimal_from, digits, number_of};
 use arrayvec::ArrayVec;
 
@@ -75,15 +75,22 @@ pub(crate) fn format_of(word: Option<&str>) -> Option<Format>
     }
 }
 
-/// Whether evictions are recorded.
-pub(crate) fn record_of(word: Option<&str>) -> Option<bool>
-    ensures { result ≡ record_of (option_copied word.entry) }
+/// Whether an option is on.
+pub(crate) fn switch_of(word: Option<&str>) -> Option<bool>
+    ensures { result ≡ switch_of (option_copied word.entry) }
 {
     match word {
         None | Some("off") => Some(false),
         Some("on") => Some(true),
         Some(_) => None,
     }
+}
+
+/// What an exit status tells of the end of a run, of which it may tell so much.
+pub(crate) fn strictness(most: Strictness, asked: bool) -> Strictness
+    ensures { result ≡ strictness most asked }
+{
+    if asked { most } else { Strictness::Off }
 }
 
 /// An address of eight hexadecimal digits.
@@ -110,7 +117,8 @@ fn dump_item(word: &str) -> Option<DumpItem>
 /// The first part of a text, and what stands behind its comma, if it has one.
 #[tactic(auto, using(crate::proofs::Parts::parts_cut, crate::proofs::Parts::parts_whole))]
 fn first_part(text: &str) -> (&str, Option<&str>)
-    ensures parts { slice_split is_comma text.now ≡ result.0.now ∷ parts_behind (option_copied result.1) }
+    ensures parts { slice_split is_comma text.now
+        ≡ result.0.now ∷ parts_behind (option_copied result.1) }
     ensures shorter { IfSome result.1 (λ rest. length rest.now < length text.now) }
 {
     match text.split_once(',') {

@@ -10,6 +10,7 @@ use Rattle.vax_outside.proofs.Growth.{append-nothing, grew_more, grew_nothing, p
 use Rattle.vax_flat.specs.Parts.{Place, At, Within, machine_at, units_done}
 use Rattle.vax_flat.specs.Port.{layout}
 use Rattle.vax_flat.specs.Step.{Flat}
+use Rattle.vax_flat.specs.declared.Ending.TheVariants as ending
 use Rattle.vax_cpu.specs.Attempt.{open_at}
 use Rattle.vax_pager.specs.Listing.{is_listed}
 use Rattle.vax_pager.specs.Poking.{OnlyRead, without_reads}
@@ -45,6 +46,9 @@ use Rattle.vax_machine_laws.proofs.Sufficing.{turns_suffice}
 use Rattle.vax_word.specs.declared.Core.{Core}
 use Rattle.vax_cli.specs.Words.{Options, Text}
 use Rattle.vax_cli.specs.declared.command.DumpItem.{DumpItem}
+use Rattle.vax_cli.specs.declared.command.Strictness.{Strictness}
+use Rattle.vax_cli.specs.declared.command.Strictness.TheVariants as strictly
+use Rattle.vax_command.specs.Answer.{is_success, halted, status_of, unhalted}
 use Rattle.vax_command.specs.Around.{Change, HasFailed, Outside, Seen}
 use Rattle.vax_command.specs.Ends.{Ends, EndsFrom, EndsSo}
 use Rattle.vax_command.specs.Fresh.{IsFresh, IsPrepared, IsReported, machine_report}
@@ -53,9 +57,9 @@ use Rattle.vax_command.specs.Loaded.{Loaded}
 use Rattle.vax_command.specs.Pages.{HasRun}
 use Rattle.vax_command.specs.Running.{IsFaulty, Ran, setup_for}
 use Rattle.vax_command.specs.Setup.{Setup, after_turns, before_turns, run_of}
-use Rattle.vax_command.specs.Went.{IsRunAnswer, IsUntold, Stop, Went, WentFrom, dumps_at, last_of, recorded, run_output, run_report, shown, status_of}
+use Rattle.vax_command.specs.Went.{IsRunAnswer, IsUntold, Stop, Went, WentFrom, dumps_at, last_of, recorded, run_output, run_report, shown}
 use Rattle.vax_command.specs.declared.status.Status.{Status}
-use Rattle.vax_command.specs.declared.status.Status.TheVariants.{Done, NoMemory, PageFault, WriteFault}
+use Rattle.vax_command.specs.declared.status.Status.TheVariants.{Done, NoMemory, PageFault, WriteFault, NotHalted, Unsuccessful}
 
 -- what is written after some growth
 pub ends_after : (before mid after : Seen Channels) (meant : Status) (a b : Channels) (result : Status) → Grew before.told mid.told a → mid.faults ≡ before.faults → EndsFrom mid after meant b result → EndsFrom before after meant (append a b) result
@@ -108,10 +112,34 @@ none_pinned m frames start f =
     let e : (residence m).pinned ≡ [] = ap (λ (p : Paged). p.residence.pinned) f.begins in
     record { touched = λ page h. let no : false ≡ true = sym (ap (is_listed page) e) ∙ h in cc }
 
-answers : (failed : Type 0) (why : Why) → IsRunAnswer failed (status_of why)
-answers failed (ByEnding e) = tt
-answers failed BySteps = tt
-answers failed ByTurns = tt
+answers_succeeded : (failed : Type 0) (b : Bool) → IsRunAnswer strictly.Success failed (if b then Done else Unsuccessful)
+answers_succeeded failed true = tt
+answers_succeeded failed false = refl
+
+answers_halted : (failed : Type 0) (strict : Strictness) (core : Core) → IsRunAnswer strict failed (halted strict core)
+answers_halted failed strictly.Off core = tt
+answers_halted failed strictly.Halt core = tt
+answers_halted failed strictly.Success core = answers_succeeded failed (is_success core)
+
+answers_unhalted : (failed : Type 0) (strict : Strictness) → IsRunAnswer strict failed (unhalted strict)
+answers_unhalted failed strictly.Off = tt
+answers_unhalted failed strictly.Halt = λ e. cc e
+answers_unhalted failed strictly.Success = λ e. cc e
+
+pub answers : (failed : Type 0) (strict : Strictness) (core : Core) (why : Why) → IsRunAnswer strict failed (status_of strict core why)
+answers failed strict core (ByEnding ending.Halt) = answers_halted failed strict core
+answers failed strict core (ByEnding (ending.Vector offset)) = answers_unhalted failed strict
+answers failed strict core (ByEnding ending.Stack) = answers_unhalted failed strict
+answers failed strict core (ByEnding ending.Scb) = answers_unhalted failed strict
+answers failed strict core (ByEnding ending.Change) = answers_unhalted failed strict
+answers failed strict core BySteps = answers_unhalted failed strict
+answers failed strict core ByTurns = tt
+
+-- the registers of a machine are those of its place
+core_at : (m : Engine) (file : Option BlockFile) (place : Place) → Means m file place → m.cpu.core ≡ (machine_at place).core
+core_at m file place means =
+    let k = means.processor.machine in
+    λ i. (k i).core
 
 as_whole : (limits : Limits) (areas : List Area) (rules : List Rule) (b : Paged) (before : Option BlockFile) (end : RunEnd) (why : Why) (m : Engine) (file : Option BlockFile) (old now : Option Channels) → why_of end ≡ Some why → machine.Ends limits areas rules b before end m file old now → IsWhole limits areas rules b end before m file old now
 as_whole limits areas rules b before (run_end.Ended e) why m file old now is h = h
@@ -201,11 +229,11 @@ module _ (outside : Outside) (setup : Setup) (m n : Engine) (f : Starts setup m)
 
   -- it stopped by itself, and the report was written: `read` is the page file before and after the memory for the report was read
   module _ (read : Change BlockFile) (up : HasFailed read → HasFailed outside.pages) (reads : OnlyRead read.before.told outside.pages.after.told) (unread : setup.items ≡ [] → outside.pages.after.told ≡ read.before.told) (end : RunEnd) (why : Why) (is : why_of end ≡ Some why) (status : Status) (grown : Channels) (out : OnlyWrote setup.limits.listed outside.sink.before.told mid.told) (quiet : mid.faults ≡ outside.sink.before.faults) (ends : EndsFrom mid outside.sink.after status grown result) where
-    answer_is : IsReported read n (last_of why) (status_of why) setup.items status grown → IsUntold setup outside status (append out.more grown)
-    answer_is (inl r) = record { answer = subst (IsRunAnswer (HasFailed outside.pages)) (sym r.0) (answers (HasFailed outside.pages) why); unlisted = λ off. unlisted out.more grown (out.unlisted off) (let d = r.1 in ap (λ (c : Channels). c.recorded) d.2) }
-    answer_is (inr r) = record { answer = subst (IsRunAnswer (HasFailed outside.pages)) (sym r.1) (up r.0); unlisted = λ off. unlisted out.more grown (out.unlisted off) (ap (λ (c : Channels). c.recorded) r.2) }
+    answer_is : IsReported read n (last_of why) (status_of setup.strict n.cpu.core why) setup.items status grown → IsUntold setup outside status (append out.more grown)
+    answer_is (inl r) = record { answer = subst (IsRunAnswer setup.strict (HasFailed outside.pages)) (sym r.0) (answers (HasFailed outside.pages) setup.strict n.cpu.core why); unlisted = λ off. unlisted out.more grown (out.unlisted off) (let d = r.1 in ap (λ (c : Channels). c.recorded) d.2) }
+    answer_is (inr r) = record { answer = subst (IsRunAnswer setup.strict (HasFailed outside.pages)) (sym r.1) (up r.0); unlisted = λ off. unlisted out.more grown (out.unlisted off) (ap (λ (c : Channels). c.recorded) r.2) }
 
-    whole_by : (file : BlockFile) → IsWhole setup.limits setup.areas setup.rules b end (Some file) n read.before.told outside.sink.before.told mid.told → IsReported read n (last_of why) (status_of why) setup.items status grown → By (Some file)
+    whole_by : (file : BlockFile) → IsWhole setup.limits setup.areas setup.rules b end (Some file) n read.before.told outside.sink.before.told mid.told → IsReported read n (last_of why) (status_of setup.strict n.cpu.core why) setup.items status grown → By (Some file)
     whole_by file w (inl r) =
         let p = after_turns setup w.count in
         let s = stage_of p in
@@ -216,7 +244,7 @@ module _ (outside : Outside) (setup : Setup) (m n : Engine) (f : Starts setup m)
         record {
           meant = status;
           grown = run_output s (recorded setup p) (last_of why) (dumps_at s setup.items);
-          so = inl (record { stop = stop_of setup m f file w.count why w.goes (w.stopped ∙ is); answer = r.0; wrote = refl; blocks = inl (ran_and_read setup w.count file read.before.told outside.pages.after.told w.few w.moved reads unread) });
+          so = inl (record { stop = stop_of setup m f file w.count why w.goes (w.stopped ∙ is); answer = r.0 ∙ ap (λ (k : Core). status_of setup.strict k why) (core_at n read.before.told p.place w.tracks.means); wrote = refl; blocks = inl (ran_and_read setup w.count file read.before.told outside.pages.after.told w.few w.moved reads unread) });
           ends = behind s (recorded setup p) (last_of why) (dumps_at s setup.items) status grown (wrote_out (Some file) p w.wrote) quiet text ends;
         }
     whole_by file w (inr r) =
@@ -230,14 +258,14 @@ module _ (outside : Outside) (setup : Setup) (m n : Engine) (f : Starts setup m)
           ends = behind s (recorded setup p) lasts.PageFault [] status grown (wrote_out (Some file) p w.wrote) quiet text ends;
         }
 
-    stopped_by : (told : Option BlockFile) → Did setup m told end n read.before.told outside.sink.before.told mid.told → IsReported read n (last_of why) (status_of why) setup.items status grown → By told
+    stopped_by : (told : Option BlockFile) → Did setup m told end n read.before.told outside.sink.before.told mid.told → IsReported read n (last_of why) (status_of setup.strict n.cpu.core why) setup.items status grown → By told
     stopped_by None did r = record { meant = status; grown = append out.more grown; so = answer_is r; ends = ends_after outside.sink.before mid outside.sink.after status out.more grown result out.grew quiet ends }
     stopped_by (Some file) did r =
         whole_by file (as_whole setup.limits setup.areas setup.rules b (Some file) end why n read.before.told outside.sink.before.told mid.told is (from_start setup m f file end n read.before.told outside.sink.before.told mid.told did)) r
 
   pub went_whole : (read : Change BlockFile) → (HasFailed read → HasFailed outside.pages) → OnlyRead read.before.told outside.pages.after.told → (setup.items ≡ [] → outside.pages.after.told ≡ read.before.told) → (end : RunEnd) (why : Why) → why_of end ≡ Some why
       → Did setup m outside.pages.before.told end n read.before.told outside.sink.before.told mid.told → OnlyWrote setup.limits.listed outside.sink.before.told mid.told → mid.faults ≡ outside.sink.before.faults
-      → (status : Status) (grown : Channels) → IsReported read n (last_of why) (status_of why) setup.items status grown → EndsFrom mid outside.sink.after status grown result → Told outside setup result
+      → (status : Status) (grown : Channels) → IsReported read n (last_of why) (status_of setup.strict n.cpu.core why) setup.items status grown → EndsFrom mid outside.sink.after status grown result → Told outside setup result
   went_whole read up reads unread end why is did out quiet status grown r ends = stopped_by read up reads unread end why is status grown out quiet ends outside.pages.before.told did r
 
   cut_by : (told : Option BlockFile) → HasFailed outside.pages → Did setup m told run_end.PageFault n outside.pages.after.told outside.sink.before.told mid.told → OnlyWrote setup.limits.listed outside.sink.before.told mid.told → mid.faults ≡ outside.sink.before.faults → EndsFrom mid outside.sink.after PageFault (only Report (machine_report n lasts.PageFault [])) result → By told
@@ -303,7 +331,7 @@ module _ (outside : Outside) (setup : Setup) (m n : Engine) (f : Starts setup m)
       let p = after_turns setup w.count in
       let s = stage_of p in
       record {
-        meant = status_of w.why;
+        meant = status_of setup.strict (machine_at s.place).core w.why;
         grown = run_output s (recorded setup p) (last_of w.why) (dumps_at s setup.items);
         so = inl (record { stop = stop_of setup m f file w.count w.why w.goes w.stopped; answer = refl; wrote = refl; blocks = inr (rose, w.moved) });
         ends = inr (record { answer = refl; prefix = lost_prefix (Some file) p (last_of w.why) (dumps_at s setup.items) w.wrote; cause = rose });

@@ -1,5 +1,6 @@
 pub mod Status
 pub mod Around
+pub mod Answer
 pub mod Ends
 pub mod Reading
 pub mod ReadingView

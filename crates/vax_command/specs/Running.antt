@@ -35,6 +35,7 @@ setup_for program input rules options = record {
   frames = options.frames;
   start = Start program.system program.user input;
   items = options.dumps;
+  strict = options.strict;
 }
 
 -- a program was run with its input under a schedule, from its start on and with no page resident

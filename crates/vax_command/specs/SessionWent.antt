@@ -22,6 +22,7 @@ use Rattle.vax_console.specs.declared.SessionEnd.{SessionEnd}
 use Rattle.vax_console.specs.declared.SessionEnd.TheVariants as session_end
 use Rattle.vax_command.specs.Around.{HasFailed, Outside}
 use Rattle.vax_command.specs.Went.{IsRunAnswer}
+use Rattle.vax_cli.specs.declared.command.Strictness.TheVariants.{Off}
 use Rattle.vax_command.specs.declared.status.Status.{Status}
 use Rattle.vax_command.specs.declared.status.Status.TheVariants.{Done, PageFault, Turns}
 
@@ -120,7 +121,7 @@ pub record IsTimedOut (outside : Outside) (o : Opening) (file : BlockFile) (stat
 -- It is read to its end, or the limit of turns or a failed call of the page file ends it; of what it wrote nothing is said where the page file
 -- doesn't tell its contents.
 abbrev pub SessionFrom : Option BlockFile → Outside → Opening → Status → Channels → Type 0
-SessionFrom None outside o status grown = IsRunAnswer (HasFailed outside.pages) status
+SessionFrom None outside o status grown = IsRunAnswer Off (HasFailed outside.pages) status
 SessionFrom (Some file) outside o status grown =
     IsCarriedOut outside o file status grown
     ⊎ (IsTimedOut outside o file status grown ⊎ (HasFailed outside.pages × IsBrokenOff outside o file status grown))

@@ -8,9 +8,10 @@ use Rattle.vax_machine.specs.Laws.{Run, state_at}
 use Rattle.vax_machine.specs.Paged.{Paged, fresh}
 use Rattle.vax_machine.specs.declared.event.Limits.{Limits}
 use Rattle.vax_cli.specs.declared.command.DumpItem.{DumpItem}
+use Rattle.vax_cli.specs.declared.command.Strictness.{Strictness}
 
 -- how far it may go, the areas of its memory, the rules of its schedule, so many frames, the flat machine from which it starts, and the memory that its
--- report is to show
+-- report is to show, and what the exit status is to tell of its end
 pub record Setup : Type 0 where
   pub limits : Limits
   pub areas : List Area
@@ -18,6 +19,7 @@ pub record Setup : Type 0 where
   pub frames : ℕ
   pub start : Flat
   pub items : List DumpItem
+  pub strict : Strictness
 
 -- its paged run
 abbrev pub run_of : Setup → Run

@@ -20,11 +20,14 @@ use Rattle.vax_machine_laws.specs.Enough.{pages_due}
 use Rattle.vax_machine_laws.specs.FlatRun.{GoesOnFor, IsOver, IsUnfinished, Reaches, Stage, StopsSo, stage, stage_of}
 use Rattle.vax_cli.specs.Words.{Options, Text}
 use Rattle.vax_cli.specs.declared.command.DumpItem.{DumpItem}
+use Rattle.vax_cli.specs.declared.command.Strictness.{Strictness}
+use Rattle.vax_cli.specs.declared.command.Strictness.TheVariants.{Off, Success}
+use Rattle.vax_command.specs.Answer.{status_of}
 use Rattle.vax_command.specs.Around.{HasFailed, Outside}
 use Rattle.vax_command.specs.Pages.{HasRun, RunsOrLoses}
 use Rattle.vax_command.specs.Setup.{Setup, after_turns, before_turns, run_of}
 use Rattle.vax_command.specs.declared.status.Status.{Status}
-use Rattle.vax_command.specs.declared.status.Status.TheVariants.{Done, Usage, Missing, Large, Refused, Link, Schedule, Image, Turns, PageFault, ReadFault, WriteFault, NoMemory}
+use Rattle.vax_command.specs.declared.status.Status.TheVariants.{Done, Usage, Missing, Large, Refused, Link, Schedule, Image, Turns, PageFault, ReadFault, WriteFault, NoMemory, NotHalted, Unsuccessful}
 
 abbrev pub limits_of : Options → Limits
 limits_of options = record { steps = options.steps; turns = options.turns; listed = options.recorded }
@@ -49,16 +52,11 @@ run_output s recorded why dumps = append (both (machine_at s.place).output recor
 abbrev pub recorded : Setup → Paged → Text
 recorded setup p = lines_of setup.limits.listed p.evictions
 
--- why a run stopped, as its report and as the answer tell it
+-- why a run stopped, as its report tells it
 abbrev pub last_of : Why → Last
 last_of (ByEnding ending) = last.Ending ending
 last_of BySteps = last.Steps
 last_of ByTurns = last.Turns
-
-abbrev pub status_of : Why → Status
-status_of (ByEnding ending) = Done
-status_of BySteps = Done
-status_of ByTurns = Turns
 
 -- The limit of turns is too low for the flat machine's run: whenever this is over after some parts, the limit is below 41 for each of them and one for
 -- each eviction of a pinned page. These are no more than the pages that the schedule names for these turns.
@@ -83,7 +81,7 @@ pub record Stop (setup : Setup) : Type 0 where
 -- it stopped so, and the report on it was written
 pub record IsStopped (setup : Setup) (file : BlockFile) (outside : Outside) (status : Status) (grown : Channels) : Type 0 where
   pub stop : Stop setup
-  pub answer : status ≡ status_of stop.why
+  pub answer : status ≡ status_of setup.strict (machine_at stop.at.place).core stop.why
   pub wrote : grown ≡ run_output stop.at (recorded setup (after_turns setup stop.count)) (last_of stop.why) (dumps_at stop.at setup.items)
   pub blocks : RunsOrLoses setup stop.count file outside
 
@@ -111,25 +109,27 @@ pub record IsCut (setup : Setup) (file : BlockFile) (outside : Outside) (status 
   pub wrote : grown ≡ run_output at (recorded setup (all_evicted front (after_turns setup count))) last.PageFault []
   pub blocks : MovedUpTo setup.areas (before_turns setup) (all_evicted front (after_turns setup count)) rest (Some file) outside.pages.after.told
 
--- an answer of a run
-abbrev pub IsRunAnswer : Type 0 → Status → Type 0
-IsRunAnswer failed Done = Unit {0}
-IsRunAnswer failed Usage = ⊥
-IsRunAnswer failed (Missing name) = ⊥
-IsRunAnswer failed (Large name) = ⊥
-IsRunAnswer failed (Refused file line kind) = ⊥
-IsRunAnswer failed (Link kind name place) = ⊥
-IsRunAnswer failed (Schedule line kind) = ⊥
-IsRunAnswer failed (Image place kind) = ⊥
-IsRunAnswer failed Turns = Unit {0}
-IsRunAnswer failed PageFault = failed
-IsRunAnswer failed ReadFault = ⊥
-IsRunAnswer failed WriteFault = ⊥
-IsRunAnswer failed NoMemory = ⊥
+-- an answer of a run, of whose end the answer is to tell so much
+abbrev pub IsRunAnswer : Strictness → Type 0 → Status → Type 0
+IsRunAnswer strict failed Done = Unit {0}
+IsRunAnswer strict failed Usage = ⊥
+IsRunAnswer strict failed (Missing name) = ⊥
+IsRunAnswer strict failed (Large name) = ⊥
+IsRunAnswer strict failed (Refused file line kind) = ⊥
+IsRunAnswer strict failed (Link kind name place) = ⊥
+IsRunAnswer strict failed (Schedule line kind) = ⊥
+IsRunAnswer strict failed (Image place kind) = ⊥
+IsRunAnswer strict failed Turns = Unit {0}
+IsRunAnswer strict failed PageFault = failed
+IsRunAnswer strict failed ReadFault = ⊥
+IsRunAnswer strict failed WriteFault = ⊥
+IsRunAnswer strict failed NoMemory = ⊥
+IsRunAnswer strict failed NotHalted = strict ≡ Off → ⊥
+IsRunAnswer strict failed Unsuccessful = strict ≡ Success
 
 -- an answer of a run whose page file doesn't tell its contents; Record is empty where evictions aren't to be listed
 pub record IsUntold (setup : Setup) (outside : Outside) (status : Status) (grown : Channels) : Type 0 where
-  pub answer : IsRunAnswer (HasFailed outside.pages) status
+  pub answer : IsRunAnswer setup.strict (HasFailed outside.pages) status
   pub unlisted : setup.limits.listed ≡ false → grown.recorded ≡ []
 
 -- It stopped by itself, or a call of the page file failed; of what it wrote little is said where the page file doesn't tell its contents.

@@ -2,6 +2,7 @@
 //! the reports behind them, and the answers with their numbers and lines.
 #![tactic(auto)]
 
+mod answer;
 mod dump;
 mod load;
 mod name;

@@ -151,7 +151,12 @@ fn put_refusal<K: Sink>(status: &Status, sink: &mut K) -> Result<(), Failed>
         Status::Image { place, kind } => put_image_fault(*place, *kind, sink),
         Status::ReadFault => put_all(sink, Chan::Report, b"vax: read\n"),
         Status::NoMemory => put_all(sink, Chan::Report, b"vax: memory\n"),
-        Status::Done | Status::Turns | Status::PageFault | Status::WriteFault => Ok(()),
+        Status::Done
+        | Status::Turns
+        | Status::PageFault
+        | Status::WriteFault
+        | Status::NotHalted
+        | Status::Unsuccessful => Ok(()),
     }
 }
 

@@ -18,12 +18,13 @@ ghost use Rattle.vax_command.specs.Running.{IsFaulty, Ran};
 ghost use Rattle.vax_command.specs.Room.{items_of};
 ghost use Rattle.vax_command.specs.Went.{Went, limits_of};
 
+use crate::answer::{answer_ended, answer_unhalted};
 use crate::dump::{Room, fill, reserve};
 use crate::programs::Programs;
 use crate::refusal::refuse;
 use crate::status::Status;
 use std::alloc::Global;
-use vax_cli::Options;
+use vax_cli::{Options, Strictness};
 use vax_image::start;
 use vax_machine::{Limits, Machine, RunEnd};
 use vax_outside::{Failed, PageFile, Sink};
@@ -82,12 +83,19 @@ fn report_all<K: Sink, F: PageFile>(
     }
 }
 
+/// What is asked for beside a run: the memory for its report, and what its answer tells of its end.
+#[derive(Drop)]
+struct Telling {
+    room: Room,
+    strict: Strictness,
+}
+
 /// Runs a machine under a schedule, and writes the report.
 fn execute<K: Sink, F: PageFile>(
     machine: Machine,
     limits: &Limits,
     schedule: &Schedule,
-    room: Room,
+    telling: Telling,
     sink: &mut K,
     pages: &mut F,
 ) -> Status
@@ -103,18 +111,23 @@ fn execute<K: Sink, F: PageFile>(
           rules = schedule.now;
           frames = frames;
           start = m;
-          items = items_of room.blanks.items;
+          items = items_of telling.room.blanks.items;
+          strict = telling.strict;
         }))
         result }
     ensures failed { Admits (F.faults pages.old) (F.faults pages.new) Status.PageFault result }
 {
+    let Telling { room, strict } = telling;
     let mut machine = machine;
     match machine.run(limits, schedule, pages, sink) {
         RunEnd::Ended(ending) => {
-            let last = Last::Ending(ending);
-            report_all(machine, last, room, Status::Done, sink, pages)
+            let meant = answer_ended(strict, ending, machine.core());
+            report_all(machine, Last::Ending(ending), room, meant, sink, pages)
         }
-        RunEnd::Steps => report_all(machine, Last::Steps, room, Status::Done, sink, pages),
+        RunEnd::Steps => {
+            let meant = answer_unhalted(strict);
+            report_all(machine, Last::Steps, room, meant, sink, pages)
+        }
         RunEnd::Turns => report_all(machine, Last::Turns, room, Status::Turns, sink, pages),
         RunEnd::PageFault => report(&machine, Last::PageFault, &[], Status::PageFault, sink),
         RunEnd::WriteFault => Status::WriteFault,
@@ -231,7 +244,11 @@ pub fn run_programs<K: Sink, F: PageFile>(
     match prepare_run(alloc, programs, input, schedule, options) {
         Ok((machine, schedule, room)) => {
             let limits = limits_of(options);
-            execute(machine, &limits, &schedule, room, sink, pages)
+            let telling = Telling {
+                room,
+                strict: options.strict,
+            };
+            execute(machine, &limits, &schedule, telling, sink, pages)
         }
         Err(status) => refuse(status, sink),
     }

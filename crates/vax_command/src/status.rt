@@ -33,6 +33,10 @@ pub enum Status {
     WriteFault,
     /// Memory was refused before the run.
     NoMemory,
+    /// The run came to its end or its limit of steps otherwise than by HALT, and `--strict on` asks for that.
+    NotHalted,
+    /// The program halted with neither 0 nor 1 in R0, and `--strict on` asks for that.
+    Unsuccessful,
 }
 
 impl Status {
@@ -56,6 +60,8 @@ impl Status {
             Status::ReadFault => 10,
             Status::WriteFault => 11,
             Status::NoMemory => 12,
+            Status::NotHalted => 15,
+            Status::Unsuccessful => 16,
         }
     }
 }

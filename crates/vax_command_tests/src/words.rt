@@ -1,7 +1,8 @@
 //! Words that are plain, and words that aren't.
 use std::test::Fail;
 use vax_cli::{
-    Base, Command, DumpItem, Dumps, Format, Names, Options, WordsError, about, command_of,
+    Base, Command, DumpItem, Dumps, Format, Names, Options, Strictness, WordsError, about,
+    command_of,
 };
 
 /// The words of a line, between single blanks; an empty line has none.
@@ -42,6 +43,7 @@ fn usual<'a>() -> Options<'a> {
         turns: 1_000_000_000_000,
         dumps: Dumps::new(),
         recorded: false,
+        strict: Strictness::Off,
     }
 }
 
@@ -84,6 +86,14 @@ fn reads_options(rt: HostRuntime) -> Result<(), Fail> {
             },
         ),
         ("bare --record=off A", usual()),
+        (
+            "bare A --strict on",
+            Options {
+                strict: Strictness::Halt,
+                ..usual()
+            },
+        ),
+        ("bare A --strict=off", usual()),
         (
             "bare A --dump 80000200:16,7fFFfe00:4096",
             Options {
@@ -214,6 +224,17 @@ fn reads_commands(rt: HostRuntime) -> Result<(), Fail> {
                 },
             },
         ),
+        (
+            "work --strict on",
+            Command::Work {
+                seed: 1,
+                size: 100,
+                options: Options {
+                    strict: Strictness::Halt,
+                    ..usual()
+                },
+            },
+        ),
         ("work --help", Command::About),
     ];
     for (row, command) in rows {
@@ -228,7 +249,7 @@ fn reads_commands(rt: HostRuntime) -> Result<(), Fail> {
 
 #[test]
 fn refuses_other_words(rt: HostRuntime) -> Result<(), Fail> {
-    let rows: [&str; 49] = [
+    let rows: [&str; 51] = [
         "",
         "boot A",
         "bare",
@@ -252,6 +273,8 @@ fn refuses_other_words(rt: HostRuntime) -> Result<(), Fail> {
         "bare A --steps 1x",
         "bare A --steps 007",
         "bare A --record ON",
+        "bare A --strict ON",
+        "console A --script S --strict on",
         "bare A --dump 80000200",
         "bare A --dump 80000200:0",
         "bare A --dump 80000200:4097",

@@ -9,11 +9,15 @@ use Rattle.vax_outside.specs.declared.traits.FilesFault.TheVariants as faults
 use Rattle.vax_space.specs.declared.Area.{Area}
 use Rattle.vax_image.specs.declared.Image.{Image}
 use Rattle.vax_asm_listing.specs.Listed as listed
-use Rattle.vax_machine.specs.Paged.{Why, ByEnding, BySteps, ByTurns}
+use Rattle.vax_flat.specs.Parts.{machine_at}
+use Rattle.vax_machine.specs.Paged.{Why}
 use Rattle.vax_program.specs.Program.{Refusal, Source, Link as FromLinker, InImage}
 use Rattle.vax_cli.specs.Words.{Text, Options, Said, bare, run, build, list, listing, console, work, about, command_of}
 use Rattle.vax_cli.specs.declared.command.Base as words_base
 use Rattle.vax_cli.specs.declared.command.Format.{Format}
+use Rattle.vax_cli.specs.declared.command.Strictness.{Strictness}
+use Rattle.vax_cli.specs.declared.command.Strictness.TheVariants.{Off}
+use Rattle.vax_command.specs.Answer.{status_of}
 use Rattle.vax_command.specs.Around.{Around, Change, HasFailed, Outside, around, outside_of, untouched}
 use Rattle.vax_command.specs.Ends.{Ends, EndsSo}
 use Rattle.vax_command.specs.Loaded.{Loaded}
@@ -23,10 +27,12 @@ use Rattle.vax_command.specs.Reading.{HasTexts, ReadEnds, Reads, Texts, of_optio
 use Rattle.vax_command.specs.Status.{refusal, refusal_growth}
 use Rattle.vax_top.specs.Top.{Carries, Comes, CommandComes, Does, ImageDoes, IsAbout, IsFile, IsListing, IsSourceListing, IsRunOf, IsSessionOf, IsWriting, RanOf, RunDoes, SessionDoes, base_for, reads, reads_of, run_of, session_of, session_programs}
 use Rattle.vax_command.specs.Setup.{Setup}
-use Rattle.vax_command.specs.Went.{IsCut, IsRunAnswer, IsUnread, WentFrom, status_of}
+use Rattle.vax_command.specs.Went.{IsCut, IsRunAnswer, IsUnread, WentFrom}
 use Rattle.vax_command.specs.declared.status.Status.{Status}
-use Rattle.vax_command.specs.declared.status.Status.TheVariants.{Done, Usage, Missing, Large, Refused, Link, Schedule, Image as BadImage, Turns, PageFault, ReadFault, WriteFault, NoMemory}
+use Rattle.vax_command.specs.declared.status.Status.TheVariants.{Done, Usage, Missing, Large, Refused, Link, Schedule, Image as BadImage, Turns, PageFault, ReadFault, WriteFault, NoMemory, NotHalted, Unsuccessful}
 use Rattle.vax_command.proofs.LoadLaws.{reads_none}
+use Rattle.vax_command.proofs.RunLaws.{answers}
+use Rattle.vax_word.specs.declared.Core.{Core}
 use Rattle.vax_top.proofs.SourceLaws.{sources_built}
 use Rattle.vax_command.specs.Holding.{Held, HeldSo, IsHolding}
 use Rattle.vax_command.specs.SessionWent.{Opening, SessionFrom}
@@ -180,6 +186,8 @@ Allowed seen names grown PageFault = HasFailed seen.pages
 Allowed seen names grown ReadFault = HasFailed seen.files × (grown ≡ refusal_growth ReadFault)
 Allowed seen names grown WriteFault = ⊥
 Allowed seen names grown NoMemory = grown ≡ refusal_growth NoMemory
+Allowed seen names grown NotHalted = Unit {0}
+Allowed seen names grown Unsuccessful = Unit {0}
 
 module _ (seen : Around) (names : List Text) (grown : Channels) where
   read_allowed : (status : Status) → ReadEnds seen.files names status → grown ≡ refusal_growth status → Allowed seen names grown status
@@ -196,6 +204,8 @@ module _ (seen : Around) (names : List Text) (grown : Channels) where
   read_allowed ReadFault e g = (e, g)
   read_allowed WriteFault e g = absurd e
   read_allowed NoMemory e g = g
+  read_allowed NotHalted e g = absurd e
+  read_allowed Unsuccessful e g = absurd e
 
   refusal_allowed : (why : Refusal) → grown ≡ refusal_growth (refused_as why) → Allowed seen names grown (refused_as why)
   refusal_allowed (Source file line kind) g = g
@@ -205,25 +215,25 @@ module _ (seen : Around) (names : List Text) (grown : Channels) where
   refused_allowed : {X : Type 0} (loaded : Result X Refusal) (status : Status) → IsRefused loaded status → grown ≡ refusal_growth status → Allowed seen names grown status
   refused_allowed loaded status r g = subst (Allowed seen names grown) (sym r.answer) (refusal_allowed r.refusal (g ∙ ap refusal_growth r.answer))
 
-  run_allowed : (status : Status) → IsRunAnswer (HasFailed seen.pages) status → Allowed seen names grown status
-  run_allowed Done h = tt
-  run_allowed Usage h = absurd h
-  run_allowed (Missing name) h = absurd h
-  run_allowed (Large name) h = absurd h
-  run_allowed (Refused file line kind) h = absurd h
-  run_allowed (Link kind name place) h = absurd h
-  run_allowed (Schedule line kind) h = absurd h
-  run_allowed (BadImage place kind) h = absurd h
-  run_allowed Turns h = tt
-  run_allowed PageFault h = h
-  run_allowed ReadFault h = absurd h
-  run_allowed WriteFault h = absurd h
-  run_allowed NoMemory h = absurd h
+  run_allowed : (strict : Strictness) (status : Status) → IsRunAnswer strict (HasFailed seen.pages) status → Allowed seen names grown status
+  run_allowed strict Done h = tt
+  run_allowed strict Usage h = absurd h
+  run_allowed strict (Missing name) h = absurd h
+  run_allowed strict (Large name) h = absurd h
+  run_allowed strict (Refused file line kind) h = absurd h
+  run_allowed strict (Link kind name place) h = absurd h
+  run_allowed strict (Schedule line kind) h = absurd h
+  run_allowed strict (BadImage place kind) h = absurd h
+  run_allowed strict Turns h = tt
+  run_allowed strict PageFault h = h
+  run_allowed strict ReadFault h = absurd h
+  run_allowed strict WriteFault h = absurd h
+  run_allowed strict NoMemory h = absurd h
+  run_allowed strict NotHalted h = tt
+  run_allowed strict Unsuccessful h = tt
 
-  why_allowed : (why : Why) → Allowed seen names grown (status_of why)
-  why_allowed (ByEnding e) = tt
-  why_allowed BySteps = tt
-  why_allowed ByTurns = tt
+  why_allowed : (strict : Strictness) (core : Core) (why : Why) → Allowed seen names grown (status_of strict core why)
+  why_allowed strict core why = run_allowed strict (status_of strict core why) (answers (HasFailed seen.pages) strict core why)
 
   module _ (setup : Setup) (status : Status) where
     cut_allowed : (file : BlockFile) → HasFailed seen.pages → IsUnread setup file (outside_of seen) status grown ⊎ IsCut setup file (outside_of seen) status grown → Allowed seen names grown status
@@ -231,8 +241,8 @@ module _ (seen : Around) (names : List Text) (grown : Channels) where
     cut_allowed file r (inr u) = subst (Allowed seen names grown) (sym u.answer) r
 
     went_allowed : (told : Option BlockFile) → WentFrom told (outside_of seen) setup status grown → Allowed seen names grown status
-    went_allowed None h = run_allowed status h.answer
-    went_allowed (Some file) (inl s) = subst (Allowed seen names grown) (sym s.answer) (why_allowed s.stop.why)
+    went_allowed None h = run_allowed setup.strict status h.answer
+    went_allowed (Some file) (inl s) = subst (Allowed seen names grown) (sym s.answer) (why_allowed setup.strict (machine_at s.stop.at.place).core s.stop.why)
     went_allowed (Some file) (inr c) = cut_allowed file c.0 c.1
 
   planned_allowed : (areas : List Area) (schedule : Text) (status : Status) → IsFaulty areas schedule status → grown ≡ refusal_growth status → Allowed seen names grown status
@@ -247,7 +257,7 @@ module _ (seen : Around) (names : List Text) (grown : Channels) where
   does_allowed loaded input schedule options status (inr d) = runs_allowed d.0 input schedule options status d.2
 
   session_allowed : (told : Option BlockFile) (o : Opening) (status : Status) → SessionFrom told (outside_of seen) o status grown → Allowed seen names grown status
-  session_allowed None o status h = run_allowed status h
+  session_allowed None o status h = run_allowed Off status h
   session_allowed (Some file) o status (inl w) = subst (Allowed seen names grown) (sym w.answer) tt
   session_allowed (Some file) o status (inr (inl w)) = subst (Allowed seen names grown) (sym w.answer) tt
   session_allowed (Some file) o status (inr (inr w)) = subst (Allowed seen names grown) (sym w.1.answer) w.0
@@ -327,6 +337,8 @@ module _ (seen : Around) (grown : Channels) where
   lines names ReadFault h = h.1
   lines names WriteFault h = tt
   lines names NoMemory h = h
+  lines names NotHalted h = tt
+  lines names Unsuccessful h = tt
 
   line_by : (o : Option Said) (status : Status) → AllowedBy o status → IfSome (refusal status) (λ text. grown ≡ only channel.Report text)
   line_by None status h = rw h.0 h.1

@@ -12,7 +12,7 @@ use Rattle.vax_command.proofs.run.execute.Goals as goal
 
 pub returns-in-Ended-clause-went : goal.returns-in-Ended-clause-went
 returns-in-Ended-clause-went g c = λ frames m f.
-    let setup : Setup = record { limits = c.args.limits.now; areas = (keeping (engine c.args.machine)).areas; rules = c.args.schedule.now; frames = frames; start = m; items = items_of c.args.room.blanks.items } in
+    let setup : Setup = record { limits = c.args.limits.now; areas = (keeping (engine c.args.machine)).areas; rules = c.args.schedule.now; frames = frames; start = m; items = items_of c.args.telling.room.blanks.items; strict = c.args.telling.strict } in
     let starts : Starts setup (engine c.args.machine) = let t = c.requires.few_turns in record { is_fresh = f; areas = refl; low = omega (arith, t) } in
     let seen = outside (change g.K.Sink.faults g.K.Sink.contents c.args.sink.now c.report_all.new.sink) (change g.F.PageFile.faults g.F.PageFile.contents c.args.pages.now c.report_all.new.pages) in
     let read = change g.F.PageFile.faults g.F.PageFile.contents c.run.new.file c.report_all.new.pages in
@@ -24,7 +24,7 @@ returns-in-Ended-clause-went g c = λ frames m f.
 
 pub returns-in-Steps-clause-went : goal.returns-in-Steps-clause-went
 returns-in-Steps-clause-went g c = λ frames m f.
-    let setup : Setup = record { limits = c.args.limits.now; areas = (keeping (engine c.args.machine)).areas; rules = c.args.schedule.now; frames = frames; start = m; items = items_of c.args.room.blanks.items } in
+    let setup : Setup = record { limits = c.args.limits.now; areas = (keeping (engine c.args.machine)).areas; rules = c.args.schedule.now; frames = frames; start = m; items = items_of c.args.telling.room.blanks.items; strict = c.args.telling.strict } in
     let starts : Starts setup (engine c.args.machine) = let t = c.requires.few_turns in record { is_fresh = f; areas = refl; low = omega (arith, t) } in
     let seen = outside (change g.K.Sink.faults g.K.Sink.contents c.args.sink.now c.report_all-in-Steps.new.sink) (change g.F.PageFile.faults g.F.PageFile.contents c.args.pages.now c.report_all-in-Steps.new.pages) in
     let read = change g.F.PageFile.faults g.F.PageFile.contents c.run.new.file c.report_all-in-Steps.new.pages in
@@ -36,7 +36,7 @@ returns-in-Steps-clause-went g c = λ frames m f.
 
 pub returns-in-Turns-clause-went : goal.returns-in-Turns-clause-went
 returns-in-Turns-clause-went g c = λ frames m f.
-    let setup : Setup = record { limits = c.args.limits.now; areas = (keeping (engine c.args.machine)).areas; rules = c.args.schedule.now; frames = frames; start = m; items = items_of c.args.room.blanks.items } in
+    let setup : Setup = record { limits = c.args.limits.now; areas = (keeping (engine c.args.machine)).areas; rules = c.args.schedule.now; frames = frames; start = m; items = items_of c.args.telling.room.blanks.items; strict = c.args.telling.strict } in
     let starts : Starts setup (engine c.args.machine) = let t = c.requires.few_turns in record { is_fresh = f; areas = refl; low = omega (arith, t) } in
     let seen = outside (change g.K.Sink.faults g.K.Sink.contents c.args.sink.now c.report_all-in-Turns.new.sink) (change g.F.PageFile.faults g.F.PageFile.contents c.args.pages.now c.report_all-in-Turns.new.pages) in
     let read = change g.F.PageFile.faults g.F.PageFile.contents c.run.new.file c.report_all-in-Turns.new.pages in
@@ -48,7 +48,7 @@ returns-in-Turns-clause-went g c = λ frames m f.
 
 pub returns-in-PageFault-clause-went : goal.returns-in-PageFault-clause-went
 returns-in-PageFault-clause-went g c = λ frames m f.
-    let setup : Setup = record { limits = c.args.limits.now; areas = (keeping (engine c.args.machine)).areas; rules = c.args.schedule.now; frames = frames; start = m; items = items_of c.args.room.blanks.items } in
+    let setup : Setup = record { limits = c.args.limits.now; areas = (keeping (engine c.args.machine)).areas; rules = c.args.schedule.now; frames = frames; start = m; items = items_of c.args.telling.room.blanks.items; strict = c.args.telling.strict } in
     let starts : Starts setup (engine c.args.machine) = let t = c.requires.few_turns in record { is_fresh = f; areas = refl; low = omega (arith, t) } in
     let seen = outside (change g.K.Sink.faults g.K.Sink.contents c.args.sink.now c.report.new.sink) (change g.F.PageFile.faults g.F.PageFile.contents c.args.pages.now c.run.new.file) in
     went_cut seen setup (engine c.args.machine) (engine c.run.new.self) starts
@@ -57,7 +57,7 @@ returns-in-PageFault-clause-went g c = λ frames m f.
 
 pub returns-in-WriteFault-clause-went : goal.returns-in-WriteFault-clause-went
 returns-in-WriteFault-clause-went g c = λ frames m f.
-    let setup : Setup = record { limits = c.args.limits.now; areas = (keeping (engine c.args.machine)).areas; rules = c.args.schedule.now; frames = frames; start = m; items = items_of c.args.room.blanks.items } in
+    let setup : Setup = record { limits = c.args.limits.now; areas = (keeping (engine c.args.machine)).areas; rules = c.args.schedule.now; frames = frames; start = m; items = items_of c.args.telling.room.blanks.items; strict = c.args.telling.strict } in
     let starts : Starts setup (engine c.args.machine) = let t = c.requires.few_turns in record { is_fresh = f; areas = refl; low = omega (arith, t) } in
     let seen = outside (change g.K.Sink.faults g.K.Sink.contents c.args.sink.now c.run.new.sink) (change g.F.PageFile.faults g.F.PageFile.contents c.args.pages.now c.run.new.file) in
     went_lost seen setup (engine c.args.machine) (engine c.run.new.self) starts

@@ -22,7 +22,7 @@ returns-in-Ok-clause-ran g c =
     let seen = outside (change g.K.Sink.faults g.K.Sink.contents c.args.sink.now c.execute.new.sink) (change g.F.PageFile.faults g.F.PageFile.contents c.args.pages.now c.execute.new.pages) in
     let start = Start programs.system programs.user c.args.input.items in
     let setup : Limits → List Area → List DumpItem → Setup = λ limits areas items.
-    record { limits = limits; areas = areas; rules = c.in-Ok.schedule; frames = options.frames; start = start; items = items } in
+    record { limits = limits; areas = areas; rules = c.in-Ok.schedule; frames = options.frames; start = start; items = items; strict = options.strict } in
     let areas = (keeping (engine c.in-Ok.machine)).areas in
     let items = items_of c.in-Ok.room.blanks.items in
     let went = c.execute.ensures.went options.frames start ready.is_fresh in
