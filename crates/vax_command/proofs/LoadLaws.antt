@@ -9,6 +9,8 @@ use Rattle.vax_outside.specs.Faults.{Rose}
 use Rattle.std.proofs.Math.Seq.{take-append_seam, take-suc}
 use Rattle.vax_outside.specs.Directory.{Directory, read_result}
 use Rattle.vax_outside.specs.declared.traits.FilesFault.{FilesFault}
+use Rattle.vax_outside.proofs.Counting.{rose_then}
+use Rattle.vax_outside.specs.declared.faults.Failures.{Failures}
 use Rattle.vax_cli.specs.Words.{Options, Text}
 use Rattle.vax_command.specs.Reading.{EndsBy, HasTexts, Reads, ReadEndsFrom, Texts, behind, file_limit, first_of, given, joined_reads, of_options, option_of, read_files}
 use Rattle.vax_command.specs.declared.status.Status.{Status}
@@ -79,8 +81,8 @@ ends_then rose later c d xs ys a status same up p e =
     ends_more rose later (λ why. Reads c ys (Err why)) (λ why. Reads c (xs ++ ys) (Err why)) status up (λ why. reads_then c xs ys a why p)
     (subst (λ k. ReadEndsFrom rose k ys status) same e)
 
-pub rose_from : (before mid now : ℕ) → mid ≡ before → Rose mid now → Rose before now
-rose_from before mid now same rose = omega (arith, same, rose)
+pub rose_from : (before mid now : Failures) → mid.count ≡ before.count → Rose mid now → Rose before now
+rose_from before mid now same rose = rose_then same rose
 
 -- an error has what is said of it
 pub err_has : {T : Type 0} (r : Result T Status) (e : Status) (P : Status → Type 0) → IsErrAnd r (λ x. x ≡ e) → P e → IfErr r P

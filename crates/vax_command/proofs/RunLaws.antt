@@ -3,6 +3,7 @@ use Rattle.std.proofs.Common.{◌≡◌, ◌⊎◌, ◌++◌, ◌<◌, ◌-◌, 
 use Rattle.std.specs.List.{flat_map}
 use Rattle.vax_space.specs.declared.Area.{Area}
 use Rattle.vax_space.specs.Faults.{IsSpace}
+use Rattle.vax_outside.proofs.Counting.{rose_then}
 use Rattle.vax_outside.specs.Blocks.{BlockFile}
 use Rattle.vax_outside.specs.Channels.{Channels, Grew, GrewByPrefix, append, nothing, only}
 use Rattle.vax_outside.specs.declared.traits.Chan.TheVariants.{Report}
@@ -62,12 +63,12 @@ use Rattle.vax_command.specs.declared.status.Status.{Status}
 use Rattle.vax_command.specs.declared.status.Status.TheVariants.{Done, NoMemory, PageFault, WriteFault, NotHalted, Unsuccessful}
 
 -- what is written after some growth
-pub ends_after : (before mid after : Seen Channels) (meant : Status) (a b : Channels) (result : Status) → Grew before.told mid.told a → mid.faults ≡ before.faults → EndsFrom mid after meant b result → EndsFrom before after meant (append a b) result
+pub ends_after : (before mid after : Seen Channels) (meant : Status) (a b : Channels) (result : Status) → Grew before.told mid.told a → mid.faults.count ≡ before.faults.count → EndsFrom mid after meant b result → EndsFrom before after meant (append a b) result
 ends_after before mid after meant a b result g q (inl w) = inl (record { answer = w.answer; grew = grew_more before.told mid.told after.told a b g w.grew; quiet = w.quiet ∙ q })
 ends_after before mid after meant a b result g q (inr c) = inr (record {
   answer = c.answer;
   prefix = prefix_in before.told mid.told after.told a b nothing (append a b) (ap (append a) (append-nothing b)) g c.prefix;
-  cause = let r = c.cause in omega (arith, q, r);
+  cause = rose_then q c.cause;
 })
 
 -- the report on a machine is the one on its place
@@ -223,12 +224,12 @@ module _ (outside : Outside) (setup : Setup) (m n : Engine) (f : Starts setup m)
   wrote_out told p w = subst (λ (c : Channels). Grew outside.sink.before.told mid.told c) (all_of_it setup.limits.listed b p w.more silent_start w.is) w.grew
 
   -- the report behind what the run wrote
-  behind : (s : Stage) (lines : Text) (why : Last) (dumps : List Dump) (status : Status) (grown : Channels) → Grew outside.sink.before.told mid.told (both (machine_at s.place).output lines) → mid.faults ≡ outside.sink.before.faults → grown ≡ only Report (run_report s why dumps) → EndsFrom mid outside.sink.after status grown result → Ends outside.sink status (run_output s lines why dumps) result
+  behind : (s : Stage) (lines : Text) (why : Last) (dumps : List Dump) (status : Status) (grown : Channels) → Grew outside.sink.before.told mid.told (both (machine_at s.place).output lines) → mid.faults.count ≡ outside.sink.before.faults.count → grown ≡ only Report (run_report s why dumps) → EndsFrom mid outside.sink.after status grown result → Ends outside.sink status (run_output s lines why dumps) result
   behind s lines why dumps status grown wrote quiet is ends =
       subst (λ (g : Channels). Ends outside.sink status g result) (outputs s lines why dumps grown is) (ends_after outside.sink.before mid outside.sink.after status (both (machine_at s.place).output lines) grown result wrote quiet ends)
 
   -- it stopped by itself, and the report was written: `read` is the page file before and after the memory for the report was read
-  module _ (read : Change BlockFile) (up : HasFailed read → HasFailed outside.pages) (reads : OnlyRead read.before.told outside.pages.after.told) (unread : setup.items ≡ [] → outside.pages.after.told ≡ read.before.told) (end : RunEnd) (why : Why) (is : why_of end ≡ Some why) (status : Status) (grown : Channels) (out : OnlyWrote setup.limits.listed outside.sink.before.told mid.told) (quiet : mid.faults ≡ outside.sink.before.faults) (ends : EndsFrom mid outside.sink.after status grown result) where
+  module _ (read : Change BlockFile) (up : HasFailed read → HasFailed outside.pages) (reads : OnlyRead read.before.told outside.pages.after.told) (unread : setup.items ≡ [] → outside.pages.after.told ≡ read.before.told) (end : RunEnd) (why : Why) (is : why_of end ≡ Some why) (status : Status) (grown : Channels) (out : OnlyWrote setup.limits.listed outside.sink.before.told mid.told) (quiet : mid.faults.count ≡ outside.sink.before.faults.count) (ends : EndsFrom mid outside.sink.after status grown result) where
     answer_is : IsReported read n (last_of why) (status_of setup.strict n.cpu.core why) setup.items status grown → IsUntold setup outside status (append out.more grown)
     answer_is (inl r) = record { answer = subst (IsRunAnswer setup.strict (HasFailed outside.pages)) (sym r.0) (answers (HasFailed outside.pages) setup.strict n.cpu.core why); unlisted = λ off. unlisted out.more grown (out.unlisted off) (let d = r.1 in ap (λ (c : Channels). c.recorded) d.2) }
     answer_is (inr r) = record { answer = subst (IsRunAnswer setup.strict (HasFailed outside.pages)) (sym r.1) (up r.0); unlisted = λ off. unlisted out.more grown (out.unlisted off) (ap (λ (c : Channels). c.recorded) r.2) }
@@ -264,11 +265,11 @@ module _ (outside : Outside) (setup : Setup) (m n : Engine) (f : Starts setup m)
         whole_by file (as_whole setup.limits setup.areas setup.rules b (Some file) end why n read.before.told outside.sink.before.told mid.told is (from_start setup m f file end n read.before.told outside.sink.before.told mid.told did)) r
 
   pub went_whole : (read : Change BlockFile) → (HasFailed read → HasFailed outside.pages) → OnlyRead read.before.told outside.pages.after.told → (setup.items ≡ [] → outside.pages.after.told ≡ read.before.told) → (end : RunEnd) (why : Why) → why_of end ≡ Some why
-      → Did setup m outside.pages.before.told end n read.before.told outside.sink.before.told mid.told → OnlyWrote setup.limits.listed outside.sink.before.told mid.told → mid.faults ≡ outside.sink.before.faults
+      → Did setup m outside.pages.before.told end n read.before.told outside.sink.before.told mid.told → OnlyWrote setup.limits.listed outside.sink.before.told mid.told → mid.faults.count ≡ outside.sink.before.faults.count
       → (status : Status) (grown : Channels) → IsReported read n (last_of why) (status_of setup.strict n.cpu.core why) setup.items status grown → EndsFrom mid outside.sink.after status grown result → Told outside setup result
   went_whole read up reads unread end why is did out quiet status grown r ends = stopped_by read up reads unread end why is status grown out quiet ends outside.pages.before.told did r
 
-  cut_by : (told : Option BlockFile) → HasFailed outside.pages → Did setup m told run_end.PageFault n outside.pages.after.told outside.sink.before.told mid.told → OnlyWrote setup.limits.listed outside.sink.before.told mid.told → mid.faults ≡ outside.sink.before.faults → EndsFrom mid outside.sink.after PageFault (only Report (machine_report n lasts.PageFault [])) result → By told
+  cut_by : (told : Option BlockFile) → HasFailed outside.pages → Did setup m told run_end.PageFault n outside.pages.after.told outside.sink.before.told mid.told → OnlyWrote setup.limits.listed outside.sink.before.told mid.told → mid.faults.count ≡ outside.sink.before.faults.count → EndsFrom mid outside.sink.after PageFault (only Report (machine_report n lasts.PageFault [])) result → By told
   cut_by None rose did out quiet ends =
       let text = only Report (machine_report n lasts.PageFault []) in
       record { meant = PageFault; grown = append out.more text; so = record { answer = rose; unlisted = λ off. unlisted out.more text (out.unlisted off) refl }; ends = ends_after outside.sink.before mid outside.sink.after PageFault out.more text result out.grew quiet ends }
@@ -297,16 +298,16 @@ module _ (outside : Outside) (setup : Setup) (m n : Engine) (f : Starts setup m)
             front = w.front;
             rest = w.rest;
             splits = w.splits;
-            calls = w.calls;
+            turns = n.turns;
+            fails = w.fails;
             answer = refl;
             wrote = refl;
-            blocks = w.moved;
           }),
         );
         ends = behind s (recorded setup p) lasts.PageFault [] PageFault (only Report (machine_report n lasts.PageFault [])) wrote quiet text ends;
       }
 
-  pub went_cut : HasFailed outside.pages → Did setup m outside.pages.before.told run_end.PageFault n outside.pages.after.told outside.sink.before.told mid.told → OnlyWrote setup.limits.listed outside.sink.before.told mid.told → mid.faults ≡ outside.sink.before.faults
+  pub went_cut : HasFailed outside.pages → Did setup m outside.pages.before.told run_end.PageFault n outside.pages.after.told outside.sink.before.told mid.told → OnlyWrote setup.limits.listed outside.sink.before.told mid.told → mid.faults.count ≡ outside.sink.before.faults.count
       → EndsFrom mid outside.sink.after PageFault (only Report (machine_report n lasts.PageFault [])) result → Told outside setup result
   went_cut rose did out quiet ends = cut_by outside.pages.before.told rose did out quiet ends
 

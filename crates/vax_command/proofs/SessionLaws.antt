@@ -89,7 +89,7 @@ module _ (outside : Outside) (limits : Limits) (rules : List Rule) (lines : List
   within_wrote s most replies w = subst (λ (out : List ℕ). Grew outside.sink.before.told mid.told (writes out replies)) (sent_all start.output (machine_at w.place).output w.sent f.silent w.output) w.wrote
 
   -- the report behind what was written
-  behind : (s : Session) (most : ℕ) (replies : List ℕ) (why : Last) (meant : Status) (w : IsWithin start s most replies n outside.pages.after.told outside.sink.before.told mid.told) → mid.faults ≡ outside.sink.before.faults → EndsFrom mid outside.sink.after meant (only Report (machine_report n why [])) result
+  behind : (s : Session) (most : ℕ) (replies : List ℕ) (why : Last) (meant : Status) (w : IsWithin start s most replies n outside.pages.after.told outside.sink.before.told mid.told) → mid.faults.count ≡ outside.sink.before.faults.count → EndsFrom mid outside.sink.after meant (only Report (machine_report n why [])) result
       → Ends outside.sink meant (broken_off replies w.place n.steps why) result
   behind s most replies why meant w quiet ends =
       let text = ap (only Report) (reported_at n outside.pages.after.told w.place n.steps why [] refl w.means) in
@@ -135,7 +135,7 @@ module _ (outside : Outside) (limits : Limits) (rules : List Rule) (lines : List
   unspoiled : (file : BlockFile) (after : Option BlockFile) → Took limits rules lines m (Some file) session_end.Turns n after → rules ≡ [] → (residence n).spoiled ≡ 0
   unspoiled file after took quiet = (took_at file after took).some.few.unspoiled quiet ∙ none_spoiled
 
-  pub timed_out : (told : Option BlockFile) → Did limits lines m told session_end.Turns n outside.pages.after.told outside.sink.before.told mid.told → Took limits rules lines m told session_end.Turns n outside.pages.after.told → Made limits rules lines m told session_end.Turns n outside.pages.after.told outside.sink.before.told mid.told → OnlyReplied outside.sink.before.told mid.told → mid.faults ≡ outside.sink.before.faults
+  pub timed_out : (told : Option BlockFile) → Did limits lines m told session_end.Turns n outside.pages.after.told outside.sink.before.told mid.told → Took limits rules lines m told session_end.Turns n outside.pages.after.told → Made limits rules lines m told session_end.Turns n outside.pages.after.told outside.sink.before.told mid.told → OnlyReplied outside.sink.before.told mid.told → mid.faults.count ≡ outside.sink.before.faults.count
       → EndsFrom mid outside.sink.after Turns (only Report (machine_report n last.Turns [])) result → Told told outside (begins m frames start limits rules lines) result
   timed_out None did took made only_these quiet ends =
       let text = only Report (machine_report n last.Turns []) in
@@ -152,7 +152,7 @@ module _ (outside : Outside) (limits : Limits) (rules : List Rule) (lines : List
         ends = behind _ _ replies last.Turns Turns w quiet ends;
       }
 
-  pub cut_off : (told : Option BlockFile) → HasFailed outside.pages → Did limits lines m told session_end.PageFault n outside.pages.after.told outside.sink.before.told mid.told → Made limits rules lines m told session_end.PageFault n outside.pages.after.told outside.sink.before.told mid.told → OnlyReplied outside.sink.before.told mid.told → mid.faults ≡ outside.sink.before.faults
+  pub cut_off : (told : Option BlockFile) → HasFailed outside.pages → Did limits lines m told session_end.PageFault n outside.pages.after.told outside.sink.before.told mid.told → Made limits rules lines m told session_end.PageFault n outside.pages.after.told outside.sink.before.told mid.told → OnlyReplied outside.sink.before.told mid.told → mid.faults.count ≡ outside.sink.before.faults.count
       → EndsFrom mid outside.sink.after PageFault (only Report (machine_report n last.PageFault [])) result → Told told outside (begins m frames start limits rules lines) result
   cut_off None rose did made only_these quiet ends =
       let text = only Report (machine_report n last.PageFault []) in

@@ -1,13 +1,14 @@
 -- What a call sees of the outside: the files, the output channels and the page file, before it and after it.
-use Rattle.std.specs.Prelude.{◌≡◌, ℕ, Option, None}
+use Rattle.std.specs.Prelude.{◌≡◌, Option, None}
 use Rattle.vax_outside.specs.Blocks.{BlockFile}
 use Rattle.vax_outside.specs.Channels.{Channels}
 use Rattle.vax_outside.specs.Directory.{Directory}
-use Rattle.vax_outside.specs.Faults.{Rose}
+use Rattle.vax_outside.specs.Faults.{Rose, no_failures}
+use Rattle.vax_outside.specs.declared.faults.Failures.{Failures}
 
--- what is seen of an object: how many of its calls have failed, and what it holds, where it tells that
+-- what is seen of an object: which of its calls have failed, and what it holds, where it tells that
 pub record Seen (T : Type 0) : Type 0 where
-  pub faults : ℕ
+  pub faults : Failures
   pub told : Option T
 
 -- an object before a call and after it, and whether it is the same
@@ -16,14 +17,14 @@ pub record Change (T : Type 0) : Type 1 where
   pub after : Seen T
   pub same : Type 0
 
-abbrev pub seen_of : {S T : Type 0} → (faults : S → ℕ) → (contents : S → Option T) → S → Seen T
+abbrev pub seen_of : {S T : Type 0} → (faults : S → Failures) → (contents : S → Option T) → S → Seen T
 seen_of faults contents object = record { faults = faults object; told = contents object }
 
-abbrev pub change : {S T : Type 0} → (faults : S → ℕ) → (contents : S → Option T) → (old new : S) → Change T
+abbrev pub change : {S T : Type 0} → (faults : S → Failures) → (contents : S → Option T) → (old new : S) → Change T
 change faults contents old new =
     record { before = seen_of faults contents old; after = seen_of faults contents new; same = new ≡ old }
 
--- a call of the object failed
+-- one call of the object failed, and none was made behind it
 abbrev pub HasFailed : {T : Type 0} → Change T → Type 0
 HasFailed object = Rose object.before.faults object.after.faults
 
@@ -50,4 +51,4 @@ outside_of seen = outside seen.sink seen.pages
 
 -- a page file that a command leaves alone, whatever it is
 abbrev pub untouched : Change BlockFile
-untouched = record { before = record { faults = 0; told = None }; after = record { faults = 0; told = None }; same = Unit {0} }
+untouched = record { before = record { faults = no_failures; told = None }; after = record { faults = no_failures; told = None }; same = Unit {0} }

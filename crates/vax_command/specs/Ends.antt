@@ -1,7 +1,8 @@
 -- How a call that writes comes to its answer.
-use Rattle.std.specs.Prelude.{◌≡◌, ◌≢◌, ◌⊎◌, ℕ}
+use Rattle.std.specs.Prelude.{◌≡◌, ◌≢◌, ◌⊎◌}
 use Rattle.vax_outside.specs.Faults.{Rose}
 use Rattle.vax_outside.specs.Channels.{Channels, Grew, GrewByPrefix}
+use Rattle.vax_outside.specs.declared.faults.Failures.{Failures}
 use Rattle.vax_command.specs.Around.{Change, Seen}
 use Rattle.vax_command.specs.declared.status.Status.{Status}
 use Rattle.vax_command.specs.declared.status.Status.TheVariants.{WriteFault}
@@ -10,7 +11,7 @@ use Rattle.vax_command.specs.declared.status.Status.TheVariants.{WriteFault}
 pub record IsWhole (before after : Seen Channels) (meant : Status) (grown : Channels) (result : Status) : Type 0 where
   pub answer : result ≡ meant
   pub grew : Grew before.told after.told grown
-  pub quiet : after.faults ≡ before.faults
+  pub quiet : after.faults.count ≡ before.faults.count
 
 -- a write failed, after a prefix of what was to be written
 pub record IsCutShort (before after : Seen Channels) (grown : Channels) (result : Status) : Type 0 where
@@ -33,5 +34,5 @@ pub record EndsSo (sink : Change Channels) (So : Status → Channels → Type 0)
   pub ends : Ends sink meant grown result
 
 -- A failed call isn't hidden: where the count of faults has changed, the answer is this fault or that of a write.
-abbrev pub Admits : (before after : ℕ) → (fault result : Status) → Type 0
-Admits before after fault result = after ≢ before → (result ≡ fault) ⊎ (result ≡ WriteFault)
+abbrev pub Admits : (before after : Failures) → (fault result : Status) → Type 0
+Admits before after fault result = after.count ≢ before.count → (result ≡ fault) ⊎ (result ≡ WriteFault)

@@ -63,9 +63,9 @@ ReadEnds files names status = ReadEndsFrom (HasFailed files) files.before.told n
 -- The files are as they were, and each call that failed was counted and is told.
 pub record ReadsOnly {T : Type 0} (files : Change Directory) (result : Result T Status) : Type 0 where
   pub same : files.after.told ≡ files.before.told
-  pub later : files.before.faults ≤ files.after.faults
-  pub quiet : OnOk result (files.after.faults ≡ files.before.faults)
-  pub failed : files.after.faults ≢ files.before.faults → IsErrOf result ReadFault
+  pub later : files.before.faults.count ≤ files.after.faults.count
+  pub quiet : OnOk result (files.after.faults.count ≡ files.before.faults.count)
+  pub failed : files.after.faults.count ≢ files.before.faults.count → IsErrOf result ReadFault
 
 -- the bytes of an option's file, if it is given
 abbrev pub option_of : Option Text → List Text → Option Text

@@ -10,10 +10,9 @@ use Rattle.vax_report.specs.declared.Dump.{Dump}
 use Rattle.vax_report.specs.declared.Last.{Last}
 use Rattle.vax_report.specs.declared.Last.TheVariants as last
 use Rattle.vax_sched.specs.Due.{due}
-use Rattle.vax_machine.specs.Calling.{CallsFile}
+use Rattle.vax_machine.specs.Calling.{NextCallFails}
 use Rattle.vax_machine.specs.Console.{memory_from}
 use Rattle.vax_machine.specs.Paged.{Paged, Why, ByEnding, BySteps, ByTurns, all_evicted, all_named, stops}
-use Rattle.vax_machine.specs.Blocks.{MovedUpTo}
 use Rattle.vax_machine.specs.Writing.{both, lines_of}
 use Rattle.vax_machine.specs.declared.event.Limits.{Limits}
 use Rattle.vax_machine_laws.specs.Enough.{pages_due}
@@ -92,8 +91,8 @@ pub record IsUnread (setup : Setup) (file : BlockFile) (outside : Outside) (stat
   pub wrote : grown ≡ run_output stop.at (recorded setup (after_turns setup stop.count)) last.PageFault []
   pub blocks : HasRun setup stop.count file outside.pages.after.told
 
--- A call of the page file failed in the turn behind so many, when the first of what was due had been made absent: the next of this is to be written, or the
--- attempt misses a page. The flat machine's run wasn't over, and is where these turns lead.
+-- A call of the page file failed in the turn behind so many, when the first of what was due had been made absent. It is the next call that this turn
+-- makes, and each before it was made. The flat machine's run wasn't over, and is where these turns lead.
 pub record IsCut (setup : Setup) (file : BlockFile) (outside : Outside) (status : Status) (grown : Channels) : Type 0 where
   pub at : Stage
   pub reaches : Reaches setup.start at
@@ -104,10 +103,10 @@ pub record IsCut (setup : Setup) (file : BlockFile) (outside : Outside) (status 
   pub front : List ℕ
   pub rest : List ℕ
   pub splits : all_named setup.areas (due setup.rules ((after_turns setup count).turns + 1)) ≡ front ++ rest
-  pub calls : CallsFile rest (all_evicted front (after_turns setup count))
+  pub turns : ℕ
+  pub fails : NextCallFails setup.areas (before_turns setup) (all_evicted front (after_turns setup count)) rest turns (Some file) outside.pages.after.told
   pub answer : status ≡ PageFault
   pub wrote : grown ≡ run_output at (recorded setup (all_evicted front (after_turns setup count))) last.PageFault []
-  pub blocks : MovedUpTo setup.areas (before_turns setup) (all_evicted front (after_turns setup count)) rest (Some file) outside.pages.after.told
 
 -- an answer of a run, of whose end the answer is to tell so much
 abbrev pub IsRunAnswer : Strictness → Type 0 → Status → Type 0

@@ -73,7 +73,7 @@ fn report_all<K: Sink, F: PageFile>(
         (engine machine) last meant (items_of room.blanks.items)) result }
     ensures reads { OnlyRead (F.contents pages.old) (F.contents pages.new) }
     ensures unread { items_of room.blanks.items ≡ [] → F.contents pages.new ≡ F.contents pages.old }
-    ensures later { F.faults pages.old ≤ F.faults pages.new }
+    ensures later { (F.faults pages.old).count ≤ (F.faults pages.new).count }
     ensures failed { Admits (F.faults pages.old) (F.faults pages.new) Status.PageFault result }
 {
     let mut machine = machine;

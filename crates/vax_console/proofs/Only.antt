@@ -2,6 +2,7 @@
 use Rattle.std.proofs.Common.{◌≡◌, ℕ, false, List, [], ◌∷◌, ◌++◌, Option, Result, Ok, Err, refl, ap, subst}
 use Rattle.vax_outside.specs.Channels.{Channels, Grew, GrewByPrefix, only}
 use Rattle.vax_outside.specs.declared.traits.Chan.TheVariants.{Report}
+use Rattle.vax_outside.specs.declared.faults.Failures.{Failures}
 use Rattle.vax_outside.proofs.Growth.{grew_more, grew_nothing}
 use Rattle.vax_machine.specs.Writing.{OnlyWrote}
 use Rattle.vax_console.specs.Ends.{OnlyReplied, Replies, writes}
@@ -18,7 +19,7 @@ prefix_only old new text p =
     let is : p.prefix ≡ writes p.prefix.out p.prefix.report = λ i. record { out = p.prefix.out; report = p.prefix.report; recorded = none i } in
     record { sent = p.prefix.out; replies = p.prefix.report; grew = subst (λ (z : Channels). Grew old new z) is p.grew }
 
-pub reply_only : (r : Result (Unit {0}) Stopped) (before now : ℕ) (old new : Option Channels) (text : List ℕ) → Replies r before now old new text → OnlyReplied old new
+pub reply_only : (r : Result (Unit {0}) Stopped) (before now : Failures) (old new : Option Channels) (text : List ℕ) → Replies r before now old new text → OnlyReplied old new
 reply_only (Ok x) before now old new text p = record { sent = []; replies = text; grew = p.1 }
 reply_only (Err stopped.Turns) before now old new text p = absurd p
 reply_only (Err stopped.PageFault) before now old new text p = absurd p

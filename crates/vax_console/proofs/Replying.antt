@@ -3,6 +3,7 @@ use Rattle.std.proofs.Common.{◌≡◌, ℕ, List, [], ◌∷◌, ◌++◌, app
 use Rattle.vax_outside.specs.Blocks.{BlockFile}
 use Rattle.vax_outside.specs.Channels.{Channels, Grew, GrewByPrefix, append, nothing, only}
 use Rattle.vax_outside.specs.declared.traits.Chan.TheVariants.{Report}
+use Rattle.vax_outside.specs.declared.faults.Failures.{Failures}
 use Rattle.vax_outside.proofs.Growth.{append-nothing, channels_assoc, grew_more, grew_nothing, prefix_in}
 use Rattle.vax_flat.specs.Parts.{At}
 use Rattle.vax_machine.specs.Machine.{Means}
@@ -113,7 +114,7 @@ prefix_reply a b c sent text p q =
     prefix_in a b c (writes sent []) (only Report text) nothing (writes sent text) joins p q
 
 -- a line that leaves the session there, whose reply comes behind what was sent
-pub replied_goes : (r : Result (Unit {0}) Stopped) (limits : Limits) (s t : Session) (l : Line) (text sent : List ℕ) (m : Engine) (file : Option BlockFile) (before now : ℕ) (old mid new : Option Channels) → after_line limits.steps s l ≡ t → line_reply limits.steps s l ≡ text →
+pub replied_goes : (r : Result (Unit {0}) Stopped) (limits : Limits) (s t : Session) (l : Line) (text sent : List ℕ) (m : Engine) (file : Option BlockFile) (before now : Failures) (old mid new : Option Channels) → after_line limits.steps s l ≡ t → line_reply limits.steps s l ≡ text →
     m.steps ≡ t.steps → Means m file (At t.machine) → t.machine.output ≡ s.machine.output ++ sent → Grew old mid (writes sent []) → Replies r before now mid new text → Goes r limits s (l ∷ []) m file old new
 replied_goes (Ok x) limits s t l text sent m file before now old mid new a e steps means output g p = line_done limits s t l text sent m file old new a e steps means output (grew_reply old mid new sent text g p.1)
 replied_goes (Err stopped.Turns) limits s t l text sent m file before now old mid new a e steps means output g p = absurd p
@@ -121,16 +122,16 @@ replied_goes (Err stopped.PageFault) limits s t l text sent m file before now ol
 replied_goes (Err stopped.WriteFault) limits s t l text sent m file before now old mid new a e steps means output g p = line_lost limits s t l text sent m file old new a e output (prefix_reply old mid new sent text g p.2)
 
 -- a line that sends nothing
-pub simple_goes : (r : Result (Unit {0}) Stopped) (limits : Limits) (s t : Session) (l : Line) (text : List ℕ) (m : Engine) (file : Option BlockFile) (before now : ℕ) (old new : Option Channels) → after_line limits.steps s l ≡ t → line_reply limits.steps s l ≡ text →
+pub simple_goes : (r : Result (Unit {0}) Stopped) (limits : Limits) (s t : Session) (l : Line) (text : List ℕ) (m : Engine) (file : Option BlockFile) (before now : Failures) (old new : Option Channels) → after_line limits.steps s l ≡ t → line_reply limits.steps s l ≡ text →
     m.steps ≡ t.steps → Means m file (At t.machine) → t.machine.output ≡ s.machine.output → Replies r before now old new text → Goes r limits s (l ∷ []) m file old new
 simple_goes r limits s t l text m file before now old new a e steps means output p =
     replied_goes r limits s t l text [] m file before now old old new a e steps means (output ∙ sym (append-nil s.machine.output)) (grew_nothing old) p
 
-pub reply_causes : (r : Result (Unit {0}) Stopped) (file before now : ℕ) (old new : Option Channels) (text : List ℕ) → Replies r before now old new text → Causes r file file before now
+pub reply_causes : (r : Result (Unit {0}) Stopped) (file before now : Failures) (old new : Option Channels) (text : List ℕ) → Replies r before now old new text → Causes r file file before now
 reply_causes (Ok x) file before now old new text p = (refl, p.0)
 reply_causes (Err stopped.Turns) file before now old new text p = absurd p
 reply_causes (Err stopped.PageFault) file before now old new text p = absurd p
 reply_causes (Err stopped.WriteFault) file before now old new text p = (omega arith, p.0, p.1)
 
-pub replies_as : (r : Result (Unit {0}) Stopped) (before now : ℕ) (old new : Option Channels) (text said : List ℕ) → text ≡ said → Replies r before now old new text → Replies r before now old new said
+pub replies_as : (r : Result (Unit {0}) Stopped) (before now : Failures) (old new : Option Channels) (text said : List ℕ) → text ≡ said → Replies r before now old new text → Replies r before now old new said
 replies_as r before now old new text said e p = subst (λ (z : List ℕ). Replies r before now old new z) e p

@@ -5,6 +5,7 @@ use Rattle.vax_space.specs.declared.Access.TheVariants.{Write}
 use Rattle.vax_space.specs.Reference.{violation}
 use Rattle.vax_outside.specs.Blocks.{BlockFile}
 use Rattle.vax_outside.specs.Channels.{Channels}
+use Rattle.vax_outside.specs.declared.faults.Failures.{Failures}
 use Rattle.vax_outside.proofs.Growth.{grew_nothing}
 use Rattle.vax_flat.specs.Outcome.{is_allowed}
 use Rattle.vax_flat.specs.Parts.{At}
@@ -49,20 +50,20 @@ deposits_as b said addr bytes old new before after e d = subst (λ (z : Bool). D
 
 -- each request
 
-pub register_goes : (r : Result (Unit {0}) Stopped) (limits : Limits) (flat : Flat) (n : ℕ) (m : Engine) (file : Option BlockFile) (before now : ℕ) (old new : Option Channels) → Means m file (At flat) →
+pub register_goes : (r : Result (Unit {0}) Stopped) (limits : Limits) (flat : Flat) (n : ℕ) (m : Engine) (file : Option BlockFile) (before now : Failures) (old new : Option Channels) → Means m file (At flat) →
     Replies r before now old new (register_line n (slice_index m.cpu.core.regs n)) → Goes r limits (session_on m flat) (Asks (ExamineRegister n) ∷ []) m file old new
 unfolding reply answered
 register_goes r limits flat n m file before now old new means p =
     let is : register_line n (slice_index flat.core.regs n) ≡ register_line n (slice_index m.cpu.core.regs n) = ap (λ z. register_line n (slice_index z.regs n)) (same_core m file flat means) in
     simple_goes r limits (session_on m flat) (session_on m flat) (Asks (ExamineRegister n)) (register_line n (slice_index m.cpu.core.regs n)) m file before now old new refl is refl means refl p
 
-pub memory_goes : (r : Result (Unit {0}) Stopped) (limits : Limits) (flat : Flat) (addr count : ℕ) (m1 m2 : Engine) (file : Option BlockFile) (before now : ℕ) (old new : Option Channels) → m2.steps ≡ m1.steps → Means m2 file (At flat) →
+pub memory_goes : (r : Result (Unit {0}) Stopped) (limits : Limits) (flat : Flat) (addr count : ℕ) (m1 m2 : Engine) (file : Option BlockFile) (before now : Failures) (old new : Option Channels) → m2.steps ≡ m1.steps → Means m2 file (At flat) →
     Replies r before now old new (memory_line addr (memory_from flat.memory addr count)) → Goes r limits (session_on m1 flat) (Asks (ExamineMemory addr count) ∷ []) m2 file old new
 unfolding reply answered
 memory_goes r limits flat addr count m1 m2 file before now old new steps means p =
     simple_goes r limits (session_on m1 flat) (session_on m1 flat) (Asks (ExamineMemory addr count)) (memory_line addr (memory_from flat.memory addr count)) m2 file before now old new refl refl steps means refl p
 
-pub put_in_goes : (r : Result (Unit {0}) Stopped) (limits : Limits) (flat : Flat) (n value : ℕ) (m1 m2 : Engine) (file : Option BlockFile) (before now : ℕ) (old new : Option Channels) → m2.steps ≡ m1.steps → Means m2 file (At (with_register n value flat)) →
+pub put_in_goes : (r : Result (Unit {0}) Stopped) (limits : Limits) (flat : Flat) (n value : ℕ) (m1 m2 : Engine) (file : Option BlockFile) (before now : Failures) (old new : Option Channels) → m2.steps ≡ m1.steps → Means m2 file (At (with_register n value flat)) →
     Replies r before now old new done_line → Goes r limits (session_on m1 flat) (Asks (DepositRegister n value) ∷ []) m2 file old new
 unfolding reply answered
 put_in_goes r limits flat n value m1 m2 file before now old new steps means p =
@@ -76,18 +77,18 @@ put_done : (limits : Limits) (flat : Flat) (addr : ℕ) (bytes : List ℕ) (m : 
 unfolding reply
 put_done limits flat addr bytes m allowed = rw allowed refl
 
-pub put_at_goes : (r : Result (Unit {0}) Stopped) (limits : Limits) (flat : Flat) (addr : ℕ) (bytes : List ℕ) (m1 m2 : Engine) (file : Option BlockFile) (before now : ℕ) (old new : Option Channels) → may_deposit flat.memory addr (length bytes) ≡ true → m2.steps ≡ m1.steps → Means m2 file (At (with_bytes addr bytes flat)) →
+pub put_at_goes : (r : Result (Unit {0}) Stopped) (limits : Limits) (flat : Flat) (addr : ℕ) (bytes : List ℕ) (m1 m2 : Engine) (file : Option BlockFile) (before now : Failures) (old new : Option Channels) → may_deposit flat.memory addr (length bytes) ≡ true → m2.steps ≡ m1.steps → Means m2 file (At (with_bytes addr bytes flat)) →
     Replies r before now old new done_line → Goes r limits (session_on m1 flat) (Asks (DepositMemory addr bytes) ∷ []) m2 file old new
 put_at_goes r limits flat addr bytes m1 m2 file before now old new allowed steps means p =
     simple_goes r limits (session_on m1 flat) (with_machine (with_bytes addr bytes flat) (session_on m1 flat)) (Asks (DepositMemory addr bytes)) done_line m2 file before now old new (put_there limits flat addr bytes m1 allowed) (put_done limits flat addr bytes m1 allowed) steps means refl p
 
-pub refused_goes : (r : Result (Unit {0}) Stopped) (limits : Limits) (flat : Flat) (addr : ℕ) (bytes : List ℕ) (m : Engine) (file : Option BlockFile) (before now : ℕ) (old new : Option Channels) → may_deposit flat.memory addr (length bytes) ≡ false → Means m file (At flat) →
+pub refused_goes : (r : Result (Unit {0}) Stopped) (limits : Limits) (flat : Flat) (addr : ℕ) (bytes : List ℕ) (m : Engine) (file : Option BlockFile) (before now : Failures) (old new : Option Channels) → may_deposit flat.memory addr (length bytes) ≡ false → Means m file (At flat) →
     Replies r before now old new (line (codes "?ADDRESS")) → Goes r limits (session_on m flat) (Asks (DepositMemory addr bytes) ∷ []) m file old new
 unfolding reply answered
 refused_goes r limits flat addr bytes m file before now old new refused means p =
     simple_goes r limits (session_on m flat) (session_on m flat) (Asks (DepositMemory addr bytes)) (line (codes "?ADDRESS")) m file before now old new (rw refused refl) (rw refused refl) refl means refl p
 
-pub show_goes : (r : Result (Unit {0}) Stopped) (limits : Limits) (flat : Flat) (m : Engine) (file : Option BlockFile) (before now : ℕ) (old new : Option Channels) → Means m file (At flat) →
+pub show_goes : (r : Result (Unit {0}) Stopped) (limits : Limits) (flat : Flat) (m : Engine) (file : Option BlockFile) (before now : Failures) (old new : Option Channels) → Means m file (At flat) →
     Replies r before now old new (report m.cpu.core (last_of m.ended) m.steps 0 m.cpu.term.place []) → Goes r limits (session_on m flat) (Asks Show ∷ []) m file old new
 unfolding reply answered
 show_goes r limits flat m file before now old new means p =
@@ -97,7 +98,7 @@ show_goes r limits flat m file before now old new means p =
     let is : report flat.core (last_of flat.ending) m.steps 0 flat.taken [] ≡ report m.cpu.core (last_of m.ended) m.steps 0 m.cpu.term.place [] = λ i. report (core i) (last_of (ending i)) m.steps 0 (taken i) [] in
     simple_goes r limits (session_on m flat) (session_on m flat) (Asks Show) (report m.cpu.core (last_of m.ended) m.steps 0 m.cpu.term.place []) m file before now old new refl is refl means refl p
 
-pub malformed_goes : (r : Result (Unit {0}) Stopped) (limits : Limits) (flat : Flat) (m : Engine) (file : Option BlockFile) (before now : ℕ) (old new : Option Channels) → Means m file (At flat) →
+pub malformed_goes : (r : Result (Unit {0}) Stopped) (limits : Limits) (flat : Flat) (m : Engine) (file : Option BlockFile) (before now : Failures) (old new : Option Channels) → Means m file (At flat) →
     Replies r before now old new (line (codes "?COMMAND")) → Goes r limits (session_on m flat) (Malformed ∷ []) m file old new
 malformed_goes r limits flat m file before now old new means p =
     simple_goes r limits (session_on m flat) (session_on m flat) Malformed (line (codes "?COMMAND")) m file before now old new refl refl refl means refl p

@@ -5,6 +5,7 @@ use Rattle.std.specs.Result.{IsErrAnd}
 use Rattle.vax_space.specs.declared.Area.{Area}
 use Rattle.vax_outside.specs.Blocks.{BlockFile}
 use Rattle.vax_outside.specs.Channels.{Channels, Grew, GrewByPrefix, append}
+use Rattle.vax_outside.specs.declared.faults.Failures.{Failures}
 use Rattle.vax_flat.specs.declared.Ending.{Ending}
 use Rattle.vax_flat.specs.Parts.{Place, At, Within, GoesBy, machine_at}
 use Rattle.vax_flat.specs.Step.{Flat}
@@ -210,14 +211,14 @@ advances_from end limits count first areas rules flat m1 m2 f1 f2 old new e betw
 
 -- requests of an ended machine
 
-pub next_refused : (r : Result (Unit {0}) Stopped) (limits : Limits) (flat : Flat) (count : ℕ) (e : Ending) (m : Engine) (file : Option BlockFile) (before now : ℕ) (old new : Option Channels) → Means m file (At flat) → flat.ending ≡ Some e →
+pub next_refused : (r : Result (Unit {0}) Stopped) (limits : Limits) (flat : Flat) (count : ℕ) (e : Ending) (m : Engine) (file : Option BlockFile) (before now : Failures) (old new : Option Channels) → Means m file (At flat) → flat.ending ≡ Some e →
     Replies r before now old new (line (codes "?ENDED")) → Goes r limits (session_on m flat) (Asks (Next count) ∷ []) m file old new
 unfolding reply answered
 next_refused r limits flat count e m file before now old new means ended p =
     let s = session_on m flat in
     simple_goes r limits s s (Asks (Next count)) (line (codes "?ENDED")) m file before now old new (advanced_ended (min count (left limits.steps s)) s e ended) (rw ended refl) refl means refl p
 
-pub continue_refused : (r : Result (Unit {0}) Stopped) (limits : Limits) (flat : Flat) (e : Ending) (m : Engine) (file : Option BlockFile) (before now : ℕ) (old new : Option Channels) → Means m file (At flat) → flat.ending ≡ Some e →
+pub continue_refused : (r : Result (Unit {0}) Stopped) (limits : Limits) (flat : Flat) (e : Ending) (m : Engine) (file : Option BlockFile) (before now : Failures) (old new : Option Channels) → Means m file (At flat) → flat.ending ≡ Some e →
     Replies r before now old new (line (codes "?ENDED")) → Goes r limits (session_on m flat) (Asks Continue ∷ []) m file old new
 unfolding reply answered
 continue_refused r limits flat e m file before now old new means ended p =
@@ -235,13 +236,13 @@ pub continue_said : (limits : Limits) (s : Session) (text : List ℕ) → s.mach
 unfolding reply
 continue_said limits s text going e = ap (λ (h : Option Ending). unless_ended h (stop_line (advanced (left limits.steps s) s))) going ∙ e
 
-pub next_goes : (r : Result (Unit {0}) Stopped) (limits : Limits) (s : Session) (count : ℕ) (text : List ℕ) (m : Engine) (file : Option BlockFile) (before now : ℕ) (old mid new : Option Channels) → s.machine.ending ≡ None → IsAt s.machine (advanced (min count (left limits.steps s)) s) [] m file old mid →
+pub next_goes : (r : Result (Unit {0}) Stopped) (limits : Limits) (s : Session) (count : ℕ) (text : List ℕ) (m : Engine) (file : Option BlockFile) (before now : Failures) (old mid new : Option Channels) → s.machine.ending ≡ None → IsAt s.machine (advanced (min count (left limits.steps s)) s) [] m file old mid →
     next_line (nat_lt (left limits.steps s) count) (advanced (min count (left limits.steps s)) s) ≡ text → Replies r before now mid new text → Goes r limits s (Asks (Next count) ∷ []) m file old new
 unfolding answered
 next_goes r limits s count text m file before now old mid new going a said p =
     replied_goes r limits s (advanced (min count (left limits.steps s)) s) (Asks (Next count)) text a.sent m file before now old mid new refl (next_said limits s count text going said) a.steps a.means a.output a.wrote p
 
-pub continue_goes : (r : Result (Unit {0}) Stopped) (limits : Limits) (s : Session) (text : List ℕ) (m : Engine) (file : Option BlockFile) (before now : ℕ) (old mid new : Option Channels) → s.machine.ending ≡ None → IsAt s.machine (advanced (left limits.steps s) s) [] m file old mid →
+pub continue_goes : (r : Result (Unit {0}) Stopped) (limits : Limits) (s : Session) (text : List ℕ) (m : Engine) (file : Option BlockFile) (before now : Failures) (old mid new : Option Channels) → s.machine.ending ≡ None → IsAt s.machine (advanced (left limits.steps s) s) [] m file old mid →
     stop_line (advanced (left limits.steps s) s) ≡ text → Replies r before now mid new text → Goes r limits s (Asks Continue ∷ []) m file old new
 unfolding answered
 continue_goes r limits s text m file before now old mid new going a said p =

@@ -3,6 +3,7 @@ use Rattle.std.proofs.Common.{◌≡◌, ◌<◌, ◌≤◌, ◌+◌, ◌-◌, �
 use Rattle.vax_space.specs.declared.Area.{Area}
 use Rattle.vax_outside.specs.Blocks.{BlockFile}
 use Rattle.vax_outside.specs.Channels.{Channels}
+use Rattle.vax_outside.specs.declared.faults.Failures.{Failures}
 use Rattle.vax_flat.specs.declared.Ending.{Ending}
 use Rattle.vax_flat.specs.Parts.{Place, At, GoesBy, machine_at}
 use Rattle.vax_flat.specs.Step.{Flat}
@@ -102,7 +103,7 @@ cut_spends limit rules s l old new file same means n = record {
   few = few_none rules old new 0 40 n;
 }
 
-pub simple_spends : (r : Result (Unit {0}) Stopped) (limit : ℕ) (rules : List Rule) (s : Session) (l : Line) (old new : Engine) (file : Option BlockFile) (before now : ℕ) (was is : Option Channels) (text : List ℕ) → steps_in limit s (l ∷ []) ≡ 0 → MakesNone old new → Replies r before now was is text → Spends r limit rules s (l ∷ []) old new file
+pub simple_spends : (r : Result (Unit {0}) Stopped) (limit : ℕ) (rules : List Rule) (s : Session) (l : Line) (old new : Engine) (file : Option BlockFile) (before now : Failures) (was is : Option Channels) (text : List ℕ) → steps_in limit s (l ∷ []) ≡ 0 → MakesNone old new → Replies r before now was is text → Spends r limit rules s (l ∷ []) old new file
 simple_spends (Ok x) limit rules s l old new file before now was is text e n p = line_spends limit rules s l old new e n
 simple_spends (Err stopped.Turns) limit rules s l old new file before now was is text e n p = absurd p
 simple_spends (Err stopped.PageFault) limit rules s l old new file before now was is text e n p = absurd p
@@ -259,13 +260,13 @@ steps_spend_from end limits count first areas rules flat m1 m2 f1 f2 old new e b
 
 -- the steps of a request
 
-pub run_spends : (r : Result (Unit {0}) Stopped) (limit : ℕ) (rules : List Rule) (s : Session) (l : Line) (count : ℕ) (old new : Engine) (file : Option BlockFile) (before now : ℕ) (was is : Option Channels) (text : List ℕ) → steps_in limit s (l ∷ []) ≡ count → SpendsSteps count rules s old new → Replies r before now was is text → Spends r limit rules s (l ∷ []) old new file
+pub run_spends : (r : Result (Unit {0}) Stopped) (limit : ℕ) (rules : List Rule) (s : Session) (l : Line) (count : ℕ) (old new : Engine) (file : Option BlockFile) (before now : Failures) (was is : Option Channels) (text : List ℕ) → steps_in limit s (l ∷ []) ≡ count → SpendsSteps count rules s old new → Replies r before now was is text → Spends r limit rules s (l ∷ []) old new file
 run_spends (Ok x) limit rules s l count old new file before now was is text e h p = record { parts = h.parts; have = one_line limit s l h.parts (subst (λ (n : ℕ). StepsHaveParts n s h.parts) (sym e) h.have); few = h.few }
 run_spends (Err stopped.Turns) limit rules s l count old new file before now was is text e h p = absurd p
 run_spends (Err stopped.PageFault) limit rules s l count old new file before now was is text e h p = absurd p
 run_spends (Err stopped.WriteFault) limit rules s l count old new file before now was is text e h p = tt
 
-pub ended_spends : (r : Result (Unit {0}) Stopped) (limit : ℕ) (rules : List Rule) (s : Session) (l : Line) (e : Ending) (m : Engine) (file : Option BlockFile) (before now : ℕ) (was is : Option Channels) (text : List ℕ) → s.machine.ending ≡ Some e → Replies r before now was is text → Spends r limit rules s (l ∷ []) m m file
+pub ended_spends : (r : Result (Unit {0}) Stopped) (limit : ℕ) (rules : List Rule) (s : Session) (l : Line) (e : Ending) (m : Engine) (file : Option BlockFile) (before now : Failures) (was is : Option Channels) (text : List ℕ) → s.machine.ending ≡ Some e → Replies r before now was is text → Spends r limit rules s (l ∷ []) m m file
 ended_spends r limit rules s l e m file before now was is text h p =
     run_spends r limit rules s l (steps_in limit s (l ∷ [])) m m file before now was is text refl (record { parts = 0; have = ended_parts (steps_in limit s (l ∷ [])) s e h; few = few_none rules m m 0 0 (none_same m) }) p
 

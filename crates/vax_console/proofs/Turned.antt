@@ -2,6 +2,7 @@
 use Rattle.std.proofs.Common.{◌≡◌, ℕ, min, Bool, true, false, nat_lt, List, [], ◌∷◌, append-nil, codes, length, slice_index, Option, Some, None, Result, Ok, Err, refl, sym, ap, subst, ◌∙◌}
 use Rattle.vax_outside.specs.Blocks.{BlockFile}
 use Rattle.vax_outside.specs.Channels.{Channels, Grew, append}
+use Rattle.vax_outside.specs.declared.faults.Failures.{Failures}
 use Rattle.vax_outside.proofs.Growth.{grew_nothing}
 use Rattle.vax_flat.specs.declared.Ending.{Ending}
 use Rattle.vax_flat.specs.Parts.{Place, At, machine_at}
@@ -47,6 +48,8 @@ begun_kept old new place k p = λ i. record {
   residence = residence_of (p i);
   modified = λ page. is_listed page (p i).modified;
   evictions = [];
+  blocked = (p i).blocked;
+  reads = 0;
 }
 
 -- a machine that a paged run is at
@@ -59,14 +62,16 @@ begun_at m file p place t e = λ i. record {
   residence = t.residence i;
   modified = t.modified i;
   evictions = [];
+  blocked = t.blocked i;
+  reads = 0;
 }
 
 no_pins : (r : Residence) → r.pinned ≡ [] → record r { pinned = [] } ≡ r
 no_pins r e = λ i. record r { pinned = sym e i }
 
-begun_register : (old new : Engine) (n value : ℕ) (flat : Flat) → IsBetween old → keeping new ≡ let_go (keeping old) → modified_of new ≡ modified_of old →
+begun_register : (old new : Engine) (n value : ℕ) (flat : Flat) → IsBetween old → keeping new ≡ let_go (keeping old) → modified_of new ≡ modified_of old → (pages new.pager).blocked ≡ (pages old.pager).blocked →
     begun new (At (with_register n value flat)) ≡ record (begun old (At flat)) { place = At (with_register n value flat) }
-begun_register old new n value flat b k marks =
+begun_register old new n value flat b k marks blocks =
     let pins : residence new ≡ residence old = ap (λ (z : Keeping). z.residence) k ∙ no_pins (residence old) b.unpinned in
     λ i. record {
       place = At (with_register n value flat);
@@ -76,6 +81,8 @@ begun_register old new n value flat b k marks =
       residence = pins i;
       modified = marks i;
       evictions = [];
+      blocked = blocks i;
+      reads = 0;
     }
 
 -- requests without a step
@@ -83,7 +90,7 @@ begun_register old new n value flat b k marks =
 means_as : (before after : Scene) (flat : Flat) → after.machine ≡ before.machine → after.file ≡ before.file → Means before.machine before.file (At flat) → Means after.machine after.file (At flat)
 means_as before after flat same file means = subst (λ (z : Engine). Means z after.file (At flat)) (sym same) (subst (λ (z : Option BlockFile). Means before.machine z (At flat)) (sym file) means)
 
-pub register_held : (r : Result (Unit {0}) Stopped) (limits : Limits) (rules : List Rule) (before after : Scene) (flat : Flat) (n was now : ℕ) → after.machine ≡ before.machine → after.file ≡ before.file → Means before.machine before.file (At flat) →
+pub register_held : (r : Result (Unit {0}) Stopped) (limits : Limits) (rules : List Rule) (before after : Scene) (flat : Flat) (n : ℕ) (was now : Failures) → after.machine ≡ before.machine → after.file ≡ before.file → Means before.machine before.file (At flat) →
     Replies r was now before.sink after.sink (register_line n (slice_index before.machine.cpu.core.regs n)) → Holds r (setting_of before limits rules) (Asks (ExamineRegister n) ∷ []) (stand_at before (At flat)) after
 unfolding reply
 register_held r limits rules before after flat n was now same file means p =
@@ -91,7 +98,7 @@ register_held r limits rules before after flat n was now same file means p =
     simple_held r (setting_of before limits rules) (Asks (ExamineRegister n)) (stand_at before (At flat)) after flat (register_line n (slice_index before.machine.cpu.core.regs n)) was now
     (record { at = ap (λ (z : Engine). begun z (At flat)) same; file = file }) refl is (means_as before after flat same file means) (ap (λ (z : Engine). (pages z.pager).areas) same) p
 
-pub memory_held : (r : Result (Unit {0}) Stopped) (limits : Limits) (rules : List Rule) (before after : Scene) (flat : Flat) (addr count was now : ℕ) → keeping after.machine ≡ keeping before.machine → pages after.machine.pager ≡ pages before.machine.pager → OnlyRead before.file after.file →
+pub memory_held : (r : Result (Unit {0}) Stopped) (limits : Limits) (rules : List Rule) (before after : Scene) (flat : Flat) (addr count : ℕ) (was now : Failures) → keeping after.machine ≡ keeping before.machine → pages after.machine.pager ≡ pages before.machine.pager → OnlyRead before.file after.file →
     Means after.machine after.file (At flat) → Replies r was now before.sink after.sink (memory_line addr (memory_from flat.memory addr count)) → Holds r (setting_of before limits rules) (Asks (ExamineMemory addr count) ∷ []) (stand_at before (At flat)) after
 unfolding reply
 memory_held r limits rules before after flat addr count was now kept same read means p =
@@ -105,12 +112,12 @@ memory_unread limits rules before after flat addr count kept same read means sil
     line_short (λ x here. Fails g x here after) g (Asks (ExamineMemory addr count)) (stand_at before (At flat))
     (record { reads = record { at = begun_kept before.machine after.machine (At flat) kept same; file = read }; means = means; silent = silent })
 
-pub put_in_held : (r : Result (Unit {0}) Stopped) (limits : Limits) (rules : List Rule) (before after : Scene) (flat : Flat) (n value was now : ℕ) → IsBetween before.machine → keeping after.machine ≡ let_go (keeping before.machine) → modified_of after.machine ≡ modified_of before.machine →
+pub put_in_held : (r : Result (Unit {0}) Stopped) (limits : Limits) (rules : List Rule) (before after : Scene) (flat : Flat) (n value : ℕ) (was now : Failures) → IsBetween before.machine → keeping after.machine ≡ let_go (keeping before.machine) → modified_of after.machine ≡ modified_of before.machine → (pages after.machine.pager).blocked ≡ (pages before.machine.pager).blocked →
     after.file ≡ before.file → Means after.machine after.file (At (with_register n value flat)) → Replies r was now before.sink after.sink done_line → Holds r (setting_of before limits rules) (Asks (DepositRegister n value) ∷ []) (stand_at before (At flat)) after
 unfolding reply
-put_in_held r limits rules before after flat n value was now between kept marks file means p =
+put_in_held r limits rules before after flat n value was now between kept marks blocks file means p =
     simple_held r (setting_of before limits rules) (Asks (DepositRegister n value)) (stand_at before (At flat)) after (with_register n value flat) done_line was now
-    (record { at = begun_register before.machine after.machine n value flat between kept marks; file = file }) refl refl means (ap (λ (z : Keeping). z.areas) kept) p
+    (record { at = begun_register before.machine after.machine n value flat between kept marks blocks; file = file }) refl refl means (ap (λ (z : Keeping). z.areas) kept) p
 
 put_done : (limit : ℕ) (s : Session) (addr : ℕ) (bytes : List ℕ) → may_deposit s.machine.memory addr (length bytes) ≡ true → reply limit s (DepositMemory addr bytes) ≡ done_line
 unfolding reply
@@ -123,7 +130,7 @@ put_refused limit s addr bytes refused = rw refused refl
 pub marks_as : (b said : Bool) (addr count : ℕ) (old new : Engine) → b ≡ said → Marks (Ok b) addr count old new → Marks (Ok said) addr count old new
 marks_as b said addr count old new e d = subst (λ (z : Bool). Marks (Ok z) addr count old new) e d
 
-pub put_at_held : (r : Result (Unit {0}) Stopped) (limits : Limits) (rules : List Rule) (before after : Scene) (flat : Flat) (addr : ℕ) (bytes : List ℕ) (was now : ℕ) → may_deposit flat.memory addr (length bytes) ≡ true → HasLetGo before.machine after.machine → HasMarked addr (length bytes) before.machine after.machine →
+pub put_at_held : (r : Result (Unit {0}) Stopped) (limits : Limits) (rules : List Rule) (before after : Scene) (flat : Flat) (addr : ℕ) (bytes : List ℕ) (was now : Failures) → may_deposit flat.memory addr (length bytes) ≡ true → HasLetGo before.machine after.machine → HasMarked addr (length bytes) before.machine after.machine →
     WritesBlocks (keeping before.machine).areas before.file after.file → Means after.machine after.file (At (with_bytes addr bytes flat)) → Replies r was now before.sink after.sink done_line → Holds r (setting_of before limits rules) (Asks (DepositMemory addr bytes) ∷ []) (stand_at before (At flat)) after
 put_at_held r limits rules before after flat addr bytes was now allowed kept marks writes means p =
     let s = stand_at before (At flat) in
@@ -137,7 +144,7 @@ put_at_held r limits rules before after flat addr bytes was now allowed kept mar
     simple_held r (setting_of before limits rules) (Asks (DepositMemory addr bytes)) s after (with_bytes addr bytes flat) done_line was now
     (subst (λ (b : Bool). SetsBytesIf b (keeping before.machine).areas addr bytes s t) (sym allowed) done) refl (put_done limits.steps (session_at s) addr bytes allowed) means kept.areas p
 
-pub refused_held : (r : Result (Unit {0}) Stopped) (limits : Limits) (rules : List Rule) (before after : Scene) (flat : Flat) (addr : ℕ) (bytes : List ℕ) (was now : ℕ) → may_deposit flat.memory addr (length bytes) ≡ false → after.machine ≡ before.machine → after.file ≡ before.file →
+pub refused_held : (r : Result (Unit {0}) Stopped) (limits : Limits) (rules : List Rule) (before after : Scene) (flat : Flat) (addr : ℕ) (bytes : List ℕ) (was now : Failures) → may_deposit flat.memory addr (length bytes) ≡ false → after.machine ≡ before.machine → after.file ≡ before.file →
     Means before.machine before.file (At flat) → Replies r was now before.sink after.sink (line (codes "?ADDRESS")) → Holds r (setting_of before limits rules) (Asks (DepositMemory addr bytes) ∷ []) (stand_at before (At flat)) after
 refused_held r limits rules before after flat addr bytes was now refused same file means p =
     let s = stand_at before (At flat) in
@@ -157,7 +164,7 @@ bytes_unset limits rules before after flat addr bytes kept marks writes means si
       silent = silent;
     })
 
-pub show_held : (r : Result (Unit {0}) Stopped) (limits : Limits) (rules : List Rule) (before after : Scene) (flat : Flat) (was now : ℕ) → after.machine ≡ before.machine → after.file ≡ before.file → Means before.machine before.file (At flat) →
+pub show_held : (r : Result (Unit {0}) Stopped) (limits : Limits) (rules : List Rule) (before after : Scene) (flat : Flat) (was now : Failures) → after.machine ≡ before.machine → after.file ≡ before.file → Means before.machine before.file (At flat) →
     Replies r was now before.sink after.sink (report before.machine.cpu.core (last_of before.machine.ended) before.machine.steps 0 before.machine.cpu.term.place []) → Holds r (setting_of before limits rules) (Asks Show ∷ []) (stand_at before (At flat)) after
 unfolding reply
 show_held r limits rules before after flat was now same file means p =
@@ -169,7 +176,7 @@ show_held r limits rules before after flat was now same file means p =
     simple_held r (setting_of before limits rules) (Asks Show) (stand_at before (At flat)) after flat text was now
     (record { at = ap (λ (z : Engine). begun z (At flat)) same; file = file }) refl is (means_as before after flat same file means) (ap (λ (z : Engine). (pages z.pager).areas) same) p
 
-pub malformed_held : (r : Result (Unit {0}) Stopped) (limits : Limits) (rules : List Rule) (before after : Scene) (flat : Flat) (was now : ℕ) → after.machine ≡ before.machine → after.file ≡ before.file → Means before.machine before.file (At flat) →
+pub malformed_held : (r : Result (Unit {0}) Stopped) (limits : Limits) (rules : List Rule) (before after : Scene) (flat : Flat) (was now : Failures) → after.machine ≡ before.machine → after.file ≡ before.file → Means before.machine before.file (At flat) →
     Replies r was now before.sink after.sink (line (codes "?COMMAND")) → Holds r (setting_of before limits rules) (Malformed ∷ []) (stand_at before (At flat)) after
 malformed_held r limits rules before after flat was now same file means p =
     simple_held r (setting_of before limits rules) Malformed (stand_at before (At flat)) after flat (line (codes "?COMMAND")) was now
@@ -185,7 +192,7 @@ blank_held limits rules before flat means =
 ended_does : (g : Setting) (count : ℕ) (s t : Stand) (e : Ending) → (machine_at s.at.place).ending ≡ Some e → Stays s t → RunsUnless (machine_at s.at.place).ending g count s t
 ended_does g count s t e ended stays = subst (λ (h : Option Ending). RunsUnless h g count s t) (sym ended) stays
 
-pub next_refused_held : (r : Result (Unit {0}) Stopped) (limits : Limits) (rules : List Rule) (before after : Scene) (flat : Flat) (count : ℕ) (e : Ending) (was now : ℕ) → after.machine ≡ before.machine → after.file ≡ before.file → Means before.machine before.file (At flat) → flat.ending ≡ Some e →
+pub next_refused_held : (r : Result (Unit {0}) Stopped) (limits : Limits) (rules : List Rule) (before after : Scene) (flat : Flat) (count : ℕ) (e : Ending) (was now : Failures) → after.machine ≡ before.machine → after.file ≡ before.file → Means before.machine before.file (At flat) → flat.ending ≡ Some e →
     Replies r was now before.sink after.sink (line (codes "?ENDED")) → Holds r (setting_of before limits rules) (Asks (Next count) ∷ []) (stand_at before (At flat)) after
 unfolding reply
 next_refused_held r limits rules before after flat count e was now same file means ended p =
@@ -194,7 +201,7 @@ next_refused_held r limits rules before after flat count e was now same file mea
     simple_held r g (Asks (Next count)) s after flat (line (codes "?ENDED")) was now
     (ended_does g (steps_of g (Asks (Next count)) s) s (stand_at after (At flat)) e ended (record { at = ap (λ (z : Engine). begun z (At flat)) same; file = file })) refl (rw ended refl) (means_as before after flat same file means) (ap (λ (z : Engine). (pages z.pager).areas) same) p
 
-pub continue_refused_held : (r : Result (Unit {0}) Stopped) (limits : Limits) (rules : List Rule) (before after : Scene) (flat : Flat) (e : Ending) (was now : ℕ) → after.machine ≡ before.machine → after.file ≡ before.file → Means before.machine before.file (At flat) → flat.ending ≡ Some e →
+pub continue_refused_held : (r : Result (Unit {0}) Stopped) (limits : Limits) (rules : List Rule) (before after : Scene) (flat : Flat) (e : Ending) (was now : Failures) → after.machine ≡ before.machine → after.file ≡ before.file → Means before.machine before.file (At flat) → flat.ending ≡ Some e →
     Replies r was now before.sink after.sink (line (codes "?ENDED")) → Holds r (setting_of before limits rules) (Asks Continue ∷ []) (stand_at before (At flat)) after
 unfolding reply
 continue_refused_held r limits rules before after flat e was now same file means ended p =
@@ -208,7 +215,7 @@ continue_refused_held r limits rules before after flat e was now same file means
 going_does : (g : Setting) (count : ℕ) (s : Stand) → (machine_at s.at.place).ending ≡ None → (t : Stand) → RunsThrough g count s t → RunsUnless (machine_at s.at.place).ending g count s t
 going_does g count s going t r = subst (λ (h : Option Ending). RunsUnless h g count s t) (sym going) r
 
-pub next_held : (r : Result (Unit {0}) Stopped) (limits : Limits) (rules : List Rule) (before after : Scene) (flat : Flat) (count : ℕ) (mid : Option Channels) (text : List ℕ) (was now : ℕ) → flat.ending ≡ None →
+pub next_held : (r : Result (Unit {0}) Stopped) (limits : Limits) (rules : List Rule) (before after : Scene) (flat : Flat) (count : ℕ) (mid : Option Channels) (text : List ℕ) (was now : Failures) → flat.ending ≡ None →
     HasMadeSteps (setting_of before limits rules) (steps_of (setting_of before limits rules) (Asks (Next count)) (stand_at before (At flat))) (stand_at before (At flat)) (record { machine = after.machine; file = after.file; sink = mid }) →
     next_line (nat_lt (left limits.steps (session_at (stand_at before (At flat)))) count) (advanced (min count (left limits.steps (session_at (stand_at before (At flat))))) (session_at (stand_at before (At flat)))) ≡ text → Replies r was now mid after.sink text → Holds r (setting_of before limits rules) (Asks (Next count) ∷ []) (stand_at before (At flat)) after
 next_held r limits rules before after flat count mid text was now going made said p =
@@ -216,7 +223,7 @@ next_held r limits rules before after flat count mid text was now going made sai
     let s = stand_at before (At flat) in
     ran_held r g (Asks (Next count)) s after.machine after.file mid after.sink text was now (going_does g (steps_of g (Asks (Next count)) s) s going) made (next_said limits (session_at s) count text going said) p
 
-pub continue_held : (r : Result (Unit {0}) Stopped) (limits : Limits) (rules : List Rule) (before after : Scene) (flat : Flat) (mid : Option Channels) (text : List ℕ) (was now : ℕ) → flat.ending ≡ None →
+pub continue_held : (r : Result (Unit {0}) Stopped) (limits : Limits) (rules : List Rule) (before after : Scene) (flat : Flat) (mid : Option Channels) (text : List ℕ) (was now : Failures) → flat.ending ≡ None →
     HasMadeSteps (setting_of before limits rules) (steps_of (setting_of before limits rules) (Asks Continue) (stand_at before (At flat))) (stand_at before (At flat)) (record { machine = after.machine; file = after.file; sink = mid }) →
     stop_line (advanced (left limits.steps (session_at (stand_at before (At flat)))) (session_at (stand_at before (At flat)))) ≡ text → Replies r was now mid after.sink text → Holds r (setting_of before limits rules) (Asks Continue ∷ []) (stand_at before (At flat)) after
 continue_held r limits rules before after flat mid text was now going made said p =

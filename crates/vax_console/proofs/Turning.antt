@@ -3,6 +3,7 @@ use Rattle.std.proofs.Common.{◌≡◌, ℕ, List, [], ◌∷◌, ◌++◌, app
 use Rattle.vax_space.specs.declared.Area.{Area}
 use Rattle.vax_outside.specs.Blocks.{BlockFile}
 use Rattle.vax_outside.specs.Channels.{Channels, Grew, GrewByPrefix}
+use Rattle.vax_outside.specs.declared.faults.Failures.{Failures}
 use Rattle.vax_outside.proofs.Growth.{grew_nothing}
 use Rattle.vax_flat.specs.Parts.{At, machine_at}
 use Rattle.vax_flat.specs.Step.{Flat}
@@ -96,7 +97,7 @@ unfolding CarriesOutAll
 line_short P g l s p = record { front = []; line = l; back = []; splits = refl; here = s; goes = refl; ends = p }
 
 -- its reply comes behind what was sent
-pub replied_held : (r : Result (Unit {0}) Stopped) (g : Setting) (l : Line) (s : Stand) (after : Scene) (flat : Flat) (sent text : List ℕ) (mid : Option Channels) (before now : ℕ) →
+pub replied_held : (r : Result (Unit {0}) Stopped) (g : Setting) (l : Line) (s : Stand) (after : Scene) (flat : Flat) (sent text : List ℕ) (mid : Option Channels) (before now : Failures) →
     Does g l s (stand_at after (At flat)) → flat.output ≡ (machine_at s.at.place).output ++ sent → line_reply g.limits.steps (session_at s) l ≡ text →
     Means after.machine after.file (At flat) → (pages after.machine.pager).areas ≡ g.areas → Grew s.sink mid (writes sent []) → Replies r before now mid after.sink text → Holds r g (l ∷ []) s after
 replied_held (Ok x) g l s after flat sent text mid before now does output said means areas grew p =
@@ -109,7 +110,7 @@ replied_held (Err stopped.WriteFault) g l s after flat sent text mid before now 
     line_short (λ x here. Loses g x here after) g l s (inr (record { place = At flat; does = does; sends = record { sent = sent; output = output; wrote = wrote }; means = means }))
 
 -- nothing was sent
-pub simple_held : (r : Result (Unit {0}) Stopped) (g : Setting) (l : Line) (s : Stand) (after : Scene) (flat : Flat) (text : List ℕ) (before now : ℕ) →
+pub simple_held : (r : Result (Unit {0}) Stopped) (g : Setting) (l : Line) (s : Stand) (after : Scene) (flat : Flat) (text : List ℕ) (before now : Failures) →
     Does g l s (stand_at after (At flat)) → flat.output ≡ (machine_at s.at.place).output → line_reply g.limits.steps (session_at s) l ≡ text →
     Means after.machine after.file (At flat) → (pages after.machine.pager).areas ≡ g.areas → Replies r before now s.sink after.sink text → Holds r g (l ∷ []) s after
 simple_held r g l s after flat text before now does output said means areas p =
@@ -132,7 +133,7 @@ runs_as g count s t u at file r = record {
   between = ap (λ (z : Paged). z.place) at ∙ r.between;
 }
 
-pub ran_held : (r : Result (Unit {0}) Stopped) (g : Setting) (l : Line) (s : Stand) (m : Engine) (file : Option BlockFile) (mid new : Option Channels) (text : List ℕ) (before now : ℕ) →
+pub ran_held : (r : Result (Unit {0}) Stopped) (g : Setting) (l : Line) (s : Stand) (m : Engine) (file : Option BlockFile) (mid new : Option Channels) (text : List ℕ) (before now : Failures) →
     ((t : Stand) → RunsThrough g (steps_of g l s) s t → Does g l s t) → HasMadeSteps g (steps_of g l s) s (scene m file mid) → line_reply g.limits.steps (session_at s) l ≡ text → Replies r before now mid new text → Holds r g (l ∷ []) s (scene m file new)
 ran_held r g l s m file mid new text before now does made said p =
     let t = stand_at (scene m file new) (At made.flat) in

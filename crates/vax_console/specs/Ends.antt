@@ -4,6 +4,7 @@ use Rattle.vax_outside.specs.Blocks.{BlockFile}
 use Rattle.vax_outside.specs.Channels.{Channels, Grew, GrewByPrefix, only}
 use Rattle.vax_outside.specs.Faults.{Rose}
 use Rattle.vax_outside.specs.declared.traits.Chan.TheVariants.{Report}
+use Rattle.vax_outside.specs.declared.faults.Failures.{Failures}
 use Rattle.vax_flat.specs.declared.Ending.{Ending}
 use Rattle.vax_flat.specs.Parts.{Place, At, GoesBy, machine_at}
 use Rattle.vax_flat.specs.Step.{Flat}
@@ -93,19 +94,19 @@ pub record IsOutOfTurns (turns : ℕ) (s : Session) (most : ℕ) (m : Engine) : 
   pub going : m.ended ≡ None
   pub below : m.steps < s.steps + most
 
--- the counts of faults of the page file and of the sink, before and now, by what stopped a session
-abbrev pub Causes : {T : Type 0} → Result T Stopped → ℕ → ℕ → ℕ → ℕ → Type 0
-Causes (Ok x) file_before file_now sink_before sink_now = (file_now ≡ file_before) × (sink_now ≡ sink_before)
-Causes (Err stopped.Turns) file_before file_now sink_before sink_now = (file_now ≡ file_before) × (sink_now ≡ sink_before)
-Causes (Err stopped.PageFault) file_before file_now sink_before sink_now = (file_before ≤ file_now) × Rose file_before file_now × (sink_now ≡ sink_before)
-Causes (Err stopped.WriteFault) file_before file_now sink_before sink_now = (file_before ≤ file_now) × (sink_before ≤ sink_now) × Rose sink_before sink_now
+-- the failures of the page file and of the sink, before and now, by what stopped a session
+abbrev pub Causes : {T : Type 0} → Result T Stopped → Failures → Failures → Failures → Failures → Type 0
+Causes (Ok x) file_before file_now sink_before sink_now = (file_now.count ≡ file_before.count) × (sink_now.count ≡ sink_before.count)
+Causes (Err stopped.Turns) file_before file_now sink_before sink_now = (file_now.count ≡ file_before.count) × (sink_now.count ≡ sink_before.count)
+Causes (Err stopped.PageFault) file_before file_now sink_before sink_now = (file_before.count ≤ file_now.count) × Rose file_before file_now × (sink_now.count ≡ sink_before.count)
+Causes (Err stopped.WriteFault) file_before file_now sink_before sink_now = (file_before.count ≤ file_now.count) × (sink_before.count ≤ sink_now.count) × Rose sink_before sink_now
 
 -- a reply was written, or a prefix of it where a write failed
-abbrev pub Replies : Result (Unit {0}) Stopped → ℕ → ℕ → Option Channels → Option Channels → List ℕ → Type 0
-Replies (Ok x) before now old new text = (now ≡ before) × Grew old new (only Report text)
+abbrev pub Replies : Result (Unit {0}) Stopped → Failures → Failures → Option Channels → Option Channels → List ℕ → Type 0
+Replies (Ok x) before now old new text = (now.count ≡ before.count) × Grew old new (only Report text)
 Replies (Err stopped.Turns) before now old new text = ⊥
 Replies (Err stopped.PageFault) before now old new text = ⊥
-Replies (Err stopped.WriteFault) before now old new text = (before ≤ now) × Rose before now × GrewByPrefix old new (only Report text)
+Replies (Err stopped.WriteFault) before now old new text = (before.count ≤ now.count) × Rose before now × GrewByPrefix old new (only Report text)
 
 -- the report of a machine's state, without dumps
 abbrev pub report_on : Engine → Last → List ℕ

@@ -78,7 +78,7 @@ after_turns g turns s = paged g.areas (due g.rules) turns s.at
 
 -- as the next run begins there
 abbrev pub anew : Paged → Paged
-anew p = record p { parts = 0; evictions = [] }
+anew p = record p { parts = 0; evictions = []; reads = 0 }
 
 -- The turns of a run of so many steps from here, up to the first that is stopped, and why it is; the pages that these made absent were written to the file, in
 -- order, and nothing else.

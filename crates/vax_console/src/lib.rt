@@ -78,13 +78,14 @@ pub fn session<F: PageFile, K: Sink>(
         (scene (engine machine.new) (F.contents file.new) (K.contents sink.new))
         (readings script.now) }
     ensures between { result ≡ SessionEnd.Read → IsBetween (engine machine.new) }
-    ensures later { F.faults file.old ≤ F.faults file.new }
-    ensures sunk { K.faults sink.old ≤ K.faults sink.new }
+    ensures later { (F.faults file.old).count ≤ (F.faults file.new).count }
+    ensures sunk { (K.faults sink.old).count ≤ (K.faults sink.new).count }
     ensures fault { result ≡ SessionEnd.PageFault → Rose (F.faults file.old) (F.faults file.new) }
     ensures cause { result ≡ SessionEnd.WriteFault → Rose (K.faults sink.old) (K.faults sink.new) }
     ensures unfailed { result ≢ SessionEnd.PageFault → result ≢ SessionEnd.WriteFault →
-        F.faults file.new ≡ F.faults file.old }
-    ensures written { result ≢ SessionEnd.WriteFault → K.faults sink.new ≡ K.faults sink.old }
+        (F.faults file.new).count ≡ (F.faults file.old).count }
+    ensures written { result ≢ SessionEnd.WriteFault →
+        (K.faults sink.new).count ≡ (K.faults sink.old).count }
     ensures only { OnlyReplied (K.contents sink.old) (K.contents sink.new) }
 {
     match carry_out_all(script, machine, limits, schedule, file, sink) {

@@ -46,7 +46,7 @@ stands_same s t file memory w f v st =
 -- residence
 
 pub residence_same : (s t : Paging) → OnlyWritten s t → residence_of t ≡ residence_of s
-residence_same s t w = rw (w.frames, w.order, w.pinned, w.numbers) refl
+residence_same s t w = rw (w.frames, w.order, w.pinned, w.kept, w.numbers) refl
 
 -- what the pager keeps after an attempt, by what that came to
 
@@ -57,6 +57,10 @@ residence_settled s u e = ap residence_of e
 pub areas_settled : (s u : Paging) → u ≡ settled s → u.areas ≡ s.areas
 unfolding settled
 areas_settled s u e = ap (λ (z : Paging). z.areas) e
+
+pub settled_blocks : (s u : Paging) → u ≡ settled s → u.blocked ≡ s.blocked
+unfolding settled
+settled_blocks s u e = ap (λ (z : Paging). z.blocked) e
 
 pub sound_settled : (s u : Paging) (want : Option ℕ) → u ≡ settled s → AreSound s.areas (residence_of s) want → AreSound u.areas (residence_of u) None
 sound_settled s u want e h = rw (residence_settled s u e) (record { pins = omega arith; frames = h.frames; wanted = λ page no. cc })

@@ -1,5 +1,5 @@
 -- What several attempts, made at once, make of a machine.
-use Rattle.std.proofs.Common.{ℕ, zero, suc, ◌≡◌, ◌+◌, ◌-◌, ◌^◌, ◌<◌, Bool, false, List, refl, ap, sym, ◌∙◌, subst, arith, Option, None}
+use Rattle.std.proofs.Common.{ℕ, zero, suc, ◌≡◌, ◌+◌, ◌-◌, ◌^◌, ◌<◌, Bool, true, false, ◌==◌, List, length, refl, ap, sym, ◌∙◌, subst, arith, Option, None}
 use Rattle.std.specs.Prelude.{IsSome}
 use Rattle.vax_space.specs.declared.Area.{Area}
 use Rattle.vax_space.specs.Reference.{page_of}
@@ -21,9 +21,9 @@ use Rattle.vax_pager.specs.Listing.{is_listed}
 use Rattle.vax_pager.specs.Meaning.{pages}
 use Rattle.vax_pager.specs.Paging.{Paging, StandsWith, view_of}
 use Rattle.vax_pager.specs.Steps.{OnlyWritten, settled}
-use Rattle.vax_machine.proofs.Attempts.{areas_settled, attempted_marks, begins, concluded_marks, ended_as, goes_by, is_try, keeping_by, keeps_by, means_by, parted_as, residence_same, residence_settled, sound_before, stands_eased, stepped_as, still_missing}
+use Rattle.vax_machine.proofs.Attempts.{areas_settled, attempted_marks, begins, concluded_marks, ended_as, goes_by, is_try, keeping_by, keeps_by, means_by, parted_as, residence_same, residence_settled, settled_blocks, sound_before, stands_eased, stepped_as, still_missing}
 use Rattle.vax_pager.proofs.Turned.{stands_settled, stands_turned}
-use Rattle.vax_machine.specs.Conclusion.{Concludes, applied_of, eased_pages, settled_after}
+use Rattle.vax_machine.specs.Conclusion.{Concludes, applied_of, eased_pages, pages_after, settled_after}
 use Rattle.vax_machine.specs.Machine.{AreSound, Goes, IsTry, Keeping, Means, keeping, tried}
 use Rattle.vax_machine.specs.Residence.{residence_of, unpinned}
 use Rattle.vax_machine.specs.Batch.{Advances, GoesFar, HasTriedSeveral, Spot, several}
@@ -104,6 +104,27 @@ settled_after_marks : (count : ℕ) (s : Paging) → (view_of (settled_after cou
 unfolding settled_after
 settled_after_marks zero s = refl
 settled_after_marks (suc count) s = unfold settled in refl
+
+-- no page gets a block by attempts
+
+settled_blocked : (s : Paging) → (settled s).blocked ≡ s.blocked
+settled_blocked s = settled_blocks s (settled s) refl
+
+settled_after_blocked : (count : ℕ) (s : Paging) → (settled_after count s).blocked ≡ s.blocked
+unfolding settled_after
+settled_after_blocked zero s = refl
+settled_after_blocked (suc count) s = settled_blocked s
+
+eased_step_blocked : (s : Paging) (b : Bool) → (length s.pinned == 40) ≡ b → (eased_pages s).blocked ≡ s.blocked
+unfolding eased_pages
+eased_step_blocked s true e = rw e (settled_blocked s)
+eased_step_blocked s false e = rw e refl
+
+after_blocked : (last : Attempt) (s : Paging) → (pages_after last s).blocked ≡ s.blocked
+after_blocked (attempt.Step sent) s = settled_blocked s
+after_blocked attempt.Part s = settled_blocked s
+after_blocked (attempt.Absent page) s = eased_step_blocked s (length s.pinned == 40) refl
+after_blocked (attempt.Ended x) s = settled_blocked s
 
 -- what is kept
 
@@ -206,6 +227,9 @@ module _ (old mid new : Engine) (t : Paging) (result : Applied) (last : Attempt)
     keeps =
         keeps_by last mid new result (record (several count (keeping old)) { wanted = old.wanted }) (mid_keeping count old mid t w b (omega (arith, few, x)) (omega (arith, few, y))) c
         ∙ subst (λ (z : Applied). tried z (record (several count (keeping old)) { wanted = old.wanted }) ≡ tried z (several count (keeping old))) (sym c.answer) (tried_any last (several count (keeping old)) old.wanted);
+    blocked =
+        ap (λ (z : Paging). z.blocked) c.pages
+        ∙ (after_blocked last (pages mid.pager) ∙ (ap (λ (z : Paging). z.blocked) b.pages ∙ (settled_after_blocked count t ∙ w.blocked)));
     goes = λ file place means. from_place file place means;
   }
 

@@ -19,7 +19,7 @@ module _ (s : Paging) (areas : List Area) (frames : ℕ) (is : s ≡ pager.fresh
   unfolding pager.fresh
   fresh_sound some = rw is (record { pins = omega arith; frames = some; wanted = λ page e. cc })
 
-  fresh_residence : residence_of s ≡ record { frames = frames; order = []; pinned = []; spoiled = 0 }
+  fresh_residence : residence_of s ≡ record { frames = frames; order = []; pinned = []; kept = []; spoiled = 0 }
   unfolding pager.fresh
   fresh_residence = ap residence_of is
 
@@ -35,8 +35,12 @@ module _ (s : Paging) (areas : List Area) (frames : ℕ) (is : s ≡ pager.fresh
   unfolding pager.fresh is_listed
   fresh_modified = let listed : Paging → ℕ → Bool = λ z page. is_listed page z.modified in ap listed is
 
-  pub fresh_begun : (start : Flat) → record { place = At start; steps = 0; parts = 0; turns = 0; residence = residence_of s; modified = λ page. is_listed page s.modified; evictions = [] } ≡ fresh frames start
-  fresh_begun start = λ i. record { place = At start; steps = 0; parts = 0; turns = 0; residence = fresh_residence i; modified = fresh_modified i; evictions = [] }
+  fresh_blocked : ◌≡◌ {A = ℕ → Bool} s.blocked (λ page. false)
+  unfolding pager.fresh
+  fresh_blocked = ap (λ (z : Paging). z.blocked) is
+
+  pub fresh_begun : (start : Flat) → record { place = At start; steps = 0; parts = 0; turns = 0; residence = residence_of s; modified = λ page. is_listed page s.modified; evictions = []; blocked = s.blocked; reads = 0 } ≡ fresh frames start
+  fresh_begun start = λ i. record { place = At start; steps = 0; parts = 0; turns = 0; residence = fresh_residence i; modified = fresh_modified i; evictions = []; blocked = fresh_blocked i; reads = 0 }
 
 pub started : (cpu : Cpu) (core : Core) (memory : List Area) (input : List ℕ) → cpu.core ≡ core → cpu.term.input.items ≡ input → cpu.term.place ≡ 0 → record (flat_of cpu memory []) { ending = None } ≡ starts_at core memory input
 started cpu core memory input k a b i = record { core = k i; memory = memory; input = a i; taken = b i; output = []; ending = None }

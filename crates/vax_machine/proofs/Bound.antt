@@ -27,11 +27,12 @@ use Rattle.vax_machine.proofs.Halting.{paged_more}
 use Rattle.vax_machine.proofs.Touching.{few_pins, fewer_pins, missed, page_small}
 use Rattle.vax_machine.proofs.Tracking.{many_evicted}
 use Rattle.vax_machine.specs.Laws.{HasFewTurns, IsCounted, IsIdle, IsProper, IsSoonAfter, Run, state_at}
+use Rattle.vax_outside.specs.Blocks.{BlockFile}
 use Rattle.vax_machine.specs.Paged.{Paged, all_evicted, all_named, attempted, attempted_by, evicted, fresh, marked, paged, place_after, unless_ended}
-use Rattle.vax_machine.specs.Residence.{Residence, is_resident, served, taken_out, victim, without_victim}
+use Rattle.vax_machine.specs.Residence.{Residence, is_resident, kept_after, served, taken_out, victim, without_victim}
 use Rattle.vax_machine.specs.Run.{FewTurns}
 use Rattle.vax_machine.specs.Touched.{PinsTouched, is_touched}
-use Rattle.vax_machine.specs.Calling.{Misses}
+use Rattle.vax_machine.specs.Calling.{Misses, NextCallFails}
 
 -- a page that is missed first is one of an area
 
@@ -276,15 +277,15 @@ record IsServing (page : ℕ) (r q : Residence) : Type 0 where
 push_here : (page : ℕ) (xs : List ℕ) → is_listed page (xs ++ page ∷ []) ≡ true
 push_here page xs = in_push page page xs ∙ rw (eq-eqb page page refl) refl
 
-serving_by : (page : ℕ) (r : Residence) (v : Option ℕ) → victim r ≡ v → IsServing page r (record (without_victim v r) { order = (without_victim v r).order ++ page ∷ []; pinned = (without_victim v r).pinned ++ page ∷ [] })
-serving_by page r None e = record {
+serving_by : (page : ℕ) (r : Residence) (v : Option ℕ) (left : List ℕ) → victim r ≡ v → IsServing page r (record (without_victim v r) { order = (without_victim v r).order ++ page ∷ []; pinned = (without_victim v r).pinned ++ page ∷ []; kept = left })
+serving_by page r None left e = record {
   pinned = refl;
   spoiled = refl;
   order = λ other h. page_or page other r.order h;
   kept = λ other a b. still_in other page r.order b;
   here = push_here page r.order;
 }
-serving_by page r (Some v) e = record {
+serving_by page r (Some v) left e = record {
   pinned = refl;
   spoiled = refl;
   order = λ other h. elim (page_or page other (leave_out v r.order) h) [
@@ -300,7 +301,7 @@ serving_by page r (Some v) e = record {
 
 serving : (page : ℕ) (r : Residence) → IsServing page r (served page r)
 unfolding served
-serving page r = serving_by page r (victim r) refl
+serving page r = serving_by page r (victim r) (kept_after page r) refl
 
 -- turns
 
@@ -436,8 +437,8 @@ missed_pins areas b p space h m =
     mapped_is areas m.page (sym (mapped_alike m.page (machine_at p.place).memory areas h.memory) ∙ place_mapped (is_resident p.residence) p.place m.page m.missing) in
     fewer_pins p.residence p.place m.page h.once h.held h.small (page_small areas m.page space inside) h.pins m.missing
 
-pub few_cut : (areas : List Area) (b p : Paged) (front : List ℕ) (turns : ℕ) → IsSpace areas → IsBounded areas b p → (turns ≡ p.turns) ⊎ (turns ≡ p.turns + 1) → (turns ≡ p.turns) ⊎ Misses (all_evicted front p) → (all_evicted front p).residence.spoiled < last → turns + 41 * b.parts + length b.residence.pinned + b.residence.spoiled ≤ 41 * p.parts + 40 + (all_evicted front p).residence.spoiled + b.turns
-few_cut areas b p front turns space h made missed low =
+pub few_cut : (areas : List Area) (b p : Paged) (front rest : List ℕ) (turns : ℕ) (before after : Option BlockFile) → IsSpace areas → IsBounded areas b p → NextCallFails areas b (all_evicted front p) rest turns before after → (all_evicted front p).residence.spoiled < last → turns + 41 * b.parts + length b.residence.pinned + b.residence.spoiled ≤ 41 * p.parts + 40 + (all_evicted front p).residence.spoiled + b.turns
+few_cut areas b p front rest turns before after space h fails low =
     let q = all_evicted front p in
     let k = all_bounded areas b front p h in
     let same = many_evicted front p in
@@ -445,14 +446,12 @@ few_cut areas b p front turns space h made missed low =
     let pins = pins_of areas b q k in
     let a = same.parts in
     let c = same.turns in
-    elim missed [
-      | inl none ↦ omega (arith, few, pins, a, c, none)
+    elim fails [
+      | inl none ↦ let e = none.2 in omega (arith, few, pins, a, c, e)
       | inr m ↦
-          let less = missed_pins areas b q space k m in
-          elim made [
-            | inl none ↦ omega (arith, few, pins, a, c, none)
-            | inr one ↦ omega (arith, few, less, a, c, one)
-          ]
+          let less = missed_pins areas b q space k m.1.missed in
+          let e = m.1.made in
+          omega (arith, few, less, a, c, e)
     ]
 
 -- where a run begins

@@ -71,24 +71,24 @@ extends_attempted p = extends_unless (machine_at p.place).ending p _ (extends_by
 record Lists (p q : Paged) : Type 0 where
   pub made : List Eviction
   pub is : q.evictions ≡ p.evictions ++ made
-  pub vain : p.turns + q.parts ≤ q.turns + p.parts
+  pub later : p.reads ≤ q.reads
 
 lists_by : (m : Option ℕ) (p : Paged) → Lists p (attempted_by m p)
-lists_by None p = record { made = []; is = sym (append-nil p.evictions); vain = omega arith }
-lists_by (Some page) p = record { made = evictions_of (p.turns + 2) (victim p.residence) p; is = refl; vain = omega arith }
+lists_by None p = record { made = []; is = sym (append-nil p.evictions); later = omega arith }
+lists_by (Some page) p = record { made = evictions_of (p.turns + 2) (victim p.residence) p; is = refl; later = omega arith }
 
 lists_unless : (how : Option Ending) (p next : Paged) → Lists p next → Lists p (unless_ended how p next)
-lists_unless (Some e) p next h = record { made = []; is = sym (append-nil p.evictions); vain = omega arith }
+lists_unless (Some e) p next h = record { made = []; is = sym (append-nil p.evictions); later = omega arith }
 lists_unless None p next h = h
 
 lists_attempted : (p : Paged) → Lists p (attempted p)
 unfolding attempted
 lists_attempted p =
     let l = lists_by (first_missing (is_resident p.residence) (touches_at p.place)) (marked p) in
-    lists_unless (machine_at p.place).ending p _ (record { made = l.made; is = l.is; vain = l.vain })
+    lists_unless (machine_at p.place).ending p _ (record { made = l.made; is = l.is; later = l.later })
 
 pub grows_attempted : (listed : Bool) (p : Paged) → Grows listed p (attempted p)
-grows_attempted listed p = let l = lists_attempted p in grows_by listed p (attempted p) l.made (extends_attempted p) l.is l.vain
+grows_attempted listed p = let l = lists_attempted p in grows_by listed p (attempted p) l.made (extends_attempted p) l.is l.later
 
 pub grows_turn : (listed : Bool) (areas : List Area) (asks : ℕ → List Target) (p : Paged) → Grows listed p (next_turn areas asks p)
 grows_turn listed areas asks p =

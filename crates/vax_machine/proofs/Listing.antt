@@ -12,12 +12,12 @@ use Rattle.vax_pager.specs.Calls.{IsPaging, wrote_back}
 use Rattle.vax_pager.specs.Listing.{is_listed}
 use Rattle.vax_pager.specs.Meaning.{pages}
 use Rattle.vax_pager.specs.Paging.{Paging}
-use Rattle.vax_machine.proofs.Moving.{evict_cleans, frame_is, moved_again, moved_by, moved_first, writes_one, wrote_goes}
+use Rattle.vax_machine.proofs.Moving.{evict_blocks, evict_cleans, frame_is, moved_again, moved_by, moved_first, writes_one, wrote_goes}
 use Rattle.vax_machine.proofs.Outputs.{Grows, grows_again, grows_same, lines_one, output_by, part_more, sends_more}
 use Rattle.vax_machine.proofs.Tracking.{evict_done, evict_gone, evict_none, evicted_away, evicted_one, evicted_there}
 use Rattle.vax_machine.specs.Blocks.{Moved, write_to}
 use Rattle.vax_machine.specs.Machine.{Evicts, EvictsFrom, Keeping, KeepsPlace, keeping, modified_of}
-use Rattle.vax_machine.specs.Paged.{Paged, all_evicted, cleaned, evicted, eviction_of, page_bytes, some_if}
+use Rattle.vax_machine.specs.Paged.{Paged, all_evicted, blocked_if, cleaned, evicted, eviction_of, page_bytes, some_if}
 use Rattle.vax_machine.specs.Residence.{Residence}
 use Rattle.vax_machine.specs.Run.{Tracks}
 use Rattle.vax_machine.specs.Turn.{EvictedAll, Follows, LostPart}
@@ -44,9 +44,8 @@ grows_one : (listed : Bool) (page : ℕ) (p : Paged) → Grows listed p (evicted
 grows_one listed page p = elim (cases_Bool (is_listed page p.residence.order)) [
   | inl t ↦
       let x = evicted_there page p t in
-      let a = x.turns in
-      let b = x.parts in
-      record { more = listed_by listed (p.turns + 1) (Some page); is = output_evicted listed page p t; made = eviction_of (p.turns + 1) page p ∷ []; evictions = x.evictions; vain = omega (arith, a, b) }
+      let n = x.reads in
+      record { more = listed_by listed (p.turns + 1) (Some page); is = output_evicted listed page p t; made = eviction_of (p.turns + 1) page p ∷ []; evictions = x.evictions; later = omega (arith, n) }
   | inr f ↦ subst (λ (z : Paged). Grows listed p z) (sym (evicted_away page p f)) (grows_same listed p)
 ]
 
@@ -70,7 +69,7 @@ module _ (o : Origin) (p : Paged) (old new : Engine) (before after : Option Bloc
   -- nothing was done
   untouched : (result : Applied) → Does result → (result ≡ Evicted → ⊥) → (pages new.pager ≡ pages old.pager) × (after ≡ before) → Follows o p new after was left
   untouched result h none x = record {
-    tracks = evict_none old new before after p page result h none (let listed : Paging → ℕ → Bool = λ z other. is_listed other z.modified in ap listed x.0) f.tracks;
+    tracks = evict_none old new before after p page result h none (let listed : Paging → ℕ → Bool = λ z other. is_listed other z.modified in ap listed x.0) (ap (λ (z : Paging). z.blocked) x.0) f.tracks;
     sends = f.sends;
     listed = f.listed;
     areas = ap (λ (z : Paging). z.areas) x.0 ∙ f.areas;
@@ -132,23 +131,25 @@ module _ (o : Origin) (p : Paged) (old new : Engine) (before after : Option Bloc
     cleans : modified_of new ≡ cleaned page (modified_of old)
     cleans = let listed : Paging → ℕ → Bool = λ z other. is_listed other z.modified in ap listed x.0 ∙ evict_cleans page (pages old.pager) resident
 
+    blocks : (pages new.pager).blocked ≡ blocked_if (modified_of old page) page (pages old.pager).blocked
+    blocks = ap (λ (z : Paging). z.blocked) x.0 ∙ evict_blocks page (pages old.pager) resident
+
     tracked : Tracks new after (evicted page p)
-    tracked = evict_done old new before after p page h cleans f.tracks
+    tracked = evict_done old new before after p page h cleans blocks f.tracks
 
     -- its bytes are written where it is modified
     written : Moved o.areas p (evicted page p) before after
     written =
         let s = pages old.pager in
         let e = evicted_there page p here in
-        let a = e.turns in
-        let b = e.parts in
+        let n = e.reads in
         let memory = (machine_at p.place).memory in
         let goes = wrote_goes page s before (page_bytes memory page) (frame_is s before memory page paging space resident f.tracks.means.memory) in
         let same : write_to (block_of s.areas page) (some_if (modified_of old page) (page_bytes memory page)) ≡ write_to (block_of o.areas page) (some_if (p.modified page) (page_bytes memory page)) =
         ap (λ (z : List Area). write_to (block_of z page) (some_if (modified_of old page) (page_bytes memory page))) f.areas
         ∙ ap (λ (z : ℕ → Bool). write_to (block_of o.areas page) (some_if (z page) (page_bytes memory page))) f.tracks.modified in
         subst (λ (z : Option BlockFile). Moved o.areas p (evicted page p) before z) (sym x.1)
-        (moved_by o.areas p (evicted page p) before (wrote_back page s before) (eviction_of (p.turns + 1) page p ∷ []) _ 0 e.evictions (writes_one o.areas (eviction_of (p.turns + 1) page p) ∙ sym same) (omega (arith, a, b)) goes)
+        (moved_by o.areas p (evicted page p) before (wrote_back page s before) (eviction_of (p.turns + 1) page p ∷ []) _ 0 e.evictions (writes_one o.areas (eviction_of (p.turns + 1) page p) ∙ sym same) (omega (arith, n)) goes)
 
     all_written : Moved o.areas o.at (evicted page p) o.file after
     all_written = moved_again o.areas o.at p (evicted page p) o.file before after f.moved written

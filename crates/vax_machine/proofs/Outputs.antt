@@ -3,8 +3,9 @@ use Rattle.std.proofs.Common.{ℕ, ◌≡◌, ◌+◌, ◌≤◌, arith, if◌th
 use Rattle.std.specs.Prelude.{IsErrAnd}
 use Rattle.std.proofs.lemmas.Grind.{flat_map-append}
 use Rattle.vax_outside.specs.Blocks.{BlockFile}
+use Rattle.vax_outside.specs.declared.faults.Failures.{Failures}
 use Rattle.vax_outside.specs.Channels.{Channels, Grew, GrewByPrefix, append, nothing}
-use Rattle.vax_outside.proofs.Counting.{counts_still}
+use Rattle.vax_outside.proofs.Counting.{counts_still, counts_then}
 use Rattle.vax_outside.proofs.Growth.{append-nothing, channels_assoc, grew_more, grew_nothing, prefix_in}
 use Rattle.vax_flat.specs.Parts.{machine_at}
 use Rattle.vax_flat.specs.Step.{with_byte_sent}
@@ -41,13 +42,13 @@ lines_more false xs ys = refl
 nothing-append : (a : Channels) → append nothing a ≡ a
 nothing-append a = refl
 
--- one paged run goes on from another: it writes more behind what that wrote, and makes more pages absent; and no attempt completes two parts
+-- one paged run goes on from another: it writes more behind what that wrote, makes more pages absent, and reads no fewer
 pub record Grows (listed : Bool) (p q : Paged) : Type 0 where
   pub more : Channels
   pub is : output_of listed q ≡ append (output_of listed p) more
   pub made : List Eviction
   pub evictions : q.evictions ≡ p.evictions ++ made
-  pub vain : p.turns + q.parts ≤ q.turns + p.parts
+  pub later : p.reads ≤ q.reads
 
 pub grows_same : (listed : Bool) (p : Paged) → Grows listed p p
 grows_same listed p = record {
@@ -55,7 +56,7 @@ grows_same listed p = record {
   is = sym (append-nothing (output_of listed p));
   made = [];
   evictions = sym (append-nil p.evictions);
-  vain = omega arith;
+  later = omega arith;
 }
 
 pub grows_again : (listed : Bool) (p q r : Paged) → Grows listed p q → Grows listed q r → Grows listed p r
@@ -64,7 +65,7 @@ grows_again listed p q r a b = record {
   is = b.is ∙ (ap (λ (c : Channels). append c b.more) a.is ∙ channels_assoc (output_of listed p) a.more b.more);
   made = a.made ++ b.made;
   evictions = b.evictions ∙ (ap (λ (xs : List Eviction). xs ++ b.made) a.evictions ∙ append_assoc p.evictions a.made b.made);
-  vain = let x = a.vain in let y = b.vain in omega (arith, x, y);
+  later = let x = a.later in let y = b.later in omega (arith, x, y);
 }
 
 -- by its bytes and its evictions
@@ -73,8 +74,8 @@ output_by listed p q sent made a b =
     let e : lines_of listed q.evictions ≡ lines_of listed p.evictions ++ lines_of listed made = ap (lines_of listed) b ∙ lines_more listed p.evictions made in
     λ i. record { out = a i; report = []; recorded = e i }
 
-pub grows_by : (listed : Bool) (p q : Paged) (made : List Eviction) → Extends (machine_at p.place).output (machine_at q.place).output → q.evictions ≡ p.evictions ++ made → p.turns + q.parts ≤ q.turns + p.parts → Grows listed p q
-grows_by listed p q made x e vain = record { more = both x.more (lines_of listed made); is = output_by listed p q x.more made x.is e; made = made; evictions = e; vain = vain }
+pub grows_by : (listed : Bool) (p q : Paged) (made : List Eviction) → Extends (machine_at p.place).output (machine_at q.place).output → q.evictions ≡ p.evictions ++ made → p.reads ≤ q.reads → Grows listed p q
+grows_by listed p q made x e later = record { more = both x.more (lines_of listed made); is = output_by listed p q x.more made x.is e; made = made; evictions = e; later = later }
 
 -- where a run begins all is written, and nothing is held back
 pub sends_none : (o : Origin) (left : Channels) → left ≡ nothing → Sends o o.at o.channels left
@@ -134,7 +135,7 @@ part_on o p q now g w = record {
 pub lost_on : (o : Origin) (p q : Paged) (file : Option BlockFile) (now : Option Channels) → Grows o.listed p q → LostPart o p file now → LostPart o q file now
 lost_on o p q file now g l = record {
   wrote = part_on o p q now g l.wrote;
-  moved = first_on o.areas o.at p q o.file file g.made g.evictions g.vain l.moved;
+  moved = first_on o.areas o.at p q o.file file g.made g.evictions g.later l.moved;
 }
 
 -- nothing but Out and Record grew, one call after the other
@@ -201,10 +202,10 @@ unwritten (Err Write) (Err Write) part rest before more after old new l e h = pr
 
 -- the counts of failures, one call after the other
 
-pub counts_none : {file_before file_now sink_before sink_now : ℕ} → file_now ≡ file_before → sink_now ≡ sink_before → Counts (Ok tt) file_before file_now sink_before sink_now
+pub counts_none : {file_before file_now sink_before sink_now : Failures} → file_now.count ≡ file_before.count → sink_now.count ≡ sink_before.count → Counts (Ok tt) file_before file_now sink_before sink_now
 counts_none file sink = record { file = counts_still refl file; sink = counts_still refl sink }
 
-pub counts_like : (r q : Result (Unit {0}) Fault) (a b x y : ℕ) → IsErrLike r q → Counts q a b x y → Counts r a b x y
+pub counts_like : (r q : Result (Unit {0}) Fault) (a b x y : Failures) → IsErrLike r q → Counts q a b x y → Counts r a b x y
 counts_like (Ok u) (Ok v) a b x y l h = absurd l
 counts_like (Ok u) (Err e) a b x y l h = absurd l
 counts_like (Err e) (Ok v) a b x y l h = absurd l
@@ -213,6 +214,5 @@ counts_like (Err Page) (Err Write) a b x y l h = cc
 counts_like (Err Write) (Err Page) a b x y l h = cc
 counts_like (Err Write) (Err Write) a b x y l h = h
 
-pub then_counts : (r : Result (Unit {0}) Fault) (a b c x y z : ℕ) → b ≡ a → y ≡ x → Counts r b c y z → Counts r a c x z
-then_counts r a b c x y z e f h =
-    subst (λ (n : ℕ). Counts r a c n z) f (subst (λ (n : ℕ). Counts r n c y z) e h)
+pub then_counts : (r : Result (Unit {0}) Fault) (a b c x y z : Failures) → b.count ≡ a.count → y.count ≡ x.count → Counts r b c y z → Counts r a c x z
+then_counts r a b c x y z e f h = record { file = counts_then refl e h.file; sink = counts_then refl f h.sink }

@@ -2,6 +2,7 @@
 use Rattle.std.proofs.Common.{ℕ, suc, ◌≡◌, ◌+◌, ◌^◌, ◌<◌, Bool, true, false, List, refl, ap, sym, ◌∙◌, subst, inl, inr, Option, Some, None, Result, Ok, Err}
 use Rattle.std.specs.Prelude.{is_some}
 use Rattle.vax_outside.specs.Blocks.{BlockFile}
+use Rattle.vax_outside.specs.declared.faults.Failures.{Failures}
 use Rattle.vax_outside.specs.Channels.{Channels, GrewByPrefix, append}
 use Rattle.vax_outside.specs.Faults.{Rose}
 use Rattle.vax_pager.specs.Calls.{IsPaging}
@@ -129,6 +130,6 @@ turns_stay old new (Some page) result (inl x) = ap (λ (k : Keeping). k.turns) x
 turns_stay old new (Some page) result (inr x) = ap (λ (k : Keeping). k.turns) x.1
 
 -- what is held back wasn't written
-pub finish_lost : (end : RunEnd) (e : Fault) (left : Channels) (old new : Option Channels) (n a b : ℕ) → Puts (Err e) left old new → Counts (Err e) n n a b → Finishes end WriteFault left old new (Rose a b)
+pub finish_lost : (end : RunEnd) (e : Fault) (left : Channels) (old new : Option Channels) (n a b : Failures) → Puts (Err e) left old new → Counts (Err e) n n a b → Finishes end WriteFault left old new (Rose a b)
 finish_lost end Page left old new n a b p k = absurd p
 finish_lost end Write left old new n a b p k = inr (refl, p, k.sink.cause)

@@ -23,17 +23,17 @@ use Rattle.vax_sched.specs.declared.rule.Target.{Target}
 use Rattle.vax_machine.proofs.Halting.{grows_attempted, lost_at, paged_more}
 use Rattle.vax_machine.proofs.Listing.{grows_evicted}
 use Rattle.vax_machine.proofs.Bound.{IsBounded, begun_bounded, few_cut, few_turns, paged_bounded}
-use Rattle.vax_machine.proofs.Moving.{moved_again, moved_first, moved_none}
+use Rattle.vax_machine.proofs.Moving.{first_on, moved_again, moved_first, moved_none}
 use Rattle.vax_machine.proofs.Outputs.{Grows, IsErrLike, lost_on, part_on, sends_none, sends_same, wrote_all, wrote_part}
 use Rattle.vax_machine.proofs.Touching.{missed, page_small}
-use Rattle.vax_machine.proofs.Tracking.{evicted_append, evicted_none, many_evicted, pins_evicted}
-use Rattle.vax_machine.specs.Blocks.{Moved, MovedUpTo}
+use Rattle.vax_machine.proofs.Tracking.{attempted_miss, evicted_append, evicted_none, many_evicted, pins_evicted}
+use Rattle.vax_machine.specs.Blocks.{Moved}
 use Rattle.vax_machine.specs.Machine.{Means, residence}
 use Rattle.vax_machine.specs.Paged.{Paged, ByEnding, BySteps, ByTurns, all_evicted, all_named, attempted, attempted_by, marked, next_turn, paged, stops, unless_ended}
 use Rattle.vax_machine.specs.Residence.{Residence, is_resident, served, victim, without_victim}
 use Rattle.vax_machine.specs.Run.{Ends, FewTurns, IsCut, IsLost, IsWhole, Runs, Tracks, begun, origin, why_of}
 use Rattle.vax_machine.specs.Touched.{PinsTouched, is_touched}
-use Rattle.vax_machine.specs.Calling.{Misses}
+use Rattle.vax_machine.specs.Calling.{Misses, NextCallFails, ServiceFails, room_made}
 use Rattle.vax_machine.specs.Turn.{AreCut, AreLost, AreMade, AreWhole, AttemptsCut, AttemptsDone, AttemptsFollow, AttemptsLost, EvictedAll, Finishes, Follows, IsBegun, IsCutTurn, IsStop, IsUnserved, LostPart, Reached, TurnsMade, attempted_times}
 use Rattle.vax_machine.specs.Writing.{Origin, Sends, WrotePart, held_in}
 use Rattle.vax_machine.specs.declared.engine.Engine.{Engine}
@@ -178,10 +178,7 @@ module _ (limits : Limits) (o : Origin) (areas : List Area) (rules : List Rule) 
           residence = h.follows.tracks.residence;
           means = subst (λ (z : Place). Means m file z) e.place h.follows.tracks.means;
           steps = h.follows.tracks.steps ∙ e.steps;
-          calls = inl h.next;
-          made = inl (h.follows.tracks.turns ∙ e.turns);
-          missed = inl (h.follows.tracks.turns ∙ e.turns);
-          moved = inl h.follows.moved;
+          fails = inl (h.next, h.follows.moved, h.follows.tracks.turns);
           sends = h.follows.sends;
         };
       }
@@ -241,20 +238,20 @@ module _ (limits : Limits) (o : Origin) (areas : List Area) (rules : List Rule) 
       part = subst (λ (z : Paged). LostPart o z file now) (sym (last_turn h.count h.few h.whole)) h.part;
     }
 
-    -- what was written to blocks, up to the attempt whose page wasn't served
-    moved_here : (middle : Option BlockFile) (u : IsUnserved most o.areas here middle m file) → Moved o.areas o.at here o.file middle → Moved o.areas o.at (attempted_times u.count here) o.file file ⊎ Moved o.areas o.at (attempted_times (suc u.count) here) o.file file
-    moved_here middle u x = elim u.moved [
-      | inl y ↦ inl (moved_again o.areas o.at here (attempted_times u.count here) o.file middle file x y)
-      | inr y ↦ inr (moved_again o.areas o.at here (attempted_times (suc u.count) here) o.file middle file x y)
-    ]
+    -- what the file did up to the attempt whose page wasn't served
+    fails_here : (middle : Option BlockFile) (u : IsUnserved most o.areas here middle m file) → Moved o.areas o.at here o.file middle → ServiceFails o.areas o.at (attempted_times u.count here) m.turns o.file file
+    fails_here middle u x = record {
+      missed = u.fails.missed;
+      fails = elim u.fails.fails [
+        | inl y ↦ inl (y.0, moved_again o.areas o.at here (attempted_times u.count here) o.file middle file x y.1)
+        | inr y ↦ inr (y.0, moved_again o.areas o.at here (room_made (marked (attempted_times u.count here))) o.file middle file x y.1)
+      ];
+      made = u.fails.made;
+    }
 
-    moved_up : (q : Paged) → Moved o.areas o.at q o.file file ⊎ Moved o.areas o.at (attempted q) o.file file → MovedUpTo o.areas o.at q [] o.file file
-    moved_up q (inl x) = inl x
-    moved_up q (inr x) = inr (refl, x)
-
-    cut_at : (count : ℕ) → (whole : AreWhole here count) → count < most → m.steps ≡ (attempted_times count here).steps → m.turns ≡ (attempted_times count here).turns + 1 → residence m ≡ (attempted_times count here).residence → Means m file (attempted_times count here).place → Misses (attempted_times count here) → Moved o.areas o.at (attempted_times count here) o.file file ⊎ Moved o.areas o.at (attempted (attempted_times count here)) o.file file → Sends o (attempted_times count here) now (held_in left) → IsCutTurn o areas rules (paged areas (due rules) count p) m file now left
+    cut_at : (count : ℕ) → (whole : AreWhole here count) → count < most → m.steps ≡ (attempted_times count here).steps → residence m ≡ (attempted_times count here).residence → Means m file (attempted_times count here).place → ServiceFails o.areas o.at (attempted_times count here) m.turns o.file file → Sends o (attempted_times count here) now (held_in left) → IsCutTurn o areas rules (paged areas (due rules) count p) m file now left
     unfolding paged attempted_times
-    cut_at zero whole few s u r means missed moved sends =
+    cut_at zero whole few s r means fails sends =
         let all = all_named areas (due rules (p.turns + 1)) in
         let e = many_evicted all p in
         record {
@@ -264,13 +261,10 @@ module _ (limits : Limits) (o : Origin) (areas : List Area) (rules : List Rule) 
           residence = r;
           means = subst (λ (z : Place). Means m file z) e.place means;
           steps = s ∙ e.steps;
-          calls = inr (refl, missed);
-          made = inr (u ∙ ap (λ (n : ℕ). n + 1) e.turns, refl);
-          missed = inr missed;
-          moved = moved_up here moved;
+          fails = inr (refl, fails);
           sends = sends;
         }
-    cut_at (suc count) whole few s u r means missed moved sends =
+    cut_at (suc count) whole few s r means fails sends =
         let x = attempted_times (suc count) here in
         let q = quiet (suc count) few in
         let e = turns_are limits areas (due rules) p (suc count) whole q count (omega arith) in
@@ -283,10 +277,7 @@ module _ (limits : Limits) (o : Origin) (areas : List Area) (rules : List Rule) 
           residence = r ∙ ap (λ (z : Paged). z.residence) none_more;
           means = means;
           steps = s;
-          calls = inr (refl, subst Misses none_more missed);
-          made = inr (u, refl);
-          missed = inr (subst Misses none_more missed);
-          moved = subst (λ (z : Paged). MovedUpTo o.areas o.at z [] o.file file) none_more (moved_up x moved);
+          fails = inr (refl, subst (λ (z : Paged). ServiceFails o.areas o.at z m.turns o.file file) none_more fails);
           sends = subst (λ (z : Paged). Sends o z now (held_in left)) none_more sends;
         })
 
@@ -297,7 +288,7 @@ module _ (limits : Limits) (o : Origin) (areas : List Area) (rules : List Rule) 
         record {
           count = u.count;
           going = going_through u.count u.few u.whole;
-          cut = cut_at u.count u.whole u.few u.steps u.turns u.residence u.means u.missed (moved_here h.before u h.moved) (sends_same o here (attempted_times u.count here) now (held_in left) h.sends (u.silent o.listed));
+          cut = cut_at u.count u.whole u.few u.steps u.residence u.means (fails_here h.before u h.moved) (sends_same o here (attempted_times u.count here) now (held_in left) h.sends (u.silent o.listed));
         }
 
     done_by : (result : Result (Unit {0}) Fault) → AttemptsDone result most o here m file now left → TurnsMade result limits o areas rules p m file now left
@@ -313,17 +304,29 @@ on_ok (Ok x) p = p
 on_ok (Err e) p = tt
 
 -- where not all that was to be written was, the last attempt's page that made room may have been written
-lost_cut : (o : Origin) (p all : Paged) (rest : List ℕ) (file : Option BlockFile) (now : Option Channels) → Grows o.listed p all → all_evicted rest p ≡ all → WrotePart o p now → MovedUpTo o.areas o.at p rest o.file file → LostPart o (attempted all) file now
-lost_cut o p all rest file now g e w (inl x) =
-    lost_on o all (attempted all) file now (grows_attempted o.listed all) (lost_on o p all file now g (record { wrote = w; moved = moved_first o.areas o.at p o.file file x }))
-lost_cut o p all rest file now g e w (inr x) =
-    let same : p ≡ all = sym (evicted_none p) ∙ (ap (λ (xs : List ℕ). all_evicted xs p) (sym x.0) ∙ e) in
-    subst (λ (z : Paged). LostPart o (attempted z) file now) same
-    (record { wrote = part_on o p (attempted p) now (grows_attempted o.listed p) w; moved = moved_first o.areas o.at (attempted p) o.file file x.1 })
 
-cut_turns : {m p : ℕ} {P : Type 0} → (m ≡ p) ⊎ ((m ≡ p + 1) × P) → (m ≡ p) ⊎ (m ≡ p + 1)
-cut_turns (inl e) = inl e
-cut_turns (inr e) = inr e.0
+room_reads : (p : Paged) (m : Misses p) → (room_made (marked p)).reads ≤ (attempted p).reads
+room_reads p m = let e = ap (λ (z : Paged). z.reads) (attempted_miss p m.page m.going m.missing) in omega (arith, e)
+
+room_evictions : (p : Paged) (m : Misses p) → (attempted p).evictions ≡ (room_made (marked p)).evictions ++ []
+room_evictions p m = ap (λ (z : Paged). z.evictions) (attempted_miss p m.page m.going m.missing) ∙ sym (append-nil (room_made (marked p)).evictions)
+
+lost_cut : (o : Origin) (p all : Paged) (rest : List ℕ) (turns : ℕ) (file : Option BlockFile) (now : Option Channels) → Grows o.listed p all → all_evicted rest p ≡ all → WrotePart o p now → NextCallFails o.areas o.at p rest turns o.file file → LostPart o (attempted all) file now
+lost_cut o p all rest turns file now g e w (inl x) =
+    lost_on o all (attempted all) file now (grows_attempted o.listed all) (lost_on o p all file now g (record { wrote = w; moved = moved_first o.areas o.at p o.file file x.1 }))
+lost_cut o p all rest turns file now g e w (inr x) =
+    let same : p ≡ all = sym (evicted_none p) ∙ (ap (λ (xs : List ℕ). all_evicted xs p) (sym x.0) ∙ e) in
+    let m = x.1.missed in
+    let wrote = part_on o p (attempted p) now (grows_attempted o.listed p) w in
+    subst (λ (z : Paged). LostPart o (attempted z) file now) same (elim x.1.fails [
+      | inl y ↦ lost_on o p (attempted p) file now (grows_attempted o.listed p) (record { wrote = w; moved = moved_first o.areas o.at p o.file file y.1 })
+      | inr y ↦ record {
+        wrote = wrote;
+        moved =
+            first_on o.areas o.at (room_made (marked p)) (attempted p) o.file file [] (room_evictions p m) (room_reads p m)
+            (moved_first o.areas o.at (room_made (marked p)) o.file file y.1);
+      }
+    ])
 
 -- a run begins with few pages pinned
 
@@ -344,7 +347,7 @@ at_start limits areas rules m file place old left none listed same h = record {
   made = 0;
   goes = record { going = λ i low. absurd (omega (arith, low)) };
   follows = record {
-    tracks = record { steps = refl; turns = refl; residence = refl; modified = refl; means = h };
+    tracks = record { steps = refl; turns = refl; residence = refl; modified = refl; blocked = refl; means = h };
     sends = sends_none (origin limits areas (begun m place) file old) (held_in left) none;
     listed = listed;
     areas = same;
@@ -415,11 +418,9 @@ module _ (limits : Limits) (areas : List Area) (rules : List Rule) (b : Paged) (
           residence = k.residence;
           means = k.means;
           steps = k.steps;
-          calls = k.calls;
-          made = k.made;
+          fails = k.fails;
           wrote = wrote_all o (all_evicted k.front (paged areas (due rules) (h.count + r.made) b)) mid (held_in held) k.sends next g;
-          moved = k.moved;
-          few = few_cut areas b (paged areas (due rules) (h.count + r.made) b) k.front new.turns space (paged_bounded areas (due rules) (h.count + r.made) b b space bounded) (cut_turns k.made) k.missed;
+          few = few_cut areas b (paged areas (due rules) (h.count + r.made) b) k.front k.rest new.turns before after space (paged_bounded areas (due rules) (h.count + r.made) b b space bounded) k.fails;
         }
 
     cut_lost : (next : Option Channels) → GrewByPrefix mid next (held_in held) → IsLost limits areas rules b before after old next
@@ -431,7 +432,7 @@ module _ (limits : Limits) (areas : List Area) (rules : List Rule) (b : Paged) (
         let all = all_evicted (all_named areas (due rules (p.turns + 1))) p in
         let e : all_evicted k.rest (all_evicted k.front p) ≡ all = sym (ap (λ (xs : List ℕ). all_evicted xs p) k.splits ∙ evicted_append k.front k.rest p) in
         lost_at limits areas rules b before after (suc (h.count + r.made)) old next (goes_far h.count h.going)
-        (lost_cut o (all_evicted k.front p) all k.rest after next (subst (λ (z : Paged). Grows limits.listed (all_evicted k.front p) z) e (grows_evicted limits.listed k.rest (all_evicted k.front p))) e w k.moved)
+        (lost_cut o (all_evicted k.front p) all k.rest new.turns after next (subst (λ (z : Paged). Grows limits.listed (all_evicted k.front p) z) e (grows_evicted limits.listed k.rest (all_evicted k.front p))) e w k.fails)
 
   ends_whole : (end : RunEnd) (next : Option Channels) → IsStop end → IsWhole limits areas rules b end before m file old next → Ends limits areas rules b before end m file old next
   ends_whole (run_end.Ended e) next s h = h

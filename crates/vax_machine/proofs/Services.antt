@@ -7,7 +7,7 @@ use Rattle.vax_space.specs.declared.Area.{Area}
 use Rattle.vax_space.specs.Areas.{area_of}
 use Rattle.vax_outside.specs.Blocks.{BlockFile}
 use Rattle.vax_flat.specs.Parts.{machine_at}
-use Rattle.vax_pager.specs.Calls.{IsLeft, IsPaging, Source, Back, Empty, OfKept, OfVictim, Nowhere, after_flush, after_evict, begun, came, source, taken_from, victim_of, wrote_back}
+use Rattle.vax_pager.specs.Calls.{IsLeft, IsPaging, Source, Back, Empty, OfKept, OfVictim, Nowhere, after_flush, after_evict, begun, came, reads_page, source, taken_from, takes_modified, victim_of, wrote_back}
 use Rattle.vax_pager.specs.Listing.{is_listed, leave_out, first, first_outside, AreOnce}
 use Rattle.vax_pager.specs.Meaning.{pages}
 use Rattle.vax_pager.specs.Paging.{Paging, Keeps}
@@ -15,7 +15,7 @@ use Rattle.vax_pager.specs.Steps.{brought, flushed, forgotten, released, removed
 use Rattle.vax_pager.specs.declared.pager.Pager.{Pager}
 use Rattle.vax_machine.proofs.Lists.{out-length, some_outside, still_out}
 use Rattle.vax_machine.specs.Machine.{AreSound, Keeping, keeping, Evicts, Flushes, Serves, KeepsPlace}
-use Rattle.vax_machine.specs.Residence.{Residence, residence_of, victim, without_victim, served, taken_out}
+use Rattle.vax_machine.specs.Residence.{Residence, kept_after, residence_of, victim, without_first, without_victim, served, taken_out}
 use Rattle.vax_machine.specs.declared.engine.Engine.{Engine}
 use Rattle.vax_machine.specs.declared.event.Applied.{Applied}
 
@@ -59,44 +59,60 @@ full : (s : Paging) → s.frames ≤ length s.order → victim (residence_of s) 
 unfolding victim
 full s h = rw (lt_false (length s.order) s.frames h) refl
 
-with_room : (page : ℕ) (s t : Paging) → length s.order < s.frames → residence_of t ≡ record { frames = s.frames; order = s.order ++ page ∷ []; pinned = s.pinned ++ page ∷ []; spoiled = s.numbers.spoiled } → t.areas ≡ s.areas → IsService page s t None
-unfolding served
-with_room page s t h e a = record { residence = rw (room s h) e; answer = sym (room s h); areas = a }
+-- which pages keep a frame
 
-victim_came : (page other : ℕ) (bytes : List ℕ) (s : Paging) → (residence_of (brought page bytes (removed other (after_flush other s))) ≡ record { frames = s.frames; order = leave_out other s.order ++ page ∷ []; pinned = s.pinned ++ page ∷ []; spoiled = s.numbers.spoiled }) × ((brought page bytes (removed other (after_flush other s))).areas ≡ s.areas)
+kept_back : (page : ℕ) (s : Paging) → is_listed page s.kept ≡ true → kept_after page (residence_of s) ≡ leave_out page s.kept
+unfolding kept_after
+kept_back page s e = rw e refl
+
+kept_room : (page : ℕ) (s : Paging) → is_listed page s.kept ≡ false → nat_lt (length s.order + length s.kept) s.frames ≡ true → kept_after page (residence_of s) ≡ s.kept
+unfolding kept_after
+kept_room page s away some = rw (away, some) refl
+
+kept_full : (page : ℕ) (s : Paging) → is_listed page s.kept ≡ false → nat_lt (length s.order + length s.kept) s.frames ≡ false → kept_after page (residence_of s) ≡ without_first s.kept
+unfolding kept_after
+kept_full page s away none = rw (away, none) refl
+
+with_room : (page : ℕ) (s t : Paging) (kept : List ℕ) → kept_after page (residence_of s) ≡ kept → length s.order < s.frames → residence_of t ≡ record { frames = s.frames; order = s.order ++ page ∷ []; pinned = s.pinned ++ page ∷ []; kept = kept; spoiled = s.numbers.spoiled } → t.areas ≡ s.areas → IsService page s t None
+unfolding served
+with_room page s t kept k h e a = record { residence = rw (room s h, k) e; answer = sym (room s h); areas = a }
+
+victim_came : (page other : ℕ) (bytes : List ℕ) (s : Paging) → (residence_of (brought page bytes (removed other (after_flush other s))) ≡ record { frames = s.frames; order = leave_out other s.order ++ page ∷ []; pinned = s.pinned ++ page ∷ []; kept = s.kept; spoiled = s.numbers.spoiled }) × ((brought page bytes (removed other (after_flush other s))).areas ≡ s.areas)
 unfolding brought removed
 victim_came page other bytes s =
     let r = residence_flush other s in
-    (rw (ap (λ (z : Residence). z.order) r, ap (λ (z : Residence). z.pinned) r, ap (λ (z : Residence). z.frames) r, ap (λ (z : Residence). z.spoiled) r) refl, areas_flush other s)
+    (rw (ap (λ (z : Residence). z.order) r, ap (λ (z : Residence). z.pinned) r, ap (λ (z : Residence). z.kept) r, ap (λ (z : Residence). z.frames) r, ap (λ (z : Residence). z.spoiled) r) refl, areas_flush other s)
 
-forgotten_came : (page other : ℕ) (bytes : List ℕ) (s : Paging) → (residence_of (brought page bytes (forgotten other s)) ≡ record { frames = s.frames; order = s.order ++ page ∷ []; pinned = s.pinned ++ page ∷ []; spoiled = s.numbers.spoiled }) × ((brought page bytes (forgotten other s)).areas ≡ s.areas)
+forgotten_came : (page other : ℕ) (bytes : List ℕ) (s : Paging) → (residence_of (brought page bytes (forgotten other s)) ≡ record { frames = s.frames; order = s.order ++ page ∷ []; pinned = s.pinned ++ page ∷ []; kept = leave_out other s.kept; spoiled = s.numbers.spoiled }) × ((brought page bytes (forgotten other s)).areas ≡ s.areas)
 unfolding brought forgotten
 forgotten_came page other bytes s = (refl, refl)
 
-served_victim : (page other : ℕ) (s : Paging) → victim (residence_of s) ≡ Some other → served page (residence_of s) ≡ record { frames = s.frames; order = leave_out other s.order ++ page ∷ []; pinned = s.pinned ++ page ∷ []; spoiled = s.numbers.spoiled }
+served_victim : (page other : ℕ) (s : Paging) → victim (residence_of s) ≡ Some other → kept_after page (residence_of s) ≡ s.kept → served page (residence_of s) ≡ record { frames = s.frames; order = leave_out other s.order ++ page ∷ []; pinned = s.pinned ++ page ∷ []; kept = s.kept; spoiled = s.numbers.spoiled }
 unfolding served
-served_victim page other s e = rw e refl
+served_victim page other s e k = rw (e, k) refl
 
-by_kept : (page : ℕ) (bytes : List ℕ) (s : Paging) (kept : List ℕ) (v : Option ℕ) → s.kept ≡ kept → length s.order + length s.kept ≤ s.frames → s.frames ≤ length s.order + length s.kept → first_outside s.pinned s.order ≡ v → AreOnce s.order → length s.pinned < s.frames → IsService page s (came (taken_from (first kept) v) page bytes s) (victim_of (taken_from (first kept) v))
-by_kept page bytes s (other ∷ others) v e h g i once few =
+by_kept : (page : ℕ) (bytes : List ℕ) (s : Paging) (kept : List ℕ) (v : Option ℕ) → s.kept ≡ kept → length s.order + length s.kept ≤ s.frames → s.frames ≤ length s.order + length s.kept → first_outside s.pinned s.order ≡ v → AreOnce s.order → length s.pinned < s.frames → kept_after page (residence_of s) ≡ without_first s.kept → IsService page s (came (taken_from (first kept) v) page bytes s) (victim_of (taken_from (first kept) v))
+by_kept page bytes s (other ∷ others) v e h g i once few left =
     let n : 1 ≤ length s.kept = rw e (omega arith) in
     let k = forgotten_came page other bytes s in
-    with_room page s (brought page bytes (forgotten other s)) (omega (arith, n)) k.0 k.1
-by_kept page bytes s [] (Some other) e h g i once few =
+    let out : kept_after page (residence_of s) ≡ leave_out other s.kept = left ∙ (ap (λ (z : List ℕ). without_first z) e ∙ ap (leave_out other) (sym e)) in
+    with_room page s (brought page bytes (forgotten other s)) (leave_out other s.kept) out (omega (arith, n)) k.0 k.1
+by_kept page bytes s [] (Some other) e h g i once few left =
     let n : length s.kept ≡ 0 = ap (length {A = ℕ}) e in
     let f : victim (residence_of s) ≡ Some other = full s (omega (arith, n)) ∙ i in
     let k = victim_came page other bytes s in
-    record { residence = k.0 ∙ sym (served_victim page other s f); answer = sym f; areas = k.1 }
-by_kept page bytes s [] None e h g i once few =
+    let none : kept_after page (residence_of s) ≡ s.kept = left ∙ (ap (λ (z : List ℕ). without_first z) e ∙ sym e) in
+    record { residence = k.0 ∙ sym (served_victim page other s f none); answer = sym f; areas = k.1 }
+by_kept page bytes s [] None e h g i once few left =
     let n : length s.kept ≡ 0 = ap (length {A = ℕ}) e in
     absurd (some_outside s.pinned s.order once (omega (arith, n)) i)
 
-by_room : (page : ℕ) (bytes : List ℕ) (s : Paging) (b : Bool) → nat_lt (length s.order + length s.kept) s.frames ≡ b → IsPaging s → length s.pinned < s.frames → IsService page s (came (if b then Empty else taken_from (first s.kept) (first_outside s.pinned s.order)) page bytes s) (victim_of (if b then Empty else taken_from (first s.kept) (first_outside s.pinned s.order)))
-by_room page bytes s true e f few =
+by_room : (page : ℕ) (bytes : List ℕ) (s : Paging) (b : Bool) → nat_lt (length s.order + length s.kept) s.frames ≡ b → is_listed page s.kept ≡ false → IsPaging s → length s.pinned < s.frames → IsService page s (came (if b then Empty else taken_from (first s.kept) (first_outside s.pinned s.order)) page bytes s) (victim_of (if b then Empty else taken_from (first s.kept) (first_outside s.pinned s.order)))
+by_room page bytes s true e away f few =
     let h = lt_is _ _ e in
-    with_room page s _ (omega (arith, h)) (unfold brought in refl) (unfold brought in refl)
-by_room page bytes s false e f few =
-    by_kept page bytes s s.kept (first_outside s.pinned s.order) refl f.held (lt_not _ _ e) refl f.once few
+    with_room page s _ s.kept (kept_room page s away e) (omega (arith, h)) (unfold brought in refl) (unfold brought in refl)
+by_room page bytes s false e away f few =
+    by_kept page bytes s s.kept (first_outside s.pinned s.order) refl f.held (lt_not _ _ e) refl f.once few (kept_full page s away e)
 
 some_kept : (page : ℕ) (kept : List ℕ) → is_listed page kept ≡ true → 1 ≤ length kept
 unfolding is_listed
@@ -107,12 +123,40 @@ by_back : (page : ℕ) (bytes : List ℕ) (s : Paging) (b : Bool) → is_listed 
 by_back page bytes s true e f few =
     let k = some_kept page s.kept e in
     let h = f.held in
-    with_room page s _ (omega (arith, k, h)) (unfold taken_back in refl) (unfold taken_back in refl)
-by_back page bytes s false e f few = by_room page bytes s (nat_lt (length s.order + length s.kept) s.frames) refl f few
+    with_room page s _ (leave_out page s.kept) (kept_back page s e) (omega (arith, k, h)) (unfold taken_back in refl) (unfold taken_back in refl)
+by_back page bytes s false e f few = by_room page bytes s (nat_lt (length s.order + length s.kept) s.frames) refl e f few
 
 pub is_service : (page : ℕ) (bytes : List ℕ) (s : Paging) → IsPaging s → length s.pinned < s.frames → IsService page s (came (source page s) page bytes s) (victim_of (source page s))
 unfolding source
 is_service page bytes s f few = by_back page bytes s (is_listed page s.kept) refl f few
+
+-- whether the page is read
+
+reads_taken : (page : ℕ) (s : Paging) (kept : List ℕ) (v : Option ℕ) → s.kept ≡ kept → s.frames ≤ length s.order + length s.kept → first_outside s.pinned s.order ≡ v → AreOnce s.order → length s.pinned < s.frames → reads_page (taken_from (first kept) v) page s ≡ s.blocked page
+reads_taken page s (other ∷ others) v e g i once few = refl
+reads_taken page s [] (Some other) e g i once few = refl
+reads_taken page s [] None e g i once few =
+    let n : length s.kept ≡ 0 = ap (length {A = ℕ}) e in
+    absurd (some_outside s.pinned s.order once (omega (arith, n)) i)
+
+reads_room : (page : ℕ) (s : Paging) (b : Bool) → nat_lt (length s.order + length s.kept) s.frames ≡ b → IsPaging s → length s.pinned < s.frames → reads_page (if b then Empty else taken_from (first s.kept) (first_outside s.pinned s.order)) page s ≡ s.blocked page
+reads_room page s true e f few = refl
+reads_room page s false e f few = reads_taken page s s.kept (first_outside s.pinned s.order) refl (lt_not _ _ e) refl f.once few
+
+pub source_reads : (page : ℕ) (s : Paging) → IsPaging s → length s.pinned < s.frames → reads_page (source page s) page s ≡ (if is_listed page s.kept then false else s.blocked page)
+unfolding source
+source_reads page s f few = elim (cases_Bool (is_listed page s.kept)) [
+  | inl t ↦ rw t refl
+  | inr o ↦ rw o (reads_room page s (nat_lt (length s.order + length s.kept) s.frames) refl f few)
+]
+
+-- the page that makes room is modified
+pub taken_modified : (from : Source) (s : Paging) → takes_modified from s ≡ true → (v : ℕ) × (victim_of from ≡ Some v) × (is_listed v s.modified ≡ true)
+taken_modified Back s h = let no : false ≡ true = h in cc
+taken_modified Empty s h = let no : false ≡ true = h in cc
+taken_modified (OfKept old) s h = let no : false ≡ true = h in cc
+taken_modified (OfVictim v) s h = (v, refl, h)
+taken_modified Nowhere s h = let no : false ≡ true = h in cc
 
 pub few_pins : (areas : List Area) (s : Paging) (want : Option ℕ) (page : ℕ) → want ≡ Some page → AreSound areas (residence_of s) want → length s.pinned < s.frames
 few_pins areas s want page e h =
@@ -179,9 +223,9 @@ begun_same s (OfKept page) = (refl, refl)
 begun_same s (OfVictim page) = (residence_flush page s, areas_flush page s)
 begun_same s Nowhere = (refl, refl)
 
-pub failed_same : (s t : Paging) (from : Source) (before after : Option BlockFile) → IsLeft from s before t after → (residence_of t ≡ residence_of s) × (t.areas ≡ s.areas)
-failed_same s t from before after (inl e) = (ap residence_of e.0, ap (λ (z : Paging). z.areas) e.0)
-failed_same s t from before after (inr e) = let k = begun_same s from in (ap residence_of e.0 ∙ k.0, ap (λ (z : Paging). z.areas) e.0 ∙ k.1)
+pub failed_same : (s t : Paging) (from : Source) (page : ℕ) (before after : Option BlockFile) → IsLeft from page s before t after → (residence_of t ≡ residence_of s) × (t.areas ≡ s.areas)
+failed_same s t from page before after (inl e) = (ap residence_of e.1, ap (λ (z : Paging). z.areas) e.1)
+failed_same s t from page before after (inr e) = let k = begun_same s from in (ap residence_of e.1 ∙ k.0, ap (λ (z : Paging). z.areas) e.1 ∙ k.1)
 
 -- an eviction
 
@@ -190,7 +234,7 @@ unfolding after_evict taken_out released
 evict_same page s =
     let r = residence_flush page s in
     elim (cases_Bool (is_listed page s.order)) [
-      | inl t ↦ rw t (rw (ap (λ (z : Residence). z.order) r, ap (λ (z : Residence). z.pinned) r, ap (λ (z : Residence). z.frames) r, ap (λ (z : Residence). z.spoiled) r) refl, areas_flush page s)
+      | inl t ↦ rw t (rw (ap (λ (z : Residence). z.order) r, ap (λ (z : Residence). z.pinned) r, ap (λ (z : Residence). z.kept) r, ap (λ (z : Residence). z.frames) r, ap (λ (z : Residence). z.spoiled) r) refl, areas_flush page s)
       | inr f ↦ rw f (refl, refl)
     ]
 

@@ -1,6 +1,6 @@
 -- Several attempts of a machine, and the service of the page that the last one missed, are turns of the paged run.
 use Rattle.std.proofs.Common.{ℕ, zero, suc, ◌≡◌, ◌+◌, ◌-◌, ◌^◌, ◌<◌, ◌≤◌, Bool, true, false, ◌==◌, List, [], append-nil, length, refl, ap, sym, ◌∙◌, subst, arith, inl, inr, Option, Some, None}
-use Rattle.std.specs.Prelude.{is_some}
+use Rattle.std.specs.Prelude.{if◌then◌else◌, is_some}
 use Rattle.std.proofs.lemmas.Bool.Decides.{nat_tests}
 use Rattle.vax_space.specs.declared.Area.{Area}
 use Rattle.vax_space.specs.Areas.{area_of}
@@ -15,19 +15,20 @@ use Rattle.vax_flat.specs.Accesses.{Leaf, Went, Found}
 use Rattle.vax_flat.specs.Outcome.{Outcome, Ends, Raised, first_missing, marked_by}
 use Rattle.vax_flat.specs.Parts.{Partway, Place, Leaves, gone_back, machine_at, outcome_at, touches_at, turn, turn_from, units_after, units_done}
 use Rattle.vax_flat.specs.Step.{Flat, ended, with_byte_sent}
-use Rattle.vax_pager.specs.Calls.{IsLeft, IsPaging, source, victim_of}
+use Rattle.vax_pager.specs.Calls.{IsLeft, IsPaging, reads_page, source, takes_modified, victim_of}
 use Rattle.vax_pager.specs.Listing.{is_listed}
 use Rattle.vax_pager.specs.Meaning.{pages}
 use Rattle.vax_pager.specs.Paging.{Paging, StandsWith}
-use Rattle.vax_machine.proofs.Moving.{FileGoes, came_cleans, frame_is, left_goes, moved_again, moved_by, moved_same, serve_goes, victim_write, victim_writes}
+use Rattle.vax_machine.proofs.Moving.{FileGoes, came_blocks, came_cleans, frame_is, left_goes, moved_again, moved_by, moved_same, serve_goes, victim_write, victim_writes}
 use Rattle.vax_machine.proofs.Outputs.{lines_one, output_by, output_same, output_sent}
-use Rattle.vax_machine.proofs.Services.{few_pins, is_service, victim_listed}
+use Rattle.vax_machine.proofs.Services.{few_pins, is_service, source_reads, taken_modified, victim_listed}
 use Rattle.vax_machine.proofs.Touching.{fewer_pins, page_small}
 use Rattle.vax_machine.proofs.Tracking.{IsAdvanced, IsSeveral, attempted_miss, attempted_part, attempted_whole, are_whole, dropped, dropped_order, resident_same, several_are, spot_of, times_advanced}
 use Rattle.vax_machine.specs.Batch.{Advances, GoesFar, HasTriedSeveral, Spot, several}
 use Rattle.vax_machine.specs.Blocks.{Moved}
+use Rattle.vax_machine.specs.Calling.{WritesVictim, room_made}
 use Rattle.vax_machine.specs.Machine.{IsSound, IsTry, Keeping, KeepsPlace, Means, Serves, ServesAs, ServesFrom, keeping, modified_of, residence, tried}
-use Rattle.vax_machine.specs.Paged.{Paged, attempted, attempted_by, cleaned_of, evictions_of, marked, page_bytes}
+use Rattle.vax_machine.specs.Paged.{Eviction, Paged, attempted, attempted_by, blocked_of, cleaned_of, evictions_of, is_read, marked, one_if, page_bytes}
 use Rattle.vax_machine.specs.Residence.{Residence, eased, is_resident, served, unpinned, victim}
 use Rattle.vax_machine.specs.Run.{Tracks}
 use Rattle.vax_machine.specs.Touched.{PinsTouched}
@@ -107,7 +108,10 @@ module _ (old : Engine) (p : Paged) (file : Option BlockFile) (t : Tracks old fi
 
     -- no call of the page file was made
     unmoved : Moved (pages old.pager).areas p (attempted_times h.count p) file file
-    unmoved = let a = there.turns in let b = there.parts in moved_same (pages old.pager).areas p (attempted_times h.count p) file there.evictions (omega (arith, a, b))
+    unmoved = moved_same (pages old.pager).areas p (attempted_times h.count p) file there.evictions there.reads
+
+    blocked_there : (pages new.pager).blocked ≡ (attempted_times h.count p).blocked
+    blocked_there = h.blocked ∙ (t.blocked ∙ sym there.blocked)
 
     residence_before : before.residence ≡ (attempted_times h.count p).residence
     residence_before = kept.residence ∙ (ap (dropped h.count) t.residence ∙ sym there.residence)
@@ -125,8 +129,8 @@ module _ (old : Engine) (p : Paged) (file : Option BlockFile) (t : Tracks old fi
     raised_turns = let a = kept.turns in let b = turns_before in let f = h.few in omega (arith, a, b, f, short)
 
 -- a part that was completed calls no page file either
-completed_moves : (areas : List Area) (p q r : Paged) (file : Option BlockFile) → r.evictions ≡ q.evictions → r.turns ≡ q.turns + 1 → r.parts ≡ q.parts + 1 → Moved areas p q file file → Moved areas p r file file
-completed_moves areas p q r file e turns parts m = moved_again areas p q r file file file m (moved_same areas q r file e (omega (arith, turns, parts)))
+completed_moves : (areas : List Area) (p q r : Paged) (file : Option BlockFile) → r.evictions ≡ q.evictions → r.reads ≡ q.reads → Moved areas p q file file → Moved areas p r file file
+completed_moves areas p q r file e reads m = moved_again areas p q r file file file m (moved_same areas q r file e reads)
 
 -- a part leaves the output as it was
 
@@ -156,13 +160,14 @@ module _ (old : Engine) (p : Paged) (file : Option BlockFile) (t : Tracks old fi
           turns = ap (λ (k : Keeping). k.turns) h.keeps ∙ raised_turns old p file t going most (Stepped sent) new low short h;
           residence = ap (λ (k : Keeping). k.residence) h.keeps ∙ ap unpinned (residence_before old p file t going most (Stepped sent) new low short h);
           modified = marks_there old p file t going most (Stepped sent) new low short h;
+          blocked = blocked_there old p file t going most (Stepped sent) new low short h;
           means = g.1.means;
         });
         writes = λ listed. output_sent listed p (attempted q) sent
             (ap (λ (z : Paged). (machine_at z.place).output) e ∙ (g.1.sends ∙ ap (λ o. with_byte_sent o sent) ((h.goes file p.place t.means).silent)))
             (ap (λ (z : Paged). z.evictions) e ∙ at.evictions);
         alike = areas_there old p file t going most (Stepped sent) new low short h;
-        moved = completed_moves (pages old.pager).areas p q (attempted q) file (ap (λ (z : Paged). z.evictions) e) (ap (λ (z : Paged). z.turns) e) (ap (λ (z : Paged). z.parts) e) (unmoved old p file t going most (Stepped sent) new low short h);
+        moved = completed_moves (pages old.pager).areas p q (attempted q) file (ap (λ (z : Paged). z.evictions) e) (ap (λ (z : Paged). z.reads) e) (unmoved old p file t going most (Stepped sent) new low short h);
       }
 
   parted : HasTriedSeveral most old Parted new → IsServed most (pages old.pager).areas p (λ listed. sent_by None) file new file
@@ -182,6 +187,7 @@ module _ (old : Engine) (p : Paged) (file : Option BlockFile) (t : Tracks old fi
           turns = ap (λ (k : Keeping). k.turns) h.keeps ∙ raised_turns old p file t going most Parted new low short h;
           residence = ap (λ (k : Keeping). k.residence) h.keeps ∙ ap unpinned (residence_before old p file t going most Parted new low short h);
           modified = marks_there old p file t going most Parted new low short h;
+          blocked = blocked_there old p file t going most Parted new low short h;
           means = g.1.means;
         });
         writes = λ listed. output_sent listed p (attempted q) None
@@ -189,7 +195,7 @@ module _ (old : Engine) (p : Paged) (file : Option BlockFile) (t : Tracks old fi
             ∙ (leaves_output (gone_back here) (units_done here) (outcome_at here) g.1.next g.1.turn ∙ (h.goes file p.place t.means).silent))
             (ap (λ (z : Paged). z.evictions) e ∙ at.evictions);
         alike = areas_there old p file t going most Parted new low short h;
-        moved = completed_moves (pages old.pager).areas p q (attempted q) file (ap (λ (z : Paged). z.evictions) e) (ap (λ (z : Paged). z.turns) e) (ap (λ (z : Paged). z.parts) e) (unmoved old p file t going most Parted new low short h);
+        moved = completed_moves (pages old.pager).areas p q (attempted q) file (ap (λ (z : Paged). z.evictions) e) (ap (λ (z : Paged). z.reads) e) (unmoved old p file t going most Parted new low short h);
       }
 
   ends : (x : Ending) → HasTriedSeveral most old (Ended x) new → IsServed most (pages old.pager).areas p (λ listed. sent_by None) file new file
@@ -209,13 +215,14 @@ module _ (old : Engine) (p : Paged) (file : Option BlockFile) (t : Tracks old fi
           turns = ap (λ (k : Keeping). k.turns) h.keeps ∙ raised_turns old p file t going most (Ended x) new low short h;
           residence = ap (λ (k : Keeping). k.residence) h.keeps ∙ ap unpinned (residence_before old p file t going most (Ended x) new low short h);
           modified = marks_there old p file t going most (Ended x) new low short h;
+          blocked = blocked_there old p file t going most (Ended x) new low short h;
           means = g.1.means;
         });
         writes = λ listed. output_sent listed p (attempted q) None
             (ap (λ (z : Paged). (machine_at z.place).output) e ∙ (h.goes file p.place t.means).silent)
             (ap (λ (z : Paged). z.evictions) e ∙ at.evictions);
         alike = areas_there old p file t going most (Ended x) new low short h;
-        moved = completed_moves (pages old.pager).areas p q (attempted q) file (ap (λ (z : Paged). z.evictions) e) (ap (λ (z : Paged). z.turns) e) (ap (λ (z : Paged). z.parts) e) (unmoved old p file t going most (Ended x) new low short h);
+        moved = completed_moves (pages old.pager).areas p q (attempted q) file (ap (λ (z : Paged). z.evictions) e) (ap (λ (z : Paged). z.reads) e) (unmoved old p file t going most (Ended x) new low short h);
       }
 
   pub quiet : (result : Applied) → HasTriedSeveral most old result new → ((sent : Option ℕ) → result ≡ Stepped sent → ⊥) → ((page : ℕ) → result ≡ Absent page → ⊥) → IsServed most (pages old.pager).areas p (λ listed. sent_by None) file new file
@@ -315,32 +322,62 @@ module _ (old mid : Engine) (p : Paged) (page : ℕ) (file : Option BlockFile) (
   miss : attempted q ≡ attempted_by (Some page) (marked q)
   miss = attempted_miss q page at.going missing_at
 
-  moved_by_file : (after : Option BlockFile) → FileGoes file after (victim_write pages_there.areas (victim_of (source page pages_there)) (modified_of mid) (machine_at q.place).memory) 1 → Moved (pages old.pager).areas p (attempted_times (suc h.count) p) file after
+  blocked_at : pages_there.blocked ≡ q.blocked
+  blocked_at = blocked_there old p file t going most (Absent page) mid low short h
+
+  read_there : reads_page (source page pages_there) page pages_there ≡ is_read page q
+  read_there =
+      source_reads page pages_there g (few_pins pages_there.areas pages_there mid.wanted page wanted_there sound.pages)
+      ∙ (ap (λ (r : Residence). if is_listed page r.kept then false else pages_there.blocked page) kept_pins
+      ∙ ap (λ (z : ℕ → Bool). if is_listed page q.residence.kept then false else z page) blocked_at)
+
+  abbrev made_room : List Eviction
+  made_room = evictions_of (q.turns + 2) (victim q.residence) (marked q)
+
+  moved_by_file : (after : Option BlockFile) → FileGoes file after (victim_write pages_there.areas (victim_of (source page pages_there)) (modified_of mid) (machine_at q.place).memory) (one_if (reads_page (source page pages_there) page pages_there)) → Moved (pages old.pager).areas p (attempted_times (suc h.count) p) file after
   unfolding attempted_times
   moved_by_file after goes =
-      let made = evictions_of (q.turns + 2) (victim q.residence) (marked q) in
-      let turns : (attempted q).turns ≡ q.turns + 1 = ap (λ (z : Paged). z.turns) miss in
-      let parts : (attempted q).parts ≡ q.parts = ap (λ (z : Paged). z.parts) miss in
+      let reads : (attempted q).reads ≡ q.reads + one_if (reads_page (source page pages_there) page pages_there) =
+      ap (λ (z : Paged). z.reads) miss ∙ ap (λ (b : Bool). q.reads + one_if b) (sym read_there) in
       moved_again (pages old.pager).areas p q (attempted q) file file after moved_at
-      (moved_by (pages old.pager).areas q (attempted q) file after made written 1 (ap (λ (z : Paged). z.evictions) miss)
-      (victim_writes (pages old.pager).areas (q.turns + 2) (victim q.residence) (marked q)) (omega (arith, turns, parts))
-      (subst (λ (z : List (ℕ × List ℕ)). FileGoes file after z 1) written_there goes))
+      (moved_by (pages old.pager).areas q (attempted q) file after made_room written (one_if (reads_page (source page pages_there) page pages_there)) (ap (λ (z : Paged). z.evictions) miss)
+      (victim_writes (pages old.pager).areas (q.turns + 2) (victim q.residence) (marked q)) reads
+      (subst (λ (z : List (ℕ × List ℕ)). FileGoes file after z (one_if (reads_page (source page pages_there) page pages_there))) written_there goes))
 
-  unserved_here : (new : Engine) (after : Option BlockFile) → keeping new ≡ keeping mid → KeepsPlace mid file new after → IsLeft (source page pages_there) pages_there file (pages new.pager) after → IsUnserved most (pages old.pager).areas p file new after
+  -- the page that made room was written alone
+  room_moved : (after : Option BlockFile) → FileGoes file after (victim_write pages_there.areas (victim_of (source page pages_there)) (modified_of mid) (machine_at q.place).memory) 0 → Moved (pages old.pager).areas p (room_made (marked q)) file after
+  room_moved after goes =
+      moved_again (pages old.pager).areas p q (room_made (marked q)) file file after moved_at
+      (moved_by (pages old.pager).areas q (room_made (marked q)) file after made_room written 0 refl
+      (victim_writes (pages old.pager).areas (q.turns + 2) (victim q.residence) (marked q)) (omega arith)
+      (subst (λ (z : List (ℕ × List ℕ)). FileGoes file after z 0) written_there goes))
+
+  writes_victim : takes_modified (source page pages_there) pages_there ≡ true → WritesVictim (marked q)
+  writes_victim takes =
+      let k = taken_modified (source page pages_there) pages_there takes in
+      record { page = k.0; is = sym victim_there ∙ k.1; modified = ap (λ (z : ℕ → Bool). z k.0) (sym marks_at) ∙ k.2 }
+
+  turns_at : (new : Engine) → keeping new ≡ keeping mid → new.turns ≡ q.turns + 1
+  turns_at new e = ap (λ (k : Keeping). k.turns) e ∙ (ap (λ (k : Keeping). k.turns) h.keeps ∙ raised_turns old p file t going most (Absent page) mid low short h)
+
+  unserved_here : (new : Engine) (after : Option BlockFile) → keeping new ≡ keeping mid → KeepsPlace mid file new after → IsLeft (source page pages_there) page pages_there file (pages new.pager) after → IsUnserved most (pages old.pager).areas p file new after
   unserved_here new after e keeps left = record {
     count = h.count;
     few = h.few;
     whole = whole old p file t going most (Absent page) mid low short h;
     silent = quiet_output old p file t going most (Absent page) mid low short h;
     steps = ap (λ (k : Keeping). k.steps) e ∙ (ap (λ (k : Keeping). k.steps) h.keeps ∙ steps_before old p file t going most (Absent page) mid low short h);
-    turns = ap (λ (k : Keeping). k.turns) e ∙ (ap (λ (k : Keeping). k.turns) h.keeps ∙ raised_turns old p file t going most (Absent page) mid low short h);
+    turns = turns_at new e;
     residence = ap (λ (k : Keeping). k.residence) e ∙ kept_pins;
     means = means_at new after keeps;
-    missed = record { page = page; missing = missing_at; going = at.going };
-    moved = elim (left_goes (source page pages_there) pages_there (pages new.pager) file after (machine_at q.place).memory frames_there left) [
-      | inl same ↦ inl (subst (λ (z : Option BlockFile). Moved (pages old.pager).areas p q file z) (sym same) moved_at)
-      | inr goes ↦ inr (moved_by_file after goes)
-    ];
+    fails = record {
+      missed = record { page = page; missing = missing_at; going = at.going };
+      fails = elim (left_goes (source page pages_there) page pages_there (pages new.pager) file after (machine_at q.place).memory frames_there left) [
+        | inl w ↦ inl (writes_victim w.0, subst (λ (z : Option BlockFile). Moved (pages old.pager).areas p q file z) (sym w.1) moved_at)
+        | inr r ↦ inr (sym read_there ∙ r.0, room_moved after r.1)
+      ];
+      made = turns_at new e;
+    };
   }
 
   module _ (new : Engine) (after : Option BlockFile) (v : Option ℕ) (vic : v ≡ victim (residence mid)) (e : keeping new ≡ record (keeping mid) { residence = served page (residence mid); wanted = None }) (keeps : KeepsPlace mid file new after) (x : ServesFrom page (Served v) pages_there file (pages new.pager) after) where
@@ -359,6 +396,14 @@ module _ (old mid : Engine) (p : Paged) (page : ℕ) (file : Option BlockFile) (
         ∙ (came_cleans (source page pages_there) page ((pages new.pager).frame page) pages_there
         ∙ (ap (λ (z : Option ℕ). cleaned_of z (modified_of mid)) victim_there ∙ ap (cleaned_of (victim q.residence)) marks_at))
 
+    gets_block : (pages new.pager).blocked ≡ blocked_of (victim q.residence) (marked q).modified q.blocked
+    gets_block =
+        ap (λ (z : Paging). z.blocked) x.0
+        ∙ (came_blocks (source page pages_there) page ((pages new.pager).frame page) pages_there
+        ∙ (ap (λ (z : Option ℕ). blocked_of z (modified_of mid) pages_there.blocked) victim_there
+        ∙ (ap (λ (z : ℕ → Bool). blocked_of (victim q.residence) z pages_there.blocked) marks_at
+        ∙ ap (blocked_of (victim q.residence) (marked q).modified) blocked_at)))
+
     served_here : IsServed most (pages old.pager).areas p (λ listed. listed_by listed (mid.turns + 1) v) file new after
     unfolding attempted_times
     served_here = record {
@@ -370,6 +415,7 @@ module _ (old mid : Engine) (p : Paged) (page : ℕ) (file : Option BlockFile) (
         turns = ap (λ (k : Keeping). k.turns) e ∙ turns_there;
         residence = ap (λ (k : Keeping). k.residence) e ∙ ap (served page) kept_pins;
         modified = cleaned_there;
+        blocked = gets_block;
         means = means_at new after keeps;
       });
       writes = λ listed.
@@ -379,7 +425,7 @@ module _ (old mid : Engine) (p : Paged) (page : ℕ) (file : Option BlockFile) (
           ∙ (ap (λ (c : Channels). append c (listed_by listed (q.turns + 2) (victim q.residence))) (quiet_output old p file t going most (Absent page) mid low short h listed)
           ∙ ap (append (output_of listed p)) (line_there listed)));
       alike = ap (λ (k : Keeping). k.areas) e ∙ same_areas;
-      moved = moved_by_file after (subst (λ (z : Option BlockFile). FileGoes file z (victim_write pages_there.areas (victim_of (source page pages_there)) (modified_of mid) (machine_at q.place).memory) 1) (sym x.1)
+      moved = moved_by_file after (subst (λ (z : Option BlockFile). FileGoes file z (victim_write pages_there.areas (victim_of (source page pages_there)) (modified_of mid) (machine_at q.place).memory) (one_if (reads_page (source page pages_there) page pages_there))) (sym x.1)
           (serve_goes (source page pages_there) page pages_there file (machine_at q.place).memory frames_there));
     }
 

@@ -11,7 +11,7 @@ use Rattle.vax_pager.specs.Meaning.{pages}
 use Rattle.vax_pager.proofs.Listing.{in_without}
 use Rattle.vax_machine.specs.Batch.{Advances, Spot, several}
 use Rattle.vax_machine.specs.Machine.{Evicts, Keeping, KeepsPlace, keeping, modified_of, residence}
-use Rattle.vax_machine.specs.Paged.{Paged, attempted, attempted_by, all_evicted, cleaned, evicted, eviction_of, marked}
+use Rattle.vax_machine.specs.Paged.{Paged, attempted, attempted_by, all_evicted, blocked_if, cleaned, evicted, eviction_of, marked}
 use Rattle.vax_machine.specs.Residence.{Residence, is_resident, taken_out, unpinned}
 use Rattle.vax_machine.specs.Run.{Tracks}
 use Rattle.vax_machine.specs.Touched.{PinsTouched}
@@ -30,32 +30,38 @@ pub record IsEvicted (page : ℕ) (p q : Paged) : Type 0 where
   pub parts : q.parts ≡ p.parts
   pub modified : q.modified ≡ cleaned page p.modified
   pub evictions : q.evictions ≡ p.evictions ++ eviction_of (p.turns + 1) page p ∷ []
+  pub blocked : q.blocked ≡ blocked_if (p.modified page) page p.blocked
+  pub reads : q.reads ≡ p.reads
 
 pub evicted_there : (page : ℕ) (p : Paged) → is_listed page p.residence.order ≡ true → IsEvicted page p (evicted page p)
 unfolding evicted
-evicted_there page p h = rw h (record { residence = refl; steps = refl; turns = refl; place = refl; parts = refl; modified = refl; evictions = refl })
+evicted_there page p h = rw h (record { residence = refl; steps = refl; turns = refl; place = refl; parts = refl; modified = refl; evictions = refl; blocked = refl; reads = refl })
 
 pub evicted_away : (page : ℕ) (p : Paged) → is_listed page p.residence.order ≡ false → evicted page p ≡ p
 unfolding evicted
 evicted_away page p h = rw h refl
 
-with_evicted : (old new : Engine) (before after : Option BlockFile) (p : Paged) (page : ℕ) → is_listed page (pages old.pager).order ≡ true → modified_of new ≡ cleaned page (modified_of old) → keeping new ≡ record (keeping old) { residence = taken_out page (residence old) } → KeepsPlace old before new after → Tracks old before p → Tracks new after (evicted page p)
-with_evicted old new before after p page b marks e keeps t =
+with_evicted : (old new : Engine) (before after : Option BlockFile) (p : Paged) (page : ℕ) → is_listed page (pages old.pager).order ≡ true → modified_of new ≡ cleaned page (modified_of old) → (pages new.pager).blocked ≡ blocked_if (modified_of old page) page (pages old.pager).blocked → keeping new ≡ record (keeping old) { residence = taken_out page (residence old) } → KeepsPlace old before new after → Tracks old before p → Tracks new after (evicted page p)
+with_evicted old new before after p page b marks blocks e keeps t =
     let x = evicted_there page p (ap (λ (r : Residence). is_listed page r.order) (sym t.residence) ∙ b) in
     record {
       steps = ap (λ (k : Keeping). k.steps) e ∙ t.steps ∙ sym x.steps;
       turns = ap (λ (k : Keeping). k.turns) e ∙ t.turns ∙ sym x.turns;
       residence = ap (λ (k : Keeping). k.residence) e ∙ ap (taken_out page) t.residence ∙ sym x.residence;
       modified = marks ∙ ap (cleaned page) t.modified ∙ sym x.modified;
+      blocked =
+          blocks
+          ∙ (ap (λ (z : ℕ → Bool). blocked_if (z page) page (pages old.pager).blocked) t.modified ∙ (ap (blocked_if (p.modified page) page) t.blocked ∙ sym x.blocked));
       means = rw x.place (keeps p.place t.means);
     }
 
-tracks_same : (old new : Engine) (before after : Option BlockFile) (p : Paged) → modified_of new ≡ modified_of old → keeping new ≡ keeping old → KeepsPlace old before new after → Tracks old before p → Tracks new after p
-tracks_same old new before after p marks e keeps t = record {
+tracks_same : (old new : Engine) (before after : Option BlockFile) (p : Paged) → modified_of new ≡ modified_of old → (pages new.pager).blocked ≡ (pages old.pager).blocked → keeping new ≡ keeping old → KeepsPlace old before new after → Tracks old before p → Tracks new after p
+tracks_same old new before after p marks blocks e keeps t = record {
   steps = ap (λ (k : Keeping). k.steps) e ∙ t.steps;
   turns = ap (λ (k : Keeping). k.turns) e ∙ t.turns;
   residence = ap (λ (k : Keeping). k.residence) e ∙ t.residence;
   modified = marks ∙ t.modified;
+  blocked = blocks ∙ t.blocked;
   means = keeps p.place t.means;
 }
 
@@ -65,10 +71,10 @@ evict_gone old new page true (inr x) = (refl, x.1)
 evict_gone old new page false x = let bad : Evicted ≡ Nothing = x.0 in cc
 
 -- it was resident, and is absent now
-pub evict_done : (old new : Engine) (before after : Option BlockFile) (p : Paged) (page : ℕ) → Evicts page (is_listed page (pages old.pager).order) (keeping old) Evicted (keeping new) × KeepsPlace old before new after → modified_of new ≡ cleaned page (modified_of old) → Tracks old before p → Tracks new after (evicted page p)
-evict_done old new before after p page h marks t =
+pub evict_done : (old new : Engine) (before after : Option BlockFile) (p : Paged) (page : ℕ) → Evicts page (is_listed page (pages old.pager).order) (keeping old) Evicted (keeping new) × KeepsPlace old before new after → modified_of new ≡ cleaned page (modified_of old) → (pages new.pager).blocked ≡ blocked_if (modified_of old page) page (pages old.pager).blocked → Tracks old before p → Tracks new after (evicted page p)
+evict_done old new before after p page h marks blocks t =
     let g = evict_gone old new page (is_listed page (pages old.pager).order) h.0 in
-    with_evicted old new before after p page g.0 marks g.1 h.1 t
+    with_evicted old new before after p page g.0 marks blocks g.1 h.1 t
 
 evict_not : (old new : Engine) (page : ℕ) (b : Bool) (result : Applied) → Evicts page b (keeping old) result (keeping new) → (result ≡ Evicted → ⊥) → keeping new ≡ keeping old
 evict_not old new page true result (inl x) none = x.1
@@ -76,9 +82,9 @@ evict_not old new page true result (inr x) none = absurd (none x.0)
 evict_not old new page false result x none = x.1
 
 -- nothing was done
-pub evict_none : (old new : Engine) (before after : Option BlockFile) (p : Paged) (page : ℕ) (result : Applied) → Evicts page (is_listed page (pages old.pager).order) (keeping old) result (keeping new) × KeepsPlace old before new after → (result ≡ Evicted → ⊥) → modified_of new ≡ modified_of old → Tracks old before p → Tracks new after p
-evict_none old new before after p page result h none marks t =
-    tracks_same old new before after p marks (evict_not old new page (is_listed page (pages old.pager).order) result h.0 none) h.1 t
+pub evict_none : (old new : Engine) (before after : Option BlockFile) (p : Paged) (page : ℕ) (result : Applied) → Evicts page (is_listed page (pages old.pager).order) (keeping old) result (keeping new) × KeepsPlace old before new after → (result ≡ Evicted → ⊥) → modified_of new ≡ modified_of old → (pages new.pager).blocked ≡ (pages old.pager).blocked → Tracks old before p → Tracks new after p
+evict_none old new before after p page result h none marks blocks t =
+    tracks_same old new before after p marks blocks (evict_not old new page (is_listed page (pages old.pager).order) result h.0 none) h.1 t
 
 -- what evictions leave, whatever the memory is
 
@@ -152,11 +158,11 @@ pins_evicted pages p h =
 
 -- an attempt of the paged run
 
-pub attempted_whole : (p : Paged) (next : Flat) → (machine_at p.place).ending ≡ None → first_missing (is_resident p.residence) (touches_at p.place) ≡ None → turn p.place ≡ Completes next → attempted p ≡ record { place = At next; steps = p.steps + 1; parts = p.parts + 1; turns = p.turns + 1; residence = unpinned p.residence; modified = marked_by (is_resident p.residence) p.modified (touches_at p.place); evictions = p.evictions }
+pub attempted_whole : (p : Paged) (next : Flat) → (machine_at p.place).ending ≡ None → first_missing (is_resident p.residence) (touches_at p.place) ≡ None → turn p.place ≡ Completes next → attempted p ≡ record p { place = At next; steps = p.steps + 1; parts = p.parts + 1; turns = p.turns + 1; residence = unpinned p.residence; modified = marked_by (is_resident p.residence) p.modified (touches_at p.place) }
 unfolding attempted
 attempted_whole p next going m e = rw (going, m, e) refl
 
-pub attempted_part : (p : Paged) (next : Partway) → (machine_at p.place).ending ≡ None → first_missing (is_resident p.residence) (touches_at p.place) ≡ None → turn p.place ≡ Leaves next → attempted p ≡ record { place = Within next; steps = p.steps; parts = p.parts + 1; turns = p.turns + 1; residence = unpinned p.residence; modified = marked_by (is_resident p.residence) p.modified (touches_at p.place); evictions = p.evictions }
+pub attempted_part : (p : Paged) (next : Partway) → (machine_at p.place).ending ≡ None → first_missing (is_resident p.residence) (touches_at p.place) ≡ None → turn p.place ≡ Leaves next → attempted p ≡ record p { place = Within next; parts = p.parts + 1; turns = p.turns + 1; residence = unpinned p.residence; modified = marked_by (is_resident p.residence) p.modified (touches_at p.place) }
 unfolding attempted
 attempted_part p next going m e = rw (going, m, e) refl
 
@@ -178,6 +184,8 @@ pub record IsAdvanced (p : Paged) (count : ℕ) (here : Spot) (q : Paged) : Type
   pub steps : q.steps ≡ p.steps + count
   pub turns : q.turns ≡ p.turns + count
   pub residence : q.residence ≡ dropped count p.residence
+  pub blocked : q.blocked ≡ p.blocked
+  pub reads : q.reads ≡ p.reads
   pub going : (machine_at q.place).ending ≡ None
 
 pub dropped_order : (count : ℕ) (r : Residence) → (dropped count r).order ≡ r.order
@@ -204,6 +212,8 @@ times_advanced p zero here going a = record {
   steps = omega arith;
   turns = omega arith;
   residence = refl;
+  blocked = refl;
+  reads = refl;
   going = going;
 }
 times_advanced p (suc count) here going a =
@@ -228,6 +238,8 @@ times_advanced p (suc count) here going a =
       steps = ap (λ (z : Paged). z.steps) e ∙ omega (arith, s);
       turns = ap (λ (z : Paged). z.turns) e ∙ omega (arith, t);
       residence = ap (λ (z : Paged). z.residence) e ∙ (ap unpinned h.residence ∙ dropped_more count p.residence);
+      blocked = ap (λ (z : Paged). z.blocked) e ∙ h.blocked;
+      reads = ap (λ (z : Paged). z.reads) e ∙ h.reads;
       going = ap (λ (z : Paged). (machine_at z.place).ending) e ∙ a.5;
     }
 

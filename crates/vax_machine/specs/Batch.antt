@@ -4,6 +4,7 @@ use Rattle.vax_outside.specs.Blocks.{BlockFile}
 use Rattle.vax_flat.specs.Outcome.{first_missing, marked_by}
 use Rattle.vax_flat.specs.Parts.{Place, At, Completes, machine_at, touches_at, turn}
 use Rattle.vax_flat.specs.Step.{Flat}
+use Rattle.vax_pager.specs.Meaning.{pages}
 use Rattle.vax_machine.specs.Machine.{Goes, IsTry, Keeping, Means, keeping, modified_of, residence, tried}
 use Rattle.vax_machine.specs.Residence.{is_resident}
 use Rattle.vax_machine.specs.declared.engine.Engine.{Engine}
@@ -41,4 +42,5 @@ pub record HasTriedSeveral (most : ℕ) (old : Engine) (result : Applied) (new :
   pub few : count < most
   pub answer : IsTry result
   pub keeps : keeping new ≡ tried result (several count (keeping old))
+  pub blocked : (pages new.pager).blocked ≡ (pages old.pager).blocked
   pub goes : (file : Option BlockFile) → (place : Place) → Means old file place → GoesFar count old result new file place

@@ -1,9 +1,12 @@
--- Where a turn may call the page file.
-use Rattle.std.specs.Prelude.{ℕ, ◌≡◌, ◌⊎◌, true, Some, None, List, [], ◌∷◌}
+-- Which call of the page file a turn makes next, and what it leaves where that call fails.
+use Rattle.std.specs.Prelude.{ℕ, ◌≡◌, ◌+◌, ◌⊎◌, ◌++◌, true, Some, None, Option, List, [], ◌∷◌}
+use Rattle.vax_space.specs.declared.Area.{Area}
+use Rattle.vax_outside.specs.Blocks.{BlockFile}
 use Rattle.vax_flat.specs.Outcome.{first_missing}
 use Rattle.vax_flat.specs.Parts.{machine_at, touches_at}
-use Rattle.vax_machine.specs.Paged.{Paged}
-use Rattle.vax_machine.specs.Residence.{is_resident}
+use Rattle.vax_machine.specs.Blocks.{Moved}
+use Rattle.vax_machine.specs.Paged.{Paged, evictions_of, is_read, marked}
+use Rattle.vax_machine.specs.Residence.{is_resident, victim}
 
 -- the attempt that comes misses a page
 pub record Misses (p : Paged) : Type 0 where
@@ -19,6 +22,31 @@ pub record WritesFirst (rest : List ℕ) (p : Paged) : Type 0 where
   pub resident : is_resident p.residence page ≡ true
   pub modified : p.modified page ≡ true
 
--- where these pages are still to be made absent: the first is to be written to its block, or none is left and the attempt misses a page
-abbrev pub CallsFile : List ℕ → Paged → Type 0
-CallsFile rest p = WritesFirst rest p ⊎ ((rest ≡ []) × Misses p)
+-- an attempt has written to the page that makes room
+pub record WritesVictim (p : Paged) : Type 0 where
+  pub page : ℕ
+  pub is : victim p.residence ≡ Some page
+  pub modified : p.modified page ≡ true
+
+-- the page that makes room was written to its block, if that is due, and the page that is missed isn't there yet
+abbrev pub room_made : Paged → Paged
+room_made p = record p { evictions = p.evictions ++ evictions_of (p.turns + 2) (victim p.residence) p }
+
+-- The service of the page that the attempt misses was cut short by its first call of the file, the write of the page that makes room, or behind that
+-- by its last, the read of the page.
+abbrev pub FailsToServe : List Area → Paged → (p : Paged) → Misses p → Option BlockFile → Option BlockFile → Type 0
+FailsToServe areas b p m before after =
+    (WritesVictim (marked p) × Moved areas b p before after)
+    ⊎ ((is_read m.page p ≡ true) × Moved areas b (room_made (marked p)) before after)
+
+-- so it is, behind so many attempts of which this one is the last
+pub record ServiceFails (areas : List Area) (b p : Paged) (turns : ℕ) (before after : Option BlockFile) : Type 0 where
+  pub missed : Misses p
+  pub fails : FailsToServe areas b p missed before after
+  pub made : turns ≡ p.turns + 1
+
+-- The call of the file that comes next failed, and each before it was made: these pages were still to be made absent, and the first was to be written to its
+-- block; or none was left, and the service of the page that the attempt misses was cut short.
+abbrev pub NextCallFails : List Area → Paged → Paged → List ℕ → ℕ → Option BlockFile → Option BlockFile → Type 0
+NextCallFails areas b p rest turns before after =
+    (WritesFirst rest p × Moved areas b p before after × (turns ≡ p.turns)) ⊎ ((rest ≡ []) × ServiceFails areas b p turns before after)

@@ -162,7 +162,7 @@ Applies (event.Flush page) old before result new after =
 -- what a service of this page makes of the pager and of its file: at most one write, of the page that makes room, where that is modified, and then at
 -- most one read
 abbrev pub ServesFrom : ℕ → Applied → Paging → Option BlockFile → Paging → Option BlockFile → Type 0
-ServesFrom page Failed s before t after = IsLeft (source page s) s before t after
+ServesFrom page Failed s before t after = IsLeft (source page s) page s before t after
 ServesFrom page (Served v) s before t after = (t ≡ came (source page s) page (t.frame page) s) × (after ≡ file_after (source page s) page s before)
 ServesFrom page (Stepped sent) s before t after = ⊥
 ServesFrom page Parted s before t after = ⊥

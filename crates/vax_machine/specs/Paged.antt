@@ -9,6 +9,7 @@ use Rattle.vax_flat.specs.Outcome.{first_missing, marked_by}
 use Rattle.vax_flat.specs.Parts.{Place, At, Within, Turn, Completes, Leaves, machine_at, touches_at, turn}
 use Rattle.vax_flat.specs.Step.{Flat}
 use Rattle.vax_pager.specs.Listing.{is_listed}
+use Rattle.vax_pager.specs.Steps.{at}
 use Rattle.vax_sched.specs.declared.rule.Target.{Target}
 use Rattle.vax_sched.specs.declared.rule.Target.TheVariants.{Page, All}
 use Rattle.vax_machine.specs.Residence.{Residence, is_resident, unpinned, taken_out, victim, served}
@@ -20,7 +21,7 @@ pub record Eviction : Type 0 where
   pub wrote : Option (List ℕ)
 
 -- where the flat machine is, the steps and the parts that were completed, the attempts that were made, which pages are resident and which of these
--- attempts have written to, and the evictions
+-- attempts have written to, the evictions, which pages have a block, and how many blocks were read
 pub record Paged : Type 0 where
   pub place : Place
   pub steps : ℕ
@@ -29,6 +30,8 @@ pub record Paged : Type 0 where
   pub residence : Residence
   pub modified : ℕ → Bool
   pub evictions : List Eviction
+  pub blocked : ℕ → Bool
+  pub reads : ℕ
 
 -- the pages that a target names: one, or all that an area has, in ascending order
 abbrev pub named : List Area → Target → List ℕ
@@ -55,11 +58,21 @@ eviction_of turn page p = record { turn = turn; page = page; wrote = some_if (p.
 abbrev pub cleaned : ℕ → (ℕ → Bool) → ℕ → Bool
 cleaned page modified other = if other == page then false else modified other
 
+-- and has a block, if it was
+abbrev pub blocked_if : Bool → ℕ → (ℕ → Bool) → ℕ → Bool
+blocked_if true page blocked = at page true blocked
+blocked_if false page blocked = blocked
+
 -- a page is made absent, if it is resident
 unfoldable pub evicted : ℕ → Paged → Paged
 evicted page p =
     if is_listed page p.residence.order
-    then record p { residence = taken_out page p.residence; modified = cleaned page p.modified; evictions = p.evictions ++ eviction_of (p.turns + 1) page p ∷ [] }
+    then record p {
+      residence = taken_out page p.residence;
+      modified = cleaned page p.modified;
+      evictions = p.evictions ++ eviction_of (p.turns + 1) page p ∷ [];
+      blocked = blocked_if (p.modified page) page p.blocked;
+    }
     else p
 
 unfoldable pub all_evicted : List ℕ → Paged → Paged
@@ -75,6 +88,18 @@ abbrev pub cleaned_of : Option ℕ → (ℕ → Bool) → ℕ → Bool
 cleaned_of None modified = modified
 cleaned_of (Some page) modified = cleaned page modified
 
+abbrev pub blocked_of : Option ℕ → (ℕ → Bool) → (ℕ → Bool) → ℕ → Bool
+blocked_of None modified blocked = blocked
+blocked_of (Some page) modified blocked = blocked_if (modified page) page blocked
+
+-- a page that comes in is read, where it has a block and its own frame wasn't kept
+abbrev pub is_read : ℕ → Paged → Bool
+is_read page p = if is_listed page p.residence.kept then false else p.blocked page
+
+abbrev pub one_if : Bool → ℕ
+one_if true = 1
+one_if false = 0
+
 -- the pages are modified to which the attempt that comes writes, up to the first page that it misses
 abbrev pub marked : Paged → Paged
 marked p = record p { modified = marked_by (is_resident p.residence) p.modified (touches_at p.place) }
@@ -89,20 +114,20 @@ steps_after (Leaves p) steps = steps
 
 -- an attempt: a part is completed and all pins are dropped, or the first page that is missed is served
 abbrev pub attempted_by : Option ℕ → Paged → Paged
-attempted_by None p = record {
+attempted_by None p = record p {
   place = place_after (turn p.place);
   steps = steps_after (turn p.place) p.steps;
   parts = p.parts + 1;
   turns = p.turns + 1;
   residence = unpinned p.residence;
-  modified = p.modified;
-  evictions = p.evictions;
 }
 attempted_by (Some page) p = record p {
   turns = p.turns + 1;
   residence = served page p.residence;
   modified = cleaned_of (victim p.residence) p.modified;
   evictions = p.evictions ++ evictions_of (p.turns + 2) (victim p.residence) p;
+  blocked = blocked_of (victim p.residence) p.modified p.blocked;
+  reads = p.reads + one_if (is_read page p);
 }
 
 -- a machine that ended makes no attempt
@@ -145,7 +170,9 @@ fresh frames m = record {
   steps = 0;
   parts = 0;
   turns = 0;
-  residence = record { frames = frames; order = []; pinned = []; spoiled = 0 };
+  residence = record { frames = frames; order = []; pinned = []; kept = []; spoiled = 0 };
   modified = λ page. false;
   evictions = [];
+  blocked = λ page. false;
+  reads = 0;
 }

@@ -1,5 +1,5 @@
--- Which pages are resident and pinned, in order of service, and what events make of it.
-use Rattle.std.specs.Prelude.{ℕ, ◌==◌, Bool, if◌then◌else◌, nat_lt, Option, Some, None, List, [], ◌∷◌, ◌++◌, length}
+-- Which pages are resident and pinned, in order of service, which others keep a frame, and what events make of it.
+use Rattle.std.specs.Prelude.{ℕ, ◌+◌, ◌==◌, Bool, if◌then◌else◌, nat_lt, Option, Some, None, List, [], ◌∷◌, ◌++◌, length}
 use Rattle.vax_outside.specs.Faults.{raised}
 use Rattle.vax_pager.specs.Listing.{is_listed, leave_out, first_outside}
 use Rattle.vax_pager.specs.Paging.{Paging}
@@ -8,10 +8,11 @@ pub record Residence : Type 0 where
   pub frames : ℕ  -- so many pages may be resident
   pub order : List ℕ  -- the resident pages in order of service
   pub pinned : List ℕ
+  pub kept : List ℕ  -- the absent pages whose frames no other page has had, in order of eviction
   pub spoiled : ℕ  -- so many pinned pages were evicted
 
 abbrev pub residence_of : Paging → Residence
-residence_of s = record { frames = s.frames; order = s.order; pinned = s.pinned; spoiled = s.numbers.spoiled }
+residence_of s = record { frames = s.frames; order = s.order; pinned = s.pinned; kept = s.kept; spoiled = s.numbers.spoiled }
 
 abbrev pub is_resident : Residence → ℕ → Bool
 is_resident r page = is_listed page r.order
@@ -32,7 +33,12 @@ eased r = if length r.pinned == most_pins then unpinned r else r
 unfoldable pub taken_out : ℕ → Residence → Residence
 taken_out page r =
     if is_listed page r.order
-    then record r { order = leave_out page r.order; pinned = leave_out page r.pinned; spoiled = if is_listed page r.pinned then raised r.spoiled else r.spoiled }
+    then record r {
+      order = leave_out page r.order;
+      pinned = leave_out page r.pinned;
+      kept = r.kept ++ page ∷ [];
+      spoiled = if is_listed page r.pinned then raised r.spoiled else r.spoiled;
+    }
     else r
 
 -- the page that makes room: where as many are resident as may be, the first of them that isn't pinned
@@ -43,8 +49,18 @@ abbrev pub without_victim : Option ℕ → Residence → Residence
 without_victim None r = r
 without_victim (Some page) r = record r { order = leave_out page r.order }
 
+abbrev pub without_first : List ℕ → List ℕ
+without_first [] = []
+without_first (page ∷ pages) = leave_out page (page ∷ pages)
+
+-- which pages keep a frame behind the service of this one: it has its own back, or else, where no frame is left, the first gives its up
+unfoldable pub kept_after : ℕ → Residence → List ℕ
+kept_after page r =
+    if is_listed page r.kept then leave_out page r.kept
+    else (if nat_lt (length r.order + length r.kept) r.frames then r.kept else without_first r.kept)
+
 -- a service
 unfoldable pub served : ℕ → Residence → Residence
 served page r =
     let room = without_victim (victim r) r in
-    record room { order = room.order ++ page ∷ []; pinned = room.pinned ++ page ∷ [] }
+    record room { order = room.order ++ page ∷ []; pinned = room.pinned ++ page ∷ []; kept = kept_after page r }

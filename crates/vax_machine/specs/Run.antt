@@ -7,8 +7,8 @@ use Rattle.vax_flat.specs.Parts.{Place}
 use Rattle.vax_pager.specs.Meaning.{pages}
 use Rattle.vax_sched.specs.Due.{due}
 use Rattle.vax_sched.specs.declared.rule.Rule.{Rule}
-use Rattle.vax_machine.specs.Blocks.{Moved, MovedFirst, MovedUpTo}
-use Rattle.vax_machine.specs.Calling.{CallsFile}
+use Rattle.vax_machine.specs.Blocks.{Moved, MovedFirst}
+use Rattle.vax_machine.specs.Calling.{NextCallFails}
 use Rattle.vax_machine.specs.Machine.{Means, modified_of, residence}
 use Rattle.vax_machine.specs.Paged.{Paged, Why, ByEnding, BySteps, ByTurns, all_evicted, all_named, paged, stops}
 use Rattle.vax_machine.specs.Touched.{PinsTouched}
@@ -20,7 +20,7 @@ use Rattle.vax_machine.specs.declared.event.RunEnd.TheVariants.{Ended, Steps, Tu
 
 -- where the turns of a machine that stands for this place begin
 abbrev pub begun : Engine → Place → Paged
-begun m place = record { place = place; steps = m.steps; parts = 0; turns = m.turns; residence = residence m; modified = modified_of m; evictions = [] }
+begun m place = record { place = place; steps = m.steps; parts = 0; turns = m.turns; residence = residence m; modified = modified_of m; evictions = []; blocked = (pages m.pager).blocked; reads = 0 }
 
 -- the machine, with what the file tells, is where the paged run is
 pub record Tracks (m : Engine) (file : Option BlockFile) (p : Paged) : Type 0 where
@@ -28,6 +28,7 @@ pub record Tracks (m : Engine) (file : Option BlockFile) (p : Paged) : Type 0 wh
   pub turns : m.turns ≡ p.turns
   pub residence : residence m ≡ p.residence
   pub modified : modified_of m ≡ p.modified
+  pub blocked : (pages m.pager).blocked ≡ p.blocked
   pub means : Means m file p.place
 
 -- Few turns were made in vain since the beginning: attempts are at most 41 for each part that was completed, one for each page that is pinned, of which
@@ -62,8 +63,8 @@ pub record IsWhole (limits : Limits) (areas : List Area) (rules : List Rule) (b 
   pub moved : Moved areas b (paged areas (due rules) count b) before file
   pub few : FewTurns b (paged areas (due rules) count b)
 
--- A call of the page file failed: the place is that after so many whole turns, and the first of what was due then was made absent. The next of these is
--- to be written, or all were made absent and the attempt misses a page.
+-- A call of the page file failed: the place is that after so many whole turns, and the first of what was due then was made absent. The call is the next
+-- that this turn makes, and each before it was made.
 pub record IsCut (limits : Limits) (areas : List Area) (rules : List Rule) (b : Paged) (before : Option BlockFile) (m : Engine) (file : Option BlockFile) (old new : Option Channels) : Type 0 where
   pub count : ℕ
   pub goes : Runs limits areas rules b (suc count)
@@ -73,10 +74,8 @@ pub record IsCut (limits : Limits) (areas : List Area) (rules : List Rule) (b : 
   pub residence : residence m ≡ (all_evicted front (paged areas (due rules) count b)).residence
   pub means : Means m file (paged areas (due rules) count b).place
   pub steps : m.steps ≡ (paged areas (due rules) count b).steps
-  pub calls : CallsFile rest (all_evicted front (paged areas (due rules) count b))
-  pub made : (m.turns ≡ (paged areas (due rules) count b).turns) ⊎ ((m.turns ≡ (paged areas (due rules) count b).turns + 1) × (rest ≡ []))
+  pub fails : NextCallFails areas b (all_evicted front (paged areas (due rules) count b)) rest m.turns before file
   pub wrote : Wrote (origin limits areas b before old) (all_evicted front (paged areas (due rules) count b)) new
-  pub moved : MovedUpTo areas b (all_evicted front (paged areas (due rules) count b)) rest before file
   pub few : (all_evicted front (paged areas (due rules) count b)).residence.spoiled < 2 ^ 64 - 1 →
       m.turns + 41 * b.parts + length b.residence.pinned + b.residence.spoiled
       ≤ 41 * (paged areas (due rules) count b).parts + 40 + (all_evicted front (paged areas (due rules) count b)).residence.spoiled + b.turns

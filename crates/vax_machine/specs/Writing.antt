@@ -5,6 +5,7 @@ use Rattle.vax_space.specs.declared.Area.{Area}
 use Rattle.vax_outside.specs.Blocks.{BlockFile}
 use Rattle.vax_outside.specs.Channels.{Channels, Grew, GrewByPrefix, append, nothing, only}
 use Rattle.vax_outside.specs.Faults.{CountsFailure}
+use Rattle.vax_outside.specs.declared.faults.Failures.{Failures}
 use Rattle.vax_outside.specs.declared.traits.Chan.TheVariants.{Out, Record}
 use Rattle.vax_flat.specs.Parts.{machine_at}
 use Rattle.vax_sched.specs.Printed.{at_line}
@@ -89,7 +90,7 @@ is_write_fault (Err Page) = false
 is_write_fault (Err Write) = true
 
 -- what turns do to the counts of failures of the page file and of the sink
-pub record Counts (result : Result (Unit {0}) Fault) (file_before file_now sink_before sink_now : ℕ) : Type 0 where
+pub record Counts (result : Result (Unit {0}) Fault) (file_before file_now sink_before sink_now : Failures) : Type 0 where
   pub file : CountsFailure (is_page_fault result) file_before file_now
   pub sink : CountsFailure (is_write_fault result) sink_before sink_now
 

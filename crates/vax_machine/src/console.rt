@@ -159,6 +159,7 @@ impl Engine {
         ensures cpu { self.new.cpu ≡ cpu_with_register n value self.old.cpu }
         ensures keeps { keeping self.new ≡ let_go (keeping self.old) }
         ensures marks { modified_of self.new ≡ modified_of self.old }
+        ensures blocks { (pages self.new.pager).blocked ≡ (pages self.old.pager).blocked }
         ensures deposits { DepositsRegister n value self.old self.new }
     {
         self.pager.settle();

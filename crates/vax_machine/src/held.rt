@@ -1,6 +1,7 @@
 //! What a run has to write, held back until there is much of it.
 ghost use Rattle.std.specs.Prelude.{◌≡◌, ℕ, [], ◌+◌, ◌<◌, ◌≤◌, ◌^◌, length, OnOk, Some, None, if◌then◌else◌};
 ghost use Rattle.vax_outside.specs.Channels.{nothing, only};
+ghost use Rattle.vax_outside.specs.declared.faults.Failures.{Failures};
 ghost use Rattle.vax_outside.specs.declared.traits.Chan.TheVariants.{Out, Record};
 ghost use Rattle.vax_machine.specs.Writing.{Counts, Passed, Puts, StillWrites};
 
@@ -28,7 +29,7 @@ pub struct Held {
 /// Writes all the bytes to a channel.
 fn put<K: Sink>(sink: &mut K, chan: Chan, bytes: &[u8]) -> Result<(), Fault>
     ensures puts { Puts result (only chan bytes.now) (K.contents sink.old) (K.contents sink.new) }
-    ensures counts { (file : ℕ) → Counts result file file (K.faults sink.old) (K.faults sink.new) }
+    ensures counts { (file : Failures) → Counts result file file (K.faults sink.old) (K.faults sink.new) }
 {
     match put_all(sink, chan, bytes) {
         Ok(()) => Ok(()),
@@ -41,7 +42,7 @@ fn write_bytes<K: Sink>(bytes: &mut ArrayVec<u8, 512>, sink: &mut K) -> Result<(
     ensures none { OnOk result (bytes.new.items ≡ []) }
     ensures passes { Passed result (only Out bytes.old.items) nothing (only Out bytes.new.items)
         (K.contents sink.old) (K.contents sink.new) }
-    ensures counts { (file : ℕ) → Counts result file file (K.faults sink.old) (K.faults sink.new) }
+    ensures counts { (file : Failures) → Counts result file file (K.faults sink.old) (K.faults sink.new) }
 {
     put(sink, Chan::Out, bytes)?;
     bytes.clear();
@@ -53,7 +54,7 @@ fn make_space<K: Sink>(bytes: &mut ArrayVec<u8, 512>, sink: &mut K) -> Result<()
     ensures space { OnOk result (length bytes.new.items < 512) }
     ensures passes { Passed result (only Out bytes.old.items) nothing (only Out bytes.new.items)
         (K.contents sink.old) (K.contents sink.new) }
-    ensures counts { (file : ℕ) → Counts result file file (K.faults sink.old) (K.faults sink.new) }
+    ensures counts { (file : Failures) → Counts result file file (K.faults sink.old) (K.faults sink.new) }
 {
     if bytes.is_full() {
         return write_bytes(bytes, sink);
@@ -66,7 +67,7 @@ fn make_room<K: Sink>(lines: &mut Text, sink: &mut K) -> Result<(), Fault>
     ensures room { OnOk result (length lines.new + 33 ≤ 512) }
     ensures passes { Passed result (only Record lines.old) nothing (only Record lines.new)
         (K.contents sink.old) (K.contents sink.new) }
-    ensures counts { (file : ℕ) → Counts result file file (K.faults sink.old) (K.faults sink.new) }
+    ensures counts { (file : Failures) → Counts result file file (K.faults sink.old) (K.faults sink.new) }
 {
     if lines.as_slice().len() > MOST_LINES {
         put(sink, Chan::Record, lines.as_slice())?;
@@ -101,7 +102,7 @@ impl Held {
         ensures passes { Passed result (held_in self.old) nothing (held_in self.new)
             (K.contents sink.old) (K.contents sink.new) }
         ensures still { StillWrites self.old self.new (K.contents sink.old) (K.contents sink.new) }
-        ensures counts { (file : ℕ)
+        ensures counts { (file : Failures)
             → Counts result file file (K.faults sink.old) (K.faults sink.new) }
     {
         if !at_once && steps < self.due {
@@ -118,7 +119,7 @@ impl Held {
         ensures passes { Passed result (held_in self.old) (sent_by sent) (held_in self.new)
             (K.contents sink.old) (K.contents sink.new) }
         ensures still { StillWrites self.old self.new (K.contents sink.old) (K.contents sink.new) }
-        ensures counts { (file : ℕ)
+        ensures counts { (file : Failures)
             → Counts result file file (K.faults sink.old) (K.faults sink.new) }
     {
         self.hold_sent(sent, sink)?;
@@ -130,7 +131,7 @@ impl Held {
         ensures passes { Passed result (held_in self.old) (sent_by sent) (held_in self.new)
             (K.contents sink.old) (K.contents sink.new) }
         ensures still { StillWrites self.old self.new (K.contents sink.old) (K.contents sink.new) }
-        ensures counts { (file : ℕ)
+        ensures counts { (file : Failures)
             → Counts result file file (K.faults sink.old) (K.faults sink.new) }
     {
         match sent {
@@ -144,7 +145,7 @@ impl Held {
         ensures passes { Passed result (held_in self.old) (sent_by (Some byte)) (held_in self.new)
             (K.contents sink.old) (K.contents sink.new) }
         ensures still { StillWrites self.old self.new (K.contents sink.old) (K.contents sink.new) }
-        ensures counts { (file : ℕ)
+        ensures counts { (file : Failures)
             → Counts result file file (K.faults sink.old) (K.faults sink.new) }
     {
         make_space(&mut self.bytes, sink)?;
@@ -160,7 +161,7 @@ impl Held {
             (listed_by self.old.listed turn (Some page)) (held_in self.new)
             (K.contents sink.old) (K.contents sink.new) }
         ensures still { StillWrites self.old self.new (K.contents sink.old) (K.contents sink.new) }
-        ensures counts { (file : ℕ)
+        ensures counts { (file : Failures)
             → Counts result file file (K.faults sink.old) (K.faults sink.new) }
     {
         if self.listed {
@@ -174,7 +175,7 @@ impl Held {
     fn write_lines<K: Sink>(&self, sink: &mut K) -> Result<(), Fault>
         ensures puts { Puts result (only Record (if self.now.listed then self.now.lines else []))
             (K.contents sink.old) (K.contents sink.new) }
-        ensures counts { (file : ℕ)
+        ensures counts { (file : Failures)
             → Counts result file file (K.faults sink.old) (K.faults sink.new) }
     {
         if self.listed {
@@ -188,7 +189,7 @@ impl Held {
     pub fn write<K: Sink>(&self, sink: &mut K) -> Result<(), Fault>
         ensures puts { Puts result (held_in self.now) (K.contents sink.old) (K.contents sink.new) }
         ensures still { StillWrites self.now self.now (K.contents sink.old) (K.contents sink.new) }
-        ensures counts { (file : ℕ)
+        ensures counts { (file : Failures)
             → Counts result file file (K.faults sink.old) (K.faults sink.new) }
     {
         put(sink, Chan::Out, &self.bytes)?;

@@ -130,13 +130,14 @@ impl Machine {
             → IsBetween (engine self.new) }
         ensures areas { StopsBetween result
             → (keeping (engine self.new)).areas ≡ (keeping (engine self.old)).areas }
-        ensures later { F.faults file.old ≤ F.faults file.new }
-        ensures sunk { K.faults sink.old ≤ K.faults sink.new }
+        ensures later { (F.faults file.old).count ≤ (F.faults file.new).count }
+        ensures sunk { (K.faults sink.old).count ≤ (K.faults sink.new).count }
         ensures fault { result ≡ RunEnd.PageFault → Rose (F.faults file.old) (F.faults file.new) }
         ensures cause { result ≡ RunEnd.WriteFault → Rose (K.faults sink.old) (K.faults sink.new) }
         ensures unfailed { result ≢ RunEnd.PageFault → result ≢ RunEnd.WriteFault
-            → F.faults file.new ≡ F.faults file.old }
-        ensures written { result ≢ RunEnd.WriteFault → K.faults sink.new ≡ K.faults sink.old }
+            → (F.faults file.new).count ≡ (F.faults file.old).count }
+        ensures written { result ≢ RunEnd.WriteFault
+            → (K.faults sink.new).count ≡ (K.faults sink.old).count }
         ensures only { OnlyWrote limits.now.listed (K.contents sink.old) (K.contents sink.new) }
     {
         self.engine
@@ -287,6 +288,7 @@ impl Machine {
         ensures cpu { (engine self.new).cpu ≡ cpu_with_register n value (engine self.old).cpu }
         ensures keeps { keeping (engine self.new) ≡ let_go (keeping (engine self.old)) }
         ensures marks { modified_of (engine self.new) ≡ modified_of (engine self.old) }
+        ensures blocks { (memory_of self.new).blocked ≡ (memory_of self.old).blocked }
         ensures deposits { DepositsRegister n value (engine self.old) (engine self.new) }
     {
         self.engine.set_reg(n, value);

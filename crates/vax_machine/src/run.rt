@@ -1,6 +1,7 @@
 //! Runs of a machine.
 ghost use Rattle.std.specs.Prelude.{◌≡◌, ◌≢◌, ℕ, ◌+◌, ◌-◌, ◌<◌, ◌≤◌, ◌^◌, None, Some, [], ◌∷◌, length, take, OnOk, Option, IfSome, is_some, true};
 ghost use Rattle.vax_outside.specs.Blocks.{BlockFile};
+ghost use Rattle.vax_outside.specs.declared.faults.Failures.{Failures};
 ghost use Rattle.vax_outside.specs.Faults.{Rose};
 ghost use Rattle.vax_machine.specs.Turn.{Finishes};
 ghost use Rattle.vax_machine.specs.Writing.{OnlyWrote, held_in};
@@ -16,8 +17,9 @@ fn finish<K: Sink>(held: &Held, end: RunEnd, sink: &mut K) -> RunEnd
     ensures done { Finishes end result (held_in held.now) (K.contents sink.old)
         (K.contents sink.new) (Rose (K.faults sink.old) (K.faults sink.new)) }
     ensures only { OnlyWrote held.now.listed (K.contents sink.old) (K.contents sink.new) }
-    ensures later { K.faults sink.old ≤ K.faults sink.new }
-    ensures quiet { result ≢ RunEnd.WriteFault → K.faults sink.new ≡ K.faults sink.old }
+    ensures later { (K.faults sink.old).count ≤ (K.faults sink.new).count }
+    ensures quiet { result ≢ RunEnd.WriteFault
+        → (K.faults sink.new).count ≡ (K.faults sink.old).count }
 {
     match held.write(sink) {
         Ok(()) => end,
@@ -53,7 +55,7 @@ impl Engine {
             (listed_by held.old.listed (self.now.turns + 1) evicted) (held_in held.new)
             (K.contents sink.old) (K.contents sink.new) }
         ensures writes { StillWrites held.old held.new (K.contents sink.old) (K.contents sink.new) }
-        ensures counts { (file : ℕ)
+        ensures counts { (file : Failures)
             → Counts result file file (K.faults sink.old) (K.faults sink.new) }
     {
         self.list_one(evicted, held, sink)?;
@@ -74,7 +76,7 @@ impl Engine {
             (listed_by held.old.listed (self.now.turns + 1) evicted) (held_in held.new)
             (K.contents sink.old) (K.contents sink.new) }
         ensures writes { StillWrites held.old held.new (K.contents sink.old) (K.contents sink.new) }
-        ensures counts { (file : ℕ)
+        ensures counts { (file : Failures)
             → Counts result file file (K.faults sink.old) (K.faults sink.new) }
     {
         match evicted {
@@ -387,13 +389,14 @@ impl Engine {
         ensures between { StopsBetween result → IsBetween self.old → IsBetween self.new }
         ensures areas { StopsBetween result
             → (keeping self.new).areas ≡ (keeping self.old).areas }
-        ensures later { F.faults file.old ≤ F.faults file.new }
-        ensures sunk { K.faults sink.old ≤ K.faults sink.new }
+        ensures later { (F.faults file.old).count ≤ (F.faults file.new).count }
+        ensures sunk { (K.faults sink.old).count ≤ (K.faults sink.new).count }
         ensures fault { result ≡ RunEnd.PageFault → Rose (F.faults file.old) (F.faults file.new) }
         ensures cause { result ≡ RunEnd.WriteFault → Rose (K.faults sink.old) (K.faults sink.new) }
         ensures unfailed { result ≢ RunEnd.PageFault → result ≢ RunEnd.WriteFault
-            → F.faults file.new ≡ F.faults file.old }
-        ensures written { result ≢ RunEnd.WriteFault → K.faults sink.new ≡ K.faults sink.old }
+            → (F.faults file.new).count ≡ (F.faults file.old).count }
+        ensures written { result ≢ RunEnd.WriteFault
+            → (K.faults sink.new).count ≡ (K.faults sink.old).count }
         ensures only { OnlyWrote limits.now.listed (K.contents sink.old) (K.contents sink.new) }
     {
         let mut held = Held::new(limits.listed);

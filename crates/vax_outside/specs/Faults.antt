@@ -1,17 +1,23 @@
--- Counts that never fall.
-use Rattle.std.specs.Prelude.{ℕ, Bool, ◌≡◌, ◌+◌, ◌-◌, ◌^◌, ◌≤◌, min}
+-- What an object tells of its calls that failed.
+use Rattle.std.specs.Prelude.{ℕ, Bool, true, false, ◌≡◌, ◌+◌, ◌-◌, ◌^◌, ◌≤◌, min}
 use Rattle.std.specs.Bool.{OnTrue, OnFalse}
+use Rattle.vax_outside.specs.declared.faults.Failures.{Failures}
 
 -- one more, or the last value of 64 bits
 abbrev pub raised : ℕ → ℕ
 raised count = min (count + 1) (2 ^ 64 - 1)
 
--- the count has risen, or stands at its last value
-abbrev pub Rose : ℕ → ℕ → Type 0
-Rose before now = raised before ≤ now
+-- before the first call
+abbrev pub no_failures : Failures
+no_failures = record { count = 0; last = false }
 
--- what a call does to a count of failures: it never falls, rises where the call failed, and stays where it didn't
-pub record CountsFailure (failed : Bool) (before after : ℕ) : Type 0 where
-  pub later : before ≤ after
+-- one call more failed, and no call was made behind it
+pub record Rose (before now : Failures) : Type 0 where
+  pub count : now.count ≡ raised before.count
+  pub last : now.last ≡ true
+
+-- What calls do to this: the count never falls. Where one of them failed it was one, and the last of them; where none did the count stays.
+pub record CountsFailure (failed : Bool) (before after : Failures) : Type 0 where
+  pub later : before.count ≤ after.count
   pub cause : OnTrue failed (Rose before after)
-  pub quiet : OnFalse failed (after ≡ before)
+  pub quiet : OnFalse failed (after.count ≡ before.count)

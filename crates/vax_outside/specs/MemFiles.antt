@@ -5,6 +5,7 @@ use Rattle.vax_outside.specs.Directory.{Directory, directory}
 use Rattle.vax_outside.specs.Fails.{names_read}
 use Rattle.vax_outside.specs.Faults.{raised}
 use Rattle.vax_outside.specs.declared.fails.Fail.{Fail}
+use Rattle.vax_outside.specs.declared.faults.Failures.{Failures}
 use Rattle.vax_outside.specs.declared.mem_files.MemFiles.{MemFiles}
 
 abbrev pub directory_of : MemFiles → Directory
@@ -18,8 +19,8 @@ fails_of m = m.fails.items
 abbrev pub calls_of : MemFiles → ℕ
 calls_of m = m.calls
 
--- the number of calls that failed
-abbrev pub faults_of : MemFiles → ℕ
+-- the calls that failed
+abbrev pub faults_of : MemFiles → Failures
 faults_of m = m.faults
 
 -- the next call is to fail

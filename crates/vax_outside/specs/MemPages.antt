@@ -5,6 +5,7 @@ use Rattle.vax_outside.specs.Blocks.{BlockFile, numbered}
 use Rattle.vax_outside.specs.Fails.{names_read, names_write}
 use Rattle.vax_outside.specs.Faults.{raised}
 use Rattle.vax_outside.specs.declared.fails.Fail.{Fail}
+use Rattle.vax_outside.specs.declared.faults.Failures.{Failures}
 use Rattle.vax_outside.specs.declared.mem_pages.MemPages.{MemPages}
 
 -- the number of blocks, the room in the list of writes, and the calls that are to fail
@@ -34,8 +35,8 @@ read_more calls = record calls { all = raised calls.all; reads = raised calls.re
 abbrev pub write_more : Calls → Calls
 write_more calls = record calls { all = raised calls.all; writes = raised calls.writes }
 
--- the number of calls that failed
-abbrev pub faults_of : MemPages → ℕ
+-- the calls that failed
+abbrev pub faults_of : MemPages → Failures
 faults_of m = m.faults
 
 -- a read of block n is to fail

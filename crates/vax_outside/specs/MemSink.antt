@@ -5,6 +5,7 @@ use Rattle.vax_outside.specs.Channels.{Channels, bytes_on}
 use Rattle.vax_outside.specs.Fails.{names_write}
 use Rattle.vax_outside.specs.Faults.{raised}
 use Rattle.vax_outside.specs.declared.fails.Fail.{Fail}
+use Rattle.vax_outside.specs.declared.faults.Failures.{Failures}
 use Rattle.vax_outside.specs.declared.traits.Chan.{Chan}
 use Rattle.vax_outside.specs.declared.traits.Chan.TheVariants.{Out, Report, Record}
 use Rattle.vax_outside.specs.declared.mem_sink.MemSink.{MemSink}
@@ -36,8 +37,8 @@ channels_of m = record { out = m.out.bytes.items; report = m.report.bytes.items;
 abbrev pub calls_of : MemSink → ℕ
 calls_of m = m.calls
 
--- the number of calls that failed
-abbrev pub faults_of : MemSink → ℕ
+-- the calls that failed
+abbrev pub faults_of : MemSink → Failures
 faults_of m = m.faults
 
 -- the room that is left in a channel

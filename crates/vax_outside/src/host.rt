@@ -3,8 +3,10 @@
 //! Nothing says that the system does what it is asked: this is the trusted edge. A clause on what an object holds, or
 //! on the files that there are, says nothing of these.
 ghost use Rattle.std.specs.Prelude.{◌≡◌, ◌≤◌, IfOk, None, length};
+ghost use Rattle.vax_outside.specs.Directory.{is_failed};
+ghost use Rattle.vax_outside.specs.Faults.{no_failures};
 
-use crate::faults::raised;
+use crate::faults::Failures;
 use crate::{Chan, Failed, Files, FilesFault, PageFile, Sink};
 use std::alloc::Global;
 use std::fs::File;
@@ -55,15 +57,15 @@ fn make_anew<R: rt::Files>(rt: &R, name: &str) -> Option<R::File> {
 #[derive(Drop)]
 pub struct HostFiles<R> {
     rt: R,
-    faults: u64,
+    faults: Failures,
 }
 
 impl<R: rt::Files> HostFiles<R> {
     /// The files that `rt` reaches.
     pub fn new(rt: R) -> HostFiles<R>
-        ensures { result.faults ≡ 0 }
+        ensures { result.faults ≡ no_failures }
     {
-        HostFiles { rt, faults: 0 }
+        HostFiles { rt, faults: Failures::none() }
     }
 
     fn load(&self, alloc: Global, name: &str, limit: u32) -> Result<Vec<u8>, FilesFault>
@@ -83,6 +85,13 @@ impl<R: rt::Files> HostFiles<R> {
     }
 }
 
+/// Whether a read failed.
+fn is_failed(answer: &Result<Vec<u8>, FilesFault>) -> bool
+    ensures { result ≡ is_failed answer.now }
+{
+    matches!(answer, Err(FilesFault::Failed))
+}
+
 /// Want of memory, or a failure.
 fn fault_of(kind: ErrorKind) -> FilesFault {
     match kind {
@@ -98,9 +107,7 @@ impl<R: rt::Files> Files for HostFiles<R> {
 
     fn read(&mut self, alloc: Global, name: &str, limit: u32) -> Result<Vec<u8>, FilesFault> {
         let answer = self.load(alloc, name, limit);
-        if let Err(FilesFault::Failed) = answer {
-            self.faults = raised(self.faults);
-        }
+        self.faults.note(is_failed(&answer));
         answer
     }
 }
@@ -113,20 +120,20 @@ pub struct HostSink<O, E, R: rt::Files> {
     report: E,
     rt: R,
     record_file: Option<R::File>,
-    faults: u64,
+    faults: Failures,
 }
 
 impl<O: Print, E: Print, R: rt::Files> HostSink<O, E, R> {
     /// Standard output, standard error, and the files that `rt` reaches.
     pub fn new(out: O, report: E, rt: R) -> HostSink<O, E, R>
-        ensures { result.faults ≡ 0 }
+        ensures { result.faults ≡ no_failures }
     {
         HostSink {
             out,
             report,
             rt,
             record_file: None,
-            faults: 0,
+            faults: Failures::none(),
         }
     }
 
@@ -155,9 +162,12 @@ impl<O: Print, E: Print, R: rt::Files> Sink for HostSink<O, E, R> {
             Chan::Record => self.write_record(bytes),
         };
         match count {
-            Some(n) if 0 < n && n <= bytes.len() => Ok(n),
+            Some(n) if 0 < n && n <= bytes.len() => {
+                self.faults.note(false);
+                Ok(n)
+            }
             _ => {
-                self.faults = raised(self.faults);
+                self.faults.note(true);
                 Err(Failed)
             }
         }
@@ -169,7 +179,7 @@ impl<O: Print, E: Print, R: rt::Files> Sink for HostSink<O, E, R> {
 pub struct HostPages<R> {
     rt: R,
     file: Option<File>,
-    faults: u64,
+    faults: Failures,
 }
 
 /// Where a block begins in the file.
@@ -180,12 +190,12 @@ fn offset(n: u32) -> u64 {
 impl<R: rt::Files<File = File>> HostPages<R> {
     /// The page file among the files that `rt` reaches.
     pub fn new(rt: R) -> HostPages<R>
-        ensures { result.faults ≡ 0 }
+        ensures { result.faults ≡ no_failures }
     {
         HostPages {
             rt,
             file: None,
-            faults: 0,
+            faults: Failures::none(),
         }
     }
 
@@ -213,9 +223,10 @@ impl<R: rt::Files<File = File>> PageFile for HostPages<R> {
         };
         if done {
             *into = block;
+            self.faults.note(false);
             return Ok(());
         }
-        self.faults = raised(self.faults);
+        self.faults.note(true);
         Err(Failed)
     }
 
@@ -226,9 +237,10 @@ impl<R: rt::Files<File = File>> PageFile for HostPages<R> {
             None => false,
         };
         if done {
+            self.faults.note(false);
             return Ok(());
         }
-        self.faults = raised(self.faults);
+        self.faults.note(true);
         Err(Failed)
     }
 }

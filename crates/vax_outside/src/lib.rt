@@ -2,7 +2,8 @@
 //!
 //! Each is a trait with two meanings that contracts see. `contents` is what the object holds, where it tells that;
 //! an object that tells nothing answers None. `faults` counts the calls that failed: a call that answers a failure
-//! raises the count, and a call that answers otherwise leaves it. `Text` is a line on its way to a channel.
+//! raises the count by one, and a call that answers otherwise leaves it. It also tells whether the last call failed, so
+//! that a failed call is never tried again in silence. `Text` is a line on its way to a channel.
 #![tactic(auto)]
 
 mod fails;

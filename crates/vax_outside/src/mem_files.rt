@@ -2,10 +2,10 @@
 ghost use Rattle.std.specs.Prelude.{◌≡◌, ◌≤◌, IfOk, Some, length};
 ghost use Rattle.std.specs.Option.{option_map};
 ghost use Rattle.vax_outside.specs.Directory.{bytes_of, directory, AnswersRead, is_failed};
-ghost use Rattle.vax_outside.specs.Faults.{CountsFailure, raised};
+ghost use Rattle.vax_outside.specs.Faults.{CountsFailure, no_failures, raised};
 
 use crate::fails::is_read_named;
-use crate::faults::raised;
+use crate::faults::{Failures, raised};
 use crate::{Fail, Files, FilesFault};
 use std::alloc::Global;
 
@@ -15,7 +15,7 @@ pub struct MemFiles {
     files: Vec<(String, Vec<u8>)>,
     fails: Vec<Fail>,
     calls: u64,
-    faults: u64,
+    faults: Failures,
 }
 
 impl MemFiles {
@@ -26,13 +26,13 @@ impl MemFiles {
         ensures files { directory_of result ≡ directory files.items }
         ensures fails { fails_of result ≡ fails.items }
         ensures calls { calls_of result ≡ 0 }
-        ensures faults { faults_of result ≡ 0 }
+        ensures faults { faults_of result ≡ no_failures }
     {
         MemFiles {
             files,
             fails,
             calls: 0,
-            faults: 0,
+            faults: Failures::none(),
         }
     }
 }
@@ -62,15 +62,17 @@ impl Files for MemFiles {
         ensures same { directory_of self.new ≡ directory_of self.old }
         ensures counts { CountsFailure (is_failed result) (faults_of self.old)
             (faults_of self.new) }
+        ensures last { (faults_of self.new).last ≡ is_failed result }
         ensures failed { is_failed result ≡ next_fails self.old }
         ensures fails { fails_of self.new ≡ fails_of self.old }
         ensures calls { calls_of self.new ≡ raised (calls_of self.old) }
     {
         self.calls = raised(self.calls);
         if is_read_named(&self.fails, self.calls, self.calls) {
-            self.faults = raised(self.faults);
+            self.faults.note(true);
             return Err(FilesFault::Failed);
         }
+        self.faults.note(false);
         let Some(bytes) = find(&self.files, name) else {
             return Err(FilesFault::Missing);
         };

@@ -3,10 +3,10 @@ ghost use Rattle.std.specs.Prelude.{◌≡◌, ◌≤◌, IfOk, OnErr, OnOk, Som
 ghost use Rattle.std.specs.FinMap.{get};
 ghost use Rattle.std.specs.Option.{option_map};
 ghost use Rattle.vax_outside.specs.Blocks.{CountsRead, GivesBlock, PutsBlock, zeroed};
-ghost use Rattle.vax_outside.specs.Faults.{CountsFailure};
+ghost use Rattle.vax_outside.specs.Faults.{CountsFailure, no_failures};
 
 use crate::fails::{is_read_named, is_write_named};
-use crate::faults::raised;
+use crate::faults::{Failures, raised};
 use crate::{Fail, Failed, PageFile};
 use std::alloc::Global;
 use vax_space::NoMemory;
@@ -22,7 +22,7 @@ pub struct MemPages {
     calls: u64,
     read_calls: u64,
     write_calls: u64,
-    faults: u64,
+    faults: Failures,
     ghost reserved: { room ≤ vec_capacity writes },
 }
 
@@ -41,7 +41,7 @@ impl MemPages {
         ensures limits { IfOk result
             (λ m. limits_of m ≡ record { blocks = blocks; writes = writes; fails = fails.items }) }
         ensures calls { IfOk result (λ m. calls_of m ≡ record { all = 0; reads = 0; writes = 0 }) }
-        ensures faults { IfOk result (λ m. faults_of m ≡ 0) }
+        ensures faults { IfOk result (λ m. faults_of m ≡ no_failures) }
     {
         Ok(MemPages {
             blocks: zeros(alloc, blocks)?,
@@ -52,7 +52,7 @@ impl MemPages {
             calls: 0,
             read_calls: 0,
             write_calls: 0,
-            faults: 0,
+            faults: Failures::none(),
         })
     }
 
@@ -104,6 +104,7 @@ impl PageFile for MemPages {
         ensures err { OnErr result (Some (file_of self.new) ≡ Some (file_of self.old)) }
         ensures unread { OnErr result (into.new ≡ into.old) }
         ensures counts { CountsFailure (is_err result) (faults_of self.old) (faults_of self.new) }
+        ensures last { (faults_of self.new).last ≡ is_err result }
         ensures failed { is_err result ≡ read_fails self.old n }
         ensures limits { limits_of self.new ≡ limits_of self.old }
         ensures calls { calls_of self.new ≡ read_more (calls_of self.old) }
@@ -112,11 +113,12 @@ impl PageFile for MemPages {
         self.read_calls = raised(self.read_calls);
         let place = n as usize;
         if is_read_named(&self.fails, self.calls, self.read_calls) || self.blocks.len() <= place {
-            self.faults = raised(self.faults);
+            self.faults.note(true);
             return Err(Failed);
         }
         *into = self.blocks[place];
         self.reads = raised(self.reads);
+        self.faults.note(false);
         Ok(())
     }
 
@@ -125,6 +127,7 @@ impl PageFile for MemPages {
             (PutsBlock n from.now (Some (file_of self.old)) (Some (file_of self.new))) }
         ensures err { OnErr result (Some (file_of self.new) ≡ Some (file_of self.old)) }
         ensures counts { CountsFailure (is_err result) (faults_of self.old) (faults_of self.new) }
+        ensures last { (faults_of self.new).last ≡ is_err result }
         ensures failed { is_err result ≡ write_fails self.old n }
         ensures limits { limits_of self.new ≡ limits_of self.old }
         ensures calls { calls_of self.new ≡ write_more (calls_of self.old) }
@@ -136,11 +139,12 @@ impl PageFile for MemPages {
             || self.blocks.len() <= place
             || self.room <= self.writes.len()
         {
-            self.faults = raised(self.faults);
+            self.faults.note(true);
             return Err(Failed);
         }
         self.blocks[place] = *from;
         self.writes.push((n, *from)).unwrap();
+        self.faults.note(false);
         Ok(())
     }
 }

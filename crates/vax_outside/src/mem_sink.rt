@@ -1,10 +1,10 @@
 //! Output channels in memory.
 ghost use Rattle.std.specs.Prelude.{◌≡◌, ◌-◌, ◌<◌, ◌≤◌, ◌++◌, [], length, take, min, is_err, vec_capacity, IfOk, OnErr, Some};
 ghost use Rattle.vax_outside.specs.Channels.{Grew, bytes_on, nothing, only};
-ghost use Rattle.vax_outside.specs.Faults.{CountsFailure, raised};
+ghost use Rattle.vax_outside.specs.Faults.{CountsFailure, no_failures, raised};
 
 use crate::fails::is_write_named;
-use crate::faults::raised;
+use crate::faults::{Failures, raised};
 use crate::{Chan, Fail, Failed, Sink};
 use std::alloc::Global;
 use vax_space::NoMemory;
@@ -53,7 +53,7 @@ pub struct MemSink {
     most: u32,
     fails: Vec<Fail>,
     calls: u64,
-    faults: u64,
+    faults: Failures,
     ghost some: { 1 ≤ most },
 }
 
@@ -72,7 +72,7 @@ impl MemSink {
         ensures empty { IfOk result (λ m. channels_of m ≡ nothing) }
         ensures limits { IfOk result (λ m. limits_of m ≡ limits_from room most fails.items) }
         ensures calls { IfOk result (λ m. calls_of m ≡ 0) }
-        ensures faults { IfOk result (λ m. faults_of m ≡ 0) }
+        ensures faults { IfOk result (λ m. faults_of m ≡ no_failures) }
     {
         let out = Channel::new(alloc, room[0])?;
         let report = Channel::new(alloc, room[1])?;
@@ -84,7 +84,7 @@ impl MemSink {
             most,
             fails,
             calls: 0,
-            faults: 0,
+            faults: Failures::none(),
         })
     }
 
@@ -130,6 +130,7 @@ impl Sink for MemSink {
             (Some (channels_of self.new)) (only chan (take n bytes.now))) }
         ensures err { OnErr result (Some (channels_of self.new) ≡ Some (channels_of self.old)) }
         ensures counts { CountsFailure (is_err result) (faults_of self.old) (faults_of self.new) }
+        ensures last { (faults_of self.new).last ≡ is_err result }
         ensures failed { is_err result ≡ next_fails self.old chan }
         ensures count { IfOk result (λ n. n ≡ taken self.old chan (length bytes.now)) }
         ensures limits { limits_of self.new ≡ limits_of self.old }
@@ -137,14 +138,15 @@ impl Sink for MemSink {
     {
         self.calls = raised(self.calls);
         if is_write_named(&self.fails, self.calls, self.calls) {
-            self.faults = raised(self.faults);
+            self.faults.note(true);
             return Err(Failed);
         }
         let count = self.append(chan, bytes);
         if count == 0 {
-            self.faults = raised(self.faults);
+            self.faults.note(true);
             return Err(Failed);
         }
+        self.faults.note(false);
         Ok(count)
     }
 }

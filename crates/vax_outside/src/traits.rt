@@ -1,9 +1,10 @@
 //! The traits of the outside, and what their calls answer.
-ghost use Rattle.std.specs.Prelude.{is_err, ◌≡◌, ◌<◌, ◌≤◌, ℕ, length, take, IfOk, OnErr, OnOk, Option};
+ghost use Rattle.std.specs.Prelude.{is_err, ◌≡◌, ◌<◌, ◌≤◌, length, take, IfOk, OnErr, OnOk, Option};
 ghost use Rattle.vax_outside.specs.Blocks.{BlockFile, GivesBlock, CountsRead, PutsBlock};
 ghost use Rattle.vax_outside.specs.Channels.{Channels, Grew, only};
 ghost use Rattle.vax_outside.specs.Directory.{Directory, AnswersRead, is_failed};
 ghost use Rattle.vax_outside.specs.Faults.{CountsFailure};
+ghost use Rattle.vax_outside.specs.declared.faults.Failures.{Failures};
 
 use std::alloc::Global;
 use thiserror::Error;
@@ -35,15 +36,16 @@ pub trait Files {
     /// The files' names and bytes, where the object tells them.
     ghost contents: { Self → Option Directory };
 
-    /// How many calls have failed.
-    ghost faults: { Self → ℕ };
+    /// How many calls have failed, and whether the last one did.
+    ghost faults: { Self → Failures };
 
     /// Reads the file of this name, which may have at most `limit` bytes.
     fn read(&mut self, alloc: Global, name: &str, limit: u32) -> Result<Vec<u8>, FilesFault>
         ensures answer { AnswersRead result (contents self.old) name.now limit }
         ensures bound { IfOk result (λ bytes. length bytes.items ≤ limit) }
         ensures same { contents self.new ≡ contents self.old }
-        ensures counts { CountsFailure (is_failed result) (faults self.old) (faults self.new) };
+        ensures counts { CountsFailure (is_failed result) (faults self.old) (faults self.new) }
+        ensures last { (faults self.new).last ≡ is_failed result };
 }
 
 /// The output channels: the guest's output, the report, and the record of evicted pages.
@@ -59,8 +61,8 @@ pub trait Sink {
     /// What was written to each channel, where the object tells it.
     ghost contents: { Self → Option Channels };
 
-    /// How many calls have failed.
-    ghost faults: { Self → ℕ };
+    /// How many calls have failed, and whether the last one did.
+    ghost faults: { Self → Failures };
 
     /// Appends a prefix of the bytes to a channel and answers its length, at least 1. After a failure each channel is
     /// as before.
@@ -71,7 +73,8 @@ pub trait Sink {
         ensures ok { IfOk result
             (λ n. Grew (contents self.old) (contents self.new) (only chan (take n bytes.now))) }
         ensures err { OnErr result (contents self.new ≡ contents self.old) }
-        ensures counts { CountsFailure (is_err result) (faults self.old) (faults self.new) };
+        ensures counts { CountsFailure (is_err result) (faults self.old) (faults self.new) }
+        ensures last { (faults self.new).last ≡ is_err result };
 }
 
 /// A file of numbered blocks of 512 bytes.
@@ -79,8 +82,8 @@ pub trait PageFile {
     /// The blocks, the writes that succeeded and the number of reads that did, where the object tells them.
     ghost contents: { Self → Option BlockFile };
 
-    /// How many calls have failed.
-    ghost faults: { Self → ℕ };
+    /// How many calls have failed, and whether the last one did.
+    ghost faults: { Self → Failures };
 
     /// Reads block `n`. The bytes of a block that was never there are left open. After a failure `into` holds
     /// what it held before.
@@ -89,11 +92,13 @@ pub trait PageFile {
         ensures ok { OnOk result (CountsRead (contents self.old) (contents self.new)) }
         ensures err { OnErr result (contents self.new ≡ contents self.old) }
         ensures unread { OnErr result (into.new ≡ into.old) }
-        ensures counts { CountsFailure (is_err result) (faults self.old) (faults self.new) };
+        ensures counts { CountsFailure (is_err result) (faults self.old) (faults self.new) }
+        ensures last { (faults self.new).last ≡ is_err result };
 
     /// Writes block `n`, and no other.
     fn write_block(&mut self, n: u32, from: &[u8; 512]) -> Result<(), Failed>
         ensures ok { OnOk result (PutsBlock n from.now (contents self.old) (contents self.new)) }
         ensures err { OnErr result (contents self.new ≡ contents self.old) }
-        ensures counts { CountsFailure (is_err result) (faults self.old) (faults self.new) };
+        ensures counts { CountsFailure (is_err result) (faults self.old) (faults self.new) }
+        ensures last { (faults self.new).last ≡ is_err result };
 }

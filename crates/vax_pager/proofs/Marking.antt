@@ -126,16 +126,16 @@ came_none from page bytes s t file after e a = record {
   writes = subst (λ (z : Option BlockFile). WritesBlocks s.areas file z) (sym a) (came_writes from page s file);
 }
 
-pub left_none : (from : Source) (s t : Paging) (file after : Option BlockFile) → IsLeft from s file t after → MarksNone s file t after
-left_none from s t file after (inl h) = record {
-  marked = λ other k. ap (λ (z : Paging). is_listed other z.modified) (sym h.0) ∙ k;
-  areas = ap (λ (z : Paging). z.areas) h.0;
-  writes = subst (λ (z : Option BlockFile). WritesBlocks s.areas file z) (sym h.1) (no_writes s.areas file);
+pub left_none : (from : Source) (page : ℕ) (s t : Paging) (file after : Option BlockFile) → IsLeft from page s file t after → MarksNone s file t after
+left_none from page s t file after (inl h) = record {
+  marked = λ other k. ap (λ (z : Paging). is_listed other z.modified) (sym h.1) ∙ k;
+  areas = ap (λ (z : Paging). z.areas) h.1;
+  writes = subst (λ (z : Option BlockFile). WritesBlocks s.areas file z) (sym h.2) (no_writes s.areas file);
 }
-left_none from s t file after (inr h) = record {
-  marked = λ other k. begun_marks from s other (ap (λ (z : Paging). is_listed other z.modified) (sym h.0) ∙ k);
-  areas = (left_alike from s t file after (inr h)).areas;
-  writes = subst (λ (z : Option BlockFile). WritesBlocks s.areas file z) (sym h.1) (begun_writes from s file);
+left_none from page s t file after (inr h) = record {
+  marked = λ other k. begun_marks from s other (ap (λ (z : Paging). is_listed other z.modified) (sym h.1) ∙ k);
+  areas = (left_alike from page s t file after (inr h)).areas;
+  writes = subst (λ (z : Option BlockFile). WritesBlocks s.areas file z) (sym h.2) (begun_writes from s file);
 }
 
 pub none_settled : (s t : Paging) (file : Option BlockFile) → t ≡ settled s → MarksNone s file t file

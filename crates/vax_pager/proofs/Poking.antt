@@ -96,9 +96,9 @@ alike_begun (OfKept old) s = alike_itself s
 alike_begun (OfVictim victim) s = alike_flush victim s
 alike_begun Nowhere s = alike_itself s
 
-pub left_alike : (from : Source) (s t : Paging) (file now : Option BlockFile) → IsLeft from s file t now → StaysAlike s t
-left_alike from s t file now (inl h) = subst (λ (z : Paging). StaysAlike s z) (sym h.0) (alike_itself s)
-left_alike from s t file now (inr h) = subst (λ (z : Paging). StaysAlike s z) (sym h.0) (alike_begun from s)
+pub left_alike : (from : Source) (page : ℕ) (s t : Paging) (file now : Option BlockFile) → IsLeft from page s file t now → StaysAlike s t
+left_alike from page s t file now (inl h) = subst (λ (z : Paging). StaysAlike s z) (sym h.1) (alike_itself s)
+left_alike from page s t file now (inr h) = subst (λ (z : Paging). StaysAlike s z) (sym h.1) (alike_begun from s)
 
 last_listed : (page : ℕ) (xs : List ℕ) → is_listed page (xs ++ page ∷ []) ≡ true
 last_listed page xs = in_push page page xs ∙ rw (eq-eqb page page refl) refl

@@ -107,9 +107,20 @@ file_begun Nowhere s file = file
 unfoldable pub seen : Paging → BlockFile → ℕ → Option (List ℕ)
 seen s file page = if is_listed page s.order || is_listed page s.kept then Some (s.frame page) else home s file page
 
--- what a failure leaves: all is as it was, or the victim alone was written
-abbrev pub IsLeft : Source → Paging → Option BlockFile → Paging → Option BlockFile → Type 0
-IsLeft from s file t after = ((t ≡ s) × (after ≡ file)) ⊎ ((t ≡ begun from s) × (after ≡ file_begun from s file))
+-- the page is read: it has a block, and its own frame wasn't kept
+abbrev pub reads_page : Source → ℕ → Paging → Bool
+reads_page Back page s = false
+reads_page Empty page s = s.blocked page
+reads_page (OfKept old) page s = s.blocked page
+reads_page (OfVictim victim) page s = s.blocked page
+reads_page Nowhere page s = false
+
+-- What a failure leaves: the victim was to be written, wasn't, and all is as it was; or the page was to be read, wasn't, and the victim alone was written,
+-- if it was modified.
+abbrev pub IsLeft : Source → ℕ → Paging → Option BlockFile → Paging → Option BlockFile → Type 0
+IsLeft from page s file t after =
+    ((takes_modified from s ≡ true) × (t ≡ s) × (after ≡ file))
+    ⊎ ((reads_page from page s ≡ true) × (t ≡ begun from s) × (after ≡ file_begun from s file))
 
 -- the byte of each memory that the pager stands for with this file
 abbrev pub IsByte : Paging → Option BlockFile → ℕ → ℕ → Type 0

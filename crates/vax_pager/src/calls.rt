@@ -21,7 +21,7 @@ impl Store {
     ghost use Rattle.vax_pager.specs.Paging.{ComesFrom, Keeps};
     ghost use Rattle.vax_pager.specs.Poking.{OnlyRead};
     ghost use Rattle.vax_pager.specs.Steps.{brought, forgotten, removed};
-    ghost use Rattle.vax_pager.specs.Calls.{FillsFrame, OfVictim, WhereNoCall, after_flush, wrote_back, after_evict, read_for, source, victim_of, came, file_after, IsByte, IsLeft, PeekedFrom};
+    ghost use Rattle.vax_pager.specs.Calls.{Empty, FillsFrame, OfKept, OfVictim, WhereNoCall, after_flush, wrote_back, after_evict, read_for, source, victim_of, came, file_after, IsByte, IsLeft, PeekedFrom};
     ghost use Rattle.vax_pager.specs.Store.{IsSound, paging};
 
     /// Writes a resident modified page to its block.
@@ -79,6 +79,7 @@ impl Store {
             (F.contents file.new ≡ read_for page (paging self.now) (F.contents file.old)) }
         ensures untouched { (paging self.now).blocked page ≡ false → file.new ≡ file.old }
         ensures err { OnErr result (F.contents file.new ≡ F.contents file.old) }
+        ensures needed { OnErr result ((paging self.now).blocked page ≡ true) }
         ensures counts { CountsFailure (is_err result) (F.faults file.old) (F.faults file.new) }
     {
         match self.written_block(page) {
@@ -153,8 +154,8 @@ impl Store {
             ((paging self.new).frame page)) }
         ensures read { OnOk result
             (F.contents file.new ≡ read_for page (paging self.old) (F.contents file.old)) }
-        ensures err { OnErr result (paging self.new ≡ paging self.old) }
-        ensures unread { OnErr result (F.contents file.new ≡ F.contents file.old) }
+        ensures err { OnErr result (IsLeft Empty page (paging self.old) (F.contents file.old)
+            (paging self.new) (F.contents file.new)) }
         ensures counts { CountsFailure (is_err result) (F.faults file.old) (F.faults file.new) }
         ensures untouched { (paging self.old).blocked page ≡ false → file.new ≡ file.old }
         ensures keeps { Keeps (paging self.old) (F.contents file.old) (paging self.new)
@@ -185,8 +186,8 @@ impl Store {
             ((paging self.new).frame page)) }
         ensures read { OnOk result
             (F.contents file.new ≡ read_for page (paging self.old) (F.contents file.old)) }
-        ensures err { OnErr result (paging self.new ≡ paging self.old) }
-        ensures unread { OnErr result (F.contents file.new ≡ F.contents file.old) }
+        ensures err { OnErr result (IsLeft (OfKept old.page) page (paging self.old)
+            (F.contents file.old) (paging self.new) (F.contents file.new)) }
         ensures counts { CountsFailure (is_err result) (F.faults file.old) (F.faults file.new) }
         ensures untouched { (paging self.old).blocked page ≡ false → file.new ≡ file.old }
         ensures keeps { Keeps (paging self.old) (F.contents file.old) (paging self.new)
@@ -218,8 +219,8 @@ impl Store {
             ((paging self.new).frame page)) }
         ensures read { OnOk result (F.contents file.new ≡ read_for page (paging self.old)
             (wrote_back victim (paging self.old) (F.contents file.old))) }
-        ensures err { OnErr result (IsLeft (OfVictim victim) (paging self.old) (F.contents file.old)
-            (paging self.new) (F.contents file.new)) }
+        ensures err { OnErr result (IsLeft (OfVictim victim) page (paging self.old)
+            (F.contents file.old) (paging self.new) (F.contents file.new)) }
         ensures counts { CountsFailure (is_err result) (F.faults file.old) (F.faults file.new) }
         ensures untouched { (paging self.old).blocked page ≡ false
             → is_listed victim (paging self.old).modified ≡ false → file.new ≡ file.old }
@@ -254,7 +255,7 @@ impl Store {
         ensures bytes { OnOk result
             (FillsFrame page (paging self.old) (F.contents file.old) (paging self.new)) }
         ensures taken { is_listed page (paging self.old).kept ≡ true → file.new ≡ file.old }
-        ensures err { OnErr result (IsLeft (source page (paging self.old)) (paging self.old)
+        ensures err { OnErr result (IsLeft (source page (paging self.old)) page (paging self.old)
             (F.contents file.old) (paging self.new) (F.contents file.new)) }
         ensures counts { CountsFailure (is_err result) (F.faults file.old) (F.faults file.new) }
         ensures blockless { WhereNoCall page (paging self.old) (file.new ≡ file.old) }

@@ -60,8 +60,8 @@ impl Pager {
     ///
     /// The page's bytes come from its own frame, where that was kept, with no call on the file; else from its block,
     /// where it has one, by one read; else they are those at the start. Where it has no block, and the page whose frame is
-    /// taken isn't modified, no call is made. After a failure everything is as it was, but the page whose frame was
-    /// needed may be written to its block, and unmodified.
+    /// taken isn't modified, no call is made. After a failure everything is as it was, but where it was the page that
+    /// wasn't read, the page whose frame was needed is unmodified, and was written to its block if it was modified.
     pub fn serve<F: PageFile>(&mut self, page: u32, file: &mut F) -> Result<Option<u32>, PageFault>
         requires within { is_some (area_of (pages self.old).areas page) ≡ true }
         requires absent { is_listed page (pages self.old).order ≡ false }
@@ -74,7 +74,7 @@ impl Pager {
         ensures bytes { OnOk result
             (FillsFrame page (pages self.old) (F.contents file.old) (pages self.new)) }
         ensures taken { is_listed page (pages self.old).kept ≡ true → file.new ≡ file.old }
-        ensures err { OnErr result (IsLeft (source page (pages self.old)) (pages self.old)
+        ensures err { OnErr result (IsLeft (source page (pages self.old)) page (pages self.old)
             (F.contents file.old) (pages self.new) (F.contents file.new)) }
         ensures counts { CountsFailure (is_err result) (F.faults file.old) (F.faults file.new) }
         ensures blockless { WhereNoCall page (pages self.old) (file.new ≡ file.old) }

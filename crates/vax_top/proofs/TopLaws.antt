@@ -363,7 +363,7 @@ module _ (sink : Change Channels) (grown : Channels) (result : Status) where
   wrote meant never (inl w) e = absurd (never (sym w.answer ∙ e))
   wrote meant never (inr c) e = c.cause
 
-  unhidden : (meant : Status) → Ends sink meant grown result → (sink.after.faults ≡ sink.before.faults → ⊥) → result ≡ WriteFault
+  unhidden : (meant : Status) → Ends sink meant grown result → (sink.after.faults.count ≡ sink.before.faults.count → ⊥) → result ≡ WriteFault
   unhidden meant (inl w) changed = absurd (changed w.quiet)
   unhidden meant (inr c) changed = c.answer
 
@@ -407,7 +407,7 @@ module _ (seen : Around) (words : List Text) (result : Status) (h : Comes seen w
   pub write_fault : result ≡ WriteFault → HasFailed seen.sink
   write_fault e = wrote seen.sink h.grown result h.meant (λ w. never_write seen h.grown (command_of words) (subst By w allows)) h.ends e
 
-  pub write_failed : (seen.sink.after.faults ≡ seen.sink.before.faults → ⊥) → result ≡ WriteFault
+  pub write_failed : (seen.sink.after.faults.count ≡ seen.sink.before.faults.count → ⊥) → result ≡ WriteFault
   write_failed changed = unhidden seen.sink h.grown result h.meant h.ends changed
 
   pub refused : IfSome (refusal result) (λ text. Grew seen.sink.before.told seen.sink.after.told (only channel.Report text))

@@ -13,7 +13,7 @@ invariant-loop-steps g l = record {
   within : l.steps ≤ l.limit;
   inside : IsSome l.cpu.latch → l.steps < l.limit;
   unsent : l.cpu.term.out ≡ None;
-  quiet : g.K.Sink.faults l.sink ≡ g.K.Sink.faults l.fn.sink;
+  quiet : (g.K.Sink.faults l.sink).count ≡ (g.K.Sink.faults l.fn.sink).count;
 }
 
 abbrev pub decreases-loop-steps : goal.decreases-loop-steps

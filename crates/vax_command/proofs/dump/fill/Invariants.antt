@@ -19,7 +19,7 @@ invariant-blanks g l = record {
   stands : KeepsPlace (engine l.fn.machine) (g.F.PageFile.contents l.fn.pages) (engine l.machine) (g.F.PageFile.contents l.pages);
   reads : OnlyRead (g.F.PageFile.contents l.fn.pages) (g.F.PageFile.contents l.pages);
   unread : items_of l.fn.room.blanks.items ≡ [] → (l.blanks.items ≡ []) × (g.F.PageFile.contents l.pages ≡ g.F.PageFile.contents l.fn.pages);
-  quiet : g.F.PageFile.faults l.pages ≡ g.F.PageFile.faults l.fn.pages;
+  quiet : (g.F.PageFile.faults l.pages).count ≡ (g.F.PageFile.faults l.fn.pages).count;
 }
 
 abbrev pub decreases-blanks : goal.decreases-blanks

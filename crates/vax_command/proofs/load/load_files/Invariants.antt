@@ -8,7 +8,7 @@ use Rattle.vax_command.proofs.load.load_files.Given as goal
 abbrev pub invariant-loop-name : goal.invariant-loop-name
 invariant-loop-name g l = record {
   same : g.S.Files.contents l.files ≡ g.S.Files.contents l.fn.files;
-  quiet : g.S.Files.faults l.files ≡ g.S.Files.faults l.fn.files;
+  quiet : (g.S.Files.faults l.files).count ≡ (g.S.Files.faults l.fn.files).count;
   count : length l.all.items ≡ l.name-index;
   reads : Reads (g.S.Files.contents l.fn.files) (names_of (take l.name-index l.names)) (Ok (texts l.all.items));
 }

@@ -14,8 +14,8 @@ use Rattle.vax_console.proofs.lines.carry_out_all.Given as goal
 -- the lines so far were carried out
 abbrev pub invariant-loop-line : goal.invariant-loop-line
 invariant-loop-line g l = record {
-  quiet : g.F.PageFile.faults l.file ≡ g.F.PageFile.faults l.fn.file;
-  sunk : g.K.Sink.faults l.sink ≡ g.K.Sink.faults l.fn.sink;
+  quiet : (g.F.PageFile.faults l.file).count ≡ (g.F.PageFile.faults l.fn.file).count;
+  sunk : (g.K.Sink.faults l.sink).count ≡ (g.K.Sink.faults l.fn.sink).count;
   between : IsBetween (engine l.machine);
   only : OnlyReplied (g.K.Sink.contents l.fn.sink) (g.K.Sink.contents l.sink);
   carried : (front : List Line) × (readings l.script ≡ front ++ readings l.rest)

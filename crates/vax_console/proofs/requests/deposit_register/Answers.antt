@@ -25,4 +25,4 @@ returns-clause-spends g c rules m means =
 pub returns-clause-holds : goal.returns-clause-holds
 returns-clause-holds g c rules m means =
     put_in_held c.reply.result c.args.limits.now rules (scene (engine c.args.machine.now) (g.F.PageFile.contents c.args.file.now) (g.K.Sink.contents c.args.sink.now)) (scene (engine c.set_reg.new.self) (g.F.PageFile.contents c.args.file.now) (g.K.Sink.contents c.reply.new.sink)) m c.args.n c.args.value (g.K.Sink.faults c.args.sink.now) (g.K.Sink.faults c.reply.new.sink)
-    c.requires.between c.set_reg.ensures.keeps c.set_reg.ensures.marks refl (c.set_reg.ensures.deposits (g.F.PageFile.contents c.args.file.now) m means) c.reply.ensures
+    c.requires.between c.set_reg.ensures.keeps c.set_reg.ensures.marks c.set_reg.ensures.blocks refl (c.set_reg.ensures.deposits (g.F.PageFile.contents c.args.file.now) m means) c.reply.ensures

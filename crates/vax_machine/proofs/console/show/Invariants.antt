@@ -19,5 +19,5 @@ invariant-loop-place g l = record {
   bytes : (memory : List Area) → StandsWith (pages l.fn.pager) (g.F.PageFile.contents l.fn.file) memory → take l.place l.cells ≡ memory_from memory l.addr l.place;
   there : 0 < l.place → is_some l.page ≡ is_some (area_of (pages l.fn.pager).areas (page_of (byte_after l.addr (l.place - 1))));
   held : 0 < l.place → (memory : List Area) → StandsWith (pages l.fn.pager) (g.F.PageFile.contents l.fn.file) memory → IfSome l.page (IsPageOf memory (page_of (byte_after l.addr (l.place - 1))));
-  quiet : g.F.PageFile.faults l.file ≡ g.F.PageFile.faults l.fn.file;
+  quiet : (g.F.PageFile.faults l.file).count ≡ (g.F.PageFile.faults l.fn.file).count;
 }

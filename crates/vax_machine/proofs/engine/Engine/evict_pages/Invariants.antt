@@ -13,6 +13,6 @@ invariant-loop-page g l = record {
   still : Still l.fn.self l.self;
   writes : StillWrites l.fn.held l.held (g.K.Sink.contents l.fn.sink) (g.K.Sink.contents l.sink);
   at : (o : Origin) → (p : Paged) → Follows o p l.fn.self (g.F.PageFile.contents l.fn.file) (g.K.Sink.contents l.fn.sink) l.fn.held → Follows o (all_evicted (take l.page-index l.pages) p) l.self (g.F.PageFile.contents l.file) (g.K.Sink.contents l.sink) l.held;
-  quiet : g.F.PageFile.faults l.file ≡ g.F.PageFile.faults l.fn.file;
-  written : g.K.Sink.faults l.sink ≡ g.K.Sink.faults l.fn.sink;
+  quiet : (g.F.PageFile.faults l.file).count ≡ (g.F.PageFile.faults l.fn.file).count;
+  written : (g.K.Sink.faults l.sink).count ≡ (g.K.Sink.faults l.fn.sink).count;
 }

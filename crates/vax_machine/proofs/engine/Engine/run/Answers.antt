@@ -1,5 +1,6 @@
 use Rattle.std.proofs.Common.{◌≡◌, inl, refl, ap, arith, subst, ◌∙◌, List, Bool, Result, Err}
 use Rattle.vax_space.specs.declared.Area.{Area}
+use Rattle.vax_outside.proofs.Counting.{rose_then}
 use Rattle.vax_pager.specs.Meaning.{pages}
 use Rattle.vax_sched.specs.Due.{due}
 use Rattle.vax_pager.proofs.Told.{pager_is, space_is}
@@ -49,8 +50,7 @@ returns-in-Some-clause-fault g c = λ is. absurd ((stop_unlike _ c.in-Some.ensur
 pub returns-in-Some-clause-cause : goal.returns-in-Some-clause-cause
 returns-in-Some-clause-cause g c = λ is.
     let r = write_cause _ _ _ _ _ _ c.finish.ensures.done (stop_unlike _ c.in-Some.ensures.whole).0 is in
-    let w = c.loop-end.invariant.written in
-    omega (arith, w, r)
+    rose_then c.loop-end.invariant.written r
 
 pub returns-in-Some-clause-unfailed : goal.returns-in-Some-clause-unfailed
 returns-in-Some-clause-unfailed g c = λ a b. c.loop-end.invariant.quiet

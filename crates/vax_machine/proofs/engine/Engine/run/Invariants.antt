@@ -18,8 +18,8 @@ invariant-loop-end g l = record {
   at : (place : Place) → Means l.fn.self (g.F.PageFile.contents l.fn.file) place → PinsTouched (residence l.fn.self) place → Reached l.limits (origin l.limits (pages l.fn.self.pager).areas (begun l.fn.self place) (g.F.PageFile.contents l.fn.file) (g.K.Sink.contents l.fn.sink)) (pages l.fn.self.pager).areas l.schedule l.self (g.F.PageFile.contents l.file) (g.K.Sink.contents l.sink) l.held;
   follows : KeepsRun l.fn.self (g.F.PageFile.contents l.fn.file) l.self (g.F.PageFile.contents l.file);
   goes_on : IsBetween l.fn.self → MayGoOn l.limits.steps l.self;
-  quiet : g.F.PageFile.faults l.file ≡ g.F.PageFile.faults l.fn.file;
-  written : g.K.Sink.faults l.sink ≡ g.K.Sink.faults l.fn.sink;
+  quiet : (g.F.PageFile.faults l.file).count ≡ (g.F.PageFile.faults l.fn.file).count;
+  written : (g.K.Sink.faults l.sink).count ≡ (g.K.Sink.faults l.fn.sink).count;
   only : OnlyWrote l.limits.listed (g.K.Sink.contents l.fn.sink) (g.K.Sink.contents l.sink);
 }
 

@@ -22,13 +22,13 @@ returns-in-Ok-clause-applies g c =
 
 pub returns-in-Err-clause-sound : goal.returns-in-Err-clause-sound
 returns-in-Err-clause-sound g c = record {
-  pages = sound_same (pages c.args.self.now.pager) (pages c.serve.new.self) _ (failed_same (pages c.args.self.now.pager) (pages c.serve.new.self) _ _ _ c.in-Err.ensures.err) c.requires.sound.pages;
+  pages = sound_same (pages c.args.self.now.pager) (pages c.serve.new.self) _ (failed_same (pages c.args.self.now.pager) (pages c.serve.new.self) _ _ _ _ c.in-Err.ensures.err) c.requires.sound.pages;
   unsent = c.requires.sound.unsent;
 }
 
 pub returns-in-Err-clause-applies : goal.returns-in-Err-clause-applies
 returns-in-Err-clause-applies g c = (
-  serves_as _ _ _ _ _ c.in-Some.is (inl (refl, keeping_same c.args.self.now c.serve.new.self (failed_same (pages c.args.self.now.pager) (pages c.serve.new.self) _ _ _ c.in-Err.ensures.err))),
+  serves_as _ _ _ _ _ c.in-Some.is (inl (refl, keeping_same c.args.self.now c.serve.new.self (failed_same (pages c.args.self.now.pager) (pages c.serve.new.self) _ _ _ _ c.in-Err.ensures.err))),
   keeps_place c.args.self.now _ _ _ _ c.in-Err.ensures.keeps,
 )
 

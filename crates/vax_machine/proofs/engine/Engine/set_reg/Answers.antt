@@ -2,7 +2,7 @@ use Rattle.std.proofs.Common.{None, ap, subst, sym}
 use Rattle.vax_pager.specs.Meaning.{pages}
 use Rattle.vax_pager.specs.Paging.{Paging, StandsWith}
 use Rattle.vax_pager.proofs.Turned.{stands_settled}
-use Rattle.vax_machine.proofs.Attempts.{areas_settled, residence_settled, settled_marks, sound_settled}
+use Rattle.vax_machine.proofs.Attempts.{areas_settled, residence_settled, settled_blocks, settled_marks, sound_settled}
 use Rattle.vax_machine.specs.Console.{with_register}
 use Rattle.vax_machine.proofs.engine.Engine.set_reg.Goals as goal
 
@@ -27,3 +27,6 @@ returns-clause-deposits c = λ file m means. record {
 
 pub returns-clause-marks : goal.returns-clause-marks
 returns-clause-marks c = settled_marks (pages c.args.self.now.pager) (pages c.settle.new.self) c.settle.ensures
+
+pub returns-clause-blocks : goal.returns-clause-blocks
+returns-clause-blocks c = settled_blocks (pages c.args.self.now.pager) (pages c.settle.new.self) c.settle.ensures

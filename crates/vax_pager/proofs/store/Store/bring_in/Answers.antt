@@ -5,7 +5,7 @@ use Rattle.vax_pager.proofs.Poking.{alike_itself, came_alike, left_alike, served
 use Rattle.vax_pager.proofs.store.Store.bring_in.Goals as goal
 
 pub returns-in_err-serve-clause-alike : goal.returns-in_err-serve-clause-alike
-returns-in_err-serve-clause-alike g c = left_alike _ _ _ _ _ c.in_err-serve.ensures.err
+returns-in_err-serve-clause-alike g c = left_alike _ _ _ _ _ _ c.in_err-serve.ensures.err
 
 pub returns-in_ok-serve-clause-alike : goal.returns-in_ok-serve-clause-alike
 returns-in_ok-serve-clause-alike g c = came_alike _ c.args.page _ _ _ c.in_ok-serve.ensures.ok
@@ -20,7 +20,7 @@ pub returns-else-not-is_resident-clause-brings : goal.returns-else-not-is_reside
 returns-else-not-is_resident-clause-brings g c = was_in c.args.page _ (search rules)
 
 pub returns-in_err-serve-clause-marks : goal.returns-in_err-serve-clause-marks
-returns-in_err-serve-clause-marks g c = left_none _ _ _ _ _ c.in_err-serve.ensures.err
+returns-in_err-serve-clause-marks g c = left_none _ _ _ _ _ _ c.in_err-serve.ensures.err
 
 pub returns-in_ok-serve-clause-marks : goal.returns-in_ok-serve-clause-marks
 returns-in_ok-serve-clause-marks g c = came_none _ c.args.page _ _ _ _ _ c.in_ok-serve.ensures.ok c.in_ok-serve.ensures.file

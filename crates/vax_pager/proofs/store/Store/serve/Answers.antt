@@ -73,3 +73,9 @@ returns-in_ok-serve_kept-in-Some-oldest_kept-clause-pinned g c = pins_kept c.arg
 
 pub returns-in_ok-serve_victim-in-None-clause-pinned : goal.returns-in_ok-serve_victim-in-None-clause-pinned
 returns-in_ok-serve_victim-in-None-clause-pinned g c = pins_victim c.args.page _ _ (paging c.args.self.now) _ c.in_ok-serve_victim-in-None.ensures.ok
+
+pub returns-in_err-serve_empty-clause-err : goal.returns-in_err-serve_empty-clause-err
+returns-in_err-serve_empty-clause-err g c = rw (source_empty c.args.page (paging c.args.self.now) (search rules) (search rules)) (search rules)
+
+pub returns-in_err-serve_kept-in-Some-oldest_kept-clause-err : goal.returns-in_err-serve_kept-in-Some-oldest_kept-clause-err
+returns-in_err-serve_kept-in-Some-oldest_kept-clause-err g c = rw (source_kept c.args.page c.in-Some-oldest_kept.old.page (paging c.args.self.now) (search rules) (search rules) c.in-Some-oldest_kept.ensures.page) (search rules)

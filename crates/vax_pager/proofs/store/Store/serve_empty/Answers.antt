@@ -1,7 +1,7 @@
-use Rattle.std.proofs.Common.{◌∙◌, ap}
+use Rattle.std.proofs.Common.{◌∙◌, ap, inr, refl}
 use Rattle.vax_pager.specs.Steps.{brought}
 use Rattle.vax_pager.proofs.Told.{within_prot}
-use Rattle.vax_pager.proofs.Effects.{own_brought, own_comes, keeps_brought}
+use Rattle.vax_pager.proofs.Effects.{on_err, own_brought, own_comes, keeps_brought}
 use Rattle.vax_pager.proofs.store.Store.serve_empty.Goals as goal
 
 pub bring-requires-clause-within : goal.bring-requires-clause-within
@@ -22,3 +22,6 @@ returns-clause-bytes g c = own_comes c.args.page _ _ _ _ _ (c.bring.ensures.pagi
 pub returns-clause-keeps : goal.returns-clause-keeps
 returns-clause-keeps g c =
     keeps_brought c.args.page _ _ _ _ _ (c.bring.ensures.paging ∙ ap (brought c.args.page _) c.grow-frame.ensures.paging) c.in_ok-bytes.ensures.read c.requires.within c.requires.absent c.in_ok-bytes.ensures.bytes
+
+pub returns-in_err-bytes-clause-err : goal.returns-in_err-bytes-clause-err
+returns-in_err-bytes-clause-err g c = on_err c.from_residual.result (inr (c.in_err-bytes.ensures.needed, refl, c.in_err-bytes.ensures.err))

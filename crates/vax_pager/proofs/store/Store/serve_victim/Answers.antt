@@ -1,8 +1,8 @@
-use Rattle.std.proofs.Common.{◌∙◌, ap, inl, inr}
+use Rattle.std.proofs.Common.{◌∙◌, ap, inl, inr, sym}
 use Rattle.vax_pager.specs.Store.{paging}
 use Rattle.vax_pager.specs.Steps.{brought, removed}
 use Rattle.vax_pager.proofs.Told.{within_prot, resident_within, resident_unkept, writable_is}
-use Rattle.vax_pager.proofs.Effects.{flush_none, on_err, own_brought, own_comes, keeps_in_victim, keeps_then, flush_areas, flush_order, flush_clean, flush_pinned, flush_kept, removed_areas, removed_absent, removed_kept, apart, comes_flushed, read_flushed}
+use Rattle.vax_pager.proofs.Effects.{flush_blocked, flush_none, on_err, own_brought, own_comes, keeps_in_victim, keeps_then, flush_areas, flush_order, flush_clean, flush_pinned, flush_kept, removed_areas, removed_absent, removed_kept, apart, comes_flushed, read_flushed}
 use Rattle.vax_pager.proofs.store.Store.serve_victim.Goals as goal
 
 pub flush-requires-clause-within : goal.flush-requires-clause-within
@@ -58,10 +58,10 @@ returns-clause-keeps g c =
     c.in_ok-bytes.ensures.bytes)
 
 pub returns-in_err-flush-clause-err : goal.returns-in_err-flush-clause-err
-returns-in_err-flush-clause-err g c = on_err c.from_residual.result (inl (c.in_err-flush.ensures.err, c.in_err-flush.ensures.unwritten))
+returns-in_err-flush-clause-err g c = on_err c.from_residual.result (inl (c.in_err-flush.ensures.needed, c.in_err-flush.ensures.err, c.in_err-flush.ensures.unwritten))
 
 pub returns-in_err-bytes-clause-err : goal.returns-in_err-bytes-clause-err
-returns-in_err-bytes-clause-err g c = on_err c.from_residual-in_err-bytes.result (inr (c.in_ok-flush.ensures.ok, c.in_err-bytes.ensures.err ∙ c.in_ok-flush.ensures.wrote))
+returns-in_err-bytes-clause-err g c = on_err c.from_residual-in_err-bytes.result (inr (sym (flush_blocked c.args.page c.args.victim (paging c.args.self.now) (apart c.args.page c.args.victim _ c.requires.absent c.requires.resident)) ∙ (rw c.in_ok-flush.ensures.ok at c.in_err-bytes.ensures.needed), c.in_ok-flush.ensures.ok, c.in_err-bytes.ensures.err ∙ c.in_ok-flush.ensures.wrote))
 
 pub returns-clause-untouched : goal.returns-clause-untouched
 returns-clause-untouched g c = λ none clean. c.fetch.ensures.untouched (rw (c.in_ok-flush.ensures.ok, flush_none c.args.victim (paging c.args.self.now) clean) none) ∙ c.flush.ensures.untouched clean
