@@ -9,15 +9,15 @@ use Rattle.vax_flat.specs.Parts.{Place, At, machine_at}
 use Rattle.vax_flat.specs.Step.{Flat}
 use Rattle.vax_pager.specs.Listing.{is_listed}
 use Rattle.vax_pager.specs.Meaning.{pages}
-use Rattle.vax_pager.specs.Poking.{OnlyRead, WritesBlocks}
+use Rattle.vax_pager.specs.Poking.{OnlyRead, ReadsAtMost, WritesBlocks, pages_of_bytes}
 use Rattle.vax_sched.specs.declared.rule.Rule.{Rule}
 use Rattle.vax_report.specs.Lines.{line, memory_line, register_line}
 use Rattle.vax_report.specs.Report.{report}
-use Rattle.vax_machine.specs.Console.{HasLetGo, IsBetween, StopsBetween, let_go, memory_from, with_bytes, with_register}
+use Rattle.vax_machine.specs.Console.{BringsPages, HasLetGo, IsBetween, StopsBetween, let_go, memory_from, pages_in, with_bytes, with_register}
 use Rattle.vax_machine.specs.Machine.{Keeping, Means, keeping, modified_of, residence}
 use Rattle.vax_machine.specs.Marking.{HasMarked, Marks, MarksNoOther}
 use Rattle.vax_machine.specs.Paged.{Paged, Why, ByEnding, BySteps, ByTurns}
-use Rattle.vax_machine.specs.Residence.{Residence, residence_of}
+use Rattle.vax_machine.specs.Residence.{HasBroughtSome, Residence, after_deposit, residence_of}
 use Rattle.vax_machine.specs.Run as run_spec
 use Rattle.vax_machine.specs.Run.{IsWhole, Tracks, begun, origin, why_of}
 use Rattle.vax_machine.specs.Writing.{Wrote, lines_of, output_of}
@@ -98,19 +98,19 @@ register_held r limits rules before after flat n was now same file means p =
     simple_held r (setting_of before limits rules) (Asks (ExamineRegister n)) (stand_at before (At flat)) after flat (register_line n (slice_index before.machine.cpu.core.regs n)) was now
     (record { at = ap (λ (z : Engine). begun z (At flat)) same; file = file }) refl is (means_as before after flat same file means) (ap (λ (z : Engine). (pages z.pager).areas) same) p
 
-pub memory_held : (r : Result (Unit {0}) Stopped) (limits : Limits) (rules : List Rule) (before after : Scene) (flat : Flat) (addr count : ℕ) (was now : Failures) → keeping after.machine ≡ keeping before.machine → pages after.machine.pager ≡ pages before.machine.pager → OnlyRead before.file after.file →
+pub memory_held : (r : Result (Unit {0}) Stopped) (limits : Limits) (rules : List Rule) (before after : Scene) (flat : Flat) (addr count : ℕ) (was now : Failures) → keeping after.machine ≡ keeping before.machine → pages after.machine.pager ≡ pages before.machine.pager → OnlyRead before.file after.file → ReadsAtMost (pages_in addr count) before.file after.file →
     Means after.machine after.file (At flat) → Replies r was now before.sink after.sink (memory_line addr (memory_from flat.memory addr count)) → Holds r (setting_of before limits rules) (Asks (ExamineMemory addr count) ∷ []) (stand_at before (At flat)) after
 unfolding reply
-memory_held r limits rules before after flat addr count was now kept same read means p =
+memory_held r limits rules before after flat addr count was now kept same read once means p =
     simple_held r (setting_of before limits rules) (Asks (ExamineMemory addr count)) (stand_at before (At flat)) after flat (memory_line addr (memory_from flat.memory addr count)) was now
-    (record { at = begun_kept before.machine after.machine (At flat) kept same; file = read }) refl refl means (ap (λ (z : Keeping). z.areas) kept) p
+    (record { at = begun_kept before.machine after.machine (At flat) kept same; file = read; once = once }) refl refl means (ap (λ (z : Keeping). z.areas) kept) p
 
-pub memory_unread : (limits : Limits) (rules : List Rule) (before after : Scene) (flat : Flat) (addr count : ℕ) → keeping after.machine ≡ keeping before.machine → pages after.machine.pager ≡ pages before.machine.pager → OnlyRead before.file after.file →
+pub memory_unread : (limits : Limits) (rules : List Rule) (before after : Scene) (flat : Flat) (addr count : ℕ) → keeping after.machine ≡ keeping before.machine → pages after.machine.pager ≡ pages before.machine.pager → OnlyRead before.file after.file → ReadsAtMost (pages_in addr count) before.file after.file →
     Means after.machine after.file (At flat) → after.sink ≡ before.sink → Holds (Err stopped.PageFault) (setting_of before limits rules) (Asks (ExamineMemory addr count) ∷ []) (stand_at before (At flat)) after
-memory_unread limits rules before after flat addr count kept same read means silent =
+memory_unread limits rules before after flat addr count kept same read once means silent =
     let g = setting_of before limits rules in
     line_short (λ x here. Fails g x here after) g (Asks (ExamineMemory addr count)) (stand_at before (At flat))
-    (record { reads = record { at = begun_kept before.machine after.machine (At flat) kept same; file = read }; means = means; silent = silent })
+    (record { reads = record { at = begun_kept before.machine after.machine (At flat) kept same; file = read; once = once }; means = means; silent = silent })
 
 pub put_in_held : (r : Result (Unit {0}) Stopped) (limits : Limits) (rules : List Rule) (before after : Scene) (flat : Flat) (n value : ℕ) (was now : Failures) → IsBetween before.machine → keeping after.machine ≡ let_go (keeping before.machine) → modified_of after.machine ≡ modified_of before.machine → (pages after.machine.pager).blocked ≡ (pages before.machine.pager).blocked →
     after.file ≡ before.file → Means after.machine after.file (At (with_register n value flat)) → Replies r was now before.sink after.sink done_line → Holds r (setting_of before limits rules) (Asks (DepositRegister n value) ∷ []) (stand_at before (At flat)) after
@@ -127,17 +127,21 @@ put_refused : (limit : ℕ) (s : Session) (addr : ℕ) (bytes : List ℕ) → ma
 unfolding reply
 put_refused limit s addr bytes refused = rw refused refl
 
+pub brings_as : (b said : Bool) (pages : List ℕ) (old new : Engine) → b ≡ said → BringsPages (Ok b) pages old new → BringsPages (Ok said) pages old new
+brings_as b said pages old new e d = subst (λ (z : Bool). BringsPages (Ok z) pages old new) e d
+
 pub marks_as : (b said : Bool) (addr count : ℕ) (old new : Engine) → b ≡ said → Marks (Ok b) addr count old new → Marks (Ok said) addr count old new
 marks_as b said addr count old new e d = subst (λ (z : Bool). Marks (Ok z) addr count old new) e d
 
 pub put_at_held : (r : Result (Unit {0}) Stopped) (limits : Limits) (rules : List Rule) (before after : Scene) (flat : Flat) (addr : ℕ) (bytes : List ℕ) (was now : Failures) → may_deposit flat.memory addr (length bytes) ≡ true → HasLetGo before.machine after.machine → HasMarked addr (length bytes) before.machine after.machine →
-    WritesBlocks (keeping before.machine).areas before.file after.file → Means after.machine after.file (At (with_bytes addr bytes flat)) → Replies r was now before.sink after.sink done_line → Holds r (setting_of before limits rules) (Asks (DepositMemory addr bytes) ∷ []) (stand_at before (At flat)) after
-put_at_held r limits rules before after flat addr bytes was now allowed kept marks writes means p =
+    residence after.machine ≡ after_deposit (pages_of_bytes addr (length bytes)) (residence before.machine) → WritesBlocks (keeping before.machine).areas before.file after.file → Means after.machine after.file (At (with_bytes addr bytes flat)) → Replies r was now before.sink after.sink done_line → Holds r (setting_of before limits rules) (Asks (DepositMemory addr bytes) ∷ []) (stand_at before (At flat)) after
+put_at_held r limits rules before after flat addr bytes was now allowed kept marks brings writes means p =
     let s = stand_at before (At flat) in
     let t = stand_at after (At (with_bytes addr bytes flat)) in
     let done : SetsBytesIf true (keeping before.machine).areas addr bytes s t = record {
       place = refl;
       brings = record { steps = kept.steps; turns = kept.turns; frames = kept.frames; spoiled = kept.spoiled; pinned = kept.pinned; writes = writes };
+      residence = brings;
       marked = marks.marked;
       only = marks.only;
     } in
@@ -153,12 +157,13 @@ refused_held r limits rules before after flat addr bytes was now refused same fi
     simple_held r (setting_of before limits rules) (Asks (DepositMemory addr bytes)) s after flat (line (codes "?ADDRESS")) was now
     (subst (λ (b : Bool). SetsBytesIf b (keeping before.machine).areas addr bytes s t) (sym refused) done) refl (put_refused limits.steps (session_at s) addr bytes refused) (means_as before after flat same file means) (ap (λ (z : Engine). (pages z.pager).areas) same) p
 
-pub bytes_unset : (limits : Limits) (rules : List Rule) (before after : Scene) (flat : Flat) (addr : ℕ) (bytes : List ℕ) → HasLetGo before.machine after.machine → MarksNoOther before.machine after.machine → WritesBlocks (keeping before.machine).areas before.file after.file →
+pub bytes_unset : (limits : Limits) (rules : List Rule) (before after : Scene) (flat : Flat) (addr : ℕ) (bytes : List ℕ) → HasLetGo before.machine after.machine → MarksNoOther before.machine after.machine → HasBroughtSome (pages_of_bytes addr (length bytes)) (residence before.machine) (residence after.machine) → WritesBlocks (keeping before.machine).areas before.file after.file →
     Means after.machine after.file (At flat) → after.sink ≡ before.sink → Holds (Err stopped.PageFault) (setting_of before limits rules) (Asks (DepositMemory addr bytes) ∷ []) (stand_at before (At flat)) after
-bytes_unset limits rules before after flat addr bytes kept marks writes means silent =
+bytes_unset limits rules before after flat addr bytes kept marks brings writes means silent =
     let g = setting_of before limits rules in
     line_short (λ x here. Fails g x here after) g (Asks (DepositMemory addr bytes)) (stand_at before (At flat)) (record {
       brings = record { steps = kept.steps; turns = kept.turns; frames = kept.frames; spoiled = kept.spoiled; pinned = kept.pinned; writes = writes };
+      residence = brings;
       only = marks;
       means = means;
       silent = silent;

@@ -8,13 +8,14 @@ use Rattle.vax_flat.specs.Parts.{Place, At, machine_at}
 use Rattle.vax_flat.specs.Port.{is_in}
 use Rattle.vax_flat.specs.Step.{Flat}
 use Rattle.vax_pager.specs.Meaning.{pages}
-use Rattle.vax_pager.specs.Poking.{OnlyRead, WritesBlocks}
+use Rattle.vax_pager.specs.Poking.{OnlyRead, ReadsAtMost, WritesBlocks, pages_of_bytes}
 use Rattle.vax_sched.specs.Due.{due}
 use Rattle.vax_sched.specs.declared.rule.Rule.{Rule}
 use Rattle.vax_machine.specs.Blocks.{Moved}
-use Rattle.vax_machine.specs.Console.{with_bytes, with_register}
-use Rattle.vax_machine.specs.Machine.{Means, modified_of}
+use Rattle.vax_machine.specs.Console.{pages_in, with_bytes, with_register}
+use Rattle.vax_machine.specs.Machine.{Means, modified_of, residence}
 use Rattle.vax_machine.specs.Paged.{Paged, Why, ByEnding, BySteps, ByTurns, paged, stops}
+use Rattle.vax_machine.specs.Residence.{HasBroughtSome, after_deposit}
 use Rattle.vax_machine.specs.Run as run
 use Rattle.vax_machine.specs.Run.{Runs, begun}
 use Rattle.vax_machine.specs.declared.event.Limits.{Limits}
@@ -110,18 +111,18 @@ pub record Stays (s t : Stand) : Type 0 where
   pub at : t.at ≡ s.at
   pub file : t.file ≡ s.file
 
--- so they are, but for reads of blocks
-pub record Reads (s t : Stand) : Type 0 where
+-- so they are, but for at most so many reads of blocks
+pub record Reads (most : ℕ) (s t : Stand) : Type 0 where
   pub at : t.at ≡ s.at
   pub file : OnlyRead s.file t.file
+  pub once : ReadsAtMost most s.file t.file
 
 -- a register has another value
 pub record SetsRegister (n value : ℕ) (s t : Stand) : Type 0 where
   pub at : t.at ≡ record s.at { place = At (with_register n value (machine_at s.at.place)) }
   pub file : t.file ≡ s.file
 
--- No step and no turn was made, and no page is pinned. Pages may have come in, those that made room were written to their blocks, and no other
--- block was.
+-- No step and no turn was made, and no page is pinned. Of the blocks those of the space's pages alone were written.
 pub record Brings (areas : List Area) (s t : Stand) : Type 0 where
   pub steps : t.at.steps ≡ s.at.steps
   pub turns : t.at.turns ≡ s.at.turns
@@ -130,10 +131,11 @@ pub record Brings (areas : List Area) (s t : Stand) : Type 0 where
   pub pinned : t.at.residence.pinned ≡ []
   pub writes : WritesBlocks areas s.file t.file
 
--- bytes of memory are others: their pages are modified, and no others that weren't
+-- bytes of memory are others: their pages came in, they are modified, and no others that weren't
 pub record SetsBytes (areas : List Area) (addr : ℕ) (bytes : List ℕ) (s t : Stand) : Type 0 where
   pub place : t.at.place ≡ At (with_bytes addr bytes (machine_at s.at.place))
   pub brings : Brings areas s t
+  pub residence : t.at.residence ≡ after_deposit (pages_of_bytes addr (length bytes)) s.at.residence
   pub marked : (page : ℕ) → is_in addr (length bytes) page ≡ true → t.at.modified page ≡ true
   pub only : (page : ℕ) → t.at.modified page ≡ true → (s.at.modified page || is_in addr (length bytes) page) ≡ true
 
@@ -153,7 +155,7 @@ steps_of g l s = steps_in g.limits.steps (session_at s) (l ∷ [])
 
 abbrev pub Answers : Setting → Request → Stand → Stand → Type 0
 Answers g (ExamineRegister n) s t = Stays s t
-Answers g (ExamineMemory addr count) s t = Reads s t
+Answers g (ExamineMemory addr count) s t = Reads (pages_in addr count) s t
 Answers g (DepositRegister n value) s t = SetsRegister n value s t
 Answers g (DepositMemory addr bytes) s t =
     SetsBytesIf (may_deposit (machine_at s.at.place).memory addr (length bytes)) g.areas addr bytes s t
@@ -196,14 +198,15 @@ BreaksOff g count s after =
     run.IsCut (limits_for g s count) g.areas g.rules s.at s.file after.machine after.file s.sink after.sink
 
 -- bytes weren't read: the machine is as it was
-pub record IsUnread (s : Stand) (after : Scene) : Type 0 where
-  pub reads : Reads s (stand_at after s.at.place)
+pub record IsUnread (most : ℕ) (s : Stand) (after : Scene) : Type 0 where
+  pub reads : Reads most s (stand_at after s.at.place)
   pub means : Means after.machine after.file s.at.place
   pub silent : after.sink ≡ s.sink
 
--- bytes weren't deposited: every byte is as it was, and no page is modified that wasn't
-pub record IsUnset (areas : List Area) (s : Stand) (after : Scene) : Type 0 where
+-- bytes weren't deposited: the first of their pages came in, every byte is as it was, and no page is modified that wasn't
+pub record IsUnset (areas : List Area) (pages : List ℕ) (s : Stand) (after : Scene) : Type 0 where
   pub brings : Brings areas s (stand_at after s.at.place)
+  pub residence : HasBroughtSome pages s.at.residence (residence after.machine)
   pub only : (page : ℕ) → modified_of after.machine page ≡ true → s.at.modified page ≡ true
   pub means : Means after.machine after.file s.at.place
   pub silent : after.sink ≡ s.sink
@@ -211,9 +214,9 @@ pub record IsUnset (areas : List Area) (s : Stand) (after : Scene) : Type 0 wher
 -- a call of the page file failed within a request
 abbrev pub RequestFails : Setting → Request → Stand → Scene → Type 0
 RequestFails g (ExamineRegister n) s after = ⊥
-RequestFails g (ExamineMemory addr count) s after = IsUnread s after
+RequestFails g (ExamineMemory addr count) s after = IsUnread (pages_in addr count) s after
 RequestFails g (DepositRegister n value) s after = ⊥
-RequestFails g (DepositMemory addr bytes) s after = IsUnset g.areas s after
+RequestFails g (DepositMemory addr bytes) s after = IsUnset g.areas (pages_of_bytes addr (length bytes)) s after
 RequestFails g (Next count) s after = BreaksOff g (steps_of g (Asks (Next count)) s) s after
 RequestFails g Continue s after = BreaksOff g (steps_of g (Asks Continue) s) s after
 RequestFails g Show s after = ⊥

@@ -23,3 +23,4 @@ pub mod Unwritten
 pub mod Between
 pub mod Showing
 pub mod Following
+pub mod Bringing

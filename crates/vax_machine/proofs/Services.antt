@@ -216,7 +216,7 @@ victim_inside s t page other bytes v e is some f few =
 
 -- a service that failed
 
-begun_same : (s : Paging) (from : Source) → (residence_of (begun from s) ≡ residence_of s) × ((begun from s).areas ≡ s.areas)
+pub begun_same : (s : Paging) (from : Source) → (residence_of (begun from s) ≡ residence_of s) × ((begun from s).areas ≡ s.areas)
 begun_same s Back = (refl, refl)
 begun_same s Empty = (refl, refl)
 begun_same s (OfKept page) = (refl, refl)

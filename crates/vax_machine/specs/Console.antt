@@ -1,5 +1,5 @@
 -- What a console is shown of a machine, and what it changes.
-use Rattle.std.specs.Prelude.{ℕ, zero, suc, ◌≡◌, ◌+◌, ◌*◌, ◌<◌, ◌⊎◌, ◌%◌, Bool, true, false, if◌then◌else◌, Option, Some, None, is_some, Result, Ok, Err, List, [], ◌∷◌, slice_index, slice_set}
+use Rattle.std.specs.Prelude.{ℕ, zero, suc, ◌≡◌, ◌+◌, ◌*◌, ◌<◌, ◌⊎◌, ◌/◌, ◌%◌, Bool, true, false, if◌then◌else◌, Option, Some, None, is_some, Result, Ok, Err, List, [], ◌∷◌, slice_index, slice_set}
 use Rattle.vax_space.specs.declared.Area.{Area}
 use Rattle.vax_space.specs.Areas.{area_of}
 use Rattle.vax_space.specs.Reference.{page_of}
@@ -9,8 +9,8 @@ use Rattle.vax_flat.specs.Parts.{Place, At, machine_at}
 use Rattle.vax_flat.specs.Step.{Flat}
 use Rattle.vax_cpu.specs.declared.cpu.Cpu.{Cpu}
 use Rattle.vax_pager.specs.declared.calls.PageFault.{PageFault}
-use Rattle.vax_machine.specs.Machine.{Keeping, KeepsPlace, Means, keeping}
-use Rattle.vax_machine.specs.Residence.{unpinned}
+use Rattle.vax_machine.specs.Machine.{Keeping, KeepsPlace, Means, keeping, residence}
+use Rattle.vax_machine.specs.Residence.{HasBroughtSome, after_deposit, unpinned}
 use Rattle.vax_machine.specs.declared.engine.Engine.{Engine}
 use Rattle.vax_machine.specs.declared.event.RunEnd.{RunEnd}
 use Rattle.vax_machine.specs.declared.event.RunEnd.TheVariants as run_end
@@ -46,6 +46,11 @@ cell_in (Some bytes) addr = Some (slice_index bytes (addr % 512))
 abbrev pub ShowsMemory : Engine → Option BlockFile → ℕ → ℕ → List (Option ℕ) → Type 0
 ShowsMemory m file addr count cells =
     (place : Place) → Means m file place → cells ≡ memory_from (machine_at place).memory addr count
+
+-- so many pages have these bytes
+unfoldable pub pages_in : ℕ → ℕ → ℕ
+pages_in addr zero = 0
+pages_in addr (suc more) = (addr % 512 + more) / 512 + 1
 
 -- no page is pinned, and none is wanted
 abbrev pub let_go : Keeping → Keeping
@@ -85,7 +90,7 @@ DepositsRegister n value old new =
 abbrev pub with_bytes : ℕ → List ℕ → Flat → Flat
 with_bytes addr bytes m = record m { memory = written_run m.memory addr bytes }
 
--- the processor and the counts stay; no page is pinned or wanted, and which are resident is left open
+-- the processor and the counts stay; no page is pinned or wanted
 pub record HasLetGo (old new : Engine) : Type 0 where
   pub cpu : new.cpu ≡ old.cpu
   pub areas : (keeping new).areas ≡ (keeping old).areas
@@ -96,6 +101,12 @@ pub record HasLetGo (old new : Engine) : Type 0 where
   pub pinned : (keeping new).residence.pinned ≡ []
   pub frames : (keeping new).residence.frames ≡ (keeping old).residence.frames
   pub spoiled : (keeping new).residence.spoiled ≡ (keeping old).residence.spoiled
+
+-- which pages are resident behind a deposit in these pages, by the answer: they came in, one after the other, or the first of them
+abbrev pub BringsPages : Result Bool PageFault → List ℕ → Engine → Engine → Type 0
+BringsPages (Ok true) pages old new = residence new ≡ after_deposit pages (residence old)
+BringsPages (Ok false) pages old new = new ≡ old
+BringsPages (Err e) pages old new = HasBroughtSome pages (residence old) (residence new)
 
 -- What a deposit of these bytes comes to, by the answer: the bytes change alone, or nothing does, or every byte is as it was.
 abbrev pub Deposits : Result Bool PageFault → ℕ → List ℕ → Engine → Option BlockFile → Engine → Option BlockFile → Type 0

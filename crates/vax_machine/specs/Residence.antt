@@ -1,5 +1,5 @@
 -- Which pages are resident and pinned, in order of service, which others keep a frame, and what events make of it.
-use Rattle.std.specs.Prelude.{ℕ, ◌+◌, ◌==◌, Bool, if◌then◌else◌, nat_lt, Option, Some, None, List, [], ◌∷◌, ◌++◌, length}
+use Rattle.std.specs.Prelude.{ℕ, ◌≡◌, ◌+◌, ◌==◌, Bool, false, if◌then◌else◌, nat_lt, Option, Some, None, List, [], ◌∷◌, ◌++◌, length}
 use Rattle.vax_outside.specs.Faults.{raised}
 use Rattle.vax_pager.specs.Listing.{is_listed, leave_out, first_outside}
 use Rattle.vax_pager.specs.Paging.{Paging}
@@ -64,3 +64,24 @@ unfoldable pub served : ℕ → Residence → Residence
 served page r =
     let room = without_victim (victim r) r in
     record room { order = room.order ++ page ∷ []; pinned = room.pinned ++ page ∷ []; kept = kept_after page r }
+
+-- a page comes in, if it isn't resident
+abbrev pub brought_in : ℕ → Residence → Residence
+brought_in page r = if is_resident r page then r else served page r
+
+unfoldable pub all_brought : List ℕ → Residence → Residence
+all_brought [] r = r
+all_brought (page ∷ pages) r = all_brought pages (brought_in page r)
+
+-- behind a deposit in these pages: no page is pinned before it and behind it
+abbrev pub after_deposit : List ℕ → Residence → Residence
+after_deposit pages r = unpinned (all_brought pages (unpinned r))
+
+-- behind one in which the service of a page failed: those in front of it came in
+pub record HasBroughtSome (pages : List ℕ) (r q : Residence) : Type 0 where
+  pub front : List ℕ
+  pub page : ℕ
+  pub rest : List ℕ
+  pub splits : pages ≡ front ++ page ∷ rest
+  pub away : is_resident (all_brought front (unpinned r)) page ≡ false
+  pub is : q ≡ after_deposit front r

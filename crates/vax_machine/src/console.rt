@@ -1,12 +1,13 @@
 //! What a console asks of a machine: bytes shown, and bytes and registers changed.
-ghost use Rattle.std.specs.Prelude.{is_err, ◌≡◌, ◌≢◌, ◌%◌, ◌<◌, ◌≤◌, ◌^◌, List, Option, None, IfOk, IfSome, OnOk, false, length};
+ghost use Rattle.std.specs.Prelude.{is_err, ◌≡◌, ◌≢◌, ◌%◌, ◌<◌, ◌≤◌, ◌^◌, List, Option, None, IfOk, IfSome, OnOk, true, false, ◌⊎◌, length};
 ghost use Rattle.vax_space.specs.declared.Area.{Area};
 ghost use Rattle.vax_space.specs.Reference.{page_of};
 ghost use Rattle.vax_outside.specs.Faults.{CountsFailure};
 ghost use Rattle.vax_pager.specs.Meaning.{pages};
 ghost use Rattle.vax_pager.specs.Paging.{Keeps, StandsWith};
-ghost use Rattle.vax_pager.specs.Poking.{OnlyRead, WritesBlocks};
-ghost use Rattle.vax_machine.specs.Console.{AreShown, IsPageOf, IsThereIn, cell_in, memory_from};
+ghost use Rattle.vax_pager.specs.Poking.{OnlyRead, ReadsAtMost, WritesBlocks, pages_of_bytes};
+ghost use Rattle.vax_machine.specs.Console.{AreShown, IsPageOf, IsThereIn, cell_in, memory_from, pages_in};
+ghost use Rattle.vax_machine.specs.Paged.{one_if};
 
 use crate::engine::Engine;
 use vax_outside::PageFile;
@@ -23,6 +24,7 @@ fn page_at<F: PageFile>(
 ) -> Result<Option<[u8; 512]>, PageFault>
     ensures same { pages pager.new ≡ pages pager.old }
     ensures reads { OnlyRead (F.contents file.old) (F.contents file.new) }
+    ensures once { ReadsAtMost (one_if is_other) (F.contents file.old) (F.contents file.new) }
     ensures keeps { Keeps (pages pager.old) (F.contents file.old) (pages pager.new)
         (F.contents file.new) }
     ensures none { (is_other ≡ false → IsThereIn (pages pager.old).areas (page_of addr) at_hand.now)
@@ -41,7 +43,8 @@ fn page_at<F: PageFile>(
 
 /// Whether a byte is the first of all, or of its page.
 fn is_first(place: usize, addr: u32) -> bool
-    ensures { result ≡ false → (0 < place) × (addr % 512 ≢ 0) }
+    ensures other { result ≡ false → (0 < place) × (addr % 512 ≢ 0) }
+    ensures first { result ≡ true → (place ≡ 0) ⊎ (addr % 512 ≡ 0) }
 {
     place == 0 || addr % PAGE_BYTES == 0
 }
@@ -56,6 +59,8 @@ fn show<F: PageFile>(
     requires few { length cells.old < 2 ^ 32 }
     ensures same { pages pager.new ≡ pages pager.old }
     ensures reads { OnlyRead (F.contents file.old) (F.contents file.new) }
+    ensures once { ReadsAtMost (pages_in addr (length cells.old)) (F.contents file.old)
+        (F.contents file.new) }
     ensures keeps { Keeps (pages pager.old) (F.contents file.old) (pages pager.new)
         (F.contents file.new) }
     ensures len { length cells.new ≡ length cells.old }
@@ -87,7 +92,7 @@ fn cell(page: &Option<[u8; 512]>, addr: u32) -> Option<u8>
 impl Engine {
     ghost use Rattle.vax_space.specs.Reference.{violation};
     ghost use Rattle.vax_flat.specs.Outcome.{is_allowed};
-    ghost use Rattle.vax_machine.specs.Console.{Deposits, DepositsRegister, ShowsMemory, cpu_with_register, let_go};
+    ghost use Rattle.vax_machine.specs.Console.{BringsPages, Deposits, DepositsRegister, ShowsMemory, cpu_with_register, let_go};
     ghost use Rattle.vax_machine.specs.Machine.{IsSound, KeepsPlace, keeping, modified_of};
     ghost use Rattle.vax_machine.specs.Marking.{Marks};
 
@@ -105,6 +110,8 @@ impl Engine {
         ensures keeps { keeping self.new ≡ keeping self.old }
         ensures same { pages self.new.pager ≡ pages self.old.pager }
         ensures reads { OnlyRead (F.contents file.old) (F.contents file.new) }
+        ensures once { ReadsAtMost (pages_in addr (length cells.old)) (F.contents file.old)
+            (F.contents file.new) }
         ensures means { KeepsPlace self.old (F.contents file.old) self.new (F.contents file.new) }
         ensures len { length cells.new ≡ length cells.old }
         ensures none { OnOk result (AreShown (keeping self.old).areas addr cells.new) }
@@ -133,6 +140,8 @@ impl Engine {
         ensures deposits { Deposits result addr bytes.now self.old (F.contents file.old) self.new
             (F.contents file.new) }
         ensures marks { Marks result addr (length bytes.now) self.old self.new }
+        ensures brings { BringsPages result (pages_of_bytes addr (length bytes.now)) self.old
+            self.new }
         ensures writes { WritesBlocks (keeping self.old).areas (F.contents file.old)
             (F.contents file.new) }
         ensures counts { CountsFailure (is_err result) (F.faults file.old) (F.faults file.new) }

@@ -37,8 +37,8 @@ impl Machine {
     ghost use Rattle.vax_flat.specs.Parts.{At};
     ghost use Rattle.vax_pager.specs.Calls.{IsByte};
     ghost use Rattle.vax_pager.specs.Listing.{first};
-    ghost use Rattle.vax_pager.specs.Poking.{OnlyRead, WritesBlocks};
-    ghost use Rattle.vax_machine.specs.Console.{AreShown, Deposits, DepositsRegister, IsBetween, ShowsMemory, StopsBetween, cpu_with_register, let_go};
+    ghost use Rattle.vax_pager.specs.Poking.{OnlyRead, ReadsAtMost, WritesBlocks, pages_of_bytes};
+    ghost use Rattle.vax_machine.specs.Console.{AreShown, BringsPages, Deposits, DepositsRegister, IsBetween, ShowsMemory, StopsBetween, cpu_with_register, let_go, pages_in};
     ghost use Rattle.vax_machine.specs.Machine.{Applies, HasSpent, KeepsPlace, Means, Moves, has_failed, keeping, modified_of, residence};
     ghost use Rattle.vax_machine.specs.Marking.{Marks};
     ghost use Rattle.vax_machine.specs.Events.{FollowsRun, KeepsPins, KeepsRun};
@@ -215,6 +215,7 @@ impl Machine {
         ensures keeps { keeping (engine self.new) ≡ keeping (engine self.old) }
         ensures same { memory_of self.new ≡ memory_of self.old }
         ensures reads { OnlyRead (F.contents file.old) (F.contents file.new) }
+        ensures once { ReadsAtMost 1 (F.contents file.old) (F.contents file.new) }
         ensures means { KeepsPlace (engine self.old) (F.contents file.old) (engine self.new)
             (F.contents file.new) }
         ensures err { OnErr result (F.contents file.new ≡ F.contents file.old) }
@@ -223,8 +224,8 @@ impl Machine {
         self.engine.pager.peek(addr, file)
     }
 
-    /// Fills cells with the bytes of memory from an address on, with no change of what is resident: None exactly where no area has the byte. After a
-    /// failure what the cells hold is left open.
+    /// Fills cells with the bytes of memory from an address on, with no change of what is resident: None exactly where no area has the byte. At most
+    /// one block is read for each page. After a failure what the cells hold is left open.
     pub fn dump<F: PageFile>(
         &mut self,
         addr: u32,
@@ -240,6 +241,8 @@ impl Machine {
         ensures keeps { keeping (engine self.new) ≡ keeping (engine self.old) }
         ensures same { memory_of self.new ≡ memory_of self.old }
         ensures reads { OnlyRead (F.contents file.old) (F.contents file.new) }
+        ensures once { ReadsAtMost (pages_in addr (length cells.old)) (F.contents file.old)
+            (F.contents file.new) }
         ensures means { KeepsPlace (engine self.old) (F.contents file.old) (engine self.new)
             (F.contents file.new) }
         ensures counts { CountsFailure (is_err result) (F.faults file.old) (F.faults file.new) }
@@ -257,8 +260,8 @@ impl Machine {
     /// Changes 1 to 64 bytes of memory whatever the protection of their pages; no string instruction is open. It answers false exactly where some
     /// byte lies in no area, or in a page that no mode may write (those that some mode may write the kernel may), and changes nothing then.
     ///
-    /// After any other answer no page is pinned and none is wanted; which pages are resident is left open. Exactly the pages of the bytes are modified
-    /// anew, and none where nothing was changed. After a failure every byte is as it was.
+    /// After any other answer no page is pinned and none is wanted. The pages of the bytes came in, by services as a run makes them; after a failure
+    /// the first of them. Exactly these pages are modified anew, and none where nothing was changed. After a failure every byte is as it was.
     pub fn poke<F: PageFile>(
         &mut self,
         addr: u32,
@@ -274,6 +277,8 @@ impl Machine {
         ensures deposits { Deposits result addr bytes.now (engine self.old) (F.contents file.old)
             (engine self.new) (F.contents file.new) }
         ensures marks { Marks result addr (length bytes.now) (engine self.old) (engine self.new) }
+        ensures brings { BringsPages result (pages_of_bytes addr (length bytes.now))
+            (engine self.old) (engine self.new) }
         ensures writes { WritesBlocks (keeping (engine self.old)).areas (F.contents file.old)
             (F.contents file.new) }
         ensures counts { CountsFailure (is_err result) (F.faults file.old) (F.faults file.new) }

@@ -12,7 +12,7 @@ use Rattle.vax_outside.specs.Blocks.{BlockFile, after_write, after_read, GivesBl
 use Rattle.vax_pager.specs.Listing.{is_listed, first_outside, first}
 use Rattle.vax_pager.specs.Paging.{Paging, home, content, is_clean, start_of, Backs, StandsWith, Keeps, ComesFrom}
 use Rattle.vax_pager.specs.Steps.{at, flushed, released, taken_back, brought, forgotten, removed}
-use Rattle.vax_pager.specs.Poking.{OnlyRead, without_reads}
+use Rattle.vax_pager.specs.Poking.{OnlyRead, ReadsAtMost, after_reads, without_reads}
 use Rattle.vax_pager.specs.Calls.{PeekedFrom, seen, after_flush, wrote_back, after_evict, read_for, Back, Empty, OfKept, OfVictim, source}
 use Rattle.vax_pager.proofs.Listing.{in_without}
 use Rattle.vax_pager.proofs.Standing.{stands_flushed, stands_released, stands_taken, stands_brought, stands_forgotten, stands_removed, home_flushed, home_forgotten, home_removed}
@@ -421,3 +421,19 @@ first_true a b h = rw h refl
 
 pub neither : (a b : Bool) → a ≡ false → b ≡ false → (a || b) ≡ false
 neither a b h k = rw h k
+
+-- at most one block was read
+
+pub once_unchanged : (file after : Option BlockFile) → after ≡ file → ReadsAtMost 1 file after
+unfolding after_reads
+once_unchanged file after e f told = (0, omega arith, e ∙ told)
+
+once_read : (p : ℕ) (s : Paging) (file : Option BlockFile) → ReadsAtMost 1 file (read_for p s file)
+unfolding read_for after_reads
+once_read p s file = elim (cases_Bool (s.blocked p)) [
+  | inl b ↦ rw b (λ f told. (1, omega arith, ap (λ (z : Option BlockFile). option_map after_read z) told))
+  | inr b ↦ rw b (λ f told. (0, omega arith, told))
+]
+
+pub once_peeked : (p : ℕ) (s : Paging) (file after : Option BlockFile) → after ≡ read_for p s file → ReadsAtMost 1 file after
+once_peeked p s file after e = subst (λ (z : Option BlockFile). ReadsAtMost 1 file z) (sym e) (once_read p s file)

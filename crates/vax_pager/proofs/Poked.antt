@@ -7,8 +7,8 @@ use Rattle.vax_flat.specs.Port.{is_in}
 use Rattle.vax_pager.specs.Calls.{IsPaging}
 use Rattle.vax_pager.specs.Listing.{is_listed}
 use Rattle.vax_pager.specs.Paging.{Keeps, Numbers, Paging, StandsWith}
-use Rattle.vax_pager.specs.Poking.{HasFailed, HasPoked, MarksNone, StaysAlike, WritesThere}
-use Rattle.vax_pager.specs.Steps.{settled}
+use Rattle.vax_pager.specs.Poking.{AllComeIn, HasFailed, HasPoked, MarksNone, SomeComeIn, StaysAlike, WritesThere, pages_of_bytes}
+use Rattle.vax_pager.specs.Steps.{OnlyWritten, settled}
 use Rattle.vax_pager.proofs.Marking.{none_settled, or_more, or_true, then_none}
 use Rattle.vax_pager.proofs.Poking.{then_alike}
 use Rattle.vax_pager.proofs.Turned.{port_stands, stands_settled, stands_turned}
@@ -47,11 +47,19 @@ module _ (s a b c : Paging) (file now : Option BlockFile) (first : a ≡ settled
   all_marks : MarksNone s file c now
   all_marks = then_none s a c file file now (none_settled s a file first) (then_none a b c file now now marks (none_settled b c now second))
 
-  pub has_failed : HasFailed s file c now
-  has_failed = record { alike = all_alike; unpinned = pins_settled b c second; keeps = all_keeps; marks = all_marks }
+  pub has_failed : (addr count : ℕ) → SomeComeIn (pages_of_bytes addr count) a b → HasFailed addr count s file c now
+  has_failed addr count brings = record {
+    alike = all_alike;
+    unpinned = pins_settled b c second;
+    keeps = all_keeps;
+    marks = all_marks;
+    mid = b;
+    brings = subst (λ (z : Paging). SomeComeIn (pages_of_bytes addr count) z b) first brings;
+    then = second;
+  }
 
-  pub has_poked : (t : Paging) (addr : ℕ) (bytes : List ℕ) → IsPaging c → WritesThere c addr bytes t → HasPoked addr bytes s file t now
-  has_poked t addr bytes f w =
+  pub has_poked : (t : Paging) (addr : ℕ) (bytes : List ℕ) → IsPaging c → AllComeIn (pages_of_bytes addr (length bytes)) a b → WritesThere c addr bytes t → HasPoked addr bytes s file t now
+  has_poked t addr bytes f brings w =
       let o = w.only in
       record {
         alike = then_alike s c t all_alike (record { areas = o.areas; frames = o.frames; spoiled = ap (λ (z : Numbers). z.spoiled) o.numbers });
@@ -63,4 +71,7 @@ module _ (s a b c : Paging) (file now : Option BlockFile) (first : a ≡ settled
         marked = λ page h. w.marked page ∙ (ap (λ (z : Bool). is_listed page c.modified || z) h ∙ or_true (is_listed page c.modified));
         only = λ page h. or_more (is_listed page c.modified) (is_listed page s.modified) (is_in addr (length bytes) page) (all_marks.marked page) (sym (w.marked page) ∙ h);
         writes = all_marks.writes;
+        mid = b;
+        brings = subst (λ (z : Paging). AllComeIn (pages_of_bytes addr (length bytes)) z b) first brings;
+        then = subst (λ (z : Paging). OnlyWritten z t) second o;
       }

@@ -21,10 +21,10 @@ use Rattle.vax_flat.proofs.Memory.{byte_at-written_run}
 use Rattle.vax_flat.proofs.Standing.{stands_written_run}
 use Rattle.vax_undo.specs.Answers.{err_of}
 use Rattle.vax_undo.proofs.Accesses.{fine}
-use Rattle.vax_pager.specs.Calls.{Back, Empty, IsLeft, IsPaging, Nowhere, OfKept, OfVictim, Source, after_flush, begun, came}
+use Rattle.vax_pager.specs.Calls.{Back, Empty, IsLeft, IsPaging, Nowhere, OfKept, OfVictim, Source, after_flush, begun, came, source}
 use Rattle.vax_pager.specs.Listing.{is_listed}
 use Rattle.vax_pager.specs.Paging.{ComesFrom, Paging, view_of}
-use Rattle.vax_pager.specs.Poking.{BringsIn, HasFailed, IsPage, Pokes, StaysAlike, WritesThere}
+use Rattle.vax_pager.specs.Poking.{AllComeIn, BringsIn, ComesIn, ComesInBy, HasFailed, IsPage, Pokes, SomeComeIn, StaysAlike, StaysOut, WritesThere}
 use Rattle.vax_pager.specs.Steps.{OnlyWritten, brought, flushed, forgotten, removed, taken_back}
 use Rattle.vax_pager.specs.declared.calls.PageFault.{PageFault}
 use Rattle.vax_pager.proofs.Apart.{in_parts}
@@ -246,7 +246,7 @@ first_inside areas addr len small allowed low =
 
 -- the answers
 
-pub failed_pokes : (r : Result Bool PageFault) (addr : ℕ) (bytes : List ℕ) (s t : Paging) (file now : Option BlockFile) → IsErr r → HasFailed s file t now → Pokes r addr bytes s file t now
+pub failed_pokes : (r : Result Bool PageFault) (addr : ℕ) (bytes : List ℕ) (s t : Paging) (file now : Option BlockFile) → IsErr r → HasFailed addr (length bytes) s file t now → Pokes r addr bytes s file t now
 failed_pokes (Ok x) addr bytes s t file now e h = let no : false ≡ true = e in cc
 failed_pokes (Err x) addr bytes s t file now e h = h
 
@@ -260,3 +260,31 @@ allowed_by (Err x) v h e = let no : true ≡ false = e in cc
 
 pub never_stopped : (r : Result (Unit {0}) Stop) (e : Stop) (x : Option Stop) → r ≡ Err e → err_of r ≡ x → x ≡ None → ⊥
 never_stopped r e x is h n = let k : Some e ≡ None = sym (ap err_of is) ∙ (h ∙ n) in cc
+
+-- pages that come in
+
+pub comes_served : (page : ℕ) (s t : Paging) → is_listed page s.order ≡ false → t ≡ came (source page s) page (t.frame page) s → IsPaging s → length s.pinned < s.frames → ComesIn page s t
+comes_served page s t away e f few = record { by = subst (λ (b : Bool). ComesInBy b page s t) (sym away) e; paging = f; room = few }
+
+pub comes_there : (page : ℕ) (s : Paging) → is_listed page s.order ≡ true → IsPaging s → length s.pinned < s.frames → ComesIn page s s
+comes_there page s here f few = record { by = subst (λ (b : Bool). ComesInBy b page s s) (sym here) refl; paging = f; room = few }
+
+pub stays_out : (page : ℕ) (s t : Paging) (file after : Option BlockFile) → is_listed page s.order ≡ false → IsLeft (source page s) page s file t after → StaysOut page s t
+stays_out page s t file after away (inl h) = record { away = away; stays = inl h.1 }
+stays_out page s t file after away (inr h) = record { away = away; stays = inr h.1 }
+
+pub three_come : (x y z : ℕ) (a b c d : Paging) → ComesIn x a b → ComesIn y b c → ComesIn z c d → AllComeIn (x ∷ y ∷ z ∷ []) a d
+unfolding AllComeIn
+three_come x y z a b c d p q r = (b, p, (c, q, (d, r, refl)))
+
+pub first_out : (x y z : ℕ) (a b : Paging) → StaysOut x a b → SomeComeIn (x ∷ y ∷ z ∷ []) a b
+unfolding AllComeIn
+first_out x y z a b o = record { front = []; page = x; rest = y ∷ z ∷ []; splits = refl; mid = a; came = refl; out = o }
+
+pub second_out : (x y z : ℕ) (a b c : Paging) → ComesIn x a b → StaysOut y b c → SomeComeIn (x ∷ y ∷ z ∷ []) a c
+unfolding AllComeIn
+second_out x y z a b c p o = record { front = x ∷ []; page = y; rest = z ∷ []; splits = refl; mid = b; came = (b, p, refl); out = o }
+
+pub third_out : (x y z : ℕ) (a b c d : Paging) → ComesIn x a b → ComesIn y b c → StaysOut z c d → SomeComeIn (x ∷ y ∷ z ∷ []) a d
+unfolding AllComeIn
+third_out x y z a b c d p q o = record { front = x ∷ y ∷ []; page = z; rest = []; splits = refl; mid = c; came = (b, p, (c, q, refl)); out = o }

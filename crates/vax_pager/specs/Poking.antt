@@ -1,15 +1,16 @@
 -- What bytes that are written from outside make of a pager.
-use Rattle.std.specs.Prelude.{ℕ, ◌≡◌, ◌+◌, ◌*◌, ◌<◌, ◌||◌, Bool, true, false, Option, Some, Result, Ok, Err, List, [], ◌∷◌, ◌++◌, length, slice_index}
+use Rattle.std.specs.Prelude.{ℕ, zero, suc, ◌≡◌, ◌≤◌, ◌+◌, ◌-◌, ◌*◌, ◌<◌, ◌⊎◌, ◌||◌, Bool, true, false, Option, Some, Result, Ok, Err, List, [], ◌∷◌, ◌++◌, length, slice_index}
 use Rattle.std.specs.Option.{option_map}
 use Rattle.vax_space.specs.declared.Area.{Area}
 use Rattle.vax_space.specs.Areas.{block_of}
-use Rattle.vax_space.specs.Reference.{page_of}
-use Rattle.vax_outside.specs.Blocks.{BlockFile}
+use Rattle.vax_space.specs.Reference.{byte_after, page_of}
+use Rattle.vax_outside.specs.Blocks.{BlockFile, after_read}
 use Rattle.vax_flat.specs.Memory.{byte_at, written_run}
 use Rattle.vax_flat.specs.Port.{StandsFor, is_in}
+use Rattle.vax_pager.specs.Calls.{IsPaging, begun, came, source}
 use Rattle.vax_pager.specs.Listing.{is_listed}
 use Rattle.vax_pager.specs.Paging.{Keeps, Paging, StandsWith, view_of}
-use Rattle.vax_pager.specs.Steps.{OnlyWritten}
+use Rattle.vax_pager.specs.Steps.{OnlyWritten, settled}
 use Rattle.vax_pager.specs.declared.calls.PageFault.{PageFault}
 
 -- the bytes of a page of each memory that the pager stands for with this file
@@ -27,6 +28,15 @@ without_reads contents = option_map unread contents
 abbrev pub OnlyRead : Option BlockFile → Option BlockFile → Type 0
 OnlyRead before after = without_reads after ≡ without_reads before
 
+-- so many blocks were read
+unfoldable pub after_reads : ℕ → BlockFile → BlockFile
+after_reads zero file = file
+after_reads (suc count) file = after_read (after_reads count file)
+
+-- where the file tells its blocks, at most so many were read, and none was written
+abbrev pub ReadsAtMost : ℕ → Option BlockFile → Option BlockFile → Type 0
+ReadsAtMost most before after = (f : BlockFile) → before ≡ Some f → (count : ℕ) × (count ≤ most) × (after ≡ Some (after_reads count f))
+
 -- what stays while pages come in and make room
 pub record StaysAlike (s t : Paging) : Type 0 where
   pub areas : t.areas ≡ s.areas
@@ -38,6 +48,43 @@ pub record BringsIn (page : ℕ) (s t : Paging) : Type 0 where
   pub here : is_listed page t.order ≡ true
   pub same : is_listed page s.order ≡ true → t ≡ s
   pub pinned : is_listed page s.order ≡ false → t.pinned ≡ s.pinned ++ page ∷ []
+
+-- a page comes in, by a service where it isn't resident
+abbrev pub ComesInBy : Bool → ℕ → Paging → Paging → Type 0
+ComesInBy true page s t = t ≡ s
+ComesInBy false page s t = t ≡ came (source page s) page (t.frame page) s
+
+-- so it does where one page more may be pinned
+pub record ComesIn (page : ℕ) (s t : Paging) : Type 0 where
+  pub by : ComesInBy (is_listed page s.order) page s t
+  pub paging : IsPaging s
+  pub room : length s.pinned < s.frames
+
+-- pages come in, one after the other
+unfoldable pub AllComeIn : List ℕ → Paging → Paging → Type 0
+AllComeIn [] s t = t ≡ s
+AllComeIn (page ∷ pages) s t = (mid : Paging) × ComesIn page s mid × AllComeIn pages mid t
+
+-- the service of the page failed: the page that was to make room may have been written
+pub record StaysOut (page : ℕ) (s t : Paging) : Type 0 where
+  pub away : is_listed page s.order ≡ false
+  pub stays : (t ≡ s) ⊎ (t ≡ begun (source page s) s)
+
+-- the first of these pages came in, and the next didn't
+pub record SomeComeIn (pages : List ℕ) (s t : Paging) : Type 0 where
+  pub front : List ℕ
+  pub page : ℕ
+  pub rest : List ℕ
+  pub splits : pages ≡ front ++ page ∷ rest
+  pub mid : Paging
+  pub came : AllComeIn front s mid
+  pub out : StaysOut page mid t
+
+-- the pages of bytes from an address on, of which the service of the last may make the first absent
+abbrev pub pages_of_bytes : ℕ → ℕ → List ℕ
+pages_of_bytes addr count =
+    let first = page_of addr in
+    first ∷ page_of (byte_after addr (count - 1)) ∷ first ∷ []
 
 -- bytes were written to resident pages
 pub record WritesThere (s : Paging) (addr : ℕ) (bytes : List ℕ) (t : Paging) : Type 0 where
@@ -78,16 +125,22 @@ pub record HasPoked (addr : ℕ) (bytes : List ℕ) (s : Paging) (file : Option 
   pub marked : (page : ℕ) → is_in addr (length bytes) page ≡ true → is_listed page t.modified ≡ true
   pub only : (page : ℕ) → is_listed page t.modified ≡ true → (is_listed page s.modified || is_in addr (length bytes) page) ≡ true
   pub writes : WritesBlocks s.areas file after
+  pub mid : Paging
+  pub brings : AllComeIn (pages_of_bytes addr (length bytes)) (settled s) mid
+  pub then : OnlyWritten (settled mid) t
 
 -- every byte is as it was, no page is modified that wasn't, and no page is pinned
-pub record HasFailed (s : Paging) (file : Option BlockFile) (t : Paging) (after : Option BlockFile) : Type 0 where
+pub record HasFailed (addr count : ℕ) (s : Paging) (file : Option BlockFile) (t : Paging) (after : Option BlockFile) : Type 0 where
   pub alike : StaysAlike s t
   pub unpinned : t.pinned ≡ []
   pub keeps : Keeps s file t after
   pub marks : MarksNone s file t after
+  pub mid : Paging
+  pub brings : SomeComeIn (pages_of_bytes addr count) (settled s) mid
+  pub then : t ≡ settled mid
 
 -- what writing these bytes comes to, where it isn't refused
 abbrev pub Pokes : Result Bool PageFault → ℕ → List ℕ → Paging → Option BlockFile → Paging → Option BlockFile → Type 0
 Pokes (Ok true) addr bytes s file t after = HasPoked addr bytes s file t after
 Pokes (Ok false) addr bytes s file t after = Unit {0}
-Pokes (Err e) addr bytes s file t after = HasFailed s file t after
+Pokes (Err e) addr bytes s file t after = HasFailed addr (length bytes) s file t after

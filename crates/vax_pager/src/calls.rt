@@ -19,7 +19,7 @@ impl Store {
     ghost use Rattle.vax_lists.specs.Lines.{frame_in};
     ghost use Rattle.vax_pager.specs.Listing.{is_listed};
     ghost use Rattle.vax_pager.specs.Paging.{ComesFrom, Keeps};
-    ghost use Rattle.vax_pager.specs.Poking.{OnlyRead};
+    ghost use Rattle.vax_pager.specs.Poking.{OnlyRead, ReadsAtMost};
     ghost use Rattle.vax_pager.specs.Steps.{brought, forgotten, removed};
     ghost use Rattle.vax_pager.specs.Calls.{Empty, FillsFrame, OfKept, OfVictim, WhereNoCall, after_flush, wrote_back, after_evict, read_for, source, victim_of, came, file_after, IsByte, IsLeft, PeekedFrom};
     ghost use Rattle.vax_pager.specs.Store.{IsSound, paging};
@@ -293,6 +293,7 @@ impl Store {
         ensures from { IfOk result
             (λ r. IfSome r (PeekedFrom (paging self.now) (F.contents file.old) addr)) }
         ensures reads { OnlyRead (F.contents file.old) (F.contents file.new) }
+        ensures once { ReadsAtMost 1 (F.contents file.old) (F.contents file.new) }
         ensures untouched { is_listed (page_of addr) (paging self.now).order ≡ true
             → file.new ≡ file.old }
         ensures kept { is_listed (page_of addr) (paging self.now).kept ≡ true

@@ -40,7 +40,7 @@ impl Pager {
     ghost use Rattle.vax_pager.specs.Steps.{settled};
     ghost use Rattle.vax_pager.specs.Calls.{FillsFrame, IsByte, IsLeft, PeekedFrom, WhereNoCall, after_evict, after_flush, came, file_after, fresh, source, victim_of, wrote_back};
     ghost use Rattle.vax_pager.specs.Meaning.{hits, pages};
-    ghost use Rattle.vax_pager.specs.Poking.{IsPage, OnlyRead, Pokes};
+    ghost use Rattle.vax_pager.specs.Poking.{IsPage, OnlyRead, Pokes, ReadsAtMost};
 
     /// A pager over a space, with so many frames, 64 to 32,768. No page is resident, and with any page file it stands
     /// for the memory at the start.
@@ -140,6 +140,7 @@ impl Pager {
             (λ r. IfSome r (PeekedFrom (pages self.old) (F.contents file.old) addr)) }
         ensures same { pages self.new ≡ pages self.old }
         ensures reads { OnlyRead (F.contents file.old) (F.contents file.new) }
+        ensures once { ReadsAtMost 1 (F.contents file.old) (F.contents file.new) }
         ensures keeps { Keeps (pages self.old) (F.contents file.old) (pages self.new)
             (F.contents file.new) }
         ensures untouched { is_listed (page_of addr) (pages self.old).order ≡ true
@@ -165,6 +166,7 @@ impl Pager {
             (λ r. IfSome r (IsPage (pages self.old) (F.contents file.old) page)) }
         ensures same { pages self.new ≡ pages self.old }
         ensures reads { OnlyRead (F.contents file.old) (F.contents file.new) }
+        ensures once { ReadsAtMost 1 (F.contents file.old) (F.contents file.new) }
         ensures keeps { Keeps (pages self.old) (F.contents file.old) (pages self.new)
             (F.contents file.new) }
         ensures err { OnErr result (F.contents file.new ≡ F.contents file.old) }

@@ -1,5 +1,5 @@
 //! What a console asks of a pager: the bytes of a page, and bytes written whatever the page's protection.
-ghost use Rattle.std.specs.Prelude.{is_err, ◌≡◌, ◌+◌, ◌-◌, ◌<◌, ◌≤◌, ◌%◌, true, false, length, is_some, IfOk, IfSome, OnOk, OnErr, None, []};
+ghost use Rattle.std.specs.Prelude.{is_err, ◌≡◌, ◌+◌, ◌-◌, ◌<◌, ◌≤◌, ◌%◌, true, false, length, is_some, IfOk, IfSome, OnOk, OnErr, None, [], ◌∷◌};
 ghost use Rattle.vax_outside.specs.Faults.{CountsFailure};
 
 use crate::PageFault;
@@ -16,7 +16,7 @@ impl Store {
     ghost use Rattle.vax_flat.specs.Outcome.{is_allowed};
     ghost use Rattle.vax_pager.specs.Listing.{is_listed};
     ghost use Rattle.vax_pager.specs.Paging.{Keeps};
-    ghost use Rattle.vax_pager.specs.Poking.{BringsIn, IsPage, MarksNone, OnlyRead, Pokes, StaysAlike, WritesThere};
+    ghost use Rattle.vax_pager.specs.Poking.{AllComeIn, BringsIn, ComesIn, IsPage, MarksNone, OnlyRead, Pokes, ReadsAtMost, SomeComeIn, StaysAlike, StaysOut, WritesThere};
     ghost use Rattle.vax_pager.specs.Store.{IsSound, paging};
 
     /// The bytes of a page, resident or not.
@@ -31,6 +31,7 @@ impl Store {
         ensures bytes { IfOk result
             (λ r. IfSome r (IsPage (paging self.now) (F.contents file.old) page)) }
         ensures reads { OnlyRead (F.contents file.old) (F.contents file.new) }
+        ensures once { ReadsAtMost 1 (F.contents file.old) (F.contents file.new) }
         ensures err { OnErr result (F.contents file.new ≡ F.contents file.old) }
         ensures keeps { Keeps (paging self.now) (F.contents file.old) (paging self.now)
             (F.contents file.new) }
@@ -60,6 +61,8 @@ impl Store {
         ensures marks { MarksNone (paging self.old) (F.contents file.old) (paging self.new)
             (F.contents file.new) }
         ensures brings { OnOk result (BringsIn page (paging self.old) (paging self.new)) }
+        ensures comes { OnOk result (ComesIn page (paging self.old) (paging self.new)) }
+        ensures out { OnErr result (StaysOut page (paging self.old) (paging self.new)) }
         ensures counts { CountsFailure (is_err result) (F.faults file.old) (F.faults file.new) }
         ensures keeps { Keeps (paging self.old) (F.contents file.old) (paging self.new)
             (F.contents file.new) }
@@ -88,6 +91,10 @@ impl Store {
             (F.contents file.new) }
         ensures low { OnOk result (is_listed low (paging self.new).order ≡ true) }
         ensures high { OnOk result (is_listed high (paging self.new).order ≡ true) }
+        ensures comes { OnOk result
+            (AllComeIn (low ∷ high ∷ low ∷ []) (paging self.old) (paging self.new)) }
+        ensures out { OnErr result
+            (SomeComeIn (low ∷ high ∷ low ∷ []) (paging self.old) (paging self.new)) }
         ensures counts { CountsFailure (is_err result) (F.faults file.old) (F.faults file.new) }
         ensures keeps { Keeps (paging self.old) (F.contents file.old) (paging self.new)
             (F.contents file.new) }

@@ -1,8 +1,9 @@
-use Rattle.std.proofs.Common.{◌≡◌, ◌∙◌, List, ℕ, Option, ap, refl}
+use Rattle.std.proofs.Common.{◌≡◌, ◌∙◌, List, ℕ, Option, ap, refl, subst}
 use Rattle.std.proofs.lemmas.List.{length-take-le}
 use Rattle.vax_report.specs.Lines.{memory_line}
 use Rattle.vax_flat.specs.Parts.{At}
-use Rattle.vax_machine.specs.Console.{memory_from}
+use Rattle.vax_pager.specs.Poking.{ReadsAtMost}
+use Rattle.vax_machine.specs.Console.{memory_from, pages_in}
 use Rattle.vax_machine.specs.Machine.{Keeping}
 use Rattle.vax_machine.specs.Meaning.{engine}
 use Rattle.vax_script.specs.declared.request.Request.TheVariants.{ExamineMemory}
@@ -42,11 +43,13 @@ returns-in-Err-clause-spends g c rules m means =
 pub returns-in-Ok-clause-holds : goal.returns-in-Ok-clause-holds
 returns-in-Ok-clause-holds g c rules m means =
     let cells : c.dump.new.cells ≡ memory_from m.memory c.args.addr c.args.count = c.in-Ok.ensures.bytes (At m) means ∙ ap (λ (n : ℕ). memory_from m.memory c.args.addr n) (length-take-le c.args.count _ c.requires.few) in
+    let once = subst (λ (n : ℕ). ReadsAtMost (pages_in c.args.addr n) (g.F.PageFile.contents c.args.file.now) (g.F.PageFile.contents c.dump.new.file)) (length-take-le c.args.count _ c.requires.few) c.dump.ensures.once in
     memory_held c.reply_memory.result c.args.limits.now rules (scene (engine c.args.machine.now) (g.F.PageFile.contents c.args.file.now) (g.K.Sink.contents c.args.sink.now)) (scene (engine c.dump.new.self) (g.F.PageFile.contents c.dump.new.file) (g.K.Sink.contents c.reply_memory.new.sink)) m c.args.addr c.args.count (g.K.Sink.faults c.args.sink.now) (g.K.Sink.faults c.reply_memory.new.sink)
-    c.dump.ensures.keeps c.dump.ensures.same c.dump.ensures.reads (c.dump.ensures.means (At m) means)
+    c.dump.ensures.keeps c.dump.ensures.same c.dump.ensures.reads once (c.dump.ensures.means (At m) means)
     (replies_as c.reply_memory.result (g.K.Sink.faults c.args.sink.now) (g.K.Sink.faults c.reply_memory.new.sink) (g.K.Sink.contents c.args.sink.now) (g.K.Sink.contents c.reply_memory.new.sink) _ _ (ap (λ (z : List (Option ℕ)). memory_line c.args.addr z) cells) c.reply_memory.ensures)
 
 pub returns-in-Err-clause-holds : goal.returns-in-Err-clause-holds
 returns-in-Err-clause-holds g c rules m means =
+    let once = subst (λ (n : ℕ). ReadsAtMost (pages_in c.args.addr n) (g.F.PageFile.contents c.args.file.now) (g.F.PageFile.contents c.dump.new.file)) (length-take-le c.args.count _ c.requires.few) c.dump.ensures.once in
     memory_unread c.args.limits.now rules (scene (engine c.args.machine.now) (g.F.PageFile.contents c.args.file.now) (g.K.Sink.contents c.args.sink.now)) (scene (engine c.dump.new.self) (g.F.PageFile.contents c.dump.new.file) (g.K.Sink.contents c.args.sink.now)) m c.args.addr c.args.count
-    c.dump.ensures.keeps c.dump.ensures.same c.dump.ensures.reads (c.dump.ensures.means (At m) means) refl
+    c.dump.ensures.keeps c.dump.ensures.same c.dump.ensures.reads once (c.dump.ensures.means (At m) means) refl

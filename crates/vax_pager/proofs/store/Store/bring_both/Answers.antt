@@ -5,7 +5,8 @@ use Rattle.vax_space.specs.Areas.{area_of}
 use Rattle.vax_outside.proofs.Counting.{counts_then}
 use Rattle.vax_pager.proofs.Marking.{then_none}
 use Rattle.vax_pager.proofs.Told.{is_paging}
-use Rattle.vax_pager.proofs.Poking.{both_here, pins_in, then_alike}
+use Rattle.vax_pager.proofs.Poking.{both_here, first_out, pins_in, second_out, then_alike, third_out, three_come}
+use Rattle.vax_pager.proofs.Effects.{on_err}
 use Rattle.vax_pager.proofs.store.Store.bring_both.Goals as goal
 
 pub bring_in-requires-clause-pins : goal.bring_in-requires-clause-pins
@@ -76,3 +77,15 @@ returns-in_err-bring_in-3-clause-marks g c = then_none _ _ _ _ _ _ (then_none _ 
 
 pub returns-clause-marks : goal.returns-clause-marks
 returns-clause-marks g c = then_none _ _ _ _ _ _ (then_none _ _ _ _ _ _ c.bring_in.ensures.marks c.bring_in-2.ensures.marks) c.bring_in-3.ensures.marks
+
+pub returns-clause-comes : goal.returns-clause-comes
+returns-clause-comes g c = three_come c.args.low c.args.high c.args.low _ _ _ _ c.in_ok-bring_in.ensures.comes c.in_ok-bring_in-2.ensures.comes c.in_ok-bring_in-3.ensures.comes
+
+pub returns-in_err-bring_in-clause-out : goal.returns-in_err-bring_in-clause-out
+returns-in_err-bring_in-clause-out g c = on_err c.from_residual.result (first_out c.args.low c.args.high c.args.low _ _ c.in_err-bring_in.ensures.out)
+
+pub returns-in_err-bring_in-2-clause-out : goal.returns-in_err-bring_in-2-clause-out
+returns-in_err-bring_in-2-clause-out g c = on_err c.from_residual-in_err-bring_in-2.result (second_out c.args.low c.args.high c.args.low _ _ _ c.in_ok-bring_in.ensures.comes c.in_err-bring_in-2.ensures.out)
+
+pub returns-in_err-bring_in-3-clause-out : goal.returns-in_err-bring_in-3-clause-out
+returns-in_err-bring_in-3-clause-out g c = on_err c.from_residual-in_err-bring_in-3.result (third_out c.args.low c.args.high c.args.low _ _ _ _ c.in_ok-bring_in.ensures.comes c.in_ok-bring_in-2.ensures.comes c.in_err-bring_in-3.ensures.out)

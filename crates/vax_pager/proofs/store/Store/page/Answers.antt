@@ -1,5 +1,5 @@
-use Rattle.std.proofs.Common.{rules, ◌∙◌}
-use Rattle.vax_pager.proofs.Effects.{keeps_peeked, keeps_unchanged, reads_peeked, reads_unchanged}
+use Rattle.std.proofs.Common.{refl, rules, ◌∙◌}
+use Rattle.vax_pager.proofs.Effects.{keeps_peeked, keeps_unchanged, once_peeked, once_unchanged, reads_peeked, reads_unchanged}
 use Rattle.vax_pager.proofs.Poking.{page_absent, page_kept, page_resident}
 use Rattle.vax_pager.proofs.Views.{get_same}
 use Rattle.vax_pager.proofs.store.Store.page.Goals as goal
@@ -24,3 +24,18 @@ returns-clause-reads g c = reads_peeked _ _ _ _ c.in_ok-bytes.ensures.read
 
 pub returns-in_err-bytes-clause-reads : goal.returns-in_err-bytes-clause-reads
 returns-in_err-bytes-clause-reads g c = reads_unchanged _ _ c.in_err-bytes.ensures.err
+
+pub returns-clause-once : goal.returns-clause-once
+returns-clause-once g c = once_peeked _ _ _ _ c.in_ok-bytes.ensures.read
+
+pub returns-in_err-bytes-clause-once : goal.returns-in_err-bytes-clause-once
+returns-in_err-bytes-clause-once g c = once_unchanged _ _ c.in_err-bytes.ensures.err
+
+pub returns-then-not-has-clause-once : goal.returns-then-not-has-clause-once
+returns-then-not-has-clause-once g c = once_unchanged _ _ refl
+
+pub returns-then-is_resident-clause-once : goal.returns-then-is_resident-clause-once
+returns-then-is_resident-clause-once g c = once_unchanged _ _ refl
+
+pub returns-in-Some-clause-once : goal.returns-in-Some-clause-once
+returns-in-Some-clause-once g c = once_unchanged _ _ refl

@@ -1,8 +1,8 @@
-use Rattle.std.proofs.Common.{rules}
+use Rattle.std.proofs.Common.{refl, rules}
 use Rattle.vax_space.specs.Reference.{page_of}
 use Rattle.vax_pager.specs.Listing.{is_listed}
 use Rattle.vax_pager.specs.Store.{paging}
-use Rattle.vax_pager.proofs.Effects.{either_true, first_true, neither, peek_absent, peek_kept, peek_resident, keeps_peeked, keeps_unchanged, reads_peeked, reads_unchanged, peeked_frame, peeked_home}
+use Rattle.vax_pager.proofs.Effects.{either_true, first_true, neither, peek_absent, peek_kept, peek_resident, keeps_peeked, keeps_unchanged, once_peeked, once_unchanged, reads_peeked, reads_unchanged, peeked_frame, peeked_home}
 use Rattle.vax_pager.proofs.store.Store.peek.Goals as goal
 
 pub returns-then-is_resident-clause-byte : goal.returns-then-is_resident-clause-byte
@@ -34,3 +34,18 @@ returns-clause-reads g c = reads_peeked _ _ _ _ c.in_ok-bytes.ensures.read
 
 pub returns-in_err-bytes-clause-reads : goal.returns-in_err-bytes-clause-reads
 returns-in_err-bytes-clause-reads g c = reads_unchanged _ _ c.in_err-bytes.ensures.err
+
+pub returns-clause-once : goal.returns-clause-once
+returns-clause-once g c = once_peeked _ _ _ _ c.in_ok-bytes.ensures.read
+
+pub returns-in_err-bytes-clause-once : goal.returns-in_err-bytes-clause-once
+returns-in_err-bytes-clause-once g c = once_unchanged _ _ c.in_err-bytes.ensures.err
+
+pub returns-then-not-has-clause-once : goal.returns-then-not-has-clause-once
+returns-then-not-has-clause-once g c = once_unchanged _ _ refl
+
+pub returns-then-is_resident-clause-once : goal.returns-then-is_resident-clause-once
+returns-then-is_resident-clause-once g c = once_unchanged _ _ refl
+
+pub returns-in-Some-clause-once : goal.returns-in-Some-clause-once
+returns-in-Some-clause-once g c = once_unchanged _ _ refl

@@ -32,7 +32,7 @@ bring_both-brought-requires-clause-frames g c = let e = frames_settled _ _ c.set
 pub returns-in_err-brought-clause-pokes : goal.returns-in_err-brought-clause-pokes
 returns-in_err-brought-clause-pokes g c =
     failed_pokes c.from_residual.result c.args.addr c.args.bytes.now _ _ _ _ c.from_residual.ensures.0
-    (has_failed _ _ _ _ _ _ c.settle.ensures.paging c.bring_both-brought.ensures.alike c.bring_both-brought.ensures.keeps c.settle-2.ensures.paging c.bring_both-brought.ensures.marks)
+    (has_failed _ _ _ _ _ _ c.settle.ensures.paging c.bring_both-brought.ensures.alike c.bring_both-brought.ensures.keeps c.settle-2.ensures.paging c.bring_both-brought.ensures.marks c.args.addr (length c.args.bytes.now) c.in_err-brought.ensures.out)
 
 pub put_bytes-requires-clause-allowed : goal.put_bytes-requires-clause-allowed
 put_bytes-requires-clause-allowed g c =
@@ -48,4 +48,4 @@ put_bytes-requires-clause-high g c = ap (is_listed (page_of (byte_after c.args.a
 
 pub returns-clause-pokes : goal.returns-clause-pokes
 returns-clause-pokes g c =
-    has_poked _ _ _ _ _ _ c.settle.ensures.paging c.bring_both-brought.ensures.alike c.bring_both-brought.ensures.keeps c.settle-2.ensures.paging c.bring_both-brought.ensures.marks _ c.args.addr c.args.bytes.now (is_paging _ c.settle-2.ensures.sound) c.put_bytes.ensures.writes
+    has_poked _ _ _ _ _ _ c.settle.ensures.paging c.bring_both-brought.ensures.alike c.bring_both-brought.ensures.keeps c.settle-2.ensures.paging c.bring_both-brought.ensures.marks _ c.args.addr c.args.bytes.now (is_paging _ c.settle-2.ensures.sound) c.in_ok-brought.ensures.comes c.put_bytes.ensures.writes
