@@ -3,10 +3,10 @@ use Rattle.std.proofs.Common.{◌≡◌, ◌≤◌, ◌+◌, ◌++◌, ◌∷◌
 use Rattle.std.proofs.Math.Seq.{take-append_seam}
 use Rattle.std.proofs.lemmas.List.{append_assoc}
 use Rattle.vax_space.specs.declared.Area.{Area}
-use Rattle.vax_machine.specs.Console.{memory_from}
+use Rattle.vax_machine.specs.Console.{memory_from, pages_in}
 use Rattle.vax_report.specs.declared.Dump.{Dump}
 use Rattle.vax_cli.specs.Said.{IsDump}
-use Rattle.vax_command.specs.Room.{item_of, items_of}
+use Rattle.vax_command.specs.Room.{item_of, items_of, pages_shown}
 use Rattle.vax_command.specs.Went.{shown}
 use Rattle.vax_command.specs.declared.dump.Blank.{Blank}
 
@@ -46,3 +46,9 @@ written_all cells before count e = rw e (take-append_seam cells (drop (length ce
 -- where one is left there are some
 pub not_none : (before rest : List Blank) (blank : Blank) → before ≡ blank ∷ rest → before ≡ [] → ⊥
 not_none before rest blank e none = let no : [] ≡ blank ∷ rest = sym none ∙ e in cc no
+
+-- the pages of the first item and those of the others
+pub one_shown : (before rest : List Blank) (blank : Blank) (cells : List (Option ℕ)) → before ≡ blank ∷ rest → cells ≡ blank.cells.items → pages_shown (items_of before) ≡ pages_in blank.address (length cells) + pages_shown (items_of rest)
+unfolding pages_shown
+one_shown before rest blank cells e is =
+    ap (λ (bs : List Blank). pages_shown (items_of bs)) e ∙ ap (λ (z : List (Option ℕ)). pages_in blank.address (length z) + pages_shown (items_of rest)) (sym is)

@@ -14,7 +14,6 @@ use Rattle.vax_flat.specs.Step.{Flat}
 use Rattle.vax_flat.specs.declared.Ending.TheVariants as ending
 use Rattle.vax_cpu.specs.Attempt.{open_at}
 use Rattle.vax_pager.specs.Listing.{is_listed}
-use Rattle.vax_pager.specs.Poking.{OnlyRead, without_reads}
 use Rattle.vax_image.specs.Start.{Start, start_areas, start_core}
 use Rattle.vax_flat.specs.Start.{start_memory}
 use Rattle.vax_sched.specs.Faults.{Denotes}
@@ -57,6 +56,7 @@ use Rattle.vax_command.specs.Status.{refusal_growth}
 use Rattle.vax_command.specs.Loaded.{Loaded}
 use Rattle.vax_command.specs.Pages.{HasRun}
 use Rattle.vax_command.specs.Running.{IsFaulty, Ran, setup_for}
+use Rattle.vax_command.specs.Room.{ReadsFor}
 use Rattle.vax_command.specs.Setup.{Setup, after_turns, before_turns, run_of}
 use Rattle.vax_command.specs.Went.{IsRunAnswer, IsUntold, Stop, Went, WentFrom, dumps_at, last_of, recorded, run_output, run_report, shown}
 use Rattle.vax_command.specs.declared.status.Status.{Status}
@@ -158,10 +158,10 @@ abbrev pub Told : Outside → Setup → Status → Type 0
 Told outside setup result = EndsSo outside.sink (Went outside setup) result
 
 -- memory may have been read behind a run
-ran_and_read : (setup : Setup) (count : ℕ) (file : BlockFile) (middle last : Option BlockFile) → FewTurns (before_turns setup) (after_turns setup count) → Moved setup.areas (before_turns setup) (after_turns setup count) (Some file) middle → OnlyRead middle last → (setup.items ≡ [] → last ≡ middle) → HasRun setup count file last
+ran_and_read : (setup : Setup) (count : ℕ) (file : BlockFile) (middle last : Option BlockFile) → FewTurns (before_turns setup) (after_turns setup count) → Moved setup.areas (before_turns setup) (after_turns setup count) (Some file) middle → ReadsFor setup.items middle last → (setup.items ≡ [] → last ≡ middle) → HasRun setup count file last
 ran_and_read setup count file middle last few moved reads unread =
     let m = moved file refl in
-    record { few = few; between = m.0; moved = m.2; needed = λ turn low absent page small clean. writes_suffice (run_of setup) turn absent page small clean; told = reads ∙ ap without_reads m.1; unread = λ none. unread none ∙ m.1 }
+    record { few = few; between = m.0; moved = m.2; needed = λ turn low absent page small clean. writes_suffice (run_of setup) turn absent page small clean; told = subst (λ (z : Option BlockFile). ReadsFor setup.items z last) m.1 reads; unread = λ none. unread none ∙ m.1 }
 
 -- what the machine did with whatever its page file told
 abbrev pub Did : Setup → Engine → Option BlockFile → RunEnd → Engine → Option BlockFile → (old between : Option Channels) → Type 0
@@ -229,7 +229,7 @@ module _ (outside : Outside) (setup : Setup) (m n : Engine) (f : Starts setup m)
       subst (λ (g : Channels). Ends outside.sink status g result) (outputs s lines why dumps grown is) (ends_after outside.sink.before mid outside.sink.after status (both (machine_at s.place).output lines) grown result wrote quiet ends)
 
   -- it stopped by itself, and the report was written: `read` is the page file before and after the memory for the report was read
-  module _ (read : Change BlockFile) (up : HasFailed read → HasFailed outside.pages) (reads : OnlyRead read.before.told outside.pages.after.told) (unread : setup.items ≡ [] → outside.pages.after.told ≡ read.before.told) (end : RunEnd) (why : Why) (is : why_of end ≡ Some why) (status : Status) (grown : Channels) (out : OnlyWrote setup.limits.listed outside.sink.before.told mid.told) (quiet : mid.faults.count ≡ outside.sink.before.faults.count) (ends : EndsFrom mid outside.sink.after status grown result) where
+  module _ (read : Change BlockFile) (up : HasFailed read → HasFailed outside.pages) (reads : ReadsFor setup.items read.before.told outside.pages.after.told) (unread : setup.items ≡ [] → outside.pages.after.told ≡ read.before.told) (end : RunEnd) (why : Why) (is : why_of end ≡ Some why) (status : Status) (grown : Channels) (out : OnlyWrote setup.limits.listed outside.sink.before.told mid.told) (quiet : mid.faults.count ≡ outside.sink.before.faults.count) (ends : EndsFrom mid outside.sink.after status grown result) where
     answer_is : IsReported read n (last_of why) (status_of setup.strict n.cpu.core why) setup.items status grown → IsUntold setup outside status (append out.more grown)
     answer_is (inl r) = record { answer = subst (IsRunAnswer setup.strict (HasFailed outside.pages)) (sym r.0) (answers (HasFailed outside.pages) setup.strict n.cpu.core why); unlisted = λ off. unlisted out.more grown (out.unlisted off) (let d = r.1 in ap (λ (c : Channels). c.recorded) d.2) }
     answer_is (inr r) = record { answer = subst (IsRunAnswer setup.strict (HasFailed outside.pages)) (sym r.1) (up r.0); unlisted = λ off. unlisted out.more grown (out.unlisted off) (ap (λ (c : Channels). c.recorded) r.2) }
@@ -264,7 +264,7 @@ module _ (outside : Outside) (setup : Setup) (m n : Engine) (f : Starts setup m)
     stopped_by (Some file) did r =
         whole_by file (as_whole setup.limits setup.areas setup.rules b (Some file) end why n read.before.told outside.sink.before.told mid.told is (from_start setup m f file end n read.before.told outside.sink.before.told mid.told did)) r
 
-  pub went_whole : (read : Change BlockFile) → (HasFailed read → HasFailed outside.pages) → OnlyRead read.before.told outside.pages.after.told → (setup.items ≡ [] → outside.pages.after.told ≡ read.before.told) → (end : RunEnd) (why : Why) → why_of end ≡ Some why
+  pub went_whole : (read : Change BlockFile) → (HasFailed read → HasFailed outside.pages) → ReadsFor setup.items read.before.told outside.pages.after.told → (setup.items ≡ [] → outside.pages.after.told ≡ read.before.told) → (end : RunEnd) (why : Why) → why_of end ≡ Some why
       → Did setup m outside.pages.before.told end n read.before.told outside.sink.before.told mid.told → OnlyWrote setup.limits.listed outside.sink.before.told mid.told → mid.faults.count ≡ outside.sink.before.faults.count
       → (status : Status) (grown : Channels) → IsReported read n (last_of why) (status_of setup.strict n.cpu.core why) setup.items status grown → EndsFrom mid outside.sink.after status grown result → Told outside setup result
   went_whole read up reads unread end why is did out quiet status grown r ends = stopped_by read up reads unread end why is status grown out quiet ends outside.pages.before.told did r

@@ -1,12 +1,12 @@
 -- What a run makes of the page file.
 use Rattle.std.specs.Prelude.{◌≡◌, ◌<◌, ◌≤◌, ◌^◌, ◌⊎◌, ℕ, List, [], Option, Some}
 use Rattle.vax_outside.specs.Blocks.{BlockFile}
-use Rattle.vax_pager.specs.Poking.{OnlyRead}
 use Rattle.vax_machine.specs.Blocks.{HasMoved, MovedFirst}
 use Rattle.vax_machine.specs.Laws.{IsAsWritten}
 use Rattle.vax_machine.specs.Paged.{all_evicted}
 use Rattle.vax_machine.specs.Run.{FewTurns}
 use Rattle.vax_command.specs.Around.{HasFailed, Outside}
+use Rattle.vax_command.specs.Room.{ReadsFor}
 use Rattle.vax_command.specs.Setup.{Setup, after_turns, before_turns}
 
 -- At each of so many turns, whatever was made absent before its attempt, a page to which no attempt had written since it came in has the bytes that were
@@ -23,7 +23,7 @@ pub record HasRun (setup : Setup) (count : ℕ) (before : BlockFile) (after : Op
   pub between : BlockFile
   pub moved : HasMoved setup.areas (before_turns setup) (after_turns setup count) before between
   pub needed : AreAsWritten setup count
-  pub told : OnlyRead (Some between) after
+  pub told : ReadsFor setup.items (Some between) after
   pub unread : setup.items ≡ [] → after ≡ Some between
 
 -- so it did up to where it stops, but where a write to a channel failed before: then only the first of these pages were written

@@ -2,11 +2,10 @@
 ghost use Rattle.std.specs.Prelude.{◌≡◌, ◌≤◌, ◌<◌, [], IfOk, is_err, length, vec_capacity, All};
 ghost use Rattle.vax_outside.specs.Faults.{CountsFailure};
 ghost use Rattle.vax_machine.specs.Machine.{keeping};
-ghost use Rattle.vax_pager.specs.Poking.{OnlyRead};
 ghost use Rattle.vax_machine.specs.Meaning.{engine};
 ghost use Rattle.vax_cli.specs.Said.{IsDump};
 ghost use Rattle.vax_command.specs.Fresh.{AreShown};
-ghost use Rattle.vax_command.specs.Room.{item_of, items_of};
+ghost use Rattle.vax_command.specs.Room.{ReadsFor, item_of, items_of};
 
 use std::alloc::{AllocError, Global};
 use std::collections::VecDeque;
@@ -72,7 +71,8 @@ pub(crate) fn fill<F: PageFile>(
 ) -> Result<Vec<Dump>, PageFault>
     ensures shows { IfOk result (λ v.
         AreShown (engine machine.old) (F.contents pages.old) (items_of room.blanks.items) v.items) }
-    ensures reads { OnlyRead (F.contents pages.old) (F.contents pages.new) }
+    ensures reads { ReadsFor (items_of room.blanks.items) (F.contents pages.old)
+        (F.contents pages.new) }
     ensures unread { items_of room.blanks.items ≡ [] → F.contents pages.new ≡ F.contents pages.old }
     ensures cpu { (engine machine.new).cpu ≡ (engine machine.old).cpu }
     ensures keeps { keeping (engine machine.new) ≡ keeping (engine machine.old) }

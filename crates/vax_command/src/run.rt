@@ -4,7 +4,6 @@ ghost use Rattle.vax_outside.specs.Channels.{only};
 ghost use Rattle.vax_outside.specs.declared.traits.Chan.TheVariants.{Report};
 ghost use Rattle.vax_flat.specs.Step.{Flat};
 ghost use Rattle.vax_image.specs.Start.{Start, start_areas};
-ghost use Rattle.vax_pager.specs.Poking.{OnlyRead};
 ghost use Rattle.vax_machine.specs.Meaning.{engine};
 ghost use Rattle.vax_machine.specs.Machine.{keeping};
 ghost use Rattle.vax_sched.specs.Faults.{Denotes};
@@ -15,7 +14,7 @@ ghost use Rattle.vax_command.specs.Fresh.{IsFresh, IsPrepared, IsReported, machi
 ghost use Rattle.vax_command.specs.Loaded.{AreSound, loaded_seen};
 ghost use Rattle.vax_command.specs.Reading.{file_limit};
 ghost use Rattle.vax_command.specs.Running.{IsFaulty, Ran};
-ghost use Rattle.vax_command.specs.Room.{items_of};
+ghost use Rattle.vax_command.specs.Room.{ReadsFor, items_of};
 ghost use Rattle.vax_command.specs.Went.{Went, limits_of};
 
 use crate::answer::{answer_ended, answer_unhalted};
@@ -71,7 +70,8 @@ fn report_all<K: Sink, F: PageFile>(
     ensures reported { EndsSo (change K.faults K.contents sink.old sink.new)
         (IsReported (change F.faults F.contents pages.old pages.new)
         (engine machine) last meant (items_of room.blanks.items)) result }
-    ensures reads { OnlyRead (F.contents pages.old) (F.contents pages.new) }
+    ensures reads { ReadsFor (items_of room.blanks.items) (F.contents pages.old)
+        (F.contents pages.new) }
     ensures unread { items_of room.blanks.items ≡ [] → F.contents pages.new ≡ F.contents pages.old }
     ensures later { (F.faults pages.old).count ≤ (F.faults pages.new).count }
     ensures failed { Admits (F.faults pages.old) (F.faults pages.new) Status.PageFault result }

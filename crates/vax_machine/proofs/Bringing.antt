@@ -85,7 +85,7 @@ then_read m n most a b c low x y f told =
 next_in : (addr more : ℕ) (b : Bool) → (b ≡ true → (suc more ≡ 0) ⊎ (byte_after addr (suc more) % 512 ≡ 0)) → (addr % 512 + more) / 512 + 1 + one_if b ≤ (addr % 512 + suc more) / 512 + 1
 next_in addr more false h = omega arith
 next_in addr more true h = elim (h refl) [
-  | inl no ↦ absurd (omega (arith, no))
+  | inl bad ↦ absurd (omega (arith, bad))
   | inr e ↦ omega (arith, e)
 ]
 

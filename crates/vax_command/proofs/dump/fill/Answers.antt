@@ -1,8 +1,9 @@
-use Rattle.std.proofs.Common.{◌≡◌, ap, ◌∙◌, length, rules, arith}
+use Rattle.std.proofs.Common.{◌≡◌, ap, ◌∙◌, length, refl, rules, arith}
 use Rattle.vax_outside.proofs.Counting.{counts_then}
 use Rattle.vax_flat.specs.Parts.{machine_at}
 use Rattle.vax_machine.specs.Console.{memory_from}
-use Rattle.vax_command.proofs.RoomLaws.{few_cells, not_none, one_filled, others_small, room_left, written_all}
+use Rattle.vax_command.proofs.RoomLaws.{few_cells, not_none, one_filled, one_shown, others_small, room_left, written_all}
+use Rattle.vax_machine.proofs.Bringing.{none_read, then_read}
 use Rattle.vax_command.proofs.dump.fill.Goals as goal
 
 pub dump-requires : goal.dump-requires
@@ -29,9 +30,29 @@ blanks-preserved g c =
       keeps = c.in_ok-dump.ensures.keeps ∙ inv.keeps;
       stands = λ place means. c.in_ok-dump.ensures.means place (inv.stands place means);
       reads = c.in_ok-dump.ensures.reads ∙ inv.reads;
+      once =
+          then_read _ _ _ _ _ _ (let n = one_shown before rest blank _ split c.as_mut_slice.ensures.value in let f = inv.fewer in omega (arith, n, f)) inv.once c.in_ok-dump.ensures.once;
+      fewer = let n = one_shown before rest blank _ split c.as_mut_slice.ensures.value in let f = inv.fewer in omega (arith, n, f);
       unread = λ none. absurd (not_none before rest blank split (inv.unread none).0);
       quiet = c.in_ok-dump.ensures.counts.quiet ∙ inv.quiet;
     }
 
 pub returns-in_err-dump-clause-counts : goal.returns-in_err-dump-clause-counts
 returns-in_err-dump-clause-counts g c = counts_then (search rules) c.blanks.invariant.quiet c.in_err-dump.ensures.counts
+
+pub returns-in_err-dump-clause-reads : goal.returns-in_err-dump-clause-reads
+returns-in_err-dump-clause-reads g c =
+    let inv = c.blanks.invariant in
+    let before = c.blanks.blanks.items in
+    let rest = c.pop_front.new.self.items in
+    let n = one_shown before rest c.in-Some.blank _ c.in-Some.ensures.items c.as_mut_slice.ensures.value in
+    let f = inv.fewer in
+    record {
+      only = c.in_err-dump.ensures.reads ∙ inv.reads;
+      once = then_read _ _ _ _ _ _ (omega (arith, n, f)) inv.once c.in_err-dump.ensures.once;
+    }
+
+pub returns-clause-reads : goal.returns-clause-reads
+returns-clause-reads g c =
+    let inv = c.blanks.invariant in
+    record { only = inv.reads; once = then_read _ 0 _ _ _ _ (let f = inv.fewer in omega (arith, f)) inv.once (none_read 0 _ _ refl) }
