@@ -15,3 +15,4 @@ pub mod Queueing
 pub mod Fielding
 pub mod Fitting
 pub mod Concluding
+pub mod Writing

@@ -8,3 +8,4 @@ pub mod Leaving
 pub mod Maximal
 pub mod Dummies
 pub mod Steps
+pub mod Moved

@@ -24,7 +24,9 @@ pub use crate::fields::{
 };
 pub use crate::maximal::{parts_are_maximal, searches_write_nothing};
 pub use crate::operands::operands_fit;
-pub use crate::parts::{parts_end_with_their_pages, parts_write_their_units};
+pub use crate::parts::{
+    moves_write_their_units, parts_end_with_their_pages, parts_write_their_units,
+};
 pub use crate::processor::{
     consoles_are_read, registers_are_read_back, registers_are_these, registers_stay_apart,
 };

@@ -1,5 +1,16 @@
 //! Parts of string instructions (VAX MACRO and Instruction Set Reference Manual, character string instructions).
-ghost use Rattle.std.specs.Prelude.{◌≡◌, None, [], ◌∷◌};
+ghost use Rattle.std.specs.Prelude.{◌≡◌, ◌<◌, ◌≤◌, Bool, List, None, [], ◌∷◌};
+ghost use Rattle.vax_space.specs.declared.Area.{Area};
+ghost use Rattle.vax_strpart.specs.declared.packing.Progress.{Progress};
+ghost use Rattle.vax_flat.specs.Memory.{IsWhole, byte_at};
+ghost use Rattle.vax_flat.specs.Outcome.{outcome_of};
+ghost use Rattle.vax_flat.specs.Port.{AreBytes};
+ghost use Rattle.vax_flat.specs.State.{State};
+ghost use Rattle.vax_flat.specs.Step.{leaf};
+ghost use Rattle.vax_flat.specs.StringEscape.{escape_part};
+ghost use Rattle.vax_flat.specs.StringLaws.{IsCheckedEscape, IsCheckedMove};
+ghost use Rattle.vax_flat.specs.StringMove.{move_part, moved_count};
+ghost use Rattle.vax_flat_laws.specs.Moved.{HasEscaped, HasFilled, HasMoved, IfLeftMemory};
 ghost use Rattle.vax_flat_laws.specs.Leaving.{comparing, dump_after, filling, left, left_after, scanning, spanning, translating};
 
 /// What the parts of five instructions leave: each ends where its first unit's pages end, and R0 to R5 say what remains. The moved bytes are a part of
@@ -35,4 +46,18 @@ pub fn parts_write_their_units()
         ≡ 0x41 ∷ 0x41 ∷ 0x41 ∷ 0x41 ∷ 0 ∷ 0 ∷ [] }
     ensures moved { dump_after 0 filling 0x9FC 8 ≡ 0 ∷ 0 ∷ 0 ∷ 0 ∷ 0 ∷ 0 ∷ 0 ∷ 0 ∷ [] }
     ensures first_filled { dump_after 1 filling 0x9FC 8 ≡ 0 ∷ 0 ∷ 0x2A ∷ 0x2A ∷ 0 ∷ 0 ∷ 0 ∷ 0 ∷ [] }
+{}
+
+/// What a part of a move writes. Each unit writes a byte of the source as that stood before the part, from the last backward or from the first on,
+/// by the table where there is one; or the fill byte. MOVTUC writes none that escapes. Nothing else is written.
+pub fn moves_write_their_units()
+    ensures moved { (translate : Bool) (p : Progress) (s : State) (memory : List Area) →
+        IsWhole memory → AreBytes (byte_at memory) → IsCheckedMove translate p s memory → p.done < moved_count p →
+        IfLeftMemory (HasMoved translate p memory) (outcome_of (move_part translate p s leaf) memory) }
+    ensures filled { (translate : Bool) (p : Progress) (s : State) (memory : List Area) →
+        IsWhole memory → IsCheckedMove translate p s memory → moved_count p ≤ p.done → p.done < p.len2 →
+        IfLeftMemory (HasFilled p memory) (outcome_of (move_part translate p s leaf) memory) }
+    ensures escape { (p : Progress) (s : State) (memory : List Area) →
+        IsWhole memory → AreBytes (byte_at memory) → IsCheckedEscape p s memory → p.done < moved_count p →
+        IfLeftMemory (HasEscaped p memory) (outcome_of (escape_part p s leaf) memory) }
 {}
