@@ -11,17 +11,19 @@ use Rattle.vax_asm_sections.specs.declared.types.Refusal.{Refusal}
 use Rattle.vax_asm_sections.specs.declared.types.Refusal.TheVariants.{Conflict, TooLong}
 use Rattle.vax_asm_first.specs.Fixups.{Fixup}
 use Rattle.vax_asm_laws.specs.Counted.{AreCounted, Begins, BeginsAt, IsCounted, Keeps, StandFrom, end_of, part_length, section_at}
+use Rattle.vax_asm_laws.specs.Lying.{AllStand, MayAllStand, MayStand}
 
 -- From sections that are counted to these.
 pub record Step (s t : Sections Fixup) : Type 0 where
   pub counted : AreCounted t
   pub keeps : Keeps s t
+  pub stand : MayAllStand s → MayAllStand t
 
 keeps_same : (s : Sections Fixup) → Keeps s s
 keeps_same s = record { all = omega arith; parts = λ i less. ([], sym (append-nil (section_at i s).parts)) }
 
 pub step_same : (s : Sections Fixup) → AreCounted s → Step s s
-step_same s h = record { counted = h; keeps = keeps_same s }
+step_same s h = record { counted = h; keeps = keeps_same s; stand = λ all. all }
 
 begins_then : (x y z : Section Fixup) → Begins x y → Begins y z → Begins x z
 begins_then x y z b c = (b.0 ++ c.0, c.1 ∙ ap (λ (l : List (Part Fixup)). l ++ c.0) b.1 ∙ append_assoc x.parts b.0 c.0)
@@ -33,11 +35,11 @@ keeps_then s t u h k = record {
 }
 
 pub step_then : (s t u : Sections Fixup) → Step s t → Step t u → Step s u
-step_then s t u a b = record { counted = b.counted; keeps = keeps_then s t u a.keeps b.keeps }
+step_then s t u a b = record { counted = b.counted; keeps = keeps_then s t u a.keeps b.keeps; stand = λ all. b.stand (a.stand all) }
 
 -- ---- a part behind others
 
-end_behind : (at : ℕ) (parts : List (Part Fixup)) (p : Part Fixup) → end_of at (parts ++ p ∷ []) ≡ end_of at parts + part_length p
+pub end_behind : (at : ℕ) (parts : List (Part Fixup)) (p : Part Fixup) → end_of at (parts ++ p ∷ []) ≡ end_of at parts + part_length p
 end_behind at [] p = refl
 end_behind at (q ∷ parts) p = end_behind (at + part_length q) parts p
 
@@ -61,8 +63,8 @@ set_begins s x i false e within h =
     let other : i ≢ s.current = grind (arith, nat_tests) in
     subst (λ (y : Section Fixup). Begins (section_at i s) y) (sym (get_or-set_other s.all s.current i x unnamed other)) ([], sym (append-nil (section_at i s).parts))
 
-set_step : (s : Sections Fixup) (x : Section Fixup) (total : ℕ) → AreCounted s → IsCounted x → Begins (current_of s) x → Step s (record { all = slice_set s.all s.current x; current = s.current; total = total })
-set_step s x total h c b = record {
+set_step : (s : Sections Fixup) (x : Section Fixup) (total : ℕ) → AreCounted s → IsCounted x → Begins (current_of s) x → (AllStand (current_of s) → AllStand x) → Step s (record { all = slice_set s.all s.current x; current = s.current; total = total })
+set_step s x total h c b may = record {
   counted = record {
     current = rw (length-set s.all s.current x) h.current;
     sections = All-set IsCounted s.all s.current x c h.sections;
@@ -71,26 +73,29 @@ set_step s x total h c b = record {
     all = omega (arith, length-set s.all s.current x);
     parts = λ i less. set_begins s x i (i == s.current) refl h.current b;
   };
+  stand = λ all. All-set AllStand s.all s.current x (may (all s.current unnamed h.current)) all;
 }
 
 current_counted : (s : Sections Fixup) → AreCounted s → IsCounted (current_of s)
 current_counted s h = h.sections s.current unnamed h.current
 
-pub part_step : (n : ℕ) (p : Part Fixup) (s : Sections Fixup) → AreCounted s → part_length p ≡ n → BeginsAt (current_of s).size p → Step s (with_part n p s)
-part_step n p s h e b = set_step s (longer n p (current_of s)) (s.total + n) h (longer_counted n p (current_of s) (current_counted s h) e b) (p ∷ [], refl)
+pub part_step : (n : ℕ) (p : Part Fixup) (s : Sections Fixup) → AreCounted s → part_length p ≡ n → BeginsAt (current_of s).size p → MayStand p → Step s (with_part n p s)
+part_step n p s h e b may =
+    set_step s (longer n p (current_of s)) (s.total + n) h (longer_counted n p (current_of s) (current_counted s h) e b) (p ∷ [], refl)
+    (λ all. All-append MayStand (current_of s).parts (p ∷ []) all (All-cons MayStand p [] may (All-nil MayStand)))
 
 either_step : (n : ℕ) (p : Part Fixup) (s t : Sections Fixup) (b : Bool) → Step s (with_part n p s) → (let r : Result (Sections Fixup) Refusal = if b then Err TooLong else Ok (with_part n p s) in r) ≡ Ok t → Step s t
 either_step n p s t true h e = cc
 either_step n p s t false h e = let same : with_part n p s ≡ t = cc in subst (λ (x : Sections Fixup). Step s x) same h
 
-pub put_step : (n : ℕ) (p : Part Fixup) (s t : Sections Fixup) → AreCounted s → part_length p ≡ n → BeginsAt (current_of s).size p → put n p s ≡ Ok t → Step s t
+pub put_step : (n : ℕ) (p : Part Fixup) (s t : Sections Fixup) → AreCounted s → part_length p ≡ n → BeginsAt (current_of s).size p → MayStand p → put n p s ≡ Ok t → Step s t
 unfolding put
-put_step n p s t h e b made = either_step n p s t (exceeds (current_of s).size s.total n) (part_step n p s h e b) made
+put_step n p s t h e b may made = either_step n p s t (exceeds (current_of s).size s.total n) (part_step n p s h e b may) made
 
 raised_step : (k : ℕ) (s : Sections Fixup) → AreCounted s → Step s (with_raised k s)
 raised_step k s h =
     let c = current_counted s h in
-    set_step s (raised k (current_of s)) s.total h (record { stand = c.stand; size = c.size }) ([], sym (append-nil (current_of s).parts))
+    set_step s (raised k (current_of s)) s.total h (record { stand = c.stand; size = c.size }) ([], sym (append-nil (current_of s).parts)) (λ all. all)
 
 raise_step : (k : ℕ) (s t : Sections Fixup) (r : Result (Sections Fixup) Refusal) → ((u : Sections Fixup) → r ≡ Ok u → Step s u) → raise k r ≡ Ok t → Step s t
 raise_step k s t (Ok u) h e =
@@ -103,7 +108,7 @@ pub align_step : (k : ℕ) (s t : Sections Fixup) → AreCounted s → aligned k
 unfolding aligned
 align_step k s t h e =
     let n : ℕ = gap (current_of s).size (2 ^ k) in
-    raise_step k s t (put n (Zeros n) s) (λ u made. put_step n (Zeros n) s u h refl tt made) e
+    raise_step k s t (put n (Zeros n) s) (λ u made. put_step n (Zeros n) s u h refl tt tt made) e
 
 -- ---- a section is chosen
 
@@ -119,10 +124,10 @@ back_by : (s t : Sections Fixup) (i : ℕ) (b : Bool) → AreCounted s → i < l
 back_by s t i true h less e = cc
 back_by s t i false h less e =
     let same : record { all = s.all; current = i; total = s.total } ≡ t = cc in
-    subst (λ (x : Sections Fixup). Step s x) same (record { counted = record { current = less; sections = h.sections }; keeps = record { all = omega arith; parts = λ j inside. ([], sym (append-nil (section_at j s).parts)) } })
+    subst (λ (x : Sections Fixup). Step s x) same (record { counted = record { current = less; sections = h.sections }; keeps = record { all = omega arith; parts = λ j inside. ([], sym (append-nil (section_at j s).parts)) }; stand = λ all. all })
 
-begun_step : (s : Sections Fixup) (x : Section Fixup) → AreCounted s → IsCounted x → Step s (record { all = s.all ++ x ∷ []; current = length s.all; total = s.total })
-begun_step s x h c = record {
+begun_step : (s : Sections Fixup) (x : Section Fixup) → AreCounted s → IsCounted x → AllStand x → Step s (record { all = s.all ++ x ∷ []; current = length s.all; total = s.total })
+begun_step s x h c may = record {
   counted = record {
     current = omega (arith, length-append s.all (x ∷ []));
     sections = All-append IsCounted s.all (x ∷ []) h.sections (All-cons IsCounted x [] c (All-nil IsCounted));
@@ -131,6 +136,7 @@ begun_step s x h c = record {
     all = omega (arith, length-append s.all (x ∷ []));
     parts = λ i less. subst (λ (y : Section Fixup). Begins (section_at i s) y) (sym (get_or_append_left s.all (x ∷ []) unnamed i less)) ([], sym (append-nil (section_at i s).parts));
   };
+  stand = λ all. All-append AllStand s.all (x ∷ []) all (All-cons AllStand x [] may (All-nil AllStand));
 }
 
 chosen_by : (name : List ℕ) (attributes : Attributes) (s t : Sections Fixup) (o : Option ℕ) → AreCounted s → numbered 0 name s.all ≡ o → begun name attributes s o ≡ Ok t → Step s t
@@ -138,7 +144,7 @@ chosen_by name attributes s t (Some i) h n e =
     back_by s t i (conflicts attributes (section_at i s)) h (omega (arith, numbered_within 0 name s.all i n)) e
 chosen_by name attributes s t None h n e =
     let same : record { all = s.all ++ made name attributes ∷ []; current = length s.all; total = s.total } ≡ t = cc in
-    subst (λ (x : Sections Fixup). Step s x) same (begun_step s (made name attributes) h (record { stand = tt; size = refl }))
+    subst (λ (x : Sections Fixup). Step s x) same (begun_step s (made name attributes) h (record { stand = tt; size = refl }) (All-nil MayStand))
 
 pub select_step : (name : List ℕ) (attributes : Attributes) (s t : Sections Fixup) → AreCounted s → selected name attributes s ≡ Ok t → Step s t
 unfolding selected

@@ -24,6 +24,7 @@ use Rattle.vax_word.specs.Arithmetic.{bytes_of}
 use Rattle.vax_word.specs.declared.Size.{Size}
 use Rattle.vax_word.specs.declared.Size.TheVariants as size
 use Rattle.vax_asm_laws.specs.Counted.{AreCounted, BeginsAt, part_length}
+use Rattle.vax_asm_laws.specs.Lying.{MayStand}
 use Rattle.vax_asm_laws.proofs.Counting.{Step, align_step, put_step, step_same, step_then}
 
 -- from what stands, whose sections are counted, to this
@@ -43,10 +44,10 @@ pub after_change_goes : (s : Standing) (r : Result Standing FaultKind) → IsCou
 after_change_goes s (Ok t) c h = h t refl
 after_change_goes s (Err kind) c h = step_same s.sections c
 
-pub added_goes : (n : ℕ) (p : Part Fixup) (s : Standing) → IsCounted s → part_length p ≡ n → BeginsAt (current_of s.sections).size p → Goes s (added n p s).standing
-added_goes n p s c e b =
+pub added_goes : (n : ℕ) (p : Part Fixup) (s : Standing) → IsCounted s → part_length p ≡ n → BeginsAt (current_of s.sections).size p → MayStand p → Goes s (added n p s).standing
+added_goes n p s c e b may =
     after_change_goes s (with_sections s (put n p s.sections)) c
-    (λ t made. with_sections_goes s t (put n p s.sections) (λ u made. put_step n p s.sections u c e b made) made)
+    (λ t made. with_sections_goes s t (put n p s.sections) (λ u made. put_step n p s.sections u c e b may made) made)
 
 done_is : (f : Option FaultKind) (s t : Standing) → done_by f s ≡ Ok t → s ≡ t
 done_is None s t e = cc
@@ -60,7 +61,7 @@ done_goes s t p h e = subst (λ (x : Standing). Goes s x) (done_is p.fault p.sta
 
 fixed_goes : (k : DataKind) (site : Site) (n : ℕ) (filling : Filling) (s : Standing) → IsCounted s → Goes s (fixed k site n filling s).standing
 fixed_goes k site n filling s c =
-    added_goes (bytes_of (item_size k) * n) (Field (record { origin = site.origin; at = (current_of s.sections).size; content = Data k n; filling = filling })) s c (data_length (item_size k) n 0 ∙ mul_comm n (bytes_of (item_size k))) refl
+    added_goes (bytes_of (item_size k) * n) (Field (record { origin = site.origin; at = (current_of s.sections).size; content = Data k n; filling = filling })) s c (data_length (item_size k) n 0 ∙ mul_comm n (bytes_of (item_size k))) refl tt
 
 placed_goes : (k : DataKind) (site : Site) (f : Option FaultKind) (n : Result ℕ FaultKind) (filling : Filling) (s : Standing) → IsCounted s → Goes s (placed_item k site f n filling s).standing
 placed_goes k site None (Ok n) filling s c = fixed_goes k site n filling s c
@@ -105,7 +106,7 @@ addresses_go origin line tokens s t c e =
 -- ---- texts
 
 piece_goes : (site : Site) (piece : Piece) (s : Standing) → IsCounted s → Goes s (piece_stated site piece s).standing
-piece_goes site (Characters x) s c = added_goes (length (characters_of site.line x)) (Bytes (characters_of site.line x)) s c refl tt
+piece_goes site (Characters x) s c = added_goes (length (characters_of site.line x)) (Bytes (characters_of site.line x)) s c refl tt tt
 piece_goes site (ByteValue tokens) s c = item_goes (Number size.B) site (whole tokens) s c
 
 pieces_go : (site : Site) (pieces : List Piece) (p : Progress) → IsCounted p.standing → Goes p.standing (pieces_stated site pieces p).standing
@@ -117,7 +118,7 @@ pieces_go site (piece ∷ pieces) p c =
     (pieces_go site pieces (joined p.fault one) first.counted)
 
 count_goes : (o : Option ℕ) (s : Standing) → IsCounted s → Goes s (count_stated o s).standing
-count_goes (Some n) s c = added_goes 1 (Bytes (n ∷ [])) s c refl tt
+count_goes (Some n) s c = added_goes 1 (Bytes (n ∷ [])) s c refl tt tt
 count_goes None s c = step_same s.sections c
 
 before_goes : (ending : Ending) (n : ℕ) (s : Standing) → IsCounted s → Goes s (before_pieces ending n s).standing
@@ -128,7 +129,7 @@ before_goes Zero_last n s c = step_same s.sections c
 behind_goes : (ending : Ending) (p : Progress) → IsCounted p.standing → Goes p.standing (behind_pieces ending p).standing
 behind_goes Plain p c = step_same p.standing.sections c
 behind_goes Counted_first p c = step_same p.standing.sections c
-behind_goes Zero_last p c = added_goes 1 (Zeros 1) p.standing c refl tt
+behind_goes Zero_last p c = added_goes 1 (Zeros 1) p.standing c refl tt tt
 
 text_parts_go : (ending : Ending) (site : Site) (pieces : List Piece) (s : Standing) → IsCounted s → Goes s (text_parts ending site pieces s).standing
 text_parts_go ending site pieces s c =
@@ -153,7 +154,7 @@ text_goes ending origin line tokens s t c e =
 
 room_goes : (k : Size) (s t : Standing) (n : Result ℕ FaultKind) → IsCounted s → room k s n ≡ Ok t → Goes s t
 room_goes k s t (Ok n) c e =
-    with_sections_goes s t (put (bytes_of k * n) (Zeros (bytes_of k * n)) s.sections) (λ u made. put_step (bytes_of k * n) (Zeros (bytes_of k * n)) s.sections u c refl tt made) e
+    with_sections_goes s t (put (bytes_of k * n) (Zeros (bytes_of k * n)) s.sections) (λ u made. put_step (bytes_of k * n) (Zeros (bytes_of k * n)) s.sections u c refl tt tt made) e
 room_goes k s t (Err kind) c e = cc
 
 room_by_goes : (k : Size) (site : Site) (count : Option (List Token)) (s t : Standing) → IsCounted s → room_by k site count s ≡ Ok t → Goes s t

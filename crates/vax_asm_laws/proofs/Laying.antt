@@ -32,12 +32,12 @@ written_length : (k : Known) (section at : ℕ) (f : Fixup) (r : _) → length (
 written_length k section at f (Ok h) = content_length f.content h.number
 written_length k section at f (Err kind) = refl
 
-output_length : (k : Known) (section at : ℕ) (p : Part Fixup) → length (output k section at p).bytes ≡ part_length p
+pub output_length : (k : Known) (section at : ℕ) (p : Part Fixup) → length (output k section at p).bytes ≡ part_length p
 output_length k section at (Zeros n) = length-replicate n 0
 output_length k section at (Bytes bytes) = refl
 output_length k section at (Field f) = written_length k section at f (held (field_in f.content) section (at + before_field f.content) (value_filled k.sources f.filling))
 
-outputs_end : (k : Known) (section at : ℕ) (parts : List (Part Fixup)) → at + length (outputs k section at parts).bytes ≡ end_of at parts
+pub outputs_end : (k : Known) (section at : ℕ) (parts : List (Part Fixup)) → at + length (outputs k section at parts).bytes ≡ end_of at parts
 unfolding outputs
 outputs_end k section at [] = omega arith
 outputs_end k section at (p ∷ parts) =
@@ -58,7 +58,7 @@ laid_sizes k number (s ∷ all) h =
     ∙ ap (λ (l : List ℕ). s.size ∷ l) (laid_sizes k (suc number) all (All-tail IsCounted s all h))
 
 -- what a section holds begins with what its first parts come to
-outputs_begin : (k : Known) (section at : ℕ) (xs ys : List (Part Fixup)) → (more : List ℕ) × ((outputs k section at (xs ++ ys)).bytes ≡ (outputs k section at xs).bytes ++ more)
+pub outputs_begin : (k : Known) (section at : ℕ) (xs ys : List (Part Fixup)) → (more : List ℕ) × ((outputs k section at (xs ++ ys)).bytes ≡ (outputs k section at xs).bytes ++ more)
 unfolding outputs
 outputs_begin k section at [] ys = ((outputs k section at ys).bytes, refl)
 outputs_begin k section at (p ∷ xs) ys =
@@ -70,7 +70,7 @@ abbrev bytes_by : Option Section → Section → List ℕ
 bytes_by (Some s) other = s.bytes
 bytes_by None other = other.bytes
 
-laid_at : (k : Known) (number i j : ℕ) (all : List (Building Fixup)) (section : Section) → j ≡ number + i → i < length all → slice_get (laid k number all).sections i ≡ Some section
+pub laid_at : (k : Known) (number i j : ℕ) (all : List (Building Fixup)) (section : Section) → j ≡ number + i → i < length all → slice_get (laid k number all).sections i ≡ Some section
     → section.bytes ≡ (outputs k j 0 (slice_index_or all i unnamed).parts).bytes
 unfolding laid
 laid_at k number i j [] section e less h = absurd (omega arith)
@@ -81,11 +81,11 @@ laid_at k number (suc i) j (s ∷ all) section e less h = laid_at k (suc number)
 
 -- ---- modules
 
-faulty_is : (o : Option Fault) (m n : Module) → unless_faulty o m ≡ Ok n → m ≡ n
+pub faulty_is : (o : Option Fault) (m n : Module) → unless_faulty o m ≡ Ok n → m ≡ n
 faulty_is None m n e = cc
 faulty_is (Some f) m n e = cc
 
-sections_are : (s : Standing) (assigned : List Assignment) (begin : Option Opening) (m : Module) → filled_in s assigned begin ≡ Ok m → (laid (known_in s) 0 s.sections.all).sections ≡ m.sections
+pub sections_are : (s : Standing) (assigned : List Assignment) (begin : Option Opening) (m : Module) → filled_in s assigned begin ≡ Ok m → (laid (known_in s) 0 s.sections.all).sections ≡ m.sections
 unfolding filled_in
 sections_are s assigned begin m e =
     let k : Known = known_in s in

@@ -1,7 +1,9 @@
-mod Counting
-mod Data
+pub mod Counting
+pub mod Data
 mod Naming
 mod Operands
 mod Stating
-mod Laying
-mod Walking
+pub mod Laying
+pub mod Lying
+pub mod Walking
+mod Solving

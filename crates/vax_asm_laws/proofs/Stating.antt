@@ -1,11 +1,12 @@
 -- A statement.
 use Rattle.std.proofs.Common.{◌≡◌, ℕ, Bool, true, false, List, Option, Some, None, Result, Ok, Err, refl}
 use Rattle.std.specs.List.{list_any}
-use Rattle.std.specs.Prelude.{map, if◌then◌else◌}
-use Rattle.vax_asm.specs.Placing.{Placed, Stands, FaultyLabel, Faulty, also, behind_label, beside, body_stated, directed, directive_named, if_wide, instructed, instruction_named, is_bad, is_listing, is_wide, operated_by, placed, placed_by, stated, stated_by, token_of, with_range}
+use Rattle.std.specs.Prelude.{IfSome, map, if◌then◌else◌}
+use Rattle.vax_asm.specs.Placing.{Placed, Stands, FaultyLabel, Faulty, also, behind_label, beside, body_stated, directed, directive_named, if_wide, in_ascii, instructed, instruction_named, is_bad, is_listing, is_wide, operated_by, placed, placed_by, stated, stated_by, token_of, with_range}
 use Rattle.vax_asm_data.specs.Data.{Plain, Counted_first, Zero_last}
 use Rattle.vax_isa.specs.Instructions.{Instruction}
-use Rattle.vax_isa.specs.Rows.{row_of}
+use Rattle.vax_isa.proofs.Laws.{formed_with_name}
+use Rattle.vax_isa.specs.Rows.{IsFormed, row_of, with_name}
 use Rattle.vax_lex.specs.Tokens.{pieces_of, token_text}
 use Rattle.vax_lex.specs.declared.token.Piece.{Piece}
 use Rattle.vax_lex.specs.declared.token.Token.{Token}
@@ -40,13 +41,17 @@ directed_goes directive.External origin line tokens s t c e = names_go false lin
 directed_goes directive.Listing origin line tokens s t c e = same_goes s t s c refl e
 directed_goes directive.End origin line tokens s t c e = end_goes line tokens s t c e
 
-instructed_goes : (o : Option Instruction) (origin : Origin) (line : List ℕ) (tokens : List Token) (s t : Standing) → IsCounted s → instructed o origin line tokens s ≡ Ok t → Goes s t
-instructed_goes (Some i) origin line tokens s t c e = instruction_goes (row_of i) origin line tokens s t c e
-instructed_goes None origin line tokens s t c e = cc
+instructed_goes : (o : Option Instruction) (origin : Origin) (line : List ℕ) (tokens : List Token) (s t : Standing) → IfSome o (λ i. IsFormed (row_of i)) → IsCounted s → instructed o origin line tokens s ≡ Ok t → Goes s t
+instructed_goes (Some i) origin line tokens s t formed c e = instruction_goes (row_of i) origin line tokens s t formed c e
+instructed_goes None origin line tokens s t formed c e = cc
+
+formed_if : (b : Bool) (name : List ℕ) → IfSome (if b then with_name name else None) (λ i. IsFormed (row_of i))
+formed_if true name = formed_with_name name
+formed_if false name = tt
 
 operated_goes : (o : Option Directive) (origin : Origin) (line name : List ℕ) (tokens : List Token) (s t : Standing) → IsCounted s → operated_by o origin line name tokens s ≡ Ok t → Goes s t
 operated_goes (Some d) origin line name tokens s t c e = directed_goes d origin line tokens s t c e
-operated_goes None origin line name tokens s t c e = instructed_goes (instruction_named name) origin line tokens s t c e
+operated_goes None origin line name tokens s t c e = instructed_goes (instruction_named name) origin line tokens s t (formed_if (in_ascii name) name) c e
 
 body_goes : (origin : Origin) (line : List ℕ) (what : What) (s t : Standing) → IsCounted s → (body_stated origin line what s).result ≡ Ok t → Goes s t
 unfolding body_stated

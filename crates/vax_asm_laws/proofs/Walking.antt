@@ -4,7 +4,7 @@ use Rattle.std.proofs.lemmas.List.Elements.{All-cons, All-nil}
 use Rattle.std.specs.Prelude.{slice_get}
 use Rattle.vax_asm.specs.Placing.{Placed, Stands, FaultyLabel, Faulty, placed}
 use Rattle.vax_asm.specs.Walk.{Assembly, Next, assembled, at, behind, ended, least, names_in, nothing, of_another, onward, said, unless_circle, unless_met, walked}
-use Rattle.vax_asm_second.specs.Modules.{filled_in}
+use Rattle.vax_asm_second.specs.Modules.{filled_in, known_in}
 use Rattle.vax_asm_second.specs.declared.types.Fault.{Fault}
 use Rattle.vax_asm_sections.specs.Layout.{unnamed}
 use Rattle.vax_macro.specs.Expansion.{Stepped, Steps, Says, Faults, Ends, step}
@@ -16,9 +16,11 @@ use Rattle.vax_asm_first.specs.Fixups.{Assignment}
 use Rattle.vax_asm_first.specs.Standing.{Standing, at_start}
 use Rattle.vax_asm_first.specs.declared.types.Origin.{Origin}
 use Rattle.vax_asm_laws.specs.Counted.{AreCounted, IsCounted, section_at}
-use Rattle.vax_asm_laws.specs.Leading.{IsStated, Leads, LiesBehind, Line, with_statement}
+use Rattle.vax_asm_laws.specs.Leading.{Halves, IsOf, IsStated, Leads, LiesBehind, Line, with_statement}
+use Rattle.vax_asm_laws.specs.Lying.{AllStand, Held, IsIn, MayAllStand, MayStand, StandsAt, place_of}
 use Rattle.vax_asm_laws.proofs.Counting.{Step, step_same, step_then}
 use Rattle.vax_asm_laws.proofs.Laying.{lies_behind, sizes_are}
+use Rattle.vax_asm_laws.proofs.Lying.{stands}
 use Rattle.vax_asm_laws.proofs.Stating.{statement_goes}
 
 -- statements lead from what was left to a module
@@ -76,7 +78,7 @@ assembled_path source m e = walked_path (suc (work (started source))) (started s
 pub start_counted : AreCounted at_start.sections
 start_counted = record { current = omega arith; sections = All-cons IsCounted unnamed [] (record { stand = tt; size = refl }) (All-nil IsCounted) }
 
-lead_on : (a b : Assembly) (lines : List Line) → AreCounted a.standing.sections → Leads a lines b → Step a.standing.sections b.standing.sections
+pub lead_on : (a b : Assembly) (lines : List Line) → AreCounted a.standing.sections → Leads a lines b → Step a.standing.sections b.standing.sections
 lead_on a b [] c h = subst (λ (x : Assembly). Step a.standing.sections x.standing.sections) h (step_same a.standing.sections c)
 lead_on a b (l ∷ lines) c h =
     let t : Standing = h.0 in
@@ -100,3 +102,19 @@ pub label_lies : (first rest : List Line) (a b : Assembly) (begin : Option Openi
 label_lies first rest a b begin m i section before after e less found =
     let c : AreCounted a.standing.sections = (lead_on nothing a first start_counted before).counted in
     lies_behind a.standing b.standing b.assignments begin m i section c (lead_on a b rest c after).keeps e less found
+
+-- ---- what may stand
+
+pub start_stands : MayAllStand at_start.sections
+start_stands = All-cons AllStand unnamed [] (All-nil MayStand) (All-nil AllStand)
+
+-- from the start to the end of a module's statements
+pub all_go : (h : Halves) (m : Module) → IsOf h m → Step at_start.sections h.end.standing.sections
+all_go h m is =
+    let first : Step at_start.sections h.middle.standing.sections = lead_on nothing h.middle h.first start_counted is.before in
+    step_then at_start.sections h.middle.standing.sections h.end.standing.sections first (lead_on h.middle h.end h.rest first.counted is.behind)
+
+pub part_stands : (h : Halves) (m : Module) (i : ℕ) (section : Section) (p : Held) → IsOf h m → i < length h.end.standing.sections.all → slice_get m.sections i ≡ Some section → IsIn i h.end.standing.sections p
+    → StandsAt (known_in h.end.standing) i (place_of p) p.part section m.relocs
+part_stands h m i section p is less found held =
+    stands h.end.standing h.end.assignments h.begin m i section p ((all_go h m is).stand start_stands) is.filled less found held

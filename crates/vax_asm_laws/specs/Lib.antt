@@ -1,2 +1,4 @@
 pub mod Counted
 pub mod Leading
+pub mod Lying
+pub mod Solving

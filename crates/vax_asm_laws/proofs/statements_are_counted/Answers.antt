@@ -7,4 +7,5 @@ returns c = record {
   start = start_counted;
   counted = λ line s t counted leads. (statement_goes line.origin line.text s t leads.waiting counted leads.placed).counted;
   keeps = λ line s t counted leads. (statement_goes line.origin line.text s t leads.waiting counted leads.placed).keeps;
+  stand = λ line s t counted leads. (statement_goes line.origin line.text s t leads.waiting counted leads.placed).stand;
 }
