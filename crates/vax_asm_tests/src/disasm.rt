@@ -1,16 +1,11 @@
 //! Texts of instructions, and instructions of every opcode and mode that are decoded and assembled again. Expected texts are worked by hand
 //! from the tables of the VAX MACRO and Instruction Set Reference Manual.
-ghost use Rattle.std.specs.Prelude.{◌≤◌, length, None};
-ghost use Rattle.vax_isa.specs.Rows.{IsKind};
-
 use std::alloc::Global;
-use std::str;
 use std::test::Fail;
-use vax_asm_encode::{Operand, field_of, fill, may_stand, write_operand};
-use vax_asm_statement::{memory_operand, operand};
+use vax_asm::assemble;
 use vax_disasm::decode;
-use vax_isa::{Letter, OperandKind, Row, by_code, by_name};
-use vax_lex::{Names, Value, evaluate, scan};
+use vax_isa::{Letter, OperandKind, Row, by_code};
+use vax_module::{Module, Value};
 
 /// Bytes and where they stand, with the length and the text of the instruction that they are.
 const DECODED: [(&[u8], u32, u8, &[u8]); 17] = [
@@ -94,111 +89,49 @@ fn decodes_no_others(rt: HostRuntime) {
     }
 }
 
-/// No name has a value.
-struct NoNames;
-
-impl Names for NoNames {
-    ghost meaning = { λ _ name. None };
-
-    fn lookup(&self, name: &[u8]) -> Option<Value> {
-        None
+/// The bytes of a module's first section where that lies at an address, with the distances of its branches.
+fn bytes_at(alloc: Global, module: &Module, addr: u32) -> Result<Vec<u8>, Fail> {
+    let Some(section) = module.sections.as_slice().first() else {
+        return Err(Fail::from("no section"));
+    };
+    let mut out = Vec::new(alloc);
+    out.extend_from_slice(section.bytes.as_slice())?;
+    for reloc in module.relocs.as_slice() {
+        let Value::Absolute(target) = reloc.target else {
+            return Err(Fail::from("no number"));
+        };
+        let Ok(target) = u32::try_from(target) else {
+            return Err(Fail::from("no address"));
+        };
+        let width = reloc.kind.width();
+        let past = addr
+            .wrapping_add(reloc.offset)
+            .wrapping_add(u32::from(width));
+        let distance = target.wrapping_sub(past).to_le_bytes();
+        for (place, byte) in distance.iter().enumerate() {
+            let at = u64::from(reloc.offset).wrapping_add(place as u64);
+            if let Some(field) = out.get_mut(at as usize)
+                && (place as u64) < u64::from(width)
+            {
+                *field = *byte;
+            }
+        }
     }
-}
-
-/// What a branch goes to, counted from the instruction's address.
-fn place_from(addr: u32, value: Value) -> Result<Value, Fail> {
-    let Value::Absolute(target) = value else {
-        return Err(Fail::from("no number"));
-    };
-    let Ok(target) = u32::try_from(target) else {
-        return Err(Fail::from("no address"));
-    };
-    Ok(Value::Section {
-        section: 0,
-        offset: i64::from(target.wrapping_sub(addr)),
-    })
-}
-
-/// Appends the bytes of an operand that is written so, to an instruction that begins at an address.
-fn assemble_operand(
-    alloc: Global,
-    text: &[u8],
-    kind: OperandKind,
-    addr: u32,
-    out: &mut Vec<u8>,
-) -> Result<(), Fail>
-    requires text { length text.now ≤ 1024 }
-    requires kind { IsKind kind }
-{
-    let tokens = scan(alloc, text)?;
-    let written = operand(text, &tokens);
-    let value = evaluate(text, written.expression, &NoNames);
-    let branches = matches!(kind.letter, Letter::Branch);
-    let found = if branches {
-        Some(Operand::Branch)
-    } else {
-        memory_operand(written.mode, written.index, 0, 1, value)
-    };
-    let Some(found) = found else {
-        return Err(Fail::from("no operand"));
-    };
-    if !may_stand(kind, found) {
-        return Err(Fail::from("an operand that may not stand there"));
-    }
-    let Some(field) = field_of(kind, found) else {
-        return Ok(write_operand(out, kind, found, 0)?);
-    };
-    let Ok(value) = value else {
-        return Err(Fail::from("no value"));
-    };
-    let at = out.len();
-    if at > 100 {
-        return Err(Fail::from("too long"));
-    }
-    let value = if branches {
-        place_from(addr, value)?
-    } else {
-        value
-    };
-    let Ok(filled) = fill(field, 0, at as u32, value) else {
-        return Err(Fail::from("a value that doesn't fit"));
-    };
-    Ok(write_operand(out, kind, found, filled.number)?)
-}
-
-/// The text before the first of these bytes, and what is behind it.
-fn split(text: &[u8], byte: u8) -> (&[u8], &[u8]) {
-    match text.iter().position(|b| *b == byte) {
-        Some(place) => (&text[..place], &text[place + 1..]),
-        None => (text, &[]),
-    }
+    Ok(out)
 }
 
 /// Whether an instruction begins the bytes. Its text is assembled again.
-#[tactic(auto, using(vax_disasm::proofs::Instructions::all_kinds))]
 fn comes_back(alloc: Global, bytes: &[u8], addr: u32) -> Result<bool, Fail> {
     let Some(decoded) = decode(bytes, addr) else {
         return Ok(false);
     };
-    let (name, mut rest) = split(decoded.text.as_str().as_bytes(), b' ');
-    let Ok(name) = str::from_utf8(name) else {
-        return Err(Fail::from("no text"));
-    };
-    let Some(row) = by_name(name) else {
-        return Err(Fail::from("no name"));
-    };
-    let mut out = Vec::new(alloc);
-    out.push(row.code)?;
-    for kind in &row.operands[..row.count as usize] {
-        let (text, more) = split(rest, b',');
-        if text.len() > 1024 {
-            return Err(Fail::from("a long text"));
-        }
-        assemble_operand(alloc, text, *kind, addr, &mut out)?;
-        rest = more;
-    }
+    let mut source = Vec::new(alloc);
+    source.extend_from_slice(decoded.text.as_str().as_bytes())?;
+    source.push(b'\n')?;
+    let module = assemble(alloc, source.as_slice())?;
+    let out = bytes_at(alloc, &module, addr)?;
     match bytes.get(..decoded.length as usize) {
-        Some(first) if rest.is_empty() && first == out.as_slice() => Ok(true),
+        Some(first) if first == out.as_slice() => Ok(true),
         _ => Err(Fail::from("other bytes")),
     }
 }

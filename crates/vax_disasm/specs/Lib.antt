@@ -1,4 +1,3 @@
 pub mod Text
 pub mod Listed
 pub mod Seen
-pub mod Denoted

@@ -10,7 +10,6 @@ ghost use Rattle.vax_isa.specs.Rows.{IsKind};
 ghost use Rattle.vax_flat.specs.Grammar.{read_operands};
 ghost use Rattle.vax_disasm.specs.Listed.{listed, unreserved, behind, with_length, IsDecoded};
 ghost use Rattle.vax_disasm.specs.Seen.{decoded_seen};
-ghost use Rattle.vax_disasm.specs.Denoted.{Denotes, ReadsStatements};
 
 mod reading;
 mod specifier;
@@ -81,10 +80,6 @@ pub fn decode(bytes: &[u8], addr: u32) -> Option<Decoded>
     ensures exact { option_map decoded_seen result ≡ listed bytes.now addr }
     // There is one exactly where the grammar reads an instruction.
     ensures grammar { IsDecoded bytes.now addr (option_map decoded_seen result) }
-    // As a statement at the address, whatever names are defined, the text denotes exactly its bytes.
-    ensures denotes { IfSome result (λ d. Denotes addr (decoded_seen d) bytes.now) }
-    // Every instruction that can be written is decoded.
-    ensures statements { ReadsStatements bytes.now (option_map (λ d. d.length) result) }
 {
     instruction(bytes, addr)
 }

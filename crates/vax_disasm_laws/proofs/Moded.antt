@@ -15,14 +15,15 @@ use Rattle.vax_lex.specs.declared.value.Value.TheVariants as value
 use Rattle.vax_lex.specs.declared.token.Token.{Token}
 use Rattle.vax_lex.specs.declared.token.TokenKind.TheVariants.{Number}
 use Rattle.vax_flat.specs.Grammar.{Place, Deferred, Decrement, Increment, IncrementDeferred, Absolute, Displaced, DisplacedDeferred}
+use Rattle.vax_asm_scope.specs.Used.{at_term, used}
 use Rattle.vax_asm_statement.specs.declared.modes.Mode.{Mode}
 use Rattle.vax_asm_statement.specs.declared.modes.Mode.TheVariants as mode
 use Rattle.vax_asm_statement.specs.Registers.{register_of}
 use Rattle.vax_asm_statement.specs.Modes.{enclosed_last, unindexed, direct_form, register_form, deferred_form}
 use Rattle.vax_disasm.specs.Text.{register_name}
-use Rattle.vax_disasm.proofs.Words.{Word, word, tokens_at, AreThere}
-use Rattle.vax_disasm.proofs.Registers.{IsRegister, register_is}
-use Rattle.vax_disasm.proofs.Spoken.{sign, letter, hexadecimal, enclosed_words}
+use Rattle.vax_disasm_laws.proofs.Words.{Word, word, tokens_at, AreThere}
+use Rattle.vax_disasm_laws.proofs.Registers.{IsRegister, register_is}
+use Rattle.vax_disasm_laws.proofs.Spoken.{sign, letter, hexadecimal, enclosed_words}
 
 abbrev pub narrow_of : ℕ → Narrow
 narrow_of width = if width == 1 then narrow.B else (if width == 2 then narrow.W else narrow.L)
@@ -41,8 +42,9 @@ place_mode (Displaced width displacement n) = mode.Displaced (Some (narrow_of wi
 place_mode (DisplacedDeferred width displacement n) = mode.Displaced (Some (narrow_of width)) true n
 
 -- the value of the expression, where the form has one
-abbrev pub HasValue : List ℕ → List Token → ℤ → Type 0
-HasValue line expression z = (names : List ℕ → Option Value) → value_at names (symbols_of line expression) ≡ Ok (value.Absolute z)
+pub record HasValue (line : List ℕ) (expression : List Token) (z : ℤ) : Type 0 where
+  pub means : (names : List ℕ → Option Value) → value_at names (symbols_of line expression) ≡ Ok (value.Absolute z)
+  pub no_names : used at_term (symbols_of line expression) ≡ []
 
 abbrev pub PlaceValue : List ℕ → List Token → Place → Type 0
 PlaceValue line expression (Deferred n) = Unit {0}
@@ -73,7 +75,7 @@ minus_signed n some h =
     let less : 2 ^ 64 - suc (2 ^ 64 - n) ≡ n - 1 = omega arith in
     ap (cast_signed w64) low ∙ high_signed (2 ^ 64 - n) (omega arith) (omega arith) ∙ ap negsuc less
 
-pub number_value : (names : List ℕ → Option Value) (n : ℕ) → value_at names (symbols.number n ∷ []) ≡ Ok (value.Absolute (cast_signed w64 n))
+number_value : (names : List ℕ → Option Value) (n : ℕ) → value_at names (symbols.number n ∷ []) ≡ Ok (value.Absolute (cast_signed w64 n))
 unfolding value_at term_in joined_in
 number_value names n = refl
 
@@ -82,10 +84,17 @@ unfolding value_at term_in joined_in
 minus_value names n = refl
 
 pub positive : (line : List ℕ) (at n : ℕ) (text : List ℕ) → n < 2 ^ 63 → HasValue line (tokens_at at (word (Number n) text ∷ [])) (pos n)
-positive line at n text h = λ names. number_value names n ∙ ap (λ (z : ℤ). Ok (value.Absolute z)) (small_signed n h)
+positive line at n text h = record { means = λ names. number_value names n ∙ ap (λ (z : ℤ). Ok (value.Absolute z)) (small_signed n h); no_names = refl }
+
+-- a number of 64 bits, as it is written without a sign
+pub unsigned : (line : List ℕ) (at n : ℕ) (text : List ℕ) → HasValue line (tokens_at at (word (Number n) text ∷ [])) (cast_signed w64 n)
+unsigned line at n text = record { means = λ names. number_value names n; no_names = refl }
 
 pub negative : (line : List ℕ) (at n : ℕ) (text : List ℕ) → 0 < n → n < 2 ^ 63 → HasValue line (tokens_at at (sign 45 ∷ word (Number n) text ∷ [])) (negsuc (n - 1))
-negative line at n text some h = λ names. minus_value names n ∙ ap (λ (z : ℤ). Ok (value.Absolute (int_wrapping_neg w64 z))) (small_signed n h) ∙ ap (λ (z : ℤ). Ok (value.Absolute z)) (minus_signed n some h)
+negative line at n text some h = record {
+  means = λ names. minus_value names n ∙ ap (λ (z : ℤ). Ok (value.Absolute (int_wrapping_neg w64 z))) (small_signed n h) ∙ ap (λ (z : ℤ). Ok (value.Absolute z)) (minus_signed n some h);
+  no_names = refl;
+}
 
 -- places without a number
 

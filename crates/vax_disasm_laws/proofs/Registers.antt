@@ -6,7 +6,7 @@ use Rattle.vax_lex.specs.Characters.{is_name_character}
 use Rattle.vax_lex.specs.Statements.{is_size_letter}
 use Rattle.vax_asm_statement.specs.Registers.{register_of}
 use Rattle.vax_disasm.specs.Text.{register_name}
-use Rattle.vax_disasm.proofs.Heads.{BeginsName}
+use Rattle.vax_disasm_laws.proofs.Heads.{BeginsName}
 
 pub record IsRegister (text : List ℕ) (n : ℕ) : Type 0 where
   pub first : ℕ

@@ -12,11 +12,11 @@ use Rattle.vax_outside.specs.Hex.{hex}
 use Rattle.vax_flat.specs.Operand.{plus}
 use Rattle.vax_flat.specs.Grammar.{Place, Deferred, Decrement, Increment, IncrementDeferred, Absolute, Displaced, DisplacedDeferred, Specifier, Literal, Register, Immediate, InMemory, Indexed, BranchBy}
 use Rattle.vax_disasm.specs.Text.{register_name}
-use Rattle.vax_disasm.proofs.Digits.{hex_passes, hex_length, hex_value, IsDecimal, is_decimal}
-use Rattle.vax_disasm.proofs.Words.{Word, written, token_at, tokens_at, behind, Scans, next_word}
-use Rattle.vax_disasm.proofs.Heads.{operand_context, ends, BeginsName, name_head, IsSign, sign_head, size_head, hexadecimal_head, decimal_head, behind_name, behind_number, behind_sign}
-use Rattle.vax_disasm.proofs.Registers.{IsRegister, register_is}
-use Rattle.vax_disasm.proofs.Spoken.{sign, register, letter, hexadecimal, number, enclosed_words, signed_words, letter_of, displaced_words, place_words, specifier_words}
+use Rattle.vax_disasm_laws.proofs.Digits.{hex_passes, hex_length, hex_value, IsDecimal, is_decimal}
+use Rattle.vax_disasm_laws.proofs.Words.{Word, written, token_at, tokens_at, behind, Scans, next_word}
+use Rattle.vax_disasm_laws.proofs.Heads.{operand_context, ends, BeginsName, name_head, IsSign, sign_head, size_head, hexadecimal_head, decimal_head, behind_name, behind_number, behind_sign}
+use Rattle.vax_disasm_laws.proofs.Registers.{IsRegister, register_is}
+use Rattle.vax_disasm_laws.proofs.Spoken.{sign, register, letter, hexadecimal, number, enclosed_words, signed_words, letter_of, displaced_words, place_words, specifier_words}
 
 -- a scan goes through words, wherever they are, to the rest
 abbrev pub Goes : Bool → List Word → List ℕ → Type 0

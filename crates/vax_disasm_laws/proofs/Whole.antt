@@ -13,10 +13,10 @@ use Rattle.vax_flat.specs.Grammar.{Place, Deferred, Decrement, Increment, Increm
 use Rattle.vax_asm_statement.specs.Tokens.{is_mark_kind}
 use Rattle.vax_asm_statement.specs.Parts.{parts, split_from}
 use Rattle.vax_disasm.specs.Text.{operands_text, specifier_text}
-use Rattle.vax_disasm.proofs.Words.{Word, written, token_at, tokens_at, behind, Scans, next_word, tokens-append, written-append}
-use Rattle.vax_disasm.proofs.Heads.{operand_context, sign_head, behind_sign}
-use Rattle.vax_disasm.proofs.Spoken.{sign, register, letter, hexadecimal, enclosed_words, signed_words, letter_of, displaced_words, place_words, specifier_words, specifier_spelled}
-use Rattle.vax_disasm.proofs.Scanned.{Stops, Fits, by_specifier, comma_sign}
+use Rattle.vax_disasm_laws.proofs.Words.{Word, written, token_at, tokens_at, behind, Scans, next_word, tokens-append, written-append}
+use Rattle.vax_disasm_laws.proofs.Heads.{operand_context, sign_head, behind_sign}
+use Rattle.vax_disasm_laws.proofs.Spoken.{sign, register, letter, hexadecimal, enclosed_words, signed_words, letter_of, displaced_words, place_words, specifier_words, specifier_spelled}
+use Rattle.vax_disasm_laws.proofs.Scanned.{Stops, Fits, by_specifier, comma_sign}
 
 -- words that stand in no part of a statement but an operand: none is `,`, `<`, `>`, `:` or `=`
 

@@ -8,10 +8,10 @@ use Rattle.vax_lex.specs.declared.token.Token.{Token}
 use Rattle.vax_flat.specs.Grammar.{Place, Deferred, Decrement, Increment, IncrementDeferred, Absolute, Displaced, DisplacedDeferred}
 use Rattle.vax_disasm.specs.Seen.{IsDisplacement}
 use Rattle.vax_asm_statement.specs.Modes.{enclosed_last, operand_of}
-use Rattle.vax_disasm.proofs.Words.{Word, tokens_at, AreThere}
-use Rattle.vax_disasm.proofs.Spoken.{sign, register, letter, number, enclosed_words, signed_words, letter_of, displaced_words, place_words}
-use Rattle.vax_disasm.proofs.Scanned.{PlaceFits}
-use Rattle.vax_disasm.proofs.Moded.{narrow_of, place_mode, PlaceReads, deferred_reads, decrement_reads, increment_reads, increment_deferred_reads, absolute_reads, positive, negative, letter_for, plain_direct, minus_direct, plain_deferred, minus_deferred, named}
+use Rattle.vax_disasm_laws.proofs.Words.{Word, tokens_at, AreThere}
+use Rattle.vax_disasm_laws.proofs.Spoken.{sign, register, letter, number, enclosed_words, signed_words, letter_of, displaced_words, place_words}
+use Rattle.vax_disasm_laws.proofs.Scanned.{PlaceFits}
+use Rattle.vax_disasm_laws.proofs.Moded.{narrow_of, place_mode, PlaceReads, deferred_reads, decrement_reads, increment_reads, increment_deferred_reads, absolute_reads, positive, negative, letter_for, plain_direct, minus_direct, plain_deferred, minus_deferred, named}
 
 -- the widths that a displacement has
 abbrev pub WidthFits : Place → Type 0
@@ -32,18 +32,18 @@ letter_is width = elim (width == 1) as (λ b. (if b then 66 else (if width == 2 
 direct_reads : (line : List ℕ) (at width displacement n : ℕ) (low : Bool) → nat_lt displacement (2 ^ 31) ≡ low → displacement < 2 ^ 32 → n < 16 → AreThere line at (displaced_words width displacement n [])
     → PlaceReads line (tokens_at at (displaced_words width displacement n [])) (Displaced width displacement n)
 direct_reads line at width displacement n true e d h =
-    rw (letter_is width, e) (λ there. record { expression = tokens_at (at + 1 + 1) (number displacement ∷ []); is = plain_direct line at n displacement (decimal displacement) h (narrow_of width) there; no_index = refl; means = λ names. rw e (positive line (at + 1 + 1) displacement (decimal displacement) (omega arith) names) })
+    rw (letter_is width, e) (λ there. record { expression = tokens_at (at + 1 + 1) (number displacement ∷ []); is = plain_direct line at n displacement (decimal displacement) h (narrow_of width) there; no_index = refl; means = rw e (positive line (at + 1 + 1) displacement (decimal displacement) (omega arith)) })
 direct_reads line at width displacement n false e d h =
     let much : 2 ^ 31 ≤ displacement = grind (arith, nat_tests) in
-    rw (letter_is width, e) (λ there. record { expression = tokens_at (at + 1 + 1) (sign 45 ∷ number (2 ^ 32 - displacement) ∷ []); is = minus_direct line at n (2 ^ 32 - displacement) (decimal (2 ^ 32 - displacement)) h (narrow_of width) there; no_index = refl; means = λ names. rw e (negative line (at + 1 + 1) (2 ^ 32 - displacement) (decimal (2 ^ 32 - displacement)) (omega arith) (omega arith) names) })
+    rw (letter_is width, e) (λ there. record { expression = tokens_at (at + 1 + 1) (sign 45 ∷ number (2 ^ 32 - displacement) ∷ []); is = minus_direct line at n (2 ^ 32 - displacement) (decimal (2 ^ 32 - displacement)) h (narrow_of width) there; no_index = refl; means = rw e (negative line (at + 1 + 1) (2 ^ 32 - displacement) (decimal (2 ^ 32 - displacement)) (omega arith) (omega arith)) })
 
 deferral_reads : (line : List ℕ) (at width displacement n : ℕ) (low : Bool) → nat_lt displacement (2 ^ 31) ≡ low → displacement < 2 ^ 32 → n < 16 → AreThere line at (sign 64 ∷ displaced_words width displacement n [])
     → PlaceReads line (tokens_at at (sign 64 ∷ displaced_words width displacement n [])) (DisplacedDeferred width displacement n)
 deferral_reads line at width displacement n true e d h =
-    rw (letter_is width, e) (λ there. record { expression = tokens_at (at + 1 + 1 + 1) (number displacement ∷ []); is = plain_deferred line at n displacement (decimal displacement) h (narrow_of width) there; no_index = refl; means = λ names. rw e (positive line (at + 1 + 1 + 1) displacement (decimal displacement) (omega arith) names) })
+    rw (letter_is width, e) (λ there. record { expression = tokens_at (at + 1 + 1 + 1) (number displacement ∷ []); is = plain_deferred line at n displacement (decimal displacement) h (narrow_of width) there; no_index = refl; means = rw e (positive line (at + 1 + 1 + 1) displacement (decimal displacement) (omega arith)) })
 deferral_reads line at width displacement n false e d h =
     let much : 2 ^ 31 ≤ displacement = grind (arith, nat_tests) in
-    rw (letter_is width, e) (λ there. record { expression = tokens_at (at + 1 + 1 + 1) (sign 45 ∷ number (2 ^ 32 - displacement) ∷ []); is = minus_deferred line at n (2 ^ 32 - displacement) (decimal (2 ^ 32 - displacement)) h (narrow_of width) there; no_index = refl; means = λ names. rw e (negative line (at + 1 + 1 + 1) (2 ^ 32 - displacement) (decimal (2 ^ 32 - displacement)) (omega arith) (omega arith) names) })
+    rw (letter_is width, e) (λ there. record { expression = tokens_at (at + 1 + 1 + 1) (sign 45 ∷ number (2 ^ 32 - displacement) ∷ []); is = minus_deferred line at n (2 ^ 32 - displacement) (decimal (2 ^ 32 - displacement)) h (narrow_of width) there; no_index = refl; means = rw e (negative line (at + 1 + 1 + 1) (2 ^ 32 - displacement) (decimal (2 ^ 32 - displacement)) (omega arith) (omega arith)) })
 
 pub place_reads : (line : List ℕ) (at : ℕ) (p : Place) → PlaceFits p → AreThere line at (place_words p []) → PlaceReads line (tokens_at at (place_words p [])) p
 place_reads line at (Deferred n) h there = deferred_reads line at n h there

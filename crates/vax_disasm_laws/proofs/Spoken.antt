@@ -7,7 +7,7 @@ use Rattle.vax_isa.specs.declared.OperandKind.{OperandKind}
 use Rattle.vax_flat.specs.Operand.{plus}
 use Rattle.vax_flat.specs.Grammar.{Place, Deferred, Decrement, Increment, IncrementDeferred, Absolute, Displaced, DisplacedDeferred, Specifier, Literal, Register, Immediate, InMemory, Indexed, BranchBy}
 use Rattle.vax_disasm.specs.Text.{register_name, enclosed, signed, displaced, size_letter as letter_text, place_text, specifier_text}
-use Rattle.vax_disasm.proofs.Words.{Word, word, written}
+use Rattle.vax_disasm_laws.proofs.Words.{Word, word, written}
 
 abbrev pub sign : ℕ → Word
 sign m = word (Mark m) (m ∷ [])

@@ -1,0 +1,147 @@
+-- The laws.
+use Rattle.std.proofs.Common.{◌≡◌, false, ℕ, zero, suc, ◌+◌, ◌%◌, ◌<◌, ◌≤◌, ◌^◌, List, [], ◌∷◌, ◌++◌, length, map, take, get_or, Some, None, Result, Ok, refl, ap, ◌∙◌, sym, subst, arith}
+use Rattle.std.specs.Prelude.{slice_get}
+use Rattle.std.proofs.lemmas.List.{length-map}
+use Rattle.std.proofs.lemmas.Option.{slice_get-get_or}
+use Rattle.vax_asm.specs.Placing.{placed, placed_by}
+use Rattle.vax_asm.specs.Walk.{nothing}
+use Rattle.vax_asm_first.specs.Fixups.{Fixup}
+use Rattle.vax_asm_first.specs.Progress.{Progress, done}
+use Rattle.vax_asm_first.specs.Standing.{Standing}
+use Rattle.vax_asm_first.specs.declared.types.Origin.{Origin}
+use Rattle.vax_asm_instruction.specs.Bytes.{AreHeld, HasInstruction, Held, IsReadBack, instruction_bytes, sequence_of}
+use Rattle.vax_asm_second.specs.Modules.{known_in}
+use Rattle.vax_asm_sections.specs.Layout.{Part, Section as Building, current_of}
+use Rattle.vax_flat.specs.Grammar.{IsInstruction, Sequence, End, ReservedHere, Next, IsUnreserved}
+use Rattle.vax_isa.specs.Instructions.{Instruction}
+use Rattle.vax_isa.specs.Rows.{row_of, with_opcode}
+use Rattle.vax_link.specs.Names.{module_at}
+use Rattle.vax_link_laws.specs.Holding.{HasSection}
+use Rattle.vax_macro.specs.declared.error.FaultKind.{FaultKind}
+use Rattle.vax_module.specs.declared.Module.{Module}
+use Rattle.vax_module.specs.declared.Section.{Section}
+use Rattle.vax_asm_laws.proofs.Counting.{Step}
+use Rattle.vax_asm_laws.proofs.Laying.{sizes_are}
+use Rattle.vax_asm_laws.proofs.Walking.{lead_on, part_stands, start_counted}
+use Rattle.vax_asm_laws.specs.Counted.{AreCounted, end_of, section_at}
+use Rattle.vax_asm_laws.specs.Lying.{StandsAt}
+use Rattle.vax_asm_laws.specs.Leading.{Halves, IsOf, Leads, Line}
+use Rattle.vax_disasm.specs.Listed.{Listing, is_unreserved, listed, listing}
+use Rattle.vax_disasm_laws.specs.Assembling.{BeginsWith, HasRoom, IsLinked, IsPart, IsStatement, Program, Shows, address_of, section_of, texts}
+use Rattle.vax_disasm_laws.specs.Rows.{row_texts, rows_from}
+use Rattle.vax_disasm_laws.proofs.Adding.{Longer, adds, adds_fits, adds_made, begun_at, put_longer, standing_with}
+use Rattle.vax_disasm_laws.proofs.Assembled.{AllLie}
+use Rattle.vax_disasm_laws.proofs.Lines.{line_placed, parts_of}
+use Rattle.vax_disasm_laws.proofs.Listings.{Ahead, IsOne, bytes_behind, is_one, one_shown, parts_end, rows_shown}
+use Rattle.vax_disasm_laws.proofs.Readings.{AreBytes}
+
+-- ---- a statement
+
+done_none : (p : Progress) → p.fault ≡ None → done p ≡ Ok p.standing
+done_none p e = rw e refl
+
+pub is_statement : (bytes : List ℕ) (address : ℕ) (l : Listing) (origin : Origin) (s : Standing) → AreBytes bytes → listed bytes address ≡ Some l → s.sections.current < length s.sections.all → HasRoom l.length s.sections
+    → IsStatement origin l.text l.length s
+is_statement bytes address l origin s are e within room =
+    let one : IsOne bytes address l = is_one bytes address l e in
+    let is = one.is in
+    let parts : List (Part Fixup) = parts_of origin is.opcode address (current_of s.sections).size one.operands in
+    let count : (from : ℕ) → end_of from parts ≡ from + l.length = λ from. parts_end bytes address l origin s from are one in
+    let fits : (adds parts (begun_at s)).progress.fault ≡ None =
+    adds_fits parts (begun_at s) refl within (let room_section = room.section in omega (arith, count 0), let room_whole = room.whole in omega (arith, count 0)) in
+    let p : Progress = (adds parts (begun_at s)).progress in
+    let longer : Longer parts s.sections (standing_with parts s).sections = put_longer parts s.sections within in
+    let stood : p.standing ≡ standing_with parts s = adds_made parts (begun_at s) fits in
+    record {
+      behind = standing_with parts s;
+      placed =
+          ap (λ (t : List ℕ). placed origin t s) one.text
+          ∙ line_placed origin address is.opcode is.rest one.row one.operands s (bytes_behind bytes is.rest is.opcode is.split are) is.listed is.read is.unreserved
+          ∙ ap (λ (r : Result Standing FaultKind). placed_by r None) (done_none p fits ∙ ap (λ (t : Standing). Ok t) stood);
+      current = longer.current;
+      size = longer.size ∙ count (current_of s.sections).size;
+    }
+
+-- ---- what stands in an image
+
+record Whole (p : Program) (owner : ℕ) (h : Halves) : Type 0 where
+  source : Module
+  section : Section
+  has : HasSection p.modules owner (section_of h) section
+  lie : AllLie (known_in h.end.standing) (section_of h) (section_at (section_of h) h.end.standing.sections).parts section (module_at p.modules owner).relocs
+  ahead : Ahead (section_at (section_of h) h.end.standing.sections).parts (section_of h) h.middle h.end
+
+blank : Section
+blank = record { name = []; align = 1; write = false; bytes = [] }
+
+there_is : (modules : List Module) (owner : ℕ) (m : Module) → slice_get modules owner ≡ Some m → module_at modules owner ≡ m
+there_is [] owner m e = cc
+there_is (x ∷ modules) zero m e = cc
+there_is (x ∷ modules) (suc owner) m e = there_is modules owner m e
+
+whole : (p : Program) (owner : ℕ) (h : Halves) → IsPart p owner h → Whole p owner h
+whole p owner h part =
+    let m : Module = part.source in
+    let i : ℕ = section_of h in
+    let middle : AreCounted h.middle.standing.sections = (lead_on nothing h.middle h.first start_counted part.made.before).counted in
+    let to_end : Step h.middle.standing.sections h.end.standing.sections = lead_on h.middle h.end h.rest middle part.made.behind in
+    let less : i < length h.end.standing.sections.all = omega (arith, middle.current, to_end.keeps.all) in
+    let sizes : map (λ (x : Section). length x.bytes) m.sections ≡ map (λ (x : Building Fixup). x.size) h.end.standing.sections.all = sizes_are h.end.standing h.end.assignments h.begin m to_end.counted part.made.filled in
+    let count : length m.sections ≡ length h.end.standing.sections.all =
+    sym (length-map m.sections (λ (x : Section). length x.bytes)) ∙ ap length sizes ∙ length-map h.end.standing.sections.all (λ (x : Building Fixup). x.size) in
+    let section : Section = get_or m.sections i blank in
+    let found : slice_get m.sections i ≡ Some section = slice_get-get_or m.sections i blank (omega (arith, count, less)) in
+    let here : module_at p.modules owner ≡ m = there_is p.modules owner m part.there in
+    record {
+      source = m;
+      section = section;
+      has = subst (λ (x : Module). slice_get x.sections i ≡ Some section) (sym here) found;
+      lie = λ before q after e. subst (λ (x : Module). StandsAt (known_in h.end.standing) i (end_of 0 before) q section x.relocs) (sym here)
+          (part_stands h m i section (record { before = before; part = q; after = after }) part.made less found e);
+      ahead = record { counted = middle; current = refl; parts = refl };
+    }
+
+-- the second half's lines
+lines_lead : (h : Halves) (m : Module) (lines more : List Line) → IsOf h m → h.rest ≡ lines ++ more → Leads h.middle (lines ++ more) h.end
+lines_lead h m lines more is e = subst (λ (l : List Line). Leads h.middle l h.end) e is.behind
+
+one_line : (p : Program) (owner : ℕ) (h : Halves) (bytes text : List ℕ) (l : Listing) (lines more : List Line) → AreBytes bytes → IsLinked p → IsPart p owner h → Whole p owner h → listed bytes (address_of p owner h) ≡ Some l
+    → h.rest ≡ lines ++ more → texts lines ≡ l.text ∷ [] → Shows p.image (address_of p owner h) (take l.length bytes)
+one_line p owner h bytes text l [] more are linked part w e split is = cc
+one_line p owner h bytes text l (first ∷ lines) more are linked part w e split is =
+    let same : first.text ≡ l.text = cc in
+    (one_shown p owner (section_of h) w.section (known_in h.end.standing) linked w.has (section_at (section_of h) h.end.standing.sections).parts w.lie h.end bytes (address_of p owner h) l h.middle first (lines ++ more) are
+    (is_one bytes (address_of p owner h) l e) same w.ahead (lines_lead h part.source (first ∷ lines) more part.made split) refl).shown
+
+pub text_stands : (bytes : List ℕ) (l : Listing) (p : Program) (owner : ℕ) (h : Halves) → AreBytes bytes → IsLinked p → IsPart p owner h → listed bytes (address_of p owner h) ≡ Some l → BeginsWith h (l.text ∷ [])
+    → Shows p.image (address_of p owner h) (take l.length bytes)
+text_stands bytes l p owner h are linked part e b = one_line p owner h bytes l.text l b.lines b.more are linked part (whole p owner h part) e b.spelled b.are
+
+pub rows_stand : (bytes : List ℕ) (p : Program) (owner : ℕ) (h : Halves) → AreBytes bytes → IsLinked p → IsPart p owner h → address_of p owner h + length bytes ≤ 2 ^ 32 → BeginsWith h (row_texts (rows_from 0 (address_of p owner h) bytes))
+    → Shows p.image (address_of p owner h) bytes
+rows_stand [] p owner h are linked part low b = λ k less. absurd (omega arith)
+rows_stand (byte ∷ bytes) p owner h are linked part low b =
+    let w : Whole p owner h = whole p owner h part in
+    let address : ℕ = address_of p owner h in
+    let small : address ≡ address % 2 ^ 32 = omega arith in
+    let start : address + 0 ≡ address = omega arith in
+    subst (λ (n : ℕ). Shows p.image n (byte ∷ bytes)) start
+    (rows_shown p owner (section_of h) w.section (known_in h.end.standing) linked w.has (section_at (section_of h) h.end.standing.sections).parts w.lie h.end (byte ∷ bytes) 0 address are low h.middle b.lines b.more
+    (b.are ∙ ap (λ (n : ℕ). row_texts (rows_from 0 n (byte ∷ bytes))) small) w.ahead (lines_lead h part.source b.lines b.more part.made b.spelled) (sym start))
+
+-- ---- what is assembled is listed
+
+unreserved_itself : (q : Sequence) → IsUnreserved q → is_unreserved q ≡ Some q
+unreserved_itself End u = refl
+unreserved_itself (ReservedHere count) u = absurd u
+unreserved_itself (Next kind s count rest) u = rw (unreserved_itself rest u) refl
+
+read_listed : (bytes : List ℕ) (i : Instruction) (q : Sequence) (count address : ℕ) → IsInstruction bytes i q count → listed bytes address ≡ Some (listing address i q)
+unfolding listed
+read_listed bytes i q count address is = rw (is.split, is.listed, is.read, unreserved_itself q is.unreserved) refl
+
+pub assembled_listed : (i : Instruction) (before after : Building Fixup) (has : HasInstruction (row_of i) before after) (held : List Held) (rest : List ℕ) (address : ℕ) → AreHeld has.operands held → with_opcode i.opcode ≡ Some i
+    → listed (instruction_bytes i.opcode held ++ rest) address ≡ Some (listing address i (sequence_of held))
+assembled_listed i before after has held rest address are w =
+    let back : IsReadBack (row_of i) held = (has.filled held are).read_back in
+    read_listed (instruction_bytes i.opcode held ++ rest) i (sequence_of held) (length (instruction_bytes i.opcode held)) address (back i rest w refl)
