@@ -1,5 +1,6 @@
 -- Trees that come to the same.
-use Rattle.std.proofs.Common.{◌≡◌, ℕ, Option, Some, None, refl, ap, ◌∙◌}
+use Rattle.std.proofs.Common.{◌≡◌, ℕ, ◌/◌, ◌%◌, Option, Some, None, true, false, nat_lt, refl, ap, ◌∙◌, arith}
+use Rattle.std.proofs.lemmas.Bool.Decides.{nat_tests}
 use Rattle.vax_isa.specs.declared.Letter.TheVariants.{Address, Field, Read}
 use Rattle.vax_flat.specs.Field.{base_kind}
 use Rattle.vax_flat.specs.declared.Operand.{Operand}
@@ -8,7 +9,7 @@ use Rattle.vax_flat.specs.declared.Form.{Form}
 use Rattle.vax_flat.specs.declared.Form.TheVariants as form
 use Rattle.vax_flat.specs.State.{State}
 use Rattle.vax_flat.specs.Accesses.{Accesses, Leaf}
-use Rattle.vax_flat.specs.Operand.{formed, fetched, read_at, addressed, is_reserved, at_address}
+use Rattle.vax_flat.specs.Operand.{form_of, formed, fetched, read_at, addressed, is_reserved, at_address}
 use Rattle.vax_flat.specs.OverPort.{Present, over_port}
 use Rattle.vax_flat.specs.Rows.{address_of, address_in}
 use Rattle.vax_operand.specs.Addressed.{located, direct, IsMemory}
@@ -34,3 +35,26 @@ base_located shape s next m = formed_located base_kind shape s next m
 pub address_located : (width : ℕ) (shape : Form) (s : State) (next : ℕ → State → Accesses Leaf) → IsMemory shape → formed (address_of width) shape s (λ o t. next (address_in o) t) ≡ located Address width shape s next
 unfolding at_address address_in
 address_located width shape s next m = formed_located (address_of width) shape s (λ o t. next (address_in o) t) m
+
+-- two forms by their specifier bytes
+pub is_deferred : (byte : ℕ) → byte / 16 ≡ 6 → form_of byte ≡ form.Deferred (byte % 16)
+unfolding form_of
+is_deferred byte e =
+    let a : nat_lt byte 0x40 ≡ false = grind (arith, nat_tests) in
+    let b : nat_lt byte 0x50 ≡ false = grind (arith, nat_tests) in
+    let c : nat_lt byte 0x60 ≡ false = grind (arith, nat_tests) in
+    let d : nat_lt byte 0x70 ≡ true = grind (arith, nat_tests) in
+    rw (a, b, c, d) refl
+
+pub is_near : (byte : ℕ) → byte / 16 ≡ 10 → form_of byte ≡ form.Displacement 1 (byte % 16)
+unfolding form_of
+is_near byte e =
+    let a : nat_lt byte 0x40 ≡ false = grind (arith, nat_tests) in
+    let b : nat_lt byte 0x50 ≡ false = grind (arith, nat_tests) in
+    let c : nat_lt byte 0x60 ≡ false = grind (arith, nat_tests) in
+    let d : nat_lt byte 0x70 ≡ false = grind (arith, nat_tests) in
+    let f : nat_lt byte 0x80 ≡ false = grind (arith, nat_tests) in
+    let h : nat_lt byte 0x90 ≡ false = grind (arith, nat_tests) in
+    let i : nat_lt byte 0xA0 ≡ false = grind (arith, nat_tests) in
+    let j : nat_lt byte 0xB0 ≡ true = grind (arith, nat_tests) in
+    rw (a, b, c, d, f, h, i, j) refl

@@ -1,5 +1,5 @@
 -- Work that is done at once on the registers, with no log: what it makes of a tree of accesses, and what of the instruction was seen.
-use Rattle.std.specs.Prelude.{◌≡◌, ℕ, zero, suc, ◌^◌, ◌<◌, ◌≤◌, ◌&&◌, Bool, false, Option, Some, None, Ok, length, slice_index}
+use Rattle.std.specs.Prelude.{◌≡◌, ℕ, zero, suc, ◌^◌, ◌<◌, ◌≤◌, ◌&&◌, Bool, false, Option, Some, None, Ok, length, slice_index, slice_set}
 use Rattle.vax_word.specs.declared.Codes.{Codes}
 use Rattle.vax_word.specs.declared.Core.{Core}
 use Rattle.vax_word.specs.declared.Psl.{Psl}
@@ -42,14 +42,31 @@ abbrev pub Acts : (State → (State → Accesses Leaf) → Accesses Leaf) → Op
 Acts tree None old new = new.view ≡ old.view
 Acts tree (Some done) old new = Proceeds tree old new
 
+-- what an instruction does: its accesses, and what follows
+abbrev pub Tree : Type 0
+Tree = State → (Flow → State → Accesses Leaf) → Accesses Leaf
+
 -- the same of an instruction, which is done
-abbrev pub Makes : (State → (Flow → State → Accesses Leaf) → Accesses Leaf) → Option (Unit {0}) → Present → Present → Type 0
+abbrev pub Makes : Tree → Option (Unit {0}) → Present → Present → Type 0
 Makes tree None old new = new.view ≡ old.view
 Makes tree (Some done) old new = GoesOn tree flow.Done old new
 
+-- an instruction is done, or all is as it was
+abbrev pub MakesOrStays : Tree → Option (Unit {0}) → Present → Present → Type 0
+MakesOrStays tree None old new = new ≡ old
+MakesOrStays tree (Some done) old new = GoesOn tree flow.Done old new
+
 -- what an opcode stands for, of which PC is past
-unfoldable pub made_by : ℕ → State → (Flow → State → Accesses Leaf) → Accesses Leaf
+unfoldable pub made_by : ℕ → Tree
 made_by opcode s next = acted_part_if (action_of opcode) s next
+
+-- the registers with another PC
+abbrev pub with_pc : Core → ℕ → Core
+with_pc core pc = record core { regs = slice_set core.regs 15 pc }
+
+-- PC has moved at most
+abbrev pub IsMoved : Core → Core → Type 0
+IsMoved old new = (pc : ℕ) × (new ≡ with_pc old pc)
 
 -- A call changes registers at most.
 pub record IsKept (old new : Core) : Type 0 where

@@ -12,7 +12,7 @@ ghost use Rattle.vax_operand.specs.Addressed.{located, checked, modified, modifi
 ghost use Rattle.vax_quick.specs.Made.{Acts, Gives, IsKept, IsSeen, Reads};
 
 use crate::memory::{check, read, write};
-use crate::specifier::address_near;
+use crate::specifier::{address_near, deferred_address, near_address};
 use crate::window::{Window, fetch};
 use vax_isa::{Letter, Narrow};
 use vax_operand::{Operand, displacement_width, extend, reaches_pc, width_of};
@@ -163,9 +163,59 @@ fn value_at_address<P: Port>(
     Some((value, behind))
 }
 
-/// The value of an operand that is neither a literal nor in a register.
-#[inline(never)]
-fn value_there<P: Port>(
+/// The value at the address in a register.
+#[inline(always)]
+fn value_deferred<P: Port>(
+    core: &mut Core,
+    term: &Term,
+    port: &mut P,
+    window: Window,
+    width: u8,
+    n: u8,
+) -> Option<(u64, Window)>
+    requires width { IsWidth width }
+    requires of_core { n < 16 }
+    requires window { IsSeen (P.view port.old) core.old window }
+    ensures exact { Gives (λ s next. located letter.Read width (form.Deferred n) s
+        (λ addr s. read_at addr width s next)) result
+        (seen P.view core.old term.now port.old) (seen P.view core.new term.now port.new) }
+    ensures fits { IfSome result (λ r. r.0 < 256 ^ width) }
+    ensures left { IfSome result (λ r. IsSeen (P.view port.new) core.new r.1) }
+    ensures reads { Reads P.view P.since core.old port.old core.new port.new }
+{
+    let (addr, behind) = deferred_address(core, term, port, window, Letter::Read, width, n)?;
+    let value = read(core, term, port, addr, width as u32)?;
+    Some((value, behind))
+}
+
+/// The value at a displacement of one byte from a register.
+#[inline(always)]
+fn value_near<P: Port>(
+    core: &mut Core,
+    term: &Term,
+    port: &mut P,
+    window: Window,
+    width: u8,
+    n: u8,
+) -> Option<(u64, Window)>
+    requires width { IsWidth width }
+    requires of_core { n < 16 }
+    requires window { IsSeen (P.view port.old) core.old window }
+    ensures exact { Gives (λ s next. located letter.Read width (form.Displacement 1 n) s
+        (λ addr s. read_at addr width s next)) result
+        (seen P.view core.old term.now port.old) (seen P.view core.new term.now port.new) }
+    ensures fits { IfSome result (λ r. r.0 < 256 ^ width) }
+    ensures left { IfSome result (λ r. IsSeen (P.view port.new) core.new r.1) }
+    ensures reads { Reads P.view P.since core.old port.old core.new port.new }
+{
+    let (addr, behind) = near_address(core, term, port, window, Letter::Read, width, n)?;
+    let value = read(core, term, port, addr, width as u32)?;
+    Some((value, behind))
+}
+
+/// The value of an operand by its form.
+#[inline(always)]
+fn value_by_form<P: Port>(
     core: &mut Core,
     term: &Term,
     port: &mut P,
@@ -186,6 +236,33 @@ fn value_there<P: Port>(
         return immediate(core, term, port, window, width);
     }
     value_at_address(core, term, port, window, width, byte)
+}
+
+/// The value of an operand that is neither a literal nor in a register. The two commonest forms are told from the byte alone.
+#[inline(never)]
+#[tactic(auto, unfolding(vax_flat::specs::Operand::form_of))]
+fn value_there<P: Port>(
+    core: &mut Core,
+    term: &Term,
+    port: &mut P,
+    window: Window,
+    width: u8,
+    byte: u8,
+) -> Option<(u64, Window)>
+    requires width { IsWidth width }
+    requires window { IsSeen (P.view port.old) core.old window }
+    ensures exact { Gives (λ s next. located letter.Read width (form_of byte) s
+        (λ addr s. read_at addr width s next)) result
+        (seen P.view core.old term.now port.old) (seen P.view core.new term.now port.new) }
+    ensures fits { IfSome result (λ r. r.0 < 256 ^ width) }
+    ensures left { IfSome result (λ r. IsSeen (P.view port.new) core.new r.1) }
+    ensures reads { Reads P.view P.since core.old port.old core.new port.new }
+{
+    match byte >> 4 {
+        6 => value_deferred(core, term, port, window, width, byte % 16),
+        10 => value_near(core, term, port, window, width, byte % 16),
+        _ => value_by_form(core, term, port, window, width, byte),
+    }
 }
 
 /// The value of an operand that lies in memory.
@@ -211,10 +288,64 @@ fn value_beyond<P: Port>(
     value_there(core, term, port, window, width, byte)
 }
 
-/// The place at the address of a specifier byte, checked for writing, and the value there.
-#[inline(never)]
+/// The place at the address in a register, checked for writing, and the value there.
+#[inline(always)]
 #[tactic(auto, unfolding(vax_operand::specs::Addressed::modified_there, vax_operand::specs::Addressed::checked))]
-fn modified_there<P: Port>(
+fn modified_deferred<P: Port>(
+    core: &mut Core,
+    term: &Term,
+    port: &mut P,
+    window: Window,
+    width: u8,
+    n: u8,
+) -> Option<((Operand, u64), Window)>
+    requires width { IsWidth width }
+    requires of_core { n < 16 }
+    requires window { IsSeen (P.view port.old) core.old window }
+    ensures exact { Gives (modified_there width (form.Deferred n)) result
+        (seen P.view core.old term.now port.old) (seen P.view core.new term.now port.new) }
+    ensures place { IfSome result (λ r. IsPlace width r.0.0) }
+    ensures fits { IfSome result (λ r. r.0.1 < 256 ^ width) }
+    ensures left { IfSome result (λ r. IsSeen (P.view port.new) core.new r.1) }
+    ensures reads { Reads P.view P.since core.old port.old core.new port.new }
+{
+    let (addr, behind) = deferred_address(core, term, port, window, Letter::Modify, width, n)?;
+    check(core, term, port, addr, width as u32)?;
+    let value = read(core, term, port, addr, width as u32)?;
+    Some(((Operand::Memory(addr), value), behind))
+}
+
+/// The place at a displacement of one byte from a register, checked for writing, and the value there.
+#[inline(always)]
+#[tactic(auto, unfolding(vax_operand::specs::Addressed::modified_there, vax_operand::specs::Addressed::checked))]
+fn modified_near<P: Port>(
+    core: &mut Core,
+    term: &Term,
+    port: &mut P,
+    window: Window,
+    width: u8,
+    n: u8,
+) -> Option<((Operand, u64), Window)>
+    requires width { IsWidth width }
+    requires of_core { n < 16 }
+    requires window { IsSeen (P.view port.old) core.old window }
+    ensures exact { Gives (modified_there width (form.Displacement 1 n)) result
+        (seen P.view core.old term.now port.old) (seen P.view core.new term.now port.new) }
+    ensures place { IfSome result (λ r. IsPlace width r.0.0) }
+    ensures fits { IfSome result (λ r. r.0.1 < 256 ^ width) }
+    ensures left { IfSome result (λ r. IsSeen (P.view port.new) core.new r.1) }
+    ensures reads { Reads P.view P.since core.old port.old core.new port.new }
+{
+    let (addr, behind) = near_address(core, term, port, window, Letter::Modify, width, n)?;
+    check(core, term, port, addr, width as u32)?;
+    let value = read(core, term, port, addr, width as u32)?;
+    Some(((Operand::Memory(addr), value), behind))
+}
+
+/// The place at the address of a specifier byte, checked for writing, and the value there.
+#[inline(always)]
+#[tactic(auto, unfolding(vax_operand::specs::Addressed::modified_there, vax_operand::specs::Addressed::checked))]
+fn modified_by_form<P: Port>(
     core: &mut Core,
     term: &Term,
     port: &mut P,
@@ -235,6 +366,33 @@ fn modified_there<P: Port>(
     check(core, term, port, addr, width as u32)?;
     let value = read(core, term, port, addr, width as u32)?;
     Some(((Operand::Memory(addr), value), behind))
+}
+
+/// The same. The two commonest forms are told from the byte alone.
+#[inline(never)]
+#[tactic(auto, unfolding(vax_flat::specs::Operand::form_of))]
+fn modified_there<P: Port>(
+    core: &mut Core,
+    term: &Term,
+    port: &mut P,
+    window: Window,
+    width: u8,
+    byte: u8,
+) -> Option<((Operand, u64), Window)>
+    requires width { IsWidth width }
+    requires window { IsSeen (P.view port.old) core.old window }
+    ensures exact { Gives (modified_there width (form_of byte)) result
+        (seen P.view core.old term.now port.old) (seen P.view core.new term.now port.new) }
+    ensures place { IfSome result (λ r. IsPlace width r.0.0) }
+    ensures fits { IfSome result (λ r. r.0.1 < 256 ^ width) }
+    ensures left { IfSome result (λ r. IsSeen (P.view port.new) core.new r.1) }
+    ensures reads { Reads P.view P.since core.old port.old core.new port.new }
+{
+    match byte >> 4 {
+        6 => modified_deferred(core, term, port, window, width, byte & 15),
+        10 => modified_near(core, term, port, window, width, byte & 15),
+        _ => modified_by_form(core, term, port, window, width, byte),
+    }
 }
 
 /// An operand that lies in memory and is modified, and the value there.
@@ -334,7 +492,7 @@ fn value_of_register<P: Port>(
 /// A register that is modified, and the value there.
 #[inline(always)]
 #[tactic(auto, unfolding(vax_operand::specs::Addressed::modified, vax_flat::specs::Operand::formed, vax_flat::specs::Operand::in_register, vax_flat::specs::Rows::value_at))]
-fn modified_register<P: Port>(
+pub(crate) fn modified_register<P: Port>(
     core: &Core,
     term: &Term,
     port: &P,
@@ -554,6 +712,30 @@ fn address_there<P: Port>(
     address_near(core, term, port, window, Letter::Address, width, byte)
 }
 
+/// The same. The commonest form is told from the byte alone.
+#[inline(always)]
+#[tactic(auto, unfolding(vax_flat::specs::Operand::form_of))]
+fn address_by_form<P: Port>(
+    core: &mut Core,
+    term: &Term,
+    port: &mut P,
+    window: Window,
+    width: u8,
+    byte: u8,
+) -> Option<(u32, Window)>
+    requires width { IsWidth width }
+    requires window { IsSeen (P.view port.old) core.old window }
+    ensures exact { Gives (located letter.Address width (form_of byte)) result
+        (seen P.view core.old term.now port.old) (seen P.view core.new term.now port.new) }
+    ensures left { IfSome result (λ r. IsSeen (P.view port.new) core.new r.1) }
+    ensures reads { Reads P.view P.since core.old port.old core.new port.new }
+{
+    match byte >> 4 {
+        10 => near_address(core, term, port, window, Letter::Address, width, byte & 15),
+        _ => address_there(core, term, port, window, width, byte),
+    }
+}
+
 /// The address of an operand that lies in memory.
 #[inline(always)]
 fn address_beyond<P: Port>(
@@ -573,7 +755,7 @@ fn address_beyond<P: Port>(
     ensures left { IfSome result (λ r. IsSeen (P.view port.new) core.new r.1) }
     ensures reads { Reads P.view P.since core.old port.old core.new port.new }
 {
-    address_there(core, term, port, window, width, byte)
+    address_by_form(core, term, port, window, width, byte)
 }
 
 /// The address of an operand by its specifier byte.
@@ -636,6 +818,7 @@ pub(crate) fn next_target<P: Port>(
     ensures exact { Gives (branch_target (bytes_of (size_of size))) result
         (seen P.view core.old term.now port.old) (seen P.view core.new term.now port.new) }
     ensures reads { Reads P.view P.since core.old port.old core.new port.new }
+    ensures none { result ≡ None → core.new ≡ core.old }
 {
     let width = displacement_width(size);
     let (value, behind) = fetch(core, term, port, window, width as u32)?;

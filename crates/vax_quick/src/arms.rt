@@ -1,11 +1,12 @@
 //! The commonest moves, sums and tests, each with its operation and sizes as constants.
 ghost use Rattle.vax_undo.specs.Transaction.{seen};
-ghost use Rattle.vax_quick.specs.Made.{IsSeen, Leaves, Makes, made_by};
+ghost use Rattle.vax_quick.specs.Made.{IsSeen, Leaves, MakesOrStays, made_by};
 
 use crate::integer::{
     by_one, clear, compare, extended_multiply, move_address, push_long, rotate, shift_by, test,
     three, two, unary,
 };
+use crate::results::unless_made;
 use crate::window::Window;
 use vax_isa::{Binary, Narrow, Unary};
 use vax_undo::{Port, Term};
@@ -21,11 +22,12 @@ pub(crate) fn zero_extend_word<P: Port>(
     window: Window,
 ) -> Option<()>
     requires window { IsSeen (P.view port.old) core.old window }
-    ensures exact { Makes (made_by 0x3C) result
+    ensures exact { MakesOrStays (made_by 0x3C) result
         (seen P.view core.old term.now port.old) (seen P.view core.new term.now port.new) }
     ensures leaves { Leaves P.since core.old port.old core.new port.new }
 {
-    unary(
+    let aside = *core;
+    let made = unary(
         core,
         term,
         port,
@@ -33,7 +35,8 @@ pub(crate) fn zero_extend_word<P: Port>(
         Unary::ZeroExtend,
         Size::W,
         Size::L,
-    )
+    );
+    unless_made(core, term, port, aside, made)
 }
 
 /// ASHL.
@@ -46,11 +49,13 @@ pub(crate) fn shift_long<P: Port>(
     window: Window,
 ) -> Option<()>
     requires window { IsSeen (P.view port.old) core.old window }
-    ensures exact { Makes (made_by 0x78) result
+    ensures exact { MakesOrStays (made_by 0x78) result
         (seen P.view core.old term.now port.old) (seen P.view core.new term.now port.new) }
     ensures leaves { Leaves P.since core.old port.old core.new port.new }
 {
-    shift_by(core, term, port, window, Size::L)
+    let aside = *core;
+    let made = shift_by(core, term, port, window, Size::L);
+    unless_made(core, term, port, aside, made)
 }
 
 /// EMUL.
@@ -63,11 +68,13 @@ pub(crate) fn multiply_extended<P: Port>(
     window: Window,
 ) -> Option<()>
     requires window { IsSeen (P.view port.old) core.old window }
-    ensures exact { Makes (made_by 0x7A) result
+    ensures exact { MakesOrStays (made_by 0x7A) result
         (seen P.view core.old term.now port.old) (seen P.view core.new term.now port.new) }
     ensures leaves { Leaves P.since core.old port.old core.new port.new }
 {
-    extended_multiply(core, term, port, window)
+    let aside = *core;
+    let made = extended_multiply(core, term, port, window);
+    unless_made(core, term, port, aside, made)
 }
 
 /// MOVB.
@@ -80,11 +87,13 @@ pub(crate) fn move_byte<P: Port>(
     window: Window,
 ) -> Option<()>
     requires window { IsSeen (P.view port.old) core.old window }
-    ensures exact { Makes (made_by 0x90) result
+    ensures exact { MakesOrStays (made_by 0x90) result
         (seen P.view core.old term.now port.old) (seen P.view core.new term.now port.new) }
     ensures leaves { Leaves P.since core.old port.old core.new port.new }
 {
-    unary(core, term, port, window, Unary::Move, Size::B, Size::B)
+    let aside = *core;
+    let made = unary(core, term, port, window, Unary::Move, Size::B, Size::B);
+    unless_made(core, term, port, aside, made)
 }
 
 /// CMPB.
@@ -97,11 +106,13 @@ pub(crate) fn compare_byte<P: Port>(
     window: Window,
 ) -> Option<()>
     requires window { IsSeen (P.view port.old) core.old window }
-    ensures exact { Makes (made_by 0x91) result
+    ensures exact { MakesOrStays (made_by 0x91) result
         (seen P.view core.old term.now port.old) (seen P.view core.new term.now port.new) }
     ensures leaves { Leaves P.since core.old port.old core.new port.new }
 {
-    compare(core, term, port, window, Size::B)
+    let aside = *core;
+    let made = compare(core, term, port, window, Size::B);
+    unless_made(core, term, port, aside, made)
 }
 
 /// TSTB.
@@ -114,11 +125,13 @@ pub(crate) fn test_byte<P: Port>(
     window: Window,
 ) -> Option<()>
     requires window { IsSeen (P.view port.old) core.old window }
-    ensures exact { Makes (made_by 0x95) result
+    ensures exact { MakesOrStays (made_by 0x95) result
         (seen P.view core.old term.now port.old) (seen P.view core.new term.now port.new) }
     ensures leaves { Leaves P.since core.old port.old core.new port.new }
 {
-    test(core, term, port, window, Size::B)
+    let aside = *core;
+    let made = test(core, term, port, window, Size::B);
+    unless_made(core, term, port, aside, made)
 }
 
 /// CVTBL.
@@ -131,11 +144,13 @@ pub(crate) fn convert_byte<P: Port>(
     window: Window,
 ) -> Option<()>
     requires window { IsSeen (P.view port.old) core.old window }
-    ensures exact { Makes (made_by 0x98) result
+    ensures exact { MakesOrStays (made_by 0x98) result
         (seen P.view core.old term.now port.old) (seen P.view core.new term.now port.new) }
     ensures leaves { Leaves P.since core.old port.old core.new port.new }
 {
-    unary(core, term, port, window, Unary::Convert, Size::B, Size::L)
+    let aside = *core;
+    let made = unary(core, term, port, window, Unary::Convert, Size::B, Size::L);
+    unless_made(core, term, port, aside, made)
 }
 
 /// MOVZBL.
@@ -148,11 +163,12 @@ pub(crate) fn zero_extend_byte<P: Port>(
     window: Window,
 ) -> Option<()>
     requires window { IsSeen (P.view port.old) core.old window }
-    ensures exact { Makes (made_by 0x9A) result
+    ensures exact { MakesOrStays (made_by 0x9A) result
         (seen P.view core.old term.now port.old) (seen P.view core.new term.now port.new) }
     ensures leaves { Leaves P.since core.old port.old core.new port.new }
 {
-    unary(
+    let aside = *core;
+    let made = unary(
         core,
         term,
         port,
@@ -160,7 +176,8 @@ pub(crate) fn zero_extend_byte<P: Port>(
         Unary::ZeroExtend,
         Size::B,
         Size::L,
-    )
+    );
+    unless_made(core, term, port, aside, made)
 }
 
 /// ROTL.
@@ -173,11 +190,13 @@ pub(crate) fn rotate_long<P: Port>(
     window: Window,
 ) -> Option<()>
     requires window { IsSeen (P.view port.old) core.old window }
-    ensures exact { Makes (made_by 0x9C) result
+    ensures exact { MakesOrStays (made_by 0x9C) result
         (seen P.view core.old term.now port.old) (seen P.view core.new term.now port.new) }
     ensures leaves { Leaves P.since core.old port.old core.new port.new }
 {
-    rotate(core, term, port, window)
+    let aside = *core;
+    let made = rotate(core, term, port, window);
+    unless_made(core, term, port, aside, made)
 }
 
 /// MOVAB.
@@ -190,11 +209,13 @@ pub(crate) fn move_address_of_byte<P: Port>(
     window: Window,
 ) -> Option<()>
     requires window { IsSeen (P.view port.old) core.old window }
-    ensures exact { Makes (made_by 0x9E) result
+    ensures exact { MakesOrStays (made_by 0x9E) result
         (seen P.view core.old term.now port.old) (seen P.view core.new term.now port.new) }
     ensures leaves { Leaves P.since core.old port.old core.new port.new }
 {
-    move_address(core, term, port, window, Size::B)
+    let aside = *core;
+    let made = move_address(core, term, port, window, Size::B);
+    unless_made(core, term, port, aside, made)
 }
 
 /// ADDW2.
@@ -207,11 +228,13 @@ pub(crate) fn add_word<P: Port>(
     window: Window,
 ) -> Option<()>
     requires window { IsSeen (P.view port.old) core.old window }
-    ensures exact { Makes (made_by 0xA0) result
+    ensures exact { MakesOrStays (made_by 0xA0) result
         (seen P.view core.old term.now port.old) (seen P.view core.new term.now port.new) }
     ensures leaves { Leaves P.since core.old port.old core.new port.new }
 {
-    two(core, term, port, window, Binary::Add, Narrow::W)
+    let aside = *core;
+    let made = two(core, term, port, window, Binary::Add, Narrow::W);
+    unless_made(core, term, port, aside, made)
 }
 
 /// MOVW.
@@ -224,11 +247,13 @@ pub(crate) fn move_word<P: Port>(
     window: Window,
 ) -> Option<()>
     requires window { IsSeen (P.view port.old) core.old window }
-    ensures exact { Makes (made_by 0xB0) result
+    ensures exact { MakesOrStays (made_by 0xB0) result
         (seen P.view core.old term.now port.old) (seen P.view core.new term.now port.new) }
     ensures leaves { Leaves P.since core.old port.old core.new port.new }
 {
-    unary(core, term, port, window, Unary::Move, Size::W, Size::W)
+    let aside = *core;
+    let made = unary(core, term, port, window, Unary::Move, Size::W, Size::W);
+    unless_made(core, term, port, aside, made)
 }
 
 /// CMPW.
@@ -241,11 +266,13 @@ pub(crate) fn compare_word<P: Port>(
     window: Window,
 ) -> Option<()>
     requires window { IsSeen (P.view port.old) core.old window }
-    ensures exact { Makes (made_by 0xB1) result
+    ensures exact { MakesOrStays (made_by 0xB1) result
         (seen P.view core.old term.now port.old) (seen P.view core.new term.now port.new) }
     ensures leaves { Leaves P.since core.old port.old core.new port.new }
 {
-    compare(core, term, port, window, Size::W)
+    let aside = *core;
+    let made = compare(core, term, port, window, Size::W);
+    unless_made(core, term, port, aside, made)
 }
 
 /// ADDL2.
@@ -258,11 +285,13 @@ pub(crate) fn add_long<P: Port>(
     window: Window,
 ) -> Option<()>
     requires window { IsSeen (P.view port.old) core.old window }
-    ensures exact { Makes (made_by 0xC0) result
+    ensures exact { MakesOrStays (made_by 0xC0) result
         (seen P.view core.old term.now port.old) (seen P.view core.new term.now port.new) }
     ensures leaves { Leaves P.since core.old port.old core.new port.new }
 {
-    two(core, term, port, window, Binary::Add, Narrow::L)
+    let aside = *core;
+    let made = two(core, term, port, window, Binary::Add, Narrow::L);
+    unless_made(core, term, port, aside, made)
 }
 
 /// ADDL3.
@@ -275,11 +304,13 @@ pub(crate) fn add_three_long<P: Port>(
     window: Window,
 ) -> Option<()>
     requires window { IsSeen (P.view port.old) core.old window }
-    ensures exact { Makes (made_by 0xC1) result
+    ensures exact { MakesOrStays (made_by 0xC1) result
         (seen P.view core.old term.now port.old) (seen P.view core.new term.now port.new) }
     ensures leaves { Leaves P.since core.old port.old core.new port.new }
 {
-    three(core, term, port, window, Binary::Add, Narrow::L)
+    let aside = *core;
+    let made = three(core, term, port, window, Binary::Add, Narrow::L);
+    unless_made(core, term, port, aside, made)
 }
 
 /// SUBL2.
@@ -292,11 +323,13 @@ pub(crate) fn subtract_long<P: Port>(
     window: Window,
 ) -> Option<()>
     requires window { IsSeen (P.view port.old) core.old window }
-    ensures exact { Makes (made_by 0xC2) result
+    ensures exact { MakesOrStays (made_by 0xC2) result
         (seen P.view core.old term.now port.old) (seen P.view core.new term.now port.new) }
     ensures leaves { Leaves P.since core.old port.old core.new port.new }
 {
-    two(core, term, port, window, Binary::Subtract, Narrow::L)
+    let aside = *core;
+    let made = two(core, term, port, window, Binary::Subtract, Narrow::L);
+    unless_made(core, term, port, aside, made)
 }
 
 /// SUBL3.
@@ -309,11 +342,13 @@ pub(crate) fn subtract_three_long<P: Port>(
     window: Window,
 ) -> Option<()>
     requires window { IsSeen (P.view port.old) core.old window }
-    ensures exact { Makes (made_by 0xC3) result
+    ensures exact { MakesOrStays (made_by 0xC3) result
         (seen P.view core.old term.now port.old) (seen P.view core.new term.now port.new) }
     ensures leaves { Leaves P.since core.old port.old core.new port.new }
 {
-    three(core, term, port, window, Binary::Subtract, Narrow::L)
+    let aside = *core;
+    let made = three(core, term, port, window, Binary::Subtract, Narrow::L);
+    unless_made(core, term, port, aside, made)
 }
 
 /// MULL2.
@@ -326,11 +361,13 @@ pub(crate) fn multiply_long<P: Port>(
     window: Window,
 ) -> Option<()>
     requires window { IsSeen (P.view port.old) core.old window }
-    ensures exact { Makes (made_by 0xC4) result
+    ensures exact { MakesOrStays (made_by 0xC4) result
         (seen P.view core.old term.now port.old) (seen P.view core.new term.now port.new) }
     ensures leaves { Leaves P.since core.old port.old core.new port.new }
 {
-    two(core, term, port, window, Binary::Multiply, Narrow::L)
+    let aside = *core;
+    let made = two(core, term, port, window, Binary::Multiply, Narrow::L);
+    unless_made(core, term, port, aside, made)
 }
 
 /// MULL3.
@@ -343,11 +380,13 @@ pub(crate) fn multiply_three_long<P: Port>(
     window: Window,
 ) -> Option<()>
     requires window { IsSeen (P.view port.old) core.old window }
-    ensures exact { Makes (made_by 0xC5) result
+    ensures exact { MakesOrStays (made_by 0xC5) result
         (seen P.view core.old term.now port.old) (seen P.view core.new term.now port.new) }
     ensures leaves { Leaves P.since core.old port.old core.new port.new }
 {
-    three(core, term, port, window, Binary::Multiply, Narrow::L)
+    let aside = *core;
+    let made = three(core, term, port, window, Binary::Multiply, Narrow::L);
+    unless_made(core, term, port, aside, made)
 }
 
 /// BISL2.
@@ -360,11 +399,13 @@ pub(crate) fn set_bits_long<P: Port>(
     window: Window,
 ) -> Option<()>
     requires window { IsSeen (P.view port.old) core.old window }
-    ensures exact { Makes (made_by 0xC8) result
+    ensures exact { MakesOrStays (made_by 0xC8) result
         (seen P.view core.old term.now port.old) (seen P.view core.new term.now port.new) }
     ensures leaves { Leaves P.since core.old port.old core.new port.new }
 {
-    two(core, term, port, window, Binary::BitSet, Narrow::L)
+    let aside = *core;
+    let made = two(core, term, port, window, Binary::BitSet, Narrow::L);
+    unless_made(core, term, port, aside, made)
 }
 
 /// BISL3.
@@ -377,11 +418,13 @@ pub(crate) fn set_bits_three_long<P: Port>(
     window: Window,
 ) -> Option<()>
     requires window { IsSeen (P.view port.old) core.old window }
-    ensures exact { Makes (made_by 0xC9) result
+    ensures exact { MakesOrStays (made_by 0xC9) result
         (seen P.view core.old term.now port.old) (seen P.view core.new term.now port.new) }
     ensures leaves { Leaves P.since core.old port.old core.new port.new }
 {
-    three(core, term, port, window, Binary::BitSet, Narrow::L)
+    let aside = *core;
+    let made = three(core, term, port, window, Binary::BitSet, Narrow::L);
+    unless_made(core, term, port, aside, made)
 }
 
 /// BICL2.
@@ -394,11 +437,13 @@ pub(crate) fn clear_bits_long<P: Port>(
     window: Window,
 ) -> Option<()>
     requires window { IsSeen (P.view port.old) core.old window }
-    ensures exact { Makes (made_by 0xCA) result
+    ensures exact { MakesOrStays (made_by 0xCA) result
         (seen P.view core.old term.now port.old) (seen P.view core.new term.now port.new) }
     ensures leaves { Leaves P.since core.old port.old core.new port.new }
 {
-    two(core, term, port, window, Binary::BitClear, Narrow::L)
+    let aside = *core;
+    let made = two(core, term, port, window, Binary::BitClear, Narrow::L);
+    unless_made(core, term, port, aside, made)
 }
 
 /// BICL3.
@@ -411,11 +456,13 @@ pub(crate) fn clear_bits_three_long<P: Port>(
     window: Window,
 ) -> Option<()>
     requires window { IsSeen (P.view port.old) core.old window }
-    ensures exact { Makes (made_by 0xCB) result
+    ensures exact { MakesOrStays (made_by 0xCB) result
         (seen P.view core.old term.now port.old) (seen P.view core.new term.now port.new) }
     ensures leaves { Leaves P.since core.old port.old core.new port.new }
 {
-    three(core, term, port, window, Binary::BitClear, Narrow::L)
+    let aside = *core;
+    let made = three(core, term, port, window, Binary::BitClear, Narrow::L);
+    unless_made(core, term, port, aside, made)
 }
 
 /// XORL2.
@@ -428,11 +475,13 @@ pub(crate) fn exclusive_or_long<P: Port>(
     window: Window,
 ) -> Option<()>
     requires window { IsSeen (P.view port.old) core.old window }
-    ensures exact { Makes (made_by 0xCC) result
+    ensures exact { MakesOrStays (made_by 0xCC) result
         (seen P.view core.old term.now port.old) (seen P.view core.new term.now port.new) }
     ensures leaves { Leaves P.since core.old port.old core.new port.new }
 {
-    two(core, term, port, window, Binary::ExclusiveOr, Narrow::L)
+    let aside = *core;
+    let made = two(core, term, port, window, Binary::ExclusiveOr, Narrow::L);
+    unless_made(core, term, port, aside, made)
 }
 
 /// XORL3.
@@ -445,11 +494,13 @@ pub(crate) fn exclusive_or_three_long<P: Port>(
     window: Window,
 ) -> Option<()>
     requires window { IsSeen (P.view port.old) core.old window }
-    ensures exact { Makes (made_by 0xCD) result
+    ensures exact { MakesOrStays (made_by 0xCD) result
         (seen P.view core.old term.now port.old) (seen P.view core.new term.now port.new) }
     ensures leaves { Leaves P.since core.old port.old core.new port.new }
 {
-    three(core, term, port, window, Binary::ExclusiveOr, Narrow::L)
+    let aside = *core;
+    let made = three(core, term, port, window, Binary::ExclusiveOr, Narrow::L);
+    unless_made(core, term, port, aside, made)
 }
 
 /// MOVL.
@@ -462,11 +513,13 @@ pub(crate) fn move_long<P: Port>(
     window: Window,
 ) -> Option<()>
     requires window { IsSeen (P.view port.old) core.old window }
-    ensures exact { Makes (made_by 0xD0) result
+    ensures exact { MakesOrStays (made_by 0xD0) result
         (seen P.view core.old term.now port.old) (seen P.view core.new term.now port.new) }
     ensures leaves { Leaves P.since core.old port.old core.new port.new }
 {
-    unary(core, term, port, window, Unary::Move, Size::L, Size::L)
+    let aside = *core;
+    let made = unary(core, term, port, window, Unary::Move, Size::L, Size::L);
+    unless_made(core, term, port, aside, made)
 }
 
 /// CMPL.
@@ -479,11 +532,13 @@ pub(crate) fn compare_long<P: Port>(
     window: Window,
 ) -> Option<()>
     requires window { IsSeen (P.view port.old) core.old window }
-    ensures exact { Makes (made_by 0xD1) result
+    ensures exact { MakesOrStays (made_by 0xD1) result
         (seen P.view core.old term.now port.old) (seen P.view core.new term.now port.new) }
     ensures leaves { Leaves P.since core.old port.old core.new port.new }
 {
-    compare(core, term, port, window, Size::L)
+    let aside = *core;
+    let made = compare(core, term, port, window, Size::L);
+    unless_made(core, term, port, aside, made)
 }
 
 /// MCOML.
@@ -496,11 +551,12 @@ pub(crate) fn complement_long<P: Port>(
     window: Window,
 ) -> Option<()>
     requires window { IsSeen (P.view port.old) core.old window }
-    ensures exact { Makes (made_by 0xD2) result
+    ensures exact { MakesOrStays (made_by 0xD2) result
         (seen P.view core.old term.now port.old) (seen P.view core.new term.now port.new) }
     ensures leaves { Leaves P.since core.old port.old core.new port.new }
 {
-    unary(
+    let aside = *core;
+    let made = unary(
         core,
         term,
         port,
@@ -508,7 +564,8 @@ pub(crate) fn complement_long<P: Port>(
         Unary::Complement,
         Size::L,
         Size::L,
-    )
+    );
+    unless_made(core, term, port, aside, made)
 }
 
 /// CLRL.
@@ -521,11 +578,13 @@ pub(crate) fn clear_long<P: Port>(
     window: Window,
 ) -> Option<()>
     requires window { IsSeen (P.view port.old) core.old window }
-    ensures exact { Makes (made_by 0xD4) result
+    ensures exact { MakesOrStays (made_by 0xD4) result
         (seen P.view core.old term.now port.old) (seen P.view core.new term.now port.new) }
     ensures leaves { Leaves P.since core.old port.old core.new port.new }
 {
-    clear(core, term, port, window, Size::L)
+    let aside = *core;
+    let made = clear(core, term, port, window, Size::L);
+    unless_made(core, term, port, aside, made)
 }
 
 /// TSTL.
@@ -538,11 +597,13 @@ pub(crate) fn test_long<P: Port>(
     window: Window,
 ) -> Option<()>
     requires window { IsSeen (P.view port.old) core.old window }
-    ensures exact { Makes (made_by 0xD5) result
+    ensures exact { MakesOrStays (made_by 0xD5) result
         (seen P.view core.old term.now port.old) (seen P.view core.new term.now port.new) }
     ensures leaves { Leaves P.since core.old port.old core.new port.new }
 {
-    test(core, term, port, window, Size::L)
+    let aside = *core;
+    let made = test(core, term, port, window, Size::L);
+    unless_made(core, term, port, aside, made)
 }
 
 /// INCL.
@@ -555,11 +616,13 @@ pub(crate) fn increment_long<P: Port>(
     window: Window,
 ) -> Option<()>
     requires window { IsSeen (P.view port.old) core.old window }
-    ensures exact { Makes (made_by 0xD6) result
+    ensures exact { MakesOrStays (made_by 0xD6) result
         (seen P.view core.old term.now port.old) (seen P.view core.new term.now port.new) }
     ensures leaves { Leaves P.since core.old port.old core.new port.new }
 {
-    by_one(core, term, port, window, Binary::Add, Narrow::L)
+    let aside = *core;
+    let made = by_one(core, term, port, window, Binary::Add, Narrow::L);
+    unless_made(core, term, port, aside, made)
 }
 
 /// DECL.
@@ -572,11 +635,13 @@ pub(crate) fn decrement_long<P: Port>(
     window: Window,
 ) -> Option<()>
     requires window { IsSeen (P.view port.old) core.old window }
-    ensures exact { Makes (made_by 0xD7) result
+    ensures exact { MakesOrStays (made_by 0xD7) result
         (seen P.view core.old term.now port.old) (seen P.view core.new term.now port.new) }
     ensures leaves { Leaves P.since core.old port.old core.new port.new }
 {
-    by_one(core, term, port, window, Binary::Subtract, Narrow::L)
+    let aside = *core;
+    let made = by_one(core, term, port, window, Binary::Subtract, Narrow::L);
+    unless_made(core, term, port, aside, made)
 }
 
 /// ADWC.
@@ -589,11 +654,13 @@ pub(crate) fn add_with_carry<P: Port>(
     window: Window,
 ) -> Option<()>
     requires window { IsSeen (P.view port.old) core.old window }
-    ensures exact { Makes (made_by 0xD8) result
+    ensures exact { MakesOrStays (made_by 0xD8) result
         (seen P.view core.old term.now port.old) (seen P.view core.new term.now port.new) }
     ensures leaves { Leaves P.since core.old port.old core.new port.new }
 {
-    two(core, term, port, window, Binary::AddWithCarry, Narrow::L)
+    let aside = *core;
+    let made = two(core, term, port, window, Binary::AddWithCarry, Narrow::L);
+    unless_made(core, term, port, aside, made)
 }
 
 /// PUSHL.
@@ -606,11 +673,13 @@ pub(crate) fn push_longword<P: Port>(
     window: Window,
 ) -> Option<()>
     requires window { IsSeen (P.view port.old) core.old window }
-    ensures exact { Makes (made_by 0xDD) result
+    ensures exact { MakesOrStays (made_by 0xDD) result
         (seen P.view core.old term.now port.old) (seen P.view core.new term.now port.new) }
     ensures leaves { Leaves P.since core.old port.old core.new port.new }
 {
-    push_long(core, term, port, window)
+    let aside = *core;
+    let made = push_long(core, term, port, window);
+    unless_made(core, term, port, aside, made)
 }
 
 /// MOVAL.
@@ -623,9 +692,11 @@ pub(crate) fn move_address_of_long<P: Port>(
     window: Window,
 ) -> Option<()>
     requires window { IsSeen (P.view port.old) core.old window }
-    ensures exact { Makes (made_by 0xDE) result
+    ensures exact { MakesOrStays (made_by 0xDE) result
         (seen P.view core.old term.now port.old) (seen P.view core.new term.now port.new) }
     ensures leaves { Leaves P.since core.old port.old core.new port.new }
 {
-    move_address(core, term, port, window, Size::L)
+    let aside = *core;
+    let made = move_address(core, term, port, window, Size::L);
+    unless_made(core, term, port, aside, made)
 }

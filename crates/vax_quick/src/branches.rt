@@ -1,8 +1,11 @@
 //! The commonest branches and loops, each with its condition and size as constants.
 ghost use Rattle.vax_undo.specs.Transaction.{seen};
-ghost use Rattle.vax_quick.specs.Made.{IsSeen, Leaves, Makes, made_by};
+ghost use Rattle.vax_quick.specs.Made.{IsSeen, Leaves, MakesOrStays, made_by};
 
-use crate::control::{add_one, branch, subtract_one};
+use crate::call::{call_with_stack, return_from};
+use crate::control::{add_one, branch, branch_subroutine, jump_subroutine, return_subroutine};
+use crate::near::count_down;
+use crate::results::unless_made;
 use crate::window::Window;
 use vax_isa::{Condition, Narrow, Relation};
 use vax_undo::{Port, Term};
@@ -18,7 +21,7 @@ pub(crate) fn branch_byte<P: Port>(
     window: Window,
 ) -> Option<()>
     requires window { IsSeen (P.view port.old) core.old window }
-    ensures exact { Makes (made_by 0x11) result
+    ensures exact { MakesOrStays (made_by 0x11) result
         (seen P.view core.old term.now port.old) (seen P.view core.new term.now port.new) }
     ensures leaves { Leaves P.since core.old port.old core.new port.new }
 {
@@ -35,7 +38,7 @@ pub(crate) fn branch_not_equal<P: Port>(
     window: Window,
 ) -> Option<()>
     requires window { IsSeen (P.view port.old) core.old window }
-    ensures exact { Makes (made_by 0x12) result
+    ensures exact { MakesOrStays (made_by 0x12) result
         (seen P.view core.old term.now port.old) (seen P.view core.new term.now port.new) }
     ensures leaves { Leaves P.since core.old port.old core.new port.new }
 {
@@ -52,7 +55,7 @@ pub(crate) fn branch_equal<P: Port>(
     window: Window,
 ) -> Option<()>
     requires window { IsSeen (P.view port.old) core.old window }
-    ensures exact { Makes (made_by 0x13) result
+    ensures exact { MakesOrStays (made_by 0x13) result
         (seen P.view core.old term.now port.old) (seen P.view core.new term.now port.new) }
     ensures leaves { Leaves P.since core.old port.old core.new port.new }
 {
@@ -69,7 +72,7 @@ pub(crate) fn branch_greater<P: Port>(
     window: Window,
 ) -> Option<()>
     requires window { IsSeen (P.view port.old) core.old window }
-    ensures exact { Makes (made_by 0x14) result
+    ensures exact { MakesOrStays (made_by 0x14) result
         (seen P.view core.old term.now port.old) (seen P.view core.new term.now port.new) }
     ensures leaves { Leaves P.since core.old port.old core.new port.new }
 {
@@ -86,7 +89,7 @@ pub(crate) fn branch_less_or_equal<P: Port>(
     window: Window,
 ) -> Option<()>
     requires window { IsSeen (P.view port.old) core.old window }
-    ensures exact { Makes (made_by 0x15) result
+    ensures exact { MakesOrStays (made_by 0x15) result
         (seen P.view core.old term.now port.old) (seen P.view core.new term.now port.new) }
     ensures leaves { Leaves P.since core.old port.old core.new port.new }
 {
@@ -103,7 +106,7 @@ pub(crate) fn branch_greater_or_equal<P: Port>(
     window: Window,
 ) -> Option<()>
     requires window { IsSeen (P.view port.old) core.old window }
-    ensures exact { Makes (made_by 0x18) result
+    ensures exact { MakesOrStays (made_by 0x18) result
         (seen P.view core.old term.now port.old) (seen P.view core.new term.now port.new) }
     ensures leaves { Leaves P.since core.old port.old core.new port.new }
 {
@@ -127,7 +130,7 @@ pub(crate) fn branch_less<P: Port>(
     window: Window,
 ) -> Option<()>
     requires window { IsSeen (P.view port.old) core.old window }
-    ensures exact { Makes (made_by 0x19) result
+    ensures exact { MakesOrStays (made_by 0x19) result
         (seen P.view core.old term.now port.old) (seen P.view core.new term.now port.new) }
     ensures leaves { Leaves P.since core.old port.old core.new port.new }
 {
@@ -144,7 +147,7 @@ pub(crate) fn branch_greater_unsigned<P: Port>(
     window: Window,
 ) -> Option<()>
     requires window { IsSeen (P.view port.old) core.old window }
-    ensures exact { Makes (made_by 0x1A) result
+    ensures exact { MakesOrStays (made_by 0x1A) result
         (seen P.view core.old term.now port.old) (seen P.view core.new term.now port.new) }
     ensures leaves { Leaves P.since core.old port.old core.new port.new }
 {
@@ -168,7 +171,7 @@ pub(crate) fn branch_less_or_equal_unsigned<P: Port>(
     window: Window,
 ) -> Option<()>
     requires window { IsSeen (P.view port.old) core.old window }
-    ensures exact { Makes (made_by 0x1B) result
+    ensures exact { MakesOrStays (made_by 0x1B) result
         (seen P.view core.old term.now port.old) (seen P.view core.new term.now port.new) }
     ensures leaves { Leaves P.since core.old port.old core.new port.new }
 {
@@ -192,7 +195,7 @@ pub(crate) fn branch_carry_clear<P: Port>(
     window: Window,
 ) -> Option<()>
     requires window { IsSeen (P.view port.old) core.old window }
-    ensures exact { Makes (made_by 0x1E) result
+    ensures exact { MakesOrStays (made_by 0x1E) result
         (seen P.view core.old term.now port.old) (seen P.view core.new term.now port.new) }
     ensures leaves { Leaves P.since core.old port.old core.new port.new }
 {
@@ -209,7 +212,7 @@ pub(crate) fn branch_carry_set<P: Port>(
     window: Window,
 ) -> Option<()>
     requires window { IsSeen (P.view port.old) core.old window }
-    ensures exact { Makes (made_by 0x1F) result
+    ensures exact { MakesOrStays (made_by 0x1F) result
         (seen P.view core.old term.now port.old) (seen P.view core.new term.now port.new) }
     ensures leaves { Leaves P.since core.old port.old core.new port.new }
 {
@@ -226,7 +229,7 @@ pub(crate) fn branch_word<P: Port>(
     window: Window,
 ) -> Option<()>
     requires window { IsSeen (P.view port.old) core.old window }
-    ensures exact { Makes (made_by 0x31) result
+    ensures exact { MakesOrStays (made_by 0x31) result
         (seen P.view core.old term.now port.old) (seen P.view core.new term.now port.new) }
     ensures leaves { Leaves P.since core.old port.old core.new port.new }
 {
@@ -243,11 +246,13 @@ pub(crate) fn add_one_below<P: Port>(
     window: Window,
 ) -> Option<()>
     requires window { IsSeen (P.view port.old) core.old window }
-    ensures exact { Makes (made_by 0xF2) result
+    ensures exact { MakesOrStays (made_by 0xF2) result
         (seen P.view core.old term.now port.old) (seen P.view core.new term.now port.new) }
     ensures leaves { Leaves P.since core.old port.old core.new port.new }
 {
-    add_one(core, term, port, window, Relation::Less)
+    let aside = *core;
+    let made = add_one(core, term, port, window, Relation::Less);
+    unless_made(core, term, port, aside, made)
 }
 
 /// SOBGEQ.
@@ -260,11 +265,11 @@ pub(crate) fn subtract_one_to_zero<P: Port>(
     window: Window,
 ) -> Option<()>
     requires window { IsSeen (P.view port.old) core.old window }
-    ensures exact { Makes (made_by 0xF4) result
+    ensures exact { MakesOrStays (made_by 0xF4) result
         (seen P.view core.old term.now port.old) (seen P.view core.new term.now port.new) }
     ensures leaves { Leaves P.since core.old port.old core.new port.new }
 {
-    subtract_one(core, term, port, window, Relation::GreaterOrEqual)
+    count_down(core, term, port, window, Relation::GreaterOrEqual)
 }
 
 /// SOBGTR.
@@ -277,9 +282,103 @@ pub(crate) fn subtract_one_above_zero<P: Port>(
     window: Window,
 ) -> Option<()>
     requires window { IsSeen (P.view port.old) core.old window }
-    ensures exact { Makes (made_by 0xF5) result
+    ensures exact { MakesOrStays (made_by 0xF5) result
         (seen P.view core.old term.now port.old) (seen P.view core.new term.now port.new) }
     ensures leaves { Leaves P.since core.old port.old core.new port.new }
 {
-    subtract_one(core, term, port, window, Relation::Greater)
+    count_down(core, term, port, window, Relation::Greater)
+}
+
+/// BSBB.
+#[inline(never)]
+#[tactic(auto, using(crate::proofs::Opcodes::at_10))]
+pub(crate) fn call_near<P: Port>(
+    core: &mut Core,
+    term: &Term,
+    port: &mut P,
+    window: Window,
+) -> Option<()>
+    requires window { IsSeen (P.view port.old) core.old window }
+    ensures exact { MakesOrStays (made_by 0x10) result
+        (seen P.view core.old term.now port.old) (seen P.view core.new term.now port.new) }
+    ensures leaves { Leaves P.since core.old port.old core.new port.new }
+{
+    let aside = *core;
+    let made = branch_subroutine(core, term, port, window, Narrow::B);
+    unless_made(core, term, port, aside, made)
+}
+
+/// JSB.
+#[inline(never)]
+#[tactic(auto, using(crate::proofs::Opcodes::at_16))]
+pub(crate) fn call_subroutine<P: Port>(
+    core: &mut Core,
+    term: &Term,
+    port: &mut P,
+    window: Window,
+) -> Option<()>
+    requires window { IsSeen (P.view port.old) core.old window }
+    ensures exact { MakesOrStays (made_by 0x16) result
+        (seen P.view core.old term.now port.old) (seen P.view core.new term.now port.new) }
+    ensures leaves { Leaves P.since core.old port.old core.new port.new }
+{
+    let aside = *core;
+    let made = jump_subroutine(core, term, port, window);
+    unless_made(core, term, port, aside, made)
+}
+
+/// RSB.
+#[inline(never)]
+#[tactic(auto, using(crate::proofs::Opcodes::at_05))]
+pub(crate) fn return_from_subroutine<P: Port>(
+    core: &mut Core,
+    term: &Term,
+    port: &mut P,
+    window: Window,
+) -> Option<()>
+    requires window { IsSeen (P.view port.old) core.old window }
+    ensures exact { MakesOrStays (made_by 0x05) result
+        (seen P.view core.old term.now port.old) (seen P.view core.new term.now port.new) }
+    ensures leaves { Leaves P.since core.old port.old core.new port.new }
+{
+    return_subroutine(core, term, port, window)
+}
+
+/// CALLS.
+#[inline(never)]
+#[tactic(auto, using(crate::proofs::Opcodes::at_fb))]
+pub(crate) fn call_procedure<P: Port>(
+    core: &mut Core,
+    term: &Term,
+    port: &mut P,
+    window: Window,
+) -> Option<()>
+    requires window { IsSeen (P.view port.old) core.old window }
+    ensures exact { MakesOrStays (made_by 0xFB) result
+        (seen P.view core.old term.now port.old) (seen P.view core.new term.now port.new) }
+    ensures leaves { Leaves P.since core.old port.old core.new port.new }
+{
+    let aside = *core;
+    let made = call_with_stack(core, term, port, window);
+    unless_made(core, term, port, aside, made)
+}
+
+/// RET.
+#[inline(never)]
+#[tactic(auto, using(crate::proofs::Opcodes::at_04))]
+pub(crate) fn return_from_procedure<P: Port>(
+    core: &mut Core,
+    term: &Term,
+    port: &mut P,
+    window: Window,
+) -> Option<()>
+    requires window { IsSeen (P.view port.old) core.old window }
+    ensures exact { MakesOrStays (made_by 0x04) result
+        (seen P.view core.old term.now port.old) (seen P.view core.new term.now port.new) }
+    ensures leaves { Leaves P.since core.old port.old core.new port.new }
+{
+    let _ = window;
+    let aside = *core;
+    let made = return_from(core, term, port);
+    unless_made(core, term, port, aside, made)
 }

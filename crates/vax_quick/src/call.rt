@@ -15,29 +15,30 @@ use vax_undo::{Port, Term};
 use vax_word::{Core, Size};
 use vax_x_call::{entry_status, frame_word, is_status, return_status};
 
-/// Lets control go on at a procedure, behind its entry mask.
-#[inline(always)]
-#[tactic(auto, using(vax_x_call::proofs::Closed::entry_closed), unfolding(vax_flat::specs::Call::at_procedure))]
-fn go_to<P: Port>(
-    core: &mut Core,
-    term: &Term,
-    port: &P,
+/// How a procedure is entered: where it is, its entry mask, the address of its arguments, and that of its frame.
+#[derive(Clone, Copy)]
+struct Entry {
     procedure: u32,
     mask: u32,
     arguments: u32,
-    bottom: u32,
-)
-    ensures exact { state_of core.new term.now
-        ≡ call.at_procedure procedure mask arguments bottom (state_of core.old term.now) }
+    frame: u32,
+}
+
+/// Lets control go on at a procedure, behind its entry mask.
+#[inline(always)]
+#[tactic(auto, using(vax_x_call::proofs::Closed::entry_closed), unfolding(vax_flat::specs::Call::at_procedure))]
+fn go_to<P: Port>(core: &mut Core, term: &Term, port: &P, entry: Entry)
+    ensures exact { state_of core.new term.now ≡ call.at_procedure
+        entry.procedure entry.mask entry.arguments entry.frame (state_of core.old term.now) }
     ensures leaves { Leaves P.since core.old port.now core.new port.now }
 {
     let _ = term;
     let _ = port;
-    core.psl = entry_status(mask, core.psl);
-    core.regs[12] = arguments;
-    core.regs[13] = bottom;
-    core.regs[14] = bottom;
-    core.regs[15] = procedure.wrapping_add(2);
+    core.psl = entry_status(entry.mask, core.psl);
+    core.regs[12] = entry.arguments;
+    core.regs[13] = entry.frame;
+    core.regs[14] = entry.frame;
+    core.regs[15] = entry.procedure.wrapping_add(2);
 }
 
 /// Reads a procedure's entry mask. One that is reserved is left out.
@@ -78,15 +79,21 @@ fn enter<P: Port>(
     }
     let arguments = push_below(core, term, port, count, top)?;
     let word = frame_word(arguments % 4, true, mask, core.psl);
-    let bottom = push_frame(core, term, port, mask, word, arguments / 4 * 4);
-    go_to(core, term, port, procedure, mask, arguments, bottom);
+    let frame = push_frame(core, term, port, mask, word, arguments / 4 * 4);
+    let entry = Entry {
+        procedure,
+        mask,
+        arguments,
+        frame,
+    };
+    go_to(core, term, port, entry);
     Some(())
 }
 
 /// CALLS.
 #[inline(always)]
 #[tactic(auto, unfolding(vax_flat::specs::Call::call_with_stack, vax_flat::specs::Call::called_with_stack))]
-fn call_with_stack<P: Port>(
+pub(crate) fn call_with_stack<P: Port>(
     core: &mut Core,
     term: &Term,
     port: &mut P,
@@ -147,7 +154,7 @@ fn unwind<P: Port>(core: &mut Core, term: &Term, port: &mut P, word: u32) -> Opt
 /// RET.
 #[inline(always)]
 #[tactic(auto, unfolding(vax_flat::specs::Call::return_from))]
-fn return_from<P: Port>(core: &mut Core, term: &Term, port: &mut P) -> Option<()>
+pub(crate) fn return_from<P: Port>(core: &mut Core, term: &Term, port: &mut P) -> Option<()>
     ensures exact { Makes call.return_from result
         (seen P.view core.old term.now port.old) (seen P.view core.new term.now port.new) }
     ensures leaves { Leaves P.since core.old port.old core.new port.new }

@@ -6,7 +6,7 @@ ghost use Rattle.vax_flat.specs.declared.Flow.TheVariants as flow;
 ghost use Rattle.vax_flat.specs.Control as control;
 ghost use Rattle.vax_flat.specs.Operand.{IsPlace};
 ghost use Rattle.vax_undo.specs.Transaction.{seen, state_of};
-ghost use Rattle.vax_quick.specs.Made.{IsKept, IsSeen, Leaves, Makes};
+ghost use Rattle.vax_quick.specs.Made.{IsKept, IsSeen, Leaves, Makes, MakesOrStays};
 
 use crate::access::{next_address, next_modified, next_target, next_value, store};
 use crate::memory::read;
@@ -34,7 +34,7 @@ pub(crate) fn jump_if(core: &mut Core, term: &Term, taken: bool, target: u32)
 
 /// BRB, BRW, and the branches on the condition codes.
 #[inline(always)]
-#[tactic(auto, unfolding(vax_flat::specs::Control::branch))]
+#[tactic(auto, using(crate::proofs::Stays::all_same), unfolding(vax_flat::specs::Control::branch))]
 pub(crate) fn branch<P: Port>(
     core: &mut Core,
     term: &Term,
@@ -44,7 +44,7 @@ pub(crate) fn branch<P: Port>(
     size: Narrow,
 ) -> Option<()>
     requires window { IsSeen (P.view port.old) core.old window }
-    ensures exact { Makes (control.branch condition (size_of size)) result
+    ensures exact { MakesOrStays (control.branch condition (size_of size)) result
         (seen P.view core.old term.now port.old) (seen P.view core.new term.now port.new) }
     ensures leaves { Leaves P.since core.old port.old core.new port.new }
 {
@@ -71,7 +71,7 @@ fn call<P: Port>(core: &mut Core, term: &Term, port: &mut P, target: u32) -> Opt
 /// BSBB, BSBW.
 #[inline(always)]
 #[tactic(auto, unfolding(vax_flat::specs::Control::branch_subroutine))]
-fn branch_subroutine<P: Port>(
+pub(crate) fn branch_subroutine<P: Port>(
     core: &mut Core,
     term: &Term,
     port: &mut P,
@@ -104,7 +104,7 @@ fn jump<P: Port>(core: &mut Core, term: &Term, port: &mut P, window: Window) -> 
 /// JSB.
 #[inline(always)]
 #[tactic(auto, unfolding(vax_flat::specs::Control::jump_subroutine))]
-fn jump_subroutine<P: Port>(
+pub(crate) fn jump_subroutine<P: Port>(
     core: &mut Core,
     term: &Term,
     port: &mut P,
@@ -121,15 +121,15 @@ fn jump_subroutine<P: Port>(
 
 /// RSB.
 #[inline(always)]
-#[tactic(auto, unfolding(vax_flat::specs::Control::return_subroutine))]
-fn return_subroutine<P: Port>(
+#[tactic(auto, using(crate::proofs::Stays::all_same), unfolding(vax_flat::specs::Control::return_subroutine))]
+pub(crate) fn return_subroutine<P: Port>(
     core: &mut Core,
     term: &Term,
     port: &mut P,
     window: Window,
 ) -> Option<()>
     requires window { IsSeen (P.view port.old) core.old window }
-    ensures exact { Makes control.return_subroutine result
+    ensures exact { MakesOrStays control.return_subroutine result
         (seen P.view core.old term.now port.old) (seen P.view core.new term.now port.new) }
     ensures leaves { Leaves P.since core.old port.old core.new port.new }
 {

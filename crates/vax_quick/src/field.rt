@@ -185,32 +185,34 @@ fn becoming<P: Port>(
     }
 }
 
-/// A bit is tested, becomes what is said, and control goes on at the target where the bit was so.
-#[inline(always)]
-#[tactic(auto, unfolding(vax_flat::specs::Field::branched_on, vax_flat::specs::Field::held))]
-fn branch_on<P: Port>(
-    core: &mut Core,
-    term: &Term,
-    port: &mut P,
+/// A bit that a branch tests: whether it branches where the bit is set, what the bit becomes, its position from a base, and where control goes on.
+#[derive(Clone, Copy)]
+struct TestedBit {
     set: bool,
     becomes: Option<bool>,
     position: u32,
     base: Operand,
     target: u32,
-) -> Option<()>
-    requires base { IsBase base }
-    ensures exact { Makes (field.branched_on set becomes position base target) result
+}
+
+/// A bit is tested, becomes what is said, and control goes on at the target where the bit was so.
+#[inline(always)]
+#[tactic(auto, unfolding(vax_flat::specs::Field::branched_on, vax_flat::specs::Field::held))]
+fn branch_on<P: Port>(core: &mut Core, term: &Term, port: &mut P, bit: TestedBit) -> Option<()>
+    requires base { IsBase bit.base }
+    ensures exact { Makes
+        (field.branched_on bit.set bit.becomes bit.position bit.base bit.target) result
         (seen P.view core.old term.now port.old) (seen P.view core.new term.now port.new) }
     ensures leaves { Leaves P.since core.old port.old core.new port.new }
 {
-    if is_reserved(position, 1, base) {
+    if is_reserved(bit.position, 1, bit.base) {
         return None;
     }
-    let holder = holder_of(position, 1, base);
+    let holder = holder_of(bit.position, 1, bit.base);
     let bits = held(core, term, port, holder)?;
-    becoming(core, term, port, becomes, holder, bits)?;
-    let taken = part(holder, bits, 1) == u64::from(set);
-    jump_if(core, term, taken, target);
+    becoming(core, term, port, bit.becomes, holder, bits)?;
+    let taken = part(holder, bits, 1) == u64::from(bit.set);
+    jump_if(core, term, taken, bit.target);
     Some(())
 }
 
@@ -233,16 +235,14 @@ fn branch<P: Port>(
     let (position, window) = next_value(core, term, port, window, Size::L)?;
     let (base, window) = next_base(core, term, port, window)?;
     let (target, _) = next_target(core, term, port, window, Narrow::B)?;
-    branch_on(
-        core,
-        term,
-        port,
+    let bit = TestedBit {
         set,
         becomes,
-        position as u32,
+        position: position as u32,
         base,
         target,
-    )
+    };
+    branch_on(core, term, port, bit)
 }
 
 /// The instruction by its name.

@@ -1,5 +1,5 @@
 //! Moves, arithmetic, logic and addresses: one function for each shape of instruction, which follows the shape's definition in `vax_flat`.
-ghost use Rattle.std.specs.Prelude.{◌≡◌, ◌^◌, ◌<◌};
+ghost use Rattle.std.specs.Prelude.{◌≡◌, ◌^◌, ◌<◌, None};
 ghost use Rattle.vax_isa.specs.Actions.{size_of};
 ghost use Rattle.vax_flat.specs.Integer as integer;
 ghost use Rattle.vax_flat.specs.Operand.{IsPlace};
@@ -339,7 +339,7 @@ pub(crate) fn extended_multiply<P: Port>(
 /// Writes a longword to a register, as an operand. One in memory is left out.
 #[inline(always)]
 #[tactic(auto, unfolding(vax_flat::specs::Rows::stored))]
-fn store_in_register<P: Port>(
+pub(crate) fn store_in_register<P: Port>(
     core: &mut Core,
     term: &Term,
     port: &P,
@@ -351,6 +351,7 @@ fn store_in_register<P: Port>(
     ensures exact { Acts (stored 4 operand value) result
         (seen P.view core.old term.now port.now) (seen P.view core.new term.now port.now) }
     ensures kept { IsKept core.old core.new }
+    ensures none { result ≡ None → core.new ≡ core.old }
 {
     let _ = port;
     match operand {

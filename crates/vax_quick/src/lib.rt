@@ -13,6 +13,7 @@ mod control;
 mod field;
 mod integer;
 mod memory;
+mod near;
 mod results;
 mod specifier;
 mod stack;

@@ -1,17 +1,49 @@
 //! Results written and pushed, with their codes. Where a trap would follow, nothing is done.
-ghost use Rattle.std.specs.Prelude.{◌≡◌, ◌^◌, ◌<◌, true};
+ghost use Rattle.std.specs.Prelude.{◌≡◌, ◌^◌, ◌<◌, ◌≤◌, true};
 ghost use Rattle.vax_word.specs.Arithmetic.{bytes_of};
 ghost use Rattle.vax_flat.specs.declared.Flow.TheVariants as flow;
 ghost use Rattle.vax_flat.specs.Operand.{IsPlace};
 ghost use Rattle.vax_flat.specs.Rows.{answered, pushed, settled};
+ghost use Rattle.vax_undo.specs.FirstPart.{first_part_done};
 ghost use Rattle.vax_undo.specs.Transaction.{seen};
-ghost use Rattle.vax_quick.specs.Made.{Acts, GoesOn, IsKept, IsQuiet, Leaves, Makes};
+ghost use Rattle.vax_quick.specs.Made.{Acts, GoesOn, IsKept, IsQuiet, Leaves, Makes, MakesOrStays, Tree};
 
 use crate::access::store;
 use crate::memory::write;
 use vax_operand::Operand;
 use vax_undo::{Port, Term};
 use vax_word::{Codes, Core, Psl, Size};
+
+/// Puts back the registers that were put aside, where an instruction wasn't made of them.
+#[inline(always)]
+#[tactic(auto, using(crate::proofs::Stays::put_back, crate::proofs::Stays::made_stays))]
+pub(crate) fn unless_made<P: Port>(
+    core: &mut Core,
+    term: &Term,
+    port: &P,
+    aside: Core,
+    made: Option<()>,
+) -> Option<()>
+    ensures exact { (tree : Tree) → (before : P) → Makes tree made
+        (seen P.view aside term.now before) (seen P.view core.old term.now port.now)
+        → MakesOrStays tree result
+        (seen P.view aside term.now before) (seen P.view core.new term.now port.now) }
+    ensures timer { core.old.iccs ≡ aside.iccs → core.new.iccs ≡ aside.iccs }
+    ensures requests { core.old.sisr ≡ aside.sisr → core.new.sisr ≡ aside.sisr }
+    ensures clock { core.old.clock ≡ aside.clock → core.new.clock ≡ aside.clock }
+    ensures closed { first_part_done core.old.psl ≤ first_part_done aside.psl
+        → first_part_done core.new.psl ≤ first_part_done aside.psl }
+{
+    let _ = term;
+    let _ = port;
+    match made {
+        Some(()) => Some(()),
+        None => {
+            *core = aside;
+            None
+        }
+    }
+}
 
 /// Whether no trap follows a result with these codes.
 #[inline(always)]

@@ -268,7 +268,7 @@ fn indexed_address<P: Port>(
 /// The address in a register.
 #[inline(always)]
 #[tactic(auto, unfolding(vax_operand::specs::Addressed::located, vax_operand::specs::Addressed::direct, vax_flat::specs::Operand::is_reserved, vax_flat::specs::Operand::addressed))]
-fn deferred_address<P: Port>(
+pub(crate) fn deferred_address<P: Port>(
     core: &Core,
     term: &Term,
     port: &P,
@@ -296,7 +296,7 @@ fn deferred_address<P: Port>(
 /// The address at a displacement of one byte from a register.
 #[inline(always)]
 #[tactic(auto, unfolding(vax_operand::specs::Addressed::located, vax_operand::specs::Addressed::direct, vax_flat::specs::Operand::is_reserved, vax_flat::specs::Operand::addressed))]
-fn near_address<P: Port>(
+pub(crate) fn near_address<P: Port>(
     core: &mut Core,
     term: &Term,
     port: &mut P,

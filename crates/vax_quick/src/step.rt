@@ -3,7 +3,7 @@ ghost use Rattle.std.specs.Prelude.{◌≡◌, ◌≤◌, true, false};
 ghost use Rattle.vax_flat.specs.Instruction.{acted_part, acted_part_if, first_part};
 ghost use Rattle.vax_undo.specs.FirstPart.{first_part_done};
 ghost use Rattle.vax_undo.specs.Transaction.{seen};
-ghost use Rattle.vax_quick.specs.Made.{IsSeen, IsStill, Leaves, Makes, MakesStep, MakesSteps, made_by};
+ghost use Rattle.vax_quick.specs.Made.{IsSeen, IsStill, Leaves, Makes, MakesOrStays, MakesStep, MakesSteps, made_by};
 
 use crate::arms::{
     add_long, add_three_long, add_with_carry, add_word, clear_bits_long, clear_bits_three_long,
@@ -17,9 +17,11 @@ use crate::arms::{
 use crate::branches::{
     add_one_below, branch_byte, branch_carry_clear, branch_carry_set, branch_equal, branch_greater,
     branch_greater_or_equal, branch_greater_unsigned, branch_less, branch_less_or_equal,
-    branch_less_or_equal_unsigned, branch_not_equal, branch_word, subtract_one_above_zero,
+    branch_less_or_equal_unsigned, branch_not_equal, branch_word, call_near, call_procedure,
+    call_subroutine, return_from_procedure, return_from_subroutine, subtract_one_above_zero,
     subtract_one_to_zero,
 };
+use crate::results::unless_made;
 use crate::window::{Window, fetch, look};
 use crate::{call, control, field, integer};
 use vax_isa::{Action, action};
@@ -59,7 +61,7 @@ fn act<P: Port>(
     }
 }
 
-/// What an opcode does.
+/// What an opcode does. One that is neither arithmetic, control, a field of bits, nor a call is left as it was.
 #[inline(always)]
 #[tactic(auto, unfolding(vax_flat::specs::Instruction::acted_part_if))]
 fn act_if<P: Port>(
@@ -70,13 +72,17 @@ fn act_if<P: Port>(
     action: Option<Action>,
 ) -> Option<()>
     requires window { IsSeen (P.view port.old) core.old window }
-    ensures exact { Makes (acted_part_if action) result
+    ensures exact { MakesOrStays (acted_part_if action) result
         (seen P.view core.old term.now port.old) (seen P.view core.new term.now port.new) }
     ensures leaves { Leaves P.since core.old port.old core.new port.new }
 {
     match action {
-        Some(action) => act(core, term, port, window, action),
-        None => None,
+        None | Some(Action::System(_) | Action::Queue(_) | Action::Text(_)) => None,
+        Some(action) => {
+            let aside = *core;
+            let made = act(core, term, port, window, action);
+            unless_made(core, term, port, aside, made)
+        }
     }
 }
 
@@ -91,17 +97,17 @@ fn act_by_table<P: Port>(
     opcode: u8,
 ) -> Option<()>
     requires window { IsSeen (P.view port.old) core.old window }
-    ensures exact { Makes (made_by opcode) result
+    ensures exact { MakesOrStays (made_by opcode) result
         (seen P.view core.old term.now port.old) (seen P.view core.new term.now port.new) }
     ensures leaves { Leaves P.since core.old port.old core.new port.new }
 {
     act_if(core, term, port, window, action(opcode))
 }
 
-/// What an opcode stands for.
+/// What an opcode stands for that has an arm for longwords, or none.
 #[inline(always)]
 #[tactic(auto, using(crate::proofs::Opcodes::as_opcode))]
-fn act_by_opcode<P: Port>(
+fn act_on_longwords<P: Port>(
     core: &mut Core,
     term: &Term,
     port: &mut P,
@@ -109,36 +115,11 @@ fn act_by_opcode<P: Port>(
     opcode: u8,
 ) -> Option<()>
     requires window { IsSeen (P.view port.old) core.old window }
-    ensures exact { Makes (made_by opcode) result
+    ensures exact { MakesOrStays (made_by opcode) result
         (seen P.view core.old term.now port.old) (seen P.view core.new term.now port.new) }
     ensures leaves { Leaves P.since core.old port.old core.new port.new }
 {
     match opcode {
-        0x11 => branch_byte(core, term, port, window),
-        0x12 => branch_not_equal(core, term, port, window),
-        0x13 => branch_equal(core, term, port, window),
-        0x14 => branch_greater(core, term, port, window),
-        0x15 => branch_less_or_equal(core, term, port, window),
-        0x18 => branch_greater_or_equal(core, term, port, window),
-        0x19 => branch_less(core, term, port, window),
-        0x1A => branch_greater_unsigned(core, term, port, window),
-        0x1B => branch_less_or_equal_unsigned(core, term, port, window),
-        0x1E => branch_carry_clear(core, term, port, window),
-        0x1F => branch_carry_set(core, term, port, window),
-        0x31 => branch_word(core, term, port, window),
-        0x3C => zero_extend_word(core, term, port, window),
-        0x78 => shift_long(core, term, port, window),
-        0x7A => multiply_extended(core, term, port, window),
-        0x90 => move_byte(core, term, port, window),
-        0x91 => compare_byte(core, term, port, window),
-        0x95 => test_byte(core, term, port, window),
-        0x98 => convert_byte(core, term, port, window),
-        0x9A => zero_extend_byte(core, term, port, window),
-        0x9C => rotate_long(core, term, port, window),
-        0x9E => move_address_of_byte(core, term, port, window),
-        0xA0 => add_word(core, term, port, window),
-        0xB0 => move_word(core, term, port, window),
-        0xB1 => compare_word(core, term, port, window),
         0xC0 => add_long(core, term, port, window),
         0xC1 => add_three_long(core, term, port, window),
         0xC2 => subtract_long(core, term, port, window),
@@ -161,10 +142,80 @@ fn act_by_opcode<P: Port>(
         0xD8 => add_with_carry(core, term, port, window),
         0xDD => push_longword(core, term, port, window),
         0xDE => move_address_of_long(core, term, port, window),
+        _ => act_by_table(core, term, port, window, opcode),
+    }
+}
+
+/// What an opcode stands for that isn't one of the branches, loops and calls with an arm.
+#[inline(always)]
+#[tactic(auto, using(crate::proofs::Opcodes::as_opcode))]
+fn act_on_values<P: Port>(
+    core: &mut Core,
+    term: &Term,
+    port: &mut P,
+    window: Window,
+    opcode: u8,
+) -> Option<()>
+    requires window { IsSeen (P.view port.old) core.old window }
+    ensures exact { MakesOrStays (made_by opcode) result
+        (seen P.view core.old term.now port.old) (seen P.view core.new term.now port.new) }
+    ensures leaves { Leaves P.since core.old port.old core.new port.new }
+{
+    match opcode {
+        0x3C => zero_extend_word(core, term, port, window),
+        0x78 => shift_long(core, term, port, window),
+        0x7A => multiply_extended(core, term, port, window),
+        0x90 => move_byte(core, term, port, window),
+        0x91 => compare_byte(core, term, port, window),
+        0x95 => test_byte(core, term, port, window),
+        0x98 => convert_byte(core, term, port, window),
+        0x9A => zero_extend_byte(core, term, port, window),
+        0x9C => rotate_long(core, term, port, window),
+        0x9E => move_address_of_byte(core, term, port, window),
+        0xA0 => add_word(core, term, port, window),
+        0xB0 => move_word(core, term, port, window),
+        0xB1 => compare_word(core, term, port, window),
+        _ => act_on_longwords(core, term, port, window, opcode),
+    }
+}
+
+/// What an opcode stands for.
+#[inline(always)]
+#[tactic(auto, using(crate::proofs::Opcodes::as_opcode))]
+fn act_by_opcode<P: Port>(
+    core: &mut Core,
+    term: &Term,
+    port: &mut P,
+    window: Window,
+    opcode: u8,
+) -> Option<()>
+    requires window { IsSeen (P.view port.old) core.old window }
+    ensures exact { MakesOrStays (made_by opcode) result
+        (seen P.view core.old term.now port.old) (seen P.view core.new term.now port.new) }
+    ensures leaves { Leaves P.since core.old port.old core.new port.new }
+{
+    match opcode {
+        0x04 => return_from_procedure(core, term, port, window),
+        0x05 => return_from_subroutine(core, term, port, window),
+        0x10 => call_near(core, term, port, window),
+        0x11 => branch_byte(core, term, port, window),
+        0x12 => branch_not_equal(core, term, port, window),
+        0x13 => branch_equal(core, term, port, window),
+        0x14 => branch_greater(core, term, port, window),
+        0x15 => branch_less_or_equal(core, term, port, window),
+        0x16 => call_subroutine(core, term, port, window),
+        0x18 => branch_greater_or_equal(core, term, port, window),
+        0x19 => branch_less(core, term, port, window),
+        0x1A => branch_greater_unsigned(core, term, port, window),
+        0x1B => branch_less_or_equal_unsigned(core, term, port, window),
+        0x1E => branch_carry_clear(core, term, port, window),
+        0x1F => branch_carry_set(core, term, port, window),
+        0x31 => branch_word(core, term, port, window),
         0xF2 => add_one_below(core, term, port, window),
         0xF4 => subtract_one_to_zero(core, term, port, window),
         0xF5 => subtract_one_above_zero(core, term, port, window),
-        _ => act_by_table(core, term, port, window, opcode),
+        0xFB => call_procedure(core, term, port, window),
+        _ => act_on_values(core, term, port, window, opcode),
     }
 }
 
@@ -173,12 +224,19 @@ fn act_by_opcode<P: Port>(
 #[tactic(auto, unfolding(vax_flat::specs::Instruction::first_part, crate::specs::Made::made_by))]
 fn execute<P: Port>(core: &mut Core, term: &Term, port: &mut P, window: Window) -> Option<()>
     requires window { IsSeen (P.view port.old) core.old window }
-    ensures exact { Makes first_part result
+    ensures exact { MakesOrStays first_part result
         (seen P.view core.old term.now port.old) (seen P.view core.new term.now port.new) }
     ensures leaves { Leaves P.since core.old port.old core.new port.new }
 {
+    let pc = core.regs[15];
     let (opcode, behind) = fetch(core, term, port, window, 1)?;
-    act_by_opcode(core, term, port, behind, opcode as u8)
+    match act_by_opcode(core, term, port, behind, opcode as u8) {
+        Some(()) => Some(()),
+        None => {
+            core.regs[15] = pc;
+            None
+        }
+    }
 }
 
 /// Makes the step at PC at once, where it can, and says whether it did. Where it didn't, nothing has changed.
@@ -195,17 +253,13 @@ fn step<P: Port>(core: &mut Core, term: &Term, port: &mut P) -> bool
     ensures closed { first_part_done core.new.psl ≤ first_part_done core.old.psl }
     ensures since { (start : P) → P.since start port.old → P.since start port.new }
 {
-    let before = *core;
     let window = match look(core, port) {
         Some(window) => window,
         None => return false,
     };
     match execute(core, term, port, window) {
         Some(()) => true,
-        None => {
-            *core = before;
-            false
-        }
+        None => false,
     }
 }
 

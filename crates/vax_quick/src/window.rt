@@ -1,9 +1,9 @@
 //! The bytes of an instruction, seen at once.
-ghost use Rattle.std.specs.Prelude.{◌≡◌, ◌-◌, ◌/◌, ◌%◌, ◌^◌, ◌<◌, ◌≤◌, IfSome};
+ghost use Rattle.std.specs.Prelude.{◌≡◌, ◌-◌, ◌/◌, ◌%◌, ◌^◌, ◌<◌, ◌≤◌, IfSome, None};
 ghost use Rattle.vax_flat.specs.Operand.{fetched};
 ghost use Rattle.vax_undo.specs.Transaction.{seen};
 ghost use Rattle.vax_operand.specs.Form.{IsDisplacement};
-ghost use Rattle.vax_quick.specs.Made.{Gives, GoesOn, IsKept, IsSeen, Reads};
+ghost use Rattle.vax_quick.specs.Made.{Gives, GoesOn, IsKept, IsMoved, IsSeen, Reads};
 
 use vax_undo::{Port, Term};
 use vax_word::Core;
@@ -91,7 +91,13 @@ fn behind(bytes: u64, n: u32) -> u64
 /// So many bytes of those that were seen. PC moves past them.
 #[inline(always)]
 #[tactic(auto, using(crate::proofs::Windows::fetched_seen, crate::proofs::Windows::passed))]
-fn taken<P: Port>(core: &mut Core, term: &Term, port: &P, window: Window, n: u32) -> (u64, Window)
+pub(crate) fn taken<P: Port>(
+    core: &mut Core,
+    term: &Term,
+    port: &P,
+    window: Window,
+    n: u32,
+) -> (u64, Window)
     requires width { IsDisplacement n }
     requires enough { n ≤ window.left }
     requires window { IsSeen (P.view port.now) core.old window }
@@ -100,6 +106,7 @@ fn taken<P: Port>(core: &mut Core, term: &Term, port: &P, window: Window, n: u32
     ensures fits { result.0 < 256 ^ n }
     ensures left { IsSeen (P.view port.now) core.new result.1 }
     ensures kept { IsKept core.old core.new }
+    ensures moved { IsMoved core.old core.new }
 {
     let _ = term;
     let _ = port;
@@ -125,6 +132,8 @@ pub(crate) fn fetch<P: Port>(
     ensures fits { IfSome result (λ r. r.0 < 256 ^ n) }
     ensures left { IfSome result (λ r. IsSeen (P.view port.new) core.new r.1) }
     ensures reads { Reads P.view P.since core.old port.old core.new port.new }
+    ensures moved { IsMoved core.old core.new }
+    ensures none { result ≡ None → core.new ≡ core.old }
 {
     let window = at_least(core, port, window, n)?;
     Some(taken(core, term, port, window, n))

@@ -12,4 +12,4 @@ returns-clause-exact g c =
     let shape = form_of c.args.byte in
     let before = seen g.P.Port.view c.args.core.now c.args.term.now c.args.port.now in
     gives_by (λ s next. formed (address_of width) shape s (λ o s. next (address_in o) s)) (located Address width shape)
-    c.address_there.result before _ (λ next. address_located width shape before.state next c.requires.memory) c.address_there.ensures.exact
+    c.address_by_form.result before _ (λ next. address_located width shape before.state next c.requires.memory) c.address_by_form.ensures.exact

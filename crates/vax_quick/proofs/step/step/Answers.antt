@@ -1,9 +1,10 @@
-use Rattle.std.proofs.Common.{refl, subst}
+use Rattle.std.proofs.Common.{◌∙◌, refl, subst}
 use Rattle.vax_flat.specs.declared.Flow.TheVariants as flow
 use Rattle.vax_flat.specs.Instruction.{first_part}
 use Rattle.vax_flat.specs.Port.{View}
 use Rattle.vax_undo.specs.Transaction.{seen}
 use Rattle.vax_quick.specs.Made.{GoesOn}
+use Rattle.vax_quick.proofs.Stays.{all_same}
 use Rattle.vax_quick.proofs.Steps.{step_made}
 use Rattle.vax_quick.proofs.step.step.Goals as goal
 
@@ -15,3 +16,7 @@ returns-in-Some-execute-clause-made g c = λ _.
     let made : GoesOn first_part flow.Done before after =
     subst (λ (v : View). GoesOn first_part flow.Done (record { state = before.state; view = v }) after) c.look.ensures.same c.in-Some-execute.ensures.exact in
     step_made before after c.requires.still c.execute.ensures.leaves.timer refl refl made
+
+pub returns-in-None-execute-clause-none : goal.returns-in-None-execute-clause-none
+returns-in-None-execute-clause-none g c = λ _.
+    c.in-None-execute.ensures.exact ∙ all_same g.P.Port.view c.args.core.now c.args.core.now c.args.term.now c.args.port.now c.look.new.port refl c.look.ensures.same
