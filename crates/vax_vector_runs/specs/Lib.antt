@@ -1,0 +1,4 @@
+pub mod Record
+pub mod Settled
+pub mod Attempts
+pub mod Ends

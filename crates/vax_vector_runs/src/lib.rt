@@ -1,0 +1,11 @@
+//! Makes test vectors: the first part of a step is made on a real processor over a small memory, which keeps what is read and
+//! written, again and again, until each page that it needs is resident.
+#![tactic(auto)]
+
+mod recorder;
+mod run;
+mod settle;
+mod start;
+
+pub use run::vector_of;
+pub use start::NoVector;

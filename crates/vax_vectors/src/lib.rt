@@ -1,0 +1,9 @@
+//! Test vectors of single steps for other emulators (VAX Architecture Reference Manual, instruction execution): what a
+//! step begins with, what it leaves, which bytes it reads and writes in order, and the JSON text of that.
+#![tactic(auto)]
+
+mod text;
+mod vector;
+
+pub use text::push_vector;
+pub use vector::{Cell, End, Ends, Page, Start, Touch, Vector};
