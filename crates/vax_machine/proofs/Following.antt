@@ -18,7 +18,7 @@ use Rattle.vax_machine.proofs.Running.{pinned_or, served_pins}
 use Rattle.vax_machine.proofs.Touching.{missed}
 use Rattle.vax_machine.proofs.Tracking.{fewer_pinned, many_evicted}
 use Rattle.vax_machine.specs.Batch.{Advances, HasTriedSeveral, Spot, several}
-use Rattle.vax_machine.specs.Events.{FollowsRun, GoesOn, Happen, IsTouching, KeepsRun}
+use Rattle.vax_machine.specs.Events.{FollowsFrom, GoesOn, Happen, IsTouching, KeepsRun}
 use Rattle.vax_machine.specs.Laws.{Run, state_at}
 use Rattle.vax_machine.specs.Machine.{Applies, Evicts, Flushes, Goes, Keeping, KeepsPlace, Means, Serves, Tries, keeping, modified_of, residence, tried}
 use Rattle.vax_machine.specs.Paged.{Paged, all_evicted, all_named, attempted, attempted_by, fresh, marked, paged, place_after, steps_after, unless_ended}
@@ -77,30 +77,40 @@ pub one_further : (steps n : ℕ) (start next : Flat) → n ≡ steps + 1 → st
 unfolding run
 one_further steps n start next e is = let k : n ≡ suc steps = omega (arith, e) in sym is ∙ ap (λ (z : ℕ). run z start) (sym k)
 
--- a machine that keeps this goes on at a place to which its steps lead
-record IsGoing (k : Keeping) (place : Place) (start : Flat) : Type 0 where
-  pub goes : GoesBy (run k.steps start) place
+-- a machine that keeps this, and that began with a number of steps, goes on at a place to which its steps since lead
+record IsGoing (first : ℕ) (k : Keeping) (place : Place) (start : Flat) : Type 0 where
+  pub made : ℕ
+  pub steps : k.steps ≡ first + made
+  pub goes : GoesBy (run made start) place
   pub running : (machine_at place).ending ≡ None
   pub touching : IsTouching k place
 
-going_at : (m : Engine) (file : Option BlockFile) (start : Flat) (f : FollowsRun m file start) → m.ended ≡ None → IsGoing (keeping m) f.place start
-going_at m file start f going = record { goes = f.goes; running = running m file f.place going f.means; touching = f.touching }
+going_at : (first : ℕ) (m : Engine) (file : Option BlockFile) (start : Flat) (f : FollowsFrom first m file start) → m.ended ≡ None → IsGoing first (keeping m) f.place start
+going_at first m file start f going = record { made = f.made; steps = f.steps; goes = f.goes; running = running m file f.place going f.means; touching = f.touching }
 
 -- where its step leads
-step_is : (k : Keeping) (place : Place) (start next : Flat) → IsGoing k place start → turn place ≡ Completes next → step (run k.steps start) ≡ next
-step_is k place start next g t =
-    let alive : (run k.steps start).ending ≡ None = sym (goes_ending (run k.steps start) place g.goes) ∙ g.running in
-    turns_agree (run k.steps start) place next alive g.goes t
+step_is : (first : ℕ) (k : Keeping) (place : Place) (start next : Flat) (g : IsGoing first k place start) → turn place ≡ Completes next → step (run g.made start) ≡ next
+step_is first k place start next g t =
+    let alive : (run g.made start).ending ≡ None = sym (goes_ending (run g.made start) place g.goes) ∙ g.running in
+    turns_agree (run g.made start) place next alive g.goes t
 
-completes : (k : Keeping) (place : Place) (new : Engine) (file : Option BlockFile) (start next : Flat) → IsGoing k place start → new.steps ≡ k.steps + 1 → turn place ≡ Completes next → Means new file (At next) → IsTouching (keeping new) (At next) → FollowsRun new file start
-completes k place new file start next g steps t means touching =
-    record { place = At next; means = means; goes = one_further k.steps new.steps start next steps (step_is k place start next g t); touching = touching }
+completes : (first : ℕ) (k : Keeping) (place : Place) (new : Engine) (file : Option BlockFile) (start next : Flat) → IsGoing first k place start → new.steps ≡ k.steps + 1 → turn place ≡ Completes next → Means new file (At next) → IsTouching (keeping new) (At next) → FollowsFrom first new file start
+completes first k place new file start next g steps t means touching = record {
+  place = At next;
+  means = means;
+  made = g.made + 1;
+  steps = let s = g.steps in omega (arith, s, steps);
+  goes = one_further g.made (g.made + 1) start next refl (step_is first k place start next g t);
+  touching = touching;
+}
 
-same_place : (old new : Engine) (before after : Option BlockFile) (start : Flat) → new.steps ≡ old.steps → KeepsPlace old before new after → ((place : Place) → IsTouching (keeping old) place → IsTouching (keeping new) place) → FollowsRun old before start → FollowsRun new after start
-same_place old new before after start steps keeps touches f = record {
+same_place : (first : ℕ) (old new : Engine) (before after : Option BlockFile) (start : Flat) → new.steps ≡ old.steps → KeepsPlace old before new after → ((place : Place) → IsTouching (keeping old) place → IsTouching (keeping new) place) → FollowsFrom first old before start → FollowsFrom first new after start
+same_place first old new before after start steps keeps touches f = record {
   place = f.place;
   means = keeps f.place f.means;
-  goes = subst (λ (n : ℕ). GoesBy (run n start) f.place) (sym steps) f.goes;
+  made = f.made;
+  steps = steps ∙ f.steps;
+  goes = f.goes;
   touching = touches f.place f.touching;
 }
 
@@ -158,35 +168,39 @@ flush_touches true old new result place x h = as_before old new place x.1 h
 exact : (n : ℕ) → n < 2 ^ 64 - 1 → raised n ≡ n + 1
 exact n h = omega (arith, h)
 
-attempt_follows : (result : Applied) (k : Keeping) (place : Place) (new : Engine) (file : Option BlockFile) (start : Flat) → IsGoing k place start → k.steps < 2 ^ 64 - 1 → keeping new ≡ tried result k → Goes result (is_resident k.residence) new file place → FollowsRun new file start
-attempt_follows (Stepped sent) k place new file start g low e t =
-    completes k place new file start t.1.next g (ap (λ (z : Keeping). z.steps) e ∙ exact k.steps low) t.1.turn t.1.means
+attempt_follows : (result : Applied) (k : Keeping) (place : Place) (new : Engine) (file : Option BlockFile) (first : ℕ) (start : Flat) → IsGoing first k place start → k.steps < 2 ^ 64 - 1 → keeping new ≡ tried result k → Goes result (is_resident k.residence) new file place → FollowsFrom first new file start
+attempt_follows (Stepped sent) k place new file first start g low e t =
+    completes first k place new file start t.1.next g (ap (λ (z : Keeping). z.steps) e ∙ exact k.steps low) t.1.turn t.1.means
     (nothing_touched k (keeping new) (At t.1.next) (ap (λ (z : Keeping). z.residence) e) (ap (λ (z : Keeping). z.wanted) e))
-attempt_follows Parted k place new file start g low e t = record {
+attempt_follows Parted k place new file first start g low e t = record {
   place = Within t.1.next;
   means = t.1.means;
-  goes = subst (λ (n : ℕ). GoesBy (run n start) (Within t.1.next)) (sym (ap (λ (z : Keeping). z.steps) e)) (goes_further (run k.steps start) place t.1.next g.goes t.1.turn);
+  made = g.made;
+  steps = ap (λ (z : Keeping). z.steps) e ∙ g.steps;
+  goes = goes_further (run g.made start) place t.1.next g.goes t.1.turn;
   touching = nothing_touched k (keeping new) (Within t.1.next) (ap (λ (z : Keeping). z.residence) e) (ap (λ (z : Keeping). z.wanted) e);
 }
-attempt_follows (Absent page) k place new file start g low e t = record {
+attempt_follows (Absent page) k place new file first start g low e t = record {
   place = place;
   means = t.1;
-  goes = subst (λ (n : ℕ). GoesBy (run n start) place) (sym (ap (λ (z : Keeping). z.steps) e)) g.goes;
+  made = g.made;
+  steps = ap (λ (z : Keeping). z.steps) e ∙ g.steps;
+  goes = g.goes;
   touching = missed_touched k (keeping new) place page (ap (λ (z : Keeping). z.residence) e) (ap (λ (z : Keeping). z.wanted) e) t.0 g.touching;
 }
-attempt_follows (Ended x) k place new file start g low e t =
-    completes k place new file start (ended (gone_back place) x) g (ap (λ (z : Keeping). z.steps) e ∙ exact k.steps low) t.1.turn t.1.means
+attempt_follows (Ended x) k place new file first start g low e t =
+    completes first k place new file start (ended (gone_back place) x) g (ap (λ (z : Keeping). z.steps) e ∙ exact k.steps low) t.1.turn t.1.means
     (nothing_touched k (keeping new) (At (ended (gone_back place) x)) (ap (λ (z : Keeping). z.residence) e) (ap (λ (z : Keeping). z.wanted) e))
-attempt_follows (Served page) k place new file start g low e t = absurd t
-attempt_follows Evicted k place new file start g low e t = absurd t
-attempt_follows Flushed k place new file start g low e t = absurd t
-attempt_follows Nothing k place new file start g low e t = absurd t
-attempt_follows Failed k place new file start g low e t = absurd t
+attempt_follows (Served page) k place new file first start g low e t = absurd t
+attempt_follows Evicted k place new file first start g low e t = absurd t
+attempt_follows Flushed k place new file first start g low e t = absurd t
+attempt_follows Nothing k place new file first start g low e t = absurd t
+attempt_follows Failed k place new file first start g low e t = absurd t
 
-tries_follow : (how : Option Ending) (result : Applied) (old new : Engine) (file : Option BlockFile) (start : Flat) → old.ended ≡ how → FollowsRun old file start → old.steps < 2 ^ 64 - 1 → Tries how old result new → FollowsRun new file start
-tries_follow (Some e) result old new file start is f low t = subst (λ (z : Engine). FollowsRun z file start) (sym t.1) f
-tries_follow None result old new file start is f low t =
-    attempt_follows result (keeping old) f.place new file start (going_at old file start f is) low t.keeps (t.goes file f.place f.means)
+tries_follow : (how : Option Ending) (result : Applied) (old new : Engine) (file : Option BlockFile) (first : ℕ) (start : Flat) → old.ended ≡ how → FollowsFrom first old file start → old.steps < 2 ^ 64 - 1 → Tries how old result new → FollowsFrom first new file start
+tries_follow (Some e) result old new file first start is f low t = subst (λ (z : Engine). FollowsFrom first z file start) (sym t.1) f
+tries_follow None result old new file first start is f low t =
+    attempt_follows result (keeping old) f.place new file first start (going_at first old file start f is) low t.keeps (t.goes file f.place f.means)
 
 -- so do several attempts
 
@@ -200,28 +214,30 @@ unfolding several
 several_order zero k = refl
 several_order (suc count) k = several_order count k
 
-several_going : (count : ℕ) (k : Keeping) (resident : ℕ → Bool) (start : Flat) (from to : Spot) → k.steps + count < 2 ^ 64 → IsGoing k from.place start → Advances resident count from to → IsGoing (several count k) to.place start
+several_going : (count : ℕ) (k : Keeping) (resident : ℕ → Bool) (first : ℕ) (start : Flat) (from to : Spot) → k.steps + count < 2 ^ 64 → IsGoing first k from.place start → Advances resident count from to → IsGoing first (several count k) to.place start
 unfolding several Advances
-several_going zero k resident start from to low g a = subst (λ (s : Spot). IsGoing k s.place start) (sym a) g
-several_going (suc count) k resident start from to low g a =
+several_going zero k resident first start from to low g a = subst (λ (s : Spot). IsGoing first k s.place start) (sym a) g
+several_going (suc count) k resident first start from to low g a =
     let mid = several count k in
     let few = several_steps count k in
-    let h = several_going count k resident start from a.0 (omega (arith, low)) g a.2 in
+    let h = several_going count k resident first start from a.0 (omega (arith, low)) g a.2 in
     let more : raised mid.steps ≡ mid.steps + 1 = exact mid.steps (omega (arith, few, low)) in
-    subst (λ (s : Spot). IsGoing (tried (Stepped None) mid) s.place start) (sym a.6) (record {
-      goes = one_further mid.steps (raised mid.steps) start a.1 more (step_is mid a.0.place start a.1 h a.4);
+    subst (λ (s : Spot). IsGoing first (tried (Stepped None) mid) s.place start) (sym a.6) (record {
+      made = h.made + 1;
+      steps = let s = h.steps in omega (arith, s, more);
+      goes = one_further h.made (h.made + 1) start a.1 refl (step_is first mid a.0.place start a.1 h a.4);
       running = a.5;
       touching = nothing_touched mid (tried (Stepped None) mid) (At a.1) refl refl;
     })
 
 pub attempts_follow : (most : ℕ) (old new : Engine) (result : Applied) (file : Option BlockFile) → old.ended ≡ None → old.steps + most < 2 ^ 64 → HasTriedSeveral most old result new → KeepsRun old file new file
-attempts_follow most old new result file going low h start f =
+attempts_follow most old new result file going low h first start f =
     let far = h.goes file f.place f.means in
     let few = h.few in
     let mid = several h.count (keeping old) in
     let steps = several_steps h.count (keeping old) in
-    let g = several_going h.count (keeping old) (is_resident (residence old)) start (record { place = f.place; modified = modified_of old }) far.here (omega (arith, few, low)) (going_at old file start f going) far.advances in
-    attempt_follows result mid far.here.place new file start g (omega (arith, few, low, steps)) h.keeps
+    let g = several_going h.count (keeping old) (is_resident (residence old)) first start (record { place = f.place; modified = modified_of old }) far.here (omega (arith, few, low)) (going_at first old file start f going) far.advances in
+    attempt_follows result mid far.here.place new file first start g (omega (arith, few, low, steps)) h.keeps
     (subst (λ (xs : List ℕ). Goes result (λ page. is_listed page xs) new file far.here.place) (sym (several_order h.count (keeping old))) far.goes)
 
 serve_steps : (want : Option ℕ) (old : Keeping) (result : Applied) (new : Keeping) → Serves want old result new → new.steps ≡ old.steps
@@ -239,34 +255,36 @@ flush_steps false old result new x = ap (λ (z : Keeping). z.steps) x.1
 flush_steps true old result new x = ap (λ (z : Keeping). z.steps) x.1
 
 pub serve_follows : (old new : Engine) (before after : Option BlockFile) (result : Applied) → Applies event.Serve old before result new after → KeepsRun old before new after
-serve_follows old new before after result h start f =
-    same_place old new before after start (serve_steps old.wanted (keeping old) result (keeping new) h.0) h.1
+serve_follows old new before after result h first start f =
+    same_place first old new before after start (serve_steps old.wanted (keeping old) result (keeping new) h.0) h.1
     (λ place t. serve_touches old.wanted (keeping old) (keeping new) result place refl h.0 t) f
 
 pub evict_follows : (page : ℕ) (old new : Engine) (before after : Option BlockFile) (result : Applied) → Applies (event.Evict page) old before result new after → KeepsRun old before new after
-evict_follows page old new before after result h start f =
-    same_place old new before after start (evict_steps page (is_listed page (pages old.pager).order) (keeping old) result (keeping new) h.0) h.1
+evict_follows page old new before after result h first start f =
+    same_place first old new before after start (evict_steps page (is_listed page (pages old.pager).order) (keeping old) result (keeping new) h.0) h.1
     (λ place t. evict_touches page (is_listed page (pages old.pager).order) (keeping old) (keeping new) result place h.0 t) f
 
 flush_follows : (page : ℕ) (old new : Engine) (before after : Option BlockFile) (result : Applied) → Applies (event.Flush page) old before result new after → KeepsRun old before new after
-flush_follows page old new before after result h start f =
-    same_place old new before after start (flush_steps (is_listed page (pages old.pager).modified) (keeping old) result (keeping new) h.0) h.1
+flush_follows page old new before after result h first start f =
+    same_place first old new before after start (flush_steps (is_listed page (pages old.pager).modified) (keeping old) result (keeping new) h.0) h.1
     (λ place t. flush_touches (is_listed page (pages old.pager).modified) (keeping old) (keeping new) result place h.0 t) f
 
-pub event_follows : (e : Event) (old new : Engine) (before after : Option BlockFile) (result : Applied) (start : Flat) → old.steps < 2 ^ 64 - 1 → Applies e old before result new after → FollowsRun old before start → FollowsRun new after start
-event_follows event.Attempt old new before after result start low h f =
-    subst (λ (z : Option BlockFile). FollowsRun new z start) (sym h.1) (tries_follow old.ended result old new before start refl f low h.0)
-event_follows event.Serve old new before after result start low h f = serve_follows old new before after result h start f
-event_follows (event.Evict page) old new before after result start low h f = evict_follows page old new before after result h start f
-event_follows (event.Flush page) old new before after result start low h f = flush_follows page old new before after result h start f
+pub event_follows : (e : Event) (old new : Engine) (before after : Option BlockFile) (result : Applied) (first : ℕ) (start : Flat) → old.steps < 2 ^ 64 - 1 → Applies e old before result new after → FollowsFrom first old before start → FollowsFrom first new after start
+event_follows event.Attempt old new before after result first start low h f =
+    subst (λ (z : Option BlockFile). FollowsFrom first new z start) (sym h.1) (tries_follow old.ended result old new before first start refl f low h.0)
+event_follows event.Serve old new before after result first start low h f = serve_follows old new before after result h first start f
+event_follows (event.Evict page) old new before after result first start low h f = evict_follows page old new before after result h first start f
+event_follows (event.Flush page) old new before after result first start low h f = flush_follows page old new before after result h first start f
 
--- a machine at the start of a run
-pub starts_follow : (m : Engine) (file : Option BlockFile) (start : Flat) → m.steps ≡ 0 → m.wanted ≡ None → (residence m).pinned ≡ [] → Means m file (At start) → FollowsRun m file start
+-- a machine at a place by which the step of this flat machine comes, with no page pinned or wanted
+pub starts_follow : (m : Engine) (file : Option BlockFile) (place : Place) (start : Flat) → m.wanted ≡ None → (residence m).pinned ≡ [] → Means m file place → GoesBy start place → FollowsFrom m.steps m file start
 unfolding run is_listed
-starts_follow m file start steps wanted pinned means = record {
-  place = At start;
+starts_follow m file place start wanted pinned means goes = record {
+  place = place;
   means = means;
-  goes = subst (λ (n : ℕ). GoesBy (run n start) (At start)) (sym steps) refl;
+  made = 0;
+  steps = omega arith;
+  goes = goes;
   touching = record {
     pins = record { touched = λ page h. let no : false ≡ true = subst (λ (xs : List ℕ). is_listed page xs ≡ true) pinned h in cc };
     wanted = λ page e. let no : None ≡ Some page = sym wanted ∙ e in cc;
@@ -303,13 +321,13 @@ event_steps (event.Flush page) old new before after result h =
     let k = flush_steps (is_listed page (pages old.pager).modified) (keeping old) result (keeping new) h.0 in
     omega (arith, k)
 
-pub events_follow : (events : List Event) (old new : Engine) (before after : Option BlockFile) (start : Flat) → old.steps + length events < 2 ^ 64 → Happen events old before new after → FollowsRun old before start → FollowsRun new after start
+pub events_follow : (events : List Event) (old new : Engine) (before after : Option BlockFile) (first : ℕ) (start : Flat) → old.steps + length events < 2 ^ 64 → Happen events old before new after → FollowsFrom first old before start → FollowsFrom first new after start
 unfolding Happen
-events_follow [] old new before after start low h f =
-    subst (λ (z : Engine). FollowsRun z after start) (sym h.0) (subst (λ (z : Option BlockFile). FollowsRun old z start) (sym h.1) f)
-events_follow (e ∷ events) old new before after start low h f =
+events_follow [] old new before after first start low h f =
+    subst (λ (z : Engine). FollowsFrom first z after start) (sym h.0) (subst (λ (z : Option BlockFile). FollowsFrom first old z start) (sym h.1) f)
+events_follow (e ∷ events) old new before after first start low h f =
     let steps = event_steps e old h.0 before h.1 h.2 h.3 in
-    events_follow events h.0 new h.1 after start (omega (arith, low, steps)) h.4 (event_follows e old h.0 before h.1 h.2 start (omega (arith, low)) h.3 f)
+    events_follow events h.0 new h.1 after first start (omega (arith, low, steps)) h.4 (event_follows e old h.0 before h.1 h.2 first start (omega (arith, low)) h.3 f)
 
 -- and so does the paged run
 
@@ -345,7 +363,7 @@ paged_evicted pages p steps start g =
     let o = many_evicted pages p in
     record { made = g.made; steps = o.steps ∙ g.steps; goes = subst (λ (z : Place). GoesBy (run g.made start) z) (sym o.place) g.goes }
 
-paged_follows : (areas : List Area) (asks : ℕ → List Target) (count : ℕ) (b : Paged) (steps : ℕ) (start : Flat) → GoesOn steps start b → GoesOn steps start (paged areas asks count b)
+pub paged_follows : (areas : List Area) (asks : ℕ → List Target) (count : ℕ) (b : Paged) (steps : ℕ) (start : Flat) → GoesOn steps start b → GoesOn steps start (paged areas asks count b)
 unfolding paged
 paged_follows areas asks zero b steps start g = g
 paged_follows areas asks (suc count) b steps start g =

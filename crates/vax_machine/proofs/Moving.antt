@@ -176,7 +176,7 @@ first_byte addr low = omega (arith, low)
 after_low : (addr : ℕ) → after addr < 2 ^ 32
 after_low addr = omega arith
 
-from_bytes : (byte : ℕ → ℕ) (addr : ℕ) (xs : List ℕ) → addr < 2 ^ 32 → ((k : ℕ) → k < length xs → slice_index xs k ≡ byte (byte_after addr k)) → xs ≡ bytes_from byte addr (length xs)
+pub from_bytes : (byte : ℕ → ℕ) (addr : ℕ) (xs : List ℕ) → addr < 2 ^ 32 → ((k : ℕ) → k < length xs → slice_index xs k ≡ byte (byte_after addr k)) → xs ≡ bytes_from byte addr (length xs)
 unfolding bytes_from
 from_bytes byte addr [] low h = refl
 from_bytes byte addr (x ∷ xs) low h =

@@ -13,7 +13,14 @@ use Rattle.vax_flat.specs.Memory.{after, byte_at}
 use Rattle.vax_flat.specs.Port.{layout}
 use Rattle.vax_pager.specs.Paging.{Paging, StandsWith}
 use Rattle.vax_pager.specs.Poking.{IsPage}
-use Rattle.vax_machine.specs.Console.{AreShown, IsPageOf, cell_in, memory_at, memory_from}
+use Rattle.vax_pager.specs.Meaning.{pages}
+use Rattle.vax_space.specs.Faults.{IsSpace}
+use Rattle.vax_flat.specs.Memory.{bytes_from}
+use Rattle.vax_flat.specs.Parts.{machine_at}
+use Rattle.vax_machine.proofs.Moving.{from_bytes}
+use Rattle.vax_machine.proofs.Touching.{page_small}
+use Rattle.vax_machine.specs.declared.engine.Engine.{Engine}
+use Rattle.vax_machine.specs.Console.{AreShown, IsPageOf, ShowsPage, cell_in, memory_at, memory_from}
 
 -- a page that was read
 
@@ -114,3 +121,14 @@ none_from memory addr = refl
 -- an address that doesn't begin a page is in the page of the one before it
 pub same_page : (addr n : ℕ) → 0 < n → byte_after addr n % 512 ≢ 0 → page_of (byte_after addr n) ≡ page_of (byte_after addr (n - 1))
 same_page addr n some within = omega (arith, some, within)
+
+-- a whole page that was read
+
+pub page_found : (m : Engine) (file : Option BlockFile) (page : ℕ) (bytes : List ℕ) → IsSpace (pages m.pager).areas → is_some (area_of (pages m.pager).areas page) ≡ true → length bytes ≡ 512 → IsPage (pages m.pager) file page bytes → ShowsPage m file page bytes
+page_found m file page bytes space here len is place means =
+    let small = page_small (pages m.pager).areas page space here in
+    let memory = (machine_at place).memory in
+    let at : (k : ℕ) → k < length bytes → slice_index bytes k ≡ byte_at memory (byte_after (512 * page) k) = λ k within.
+    let b : 512 * page + k ≡ byte_after (512 * page) k = omega (arith, within, len, small) in
+    is memory means.memory k (omega (arith, within, len)) ∙ ap (byte_at memory) b in
+    from_bytes (byte_at memory) (512 * page) bytes (omega (arith, small)) at ∙ ap (bytes_from (byte_at memory) (512 * page)) len

@@ -10,6 +10,7 @@ use Rattle.vax_flat.specs.Step.{Flat}
 use Rattle.vax_cpu.specs.declared.cpu.Cpu.{Cpu}
 use Rattle.vax_pager.specs.declared.calls.PageFault.{PageFault}
 use Rattle.vax_machine.specs.Machine.{Keeping, KeepsPlace, Means, keeping, residence}
+use Rattle.vax_machine.specs.Paged.{page_bytes}
 use Rattle.vax_machine.specs.Residence.{HasBroughtSome, after_deposit, unpinned}
 use Rattle.vax_machine.specs.declared.engine.Engine.{Engine}
 use Rattle.vax_machine.specs.declared.event.RunEnd.{RunEnd}
@@ -51,6 +52,10 @@ ShowsMemory m file addr count cells =
 unfoldable pub pages_in : ℕ → ℕ → ℕ
 pages_in addr zero = 0
 pages_in addr (suc more) = (addr % 512 + more) / 512 + 1
+
+-- these are the bytes of a page of the memory of each place for which the machine stands
+abbrev pub ShowsPage : Engine → Option BlockFile → ℕ → List ℕ → Type 0
+ShowsPage m file page bytes = (place : Place) → Means m file place → bytes ≡ page_bytes (machine_at place).memory page
 
 -- no page is pinned, and none is wanted
 abbrev pub let_go : Keeping → Keeping

@@ -33,14 +33,20 @@ pub record IsTouching (k : Keeping) (place : Place) : Type 0 where
   pub pins : PinsTouched k.residence place
   pub wanted : (page : ℕ) → k.wanted ≡ Some page → is_touched page (touches_at place) ≡ true
 
--- The machine with its file stands for the flat machine's run from a start: it is where the steps that it completed lead, or where parts of the
--- next one lead.
-pub record FollowsRun (m : Engine) (file : Option BlockFile) (start : Flat) : Type 0 where
+-- A machine that began with this number of steps at this flat machine stands, with its file, for the run from there: it is where the steps that it
+-- has completed since lead, or where parts of the next one lead.
+pub record FollowsFrom (first : ℕ) (m : Engine) (file : Option BlockFile) (start : Flat) : Type 0 where
   pub place : Place
   pub means : Means m file place
-  pub goes : GoesBy (run m.steps start) place
+  pub made : ℕ
+  pub steps : m.steps ≡ first + made
+  pub goes : GoesBy (run made start) place
   pub touching : IsTouching (keeping m) place
 
--- where the machine with its file followed the run from a start, it does so afterwards
+-- one that counted no steps at the start
+abbrev pub FollowsRun : Engine → Option BlockFile → Flat → Type 0
+FollowsRun m file start = FollowsFrom 0 m file start
+
+-- where the machine with its file followed the run from a start, whatever steps it had counted there, it does so afterwards
 abbrev pub KeepsRun : Engine → Option BlockFile → Engine → Option BlockFile → Type 0
-KeepsRun old before new after = (start : Flat) → FollowsRun old before start → FollowsRun new after start
+KeepsRun old before new after = (first : ℕ) (start : Flat) → FollowsFrom first old before start → FollowsFrom first new after start

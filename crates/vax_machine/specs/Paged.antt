@@ -163,11 +163,11 @@ stop_by None false false = None
 unfoldable pub stops : ℕ → ℕ → Paged → Option Why
 stops steps turns p = stop_by (machine_at p.place).ending (nat_le steps p.steps) (nat_le turns p.turns)
 
--- at the start nothing is resident
-abbrev pub fresh : ℕ → Flat → Paged
-fresh frames m = record {
-  place = At m;
-  steps = 0;
+-- turns that begin at a place, with so many steps counted before; nothing is resident
+abbrev pub begun_at : ℕ → ℕ → Place → Paged
+begun_at frames steps place = record {
+  place = place;
+  steps = steps;
   parts = 0;
   turns = 0;
   residence = record { frames = frames; order = []; pinned = []; kept = []; spoiled = 0 };
@@ -176,3 +176,7 @@ fresh frames m = record {
   blocked = λ page. false;
   reads = 0;
 }
+
+-- from the start
+abbrev pub fresh : ℕ → Flat → Paged
+fresh frames m = begun_at frames 0 (At m)

@@ -2,21 +2,21 @@
 ghost use Rattle.std.specs.Prelude.{◌≡◌, ◌+◌, ◌<◌, ◌^◌, ℕ, List, Option, length};
 ghost use Rattle.vax_space.specs.declared.Area.{Area};
 ghost use Rattle.vax_outside.specs.Blocks.{BlockFile};
-ghost use Rattle.vax_flat.specs.Parts.{At, GoesBy};
+ghost use Rattle.vax_flat.specs.Parts.{GoesBy};
 ghost use Rattle.vax_flat.specs.Step.{Flat, run};
 ghost use Rattle.vax_sched.specs.declared.rule.Target.{Target};
-ghost use Rattle.vax_machine.specs.Events.{FollowsRun, GoesOn, Happen};
+ghost use Rattle.vax_machine.specs.Events.{FollowsFrom, GoesOn, Happen};
 ghost use Rattle.vax_machine.specs.Laws.{HasFewTurns, IsAsWritten, IsCounted, IsIdle, IsProper, IsSoonAfter, Run, state_at};
 ghost use Rattle.vax_machine.specs.Paged.{Paged, all_evicted, paged};
 ghost use Rattle.vax_machine.specs.declared.engine.Engine.{Engine};
 ghost use Rattle.vax_machine.specs.declared.event.Event.{Event};
 
-/// After any list of events the machine with its page file stands for the flat machine's run: it is where the steps that were completed lead,
-/// or where parts of the next one do, and the attempt that comes touches each page that is pinned.
+/// After any list of events the machine with its page file stands for the flat machine's run, whatever steps it had counted at its start: it is
+/// where the steps that were completed since lead, or where parts of the next one do, and the attempt that comes touches each page that is pinned.
 pub fn events_follow_the_run()
-    ensures { (events : List Event) (old new : Engine) (before after : Option BlockFile)
+    ensures { (events : List Event) (old new : Engine) (before after : Option BlockFile) (first : ℕ)
         (start : Flat) → old.steps + length events < 2 ^ 64 → Happen events old before new after
-        → FollowsRun old before start → FollowsRun new after start }
+        → FollowsFrom first old before start → FollowsFrom first new after start }
 {}
 
 /// After any number of turns from the start the paged run is where the steps that it counts lead the flat machine, or where parts of the next one
@@ -25,10 +25,11 @@ pub fn turns_follow_the_run()
     ensures { (r : Run) (n : ℕ) → GoesBy (run (state_at r n).steps r.start) (state_at r n).place }
 {}
 
-/// So it is from any beginning at the start of a step: the steps that were made since lead from there to where the paged run is.
+/// So it is from any beginning, at the start of a step or within it: where the steps that were counted before lead to it from a flat machine, those
+/// that were made since lead on from there.
 pub fn turns_go_on()
-    ensures { (areas : List Area) (asks : ℕ → List Target) (n : ℕ) (b : Paged) (start : Flat)
-        → b.place ≡ At start → GoesOn b.steps start (paged areas asks n b) }
+    ensures { (areas : List Area) (asks : ℕ → List Target) (n : ℕ) (b : Paged) (first : ℕ)
+        (start : Flat) → GoesOn first start b → GoesOn first start (paged areas asks n b) }
 {}
 
 /// A page that is made absent is written to its block wherever that is needed: at every moment, after so many turns and with these pages made absent then,

@@ -1,5 +1,6 @@
 //! The machine as callers have it.
-ghost use Rattle.std.specs.Prelude.{is_err, ◌≡◌, ◌≢◌, ◌-◌, ◌≤◌, ◌<◌, ◌^◌, Option, Some, None, IfOk, IfSome, OnErr, OnOk, is_some, false, length};
+ghost use Rattle.std.specs.Prelude.{is_err, ◌≡◌, ◌≢◌, ◌-◌, ◌≤◌, ◌<◌, ◌^◌, ℕ, List, Option, Some, None, IfOk, IfSome, OnErr, OnOk, is_some, false, length};
+ghost use Rattle.std.specs.Option.{option_copied};
 ghost use Rattle.vax_outside.specs.Blocks.{BlockFile};
 ghost use Rattle.vax_outside.specs.Faults.{CountsFailure, Rose};
 ghost use Rattle.vax_machine.specs.Machine.{IsSound};
@@ -7,7 +8,7 @@ ghost use Rattle.vax_machine.specs.Machine.{IsSound};
 use crate::engine::Engine;
 use crate::event::{Applied, Event, Limits, RunEnd};
 use std::alloc::Global;
-use vax_cpu::Cpu;
+use vax_cpu::{Cpu, Open};
 use vax_flat::Ending;
 use vax_outside::{PageFile, Sink};
 use vax_pager::{Counts, PageFault, Pager};
@@ -20,7 +21,7 @@ use vax_word::Core;
 const MOST_FRAMES: usize = 32_768;
 
 /// A machine: a processor over a pager. With a page file it stands for a place of the flat machine: the start of one of its steps, or between
-/// two parts of one. Only `new` takes memory.
+/// two parts of one. Only `new` and `again` take memory.
 #[derive(Drop)]
 pub struct Machine {
     pub(crate) engine: Engine,
@@ -34,16 +35,18 @@ impl Machine {
     ghost use Rattle.vax_space.specs.Areas.{area_of};
     ghost use Rattle.vax_space.specs.Reference.{page_of, violation};
     ghost use Rattle.vax_flat.specs.Outcome.{is_allowed};
-    ghost use Rattle.vax_flat.specs.Parts.{At};
+    ghost use Rattle.vax_flat.specs.Parts.{At, GoesBy, Place};
+    ghost use Rattle.vax_flat.specs.Start.{start_memory};
+    ghost use Rattle.vax_flat.specs.Step.{Flat};
     ghost use Rattle.vax_pager.specs.Calls.{IsByte};
     ghost use Rattle.vax_pager.specs.Listing.{first};
     ghost use Rattle.vax_pager.specs.Poking.{OnlyRead, ReadsAtMost, WritesBlocks, pages_of_bytes};
-    ghost use Rattle.vax_machine.specs.Console.{AreShown, BringsPages, Deposits, DepositsRegister, IsBetween, ShowsMemory, StopsBetween, cpu_with_register, let_go, pages_in};
+    ghost use Rattle.vax_machine.specs.Console.{AreShown, BringsPages, Deposits, DepositsRegister, IsBetween, IsThereIn, ShowsMemory, ShowsPage, StopsBetween, cpu_with_register, let_go, pages_in};
     ghost use Rattle.vax_machine.specs.Machine.{Applies, HasSpent, KeepsPlace, Means, Moves, has_failed, keeping, modified_of, residence};
     ghost use Rattle.vax_machine.specs.Marking.{Marks};
-    ghost use Rattle.vax_machine.specs.Events.{FollowsRun, KeepsPins, KeepsRun};
-    ghost use Rattle.vax_machine.specs.Meaning.{engine, flat_start, memory_of, units_of};
-    ghost use Rattle.vax_machine.specs.Paged.{fresh};
+    ghost use Rattle.vax_machine.specs.Events.{FollowsFrom, FollowsRun, KeepsPins, KeepsRun};
+    ghost use Rattle.vax_machine.specs.Meaning.{engine, flat_start, left_at, memory_of, resumed_at, units_of};
+    ghost use Rattle.vax_machine.specs.Paged.{begun_at, fresh};
     ghost use Rattle.vax_machine.specs.Run.{RunsTo, begun, system_of};
     ghost use Rattle.vax_machine.specs.Writing.{OnlyWrote};
 
@@ -68,8 +71,39 @@ impl Machine {
         ensures kept { IfOk result (λ m. (keeping (engine m)).areas ≡ space) }
         ensures between { IfOk result (λ m. IsBetween (engine m)) }
     {
+        Machine::again(alloc, space, core, Term::new(input), None, 0, frames)
+    }
+
+    /// A machine that goes on at a place: these registers, this console with no byte that waits to be handed out, this string instruction that is
+    /// open, if one is, and so many steps counted; the memory is that of a space, of which no page is resident, with so many frames, 64 to 32,768.
+    /// With any page file, and whatever was sent before, it stands for the flat machine at this place, and so for each run that leads to it.
+    pub fn again(
+        alloc: Global,
+        space: Space,
+        core: Core,
+        term: Term,
+        latch: Option<Open>,
+        steps: u64,
+        frames: u32,
+    ) -> Result<Machine, NoMemory>
+        requires some { 64 ≤ frames }
+        requires few { frames ≤ 32768 }
+        requires unsent { term.out ≡ None }
+        ensures stands { IfOk result (λ m. (file : BlockFile) → (output : List ℕ) →
+            Means (engine m) (Some file)
+            (resumed_at (left_at core (start_memory space) term output) latch)) }
+        ensures begun { IfOk result (λ m. (place : Place) →
+            begun (engine m) place ≡ begun_at frames steps place) }
+        ensures follows { IfOk result (λ m. (file : BlockFile) → (output : List ℕ) → (start : Flat)
+            → GoesBy start (resumed_at (left_at core (start_memory space) term output) latch)
+            → FollowsFrom steps (engine m) (Some file) start) }
+        ensures kept { IfOk result (λ m. (keeping (engine m)).areas ≡ space) }
+        ensures going { IfOk result (λ m. (engine m).ended ≡ None) }
+        ensures between { IfOk result (λ m. latch ≡ None → IsBetween (engine m)) }
+    {
         let pager = Pager::new(alloc, space, frames)?;
-        let cpu = Cpu::new(core, Term::new(input));
+        let mut cpu = Cpu::new(core, term);
+        cpu.latch = latch;
         let found = vec![in alloc; 0u32; MOST_FRAMES]?;
         Ok(Machine {
             engine: Engine {
@@ -77,7 +111,7 @@ impl Machine {
                 cpu,
                 wanted: None,
                 ended: None,
-                steps: 0,
+                steps,
                 turns: 0,
             },
             found,
@@ -151,6 +185,28 @@ impl Machine {
         &self.engine.cpu.core
     }
 
+    /// The console: its input with how much of it is taken. Between two calls no byte waits to be handed out.
+    pub fn term(&self) -> &Term
+        ensures term { result.now ≡ (engine self.now).cpu.term }
+        ensures unsent { result.now.out ≡ None }
+    {
+        &self.engine.cpu.term
+    }
+
+    /// The string instruction that is open, if one is.
+    pub fn latch(&self) -> Option<&Open>
+        ensures { option_copied result ≡ (engine self.now).cpu.latch }
+    {
+        self.engine.cpu.latch.as_ref()
+    }
+
+    /// The space: the areas of memory with what they held at the start.
+    pub fn space(&self) -> &Space
+        ensures { result.now ≡ (keeping (engine self.now)).areas }
+    {
+        self.engine.pager.space()
+    }
+
     /// How many steps were completed.
     pub fn steps(&self) -> u64
         ensures { result ≡ (engine self.now).steps }
@@ -222,6 +278,30 @@ impl Machine {
         ensures counts { CountsFailure (is_err result) (F.faults file.old) (F.faults file.new) }
     {
         self.engine.pager.peek(addr, file)
+    }
+
+    /// The bytes of a page of memory, with no change of what is resident; none exactly where no area has it.
+    pub fn page<F: PageFile>(
+        &mut self,
+        page: u32,
+        file: &mut F,
+    ) -> Result<Option<[u8; 512]>, PageFault>
+        ensures none { IfOk result (IsThereIn (keeping (engine self.old)).areas page) }
+        ensures bytes { IfOk result
+            (λ r. IfSome r (ShowsPage (engine self.old) (F.contents file.old) page)) }
+        ensures cpu { (engine self.new).cpu ≡ (engine self.old).cpu }
+        ensures keeps { keeping (engine self.new) ≡ keeping (engine self.old) }
+        ensures same { memory_of self.new ≡ memory_of self.old }
+        ensures reads { OnlyRead (F.contents file.old) (F.contents file.new) }
+        ensures means { KeepsPlace (engine self.old) (F.contents file.old) (engine self.new)
+            (F.contents file.new) }
+        ensures err { OnErr result (F.contents file.new ≡ F.contents file.old) }
+        ensures counts { CountsFailure (is_err result) (F.faults file.old) (F.faults file.new) }
+    {
+        match self.engine.pager.page(page, file)? {
+            None => Ok(None),
+            Some(bytes) => Ok(Some(bytes)),
+        }
     }
 
     /// Fills cells with the bytes of memory from an address on, with no change of what is resident: None exactly where no area has the byte. At most

@@ -9,7 +9,7 @@ use Rattle.vax_flat.specs.Step.{Flat}
 use Rattle.vax_pager.specs.Listing.{is_listed}
 use Rattle.vax_pager.specs.Meaning.{pages}
 use Rattle.vax_machine.proofs.Following.{event_follows}
-use Rattle.vax_machine.specs.Events.{FollowsRun}
+use Rattle.vax_machine.specs.Events.{FollowsFrom}
 use Rattle.vax_machine.specs.Machine.{Applies, Evicts, Flushes, IsSound, Keeping, Serves, Spends, Tries, keeping, residence, tried}
 use Rattle.vax_machine.specs.Residence.{Residence, eased, taken_out, victim}
 use Rattle.vax_machine.specs.declared.engine.Engine.{Engine}
@@ -183,22 +183,22 @@ record HavePaid (parts : ℕ) (old new : Engine) : Type 0 where
   pub sound : IsSound old → IsSound new
   pub pays : new.turns < last → (residence new).spoiled < last → Pays parts (keeping old) (keeping new)
 
-all_pay : (list : List Happening) (old new : Engine) (before after : Option BlockFile) (start : Flat) → old.steps + length list < 2 ^ 64 → FollowsRun old before start → AllHappen list old before new after → HavePaid (parts_by list) old new
+all_pay : (list : List Happening) (old new : Engine) (before after : Option BlockFile) (first : ℕ) (start : Flat) → old.steps + length list < 2 ^ 64 → FollowsFrom first old before start → AllHappen list old before new after → HavePaid (parts_by list) old new
 unfolding AllHappen parts_by
-all_pay [] old new before after start low f h = record {
+all_pay [] old new before after first start low f h = record {
   turns = rw h.0 (λ low. omega arith);
   spoiled = rw h.0 (λ low. omega arith);
   sound = λ s. subst IsSound (sym h.0) s;
   pays = λ few short. pays_same (keeping old) (keeping new) (ap keeping h.0);
 }
-all_pay (x ∷ others) old new before after start low f h =
+all_pay (x ∷ others) old new before after first start low f h =
     let mid = h.0 in
     let between = h.1 in
     let here = h.2 in
     let g = grows x.event old mid before between x.answer here.applies in
     let steps = g.steps in
-    let next = event_follows x.event old mid before between x.answer start (omega (arith, low)) here.applies f in
-    let rest = all_pay others mid new between after start (omega (arith, low, steps)) next h.3 in
+    let next = event_follows x.event old mid before between x.answer first start (omega (arith, low)) here.applies f in
+    let rest = all_pay others mid new between after first start (omega (arith, low, steps)) next h.3 in
     record {
       turns = λ low. let later = rest.turns low in let here = g.turns (omega (arith, later, low)) in omega (arith, here, later);
       spoiled = λ low. let later = rest.spoiled low in let here = g.spoiled (omega (arith, later, low)) in omega (arith, here, later);
@@ -220,10 +220,10 @@ unfolding waiting
 waiting_pins None m e s = let p = s.pages.pins in omega (arith, p)
 waiting_pins (Some page) m e s = let p = (s.pages.wanted page e).2 in omega (arith, p)
 
-pub events_take_few : (list : List Happening) (old new : Engine) (before after : Option BlockFile) (start : Flat) → old.steps + length list < 2 ^ 64 → FollowsRun old before start → IsSound old → AllHappen list old before new after → new.turns < 2 ^ 64 - 1 → (residence new).spoiled < 2 ^ 64 - 1
+pub events_take_few : (list : List Happening) (old new : Engine) (before after : Option BlockFile) (first : ℕ) (start : Flat) → old.steps + length list < 2 ^ 64 → FollowsFrom first old before start → IsSound old → AllHappen list old before new after → new.turns < 2 ^ 64 - 1 → (residence new).spoiled < 2 ^ 64 - 1
     → new.turns + length (residence old).pinned + (residence old).spoiled ≤ old.turns + 41 * (parts_by list + last_part new.ended) + 40 + (residence new).spoiled
-events_take_few list old new before after start low f s h few short =
-    let p = all_pay list old new before after start low f h in
+events_take_few list old new before after first start low f s h few short =
+    let p = all_pay list old new before after first start low f h in
     let a = (p.pays few short).paid in
     let b = waiting_pins new.wanted new refl (p.sound s) in
     omega (arith, a, b)

@@ -5,7 +5,7 @@ ghost use Rattle.vax_outside.specs.Blocks.{BlockFile};
 ghost use Rattle.vax_flat.specs.Step.{Flat};
 ghost use Rattle.vax_sched.specs.Due.{due};
 ghost use Rattle.vax_sched.specs.declared.rule.Rule.{Rule};
-ghost use Rattle.vax_machine.specs.Events.{FollowsRun};
+ghost use Rattle.vax_machine.specs.Events.{FollowsFrom};
 ghost use Rattle.vax_machine.specs.Laws.{IsProper, Run, state_at};
 ghost use Rattle.vax_machine.specs.Machine.{IsSound, residence};
 ghost use Rattle.vax_machine.specs.Paged.{ByTurns, Why, stops};
@@ -64,7 +64,8 @@ pub fn fixed_rules_are_due_once()
 /// before it, and the contract of `apply` holds of each event.
 pub fn events_take_few_turns()
     ensures { (list : List Happening) → (old new : Engine) → (before after : Option BlockFile)
-        → (start : Flat) → old.steps + length list < 2 ^ 64 → FollowsRun old before start
+        → (first : ℕ) → (start : Flat) → old.steps + length list < 2 ^ 64
+        → FollowsFrom first old before start
         → IsSound old → AllHappen list old before new after
         → new.turns < 2 ^ 64 - 1 → (residence new).spoiled < 2 ^ 64 - 1
         → new.turns + length (residence old).pinned + (residence old).spoiled

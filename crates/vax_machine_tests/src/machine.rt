@@ -8,6 +8,7 @@ use vax_outside::{Chan, MemPages, MemSink};
 use vax_pager::PageFault;
 use vax_sched::{Schedule, read};
 use vax_space::{Area, Bytes, Space};
+use vax_undo::Term;
 use vax_word::{Core, Psl};
 
 /// So many pages, from page 0 on, which begin with these bytes and which every mode may write.
@@ -318,5 +319,83 @@ fn writes_what_makes_room(rt: HostRuntime) -> Result<(), Fail> {
     }
     // `at 132 00000000` and the like.
     assert!(rt; sink.bytes(Chan::Record).len() == 9 * 16);
+    Ok(())
+}
+
+#[test]
+fn shows_pages(rt: HostRuntime) -> Result<(), Fail> {
+    let alloc = rt.alloc();
+    let mut machine = machine(alloc, PROGRAM)?;
+    let mut file = MemPages::new(alloc, 8, 100, Vec::new(alloc))?;
+    let mut sink = MemSink::new(alloc, [100; 3], 100, Vec::new(alloc))?;
+    let evicting = read(alloc, b"each 2 all\n", machine.space())?;
+    run_up(&mut machine, &evicting, &mut file, &mut sink);
+    run_up(&mut machine, &Schedule::new(alloc), &mut file, &mut sink);
+    let mut written = [0; 512];
+    for (place, byte) in [0xEF, 0xCD, 0xAB, 0x89].iter().enumerate() {
+        written[place] = *byte;
+    }
+    assert!(rt; machine.page(2, &mut file)? == Some(written));
+    assert!(rt; machine.page(7, &mut file)? == Some([0; 512]));
+    assert!(rt; machine.page(8, &mut file)? == None);
+    Ok(())
+}
+
+/// The bytes of eight pages.
+fn memory_of(alloc: Global, machine: &mut Machine, file: &mut MemPages) -> Result<Vec<u8>, Fail> {
+    let mut bytes = Vec::new(alloc);
+    for page in 0..8 {
+        if let Some(content) = machine.page(page, file)? {
+            bytes.extend_from_slice(&content)?;
+        }
+    }
+    Ok(bytes)
+}
+
+/// Makes attempts, with the pages that they miss, until a part is completed.
+fn part(machine: &mut Machine, file: &mut MemPages) -> bool {
+    for _ in 0..10 {
+        if machine.apply(Event::Attempt, file) == Applied::Parted {
+            return true;
+        }
+        machine.apply(Event::Serve, file);
+    }
+    false
+}
+
+#[test]
+fn goes_on_inside_an_instruction(rt: HostRuntime) -> Result<(), Fail> {
+    let alloc = rt.alloc();
+    // NOP, MOVC3 #400,@#200,@#600 and HALT; 41 is the byte that is moved last.
+    let mut memory = Vec::new(alloc);
+    memory.resize(0x600, 0x40)?;
+    memory[0x5FF] = 0x41;
+    let program = [1, 0x28, 0x8F, 0, 4, 0x9F, 0, 2, 0, 0, 0x9F, 0, 6, 0, 0, 0];
+    for (place, byte) in program.iter().enumerate() {
+        memory[place] = *byte;
+    }
+    let mut file = MemPages::new(alloc, 8, 100, Vec::new(alloc))?;
+    let mut first = machine(alloc, &memory)?;
+    assert!(rt; part(&mut first, &mut file));
+    assert!(rt; [first.units(), first.taken()] == [512, 0]);
+    let now = memory_of(alloc, &mut first, &mut file)?;
+    let term = Term::new(Vec::new(alloc));
+    let latch = first.latch().copied();
+    let mut later = Machine::again(
+        alloc,
+        space(alloc, &now)?,
+        *first.core(),
+        term,
+        latch,
+        first.steps(),
+        64,
+    )?;
+    assert!(rt; [later.steps(), later.turns()] == [1, 0] && later.units() == 512);
+    let mut again = MemPages::new(alloc, 8, 100, Vec::new(alloc))?;
+    let mut sink = MemSink::new(alloc, [100; 3], 100, Vec::new(alloc))?;
+    let end = run_up(&mut later, &Schedule::new(alloc), &mut again, &mut sink);
+    assert!(rt; end == RunEnd::Ended(Ending::Halt) && later.steps() == 3);
+    assert!(rt; later.core().regs[..6] == [0, 0x600, 0, 0xA00, 0, 0]);
+    assert!(rt; later.peek(0x9FF, &mut again)? == Some(0x41));
     Ok(())
 }

@@ -66,8 +66,8 @@ pub returns-in-Stepped-clause-follows : goal.returns-in-Stepped-clause-follows
 returns-in-Stepped-clause-follows g c = attempts_follow c.args.most c.args.self.now c.attempts.new.self c.attempts.result _ c.requires.going c.requires.steps c.attempts.ensures.tried
 
 pub returns-in-Absent-clause-follows : goal.returns-in-Absent-clause-follows
-returns-in-Absent-clause-follows g c = λ start f.
-    c.serve_and_list.ensures.follows start (attempts_follow c.args.most c.args.self.now c.attempts.new.self c.attempts.result _ c.requires.going c.requires.steps c.attempts.ensures.tried start f)
+returns-in-Absent-clause-follows g c = λ first start f.
+    c.serve_and_list.ensures.follows first start (attempts_follow c.args.most c.args.self.now c.attempts.new.self c.attempts.result _ c.requires.going c.requires.steps c.attempts.ensures.tried first start f)
 
 pub returns-in-Stepped-clause-counts : goal.returns-in-Stepped-clause-counts
 returns-in-Stepped-clause-counts g c = c.send.ensures.counts (g.F.PageFile.faults c.args.file.now)

@@ -13,7 +13,7 @@ use Rattle.vax_machine.proofs.engine.Engine.evict_due.Goals as goal
 
 pub loop-target-init : goal.loop-target-init
 loop-target-init g c = record {
-  follows = λ start f. f;
+  follows = λ first start f. f;
   sound = c.requires.sound;
   still = still_itself c.args.self.now;
   writes = writes_nothing _ _;
@@ -42,7 +42,7 @@ returns-in_err-evict_target-clause-counts g c = then_counts c.from_residual.resu
 
 pub loop-target-preserved : goal.loop-target-preserved
 loop-target-preserved g c = record {
-  follows = λ start f. c.evict_target.ensures.follows start (c.loop-target.invariant.follows start f);
+  follows = λ first start f. c.evict_target.ensures.follows first start (c.loop-target.invariant.follows first start f);
   sound = c.evict_target.ensures.sound;
   still = then_still _ _ _ c.loop-target.invariant.still c.evict_target.ensures.still;
   writes = then_writes _ _ _ _ _ _ c.loop-target.invariant.writes c.evict_target.ensures.writes;
@@ -73,7 +73,7 @@ pub returns-clause-counts : goal.returns-clause-counts
 returns-clause-counts g c = counts_none c.loop-target.invariant.quiet c.loop-target.invariant.written
 
 pub returns-in_err-evict_target-clause-follows : goal.returns-in_err-evict_target-clause-follows
-returns-in_err-evict_target-clause-follows g c = λ start f. c.evict_target.ensures.follows start (c.loop-target.invariant.follows start f)
+returns-in_err-evict_target-clause-follows g c = λ first start f. c.evict_target.ensures.follows first start (c.loop-target.invariant.follows first start f)
 
 pub returns-clause-follows : goal.returns-clause-follows
 returns-clause-follows g c = c.loop-target.invariant.follows

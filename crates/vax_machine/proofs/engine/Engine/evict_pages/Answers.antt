@@ -7,7 +7,7 @@ use Rattle.vax_machine.proofs.engine.Engine.evict_pages.Goals as goal
 
 pub loop-page-init : goal.loop-page-init
 loop-page-init g c = record {
-  follows = λ start f. f;
+  follows = λ first start f. f;
   sound = c.requires.sound;
   still = still_itself c.args.self.now;
   writes = writes_nothing _ _;
@@ -34,7 +34,7 @@ returns-in_err-evict_one-clause-counts g c = then_counts c.from_residual.result 
 
 pub loop-page-preserved : goal.loop-page-preserved
 loop-page-preserved g c = record {
-  follows = λ start f. c.evict_one.ensures.follows start (c.loop-page.invariant.follows start f);
+  follows = λ first start f. c.evict_one.ensures.follows first start (c.loop-page.invariant.follows first start f);
   sound = c.evict_one.ensures.sound;
   still = then_still _ _ _ c.loop-page.invariant.still c.evict_one.ensures.still;
   writes = then_writes _ _ _ _ _ _ c.loop-page.invariant.writes c.evict_one.ensures.writes;
@@ -59,7 +59,7 @@ pub returns-clause-counts : goal.returns-clause-counts
 returns-clause-counts g c = counts_none c.loop-page.invariant.quiet c.loop-page.invariant.written
 
 pub returns-in_err-evict_one-clause-follows : goal.returns-in_err-evict_one-clause-follows
-returns-in_err-evict_one-clause-follows g c = λ start f. c.evict_one.ensures.follows start (c.loop-page.invariant.follows start f)
+returns-in_err-evict_one-clause-follows g c = λ first start f. c.evict_one.ensures.follows first start (c.loop-page.invariant.follows first start f)
 
 pub returns-clause-follows : goal.returns-clause-follows
 returns-clause-follows g c = c.loop-page.invariant.follows

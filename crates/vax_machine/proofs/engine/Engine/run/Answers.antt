@@ -17,7 +17,7 @@ use Rattle.vax_machine.proofs.engine.Engine.run.Goals as goal
 
 pub loop-end-init : goal.loop-end-init
 loop-end-init g c = record {
-  follows = λ start f. f;
+  follows = λ first start f. f;
   sound = c.requires.sound;
   areas = refl;
   listed = c.new-held.ensures.listed;
@@ -75,7 +75,7 @@ several_turns-requires-clause-turns g c = (c.stopped.ensures.none c.in_default.i
 
 pub loop-end-preserved : goal.loop-end-preserved
 loop-end-preserved g c = record {
-  follows = λ start f. c.several_turns.ensures.follows start (c.loop-end.invariant.follows start f);
+  follows = λ first start f. c.several_turns.ensures.follows first start (c.loop-end.invariant.follows first start f);
   sound = c.several_turns.ensures.sound;
   areas = c.in-Ok.ensures.areas ∙ c.loop-end.invariant.areas;
   listed = c.several_turns.ensures.writes.listed ∙ c.loop-end.invariant.listed;
@@ -129,10 +129,10 @@ pub returns-in-Some-clause-follows : goal.returns-in-Some-clause-follows
 returns-in-Some-clause-follows g c = c.loop-end.invariant.follows
 
 pub returns-in-Err-Page-clause-follows : goal.returns-in-Err-Page-clause-follows
-returns-in-Err-Page-clause-follows g c = λ start f. c.several_turns.ensures.follows start (c.loop-end.invariant.follows start f)
+returns-in-Err-Page-clause-follows g c = λ first start f. c.several_turns.ensures.follows first start (c.loop-end.invariant.follows first start f)
 
 pub returns-in-Err-Write-clause-follows : goal.returns-in-Err-Write-clause-follows
-returns-in-Err-Write-clause-follows g c = λ start f. c.several_turns.ensures.follows start (c.loop-end.invariant.follows start f)
+returns-in-Err-Write-clause-follows g c = λ first start f. c.several_turns.ensures.follows first start (c.loop-end.invariant.follows first start f)
 
 pub returns-in-Some-clause-areas : goal.returns-in-Some-clause-areas
 returns-in-Some-clause-areas g c = λ s. c.loop-end.invariant.areas

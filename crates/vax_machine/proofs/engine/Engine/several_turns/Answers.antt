@@ -68,4 +68,4 @@ returns-clause-goes_on g c =
     on_ok c.attempt_and_serve.result (wider _ c.args.limits.now.steps c.attempt_and_serve.new.self (omega (arith, a)) c.attempt_and_serve.ensures.goes_on)
 
 pub returns-clause-follows : goal.returns-clause-follows
-returns-clause-follows g c = λ start f. c.attempt_and_serve.ensures.follows start (c.evict_due.ensures.follows start f)
+returns-clause-follows g c = λ first start f. c.attempt_and_serve.ensures.follows first start (c.evict_due.ensures.follows first start f)
