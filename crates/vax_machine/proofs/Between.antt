@@ -1,5 +1,5 @@
 -- A machine stands between two steps where a run stopped by an ending or the limit of steps.
-use Rattle.std.proofs.Common.{ℕ, ◌≡◌, ◌+◌, ◌^◌, ◌<◌, ◌≤◌, [], ap, sym, ◌∙◌, subst, arith, inl, inr, Option, Some, None, Result, Ok, Err}
+use Rattle.std.proofs.Common.{ℕ, ◌≡◌, ◌+◌, ◌^◌, ◌<◌, ◌≤◌, [], ap, sym, ◌∙◌, arith, inl, inr, Option, Some, None, Result, Ok, Err}
 use Rattle.vax_outside.specs.Blocks.{BlockFile}
 use Rattle.vax_outside.specs.Channels.{Channels}
 use Rattle.vax_flat.specs.declared.Ending.{Ending}
@@ -13,15 +13,14 @@ use Rattle.vax_pager.specs.Steps.{settled}
 use Rattle.vax_machine.proofs.Tracking.{several_are}
 use Rattle.vax_machine.specs.Batch.{HasTriedSeveral}
 use Rattle.vax_machine.specs.Conclusion.{Concludes}
-use Rattle.vax_machine.specs.Console.{IsBetween, MayGoOn, StopsBetween}
+use Rattle.vax_machine.specs.Console.{IsBetween, MayGoOn}
 use Rattle.vax_machine.specs.Machine.{Keeping, Serves, keeping}
-use Rattle.vax_machine.specs.Turn.{Finishes, ServesAndLists}
+use Rattle.vax_machine.specs.Turn.{ServesAndLists}
 use Rattle.vax_machine.specs.declared.engine.Engine.{Engine}
 use Rattle.vax_machine.specs.declared.event.Applied.{Applied}
 use Rattle.vax_machine.specs.declared.event.Applied.TheVariants.{Absent, Failed, Served}
 use Rattle.vax_machine.specs.declared.event.Fault.{Fault}
 use Rattle.vax_machine.specs.declared.event.Fault.TheVariants.{Page, Write}
-use Rattle.vax_machine.specs.declared.event.RunEnd.{RunEnd}
 use Rattle.vax_machine.specs.declared.held.Held.{Held}
 
 settled_pins : (s u : Paging) → u ≡ settled s → u.pinned ≡ []
@@ -74,7 +73,3 @@ at_ending limit m e is (inr h) = let bad : None ≡ Some e = sym h.0 ∙ is in c
 pub at_steps : (limit : ℕ) (m : Engine) → limit ≤ m.steps → MayGoOn limit m → IsBetween m
 at_steps limit m le (inl h) = h
 at_steps limit m le (inr h) = let s = h.1 in absurd (omega (arith, s, le))
-
-pub finished : (end result : RunEnd) (left : Channels) (old new : Option Channels) (rose : Type 0) (m : Engine) → Finishes end result left old new rose → (StopsBetween end → IsBetween m) → StopsBetween result → IsBetween m
-finished end result left old new rose m (inl h) k s = k (subst StopsBetween h.0 s)
-finished end result left old new rose m (inr h) k s = absurd (subst StopsBetween h.0 s)

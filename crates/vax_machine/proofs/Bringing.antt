@@ -1,5 +1,5 @@
 -- Which pages a deposit brings in, and how many blocks are read where bytes are shown.
-use Rattle.std.proofs.Common.{ℕ, zero, suc, ◌≡◌, ◌+◌, ◌/◌, ◌%◌, ◌^◌, ◌<◌, ◌≤◌, ◌++◌, Bool, true, false, List, [], ◌∷◌, length, if◌then◌else◌, refl, ap, sym, ◌∙◌, subst, arith, inl, inr, Option, Some, None, Result, Ok, Err}
+use Rattle.std.proofs.Common.{ℕ, zero, suc, ◌≡◌, ◌+◌, ◌/◌, ◌%◌, ◌<◌, ◌≤◌, Bool, true, false, List, [], ◌∷◌, length, if◌then◌else◌, refl, ap, sym, ◌∙◌, subst, arith, inl, inr, Option, Some, Ok}
 use Rattle.std.specs.Prelude.{◌⊎◌}
 use Rattle.vax_space.specs.Reference.{byte_after}
 use Rattle.vax_outside.specs.Blocks.{BlockFile, after_read}
@@ -9,7 +9,6 @@ use Rattle.vax_pager.specs.Meaning.{pages}
 use Rattle.vax_pager.specs.Paging.{Paging}
 use Rattle.vax_pager.specs.Poking.{AllComeIn, ComesIn, ComesInBy, Pokes, ReadsAtMost, SomeComeIn, after_reads, pages_of_bytes}
 use Rattle.vax_pager.specs.Steps.{OnlyWritten, settled}
-use Rattle.vax_pager.specs.declared.calls.PageFault.{PageFault}
 use Rattle.vax_machine.proofs.Attempts.{residence_same, residence_settled}
 use Rattle.vax_machine.proofs.Services.{begun_same, residence_after}
 use Rattle.vax_machine.specs.Console.{pages_in}

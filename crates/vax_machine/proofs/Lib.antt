@@ -17,6 +17,7 @@ pub mod Passing
 pub mod Beginning
 pub mod Halting
 pub mod Running
+pub mod Ending
 pub mod Spending
 pub mod Unsettled
 pub mod Unwritten

@@ -34,6 +34,7 @@ use Rattle.vax_machine.specs.Residence.{Residence, is_resident, served, victim, 
 use Rattle.vax_machine.specs.Run.{Ends, FewTurns, IsCut, IsLost, IsWhole, Runs, Tracks, begun, origin, why_of}
 use Rattle.vax_machine.specs.Touched.{PinsTouched, is_touched}
 use Rattle.vax_machine.specs.Calling.{Misses, NextCallFails, ServiceFails, room_made}
+use Rattle.vax_machine.specs.GoingOn.{GoneOn, HasStopped}
 use Rattle.vax_machine.specs.Turn.{AreCut, AreLost, AreMade, AreWhole, AttemptsCut, AttemptsDone, AttemptsFollow, AttemptsLost, EvictedAll, Finishes, Follows, IsBegun, IsCutTurn, IsStop, IsUnserved, LostPart, Reached, TurnsMade, attempted_times}
 use Rattle.vax_machine.specs.Writing.{Origin, Sends, WrotePart, held_in}
 use Rattle.vax_machine.specs.declared.engine.Engine.{Engine}
@@ -111,7 +112,7 @@ by_turns limits m file p is s u t =
     let f : nat_le limits.turns p.turns ≡ true = grind (arith, nat_tests, b, u) in
     rw (ending_is m file p t, is, e, f) refl
 
-goes_on : (limits : Limits) (p : Paged) → (machine_at p.place).ending ≡ None → p.steps < limits.steps → p.turns < limits.turns → stops limits.steps limits.turns p ≡ None
+pub goes_on : (limits : Limits) (p : Paged) → (machine_at p.place).ending ≡ None → p.steps < limits.steps → p.turns < limits.turns → stops limits.steps limits.turns p ≡ None
 unfolding stops
 goes_on limits p is s u =
     let e : nat_le limits.steps p.steps ≡ false = grind (arith, nat_tests, s) in
@@ -341,138 +342,153 @@ begins_bounded m file place f space means pins =
 
 -- the loop
 
-pub at_start : (limits : Limits) (areas : List Area) (rules : List Rule) (m : Engine) (file : Option BlockFile) (place : Place) (old : Option Channels) (left : Held) → held_in left ≡ nothing → left.listed ≡ limits.listed → (pages m.pager).areas ≡ areas → Means m file place → Reached limits (origin limits areas (begun m place) file old) areas rules m file old left
+pub at_here : (limits : Limits) (o : Origin) (areas : List Area) (rules : List Rule) (p : Paged) (m : Engine) (file : Option BlockFile) (now : Option Channels) (left : Held) → Follows o p m file now left → Reached limits o areas rules p m file now left
 unfolding paged
-at_start limits areas rules m file place old left none listed same h = record {
-  made = 0;
-  goes = record { going = λ i low. absurd (omega (arith, low)) };
-  follows = record {
-    tracks = record { steps = refl; turns = refl; residence = refl; modified = refl; blocked = refl; means = h };
-    sends = sends_none (origin limits areas (begun m place) file old) (held_in left) none;
-    listed = listed;
-    areas = same;
-    moved = moved_none areas (begun m place) file;
-  };
+at_here limits o areas rules p m file now left f = record { made = 0; goes = record { going = λ i low. absurd (omega (arith, low)) }; follows = f }
+
+-- where a run begins it is at once
+pub at_start : (limits : Limits) (areas : List Area) (m : Engine) (file : Option BlockFile) (place : Place) (old : Option Channels) (left : Held) → held_in left ≡ nothing → left.listed ≡ limits.listed → (pages m.pager).areas ≡ areas → Means m file place → Follows (origin limits areas (begun m place) file old) (begun m place) m file old left
+at_start limits areas m file place old left none listed same h = record {
+  tracks = record { steps = refl; turns = refl; residence = refl; modified = refl; blocked = refl; means = h };
+  sends = sends_none (origin limits areas (begun m place) file old) (held_in left) none;
+  listed = listed;
+  areas = same;
+  moved = moved_none areas (begun m place) file;
 }
 
-module _ (limits : Limits) (areas : List Area) (rules : List Rule) (b : Paged) (before : Option BlockFile) (m : Engine) (file : Option BlockFile) (old now : Option Channels) (left : Held) (r : Reached limits (origin limits areas b before old) areas rules m file now left) (bounded : IsBounded areas b b) (space : IsSpace areas) where
-  abbrev o : Origin
-  o = origin limits areas b before old
-
+module _ (limits : Limits) (o : Origin) (areas : List Area) (rules : List Rule) (p : Paged) (m : Engine) (file : Option BlockFile) (now : Option Channels) (left : Held) (r : Reached limits o areas rules p m file now left) where
   abbrev q : Paged
-  q = paged areas (due rules) r.made b
+  q = paged areas (due rules) r.made p
 
-  goes_far : (count : ℕ) → ((i : ℕ) → i ≤ count → stops limits.steps limits.turns (paged areas (due rules) i q) ≡ None) → Runs limits areas rules b (suc (count + r.made))
+  goes_far : (count : ℕ) → ((i : ℕ) → i ≤ count → stops limits.steps limits.turns (paged areas (due rules) i q) ≡ None) → Runs limits areas rules p (suc (count + r.made))
   goes_far count going = record {
     going = λ i low. elim (cases_lt i r.made) [
       | inl early ↦ r.goes.going i early
       | inr here ↦
           let e : (i - r.made) + r.made ≡ i = omega (arith, here) in
           let k = going (i - r.made) (omega (arith, low, here)) in
-          subst (λ (z : Paged). stops limits.steps limits.turns z ≡ None) (paged_more areas (due rules) (i - r.made) r.made b ∙ ap (λ (n : ℕ). paged areas (due rules) n b) e) k
+          subst (λ (z : Paged). stops limits.steps limits.turns z ≡ None) (paged_more areas (due rules) (i - r.made) r.made p ∙ ap (λ (n : ℕ). paged areas (due rules) n p) e) k
     ];
   }
 
-  later : (count : ℕ) → paged areas (due rules) (suc count) q ≡ paged areas (due rules) (suc (count + r.made)) b
+  all_going : (count : ℕ) → ((i : ℕ) → i ≤ count → stops limits.steps limits.turns (paged areas (due rules) i q) ≡ None) → (i : ℕ) → i ≤ count + r.made → stops limits.steps limits.turns (paged areas (due rules) i p) ≡ None
+  all_going count going i low = (goes_far count going).going i (omega (arith, low))
+
+  later : (count : ℕ) → paged areas (due rules) (suc count) q ≡ paged areas (due rules) (suc (count + r.made)) p
   later count =
       let e : suc count + r.made ≡ suc (count + r.made) = omega arith in
-      paged_more areas (due rules) (suc count) r.made b ∙ ap (λ (n : ℕ). paged areas (due rules) n b) e
+      paged_more areas (due rules) (suc count) r.made p ∙ ap (λ (n : ℕ). paged areas (due rules) n p) e
 
-  pub goes_further : (new : Engine) (after : Option BlockFile) (next : Option Channels) (held : Held) → AreMade limits o areas rules q new after next held → Reached limits o areas rules new after next held
+  pub goes_further : (new : Engine) (after : Option BlockFile) (next : Option Channels) (held : Held) → AreMade limits o areas rules q new after next held → Reached limits o areas rules p new after next held
   goes_further new after next held h = record {
     made = suc (h.count + r.made);
     goes = goes_far h.count h.going;
     follows = subst (λ (z : Paged). Follows o z new after next held) (later h.count) h.follows;
   }
 
+  pub cut_further : (new : Engine) (after : Option BlockFile) (next : Option Channels) (held : Held) → AreCut limits o areas rules q new after next held → AreCut limits o areas rules p new after next held
+  cut_further new after next held h = record {
+    count = h.count + r.made;
+    going = all_going h.count h.going;
+    cut = subst (λ (z : Paged). IsCutTurn o areas rules z new after next held) (paged_more areas (due rules) h.count r.made p) h.cut;
+  }
+
+  pub lost_further : (after : Option BlockFile) (next : Option Channels) → AreLost limits o areas rules q after next → AreLost limits o areas rules p after next
+  lost_further after next h = record {
+    count = h.count + r.made;
+    going = all_going h.count h.going;
+    part = subst (λ (z : Paged). LostPart o z after next) (later h.count) h.part;
+  }
+
+  stopped_as : (end : RunEnd) → stops limits.steps limits.turns q ≡ why_of end → HasStopped limits o areas rules p end m file now left
+  stopped_as end why = record { made = r.made; goes = r.goes; stopped = why; follows = r.follows }
+
+  -- it stopped by itself
+  pub stopped_here : (end : RunEnd) → IsStop end → ((p : Paged) → Tracks m file p → stops limits.steps limits.turns p ≡ why_of end) → GoneOn limits o areas rules p end m file now left
+  stopped_here (run_end.Ended e) s why = stopped_as (run_end.Ended e) (why q r.follows.tracks)
+  stopped_here run_end.Steps s why = stopped_as run_end.Steps (why q r.follows.tracks)
+  stopped_here run_end.Turns s why = stopped_as run_end.Turns (why q r.follows.tracks)
+  stopped_here run_end.PageFault s why = absurd s
+  stopped_here run_end.WriteFault s why = absurd s
+
+-- where it was begun and went on, and what is held back is written
+
+module _ (limits : Limits) (areas : List Area) (rules : List Rule) (b : Paged) (before : Option BlockFile) (m : Engine) (file : Option BlockFile) (old now : Option Channels) (left : Held) (bounded : IsBounded areas b b) (space : IsSpace areas) where
+  abbrev o : Origin
+  o = origin limits areas b before old
+
   few_at : (count : ℕ) → FewTurns b (paged areas (due rules) count b)
   few_at count = few_turns areas b (paged areas (due rules) count b) (paged_bounded areas (due rules) count b b space bounded)
 
-  whole : (result : RunEnd) (next : Option Channels) → stops limits.steps limits.turns q ≡ why_of result → Grew now next (held_in left) → IsWhole limits areas rules b result before m file old next
-  whole result next why g = record { count = r.made; goes = r.goes; stopped = why; tracks = r.follows.tracks; wrote = wrote_all o q now (held_in left) r.follows.sends next g; moved = r.follows.moved; few = few_at r.made }
+  runs_to : (count : ℕ) → ((i : ℕ) → i ≤ count → stops limits.steps limits.turns (paged areas (due rules) i b) ≡ None) → Runs limits areas rules b (suc count)
+  runs_to count going = record { going = λ i low. going i (omega (arith, low)) }
 
-  unwritten : (next : Option Channels) → GrewByPrefix now next (held_in left) → IsLost limits areas rules b before file old next
-  unwritten next g = lost_at limits areas rules b before file r.made old next r.goes (record { wrote = wrote_part o q now (held_in left) r.follows.sends next g; moved = moved_first areas b q before file r.follows.moved })
+  whole : (result : RunEnd) (next : Option Channels) → HasStopped limits o areas rules b result m file now left → Grew now next (held_in left) → IsWhole limits areas rules b result before m file old next
+  whole result next h g = record {
+    count = h.made;
+    goes = h.goes;
+    stopped = h.stopped;
+    tracks = h.follows.tracks;
+    wrote = wrote_all o (paged areas (due rules) h.made b) now (held_in left) h.follows.sends next g;
+    moved = h.follows.moved;
+    few = few_at h.made;
+  }
 
-  -- where several turns were cut short
+  unwritten : (result : RunEnd) (next : Option Channels) → HasStopped limits o areas rules b result m file now left → GrewByPrefix now next (held_in left) → IsLost limits areas rules b before file old next
+  unwritten result next h g =
+      let p = paged areas (due rules) h.made b in
+      lost_at limits areas rules b before file h.made old next h.goes (record { wrote = wrote_part o p now (held_in left) h.follows.sends next g; moved = moved_first areas b p before file h.follows.moved })
 
-  abbrev Cut : Engine → Option BlockFile → Option Channels → Held → Type 0
-  Cut new after next held = AreCut limits o areas rules q new after next held
+  cut : (next : Option Channels) → AreCut limits o areas rules b m file now left → Grew now next (held_in left) → IsCut limits areas rules b before m file old next
+  cut next h g =
+      let k = h.cut in
+      let p = paged areas (due rules) h.count b in
+      record {
+        count = h.count;
+        goes = runs_to h.count h.going;
+        front = k.front;
+        rest = k.rest;
+        splits = k.splits;
+        residence = k.residence;
+        means = k.means;
+        steps = k.steps;
+        fails = k.fails;
+        wrote = wrote_all o (all_evicted k.front p) now (held_in left) k.sends next g;
+        few = few_cut areas b p k.front k.rest m.turns before file space (paged_bounded areas (due rules) h.count b b space bounded) k.fails;
+      }
 
-  module _ (new : Engine) (after : Option BlockFile) (mid : Option Channels) (held : Held) (h : Cut new after mid held) where
-    there : paged areas (due rules) h.count q ≡ paged areas (due rules) (h.count + r.made) b
-    there = paged_more areas (due rules) h.count r.made b
+  cut_lost : (next : Option Channels) → AreCut limits o areas rules b m file now left → GrewByPrefix now next (held_in left) → IsLost limits areas rules b before file old next
+  unfolding paged
+  cut_lost next h g =
+      let k = h.cut in
+      let p = paged areas (due rules) h.count b in
+      let w = wrote_part o (all_evicted k.front p) now (held_in left) k.sends next g in
+      let all = all_evicted (all_named areas (due rules (p.turns + 1))) p in
+      let e : all_evicted k.rest (all_evicted k.front p) ≡ all = sym (ap (λ (xs : List ℕ). all_evicted xs p) k.splits ∙ evicted_append k.front k.rest p) in
+      lost_at limits areas rules b before file (suc h.count) old next (runs_to h.count h.going)
+      (lost_cut o (all_evicted k.front p) all k.rest m.turns file next (subst (λ (z : Paged). Grows limits.listed (all_evicted k.front p) z) e (grows_evicted limits.listed k.rest (all_evicted k.front p))) e w k.fails)
 
-    turn_cut : IsCutTurn o areas rules (paged areas (due rules) (h.count + r.made) b) new after mid held
-    turn_cut = subst (λ (z : Paged). IsCutTurn o areas rules z new after mid held) there h.cut
+  written_all : (end : RunEnd) (next : Option Channels) → GoneOn limits o areas rules b end m file now left → Grew now next (held_in left) → (end ≡ run_end.WriteFault → ⊥) → Ends limits areas rules b before end m file old next
+  written_all (run_end.Ended e) next h g other = whole (run_end.Ended e) next h g
+  written_all run_end.Steps next h g other = whole run_end.Steps next h g
+  written_all run_end.Turns next h g other = whole run_end.Turns next h g
+  written_all run_end.PageFault next h g other = cut next h g
+  written_all run_end.WriteFault next h g other = absurd (other refl)
 
-    cut : (next : Option Channels) → Grew mid next (held_in held) → IsCut limits areas rules b before new after old next
-    cut next g =
-        let k = turn_cut in
-        record {
-          count = h.count + r.made;
-          goes = goes_far h.count h.going;
-          front = k.front;
-          rest = k.rest;
-          splits = k.splits;
-          residence = k.residence;
-          means = k.means;
-          steps = k.steps;
-          fails = k.fails;
-          wrote = wrote_all o (all_evicted k.front (paged areas (due rules) (h.count + r.made) b)) mid (held_in held) k.sends next g;
-          few = few_cut areas b (paged areas (due rules) (h.count + r.made) b) k.front k.rest new.turns before after space (paged_bounded areas (due rules) (h.count + r.made) b b space bounded) k.fails;
-        }
+  written_part : (end : RunEnd) (next : Option Channels) → GoneOn limits o areas rules b end m file now left → GrewByPrefix now next (held_in left) → (end ≡ run_end.WriteFault → ⊥) → IsLost limits areas rules b before file old next
+  written_part (run_end.Ended e) next h g other = unwritten (run_end.Ended e) next h g
+  written_part run_end.Steps next h g other = unwritten run_end.Steps next h g
+  written_part run_end.Turns next h g other = unwritten run_end.Turns next h g
+  written_part run_end.PageFault next h g other = cut_lost next h g
+  written_part run_end.WriteFault next h g other = absurd (other refl)
 
-    cut_lost : (next : Option Channels) → GrewByPrefix mid next (held_in held) → IsLost limits areas rules b before after old next
-    unfolding paged
-    cut_lost next g =
-        let k = turn_cut in
-        let p = paged areas (due rules) (h.count + r.made) b in
-        let w = wrote_part o (all_evicted k.front p) mid (held_in held) k.sends next g in
-        let all = all_evicted (all_named areas (due rules (p.turns + 1))) p in
-        let e : all_evicted k.rest (all_evicted k.front p) ≡ all = sym (ap (λ (xs : List ℕ). all_evicted xs p) k.splits ∙ evicted_append k.front k.rest p) in
-        lost_at limits areas rules b before after (suc (h.count + r.made)) old next (goes_far h.count h.going)
-        (lost_cut o (all_evicted k.front p) all k.rest new.turns after next (subst (λ (z : Paged). Grows limits.listed (all_evicted k.front p) z) e (grows_evicted limits.listed k.rest (all_evicted k.front p))) e w k.fails)
+  -- all of it, or a prefix where that fails
+  pub ends_so : (end result : RunEnd) (next : Option Channels) (rose : Type 0) → GoneOn limits o areas rules b end m file now left → (end ≡ run_end.WriteFault → ⊥) → Finishes end result (held_in left) now next rose → Ends limits areas rules b before result m file old next
+  ends_so end result next rose h other (inl f) =
+      subst (λ (x : RunEnd). Ends limits areas rules b before x m file old next) (sym f.0) (written_all end next h f.1 other)
+  ends_so end result next rose h other (inr f) =
+      subst (λ (x : RunEnd). Ends limits areas rules b before x m file old next) (sym f.0) (written_part end next h f.1 other)
 
-  ends_whole : (end : RunEnd) (next : Option Channels) → IsStop end → IsWhole limits areas rules b end before m file old next → Ends limits areas rules b before end m file old next
-  ends_whole (run_end.Ended e) next s h = h
-  ends_whole run_end.Steps next s h = h
-  ends_whole run_end.Turns next s h = h
-  ends_whole run_end.PageFault next s h = absurd s
-  ends_whole run_end.WriteFault next s h = absurd s
-
-  pub finishes_whole : (end result : RunEnd) (next : Option Channels) (rose : Type 0) → IsStop end → ((p : Paged) → Tracks m file p → stops limits.steps limits.turns p ≡ why_of end) → Finishes end result (held_in left) now next rose → Ends limits areas rules b before result m file old next
-  finishes_whole end result next rose s why (inl h) =
-      subst (λ (x : RunEnd). Ends limits areas rules b before x m file old next) (sym h.0) (ends_whole end next s (whole end next (why q r.follows.tracks) h.1))
-  finishes_whole end result next rose s why (inr h) =
-      subst (λ (x : RunEnd). Ends limits areas rules b before x m file old next) (sym h.0) (unwritten next h.1)
-
-  pub finishes_cut : (new : Engine) (after : Option BlockFile) (mid : Option Channels) (held : Held) (result : RunEnd) (next : Option Channels) (rose : Type 0) → Cut new after mid held → Finishes run_end.PageFault result (held_in held) mid next rose → Ends limits areas rules b before result new after old next
-  finishes_cut new after mid held result next rose h (inl f) = subst (λ (x : RunEnd). Ends limits areas rules b before x new after old next) (sym f.0) (cut new after mid held h next f.1)
-  finishes_cut new after mid held result next rose h (inr f) = subst (λ (x : RunEnd). Ends limits areas rules b before x new after old next) (sym f.0) (cut_lost new after mid held h next f.1)
-
-  pub lost_turns : (after : Option BlockFile) (next : Option Channels) → AreLost limits o areas rules q after next → IsLost limits areas rules b before after old next
-  lost_turns after next h =
-      lost_at limits areas rules b before after (suc (h.count + r.made)) old next (goes_far h.count h.going)
-      (subst (λ (z : Paged). LostPart o z after next) (later h.count) h.part)
-
--- the causes
-
-pub write_cause : (end result : RunEnd) (held : Channels) (old new : Option Channels) (rose : Type 0) → Finishes end result held old new rose → (end ≡ run_end.WriteFault → ⊥) → result ≡ run_end.WriteFault → rose
-write_cause end result held old new rose (inl h) other is = absurd (other (sym h.0 ∙ is))
-write_cause end result held old new rose (inr h) other is = h.2
-
-pub page_cause : (end result : RunEnd) (held : Channels) (old new : Option Channels) (rose : Type 0) → Finishes end result held old new rose → result ≡ run_end.PageFault → end ≡ run_end.PageFault
-page_cause end result held old new rose (inl h) is = sym h.0 ∙ is
-page_cause end result held old new rose (inr h) is = let bad : run_end.WriteFault ≡ run_end.PageFault = sym h.0 ∙ is in cc
-
-pub stop_unlike : (end : RunEnd) → IsStop end → (end ≡ run_end.WriteFault → ⊥) × (end ≡ run_end.PageFault → ⊥)
-stop_unlike (run_end.Ended e) s = (λ x. cc, λ x. cc)
-stop_unlike run_end.Steps s = (λ x. cc, λ x. cc)
-stop_unlike run_end.Turns s = (λ x. cc, λ x. cc)
-stop_unlike run_end.PageFault s = absurd s
-stop_unlike run_end.WriteFault s = absurd s
-
-pub one_of_both : (end result : RunEnd) (held : Channels) (old new : Option Channels) (rose : Type 0) → Finishes end result held old new rose → (result ≡ end → ⊥) → (result ≡ run_end.WriteFault → ⊥) → ⊥
-one_of_both end result held old new rose (inl h) a b = a h.0
-one_of_both end result held old new rose (inr h) a b = b h.0
+  -- nothing more is written where a write failed
+  pub lost_turns : AreLost limits o areas rules b file now → IsLost limits areas rules b before file old now
+  lost_turns h = lost_at limits areas rules b before file (suc h.count) old now (runs_to h.count h.going) h.part

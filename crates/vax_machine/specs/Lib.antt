@@ -11,6 +11,7 @@ pub mod Laws
 pub mod Writing
 pub mod Run
 pub mod Turn
+pub mod GoingOn
 pub mod Meaning
 pub mod Console
 pub mod Marking

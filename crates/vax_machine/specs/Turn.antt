@@ -1,5 +1,5 @@
 -- What several turns of a machine come to.
-use Rattle.std.specs.Prelude.{ℕ, zero, suc, ◌≡◌, ◌≤◌, ◌<◌, ◌+◌, ◌⊎◌, Bool, Option, Some, None, Result, Ok, Err, List, [], ◌++◌}
+use Rattle.std.specs.Prelude.{ℕ, zero, suc, ◌≡◌, ◌≤◌, ◌<◌, ◌+◌, ◌⊎◌, Bool, Option, Some, None, Result, Ok, Err, List, ◌++◌}
 use Rattle.vax_space.specs.declared.Area.{Area}
 use Rattle.vax_outside.specs.Blocks.{BlockFile}
 use Rattle.vax_outside.specs.Channels.{Channels, Grew, GrewByPrefix, append}
@@ -189,11 +189,11 @@ abbrev pub Finishes : RunEnd → RunEnd → Channels → Option Channels → Opt
 Finishes end result left old new rose =
     ((result ≡ end) × Grew old new left) ⊎ ((result ≡ run_end.WriteFault) × GrewByPrefix old new left × rose)
 
--- where a run has come to
-pub record Reached (limits : Limits) (o : Origin) (areas : List Area) (rules : List Rule) (m : Engine) (file : Option BlockFile) (now : Option Channels) (left : Held) : Type 0 where
+-- where a run has come to that went on from there
+pub record Reached (limits : Limits) (o : Origin) (areas : List Area) (rules : List Rule) (p : Paged) (m : Engine) (file : Option BlockFile) (now : Option Channels) (left : Held) : Type 0 where
   pub made : ℕ
-  pub goes : Runs limits areas rules o.at made
-  pub follows : Follows o (paged areas (due rules) made o.at) m file now left
+  pub goes : Runs limits areas rules p made
+  pub follows : Follows o (paged areas (due rules) made p) m file now left
 
 -- a system within a run, with what is held back
 pub record Underway : Type 0 where

@@ -1,13 +1,14 @@
 //! What a run has to write, held back until there is much of it.
-ghost use Rattle.std.specs.Prelude.{◌≡◌, ℕ, [], ◌+◌, ◌<◌, ◌≤◌, ◌^◌, length, OnOk, Some, None, if◌then◌else◌};
-ghost use Rattle.vax_outside.specs.Channels.{nothing, only};
+ghost use Rattle.std.specs.Prelude.{◌≡◌, [], ◌+◌, ◌<◌, ◌≤◌, ◌^◌, length, is_err, OnErr, OnOk, Some, None, if◌then◌else◌};
+ghost use Rattle.vax_outside.specs.Channels.{Grew, GrewByPrefix, nothing, only};
+ghost use Rattle.vax_outside.specs.Faults.{CountsFailure};
 ghost use Rattle.vax_outside.specs.declared.faults.Failures.{Failures};
 ghost use Rattle.vax_outside.specs.declared.traits.Chan.TheVariants.{Out, Record};
 ghost use Rattle.vax_machine.specs.Writing.{Counts, Passed, Puts, StillWrites};
 
 use crate::event::Fault;
 use arrayvec::ArrayVec;
-use vax_outside::{Chan, Sink, Text, put_all};
+use vax_outside::{Chan, Failed, Sink, Text, put_all};
 use vax_sched::push_at;
 
 /// The most bytes of lines beside which another line has room.
@@ -16,14 +17,14 @@ const MOST_LINES: usize = 479;
 /// The most steps for which a byte is held back.
 pub const MOST_STEPS: u64 = 1_000_000;
 
-/// Bytes on their way to Out, and lines on their way to Record, where evictions are listed.
+/// What a run holds back: bytes on their way to Out, and lines on their way to Record, where evictions are listed.
 #[derive(Drop)]
 pub struct Held {
-    pub bytes: ArrayVec<u8, 512>,
-    pub lines: Text,
-    pub listed: bool,
+    pub(crate) bytes: ArrayVec<u8, 512>,
+    pub(crate) lines: Text,
+    pub(crate) listed: bool,
     /// After how many steps the bytes are written.
-    pub due: u64,
+    pub(crate) due: u64,
 }
 
 /// Writes all the bytes to a channel.
@@ -79,7 +80,7 @@ fn make_room<K: Sink>(lines: &mut Text, sink: &mut K) -> Result<(), Fault>
 impl Held {
     ghost use Rattle.vax_machine.specs.Writing.{held_in, listed_by, sent_by};
 
-    /// Nothing is held.
+    /// Nothing is held back, of a run that lists its evictions or doesn't.
     pub fn new(listed: bool) -> Held
         ensures nothing { held_in result ≡ nothing }
         ensures listed { result.listed ≡ listed }
@@ -93,7 +94,7 @@ impl Held {
     }
 
     /// Writes the bytes that are held, at once or where they are due after so many steps.
-    pub fn write_due<K: Sink>(
+    pub(crate) fn write_due<K: Sink>(
         &mut self,
         at_once: bool,
         steps: u64,
@@ -115,7 +116,12 @@ impl Held {
 
     /// Holds a byte more for Out, if one was sent after so many steps. Those that are held are written behind an LF, where there is no room, and where
     /// they are due.
-    pub fn send<K: Sink>(&mut self, sent: Option<u8>, steps: u64, sink: &mut K) -> Result<(), Fault>
+    pub(crate) fn send<K: Sink>(
+        &mut self,
+        sent: Option<u8>,
+        steps: u64,
+        sink: &mut K,
+    ) -> Result<(), Fault>
         ensures passes { Passed result (held_in self.old) (sent_by sent) (held_in self.new)
             (K.contents sink.old) (K.contents sink.new) }
         ensures still { StillWrites self.old self.new (K.contents sink.old) (K.contents sink.new) }
@@ -155,7 +161,7 @@ impl Held {
 
     /// Holds one line more for Record, of a page that was made absent before this attempt, where evictions are listed; those that are held are
     /// written first where there is no room.
-    pub fn list<K: Sink>(&mut self, turn: u64, page: u32, sink: &mut K) -> Result<(), Fault>
+    pub(crate) fn list<K: Sink>(&mut self, turn: u64, page: u32, sink: &mut K) -> Result<(), Fault>
         requires small { page < 2 ^ 23 }
         ensures passes { Passed result (held_in self.old)
             (listed_by self.old.listed turn (Some page)) (held_in self.new)
@@ -186,7 +192,7 @@ impl Held {
     }
 
     /// Writes all that is held.
-    pub fn write<K: Sink>(&self, sink: &mut K) -> Result<(), Fault>
+    pub(crate) fn write<K: Sink>(&self, sink: &mut K) -> Result<(), Fault>
         ensures puts { Puts result (held_in self.now) (K.contents sink.old) (K.contents sink.new) }
         ensures still { StillWrites self.now self.now (K.contents sink.old) (K.contents sink.new) }
         ensures counts { (file : Failures)
@@ -194,5 +200,19 @@ impl Held {
     {
         put(sink, Chan::Out, &self.bytes)?;
         self.write_lines(sink)
+    }
+
+    /// Writes all that is held back, where a run that went on has ended. After a failure a prefix of it was written.
+    pub fn write_all<K: Sink>(&self, sink: &mut K) -> Result<(), Failed>
+        ensures ok { OnOk result
+            (Grew (K.contents sink.old) (K.contents sink.new) (held_in self.now)) }
+        ensures prefix { OnErr result
+            (GrewByPrefix (K.contents sink.old) (K.contents sink.new) (held_in self.now)) }
+        ensures counts { CountsFailure (is_err result) (K.faults sink.old) (K.faults sink.new) }
+    {
+        match self.write(sink) {
+            Ok(()) => Ok(()),
+            Err(_) => Err(Failed),
+        }
     }
 }

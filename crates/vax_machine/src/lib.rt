@@ -10,6 +10,7 @@ mod machine;
 mod run;
 
 pub use crate::event::{Applied, Event, Limits, RunEnd};
+pub use crate::held::Held;
 pub use crate::laws::{
     events_follow_the_run, parts_end_soon, pinned_pages_stay, turns_are_few, turns_follow_the_run,
     turns_go_on, writes_suffice,

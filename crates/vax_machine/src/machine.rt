@@ -7,6 +7,7 @@ ghost use Rattle.vax_machine.specs.Machine.{IsSound};
 
 use crate::engine::Engine;
 use crate::event::{Applied, Event, Limits, RunEnd};
+use crate::held::Held;
 use std::alloc::Global;
 use vax_cpu::{Cpu, Open};
 use vax_flat::Ending;
@@ -45,10 +46,12 @@ impl Machine {
     ghost use Rattle.vax_machine.specs.Machine.{Applies, HasSpent, KeepsPlace, Means, Moves, has_failed, keeping, modified_of, residence};
     ghost use Rattle.vax_machine.specs.Marking.{Marks};
     ghost use Rattle.vax_machine.specs.Events.{FollowsFrom, FollowsRun, KeepsPins, KeepsRun};
+    ghost use Rattle.vax_machine.specs.GoingOn.{CountsEnd, GoesOnTo, HasReason};
     ghost use Rattle.vax_machine.specs.Meaning.{engine, flat_start, left_at, memory_of, resumed_at, units_of};
     ghost use Rattle.vax_machine.specs.Paged.{begun_at, fresh};
     ghost use Rattle.vax_machine.specs.Run.{RunsTo, begun, system_of};
-    ghost use Rattle.vax_machine.specs.Writing.{OnlyWrote};
+    ghost use Rattle.vax_machine.specs.Turn.{underway_of};
+    ghost use Rattle.vax_machine.specs.Writing.{OnlyWrote, StillWrites};
 
     /// A machine at the start: these registers, this input of at most 4,194,304 bytes, and a space of which no page is resident, with so many
     /// frames, 64 to 32,768. With any page file it stands for the flat machine at the start.
@@ -176,6 +179,38 @@ impl Machine {
     {
         self.engine
             .run(limits, schedule, &mut self.found, file, sink)
+    }
+
+    /// Goes on with a run up to an ending or a limit, as `run` does, but for what it still has to write: the caller lends what is held back, and
+    /// writes it at the end. So runs that go on where the one before stopped make the turns of one run.
+    pub fn go_on<F: PageFile, K: Sink>(
+        &mut self,
+        limits: &Limits,
+        schedule: &Schedule,
+        held: &mut Held,
+        file: &mut F,
+        sink: &mut K,
+    ) -> RunEnd
+        requires few_steps { limits.now.steps < 2 ^ 64 }
+        requires few_turns { limits.now.turns < 2 ^ 64 - 2 }
+        ensures goes { GoesOnTo result limits.now schedule.now
+            (underway_of (engine self.old) (F.contents file.old) (K.contents sink.old) held.old)
+            (underway_of (engine self.new) (F.contents file.new) (K.contents sink.new) held.new) }
+        ensures follows { KeepsRun (engine self.old) (F.contents file.old) (engine self.new)
+            (F.contents file.new) }
+        ensures between { StopsBetween result → IsBetween (engine self.old)
+            → IsBetween (engine self.new) }
+        ensures reason { HasReason limits.now (engine self.new) result }
+        ensures steps { StopsBetween result → (engine self.old).steps ≤ limits.now.steps
+            → (engine self.new).steps ≤ limits.now.steps }
+        ensures areas { StopsBetween result
+            → (keeping (engine self.new)).areas ≡ (keeping (engine self.old)).areas }
+        ensures writes { StillWrites held.old held.new (K.contents sink.old) (K.contents sink.new) }
+        ensures counts { CountsEnd result (F.faults file.old) (F.faults file.new)
+            (K.faults sink.old) (K.faults sink.new) }
+    {
+        self.engine
+            .go_on(limits, schedule, &mut self.found, held, file, sink)
     }
 
     /// The registers.

@@ -12,7 +12,7 @@ use crate::held::{Held, MOST_STEPS};
 use vax_outside::{PageFile, Sink};
 use vax_sched::{Schedule, Target};
 
-/// Writes what is held back, and ends so, or by a write fault.
+/// Writes what a run has held back, and ends so, or by a write fault.
 fn finish<K: Sink>(held: &Held, end: RunEnd, sink: &mut K) -> RunEnd
     ensures done { Finishes end result (held_in held.now) (K.contents sink.old)
         (K.contents sink.new) (Rose (K.faults sink.old) (K.faults sink.new)) }
@@ -35,6 +35,7 @@ impl Engine {
     ghost use Rattle.vax_sched.specs.Due.{due};
     ghost use Rattle.vax_machine.specs.Console.{IsBetween, MayGoOn, StopsBetween};
     ghost use Rattle.vax_machine.specs.Events.{KeepsRun};
+    ghost use Rattle.vax_machine.specs.GoingOn.{CountsEnd, GoesOnTo, HasReason};
     ghost use Rattle.vax_machine.specs.Machine.{IsSound, keeping};
     ghost use Rattle.vax_machine.specs.Paged.{Paged, all_named, evicted, named, stops};
     ghost use Rattle.vax_machine.specs.Run.{RunsTo, Tracks, system_of};
@@ -348,6 +349,7 @@ impl Engine {
             → stops limits.now.steps limits.now.turns p ≡ why_stopped result }
         ensures none { result ≡ None → (self.now.ended ≡ None) × (self.now.steps < limits.now.steps)
             × (self.now.turns < limits.now.turns) }
+        ensures reason { IfSome result (HasReason limits.now self.now) }
         ensures whole { IfSome result IsStop }
         ensures between { MayGoOn limits.now.steps self.now
             → IfSome result (λ end. StopsBetween end → IsBetween self.now) }
@@ -362,6 +364,51 @@ impl Engine {
             return Some(RunEnd::Turns);
         }
         None
+    }
+
+    /// Goes on with a run up to an ending or a limit. The bytes that the program sends to its console go to Out in order, and where evictions are
+    /// listed a line for each to Record; what is still to be written is held back. `found` has room for the resident pages.
+    ///
+    /// After a page fault the machine stands where the turns before it left it; after a write fault, a prefix of what these turns write was
+    /// written.
+    pub(crate) fn go_on<F: PageFile, K: Sink>(
+        &mut self,
+        limits: &Limits,
+        schedule: &Schedule,
+        found: &mut [u32],
+        held: &mut Held,
+        file: &mut F,
+        sink: &mut K,
+    ) -> RunEnd
+        requires sound { IsSound self.old }
+        requires few_steps { limits.now.steps < 2 ^ 64 }
+        requires few_turns { limits.now.turns < 2 ^ 64 - 2 }
+        requires room { length found.old ≡ 32768 }
+        ensures sound { IsSound self.new }
+        ensures goes { GoesOnTo result limits.now schedule.now
+            (underway_of self.old (F.contents file.old) (K.contents sink.old) held.old)
+            (underway_of self.new (F.contents file.new) (K.contents sink.new) held.new) }
+        ensures follows { KeepsRun self.old (F.contents file.old) self.new (F.contents file.new) }
+        ensures between { StopsBetween result → IsBetween self.old → IsBetween self.new }
+        ensures reason { HasReason limits.now self.new result }
+        ensures steps { StopsBetween result → self.old.steps ≤ limits.now.steps
+            → self.new.steps ≤ limits.now.steps }
+        ensures areas { StopsBetween result
+            → (keeping self.new).areas ≡ (keeping self.old).areas }
+        ensures writes { StillWrites held.old held.new (K.contents sink.old) (K.contents sink.new) }
+        ensures counts { CountsEnd result (F.faults file.old) (F.faults file.new)
+            (K.faults sink.old) (K.faults sink.new) }
+    {
+        loop {
+            if let Some(end) = self.stopped(limits) {
+                return end;
+            }
+            match self.several_turns(limits, schedule, found, held, file, sink) {
+                Ok(()) => {}
+                Err(Fault::Page) => return RunEnd::PageFault,
+                Err(Fault::Write) => return RunEnd::WriteFault,
+            }
+        }
     }
 
     /// Runs up to an ending or a limit. The bytes that the program sends to its console go to Out in order, and where evictions are listed a line
@@ -400,15 +447,9 @@ impl Engine {
         ensures only { OnlyWrote limits.now.listed (K.contents sink.old) (K.contents sink.new) }
     {
         let mut held = Held::new(limits.listed);
-        loop {
-            if let Some(end) = self.stopped(limits) {
-                return finish(&held, end, sink);
-            }
-            match self.several_turns(limits, schedule, found, &mut held, file, sink) {
-                Ok(()) => {}
-                Err(Fault::Page) => return finish(&held, RunEnd::PageFault, sink),
-                Err(Fault::Write) => return RunEnd::WriteFault,
-            }
+        match self.go_on(limits, schedule, found, &mut held, file, sink) {
+            RunEnd::WriteFault => RunEnd::WriteFault,
+            end => finish(&held, end, sink),
         }
     }
 }

@@ -105,6 +105,7 @@ fn builds_single_lines(rt: HostRuntime) -> Result<(), Fail> {
         (Last::Ending(Ending::Scb), "ENDING SCB\n"),
         (Last::Ending(Ending::Change), "ENDING CHANGE\n"),
         (Last::Steps, "ENDING STEPS\n"),
+        (Last::Break, "ENDING BREAK\n"),
         (Last::Turns, "ENDING TURNS\n"),
         (Last::PageFault, "ENDING PAGEFAULT\n"),
     ] {

@@ -5,7 +5,7 @@ use Rattle.vax_flat.specs.declared.Ending.{Ending}
 use Rattle.vax_flat.specs.declared.Ending.TheVariants.{Halt, Vector, Stack, Scb, Change}
 use Rattle.vax_outside.specs.Hex.{hex}
 use Rattle.vax_report.specs.declared.Last.{Last}
-use Rattle.vax_report.specs.declared.Last.TheVariants.{Ending as Ended, Steps, Turns, PageFault}
+use Rattle.vax_report.specs.declared.Last.TheVariants.{Ending as Ended, Steps, Break, Turns, PageFault}
 
 abbrev pub line : List ℕ → List ℕ
 line text = text ++ 10 ∷ []
@@ -34,6 +34,7 @@ ending_text Change = codes "CHANGE"
 abbrev pub last_text : Last → List ℕ
 last_text (Ended ending) = ending_text ending
 last_text Steps = codes "STEPS"
+last_text Break = codes "BREAK"
 last_text Turns = codes "TURNS"
 last_text PageFault = codes "PAGEFAULT"
 

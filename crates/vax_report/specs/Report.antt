@@ -5,7 +5,7 @@ use Rattle.std.specs.Int.{div_ceil}
 use Rattle.vax_word.specs.declared.Core.{Core}
 use Rattle.vax_report.specs.declared.Dump.{Dump}
 use Rattle.vax_report.specs.declared.Last.{Last}
-use Rattle.vax_report.specs.declared.Last.TheVariants.{Ending as Ended, Steps, Turns, PageFault}
+use Rattle.vax_report.specs.declared.Last.TheVariants.{Ending as Ended, Steps, Break, Turns, PageFault}
 use Rattle.vax_report.specs.Lines.{numbers_line, count_line, ending_line, memory_line}
 
 -- the lines before the dumps: the ending, the steps, the units done of an open string instruction, the sixteen
@@ -35,6 +35,7 @@ dump_text dump = flat_map (λ k. dump_line dump (16 * k)) (range_with_len 0 (div
 abbrev pub shown : Last → List Dump → List Dump
 shown (Ended ending) dumps = dumps
 shown Steps dumps = dumps
+shown Break dumps = dumps
 shown Turns dumps = dumps
 shown PageFault dumps = []
 

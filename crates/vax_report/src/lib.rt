@@ -9,7 +9,7 @@ ghost use Rattle.std.specs.Prelude.{◌≡◌};
 mod lines;
 mod write;
 
-pub use lines::{push_ending, push_memory, push_register};
+pub use lines::{push_cell, push_ending, push_memory, push_register};
 use std::marker::Model;
 use vax_flat::Ending;
 pub use write::write_report;
@@ -21,6 +21,8 @@ pub enum Last {
     Ending(Ending),
     /// The limit of steps.
     Steps,
+    /// Before a step at an address where it is to stop.
+    Break,
     /// The limit of turns.
     Turns,
     /// A call of the page file failed.

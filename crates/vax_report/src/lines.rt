@@ -35,6 +35,7 @@ fn push_last(text: &mut Text, last: Last)
         Last::Ending(Ending::Scb) => text.push(b"SCB"),
         Last::Ending(Ending::Change) => text.push(b"CHANGE"),
         Last::Steps => text.push(b"STEPS"),
+        Last::Break => text.push(b"BREAK"),
         Last::Turns => text.push(b"TURNS"),
         Last::PageFault => text.push(b"PAGEFAULT"),
     }
@@ -69,8 +70,9 @@ pub fn push_register(text: &mut Text, n: u8, value: u32)
     text.push(b"\n");
 }
 
+/// Appends a space and a byte in two digits, or two dashes where there is none.
 #[tactic(auto, unfolding(crate::specs::Lines::cell))]
-fn push_cell(text: &mut Text, byte: Option<u8>)
+pub fn push_cell(text: &mut Text, byte: Option<u8>)
     requires { length text.old + 3 ≤ 512 }
     ensures exact { text.new ≡ text.old ++ cell byte }
     ensures len { length text.new ≡ length text.old + 3 }

@@ -40,7 +40,7 @@ fn shown(last: Last, dumps: &[Dump]) -> &[Dump]
 {
     match last {
         Last::PageFault => &[],
-        Last::Ending(_) | Last::Steps | Last::Turns => dumps,
+        Last::Ending(_) | Last::Steps | Last::Break | Last::Turns => dumps,
     }
 }
 
