@@ -40,7 +40,7 @@ byte_text byte = codes ".BYTE ^X" ++ hex 2 byte
 abbrev pub byte_part : Origin → (byte at : ℕ) → Part Fixup
 byte_part origin byte at = Kept (record { origin = origin; at = at; content = content.Data (data_kind.Number size.B) 1; filling = Known (value.Absolute (pos byte)) })
 
-abbrev line_tokens : ℕ → List Token
+abbrev pub line_tokens : ℕ → List Token
 line_tokens byte = token_at 0 (word Name (codes ".BYTE")) ∷ token_at 6 (word (Number byte) (94 ∷ 88 ∷ hex 2 byte)) ∷ []
 
 no_more : (c : Context) (at : ℕ) → Scans c at [] []
@@ -62,7 +62,7 @@ number_scanned byte h =
 begins_dot : BeginsName 46
 begins_dot = record { no_blank = refl; no_comment = refl; no_digit = refl }
 
-byte_scanned : (byte : ℕ) → byte < 256 → tokens_of (byte_text byte) ≡ Ok (line_tokens byte)
+pub byte_scanned : (byte : ℕ) → byte < 256 → tokens_of (byte_text byte) ≡ Ok (line_tokens byte)
 unfolding pieces_of
 byte_scanned byte h =
     let rest : List ℕ = 32 ∷ 94 ∷ 88 ∷ hex 2 byte in

@@ -1,10 +1,13 @@
 -- The laws.
 use Rattle.std.proofs.Common.{◌≡◌, false, ℕ, zero, suc, ◌+◌, ◌%◌, ◌<◌, ◌≤◌, ◌^◌, List, [], ◌∷◌, ◌++◌, length, map, take, get_or, Some, None, Result, Ok, refl, ap, ◌∙◌, sym, subst, arith}
-use Rattle.std.specs.Prelude.{slice_get}
-use Rattle.std.proofs.lemmas.List.{length-map}
+use Rattle.std.specs.Prelude.{All, slice_get}
+use Rattle.std.proofs.lemmas.List.{append-nil, length-map}
+use Rattle.std.proofs.lemmas.List.Elements.{All-head, All-tail}
+use Rattle.vax_link.specs.Values.{section_address}
 use Rattle.std.proofs.lemmas.Option.{slice_get-get_or}
 use Rattle.vax_asm.specs.Placing.{placed, placed_by}
-use Rattle.vax_asm.specs.Walk.{nothing}
+use Rattle.vax_asm.specs.Walk.{assembled, nothing, walked}
+use Rattle.vax_macro.specs.Rest.{started, work}
 use Rattle.vax_asm_first.specs.Fixups.{Fixup}
 use Rattle.vax_asm_first.specs.Progress.{Progress, done}
 use Rattle.vax_asm_first.specs.Standing.{Standing}
@@ -28,7 +31,8 @@ use Rattle.vax_asm_laws.specs.Lying.{StandsAt}
 use Rattle.vax_asm_laws.specs.Leading.{Halves, IsOf, Leads, Line}
 use Rattle.vax_disasm.specs.Listed.{Listing, is_unreserved, listed, listing}
 use Rattle.vax_disasm_laws.specs.Assembling.{BeginsWith, HasRoom, IsLinked, IsPart, IsStatement, Program, Shows, address_of, section_of, texts}
-use Rattle.vax_disasm_laws.specs.Rows.{row_texts, rows_from}
+use Rattle.vax_disasm_laws.specs.Rows.{IsSourceOf, Row, row_texts, rows_from}
+use Rattle.vax_disasm_laws.proofs.Sources.{AreOrdinary, AreShort, IsReadAs, left_of, rows_ordinary, texts_read}
 use Rattle.vax_disasm_laws.proofs.Adding.{Longer, adds, adds_fits, adds_made, begun_at, put_longer, standing_with}
 use Rattle.vax_disasm_laws.proofs.Assembled.{AllLie}
 use Rattle.vax_disasm_laws.proofs.Lines.{line_placed, parts_of}
@@ -145,3 +149,29 @@ pub assembled_listed : (i : Instruction) (before after : Building Fixup) (has : 
 assembled_listed i before after has held rest address are w =
     let back : IsReadBack (row_of i) held = (has.filled held are).read_back in
     read_listed (instruction_bytes i.opcode held ++ rest) i (sequence_of held) (length (instruction_bytes i.opcode held)) address (back i rest w refl)
+
+-- ---- a listing as a source
+
+short_each : (these : List (List ℕ)) → All (λ (t : List ℕ). length t ≤ 1024) these → AreShort these
+short_each [] h = tt
+short_each (t ∷ these) h = (All-head (λ (x : List ℕ). length x ≤ 1024) t these h, short_each these (All-tail (λ (x : List ℕ). length x ≤ 1024) t these h))
+
+source_read : (source : List ℕ) (rows : List Row) (m : Module) → IsSourceOf source rows → AreOrdinary (row_texts rows) → assembled source ≡ Ok m → IsReadAs (row_texts rows) nothing m
+unfolding assembled
+source_read source rows m is ordinary e =
+    let steps : ℕ = suc (work (started source)) in
+    let same : walked steps (left_of 0 (row_texts rows) 0) nothing None ≡ Ok m = ap (λ (ts : List (List ℕ)). walked steps (left_of 0 ts 0) nothing None) (sym is.texts) ∙ e in
+    texts_read (row_texts rows) steps 0 0 nothing m ordinary (short_each (row_texts rows) is.short) (let few = is.few in omega arith) (let few = is.few in omega arith) same
+
+pub source_stands : (source bytes : List ℕ) (m : Module) (p : Program) (owner : ℕ) → AreBytes bytes → IsLinked p → slice_get p.modules owner ≡ Some m → assembled source ≡ Ok m
+    → IsSourceOf source (rows_from 0 (section_address p.region p.modules owner 0) bytes) → section_address p.region p.modules owner 0 + length bytes ≤ 2 ^ 32 → Shows p.image (section_address p.region p.modules owner 0) bytes
+source_stands source bytes m p owner are linked there e is low =
+    let address : ℕ = section_address p.region p.modules owner 0 in
+    let these : List (List ℕ) = row_texts (rows_from 0 address bytes) in
+    let r : IsReadAs these nothing m = source_read source (rows_from 0 address bytes) m is (rows_ordinary bytes 0 address are) e in
+    let h : Halves = record { first = []; middle = nothing; rest = r.lines; end = r.end; begin = None } in
+    let start : address_of p owner h ≡ address = omega arith in
+    let part : IsPart p owner h = record { source = m; made = record { before = refl; behind = r.leads; filled = r.filled }; there = there } in
+    let begins : BeginsWith h (row_texts (rows_from 0 (address_of p owner h) bytes)) =
+    record { lines = r.lines; more = []; spelled = sym (append-nil r.lines); are = r.are ∙ ap (λ (n : ℕ). row_texts (rows_from 0 n bytes)) (sym start) } in
+    subst (λ (n : ℕ). Shows p.image n bytes) start (rows_stand bytes p owner h are linked part (omega (arith, start)) begins)

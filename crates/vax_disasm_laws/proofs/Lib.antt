@@ -16,4 +16,5 @@ pub mod Bytes
 pub mod Showing
 pub mod Assembled
 pub mod Listings
+pub mod Sources
 pub mod Laws

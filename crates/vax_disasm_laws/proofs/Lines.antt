@@ -167,7 +167,7 @@ characters_pass : (text : List ℕ) → AllPass rows.is_name_character text → 
 characters_pass [] all = refl
 characters_pass (c ∷ text) all = rw (character_passes c (all 0 c (omega arith))) (characters_pass text (λ k d h. all (suc k) d (omega arith)))
 
-no_dot : (c : ℕ) → is_ascii_uppercase c ≡ true → (to_ascii_uppercase c == 46) ≡ false
+pub no_dot : (c : ℕ) → is_ascii_uppercase c ≡ true → (to_ascii_uppercase c == 46) ≡ false
 no_dot c h = grind (arith, nat_tests)
 
 no_directive : (c : ℕ) (text : List ℕ) → is_ascii_uppercase c ≡ true → operator_of (c ∷ text) ≡ other_operator
@@ -176,7 +176,7 @@ no_directive c text h = rw (no_dot c h) refl
 begins_capital : (c : ℕ) → is_ascii_uppercase c ≡ true → BeginsName c
 begins_capital c h = record { no_blank = grind (arith, nat_tests); no_comment = grind (arith, nat_tests); no_digit = grind (arith, nat_tests) }
 
-is_operator : (name : List ℕ) → IsName name → IsOperator name
+pub is_operator : (name : List ℕ) → IsName name → IsOperator name
 is_operator [] is = absurd (let some = is.some in omega arith)
 is_operator (c ∷ text) is =
     record { first = c; more = text; spelled = refl; begins = begins_capital c is.letter; characters = characters_pass (c ∷ text) is.characters; short = let short = is.short in omega arith; operator = no_directive c text is.letter }
@@ -214,7 +214,7 @@ found_kinds i f = λ k d h. subst (λ (kind : OperandKind). IsKind kind) (get_or
 
 -- behind the operator
 
-abbrev front_text : ℕ → Sequence → List ℕ
+abbrev pub front_text : ℕ → Sequence → List ℕ
 front_text at q = operands_text 32 at q
 
 abbrev pub behind_operator : Before → Context
@@ -243,7 +243,7 @@ operator_head b text rest is all short end = rw (and_false (is_delimiter b)) (pl
 
 -- the tokens of the operands
 
-abbrev front_tokens : (at pos : ℕ) → Sequence → List Token
+abbrev pub front_tokens : (at pos : ℕ) → Sequence → List Token
 front_tokens at pos End = []
 front_tokens at pos (ReservedHere count) = []
 front_tokens at pos (Next kind s count rest) = tokens_at pos (specifier_words kind (at + count) s ++ after_words (at + count) rest)
@@ -262,7 +262,7 @@ front_ends at End = refl
 front_ends at (ReservedHere count) = refl
 front_ends at (Next kind s count rest) = refl
 
-line_scanned : (name : List ℕ) (at : ℕ) (q : Sequence) → IsOperator name → AllFit q → tokens_of (name ++ front_text at q) ≡ Ok (token_at 0 (word Name name) ∷ front_tokens at (length name + 1) q)
+pub line_scanned : (name : List ℕ) (at : ℕ) (q : Sequence) → IsOperator name → AllFit q → tokens_of (name ++ front_text at q) ≡ Ok (token_at 0 (word Name name) ∷ front_tokens at (length name + 1) q)
 unfolding pieces_of
 line_scanned name at q is fit =
     let some : 0 < length name = rw is.spelled (omega arith) in

@@ -1,5 +1,6 @@
 -- The lines of a listing, each an address and a text.
-use Rattle.std.specs.Prelude.{ℕ, zero, suc, ◌+◌, ◌-◌, ◌%◌, ◌^◌, List, [], ◌∷◌, Option}
+use Rattle.std.specs.Prelude.{ℕ, zero, suc, ◌+◌, ◌-◌, ◌%◌, ◌^◌, List, [], ◌∷◌, Option, ◌≡◌, ◌≤◌, All, length}
+use Rattle.std.specs.Str.Lines.{lines}
 use Rattle.vax_disasm.specs.Listed.{Listing, listed}
 use Rattle.vax_listing.specs.Listing.{length_of, line, text_of}
 
@@ -23,3 +24,9 @@ row_line r = line r.address r.text
 abbrev pub row_texts : List Row → List (List ℕ)
 row_texts [] = []
 row_texts (r ∷ rows) = r.text ∷ row_texts rows
+
+-- A source is these lines: their texts without the addresses, at most so many of them and so long as the assembler reads.
+pub record IsSourceOf (source : List ℕ) (rows : List Row) : Type 0 where
+  pub texts : lines source ≡ row_texts rows
+  pub short : All (λ text. length text ≤ 1024) (row_texts rows)
+  pub few : length (row_texts rows) ≤ 100000

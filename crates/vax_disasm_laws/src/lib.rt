@@ -3,7 +3,7 @@
 //! does nothing.
 #![tactic(auto)]
 
-ghost use Rattle.std.specs.Prelude.{◌≡◌, ◌<◌, ◌≤◌, ◌^◌, ◌+◌, ◌∷◌, [], ◌++◌, List, Some, length, take, ℕ};
+ghost use Rattle.std.specs.Prelude.{◌≡◌, ◌<◌, ◌≤◌, ◌^◌, ◌+◌, ◌∷◌, [], ◌++◌, List, Some, length, take, ℕ, Ok, slice_get};
 ghost use Rattle.std.specs.List.{flat_map};
 ghost use Rattle.vax_asm_first.specs.Standing.{Standing};
 ghost use Rattle.vax_asm_first.specs.declared.types.Origin.{Origin};
@@ -15,7 +15,10 @@ ghost use Rattle.vax_isa.specs.Instructions.{Instruction};
 ghost use Rattle.vax_isa.specs.Rows.{row_of, with_opcode};
 ghost use Rattle.vax_disasm.specs.Listed.{Listing, listed, listing};
 ghost use Rattle.vax_disasm_laws.specs.Assembling.{AreBytes, BeginsWith, HasRoom, IsLinked, IsPart, IsStatement, Program, Shows, address_of};
-ghost use Rattle.vax_disasm_laws.specs.Rows.{row_line, row_texts, rows_from};
+ghost use Rattle.vax_asm.specs.Walk.{assembled};
+ghost use Rattle.vax_link.specs.Values.{section_address};
+ghost use Rattle.vax_module.specs.declared.Module.{Module};
+ghost use Rattle.vax_disasm_laws.specs.Rows.{IsSourceOf, row_line, row_texts, rows_from};
 ghost use Rattle.vax_listing.specs.Listing.{lines_from};
 
 /// Wherever a section has room for an instruction, its text is a statement without a fault, which adds as many bytes as it was listed for.
@@ -49,6 +52,16 @@ pub fn listings_stand_for_their_bytes()
         address_of p owner h + length bytes ≤ 2 ^ 32 →
         BeginsWith h (row_texts (rows_from 0 (address_of p owner h) bytes)) →
         Shows p.image (address_of p owner h) bytes }
+{}
+
+/// The texts of a listing alone are a source: the module that it assembles to puts the listed bytes into the image, where its first section comes
+/// to stand at the address that was listed.
+pub fn sources_of_listings_give_their_bytes()
+    ensures { (source bytes : List ℕ) (m : Module) (p : Program) (owner : ℕ) →
+        AreBytes bytes → IsLinked p → slice_get p.modules owner ≡ Some m → assembled source ≡ Ok m →
+        IsSourceOf source (rows_from 0 (section_address p.region p.modules owner 0) bytes) →
+        section_address p.region p.modules owner 0 + length bytes ≤ 2 ^ 32 →
+        Shows p.image (section_address p.region p.modules owner 0) bytes }
 {}
 
 /// Every instruction that is assembled is listed at each address, whatever numbers its fields come to hold.

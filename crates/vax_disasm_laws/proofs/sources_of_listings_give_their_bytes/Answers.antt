@@ -1,0 +1,5 @@
+use Rattle.vax_disasm_laws.proofs.Laws.{source_stands}
+use Rattle.vax_disasm_laws.proofs.sources_of_listings_give_their_bytes.Goals as goal
+
+pub returns : goal.returns
+returns c = λ source bytes m p owner are linked there e is low. source_stands source bytes m p owner are linked there e is low
