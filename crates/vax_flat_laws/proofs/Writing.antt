@@ -1,8 +1,8 @@
 -- What parts of moves write.
-use Rattle.std.proofs.Common.{◌≡◌, ◌≢◌, ◌⊎◌, ℕ, zero, suc, ◌+◌, ◌-◌, ◌/◌, ◌%◌, ◌^◌, ◌<◌, ◌≤◌, min, Bool, true, false, List, [], ◌∷◌, length, get_or, None, inl, inr, refl, ap, ◌∙◌, sym, subst, arith}
+use Rattle.std.proofs.Common.{◌≡◌, ◌≢◌, ℕ, zero, suc, ◌+◌, ◌-◌, ◌/◌, ◌%◌, ◌^◌, ◌<◌, ◌≤◌, min, Bool, true, false, List, [], ◌∷◌, length, get_or, None, refl, ap, ◌∙◌, sym, subst, arith}
 use Rattle.std.specs.List.{position_or_len}
-use Rattle.std.specs.Prelude.{◌==◌, ◌&&◌, if◌then◌else◌, map, nat_le, nat_lt, not, replicate, slice_index, take}
-use Rattle.std.proofs.lemmas.Bool.{eq-eqb, eqb-false, le-ltb, lt-ltb, ne_eqb}
+use Rattle.std.specs.Prelude.{◌==◌, ◌&&◌, if◌then◌else◌, nat_le, nat_lt, not, replicate, slice_index, take}
+use Rattle.std.proofs.lemmas.Bool.{eq-eqb, le-ltb, lt-ltb, ne_eqb}
 use Rattle.std.proofs.lemmas.Bool.Decides.{nat_tests}
 use Rattle.std.proofs.lemmas.List.{get_or-map, get_or-replicate, get_or-take, length-map, length-replicate, length-take-le}
 use Rattle.std.proofs.lemmas.List.Sums.{prefix_len-le-length, prefix_len_passes}
@@ -21,7 +21,7 @@ use Rattle.vax_flat.specs.State.{State, mode}
 use Rattle.vax_flat.specs.Step.{leaf}
 use Rattle.vax_flat.specs.String.{completed, leaves, read_span, room_down, room_up}
 use Rattle.vax_flat.specs.StringEscape.{IsEscapeChecked, escape_close, escape_end, escape_part, escape_room, escape_run, escaped, source_room, written_some}
-use Rattle.vax_flat.specs.StringMove.{IsChecked, IsMove, by_table, fill_room, fill_run, is_backward, lowest, move_end, move_part, move_room, move_run, moved, moved_count, run_room, table_applied, write_span}
+use Rattle.vax_flat.specs.StringMove.{IsChecked, IsMove, fill_room, fill_run, is_backward, lowest, move_end, move_part, move_room, move_run, moved, moved_count, run_room, table_applied, write_span}
 use Rattle.vax_flat.proofs.Memory.{byte_at-written_run}
 use Rattle.vax_flat.proofs.StringCompare.{span_is}
 use Rattle.vax_flat.proofs.StringSearch.{length_run}

@@ -7,7 +7,6 @@ use Rattle.vax_flat.specs.Accesses.{Found, Leaf, Went}
 use Rattle.vax_flat.specs.Memory.{byte_at}
 use Rattle.vax_flat.specs.Operand.{plus}
 use Rattle.vax_flat.specs.Outcome.{Ends, Outcome, Raised}
-use Rattle.vax_flat.specs.State.{State}
 use Rattle.vax_flat_laws.specs.Maximal.{moved_index}
 
 -- where a tree leaves a part of so many units, this holds of it and of the memory
