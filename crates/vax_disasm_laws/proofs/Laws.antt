@@ -14,7 +14,7 @@ use Rattle.vax_asm_first.specs.Standing.{Standing}
 use Rattle.vax_asm_first.specs.declared.types.Origin.{Origin}
 use Rattle.vax_asm_instruction.specs.Bytes.{AreHeld, HasInstruction, Held, IsReadBack, instruction_bytes, sequence_of}
 use Rattle.vax_asm_second.specs.Modules.{known_in}
-use Rattle.vax_asm_sections.specs.Layout.{Part, Section as Building, current_of}
+use Rattle.vax_asm_sections.specs.Layout.{Part, Section as Building, current_of, section_limit, unnamed}
 use Rattle.vax_flat.specs.Grammar.{IsInstruction, Sequence, End, ReservedHere, Next, IsUnreserved}
 use Rattle.vax_isa.specs.Instructions.{Instruction}
 use Rattle.vax_isa.specs.Rows.{row_of, with_opcode}
@@ -31,12 +31,13 @@ use Rattle.vax_asm_laws.specs.Lying.{StandsAt}
 use Rattle.vax_asm_laws.specs.Leading.{Halves, IsOf, Leads, Line}
 use Rattle.vax_disasm.specs.Listed.{Listing, is_unreserved, listed, listing}
 use Rattle.vax_disasm_laws.specs.Assembling.{BeginsWith, HasRoom, IsLinked, IsPart, IsStatement, Program, Shows, address_of, section_of, texts}
-use Rattle.vax_disasm_laws.specs.Rows.{IsSourceOf, Row, row_texts, rows_from}
+use Rattle.vax_disasm_laws.specs.Rows.{Assembles, IsSourceOf, Row, row_texts, rows_from}
 use Rattle.vax_disasm_laws.proofs.Sources.{AreOrdinary, AreShort, IsReadAs, left_of, rows_ordinary, texts_read}
+use Rattle.vax_disasm_laws.proofs.Accepting.{Alone, nothing_clear, rows_fit, texts_accepted}
 use Rattle.vax_disasm_laws.proofs.Adding.{Longer, adds, adds_fits, adds_made, begun_at, put_longer, standing_with}
 use Rattle.vax_disasm_laws.proofs.Assembled.{AllLie}
 use Rattle.vax_disasm_laws.proofs.Lines.{line_placed, parts_of}
-use Rattle.vax_disasm_laws.proofs.Listings.{Ahead, IsOne, bytes_behind, is_one, one_shown, parts_end, rows_shown}
+use Rattle.vax_disasm_laws.proofs.Listings.{Ahead, IsOne, bytes_behind, is_one, one_shown, parts_long, rows_shown}
 use Rattle.vax_disasm_laws.proofs.Readings.{AreBytes}
 
 -- ---- a statement
@@ -50,7 +51,7 @@ is_statement bytes address l origin s are e within room =
     let one : IsOne bytes address l = is_one bytes address l e in
     let is = one.is in
     let parts : List (Part Fixup) = parts_of origin is.opcode address (current_of s.sections).size one.operands in
-    let count : (from : ℕ) → end_of from parts ≡ from + l.length = λ from. parts_end bytes address l origin s from are one in
+    let count : (from : ℕ) → end_of from parts ≡ from + l.length = λ from. parts_long bytes address l origin (current_of s.sections).size from are one in
     let fits : (adds parts (begun_at s)).progress.fault ≡ None =
     adds_fits parts (begun_at s) refl within (let room_section = room.section in omega (arith, count 0), let room_whole = room.whole in omega (arith, count 0)) in
     let p : Progress = (adds parts (begun_at s)).progress in
@@ -175,3 +176,12 @@ source_stands source bytes m p owner are linked there e is low =
     let begins : BeginsWith h (row_texts (rows_from 0 (address_of p owner h) bytes)) =
     record { lines = r.lines; more = []; spelled = sym (append-nil r.lines); are = r.are ∙ ap (λ (n : ℕ). row_texts (rows_from 0 n bytes)) (sym start) } in
     subst (λ (n : ℕ). Shows p.image n bytes) start (rows_stand bytes p owner h are linked part (omega (arith, start)) begins)
+
+pub source_accepted : (source bytes : List ℕ) (address : ℕ) → AreBytes bytes → length bytes ≤ section_limit → IsSourceOf source (rows_from 0 address bytes) → Assembles source
+unfolding assembled
+source_accepted source bytes address are room is =
+    let these : List (List ℕ) = row_texts (rows_from 0 address bytes) in
+    let steps : ℕ = suc (work (started source)) in
+    let start : Alone 0 nothing = record { section = unnamed; is = refl; size = refl; clear = nothing_clear; none = refl } in
+    let made = texts_accepted these steps 0 0 0 nothing (rows_ordinary bytes 0 address are) (short_each these is.short) (rows_fit bytes are 0 address 0 (omega arith) (omega arith)) (let few = is.few in omega arith) (let few = is.few in omega arith) start in
+    record { source_module = made.0; is = ap (λ (ts : List (List ℕ)). walked steps (left_of 0 ts 0) nothing None) is.texts ∙ made.1 }

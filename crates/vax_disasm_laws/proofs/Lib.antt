@@ -17,4 +17,5 @@ pub mod Showing
 pub mod Assembled
 pub mod Listings
 pub mod Sources
+pub mod Accepting
 pub mod Laws

@@ -10,7 +10,6 @@ use Rattle.vax_asm_encode.specs.Bytes.{low_bytes}
 use Rattle.vax_asm_encode.specs.Fields.{filled}
 use Rattle.vax_asm_first.specs.Fixups.{Fixup}
 use Rattle.vax_asm_first.specs.Progress.{done}
-use Rattle.vax_asm_first.specs.Standing.{Standing}
 use Rattle.vax_asm_first.specs.declared.types.Origin.{Origin}
 use Rattle.vax_asm_second.specs.Laid.{Known, output}
 use Rattle.vax_asm_sections.specs.Layout.{Part, Sections, current_of, unnamed}
@@ -88,11 +87,11 @@ amid all parts i a b end l lines h leads counted p =
     }
 
 -- how long a listed instruction is
-record IsLong (bytes : List ℕ) (l : Listing) : Type 0 where
-  some : 1 ≤ l.length
-  within : l.length ≤ length bytes
+pub record IsLong (bytes : List ℕ) (l : Listing) : Type 0 where
+  pub some : 1 ≤ l.length
+  pub within : l.length ≤ length bytes
 
-is_long : (bytes : List ℕ) (address : ℕ) (l : Listing) → AreBytes bytes → IsOne bytes address l → IsLong bytes l
+pub is_long : (bytes : List ℕ) (address : ℕ) (l : Listing) → AreBytes bytes → IsOne bytes address l → IsLong bytes l
 is_long bytes address l are one =
     let is = one.is in
     let ks : All IsKind one.row.operands = found_kinds one.row (found_formed is.opcode one.row is.listed) in
@@ -113,11 +112,11 @@ fields_end origin (kind ∷ kinds) bytes q there from at are ks e u =
     subst (λ (t : Sequence). end_of at (fields origin there from t) ≡ at + total t) n.is (more ∙ omega (arith, counted))
 
 -- all parts of a listed instruction
-pub parts_end : (bytes : List ℕ) (address : ℕ) (l : Listing) (origin : Origin) (s : Standing) (from : ℕ) → AreBytes bytes → (one : IsOne bytes address l) → end_of from (parts_of origin one.is.opcode address (current_of s.sections).size one.operands) ≡ from + l.length
-parts_end bytes address l origin s from are one =
+pub parts_long : (bytes : List ℕ) (address : ℕ) (l : Listing) (origin : Origin) (at from : ℕ) → AreBytes bytes → (one : IsOne bytes address l) → end_of from (parts_of origin one.is.opcode address at one.operands) ≡ from + l.length
+parts_long bytes address l origin at from are one =
     let is = one.is in
     let ks : All IsKind one.row.operands = found_kinds one.row (found_formed is.opcode one.row is.listed) in
-    fields_end origin one.row.operands is.rest one.operands (address + 1) ((current_of s.sections).size + 1) (from + 1) (bytes_behind bytes is.rest is.opcode is.split are) ks is.read is.unreserved ∙ omega (arith, is.counted)
+    fields_end origin one.row.operands is.rest one.operands (address + 1) (at + 1) (from + 1) (bytes_behind bytes is.rest is.opcode is.split are) ks is.read is.unreserved ∙ omega (arith, is.counted)
 
 module _ (p : Program) (owner i : ℕ) (section : Section) (k : Known) (whole : IsLinked p) (has : HasSection p.modules owner i section) (all : List (Part Fixup)) (lie : AllLie k i all section (module_at p.modules owner).relocs) (end : Assembly) where
   abbrev pub base : ℕ

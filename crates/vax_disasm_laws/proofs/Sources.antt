@@ -213,7 +213,7 @@ line_says names text number depth parts at texts count o =
     let operator : (head_in (pieces_of text)).operator ≡ Some (as_piece o.operator) = ap (λ (ps : List Piece). (head_in ps).operator) pieces ∙ head_is o.operator o.operands o.named o.no_mark in
     ap (outcome line count) (read_gives names line (pieces_of text) (head_in (pieces_of text)) (as_piece o.operator) at texts count operator o.word)
 
-step_says : (names : List ℕ → Option Value) (text : List ℕ) (at : ℕ) (texts : List (List ℕ)) (count : ℕ) → IsOrdinary text → length text ≤ 1024 → count < 100000
+pub step_says : (names : List ℕ → Option Value) (text : List ℕ) (at : ℕ) (texts : List (List ℕ)) (count : ℕ) → IsOrdinary text → length text ≤ 1024 → count < 100000
     → step names (left_of at (text ∷ texts) count) ≡ Says (record { number = at + 1; text = text }) (left_of (at + 1) texts (count + 1))
 unfolding step read_on
 step_says names text at texts count o short few =

@@ -9,7 +9,7 @@ ghost use Rattle.vax_asm_first.specs.Standing.{Standing};
 ghost use Rattle.vax_asm_first.specs.declared.types.Origin.{Origin};
 ghost use Rattle.vax_asm_instruction.specs.Bytes.{AreHeld, HasInstruction, Held, instruction_bytes, sequence_of};
 ghost use Rattle.vax_asm_first.specs.Fixups.{Fixup};
-ghost use Rattle.vax_asm_sections.specs.Layout.{Section};
+ghost use Rattle.vax_asm_sections.specs.Layout.{Section, section_limit};
 ghost use Rattle.vax_asm_laws.specs.Leading.{Halves};
 ghost use Rattle.vax_isa.specs.Instructions.{Instruction};
 ghost use Rattle.vax_isa.specs.Rows.{row_of, with_opcode};
@@ -18,7 +18,7 @@ ghost use Rattle.vax_disasm_laws.specs.Assembling.{AreBytes, BeginsWith, HasRoom
 ghost use Rattle.vax_asm.specs.Walk.{assembled};
 ghost use Rattle.vax_link.specs.Values.{section_address};
 ghost use Rattle.vax_module.specs.declared.Module.{Module};
-ghost use Rattle.vax_disasm_laws.specs.Rows.{IsSourceOf, row_line, row_texts, rows_from};
+ghost use Rattle.vax_disasm_laws.specs.Rows.{Assembles, IsSourceOf, row_line, row_texts, rows_from};
 ghost use Rattle.vax_listing.specs.Listing.{lines_from};
 
 /// Wherever a section has room for an instruction, its text is a statement without a fault, which adds as many bytes as it was listed for.
@@ -62,6 +62,13 @@ pub fn sources_of_listings_give_their_bytes()
         IsSourceOf source (rows_from 0 (section_address p.region p.modules owner 0) bytes) →
         section_address p.region p.modules owner 0 + length bytes ≤ 2 ^ 32 →
         Shows p.image (section_address p.region p.modules owner 0) bytes }
+{}
+
+/// Such a source assembles, where the bytes fit a section.
+pub fn listings_assemble()
+    ensures { (source bytes : List ℕ) (address : ℕ) →
+        AreBytes bytes → length bytes ≤ section_limit → IsSourceOf source (rows_from 0 address bytes) →
+        Assembles source }
 {}
 
 /// Every instruction that is assembled is listed at each address, whatever numbers its fields come to hold.
