@@ -1,0 +1,7 @@
+//! Tests of test vectors. The expected values are worked by hand from the manual's descriptions of the instructions.
+#![tactic(auto)]
+
+#[cfg(test)]
+mod made;
+#[cfg(test)]
+mod steps;
