@@ -1,5 +1,5 @@
 -- Memory that is read piece by piece.
-use Rattle.std.proofs.Common.{◌≡◌, ◌≤◌, ◌+◌, ◌++◌, ◌∷◌, [], ℕ, suc, List, Option, All, ap, arith, drop, length, map, subst, sym, take, ◌∙◌}
+use Rattle.std.proofs.Common.{◌≡◌, ◌≤◌, ◌+◌, ◌++◌, ◌∷◌, [], ℕ, suc, List, Option, All, ap, arith, drop, length, map, refl, subst, sym, take, ◌∙◌}
 use Rattle.std.proofs.Math.Seq.{take-append_seam}
 use Rattle.std.proofs.lemmas.List.{append_assoc}
 use Rattle.vax_space.specs.declared.Area.{Area}
@@ -52,3 +52,8 @@ pub one_shown : (before rest : List Blank) (blank : Blank) (cells : List (Option
 unfolding pages_shown
 one_shown before rest blank cells e is =
     ap (λ (bs : List Blank). pages_shown (items_of bs)) e ∙ ap (λ (z : List (Option ℕ)). pages_in blank.address (length z) + pages_shown (items_of rest)) (sym is)
+
+-- where nothing is asked for there is no room
+pub none_asked : (blanks : List Blank) → items_of blanks ≡ [] → blanks ≡ []
+none_asked [] e = refl
+none_asked (blank ∷ rest) e = let bad : item_of blank ∷ items_of rest ≡ [] = e in cc

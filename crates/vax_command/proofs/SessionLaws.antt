@@ -176,7 +176,7 @@ module _ (outside : Outside) (limits : Limits) (rules : List Rule) (lines : List
   all_goes : (end : SessionEnd) (file : BlockFile) → Made limits rules lines m (Some file) end n outside.pages.after.told outside.sink.before.told outside.sink.after.told → Goes outside (begins m frames start limits rules lines) file end outside.sink.after.told
   all_goes end file made = record { machine = n; holds = holds_from outside frames start limits rules lines m n file outside.sink.after.told end f made }
 
-  pub read_out : (told : Option BlockFile) → Did limits lines m told session_end.Read n outside.pages.after.told outside.sink.before.told outside.sink.after.told → Made limits rules lines m told session_end.Read n outside.pages.after.told outside.sink.before.told outside.sink.after.told → OnlyReplied outside.sink.before.told outside.sink.after.told → outside.sink.after.faults ≡ outside.sink.before.faults → Told told outside (begins m frames start limits rules lines) Done
+  pub read_out : (told : Option BlockFile) → Did limits lines m told session_end.Read n outside.pages.after.told outside.sink.before.told outside.sink.after.told → Made limits rules lines m told session_end.Read n outside.pages.after.told outside.sink.before.told outside.sink.after.told → OnlyReplied outside.sink.before.told outside.sink.after.told → outside.sink.after.faults.count ≡ outside.sink.before.faults.count → Told told outside (begins m frames start limits rules lines) Done
   read_out None did made only_these quiet = record { meant = Done; grown = writes only_these.sent only_these.replies; so = tt; ends = inl (record { answer = refl; grew = only_these.grew; quiet = quiet }) }
   read_out (Some file) did made only_these quiet =
       let at : IsAt start (session_after limits.steps (opening start) lines) (transcript limits.steps (opening start) lines) n outside.pages.after.told outside.sink.before.told outside.sink.after.told = from_opening session_end.Read file did in

@@ -2,7 +2,7 @@ use Rattle.std.proofs.Common.{◌≡◌, ap, ◌∙◌, length, refl, rules, ari
 use Rattle.vax_outside.proofs.Counting.{counts_then}
 use Rattle.vax_flat.specs.Parts.{machine_at}
 use Rattle.vax_machine.specs.Console.{memory_from}
-use Rattle.vax_command.proofs.RoomLaws.{few_cells, not_none, one_filled, one_shown, others_small, room_left, written_all}
+use Rattle.vax_command.proofs.RoomLaws.{few_cells, none_asked, not_none, one_filled, one_shown, others_small, room_left, written_all}
 use Rattle.vax_machine.proofs.Bringing.{none_read, then_read}
 use Rattle.vax_command.proofs.dump.fill.Goals as goal
 
@@ -56,3 +56,18 @@ pub returns-clause-reads : goal.returns-clause-reads
 returns-clause-reads g c =
     let inv = c.blanks.invariant in
     record { only = inv.reads; once = then_read _ 0 _ _ _ _ (let f = inv.fewer in omega (arith, f)) inv.once (none_read 0 _ _ refl) }
+
+pub blanks-init : goal.blanks-init
+blanks-init g c = record {
+  room = search rules;
+  small = search rules;
+  shows = λ place means. search rules;
+  cpu = refl;
+  keeps = refl;
+  stands = λ place means. means;
+  reads = refl;
+  once = none_read _ _ _ refl;
+  fewer = omega arith;
+  unread = λ none. (none_asked c.args.room.blanks.items none, refl);
+  quiet = refl;
+}
