@@ -526,53 +526,66 @@ fn try_logged<P: Port>(
     Several { steps, last }
 }
 
-/// Whether an attempt completed a step and sent no byte.
-#[inline(always)]
-fn is_silent(tried: Tried) -> bool
-    ensures step { result ≡ true → tried ≡ Tried.Step None }
-    ensures other { result ≡ false → tried ≡ Tried.Step None → ⊥ }
+/// [`work`] as a call of its own, for a transaction of one step.
+#[inline(never)]
+fn work_apart<P: Port>(
+    txn: &mut Txn<P>,
+    other: &mut Result<Flow, CutShort>,
+    scratch: &mut Scratch,
+) -> bool
+    requires { room_of_step ≤ room txn.old }
+    ensures exact { Does P.view part (came result other.new) txn.old txn.new }
+    ensures keeps { KeepsUnlessDone P.view P.since room_of_step
+        (came result other.new) txn.old txn.new }
+    ensures same { IsSame P.since txn.old txn.new }
+    ensures last { IsLast (came result other.new) }
+    ensures done { result ≡ is_done (came result other.new) }
 {
-    match tried {
-        Tried::Step(None) => true,
-        Tried::Step(Some(_)) => false,
-        Tried::Part(_) => false,
-        Tried::Absent(_) => false,
-        Tried::Ended(_) => false,
-        Tried::Event(_) => false,
-    }
+    work(txn, other, scratch)
 }
 
-/// Makes steps at once, on the registers, as long as that can be, and then one attempt at a step by a transaction. Where an interrupt is asked
-/// for, or the interval clock is on, all attempts are transactions.
+/// Makes an attempt at a step, and says whether it completed it and sent no byte. What else it came to is left in `last`: what an attempt
+/// comes to has a hundred bytes.
 #[inline(always)]
-fn try_some<P: Port>(
+fn try_apart<P: Port>(
     core: &mut Core,
     term: &mut Term,
     port: &mut P,
-    most: u64,
     log: &mut Log,
     scratch: &mut Scratch,
-) -> Several
+    last: &mut Tried,
+) -> bool
     requires unsent { term.old.out ≡ None }
-    requires some { 1 ≤ most }
-    ensures ran { (mid : Present) × Ran result.steps (seen P.view core.old term.old port.old) mid
-        × IsTried part_step mid result.last (seen P.view core.new term.new port.new) }
-    ensures few { result.steps < most }
+    requires silent { last.old ≡ Tried.Step None }
+    ensures silent { result ≡ true → last.new ≡ Tried.Step None }
+    ensures other { result ≡ false → last.new ≡ Tried.Step None → ⊥ }
+    ensures tried { IsTried part_step (seen P.view core.old term.old port.old) last.new
+        (seen P.view core.new term.new port.new) }
     ensures unsent { term.new.out ≡ None }
     ensures input { term.new.input ≡ term.old.input }
-    ensures clock { core.old.clock ≤ 999 → KeepsTime core.new.clock result.last }
-    ensures closed { NothingOpen core.old.psl → KeepsClosed core.new.psl result.last }
+    ensures clock { core.old.clock ≤ 999 → KeepsTime core.new.clock last.new }
+    ensures closed { NothingOpen core.old.psl → KeepsClosed core.new.psl last.new }
     ensures since { (start : P) → P.since start port.old → P.since start port.new }
 {
-    if !is_still(core) {
-        return try_logged(core, term, port, most, log, scratch);
+    let mut txn = Txn::begin(core, term, port, log);
+    let mut other = Ok(Flow::Done);
+    let done = work_apart(&mut txn, &mut other, scratch);
+    if !done {
+        *last = conclude(txn, other);
+        return false;
     }
-    let steps = vax_quick::run(core, term, port, most - 1);
-    let last = try_step(core, term, port, log, scratch);
-    Several { steps, last }
+    match txn.commit() {
+        None => true,
+        Some(byte) => {
+            *last = Tried::Step(Some(byte));
+            false
+        }
+    }
 }
 
-/// Makes at most `most` attempts at steps, up to the first that isn't completed at once or that sends a byte.
+/// Makes at most `most` attempts at steps, up to the first that isn't completed at once or that sends a byte. Where no interrupt is asked for
+/// and the interval clock is off, steps are made at once, on the registers, as long as that can be, and then one by a transaction. Else all
+/// attempts are transactions.
 pub(crate) fn try_steps<P: Port>(
     core: &mut Core,
     term: &mut Term,
@@ -593,18 +606,23 @@ pub(crate) fn try_steps<P: Port>(
     ensures closed { NothingOpen core.old.psl → KeepsClosed core.new.psl result.last }
     ensures since { (start : P) → P.since start port.old → P.since start port.new }
 {
+    let mut last = Tried::Step(None);
     let mut steps = 0;
-    loop {
-        let several = try_some(core, term, port, most - steps, log, scratch);
-        steps += several.steps;
-        let last = several.last;
+    while is_still(core) {
+        let quick = vax_quick::run(core, term, port, most - steps - 1);
+        steps += quick;
+        let silent = try_apart(core, term, port, log, scratch, &mut last);
         if steps + 1 == most {
             return Several { steps, last };
         }
-        let silent = is_silent(last);
         if !silent {
             return Several { steps, last };
         }
         steps += 1;
+    }
+    let several = try_logged(core, term, port, most - steps, log, scratch);
+    Several {
+        steps: steps + several.steps,
+        last: several.last,
     }
 }
