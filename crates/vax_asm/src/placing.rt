@@ -25,7 +25,7 @@ use vax_macro::{FaultKind, Line};
 use vax_space::NoMemory;
 
 /// What comes of a statement.
-pub(crate) enum Placed {
+pub enum Placed {
     Stands,
     /// A label that stands alone has this fault. All is as before, and its line may go on.
     FaultyLabel(FaultKind),
@@ -320,9 +320,14 @@ fn statement_of<'a>(tokens: &'a [Token]) -> Statement<'a>
     read_statement(tokens)
 }
 
-/// Carries out a statement, from what stands before it.
+/// Carries out a statement, from what stands before it. `assignments` are those that have no value yet. Behind a fault that ends
+/// the line some of the statement may have been carried out.
+///
+/// # Errors
+///
+/// [`NoMemory`] where memory is refused.
 #[tactic(auto, unfolding(crate::specs::Placing::placed))]
-pub(crate) fn place(
+pub fn place(
     standing: &mut Standing,
     assignments: &mut Vec<Assignment>,
     alloc: Global,

@@ -1,5 +1,6 @@
 pub mod Fitting
 pub mod Forming
+pub mod Listing
 pub mod Order
 pub mod Repeating
 pub mod Steps

@@ -81,7 +81,7 @@ pub record IsFound (s : Standing) (definitions : List Source) (m n : ℕ) (secti
 abbrev pub known_from : List Source → ℕ → ℕ → Known
 known_from sources count named = record { sources = sources; sections = count; externals = named }
 
-known_found : (s : Standing) (sources : List Source) (count named : ℕ) (seen : List (Section Fixed)) (texts : List (List ℕ))
+pub known_found : (s : Standing) (sources : List Source) (count named : ℕ) (seen : List (Section Fixed)) (texts : List (List ℕ))
     → IsFound s sources count named seen texts → known_from sources count named ≡ known_in s
 known_found s sources count named seen texts f = known_is s sources count named f.sources (f.count ∙ ap length f.seen) (f.named ∙ ap length f.texts)
 

@@ -90,7 +90,7 @@ pub(crate) fn fault_at(origin: Origin, kind: Option<FaultKind>) -> Option<Fault>
 }
 
 /// The fault of an assignment.
-fn fault_of(scope: &Scope, assignment: &Assignment) -> Option<Fault>
+pub(crate) fn fault_of(scope: &Scope, assignment: &Assignment) -> Option<Fault>
     ensures { result ≡ first_of (fault_at assignment.now.origin
         (kind_of (value_in (scope_of scope.now).sources (assignment_of assignment.now).written))) }
 {

@@ -49,7 +49,8 @@ fn place_behind(bytes: &[u8]) -> Result<u32, NoMemory>
     Ok(at as u32)
 }
 
-fn number_of(i: usize) -> Result<u32, NoMemory>
+/// A section's number.
+pub(crate) fn number_of(i: usize) -> Result<u32, NoMemory>
     ensures { IfOk result (λ number. number ≡ i) }
 {
     u32::try_from(i).map_err(|_| NoMemory)
@@ -136,7 +137,7 @@ impl Found {
     }
 
     /// Writes a part of a section.
-    fn write_piece(
+    pub(crate) fn write_piece(
         &mut self,
         out: &mut Vec<u8>,
         known: Known<'_>,

@@ -2,16 +2,18 @@
 //! values (VAX MACRO and Instruction Set Reference Manual, "VAX MACRO assembler directives").
 //!
 //! [`fill_in`] writes each section's bytes with its fields filled in, lists what the linker fills in, and finds the first of the
-//! faults that the whole source decides.
+//! faults that the whole source decides. [`all_faults`] lists all of these.
 #![tactic(auto)]
 
 mod contents;
 mod faults;
 mod fields;
 mod laying;
+mod lists;
 mod modules;
 mod types;
 
 pub use faults::earlier;
+pub use lists::all_faults;
 pub use modules::fill_in;
 pub use types::{Fault, FillError};

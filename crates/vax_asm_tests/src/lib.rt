@@ -4,6 +4,8 @@
 #[cfg(test)]
 mod asm;
 #[cfg(test)]
+mod check;
+#[cfg(test)]
 mod circles;
 #[cfg(test)]
 mod data;

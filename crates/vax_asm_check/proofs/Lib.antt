@@ -1,0 +1,4 @@
+pub mod Circling
+pub mod Going
+pub mod Restating
+pub mod Surveying

@@ -1,0 +1,73 @@
+use Rattle.std.proofs.Common.{◌≡◌, ◌++◌, List, [], length, map, ap, sym, subst, rules, ◌∙◌}
+use Rattle.std.proofs.lemmas.List.{length-map}
+use Rattle.std.specs.List.{cons_option}
+use Rattle.std.specs.Prelude.{None, Some}
+use Rattle.vax_asm.specs.Placing.{placed, waiting_in}
+use Rattle.vax_asm.specs.PlacingView.{IsPlaced}
+use Rattle.vax_asm.specs.Walk.{nothing}
+use Rattle.vax_asm_check.proofs.Going.{goes_faulty, goes_label, goes_stands, same_assembly}
+use Rattle.vax_asm_check.proofs.Restating.{kept_more, stands_again}
+use Rattle.vax_asm_check.specs.Restating.{restated}
+use Rattle.vax_asm_check.specs.View.{left_of, said_of}
+use Rattle.vax_asm_check.specs.declared.left.Stated.{Stated}
+use Rattle.vax_asm_faults.specs.Survey.{left_by, with_faults}
+use Rattle.vax_asm_first.specs.View.{assignment_of}
+use Rattle.vax_asm_second.specs.declared.types.Fault.{Fault}
+use Rattle.vax_asm_check.proofs.survey.Survey.carry_out.Goals as goal
+
+pub returns-in_ok-keep-in-Stands-clause-goes : goal.returns-in_ok-keep-in-Stands-clause-goes
+returns-in_ok-keep-in-Stands-clause-goes c =
+    let old = c.args.self.now in
+    let o = c.args.origin in
+    let text = c.args.said.text.items in
+    let a = left_of old.left in
+    let b = left_of (record { standing = c.place.new.standing; assignments = c.place.new.assignments }) in
+    let p = placed o text a.standing in
+    let is = subst (λ q. IsPlaced q a.standing b.standing a.assignments b.assignments p) c.in-Stands.is c.in_ok-placed.ensures in
+    let many : c.len-before.result ≡ length old.left.assignments.items = search rules in
+    let circle = c.in_ok-circle-in-Stands.ensures a.assignments (waiting_in p) (length-map old.left.assignments.items assignment_of ∙ sym many) (ap (map assignment_of) c.deref.ensures.value ∙ is.1) in
+    λ next. goes_stands o text a b old.ended old.faults.items (cons_option c.in_ok-circle-in-Stands.circle []) next c.requires.goes is.0 (stands_again p a b.standing b.assignments is.0 is.1) circle
+    ∙ ap (λ l. with_faults l (next b None)) (sym c.in_ok-add-in-Stands.ensures)
+
+pub returns-in_ok-keep-in-Stands-clause-kept : goal.returns-in_ok-keep-in-Stands-clause-kept
+returns-in_ok-keep-in-Stands-clause-kept c =
+    let old = c.args.self.now in
+    let o = c.args.origin in
+    let a = left_of old.left in
+    let b = left_of (record { standing = c.place.new.standing; assignments = c.place.new.assignments }) in
+    let p = placed o c.args.said.text.items a.standing in
+    let is = subst (λ q. IsPlaced q a.standing b.standing a.assignments b.assignments p) c.in-Stands.is c.in_ok-placed.ensures in
+    let s : Stated = record { origin = o; line = c.in_ok-line.line } in
+    ap (λ l. restated (map said_of l) nothing) c.in_ok-keep-in-Stands.ensures
+    ∙ kept_more old.stood.items s nothing a b c.requires.kept
+    (stands_again p a b.standing b.assignments is.0 is.1 ∙ ap (λ (t : List _). left_by (placed o t a.standing) a) (sym c.in_ok-line.ensures))
+
+pub returns-in_ok-add-in-FaultyLabel-clause-goes : goal.returns-in_ok-add-in-FaultyLabel-clause-goes
+returns-in_ok-add-in-FaultyLabel-clause-goes c =
+    let old = c.args.self.now in
+    let o = c.args.origin in
+    let text = c.args.said.text.items in
+    let a = left_of old.left in
+    let b = left_of (record { standing = c.place.new.standing; assignments = c.place.new.assignments }) in
+    let p = placed o text a.standing in
+    let is = subst (λ q. IsPlaced q a.standing b.standing a.assignments b.assignments p) c.in-FaultyLabel.is c.in_ok-placed.ensures in
+    λ next. goes_label o text a b old.ended old.faults.items c.in-FaultyLabel.kind next c.requires.goes is.0 (same_assembly a b.standing b.assignments is.1 is.2)
+    ∙ ap (λ l. with_faults l (next b None)) (sym c.in_ok-add-in-FaultyLabel.ensures)
+
+pub returns-in_ok-self-in-Faulty-clause-goes : goal.returns-in_ok-self-in-Faulty-clause-goes
+returns-in_ok-self-in-Faulty-clause-goes c =
+    let old = c.args.self.now in
+    let o = c.args.origin in
+    let text = c.args.said.text.items in
+    let a = left_of old.left in
+    let d = left_of (record { standing = c.place.new.standing; assignments = c.place.new.assignments }) in
+    let b = left_of c.in_ok-self-in-Faulty.field-0 in
+    let p = placed o text a.standing in
+    let is = subst (λ q. IsPlaced q a.standing d.standing a.assignments d.assignments p) c.in-Faulty.is c.in_ok-placed.ensures in
+    let many : c.len-before.result ≡ length old.left.assignments.items = search rules in
+    let told = cons_option c.in_ok-circle-in-Faulty.circle [] in
+    let circle = c.in_ok-circle-in-Faulty.ensures a.assignments (waiting_in p) (length-map old.left.assignments.items assignment_of ∙ sym many) (ap (map assignment_of) c.deref-in-Faulty.ensures.value ∙ is.1) in
+    let again : b ≡ a = c.in_ok-self-in-Faulty.ensures ∙ ap (λ l. restated (map said_of l) nothing) c.deref-in-Faulty-2.ensures.value ∙ c.requires.kept in
+    let all = c.in_ok-add-in-Faulty-2.ensures ∙ ap (λ (l : List Fault). l ++ told) c.in_ok-add-in-Faulty.ensures in
+    λ next. goes_faulty o text a b old.ended old.faults.items told c.in-Faulty.kind next c.requires.goes is.0 again circle
+    ∙ ap (λ l. with_faults l (next b (Some o.place))) (sym all)

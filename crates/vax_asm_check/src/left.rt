@@ -1,0 +1,87 @@
+// What statements leave, made once more.
+
+ghost use Rattle.std.specs.Prelude.{◌≡◌, IfOk, OnOk, map};
+ghost use Rattle.vax_asm.specs.Placing.{placed};
+ghost use Rattle.vax_asm.specs.Walk.{nothing};
+ghost use Rattle.vax_asm_check.specs.Restating.{restated};
+ghost use Rattle.vax_asm_check.specs.View.{left_of, said_of};
+ghost use Rattle.vax_asm_faults.specs.Survey.{left_by};
+
+use std::alloc::Global;
+use vax_asm::{Placed, place};
+use vax_asm_first::{Assignment, Origin, Standing};
+use vax_macro::Line;
+use vax_space::NoMemory;
+
+/// A statement that stands: where it comes from, and its line.
+#[derive(Drop)]
+pub(crate) struct Stated {
+    pub(crate) origin: Origin,
+    pub(crate) line: Line,
+}
+
+/// What statements leave.
+#[derive(Drop)]
+pub(crate) struct Left {
+    pub(crate) standing: Standing,
+    /// The assignments that have no value yet, in order.
+    pub(crate) assignments: Vec<Assignment>,
+}
+
+/// The same line once more.
+pub(crate) fn copied(alloc: Global, line: &Line) -> Result<Line, NoMemory>
+    ensures { IfOk result (λ l. l.text.items ≡ line.now.text.items) }
+{
+    let text = line.text.to_vec(alloc).map_err(|_| NoMemory)?;
+    let pieces = line.pieces.to_vec(alloc).map_err(|_| NoMemory)?;
+    Ok(Line {
+        number: line.number,
+        text,
+        pieces,
+    })
+}
+
+impl Left {
+    pub(crate) fn new(alloc: Global) -> Result<Left, NoMemory>
+        ensures { IfOk result (λ l. left_of l ≡ nothing) }
+    {
+        let standing = Standing::new(alloc)?;
+        Ok(Left {
+            standing,
+            assignments: Vec::new(alloc),
+        })
+    }
+
+    /// Carries out a statement once more.
+    #[tactic(auto, using(crate::proofs::Restating::stands_again))]
+    fn restate(&mut self, alloc: Global, stated: &Stated) -> Result<(), NoMemory>
+        ensures { OnOk result (left_of self.new
+            ≡ left_by (placed stated.now.origin stated.now.line.text.items (left_of self.old).standing)
+            (left_of self.old)) }
+    {
+        let line = copied(alloc, &stated.line)?;
+        match place(
+            &mut self.standing,
+            &mut self.assignments,
+            alloc,
+            stated.origin,
+            line,
+        )? {
+            Placed::Stands => Ok(()),
+            // What stood once stands again.
+            Placed::FaultyLabel(_) | Placed::Faulty(_) => Err(NoMemory),
+        }
+    }
+}
+
+/// What statements leave that stand one behind another from the first.
+#[tactic(auto, using(crate::proofs::Restating::one_restated, crate::proofs::Restating::all_restated))]
+pub(crate) fn restated(alloc: Global, stood: &[Stated]) -> Result<Left, NoMemory>
+    ensures { IfOk result (λ l. left_of l ≡ restated (map said_of stood.now) nothing) }
+{
+    let mut left = Left::new(alloc)?;
+    for stated in stood {
+        left.restate(alloc, stated)?;
+    }
+    Ok(left)
+}

@@ -1,0 +1,177 @@
+// The faults of statements one after another.
+
+ghost use Rattle.std.specs.Prelude.{◌≡◌, ◌++◌, ◌∷◌, [], IfOk, OnOk, false, map, option_map};
+ghost use Rattle.std.specs.List.{cons_option};
+ghost use Rattle.vax_asm.specs.Walk.{nothing};
+ghost use Rattle.vax_asm_check.specs.Listed.{in_order};
+ghost use Rattle.vax_asm_check.specs.Restating.{resumed};
+ghost use Rattle.vax_asm_check.specs.View.{left_of, GoesOn, IsKept};
+ghost use Rattle.vax_asm_faults.specs.Refusal.{faults_in};
+ghost use Rattle.vax_asm_faults.specs.Survey.{is_ended, with_faults};
+ghost use Rattle.vax_macro.specs.Expanders.{FaultIs, read_of, unclosed_of};
+ghost use Rattle.vax_macro.specs.Expansion.{AtEnd, Opened};
+ghost use Rattle.vax_macro.specs.View.{opening_of};
+
+use crate::circles::circle_fault;
+use crate::left::{Left, Stated, copied, restated};
+use std::alloc::Global;
+use vax_asm::{FaultKind, Placed, place};
+use vax_asm_first::Origin;
+use vax_asm_second::{Fault, all_faults};
+use vax_macro::{Begin, Expander, Line};
+use vax_space::NoMemory;
+
+/// What the statements without a fault leave, and these statements; the faults of the others, and the line that a fault
+/// ended.
+#[derive(Drop)]
+pub(crate) struct Survey {
+    pub(crate) left: Left,
+    pub(crate) stood: Vec<Stated>,
+    pub(crate) faults: Vec<Fault>,
+    pub(crate) ended: Option<u32>,
+}
+
+/// Whether the line with this place has ended.
+fn is_ended(ended: Option<u32>, place: u32) -> bool
+    ensures { result ≡ is_ended ended place }
+{
+    match ended {
+        None => false,
+        Some(ended) => ended == place,
+    }
+}
+
+/// Adds a fault, if there is one.
+fn add(list: &mut Vec<Fault>, fault: Option<Fault>) -> Result<(), NoMemory>
+    ensures { OnOk result (list.new.items ≡ list.old.items ++ cons_option fault []) }
+{
+    let Some(fault) = fault else {
+        return Ok(());
+    };
+    list.push(fault).map_err(|_| NoMemory)?;
+    Ok(())
+}
+
+/// Adds a statement that stands.
+fn keep(list: &mut Vec<Stated>, stated: Stated) -> Result<(), NoMemory>
+    ensures { OnOk result (list.new.items ≡ list.old.items ++ stated ∷ []) }
+{
+    list.push(stated).map_err(|_| NoMemory)?;
+    Ok(())
+}
+
+impl Survey {
+    pub(crate) fn new(alloc: Global) -> Result<Survey, NoMemory>
+        ensures left { IfOk result (λ s. left_of s.left ≡ nothing) }
+        ensures stood { IfOk result (λ s. s.stood.items ≡ []) }
+        ensures faults { IfOk result (λ s. s.faults.items ≡ []) }
+        ensures ended { IfOk result (λ s. s.ended ≡ None) }
+    {
+        let left = Left::new(alloc)?;
+        Ok(Survey {
+            left,
+            stood: Vec::new(alloc),
+            faults: Vec::new(alloc),
+            ended: None,
+        })
+    }
+
+    /// Carries out a statement of a line that goes on. Behind a fault stands what stood before, made once more from the
+    /// statements that stand.
+    fn carry_out(&mut self, alloc: Global, origin: Origin, said: Line) -> Result<(), NoMemory>
+        requires kept { IsKept self.old }
+        requires goes { is_ended self.old.ended origin.place ≡ false }
+        ensures goes { OnOk result (GoesOn origin said.text.items self.old self.new) }
+        ensures kept { OnOk result (IsKept self.new) }
+    {
+        let line = copied(alloc, &said)?;
+        let before = self.left.assignments.len();
+        let placed = place(
+            &mut self.left.standing,
+            &mut self.left.assignments,
+            alloc,
+            origin,
+            said,
+        )?;
+        match placed {
+            Placed::Stands => {
+                let circle = circle_fault(alloc, &self.left.assignments, before)?;
+                add(&mut self.faults, circle)?;
+                keep(&mut self.stood, Stated { origin, line })?;
+                self.ended = None;
+                Ok(())
+            }
+            Placed::FaultyLabel(kind) => {
+                add(&mut self.faults, Some(Fault { origin, kind }))?;
+                self.ended = None;
+                Ok(())
+            }
+            Placed::Faulty(kind) => {
+                let circle = circle_fault(alloc, &self.left.assignments, before)?;
+                add(&mut self.faults, Some(Fault { origin, kind }))?;
+                add(&mut self.faults, circle)?;
+                self.left = restated(alloc, &self.stood)?;
+                self.ended = Some(origin.place);
+                Ok(())
+            }
+        }
+    }
+
+    /// Goes on with a statement. What is left of a line that has ended is passed over.
+    pub(crate) fn state(
+        &mut self,
+        alloc: Global,
+        origin: Origin,
+        said: Line,
+    ) -> Result<(), NoMemory>
+        requires { IsKept self.old }
+        ensures goes { OnOk result (GoesOn origin said.text.items self.old self.new) }
+        ensures kept { OnOk result (IsKept self.new) }
+    {
+        if is_ended(self.ended, origin.place) {
+            return Ok(());
+        }
+        self.carry_out(alloc, origin, said)
+    }
+
+    /// All faults, once the source is read to its end.
+    pub(crate) fn end(self, alloc: Global, begin: Option<Begin>) -> Result<Vec<Fault>, NoMemory>
+        ensures { IfOk result (λ v. v.items ≡ in_order (faults_in (with_faults self.faults.items
+            (resumed (AtEnd (option_map opening_of begin)) (left_of self.left) self.ended)))) }
+    {
+        let Survey { left, faults, .. } = self;
+        let Left {
+            standing,
+            assignments,
+        } = left;
+        let mut faults = faults;
+        let more = all_faults(alloc, standing, &assignments, begin)?;
+        faults.extend_from_slice(&more).map_err(|_| NoMemory)?;
+        Ok(faults)
+    }
+
+    /// All faults, where the source ends with one that macros, repeats and conditions show, or with a begin without its end.
+    pub(crate) fn stop(
+        self,
+        alloc: Global,
+        expander: &Expander,
+        line: u32,
+        kind: FaultKind,
+    ) -> Result<Vec<Fault>, NoMemory>
+        ensures { (o : Opened) →
+            FaultIs (unclosed_of expander.now) (read_of expander.now) line kind o →
+            IfOk result (λ v. v.items ≡ in_order (faults_in (with_faults self.faults.items
+            (resumed o (left_of self.left) self.ended)))) }
+    {
+        if let Some(begin) = expander.open_begin() {
+            return self.end(alloc, Some(begin));
+        }
+        let place = expander.lines_read();
+        let origin = Origin { line, place };
+        let mut faults = self.faults;
+        if !is_ended(self.ended, place) {
+            add(&mut faults, Some(Fault { origin, kind }))?;
+        }
+        Ok(faults)
+    }
+}

@@ -1,0 +1,53 @@
+// A source from its first statement to its last.
+
+ghost use Rattle.std.specs.Prelude.{IfOk};
+ghost use Rattle.vax_asm_check.specs.Listed.{AreFirst, in_order};
+ghost use Rattle.vax_asm_faults.specs.Refusal.{faults_of};
+
+use crate::survey::Survey;
+use std::alloc::Global;
+use vax_asm_first::Origin;
+use vax_asm_scope::KnownNames;
+use vax_asm_second::Fault;
+use vax_macro::{Expander, MacroError};
+use vax_space::NoMemory;
+
+/// The faults of a source in MACRO-32, line by line, and then those that the whole of it decides. Once so many were found
+/// the rest of it isn't read.
+///
+/// Behind each fault the statements before it are carried out once more. So it takes the time of an assembly for each
+/// fault, and with the square of the assignments that have no value where they stand.
+///
+/// # Errors
+///
+/// [`NoMemory`] where memory is refused.
+pub fn faults(alloc: Global, source: &[u8], most: usize) -> Result<Vec<Fault>, NoMemory>
+    ensures { IfOk result (λ v. AreFirst most v.items (in_order (faults_of source.now))) }
+{
+    let mut expander = Expander::new(alloc, source)?;
+    let mut survey = Survey::new(alloc)?;
+    'statements: loop {
+        if survey.faults.len() >= most {
+            return Ok(survey.faults);
+        }
+        let here = survey.left.standing.here()?;
+        let names = KnownNames {
+            scope: &survey.left.standing.scope,
+            here,
+        };
+        match expander.next(&names) {
+            Ok(Some(said)) => {
+                let origin = Origin {
+                    line: said.number,
+                    place: expander.lines_read(),
+                };
+                survey.state(alloc, origin, said)?;
+            }
+            Ok(None) => return survey.end(alloc, None),
+            Err(MacroError::Fault { line, kind }) => {
+                return survey.stop(alloc, &expander, line, kind);
+            }
+            Err(MacroError::NoMemory) => return Err(NoMemory),
+        }
+    }
+}

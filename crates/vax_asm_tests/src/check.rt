@@ -1,0 +1,87 @@
+//! All faults of sources.
+use std::alloc::Global;
+use std::test::Fail;
+use vax_asm_check::*;
+use vax_asm_second::Fault;
+use vax_macro::FaultKind;
+
+/// Whether these are the lines of faults, with their kinds.
+fn are(faults: &[Fault], wanted: &[(u32, FaultKind)]) -> bool {
+    if faults.len() != wanted.len() {
+        return false;
+    }
+    for (fault, (line, kind)) in faults.iter().zip(wanted) {
+        if fault.origin.line != *line || fault.kind != *kind {
+            return false;
+        }
+    }
+    true
+}
+
+/// A source and its faults.
+#[derive(Clone, Copy)]
+struct Row<'a> {
+    source: &'a [u8],
+    wanted: &'a [(u32, FaultKind)],
+}
+
+#[test]
+fn all_faults_are_listed(rt: HostRuntime) -> Result<(), Fail> {
+    let alloc = rt.alloc();
+    let rows = [
+        Row {
+            source: b"S: HALT\n .END S\n",
+            wanted: &[],
+        },
+        // a label of a line with a fault isn't defined; of one line the lowest kind counts
+        Row {
+            source: b"A: MOVL R1 R2\nA: MOVL R1,R2\nA: MOVX R1\n HALT\n .FOO\n",
+            wanted: &[
+                (1, FaultKind::Count),
+                (3, FaultKind::UnknownOperator),
+                (5, FaultKind::UnknownOperator),
+            ],
+        },
+        // the lines' go before those that the whole source decides
+        Row {
+            source: b" BRB 1$\n .BYTE 256\nX = Y + 300\n .BYTE X\nY = 0\n",
+            wanted: &[
+                (2, FaultKind::Range),
+                (1, FaultKind::Undefined),
+                (4, FaultKind::Range),
+            ],
+        },
+        // circles, told where they close
+        Row {
+            source: b"A = B\nB = A\nC = C\nD = B\n",
+            wanted: &[(2, FaultKind::Form), (3, FaultKind::Form)],
+        },
+        // within an expansion, and behind it
+        Row {
+            source: b" .MACRO M X\n MOVL X\n CLRL X\n .ENDM\n M R1\n M R2\n HALT R1\n",
+            wanted: &[
+                (5, FaultKind::Count),
+                (6, FaultKind::Count),
+                (7, FaultKind::Count),
+            ],
+        },
+        // a begin without its end
+        Row {
+            source: b" HALT R1\n .IF DF X\n HALT\n",
+            wanted: &[(1, FaultKind::Count), (2, FaultKind::Nesting)],
+        },
+    ];
+    for row in &rows {
+        let found = faults(alloc, row.source, 100)?;
+        assert!(rt; are(&found, row.wanted));
+    }
+    Ok(())
+}
+
+#[test]
+fn no_more_are_looked_for(rt: HostRuntime) -> Result<(), Fail> {
+    let alloc = rt.alloc();
+    let found = faults(alloc, b" HALT R1\n HALT R2\n HALT R3\n", 2)?;
+    assert!(rt; are(&found, &[(1, FaultKind::Count), (2, FaultKind::Count)]));
+    Ok(())
+}
