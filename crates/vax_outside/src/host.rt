@@ -65,7 +65,10 @@ impl<R: rt::Files> HostFiles<R> {
     pub fn new(rt: R) -> HostFiles<R>
         ensures { result.faults ≡ no_failures }
     {
-        HostFiles { rt, faults: Failures::none() }
+        HostFiles {
+            rt,
+            faults: Failures::none(),
+        }
     }
 
     fn load(&self, alloc: Global, name: &str, limit: u32) -> Result<Vec<u8>, FilesFault>
