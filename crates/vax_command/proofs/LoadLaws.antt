@@ -1,5 +1,5 @@
 -- Files that are read one behind the other.
-use Rattle.std.proofs.Common.{◌≡◌, ℕ, List, [], ◌∷◌, ◌++◌, length, take, drop, Bool, Option, None, Some, is_some, unwrap_or, Result, Ok, Err, refl, sym, ap, subst, ◌∙◌, append-nil, append_assoc, IsErrAnd, IfErr, arith, ◌+◌, ◌<◌, get_or, add-one, drop-cons, true, if◌then◌else◌}
+use Rattle.std.proofs.Common.{◌≡◌, ℕ, List, [], ◌∷◌, ◌++◌, length, take, drop, Bool, Option, None, Some, is_some, unwrap_or, Result, Ok, Err, refl, sym, ap, subst, ◌∙◌, append-nil, append_assoc, IsErrAnd, IfErr, ◌+◌, ◌<◌, get_or, add-one, drop-cons, true, if◌then◌else◌}
 use Rattle.std.proofs.lemmas.List.{map-append, take-append-drop}
 use Rattle.std.specs.Borrow.{Bor}
 use Rattle.std.specs.Global.{Vec}
