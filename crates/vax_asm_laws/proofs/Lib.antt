@@ -7,3 +7,4 @@ pub mod Laying
 pub mod Lying
 pub mod Walking
 mod Solving
+mod Lasting

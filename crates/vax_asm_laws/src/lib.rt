@@ -11,7 +11,7 @@ ghost use Rattle.vax_asm_laws.specs.Counted.{AreCounted, Keeps};
 ghost use Rattle.vax_asm_laws.specs.Leading.{Halves, IsOf, IsStated, LeadsOn, LiesBehind, Line, place_in};
 ghost use Rattle.vax_asm_laws.specs.Lying.{Held, IsIn, MayAllStand, StandsAt, place_of};
 ghost use Rattle.vax_asm_second.specs.Modules.{known_in};
-ghost use Rattle.vax_asm_laws.specs.Solving.{AreIn, Solve};
+ghost use Rattle.vax_asm_laws.specs.Solving.{AreIn, Solve, Stay};
 ghost use Rattle.vax_asm_values.specs.Values.{Source, value_of};
 ghost use Rattle.vax_lex.specs.declared.value.Value.{Value};
 
@@ -43,8 +43,8 @@ pub fn labels_name_what_stands_behind()
 /// Each part of a section stands in the module at the place that was counted for it. The linker fills in the fields that the part leaves, and
 /// no other field has one of its bytes.
 pub fn parts_stand_where_they_were_counted()
-    ensures { (halves : Halves) (m : Module) (i : ℕ) (section : Section) (part : Held) → IsOf halves m →
-        i < length halves.end.standing.sections.all → slice_get m.sections i ≡ Some section →
+    ensures { (halves : Halves) (m : Module) (i : ℕ) (section : Section) (part : Held) →
+        IsOf halves m → i < length halves.end.standing.sections.all → slice_get m.sections i ≡ Some section →
         IsIn i halves.end.standing.sections part →
         StandsAt (known_in halves.end.standing) i (place_of part) part.part section m.relocs }
 {}
@@ -55,4 +55,11 @@ pub fn values_solve_definitions()
     ensures solve { (sources : List Source) → Solve (value_of sources) sources }
     ensures fewest { (sources : List Source) (others : ℕ → Option Value) →
         Solve others sources → AreIn (value_of sources) others }
+{}
+
+/// Statements leave each definition that isn't to come any more as it is, up to the end of the source. So an assigned name is worth in the end what
+/// its expression is.
+pub fn definitions_stay()
+    ensures { (halves : Halves) (m : Module) → IsOf halves m →
+        Stay halves.middle.standing.scope.sources (known_in halves.end.standing).sources }
 {}

@@ -11,6 +11,8 @@ fn a_label_names_the_bytes_behind_it(rt: HostRuntime) -> Result<(), Fail> {
     modules_have_what_was_counted();
     labels_name_what_stands_behind();
     parts_stand_where_they_were_counted();
+    values_solve_definitions();
+    definitions_stay();
     let source = b".BYTE 1[3]\nMOVL #64,LATER\n.ALIGN LONG\nX:: .ASCII /here/\nLATER: .LONG E\n";
     let module = assemble(alloc, source.as_slice())?;
     let globals = module.globals.as_slice();
