@@ -21,22 +21,25 @@ ghost use Rattle.vax_module.specs.declared.Symbol.{Symbol};
 /// Each byte of a module's section stands in the image at the section's address plus its place: the module's own, or one of a field that the
 /// linker fills in.
 pub fn sections_stand_at_their_addresses()
-    ensures own { (region : Base) → (modules : List Module) → (image : Image)
-        → (owner number place : ℕ) → (s : Section) →
+    ensures own { (region : Base) → (modules : List Module) → (image : Image) →
+        (owner number place : ℕ) → (s : Section) →
         All Formed modules → linked region modules ≡ Ok image → HasSection modules owner number s →
         place < length s.bytes → IsOwn modules owner number place →
-        Holds image (section_address region modules owner number + place) (slice_index s.bytes place) }
-    ensures fields { (region : Base) → (modules : List Module) → (image : Image) → (owner place : ℕ)
-        → (r : Reloc) →
-        All Formed modules → linked region modules ≡ Ok image → HasField modules owner r → place < width_of r.kind →
+        Holds image (section_address region modules owner number + place)
+        (slice_index s.bytes place) }
+    ensures fields { (region : Base) → (modules : List Module) → (image : Image) →
+        (owner place : ℕ) → (r : Reloc) →
+        All Formed modules → linked region modules ≡ Ok image → HasField modules owner r →
+        place < width_of r.kind →
         Holds image (section_address region modules owner r.section + r.offset + place)
-        (slice_index (little_bytes (width_of r.kind) (field_content region modules owner r)) place) }
+        (slice_index (little_bytes (width_of r.kind)
+        (field_content region modules owner r)) place) }
 {}
 
 /// Where a processor reads a field that the linker filled in, it finds what the field's target is worth. A displacement leads there from behind the field.
 pub fn fields_lead_to_their_targets()
-    ensures { (region : Base) → (modules : List Module) → (image : Image) → (owner : ℕ)
-        → (r : Reloc) →
+    ensures { (region : Base) → (modules : List Module) → (image : Image) →
+        (owner : ℕ) → (r : Reloc) →
         All Formed modules → linked region modules ≡ Ok image → HasField modules owner r →
         leads_to image r.kind (section_address region modules owner r.section + r.offset)
         ≡ value_of region modules owner r.target }
@@ -44,9 +47,9 @@ pub fn fields_lead_to_their_targets()
 
 /// Two modules' sections, or two of one module, have no address in common.
 pub fn sections_lie_apart()
-    ensures { (region : Base) → (modules : List Module) → (image : Image)
-        → (owner number other index : ℕ) → (s t : Section) →
-        linked region modules ≡ Ok image → HasSection modules owner number s → HasSection modules other index t →
+    ensures { (region : Base) → (modules : List Module) → (image : Image) →
+        (owner number other index : ℕ) → (s t : Section) → linked region modules ≡ Ok image →
+        HasSection modules owner number s → HasSection modules other index t →
         0 < length s.bytes → 0 < length t.bytes → AreOthers owner number other index →
         LieApart (section_address region modules owner number) (length s.bytes)
         (section_address region modules other index) (length t.bytes) }
@@ -54,14 +57,17 @@ pub fn sections_lie_apart()
 
 /// A name that a module defines in one of its sections leads to the byte that the module put there.
 pub fn names_lead_to_their_bytes()
-    ensures value { (region : Base) → (modules : List Module) → (image : Image) → (owner number : ℕ)
-        → (place : ℤ) → (g : Symbol) →
-        linked region modules ≡ Ok image → HasName modules owner g → g.value ≡ InSection number place →
-        name_value region modules g.name ≡ plus (section_address region modules owner number) (low_longword place) }
-    ensures byte { (region : Base) → (modules : List Module) → (image : Image)
-        → (owner number place : ℕ) → (at : ℤ) →
+    ensures value { (region : Base) → (modules : List Module) → (image : Image) →
+        (owner number : ℕ) → (place : ℤ) → (g : Symbol) → linked region modules ≡ Ok image →
+        HasName modules owner g → g.value ≡ InSection number place →
+        name_value region modules g.name
+        ≡ plus (section_address region modules owner number) (low_longword place) }
+    ensures byte { (region : Base) → (modules : List Module) → (image : Image) →
+        (owner number place : ℕ) → (at : ℤ) →
         (g : Symbol) → (s : Section) →
-        All Formed modules → linked region modules ≡ Ok image → HasName modules owner g → g.value ≡ InSection number at →
-        low_longword at ≡ place → HasSection modules owner number s → place < length s.bytes → IsOwn modules owner number place →
+        All Formed modules → linked region modules ≡ Ok image →
+        HasName modules owner g → g.value ≡ InSection number at → low_longword at ≡ place →
+        HasSection modules owner number s → place < length s.bytes →
+        IsOwn modules owner number place →
         Holds image (name_value region modules g.name) (slice_index s.bytes place) }
 {}
