@@ -67,14 +67,15 @@ pub fn sources_of_listings_give_their_bytes()
 /// Such a source assembles, where the bytes fit a section.
 pub fn listings_assemble()
     ensures { (source bytes : List ℕ) (address : ℕ) →
-        AreBytes bytes → length bytes ≤ section_limit → IsSourceOf source (rows_from 0 address bytes) →
-        Assembles source }
+        AreBytes bytes → length bytes ≤ section_limit →
+        IsSourceOf source (rows_from 0 address bytes) → Assembles source }
 {}
 
 /// Every instruction that is assembled is listed at each address, whatever numbers its fields come to hold.
 pub fn instructions_are_listed()
     ensures { (i : Instruction) (before after : Section Fixup) →
-        (has : HasInstruction (row_of i) before after) → (held : List Held) (rest : List ℕ) (address : ℕ) →
+        (has : HasInstruction (row_of i) before after) →
+        (held : List Held) (rest : List ℕ) (address : ℕ) →
         AreHeld has.operands held → with_opcode i.opcode ≡ Some i →
         listed (instruction_bytes i.opcode held ++ rest) address
         ≡ Some (listing address i (sequence_of held)) }
