@@ -44,8 +44,8 @@ pub fn labels_name_what_stands_behind()
 /// no other field has one of its bytes.
 pub fn parts_stand_where_they_were_counted()
     ensures { (halves : Halves) (m : Module) (i : ℕ) (section : Section) (part : Held) →
-        IsOf halves m → i < length halves.end.standing.sections.all → slice_get m.sections i ≡ Some section →
-        IsIn i halves.end.standing.sections part →
+        IsOf halves m → i < length halves.end.standing.sections.all →
+        slice_get m.sections i ≡ Some section → IsIn i halves.end.standing.sections part →
         StandsAt (known_in halves.end.standing) i (place_of part) part.part section m.relocs }
 {}
 
