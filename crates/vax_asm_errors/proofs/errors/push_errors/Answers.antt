@@ -1,0 +1,15 @@
+use Rattle.std.proofs.Common.{◌≡◌, ◌++◌, length, ap, rules, ◌∙◌}
+use Rattle.std.specs.List.{flat_map}
+use Rattle.vax_asm_errors.proofs.Listing.{all_added}
+use Rattle.vax_asm_errors.specs.Errors.{error}
+use Rattle.vax_asm_errors.proofs.errors.push_errors.Goals as goal
+
+pub returns : goal.returns
+returns c =
+    let name = c.args.source.name.now in
+    let source = c.args.source.text.now in
+    let found = c.in_ok-found.found.items in
+    let before = c.args.out.now.items in
+    let many : c.len.result ≡ length found = search rules in
+    all_added c.push_ending.result name source found c.len.result before c.push_each.new.out.items c.push_ending.new.out.items c.in_ok-found.ensures
+    (c.in_ok-push_each.ensures ∙ ap (λ l. before ++ flat_map (error name source) l) c.deref.ensures.value) many c.push_ending.ensures

@@ -1,0 +1,72 @@
+-- The errors of a source as text.
+use Rattle.std.specs.Prelude.{◌≡◌, ℕ, suc, ◌+◌, ◌-◌, Bool, ◌==◌, ◌&&◌, ◌||◌, not, nat_le, nat_lt, if◌then◌else◌, List, [], ◌∷◌, ◌++◌, length, map, take, codes, decimal}
+use Rattle.std.specs.List.{flat_map, position_or_len}
+use Rattle.vax_asm_check.specs.Listed.{AreFirst, in_order}
+use Rattle.vax_asm_faults.specs.Refusal.{faults_of}
+use Rattle.vax_asm_second.specs.declared.types.Fault.{Fault}
+use Rattle.vax_lines.specs.Lines.{Text, lines}
+use Rattle.vax_macro.specs.Fault.{code_of}
+use Rattle.vax_macro.specs.declared.error.FaultKind.{FaultKind}
+use Rattle.vax_macro.specs.declared.error.FaultKind.TheVariants as fault
+
+-- what is wrong
+unfoldable pub message : FaultKind → Text
+message fault.Token = codes "a byte belongs to no token, or the line is too long"
+message fault.UnknownOperator = codes "no instruction, directive or macro has this name, or `.` is assigned to"
+message fault.Count = codes "too few or too many operands, or a comma is missing"
+message fault.Form = codes "an operand or an expression has no form that may stand here"
+message fault.Undefined = codes "a name has no value here, or its block has no such local label"
+message fault.Duplicate = codes "a name is defined twice"
+message fault.Range = codes "a number or a distance is out of range"
+message fault.Nesting = codes "a begin has no end, or an end no begin"
+message fault.Depth = codes "macros, repeats or conditions stand in each other more than 64 deep"
+message fault.Lines = codes "more than 100,000 lines with those of expansions"
+message fault.Large = codes "a section or the module is too long"
+
+-- the line with a number that counts from 1
+unfoldable pub line_at : ℕ → List Text → Text
+line_at n [] = []
+line_at n (line ∷ more) = if nat_le n 1 then line else line_at (n - 1) more
+
+-- neither a blank nor a tab
+abbrev pub is_text : ℕ → Bool
+is_text b = not (b == 32) && not (b == 9)
+
+-- how many blanks and tabs stand before the text of a line
+abbrev pub indent : Text → ℕ
+indent line = position_or_len is_text line
+
+-- a mark stands for a byte that isn't printable
+abbrev pub shown : ℕ → ℕ
+shown b = if (b == 9) || (nat_le 32 b && nat_lt b 127) then b else 63
+
+-- a line as it is shown, of a long one the front
+abbrev pub shown_line : Text → Text
+shown_line line = map shown (take 160 line)
+
+-- where an error stands
+unfoldable pub place : Text → (line column : ℕ) → Text
+place name line column = name ++ codes ":" ++ decimal line ++ codes ":" ++ decimal column ++ codes ": error: "
+
+-- a line, and a mark below a column of it
+unfoldable pub mark : Text → (column : ℕ) → Text
+mark line column = shown_line line ++ codes "\n" ++ shown_line (take column line) ++ codes "^\n"
+
+-- an error: its place, kind and text, the line, and a mark below where its text begins
+unfoldable pub error : (name source : Text) → Fault → Text
+error name source f =
+    let line = line_at f.origin.line (lines source) in
+    place name f.origin.line (indent line + 1) ++ decimal (code_of f.kind) ++ codes ": " ++ message f.kind ++ codes "\n" ++ mark line (indent line)
+
+-- a hundred faults are told at most
+unfoldable pub ending : Text → ℕ → Text
+ending name count = if nat_lt count 100 then [] else name ++ codes ": error: the rest of this file isn't checked\n"
+
+abbrev pub errors : (name source : Text) → List Fault → Text
+errors name source faults = flat_map (error name source) faults ++ ending name (length faults)
+
+-- The errors of a source were added: those of its first hundred faults, or of all.
+pub record IsErrors (name source before after : Text) : Type 0 where
+  pub faults : List Fault
+  pub first : AreFirst 100 faults (in_order (faults_of source))
+  pub text : after ≡ before ++ errors name source faults
