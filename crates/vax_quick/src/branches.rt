@@ -1,4 +1,4 @@
-//! The commonest branches and loops, each with its condition and size as constants.
+//! The commonest branches, loops and calls, each with its condition and size as constants.
 ghost use Rattle.vax_undo.specs.Transaction.{seen};
 ghost use Rattle.vax_quick.specs.Made.{IsSeen, Leaves, MakesOrStays, made_by};
 
