@@ -1,0 +1,71 @@
+"""Reads test vectors, one JSON object a line, from standard input. Checks of each that it agrees with itself, and counts by
+instruction what the vectors reach: endings, condition codes, and vectors of the system control block."""
+import collections
+import json
+import sys
+
+SCB = 0x80000000
+
+
+def replayed(vector):
+    """The bytes that the accesses leave, where each read gives what is there."""
+    memory = dict(map(tuple, vector["initial"]["ram"]))
+    touched = {}
+    for way, address, length, data in vector["accesses"]:
+        assert length == len(data) and way in "rw"
+        for k, byte in enumerate(data):
+            place = (address + k) % 2**32
+            if way == "r":
+                assert memory.get(place, 0) == byte
+            memory[place] = touched[place] = byte
+    return touched
+
+
+def pages(vector):
+    """The pages of the accesses, each once, in order."""
+    order = []
+    for _, address, length, _ in vector["accesses"]:
+        for k in range(length):
+            page = (address + k) % 2**32 // 512 * 512
+            if page not in order:
+                order.append(page)
+    return order
+
+
+def check(vector):
+    first, last, ends = vector["initial"], vector["final"], vector["ends"]
+    assert all(a < b for (a, _), (b, _) in zip(last["ram"], last["ram"][1:]))
+    if ends[0] in ("step", "part"):
+        assert sorted(replayed(vector).items()) == list(map(tuple, last["ram"]))
+        assert pages(vector) == vector["touched"]
+        assert not set(vector["touched"]) & set(first["absent"])
+    else:
+        assert not vector["accesses"] and not last["ram"]
+        assert all(first[name] == last[name] for name in ("regs", "psl", "stacks", "sisr", "iccs", "clock"))
+    if ends[0] == "absent":
+        assert next(page for page in vector["touched"] if page in first["absent"]) == ends[1]
+
+
+def main():
+    kinds = collections.defaultdict(collections.Counter)
+    codes = collections.defaultdict(set)
+    causes = collections.defaultdict(set)
+    count = 0
+    for line in sys.stdin:
+        vector = json.loads(line)
+        check(vector)
+        count += 1
+        name = vector["name"].split()[0]
+        kinds[name][vector["ends"][0]] += 1
+        if vector["ends"][0] == "step":
+            taken = {a - SCB for way, a, n, _ in vector["accesses"] if way == "r" and n == 4 and SCB <= a < SCB + 512}
+            causes[name] |= taken
+            if not taken:
+                codes[name].add(vector["final"]["psl"] & 15)
+    print(count, "vectors agree with themselves")
+    for name in sorted(kinds):
+        ends = " ".join(f"{kind} {n}" for kind, n in sorted(kinds[name].items()))
+        print(f"{name}: {ends}; codes {len(codes[name])}; vectors {' '.join(f'{c:02X}' for c in sorted(causes[name]))}")
+
+
+main()
