@@ -1,0 +1,5 @@
+mod Streaming
+mod Loops
+mod Filling
+mod SavingLaws
+mod RestoringLaws

@@ -1,0 +1,98 @@
+-- Bytes on their way to Record.
+use Rattle.std.proofs.Common.{◌≡◌, ℕ, List, [], ◌++◌, append_assoc, append-nil, Option, refl, sym, ap, subst, ◌∙◌}
+use Rattle.vax_outside.specs.Channels.{Channels, Grew, GrewByPrefix, only}
+use Rattle.vax_outside.specs.declared.traits.Chan.TheVariants.{Record}
+use Rattle.vax_outside.proofs.Growth.{grew_nothing, prefix_stays, prefix_within, record_grew}
+use Rattle.vax_save.specs.Stream.{Cuts, IsBetween, Leaves, Puts, Stream, stream}
+
+-- nothing was written, and all is still to come
+pub begun : (whole : List ℕ) (old : Option Channels) → IsBetween whole old (stream old []) (whole ++ [])
+begun whole old = record { sent = []; is = append-nil whole; wrote = grew_nothing old }
+
+-- what was held back was written
+pub written : (held new : List ℕ) (mid now : Option Channels) → new ≡ [] → Grew mid now (only Record held) → Puts [] (stream mid held) (stream now new)
+written held new mid now n g whole rest first b = record {
+  sent = b.sent ++ held;
+  is = append_assoc b.sent held (new ++ rest) ∙ (ap (λ (z : List ℕ). b.sent ++ (held ++ (z ++ rest))) n ∙ b.is);
+  wrote = record_grew first mid now b.sent held b.wrote g;
+}
+
+-- more is held back
+pub held_more : (held new bytes : List ℕ) (now : Option Channels) → new ≡ held ++ bytes → Puts bytes (stream now held) (stream now new)
+held_more held new bytes now n whole rest first b = record {
+  sent = b.sent;
+  is = ap (λ (z : List ℕ). b.sent ++ z) (ap (λ (z : List ℕ). z ++ rest) n ∙ append_assoc held bytes rest) ∙ b.is;
+  wrote = b.wrote;
+}
+
+-- bytes were written behind all that was held back
+pub passed : (held bytes : List ℕ) (mid now : Option Channels) → held ≡ [] → Grew mid now (only Record bytes) → Puts bytes (stream mid held) (stream now held)
+passed held bytes mid now none g whole rest first b = record {
+  sent = b.sent ++ bytes;
+  is = append_assoc b.sent bytes (held ++ rest) ∙ (ap (λ (z : List ℕ). b.sent ++ (bytes ++ (z ++ rest))) none ∙ (ap (λ (z : List ℕ). b.sent ++ (z ++ (bytes ++ rest))) (sym none) ∙ b.is));
+  wrote = record_grew first mid now b.sent bytes b.wrote g;
+}
+
+-- a write of what was held back failed
+pub lost : (held bytes : List ℕ) (mid now : Option Channels) → GrewByPrefix mid now (only Record held) → Cuts bytes (stream mid held) now
+lost held bytes mid now g whole rest first b = prefix_within first mid now Record b.sent held (bytes ++ rest) whole b.is b.wrote g
+
+-- a write behind all that was held back failed
+pub passed_short : (held bytes : List ℕ) (mid now : Option Channels) → held ≡ [] → GrewByPrefix mid now (only Record bytes) → Cuts bytes (stream mid held) now
+passed_short held bytes mid now none g whole rest first b =
+    prefix_within first mid now Record b.sent bytes rest whole (ap (λ (z : List ℕ). b.sent ++ (z ++ (bytes ++ rest))) (sym none) ∙ b.is) b.wrote g
+
+-- nothing more is written
+pub given_up : (bytes : List ℕ) (s : Stream) → Cuts bytes s s.channels
+given_up bytes s whole rest first b = prefix_stays first s.channels s.channels Record b.sent (s.held ++ (bytes ++ rest)) whole b.is b.wrote refl
+
+-- one behind the other
+pub puts_then : (a b : List ℕ) (s t u : Stream) → Puts a s t → Puts b t u → Puts (a ++ b) s u
+puts_then a b s t u p q whole rest first h = q whole rest first (p whole (b ++ rest) first (subst (IsBetween whole first s) (append_assoc a b rest) h))
+
+pub cuts_then : (a b : List ℕ) (s t : Stream) (now : Option Channels) → Puts a s t → Cuts b t now → Cuts (a ++ b) s now
+cuts_then a b s t now p q whole rest first h = q whole rest first (p whole (b ++ rest) first (subst (IsBetween whole first s) (append_assoc a b rest) h))
+
+pub cuts_first : (a b : List ℕ) (s : Stream) (now : Option Channels) → Cuts a s now → Cuts (a ++ b) s now
+cuts_first a b s now p whole rest first h = p whole (b ++ rest) first (subst (IsBetween whole first s) (append_assoc a b rest) h)
+
+pub puts_nothing : (s : Stream) → Puts [] s s
+puts_nothing s whole rest first h = h
+
+-- in a loop: the next of the bytes that are left
+pub leaves_next : (all field left : List ℕ) (s t u : Stream) → Leaves all (field ++ left) s t → Puts field t u → Leaves all left s u
+leaves_next all field left s t u p q whole rest first h =
+    q whole (left ++ rest) first (subst (IsBetween whole first t) (append_assoc field left rest) (p whole rest first h))
+
+pub cuts_next : (all field left : List ℕ) (s t : Stream) (now : Option Channels) → Leaves all (field ++ left) s t → Cuts field t now → Cuts all s now
+cuts_next all field left s t now p q whole rest first h =
+    q whole (left ++ rest) first (subst (IsBetween whole first t) (append_assoc field left rest) (p whole rest first h))
+
+-- all was written
+pub finished : (whole : List ℕ) (old mid now : Option Channels) (held : List ℕ) → IsBetween whole old (stream mid held) [] → Grew mid now (only Record held) → Grew old now (only Record whole)
+finished whole old mid now held b g =
+    subst (λ (z : List ℕ). Grew old now (only Record z)) (ap (λ (z : List ℕ). b.sent ++ z) (sym (append-nil held)) ∙ b.is) (record_grew old mid now b.sent held b.wrote g)
+
+pub cut_short : (whole : List ℕ) (old mid now : Option Channels) (held : List ℕ) → IsBetween whole old (stream mid held) [] → GrewByPrefix mid now (only Record held) → GrewByPrefix old now (only Record whole)
+cut_short whole old mid now held b g = prefix_within old mid now Record b.sent held [] whole b.is b.wrote g
+
+-- the first of bytes was put, and the others are left
+pub leaves_first : (a b : List ℕ) (s t : Stream) → Puts a s t → Leaves (a ++ b) b s t
+leaves_first a b s t p whole rest first h = p whole (b ++ rest) first (subst (IsBetween whole first s) (append_assoc a b rest) h)
+
+pub leaves_same : (a : List ℕ) (s : Stream) → Leaves a a s s
+leaves_same a s whole rest first h = h
+
+-- a whole from its beginning
+
+start_of : (whole held : List ℕ) (old : Option Channels) → held ≡ [] → IsBetween whole old (stream old held) (whole ++ [])
+start_of whole held old none = subst (λ (z : List ℕ). IsBetween whole old (stream old z) (whole ++ [])) (sym none) (begun whole old)
+
+pub whole_cut : (whole held : List ℕ) (old now : Option Channels) → held ≡ [] → Cuts whole (stream old held) now → GrewByPrefix old now (only Record whole)
+whole_cut whole held old now none p = p whole [] old (start_of whole held old none)
+
+pub whole_put : (whole held : List ℕ) (old now : Option Channels) (s : Stream) → held ≡ [] → Puts whole (stream old held) s → Grew s.channels now (only Record s.held) → Grew old now (only Record whole)
+whole_put whole held old now s none p g = finished whole old s.channels now s.held (p whole [] old (start_of whole held old none)) g
+
+pub whole_lost : (whole held : List ℕ) (old now : Option Channels) (s : Stream) → held ≡ [] → Puts whole (stream old held) s → GrewByPrefix s.channels now (only Record s.held) → GrewByPrefix old now (only Record whole)
+whole_lost whole held old now s none p g = cut_short whole old s.channels now s.held (p whole [] old (start_of whole held old none)) g

@@ -1,0 +1,10 @@
+use Rattle.std.proofs.Common.{◌≡◌, ◌∙◌, ◌++◌, List, ℕ, ap, subst}
+use Rattle.std.proofs.lemmas.Result.{on_err_weaker}
+use Rattle.vax_save.specs.Saved.{longword}
+use Rattle.vax_save.specs.Stream.{Cuts, stream}
+use Rattle.vax_save.proofs.saving.put_longword.Goals as goal
+
+pub returns-clause-cut : goal.returns-clause-cut
+returns-clause-cut g c =
+    let all : c.deref.result.now ≡ longword c.args.n = c.deref.ensures.0 ∙ (c.push_longword.ensures.exact ∙ ap (λ (z : List ℕ). z ++ longword c.args.n) c.new-fields.ensures) in
+    on_err_weaker c.put.result (λ h. subst (λ (z : List ℕ). Cuts z (stream (g.K.Sink.contents c.args.sink.now) c.args.held.now.items) (g.K.Sink.contents c.put.new.sink)) all h) c.put.ensures.cut
