@@ -16,6 +16,6 @@ invariant-loop-count g l = record {
       Leaves (flat_map (page_field (machine_at place).memory) (range_with_len l.extent.first l.extent.pages))
       (flat_map (page_field (machine_at place).memory) (range_with_len (l.extent.first + l.count) (l.extent.pages - l.count)))
       (stream (g.K.Sink.contents l.fn.sink) l.fn.held.items) (stream (g.K.Sink.contents l.sink) l.held.items);
-  unread : g.F.PageFile.faults l.file ≡ g.F.PageFile.faults l.fn.file;
-  quiet : g.K.Sink.faults l.sink ≡ g.K.Sink.faults l.fn.sink;
+  unread : (g.F.PageFile.faults l.file).count ≡ (g.F.PageFile.faults l.fn.file).count;
+  quiet : (g.K.Sink.faults l.sink).count ≡ (g.K.Sink.faults l.fn.sink).count;
 }

@@ -18,6 +18,6 @@ invariant-loop-i g l = record {
       (flat_map (page_field (machine_at place).memory) (flat_map pages_of (drop l.i (keeping (engine l.fn.machine)).areas)))
       (stream (g.K.Sink.contents l.fn.sink) l.fn.held.items) (stream (g.K.Sink.contents l.sink) l.held.items);
   total : l.count ≡ length (keeping (engine l.fn.machine)).areas;
-  unread : g.F.PageFile.faults l.file ≡ g.F.PageFile.faults l.fn.file;
-  quiet : g.K.Sink.faults l.sink ≡ g.K.Sink.faults l.fn.sink;
+  unread : (g.F.PageFile.faults l.file).count ≡ (g.F.PageFile.faults l.fn.file).count;
+  quiet : (g.K.Sink.faults l.sink).count ≡ (g.K.Sink.faults l.fn.sink).count;
 }
