@@ -109,9 +109,9 @@ fn bytes_at(alloc: Global, module: &Module, addr: u32) -> Result<Vec<u8>, Fail> 
             .wrapping_add(u32::from(width));
         let distance = target.wrapping_sub(past).to_le_bytes();
         for (place, byte) in distance.iter().enumerate() {
-            let at = u64::from(reloc.offset).wrapping_add(place as u64);
-            if let Some(field) = out.get_mut(at as usize)
-                && (place as u64) < u64::from(width)
+            let at = (reloc.offset as usize).wrapping_add(place);
+            if let Some(field) = out.get_mut(at)
+                && place < width as usize
             {
                 *field = *byte;
             }
