@@ -1,9 +1,8 @@
 -- Lines, a byte at a time.
-use Rattle.std.proofs.Common.{◌≡◌, ◌<◌, ◌≤◌, ◌+◌, ℕ, zero, suc, add-one, Bool, true, false, cond, List, [], ◌∷◌, ◌++◌, length, map, drop, append-nil, append_assoc, sym, ap, ◌∙◌, drop-cons, arith}
+use Rattle.std.proofs.Common.{◌≡◌, ◌<◌, ◌≤◌, ◌+◌, ℕ, suc, add-one, List, [], ◌∷◌, ◌++◌, length, map, drop, append-nil, append_assoc, sym, ap, ◌∙◌, drop-cons}
 use Rattle.std.proofs.lemmas.List.{drop_all}
-use Rattle.std.specs.List.{position_or_len}
 use Rattle.std.specs.Prelude.{slice_index_or}
-use Rattle.vax_asm_errors.specs.Errors.{is_text, shown}
+use Rattle.vax_asm_errors.specs.Errors.{shown}
 
 here : (bytes : List ℕ) (i b : ℕ) → i < length bytes → b ≡ slice_index_or bytes i b → drop i bytes ≡ b ∷ drop (i + 1) bytes
 here bytes i b h at = rw add-one (drop-cons bytes i b h ∙ ap (λ (x : ℕ). x ∷ drop (suc i) bytes) (sym at))
