@@ -21,3 +21,5 @@ mod script;
 mod table;
 #[cfg(test)]
 mod tb;
+#[cfg(test)]
+mod traced;

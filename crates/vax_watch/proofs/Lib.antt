@@ -1,0 +1,7 @@
+pub mod Breaking
+pub mod Counted
+pub mod Watching
+pub mod Holding
+pub mod Stepping
+pub mod Making
+pub mod Stopping

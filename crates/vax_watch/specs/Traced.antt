@@ -1,0 +1,144 @@
+-- What a traced run comes to.
+use Rattle.std.specs.Prelude.{ℕ, ◌≡◌, ◌+◌, ◌<◌, ◌⊎◌, Bool, true, false, Option, List, ◌++◌}
+use Rattle.vax_space.specs.declared.Area.{Area}
+use Rattle.vax_outside.specs.Channels.{Channels, Grew, GrewByPrefix}
+use Rattle.vax_outside.specs.Faults.{CountsFailure}
+use Rattle.vax_flat.specs.declared.Ending.{Ending}
+use Rattle.vax_flat.specs.Parts.{At, GoesBy, machine_at}
+use Rattle.vax_flat.specs.Step.{Flat, run}
+use Rattle.vax_sched.specs.Due.{due}
+use Rattle.vax_sched.specs.declared.rule.Rule.{Rule}
+use Rattle.vax_machine.specs.Machine.{Means, keeping}
+use Rattle.vax_machine.specs.Paged.{Paged, paged, stops}
+use Rattle.vax_machine.specs.Run.{Runs, System, Tracks, begun, why_of}
+use Rattle.vax_machine.specs.Writing.{both}
+use Rattle.vax_machine.specs.declared.engine.Engine.{Engine}
+use Rattle.vax_machine.specs.declared.event.Limits.{Limits}
+use Rattle.vax_machine.specs.declared.event.RunEnd.{RunEnd}
+use Rattle.vax_machine.specs.declared.event.RunEnd.TheVariants as run_end
+use Rattle.vax_watch.specs.Breaks.{stop_at}
+use Rattle.vax_watch.specs.Listing.{listing}
+use Rattle.vax_watch.specs.Plans.{breaks_of, watches_of}
+use Rattle.vax_watch.specs.declared.watch.Plan.{Plan}
+use Rattle.vax_watch.specs.declared.watch.Watch.{Watch}
+use Rattle.vax_watch.specs.declared.steps.TraceEnd.{TraceEnd}
+use Rattle.vax_watch.specs.declared.steps.TraceEnd.TheVariants.{Ended, Steps, Break, Turns, PageFault, WriteFault}
+
+-- a traced run: how far it may go, what is due at its turns, the areas, the flat machine and the paged run from which it begins, the addresses before which
+-- it stops, and its watches
+pub record Trace : Type 0 where
+  pub limits : Limits
+  pub rules : List Rule
+  pub areas : List Area
+  pub start : Flat
+  pub from : Paged
+  pub breaks : List ℕ
+  pub watches : List Watch
+
+-- of a machine that stands for this flat machine
+abbrev pub trace_of : Limits → List Rule → Plan → Engine → Flat → Trace
+trace_of limits rules plan m start = record {
+  limits = limits;
+  rules = rules;
+  areas = (keeping m).areas;
+  start = start;
+  from = begun m (At start);
+  breaks = breaks_of plan;
+  watches = watches_of plan;
+}
+
+abbrev pub stop_of : Trace → ℕ
+stop_of t = stop_at t.limits.steps t.breaks t.start
+
+-- the limits of the run whose turns it makes
+abbrev pub limits_of : Trace → Limits
+limits_of t = record { steps = stop_of t; turns = t.limits.turns; listed = false }
+
+-- where this run is after so many turns
+abbrev pub turns_of : Trace → ℕ → Paged
+turns_of t count = paged t.areas (due t.rules) count t.from
+
+-- how this run stops
+abbrev pub as_run : TraceEnd → RunEnd
+as_run (Ended e) = run_end.Ended e
+as_run Steps = run_end.Steps
+as_run Break = run_end.Steps
+as_run Turns = run_end.Turns
+as_run PageFault = run_end.PageFault
+as_run WriteFault = run_end.WriteFault
+
+-- `Steps` at the limit alone, and `Break` below it
+abbrev pub NamesStop : TraceEnd → (stop limit : ℕ) → Type 0
+NamesStop (Ended e) stop limit = Unit {0}
+NamesStop Steps stop limit = stop ≡ limit
+NamesStop Break stop limit = stop < limit
+NamesStop Turns stop limit = Unit {0}
+NamesStop PageFault stop limit = Unit {0}
+NamesStop WriteFault stop limit = Unit {0}
+
+-- It stopped as a run does whose limit of steps is where it is to stop. What the steps sent is on Out, and their lines are on Record.
+pub record IsTraced (t : Trace) (result : TraceEnd) (old : Option Channels) (new : System) : Type 0 where
+  pub named : NamesStop result (stop_of t) t.limits.steps
+  pub made : ℕ
+  pub goes : Runs (limits_of t) t.areas t.rules t.from made
+  pub stopped : stops (stop_of t) t.limits.turns (turns_of t made) ≡ why_of (as_run result)
+  pub tracks : Tracks new.machine new.file (turns_of t made)
+  pub sent : List ℕ
+  pub output : (machine_at (turns_of t made).place).output ≡ t.start.output ++ sent
+  pub wrote : Grew old new.channels (both sent (listing new.machine.steps t.start t.watches))
+
+-- A call of the page file failed: in a turn of this run, at the byte of the step that comes, or at the watched bytes of the step that was made. The lines
+-- are those of all steps that were made, or of all but the last of them.
+pub record IsCutTrace (t : Trace) (old : Option Channels) (new : System) : Type 0 where
+  pub made : ℕ
+  pub goes : Runs (limits_of t) t.areas t.rules t.from made
+  pub means : Means new.machine new.file (turns_of t made).place
+  pub steps : new.machine.steps ≡ (turns_of t made).steps
+  pub follows : GoesBy (run new.machine.steps t.start) (turns_of t made).place
+  pub sent : List ℕ
+  pub output : (machine_at (turns_of t made).place).output ≡ t.start.output ++ sent
+  pub lines : ℕ
+  pub all_but : (lines ≡ new.machine.steps) ⊎ (lines + 1 ≡ new.machine.steps)
+  pub wrote : Grew old new.channels (both sent (listing lines t.start t.watches))
+
+-- a write failed: a prefix was written of what some turns of this run sent and of the lines of some steps
+pub record IsLostTrace (t : Trace) (old new : Option Channels) : Type 0 where
+  pub made : ℕ
+  pub goes : Runs (limits_of t) t.areas t.rules t.from made
+  pub sent : List ℕ
+  pub output : (machine_at (turns_of t made).place).output ≡ t.start.output ++ sent
+  pub lines : ℕ
+  pub wrote : GrewByPrefix old new (both sent (listing lines t.start t.watches))
+
+abbrev pub Traces : Trace → TraceEnd → Option Channels → System → Type 0
+Traces t (Ended e) old new = IsTraced t (Ended e) old new
+Traces t Steps old new = IsTraced t Steps old new
+Traces t Break old new = IsTraced t Break old new
+Traces t Turns old new = IsTraced t Turns old new
+Traces t PageFault old new = IsCutTrace t old new
+Traces t WriteFault old new = IsLostTrace t old new.channels
+
+-- a call of the page file failed
+abbrev pub by_page : TraceEnd → Bool
+by_page (Ended e) = false
+by_page Steps = false
+by_page Break = false
+by_page Turns = false
+by_page PageFault = true
+by_page WriteFault = false
+
+-- a write failed
+abbrev pub by_write : TraceEnd → Bool
+by_write (Ended e) = false
+by_write Steps = false
+by_write Break = false
+by_write Turns = false
+by_write PageFault = false
+by_write WriteFault = true
+
+-- what it does to the counts of failures of the page file and of the sink; after a write fault a call of the page file may have failed too
+pub record CountsTrace (result : TraceEnd) (file_before file_now sink_before sink_now : ℕ) : Type 0 where
+  pub failed : Bool
+  pub told : by_write result ≡ false → failed ≡ by_page result
+  pub file : CountsFailure failed file_before file_now
+  pub sink : CountsFailure (by_write result) sink_before sink_now
