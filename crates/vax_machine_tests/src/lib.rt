@@ -14,6 +14,8 @@ mod pager;
 #[cfg(test)]
 mod report;
 #[cfg(test)]
+mod saved_states;
+#[cfg(test)]
 mod sched;
 #[cfg(test)]
 mod script;
