@@ -1,5 +1,6 @@
 -- What a traced run does to the counts of failures.
 use Rattle.std.proofs.Common.{ℕ, ◌≡◌, Bool, true, false, Option, Some, None, refl, sym, ap, subst, ◌∙◌, inl, inr}
+use Rattle.vax_outside.specs.declared.faults.Failures.{Failures}
 use Rattle.vax_outside.specs.Faults.{CountsFailure}
 use Rattle.vax_outside.specs.Channels.{Channels}
 use Rattle.vax_outside.proofs.Counting.{counts_then, still_on}
@@ -26,7 +27,7 @@ fine_stop None false true end h = let k : Break ≡ end = cc in subst (λ (z : T
 fine_stop None false false end h = absurd (cc h)
 
 -- and what it held back was written, or not all of it
-pub finished_counts : (end result : TraceEnd) (left : Channels) (old new : Option Channels) (a b x y z : ℕ) → (end ≡ WriteFault → ⊥) → Finishes end result left old new → CountsEnd end a b x y → CountsFailure (by_write result) y z → CountsTrace result a b x z
+pub finished_counts : (end result : TraceEnd) (left : Channels) (old new : Option Channels) (a b x y z : Failures) → (end ≡ WriteFault → ⊥) → Finishes end result left old new → CountsEnd end a b x y → CountsFailure (by_write result) y z → CountsTrace result a b x z
 finished_counts end result left old new a b x y z other done k last = record {
   failed = by_page end;
   told = λ fine. elim done [
@@ -37,5 +38,5 @@ finished_counts end result left old new a b x y z other done k last = record {
   sink = counts_then refl (still_on (fine_write end other) k.sink) last;
 }
 
-pub lost_counts : (a b x y : ℕ) → CountsEnd WriteFault a b x y → CountsTrace WriteFault a b x y
+pub lost_counts : (a b x y : Failures) → CountsEnd WriteFault a b x y → CountsTrace WriteFault a b x y
 lost_counts a b x y k = record { failed = false; told = λ fine. let bad : true ≡ false = fine in absurd (cc bad); file = k.file; sink = k.sink }

@@ -32,7 +32,7 @@ origin_at p output areas file now =
 moved_here : (p : Paged) (output : List ℕ) (areas : List Area) (file : Option BlockFile) → Moved areas (record p { place = At (record (machine_at p.place) { output = output }) }) p file file
 moved_here p output areas file f is =
     let r = moved_none areas p file f is in
-    (r.0, r.1, record { made = r.2.made; is = r.2.is; writes = r.2.writes; reads = r.2.reads })
+    (r.0, r.1, record { made = r.2.made; is = r.2.is; writes = r.2.writes; reads = record { count = r.2.reads.count; counted = r.2.reads.counted; reads = r.2.reads.reads } })
 
 sends_here : (p : Paged) (output : List ℕ) (areas : List Area) (file : Option BlockFile) (now : Option Channels) (held : Held) → held.listed ≡ false → (machine_at p.place).output ≡ output ++ (held_in held).out → Sends (origin_at p output areas file now) p now (held_in held)
 unfolding lines_of

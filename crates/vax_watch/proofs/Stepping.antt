@@ -90,6 +90,7 @@ tracks_looked m n before after p l t = record {
   turns = ap (λ (k : Keeping). k.turns) l.keeps ∙ t.turns;
   residence = ap (λ (k : Keeping). k.residence) l.keeps ∙ t.residence;
   modified = ap (λ (s : Paging). λ page. is_listed page s.modified) l.same ∙ t.modified;
+  blocked = ap (λ (s : Paging). s.blocked) l.same ∙ t.blocked;
   means = l.means p.place t.means;
 }
 

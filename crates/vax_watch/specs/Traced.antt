@@ -1,6 +1,7 @@
 -- What a traced run comes to.
 use Rattle.std.specs.Prelude.{ℕ, ◌≡◌, ◌+◌, ◌<◌, ◌⊎◌, Bool, true, false, Option, List, ◌++◌}
 use Rattle.vax_space.specs.declared.Area.{Area}
+use Rattle.vax_outside.specs.declared.faults.Failures.{Failures}
 use Rattle.vax_outside.specs.Channels.{Channels, Grew, GrewByPrefix}
 use Rattle.vax_outside.specs.Faults.{CountsFailure}
 use Rattle.vax_flat.specs.declared.Ending.{Ending}
@@ -137,7 +138,7 @@ by_write PageFault = false
 by_write WriteFault = true
 
 -- what it does to the counts of failures of the page file and of the sink; after a write fault a call of the page file may have failed too
-pub record CountsTrace (result : TraceEnd) (file_before file_now sink_before sink_now : ℕ) : Type 0 where
+pub record CountsTrace (result : TraceEnd) (file_before file_now sink_before sink_now : Failures) : Type 0 where
   pub failed : Bool
   pub told : by_write result ≡ false → failed ≡ by_page result
   pub file : CountsFailure failed file_before file_now

@@ -1,6 +1,7 @@
 -- A traced run on its way.
 use Rattle.std.specs.Prelude.{ℕ, ◌≡◌, ◌+◌, ◌<◌, ◌≤◌, ◌⊎◌, Bool, true, false, Option, Some, None, Result, Ok, Err, List, [], ◌++◌}
 use Rattle.vax_space.specs.declared.Area.{Area}
+use Rattle.vax_outside.specs.declared.faults.Failures.{Failures}
 use Rattle.vax_outside.specs.Blocks.{BlockFile}
 use Rattle.vax_outside.specs.Channels.{Channels, Grew, GrewByPrefix, only}
 use Rattle.vax_outside.specs.Faults.{CountsFailure}
@@ -158,11 +159,11 @@ has_write_fault (Ok x) = false
 has_write_fault (Err end) = by_write end
 
 -- what steps do to the counts of failures of the page file and of the sink
-pub record CountsSteps (result : Result (Unit {0}) TraceEnd) (file_before file_now sink_before sink_now : ℕ) : Type 0 where
+pub record CountsSteps (result : Result (Unit {0}) TraceEnd) (file_before file_now sink_before sink_now : Failures) : Type 0 where
   pub file : CountsFailure (has_page_fault result) file_before file_now
   pub sink : CountsFailure (has_write_fault result) sink_before sink_now
 
-pub record CountsEnd (end : TraceEnd) (file_before file_now sink_before sink_now : ℕ) : Type 0 where
+pub record CountsEnd (end : TraceEnd) (file_before file_now sink_before sink_now : Failures) : Type 0 where
   pub file : CountsFailure (by_page end) file_before file_now
   pub sink : CountsFailure (by_write end) sink_before sink_now
 

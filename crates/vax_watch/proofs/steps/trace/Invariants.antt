@@ -11,8 +11,8 @@ abbrev pub invariant-loop-end : goal.invariant-loop-end
 invariant-loop-end g l = record {
   breaks : breaks_of l.plan ≡ breaks_of l.fn.plan;
   stands : (t : Trace) → (old : Option Channels) → IsFor t l.limits l.schedule (breaks_of l.fn.plan) → Stands t old (stage_of (system_of (engine l.fn.machine) (g.F.PageFile.contents l.fn.file) (g.K.Sink.contents l.fn.sink)) l.fn.notes l.fn.plan) → Stands t old (stage_of (system_of (engine l.machine) (g.F.PageFile.contents l.file) (g.K.Sink.contents l.sink)) l.notes l.plan);
-  quiet : g.F.PageFile.faults l.file ≡ g.F.PageFile.faults l.fn.file;
-  written : g.K.Sink.faults l.sink ≡ g.K.Sink.faults l.fn.sink;
+  quiet : (g.F.PageFile.faults l.file).count ≡ (g.F.PageFile.faults l.fn.file).count;
+  written : (g.K.Sink.faults l.sink).count ≡ (g.K.Sink.faults l.fn.sink).count;
 }
 
 abbrev pub decreases-loop-end : goal.decreases-loop-end
