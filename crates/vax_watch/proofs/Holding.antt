@@ -1,5 +1,5 @@
 -- What a traced run sends and lists is written, or held back.
-use Rattle.std.proofs.Common.{ℕ, ◌≡◌, ◌+◌, ◌≤◌, Bool, true, false, List, [], ◌∷◌, ◌++◌, append-nil, append_assoc, Option, Some, None, Result, Ok, Err, refl, sym, ap, subst, ◌∙◌, arith}
+use Rattle.std.proofs.Common.{ℕ, ◌≡◌, Bool, false, List, [], ◌∷◌, ◌++◌, append-nil, append_assoc, Option, refl, sym, ap, subst, ◌∙◌}
 use Rattle.std.specs.Prelude.{if◌then◌else◌}
 use Rattle.vax_space.specs.declared.Area.{Area}
 use Rattle.vax_outside.specs.Blocks.{BlockFile}
@@ -12,7 +12,7 @@ use Rattle.vax_machine.specs.Blocks.{Moved}
 use Rattle.vax_machine.specs.Paged.{Paged}
 use Rattle.vax_machine.specs.Run.{Runs, Tracks}
 use Rattle.vax_machine.specs.Turn.{Follows}
-use Rattle.vax_machine.specs.Writing.{Origin, Sends, WrotePart, both, held_in, lines_of, output_of}
+use Rattle.vax_machine.specs.Writing.{Origin, Sends, WrotePart, both, held_in, lines_of}
 use Rattle.vax_machine.specs.declared.engine.Engine.{Engine}
 use Rattle.vax_machine.specs.declared.held.Held.{Held}
 use Rattle.vax_machine.proofs.Moving.{moved_none}

@@ -23,10 +23,10 @@ use Rattle.vax_machine.specs.declared.held.Held.{Held}
 use Rattle.vax_watch.specs.Listing.{core_line}
 use Rattle.vax_watch.specs.Plans.{AreLookedAt, IsLookedAt, changes_in}
 use Rattle.vax_watch.specs.Traced.{IsLostTrace, Trace, turns_of}
-use Rattle.vax_watch.specs.Tracing.{Comes, IsBegun, IsCutShort, Keeps, Leaves, Stage, Stands}
+use Rattle.vax_watch.specs.Tracing.{Comes, IsBegun, IsCutShort, Leaves, Stage, Stands}
 use Rattle.vax_watch.specs.declared.watch.Seen.{Seen}
 use Rattle.vax_watch.specs.declared.steps.TraceEnd.{TraceEnd}
-use Rattle.vax_watch.specs.declared.steps.TraceEnd.TheVariants.{Ended, PageFault, WriteFault}
+use Rattle.vax_watch.specs.declared.steps.TraceEnd.TheVariants.{PageFault, WriteFault}
 use Rattle.vax_watch.proofs.Holding.{room_lost}
 use Rattle.vax_watch.proofs.Stepping.{IsReady, byte_is, ending_of, means_steps, means_then, near, o, p, stands_next, steps_then, unlisted_next}
 

@@ -1,17 +1,13 @@
 -- A step of a traced run.
-use Rattle.std.proofs.Common.{ℕ, zero, suc, ◌≡◌, ◌+◌, ◌-◌, ◌<◌, ◌≤◌, ◌⊎◌, Bool, true, false, nat_le, nat_lt, is_some, map, List, [], ◌∷◌, ◌++◌, append_assoc, Option, Some, None, Result, Ok, Err, refl, sym, ap, subst, ◌∙◌, arith, inl, inr}
-use Rattle.std.specs.List.{list_any}
-use Rattle.std.specs.Prelude.{◌&&◌, ◌==◌, if◌then◌else◌, IfSome, is_none, slice_index}
-use Rattle.std.specs.List.{flat_map}
-use Rattle.std.proofs.lemmas.Bool.Decides.{nat_tests}
+use Rattle.std.proofs.Common.{ℕ, suc, ◌≡◌, ◌+◌, ◌-◌, ◌<◌, ◌≤◌, Bool, true, false, is_some, List, ◌++◌, append_assoc, Option, Some, None, refl, sym, ap, subst, ◌∙◌, arith, inl, inr}
+use Rattle.std.specs.Prelude.{if◌then◌else◌, IfSome, slice_index}
 use Rattle.std.proofs.lemmas.Bool.{cases_lt}
 use Rattle.vax_word.specs.declared.Core.{Core}
 use Rattle.vax_space.specs.declared.Area.{Area}
 use Rattle.vax_space.specs.Areas.{area_of}
 use Rattle.vax_space.specs.Reference.{page_of}
 use Rattle.vax_outside.specs.Blocks.{BlockFile}
-use Rattle.vax_outside.specs.Channels.{Channels, Grew, GrewByPrefix, append, only}
-use Rattle.vax_outside.specs.declared.traits.Chan.TheVariants.{Record}
+use Rattle.vax_outside.specs.Channels.{Channels}
 use Rattle.vax_flat.specs.declared.Ending.{Ending}
 use Rattle.vax_flat.specs.Memory.{byte_at}
 use Rattle.vax_flat.specs.Parts.{Place, At, Within, GoesBy, machine_at}
@@ -25,9 +21,9 @@ use Rattle.vax_sched.specs.Due.{due}
 use Rattle.vax_sched.specs.declared.rule.Rule.{Rule}
 use Rattle.vax_machine.specs.Console.{IsBetween, memory_at}
 use Rattle.vax_machine.specs.GoingOn.{GoneOn, HasStopped}
-use Rattle.vax_machine.specs.Machine.{Keeping, Means, keeping, residence}
+use Rattle.vax_machine.specs.Machine.{Keeping, Means, keeping}
 use Rattle.vax_machine.specs.Paged.{Paged, all_evicted, paged, stops}
-use Rattle.vax_machine.specs.Run.{Runs, Tracks, why_of}
+use Rattle.vax_machine.specs.Run.{Runs, Tracks}
 use Rattle.vax_machine.specs.Touched.{PinsTouched}
 use Rattle.vax_machine.specs.Turn.{AreCut, AreLost, Follows}
 use Rattle.vax_machine.specs.Writing.{Origin, Sends, held_in}
@@ -37,17 +33,17 @@ use Rattle.vax_machine.specs.declared.event.RunEnd.{RunEnd}
 use Rattle.vax_machine.specs.declared.held.Held.{Held}
 use Rattle.vax_machine.proofs.Following.{turns_go}
 use Rattle.vax_machine.proofs.Halting.{going_on, paged_more}
-use Rattle.vax_machine.proofs.Running.{by_ending, by_steps, by_turns, goes_on}
+use Rattle.vax_machine.proofs.Running.{by_ending, by_turns, goes_on}
 use Rattle.vax_machine.proofs.Showing.{has_as}
 use Rattle.vax_machine.proofs.Tracking.{many_evicted}
 use Rattle.vax_watch.specs.Breaks.{is_break}
-use Rattle.vax_watch.specs.Listing.{core_line, lines_of_step, listing, pc_of, step_line, watch_line, watch_lines, watched}
-use Rattle.vax_watch.specs.Plans.{AreLookedAt, IsLookedAt, LooksAgain, all_watched, changes_in, latest_in, watches_in}
-use Rattle.vax_watch.specs.Traced.{IsLostTrace, Trace, as_run, limits_of, stop_of, turns_of}
+use Rattle.vax_watch.specs.Listing.{core_line, listing, step_line, watch_lines}
+use Rattle.vax_watch.specs.Plans.{AreLookedAt, IsLookedAt, all_watched, changes_in, latest_in, watches_in}
+use Rattle.vax_watch.specs.Traced.{IsLostTrace, Trace, limits_of, stop_of, turns_of}
 use Rattle.vax_watch.specs.Tracing.{Holds, IsBegun, IsCutShort, IsDue, Keeps, PassedOn, Stage, Stands, Stops}
 use Rattle.vax_watch.specs.declared.watch.Seen.{Seen}
 use Rattle.vax_watch.specs.declared.watch.Watch.{Watch}
-use Rattle.vax_watch.specs.declared.steps.TraceEnd.TheVariants.{Ended, Steps, Break, Turns}
+use Rattle.vax_watch.specs.declared.steps.TraceEnd.TheVariants.{Ended, Turns}
 use Rattle.vax_watch.proofs.Breaking.{stop_above, stop_below}
 use Rattle.vax_watch.proofs.Watching.{changed, latest_seen, watches_kept}
 use Rattle.vax_watch.proofs.Holding.{follows_held, holds_as, holds_room, holds_turns, lost_turns, origin_at}

@@ -1,5 +1,5 @@
 -- Where a traced run begins and stops.
-use Rattle.std.proofs.Common.{ℕ, zero, suc, ◌≡◌, ◌+◌, ◌<◌, ◌≤◌, ◌⊎◌, Bool, true, false, nat_le, nat_lt, List, [], ◌∷◌, ◌++◌, append-nil, Option, Some, None, Result, Ok, Err, refl, sym, ap, subst, ◌∙◌, arith, inl, inr}
+use Rattle.std.proofs.Common.{ℕ, ◌≡◌, ◌<◌, ◌≤◌, Bool, true, false, nat_le, nat_lt, List, [], ◌++◌, append-nil, Option, Some, None, refl, sym, ap, subst, ◌∙◌, arith, inl, inr}
 use Rattle.std.specs.List.{list_any}
 use Rattle.std.specs.Prelude.{◌&&◌, ◌==◌, is_none, slice_index}
 use Rattle.std.proofs.lemmas.Bool.Decides.{nat_tests}
@@ -13,25 +13,24 @@ use Rattle.vax_flat.specs.Parts.{At, GoesBy, machine_at}
 use Rattle.vax_flat.specs.Step.{Flat, run}
 use Rattle.vax_pager.specs.Meaning.{pages}
 use Rattle.vax_machine.specs.Console.{IsBetween}
-use Rattle.vax_machine.specs.Machine.{Keeping, Means, keeping}
-use Rattle.vax_machine.specs.Paged.{Paged, paged}
+use Rattle.vax_machine.specs.Machine.{Keeping, Means}
+use Rattle.vax_machine.specs.Paged.{paged}
 use Rattle.vax_machine.specs.Run.{System, Tracks}
-use Rattle.vax_machine.specs.Writing.{both, held_in}
+use Rattle.vax_machine.specs.Writing.{held_in}
 use Rattle.vax_machine.specs.declared.engine.Engine.{Engine}
-use Rattle.vax_machine.specs.declared.held.Held.{Held}
 use Rattle.vax_machine.proofs.Running.{by_ending, by_steps}
 use Rattle.vax_watch.specs.Breaks.{is_break}
 use Rattle.vax_watch.specs.Listing.{listing, pc_of}
 use Rattle.vax_watch.specs.Plans.{AreLookedAt, IsLookedAt, all_watched, watches_in}
 use Rattle.vax_watch.specs.Traced.{IsCutTrace, IsLostTrace, IsTraced, Trace, Traces, limits_of, stop_of, turns_of}
-use Rattle.vax_watch.specs.Tracing.{Finishes, Holds, IsBegun, IsCutShort, IsDue, Keeps, Leaves, Stage, Stands, Starts, Stops, stopped_by}
+use Rattle.vax_watch.specs.Tracing.{Finishes, IsBegun, IsCutShort, IsDue, Keeps, Leaves, Stage, Stands, Starts, Stops, stopped_by}
 use Rattle.vax_watch.specs.declared.watch.Seen.{Seen}
 use Rattle.vax_watch.specs.declared.watch.Watch.{Watch}
 use Rattle.vax_watch.specs.declared.steps.TraceEnd.{TraceEnd}
 use Rattle.vax_watch.specs.declared.steps.TraceEnd.TheVariants.{Ended, Steps, Break, Turns, PageFault, WriteFault}
 use Rattle.vax_watch.proofs.Breaking.{stop_break, stop_limit}
 use Rattle.vax_watch.proofs.Holding.{all_written, part_written}
-use Rattle.vax_watch.proofs.Stepping.{at_steps, between_looked, core_of, ending_of, goes_to, means_steps, tracks_looked}
+use Rattle.vax_watch.proofs.Stepping.{between_looked, core_of, ending_of, goes_to, means_steps, tracks_looked}
 use Rattle.vax_watch.proofs.Watching.{latest_seen, watches_kept}
 
 -- between two steps

@@ -1,7 +1,6 @@
 -- The watches whose bytes were looked at again.
-use Rattle.std.proofs.Common.{◌≡◌, ◌<◌, ℕ, zero, suc, map, take, drop, length, get_or, List, [], ◌∷◌, ◌++◌, Option, refl, sym, subst, ◌∙◌, arith}
+use Rattle.std.proofs.Common.{◌≡◌, ◌<◌, ℕ, zero, suc, take, drop, length, get_or, List, [], ◌∷◌, ◌++◌, Option, refl, subst, ◌∙◌, arith}
 use Rattle.std.specs.Prelude.{slice_set}
-use Rattle.std.specs.List.{flat_map}
 use Rattle.vax_space.specs.declared.Area.{Area}
 use Rattle.vax_outside.specs.Blocks.{BlockFile}
 use Rattle.vax_flat.specs.Parts.{Place, machine_at}
@@ -10,7 +9,6 @@ use Rattle.vax_machine.specs.declared.engine.Engine.{Engine}
 use Rattle.vax_watch.specs.Listing.{watch_line, watch_lines, watched}
 use Rattle.vax_watch.specs.Plans.{AreLookedAt, IsLookedAt, LooksAgain, all_watched, changes_in, latest_in, watches_in}
 use Rattle.vax_watch.specs.declared.watch.Seen.{Seen}
-use Rattle.vax_watch.specs.declared.watch.Watch.{Watch}
 
 pub watches_kept : (m : Engine) (file : Option BlockFile) (old new : List Seen) → AreLookedAt m file old new → watches_in new ≡ watches_in old
 unfolding AreLookedAt

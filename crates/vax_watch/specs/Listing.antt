@@ -1,5 +1,5 @@
 -- What a traced run lists of its steps.
-use Rattle.std.specs.Prelude.{ℕ, zero, suc, ◌+◌, ◌==◌, nat_eq, if◌then◌else◌, Option, List, [], ◌∷◌, ◌++◌, codes, decimal, slice_index}
+use Rattle.std.specs.Prelude.{ℕ, zero, suc, ◌+◌, ◌==◌, nat_eq, if◌then◌else◌, Option, List, [], ◌++◌, codes, decimal, slice_index}
 use Rattle.std.specs.Cmp.Lexicographic.{pointwise}
 use Rattle.std.specs.List.{flat_map}
 use Rattle.std.specs.Option.{option_eq}

@@ -4,7 +4,6 @@ use Rattle.vax_space.specs.declared.Area.{Area}
 use Rattle.vax_outside.specs.declared.faults.Failures.{Failures}
 use Rattle.vax_outside.specs.Channels.{Channels, Grew, GrewByPrefix}
 use Rattle.vax_outside.specs.Faults.{CountsFailure}
-use Rattle.vax_flat.specs.declared.Ending.{Ending}
 use Rattle.vax_flat.specs.Parts.{At, GoesBy, machine_at}
 use Rattle.vax_flat.specs.Step.{Flat, run}
 use Rattle.vax_sched.specs.Due.{due}

@@ -1,8 +1,6 @@
 -- A traced run on its way.
-use Rattle.std.specs.Prelude.{ℕ, ◌≡◌, ◌+◌, ◌<◌, ◌≤◌, ◌⊎◌, Bool, true, false, Option, Some, None, Result, Ok, Err, List, [], ◌++◌}
-use Rattle.vax_space.specs.declared.Area.{Area}
+use Rattle.std.specs.Prelude.{ℕ, ◌≡◌, ◌+◌, ◌<◌, ◌≤◌, ◌⊎◌, Bool, true, false, Option, Some, None, Result, Ok, Err, List, ◌++◌}
 use Rattle.vax_outside.specs.declared.faults.Failures.{Failures}
-use Rattle.vax_outside.specs.Blocks.{BlockFile}
 use Rattle.vax_outside.specs.Channels.{Channels, Grew, GrewByPrefix, only}
 use Rattle.vax_outside.specs.Faults.{CountsFailure}
 use Rattle.vax_outside.specs.declared.traits.Chan.TheVariants.{Record}
@@ -14,14 +12,13 @@ use Rattle.vax_sched.specs.declared.rule.Rule.{Rule}
 use Rattle.vax_machine.specs.Console.{IsBetween}
 use Rattle.vax_machine.specs.Machine.{Means}
 use Rattle.vax_machine.specs.Paged.{stops}
-use Rattle.vax_machine.specs.Run.{Runs, System, Tracks, system_of, why_of}
+use Rattle.vax_machine.specs.Run.{Runs, System, Tracks, why_of}
 use Rattle.vax_machine.specs.Writing.{both, held_in}
-use Rattle.vax_machine.specs.declared.engine.Engine.{Engine}
 use Rattle.vax_machine.specs.declared.event.Limits.{Limits}
 use Rattle.vax_machine.specs.declared.held.Held.{Held}
 use Rattle.vax_watch.specs.Breaks.{is_break}
 use Rattle.vax_watch.specs.Listing.{listing}
-use Rattle.vax_watch.specs.Plans.{all_watched, breaks_of, latest_in, watches_in}
+use Rattle.vax_watch.specs.Plans.{all_watched, latest_in, watches_in}
 use Rattle.vax_watch.specs.Traced.{IsLostTrace, NamesStop, Trace, as_run, by_page, by_write, limits_of, stop_of, turns_of}
 use Rattle.vax_watch.specs.declared.watch.Plan.{Plan}
 use Rattle.vax_watch.specs.declared.watch.Seen.{Seen}

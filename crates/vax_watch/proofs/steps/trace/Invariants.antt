@@ -1,4 +1,4 @@
-use Rattle.std.proofs.Common.{◌≡◌, ◌-◌, ◌≤◌, Option}
+use Rattle.std.proofs.Common.{◌≡◌, ◌-◌, Option}
 use Rattle.vax_outside.specs.Channels.{Channels}
 use Rattle.vax_machine.specs.Meaning.{engine}
 use Rattle.vax_machine.specs.Run.{system_of}

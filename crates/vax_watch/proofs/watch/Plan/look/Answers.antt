@@ -1,4 +1,4 @@
-use Rattle.std.proofs.Common.{◌≡◌, ◌+◌, suc, take, drop, ℕ, List, arith, refl, subst, ◌∙◌}
+use Rattle.std.proofs.Common.{◌≡◌, ◌+◌, suc, take, drop, ℕ, arith, refl, subst, ◌∙◌}
 use Rattle.std.specs.Prelude.{slice_set}
 use Rattle.vax_machine.specs.Meaning.{engine}
 use Rattle.vax_watch.specs.Plans.{AreLookedAt}

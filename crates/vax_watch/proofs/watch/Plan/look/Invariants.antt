@@ -1,4 +1,4 @@
-use Rattle.std.proofs.Common.{◌≡◌, length, drop, take}
+use Rattle.std.proofs.Common.{◌≡◌, drop, take}
 use Rattle.vax_machine.specs.Meaning.{engine}
 use Rattle.vax_watch.specs.Plans.{AreLookedAt, IsLookedAt}
 use Rattle.vax_watch.proofs.watch.Plan.look.Given as goal
