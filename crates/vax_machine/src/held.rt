@@ -30,7 +30,8 @@ pub struct Held {
 /// Writes all the bytes to a channel.
 fn put<K: Sink>(sink: &mut K, chan: Chan, bytes: &[u8]) -> Result<(), Fault>
     ensures puts { Puts result (only chan bytes.now) (K.contents sink.old) (K.contents sink.new) }
-    ensures counts { (file : Failures) → Counts result file file (K.faults sink.old) (K.faults sink.new) }
+    ensures counts { (file : Failures)
+        → Counts result file file (K.faults sink.old) (K.faults sink.new) }
 {
     match put_all(sink, chan, bytes) {
         Ok(()) => Ok(()),
@@ -43,7 +44,8 @@ fn write_bytes<K: Sink>(bytes: &mut ArrayVec<u8, 512>, sink: &mut K) -> Result<(
     ensures none { OnOk result (bytes.new.items ≡ []) }
     ensures passes { Passed result (only Out bytes.old.items) nothing (only Out bytes.new.items)
         (K.contents sink.old) (K.contents sink.new) }
-    ensures counts { (file : Failures) → Counts result file file (K.faults sink.old) (K.faults sink.new) }
+    ensures counts { (file : Failures)
+        → Counts result file file (K.faults sink.old) (K.faults sink.new) }
 {
     put(sink, Chan::Out, bytes)?;
     bytes.clear();
@@ -55,7 +57,8 @@ fn make_space<K: Sink>(bytes: &mut ArrayVec<u8, 512>, sink: &mut K) -> Result<()
     ensures space { OnOk result (length bytes.new.items < 512) }
     ensures passes { Passed result (only Out bytes.old.items) nothing (only Out bytes.new.items)
         (K.contents sink.old) (K.contents sink.new) }
-    ensures counts { (file : Failures) → Counts result file file (K.faults sink.old) (K.faults sink.new) }
+    ensures counts { (file : Failures)
+        → Counts result file file (K.faults sink.old) (K.faults sink.new) }
 {
     if bytes.is_full() {
         return write_bytes(bytes, sink);
@@ -68,7 +71,8 @@ fn make_room<K: Sink>(lines: &mut Text, sink: &mut K) -> Result<(), Fault>
     ensures room { OnOk result (length lines.new + 33 ≤ 512) }
     ensures passes { Passed result (only Record lines.old) nothing (only Record lines.new)
         (K.contents sink.old) (K.contents sink.new) }
-    ensures counts { (file : Failures) → Counts result file file (K.faults sink.old) (K.faults sink.new) }
+    ensures counts { (file : Failures)
+        → Counts result file file (K.faults sink.old) (K.faults sink.new) }
 {
     if lines.as_slice().len() > MOST_LINES {
         put(sink, Chan::Record, lines.as_slice())?;

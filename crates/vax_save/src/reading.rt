@@ -75,7 +75,8 @@ pub(crate) fn magic_at<'a>(from: Cursor<'a>) -> Result<Cursor<'a>, SaveError>
 
 /// A word of the version, which must have this value.
 fn version_at<'a>(value: u16, from: Cursor<'a>) -> Result<Cursor<'a>, SaveError>
-    ensures gives { Gives (λ x. (value, cursor x)) result (spec.version_at value (cursor from.entry)) }
+    ensures gives { Gives (λ x. (value, cursor x)) result
+        (spec.version_at value (cursor from.entry)) }
 {
     let (n, rest) = word_at(from)?;
     if n != value {

@@ -142,11 +142,13 @@ fn put_page<F: PageFile, K: Sink>(
     requires inside { is_some (area_of (keeping (engine machine.old)).areas page) ≡ true }
     ensures kept { IsKept (engine machine.old) (F.contents file.old) (engine machine.new)
         (F.contents file.new) }
-    ensures ok { OnOk result ((place : Place) → Means (engine machine.old) (F.contents file.old) place
+    ensures ok { OnOk result ((place : Place)
+        → Means (engine machine.old) (F.contents file.old) place
         → Puts (page_field (machine_at place).memory page)
         (stream (K.contents sink.old) held.old.items)
         (stream (K.contents sink.new) held.new.items)) }
-    ensures cut { OnErr result ((place : Place) → Means (engine machine.old) (F.contents file.old) place
+    ensures cut { OnErr result ((place : Place)
+        → Means (engine machine.old) (F.contents file.old) place
         → Cuts (page_field (machine_at place).memory page)
         (stream (K.contents sink.old) held.old.items) (K.contents sink.new)) }
     ensures file { CountsFailure (is_page_fault result) (F.faults file.old) (F.faults file.new) }
@@ -195,12 +197,14 @@ fn put_extent<F: PageFile, K: Sink>(
         → is_some (area_of (keeping (engine machine.old)).areas (extent.first + k)) ≡ true }
     ensures kept { IsKept (engine machine.old) (F.contents file.old) (engine machine.new)
         (F.contents file.new) }
-    ensures ok { OnOk result ((place : Place) → Means (engine machine.old) (F.contents file.old) place
+    ensures ok { OnOk result ((place : Place)
+        → Means (engine machine.old) (F.contents file.old) place
         → Puts (flat_map (page_field (machine_at place).memory)
         (range_with_len extent.first extent.pages))
         (stream (K.contents sink.old) held.old.items)
         (stream (K.contents sink.new) held.new.items)) }
-    ensures cut { OnErr result ((place : Place) → Means (engine machine.old) (F.contents file.old) place
+    ensures cut { OnErr result ((place : Place)
+        → Means (engine machine.old) (F.contents file.old) place
         → Cuts (flat_map (page_field (machine_at place).memory)
         (range_with_len extent.first extent.pages))
         (stream (K.contents sink.old) held.old.items) (K.contents sink.new)) }
@@ -222,11 +226,13 @@ fn put_pages<F: PageFile, K: Sink>(
 ) -> Result<(), Fault>
     ensures kept { IsKept (engine machine.old) (F.contents file.old) (engine machine.new)
         (F.contents file.new) }
-    ensures ok { OnOk result ((place : Place) → Means (engine machine.old) (F.contents file.old) place
+    ensures ok { OnOk result ((place : Place)
+        → Means (engine machine.old) (F.contents file.old) place
         → Puts (pages_field (machine_at place).memory (keeping (engine machine.old)).areas)
         (stream (K.contents sink.old) held.old.items)
         (stream (K.contents sink.new) held.new.items)) }
-    ensures cut { OnErr result ((place : Place) → Means (engine machine.old) (F.contents file.old) place
+    ensures cut { OnErr result ((place : Place)
+        → Means (engine machine.old) (F.contents file.old) place
         → Cuts (pages_field (machine_at place).memory (keeping (engine machine.old)).areas)
         (stream (K.contents sink.old) held.old.items) (K.contents sink.new)) }
     ensures file { CountsFailure (is_page_fault result) (F.faults file.old) (F.faults file.new) }
@@ -262,10 +268,12 @@ fn write_state<F: PageFile, K: Sink>(
 ) -> Result<(), Fault>
     ensures kept { IsKept (engine machine.old) (F.contents file.old) (engine machine.new)
         (F.contents file.new) }
-    ensures ok { OnOk result ((place : Place) → Means (engine machine.old) (F.contents file.old) place
+    ensures ok { OnOk result ((place : Place)
+        → Means (engine machine.old) (F.contents file.old) place
         → Grew (K.contents sink.old) (K.contents sink.new)
         (only Chan.Record (saved place (engine machine.old).steps))) }
-    ensures cut { OnErr result ((place : Place) → Means (engine machine.old) (F.contents file.old) place
+    ensures cut { OnErr result ((place : Place)
+        → Means (engine machine.old) (F.contents file.old) place
         → GrewByPrefix (K.contents sink.old) (K.contents sink.new)
         (only Chan.Record (saved place (engine machine.old).steps))) }
     ensures file { CountsFailure (is_page_fault result) (F.faults file.old) (F.faults file.new) }

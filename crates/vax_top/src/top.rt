@@ -138,7 +138,8 @@ pub fn vax_main<S: Files, K: Sink, F: PageFile>(
     ensures page_failed { Admits (F.faults pages.old) (F.faults pages.new) Status.PageFault result }
     ensures write { result ≡ Status.WriteFault → Rose (K.faults sink.old) (K.faults sink.new) }
     ensures read_failed { Admits (S.faults files.old) (S.faults files.new) Status.ReadFault result }
-    ensures write_failed { (K.faults sink.new).count ≢ (K.faults sink.old).count → result ≡ Status.WriteFault }
+    ensures write_failed { (K.faults sink.new).count ≢ (K.faults sink.old).count
+        → result ≡ Status.WriteFault }
     ensures refused { IfSome (refusal result) (λ text.
         Grew (K.contents sink.old) (K.contents sink.new) (only Report text)) }
 {

@@ -75,7 +75,8 @@ impl Recorder {
 
     /// What was read and written; none where not all of it was kept.
     pub(crate) fn into_touches(self) -> Option<Vec<Touch>>
-        ensures { IfSome result (λ touches. IsTrue self.complete × (touches.items ≡ self.touches.items)) }
+        ensures { IfSome result
+            (λ touches. IsTrue self.complete × (touches.items ≡ self.touches.items)) }
     {
         if self.complete {
             Some(self.touches)
@@ -108,7 +109,8 @@ impl Recorder {
         requires some { 1 ≤ n }
         requires few { n ≤ 8 }
         ensures view { view_of self.new ≡ view_of self.old }
-        ensures kept { IsTrue self.new.complete → Keeps self.old self.new access addr (low_bytes n value) }
+        ensures kept { IsTrue self.new.complete
+            → Keeps self.old self.new access addr (low_bytes n value) }
     {
         let mut all = [0u8; 8];
         let bytes = &mut all[..n as usize];

@@ -68,7 +68,8 @@ fn cells_of(
     memory: &Recorder,
     touched: &[u32],
 ) -> Result<Vec<Cell>, NoMemory>
-    ensures { IfOk result (λ cells. All (IsCell touched.now (view_of memory.now).byte) cells.items) }
+    ensures { IfOk result (λ cells. All
+        (IsCell touched.now (view_of memory.now).byte) cells.items) }
 {
     let mut cells = Vec::new(alloc);
     for addr in addresses {
@@ -108,8 +109,10 @@ fn changed(
 ) -> Result<End, NoVector>
     ensures core { IfOk result (λ end. end.core ≡ core) }
     ensures ends { IfOk result (λ end. end.ends ≡ ends) }
-    ensures kept { IfOk result (λ end. IsTrue memory.complete × (end.touches.items ≡ memory.touches.items)) }
-    ensures ram { IfOk result (λ end. All (IsCell touched.now (view_of memory).byte) end.ram.items) }
+    ensures kept { IfOk result
+        (λ end. IsTrue memory.complete × (end.touches.items ≡ memory.touches.items)) }
+    ensures ram { IfOk result
+        (λ end. All (IsCell touched.now (view_of memory).byte) end.ram.items) }
 {
     let addresses = addresses_of(alloc, memory.touches())?;
     let ram = cells_of(alloc, &addresses, &memory, touched)?;
@@ -133,7 +136,8 @@ fn end_of(
     settled: &Settled,
 ) -> Result<End, NoVector>
     requires { cpu.now.term.input.items ≡ [] }
-    ensures { (m : Flat) → (space : List Area) → IsSettled m space settled.now cpu.now memory → IsStart m start
+    ensures { (m : Flat) → (space : List Area) → IsSettled m space settled.now cpu.now memory
+        → IsStart m start
         → IfOk result (EndsWell m settled.now.touched.items) }
 {
     let touched = settled.touched.as_slice();

@@ -102,7 +102,8 @@ fn memory_of(alloc: Global, pages: &[Page], ram: &[Cell]) -> Result<Plain, NoVec
 /// Makes all pages absent.
 #[tactic(auto, unfolding(crate::specs::Settled::has_number))]
 fn hide_all(memory: &mut Recorder, pages: &[Page])
-    requires { (page : ℕ) → (recorded memory.old).resident page ≡ true → has_number pages.now page ≡ true }
+    requires { (page : ℕ) → (recorded memory.old).resident page ≡ true
+        → has_number pages.now page ≡ true }
     ensures { recorded memory.new ≡ record (recorded memory.old) { resident = λ page. false } }
 {
     for page in pages {
@@ -112,8 +113,10 @@ fn hide_all(memory: &mut Recorder, pages: &[Page])
 
 /// The memory of pages with these bytes, of which all are absent.
 pub(crate) fn recorder_of(alloc: Global, pages: &[Page], ram: &[Cell]) -> Result<Recorder, NoVector>
-    ensures view { IfOk result (λ r. recorded r ≡ seen (map (area_of ram.now) pages.now) (memory_of pages.now ram.now) []) }
-    ensures areas { OnOk result (layout (memory_of pages.now ram.now) ≡ layout (map (area_of ram.now) pages.now)) }
+    ensures view { IfOk result (λ r. recorded r
+        ≡ seen (map (area_of ram.now) pages.now) (memory_of pages.now ram.now) []) }
+    ensures areas { OnOk result (layout (memory_of pages.now ram.now)
+        ≡ layout (map (area_of ram.now) pages.now)) }
     ensures whole { OnOk result (IsWhole (memory_of pages.now ram.now)) }
 {
     let plain = memory_of(alloc, pages, ram)?;
