@@ -1,5 +1,4 @@
 //! All faults of sources.
-use std::alloc::Global;
 use std::test::Fail;
 use vax_asm_check::*;
 use vax_asm_second::Fault;
