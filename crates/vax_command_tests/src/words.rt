@@ -50,7 +50,7 @@ fn usual<'a>() -> Options<'a> {
 /// Plain words of `bare` that give one file, with the options that they ask for; clap reads them all.
 #[test]
 fn reads_options(rt: HostRuntime) -> Result<(), Fail> {
-    let rows: [(&str, Options); 7] = [
+    let rows: [(&str, Options); 9] = [
         ("bare A", usual()),
         (
             "bare --input=B A --schedule S=T",
@@ -125,7 +125,7 @@ fn reads_options(rt: HostRuntime) -> Result<(), Fail> {
 /// Plain words of each command; clap reads them all.
 #[test]
 fn reads_commands(rt: HostRuntime) -> Result<(), Fail> {
-    let rows: [(&str, Command); 12] = [
+    let rows: [(&str, Command); 13] = [
         (
             "run A B C D E F G H",
             Command::Run {
