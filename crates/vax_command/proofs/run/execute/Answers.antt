@@ -1,9 +1,14 @@
-use Rattle.std.proofs.Common.{refl, arith}
+use Rattle.std.proofs.Common.{refl, ap, subst, ◌∙◌, arith}
 use Rattle.vax_machine.specs.Machine.{keeping}
 use Rattle.vax_machine.specs.Meaning.{engine}
 use Rattle.vax_machine.specs.Paged.{ByEnding, BySteps, ByTurns}
 use Rattle.vax_machine.specs.declared.event.RunEnd.TheVariants as run_end
 use Rattle.vax_command.proofs.LoadLaws.{rose_from}
+use Rattle.vax_word.specs.declared.Core.{Core}
+use Rattle.vax_command.specs.Answer.{status_of}
+use Rattle.vax_command.specs.Fresh.{IsReported}
+use Rattle.vax_command.specs.Went.{last_of}
+use Rattle.vax_command.specs.declared.status.Status.{Status}
 use Rattle.vax_command.specs.Around.{change, outside, seen_of}
 use Rattle.vax_command.specs.Room.{items_of}
 use Rattle.vax_command.specs.Setup.{Setup}
@@ -17,10 +22,13 @@ returns-in-Ended-clause-went g c = λ frames m f.
     let seen = outside (change g.K.Sink.faults g.K.Sink.contents c.args.sink.now c.report_all.new.sink) (change g.F.PageFile.faults g.F.PageFile.contents c.args.pages.now c.report_all.new.pages) in
     let read = change g.F.PageFile.faults g.F.PageFile.contents c.run.new.file c.report_all.new.pages in
     let ran = c.report_all.ensures.reported in
+    let why = ByEnding c.in-Ended.ending in
+    let meant = c.answer_ended-meant.ensures ∙ ap (λ (k : Core). status_of c.args.telling.strict k why) c.core.ensures in
+    let so = subst (λ (z : Status). IsReported read (engine c.run.new.self) (last_of why) z (items_of c.args.telling.room.blanks.items) ran.meant ran.grown) meant ran.so in
     went_whole seen setup (engine c.args.machine) (engine c.run.new.self) starts
     (seen_of g.K.Sink.faults g.K.Sink.contents c.run.new.sink) c.report_all.result
     read (λ r. rose_from _ _ _ (c.in-Ended.ensures.unfailed (λ x. cc) (λ x. cc)) r) c.report_all.ensures.reads c.report_all.ensures.unread (run_end.Ended c.in-Ended.ending) (ByEnding c.in-Ended.ending) refl
-    c.in-Ended.ensures.ends c.run.ensures.only (c.in-Ended.ensures.written (λ x. cc)) ran.meant ran.grown ran.so ran.ends
+    c.in-Ended.ensures.ends c.run.ensures.only (c.in-Ended.ensures.written (λ x. cc)) ran.meant ran.grown so ran.ends
 
 pub returns-in-Steps-clause-went : goal.returns-in-Steps-clause-went
 returns-in-Steps-clause-went g c = λ frames m f.
@@ -29,10 +37,11 @@ returns-in-Steps-clause-went g c = λ frames m f.
     let seen = outside (change g.K.Sink.faults g.K.Sink.contents c.args.sink.now c.report_all-in-Steps.new.sink) (change g.F.PageFile.faults g.F.PageFile.contents c.args.pages.now c.report_all-in-Steps.new.pages) in
     let read = change g.F.PageFile.faults g.F.PageFile.contents c.run.new.file c.report_all-in-Steps.new.pages in
     let ran = c.report_all-in-Steps.ensures.reported in
+    let so = subst (λ (z : Status). IsReported read (engine c.run.new.self) (last_of BySteps) z (items_of c.args.telling.room.blanks.items) ran.meant ran.grown) c.answer_unhalted-meant.ensures ran.so in
     went_whole seen setup (engine c.args.machine) (engine c.run.new.self) starts
     (seen_of g.K.Sink.faults g.K.Sink.contents c.run.new.sink) c.report_all-in-Steps.result
     read (λ r. rose_from _ _ _ (c.in-Steps.ensures.unfailed (λ x. cc) (λ x. cc)) r) c.report_all-in-Steps.ensures.reads c.report_all-in-Steps.ensures.unread run_end.Steps BySteps refl
-    c.in-Steps.ensures.ends c.run.ensures.only (c.in-Steps.ensures.written (λ x. cc)) ran.meant ran.grown ran.so ran.ends
+    c.in-Steps.ensures.ends c.run.ensures.only (c.in-Steps.ensures.written (λ x. cc)) ran.meant ran.grown so ran.ends
 
 pub returns-in-Turns-clause-went : goal.returns-in-Turns-clause-went
 returns-in-Turns-clause-went g c = λ frames m f.
