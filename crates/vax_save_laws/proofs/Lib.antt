@@ -1,0 +1,9 @@
+mod Fields
+mod Registers
+mod Bytes
+mod Ascending
+mod Pages
+mod Restoring
+mod Taking
+mod TakingPages
+mod TakingState
