@@ -14,8 +14,6 @@ mod pager;
 #[cfg(test)]
 mod report;
 #[cfg(test)]
-mod saved_states;
-#[cfg(test)]
 mod sched;
 #[cfg(test)]
 mod script;
@@ -23,5 +21,3 @@ mod script;
 mod table;
 #[cfg(test)]
 mod tb;
-#[cfg(test)]
-mod traced;
