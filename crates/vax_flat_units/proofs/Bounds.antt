@@ -15,6 +15,8 @@ use Rattle.vax_flat.specs.StringMatch.{at_next_place, places_of}
 use Rattle.vax_flat.proofs.StringSearch.{length_run}
 use Rattle.vax_flat.proofs.StringGoing.{Family, Seeking, Scanning, Comparing, Moving, Escaping, Matching}
 use Rattle.vax_flat_units.specs.Units.{byte_of, is_marked, to_first, search_units, scan_units, pair_units, compare_units, move_units, escape_units, place_units, stands_at, places_units, match_units}
+use Rattle.vax_flat_units.proofs.Reaching.{few_reached}
+use Rattle.vax_flat_units.proofs.Reached.{reached_by, violates_by}
 use Rattle.vax_flat_units.proofs.Families.{units_by}
 
 few_or_one : (b : Bool) (x y : ℕ) → x ≤ y → (if b then 1 else suc x) ≤ suc y
@@ -75,3 +77,6 @@ units_few Escaping p m small1 small2 =
     let xs = bytes_from (byte_at m) (plus p.addr1 p.done) (moved_count p - p.done) in
     omega (arith, few_first (is_escape (bytes_from (byte_at m) p.table 256) p.byte) xs, length_run (byte_at m) (plus p.addr1 p.done) (moved_count p - p.done))
 units_few Matching p m small1 small2 = omega (arith, few_places (byte_at m) (places_of p) p (omega arith), places_few p small2)
+
+pub reached_few : (f : Family) (p : Progress) (in_mode : ℕ) (m : List Area) → p.len1 < 0x10000 → p.len2 < 0x10000 → reached_by f p in_mode m < 2 ^ 32
+reached_few f p in_mode m small1 small2 = omega (arith, few_reached (violates_by f p in_mode m) (units_by f p m), units_few f p m small1 small2)

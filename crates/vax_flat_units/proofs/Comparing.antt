@@ -43,7 +43,7 @@ string_some r page = let u = some_up r.addr page in by (nat_le r.len (room_up r.
     by true u = omega arith
     by false u = u
 
-room : (p : Progress) → (pairs_of p - p.done == 0) ≡ false → (0 < compare_room p) × (compare_room p ≤ pairs_of p - p.done)
+pub room : (p : Progress) → (pairs_of p - p.done == 0) ≡ false → (0 < compare_room p) × (compare_room p ≤ pairs_of p - p.done)
 unfolding compare_room
 room p e =
     let left : 0 < pairs_of p - p.done = grind (arith, nat_tests) in

@@ -1,9 +1,7 @@
 -- At every place within a step the units that are done and those that are left come to the same.
-use Rattle.std.proofs.Common.{◌≡◌, ℕ, ◌+◌, ◌<◌, ◌≤◌, ◌^◌, Bool, true, false, Option, Some, None, List, [], ◌∷◌, slice_index, slice_set, refl, sym, ap, subst, ◌∙◌, inl, inr, arith}
+use Rattle.std.proofs.Common.{◌≡◌, ℕ, ◌+◌, ◌<◌, ◌≤◌, ◌^◌, ◌||◌, Bool, true, false, Option, Some, None, List, [], ◌∷◌, slice_index, slice_set, refl, sym, ap, subst, ◌∙◌, inl, inr, arith}
 use Rattle.std.specs.Prelude.{if◌then◌else◌}
-use Rattle.std.proofs.lemmas.Bool.{cases_Bool, true≢false}
-use Rattle.vax_flat.specs.StringMove.{move_start}
-use Rattle.vax_flat.specs.StringEscape.{escape_start}
+use Rattle.std.proofs.lemmas.Bool.{cases_Bool}
 use Rattle.vax_space.specs.declared.Access.TheVariants.{Read}
 use Rattle.vax_space.specs.declared.Area.{Area}
 use Rattle.vax_space.specs.declared.Violation.{Violation}
@@ -15,7 +13,6 @@ use Rattle.vax_isa.specs.declared.actions.Text.TheVariants as text
 use Rattle.vax_isa.specs.Actions.{of_text}
 use Rattle.vax_isa.specs.Rows.{action_of}
 use Rattle.vax_strpart.specs.declared.packing.Progress.{Progress}
-use Rattle.vax_strpart.specs.Packing.{unpacked}
 use Rattle.vax_flat.specs.declared.Exception.TheVariants as exception
 use Rattle.vax_flat.specs.declared.Flow.{Flow}
 use Rattle.vax_flat.specs.declared.Flow.TheVariants as flow
@@ -30,7 +27,7 @@ use Rattle.vax_flat.specs.Rows.{read_value, address_value}
 use Rattle.vax_flat.specs.System.{flow_of_delivery}
 use Rattle.vax_flat.specs.Instruction.{acted, acted_part, acted_part_if, first_part}
 use Rattle.vax_flat.specs.Step.{Flat, state_of, level, leaf}
-use Rattle.vax_flat.specs.String.{low_registers, suspended, IsReady}
+use Rattle.vax_flat.specs.String.{suspended, IsReady}
 use Rattle.vax_flat.specs.StringOperands as operands
 use Rattle.vax_flat.specs.StringOperands.{begun, search_operands, scan_operands, equal_operands, filled_operands, translated_operands, match_operands, next_word, next_byte, next_longword}
 use Rattle.vax_flat.specs.StringParts.{text_part}
@@ -42,13 +39,14 @@ use Rattle.vax_flat.proofs.Bounds.{acted_adds, interrupt_begins, finished_adds}
 use Rattle.vax_flat.proofs.Listed.{begins, first_by, part_takes}
 use Rattle.vax_flat.proofs.Readings.{IsAtAddress, AreReadOnly, Reading, Gives, Fails, reading_operands, set_read, with_regs}
 use Rattle.vax_flat.proofs.Steps.{whole_leaf}
-use Rattle.vax_flat.proofs.StringState.{unpacked_suspended}
 use Rattle.vax_flat.proofs.StringGoing.{IsSound, Completed, Leaving, Failing, fin}
 use Rattle.vax_flat.proofs.StringBeginning.{family_of, opcode_of, IsFresh, Begins, Stopping, Going, fresh, starts}
-use Rattle.vax_flat_units.specs.Units.{Counts, units_left}
-use Rattle.vax_flat_units.specs.Places.{is_interrupted, is_reserved_by, units_at_start, instruction_units, text_operands, tells, tells_if, told, units_of}
-use Rattle.vax_flat_units.proofs.Families.{units_by, left_is, first_right}
-use Rattle.vax_flat_units.proofs.Bounds.{units_few}
+use Rattle.vax_flat_units.specs.Units.{Counts}
+use Rattle.vax_flat_units.specs.Violations.{is_reserved_by, is_violated_by, units_reached}
+use Rattle.vax_flat_units.specs.Places.{is_interrupted, units_at_start, instruction_units, text_operands, tells, tells_if, told, units_of}
+use Rattle.vax_flat_units.proofs.Families.{units_by, first_right}
+use Rattle.vax_flat_units.proofs.Reached.{reached_by, reached_is, AreClear, first_clears, made_of, stopped_leaves}
+use Rattle.vax_flat_units.proofs.Bounds.{reached_few}
 
 -- only a string instruction leaves a part
 fin_whole : (ws : List ℕ) (how : Flow) (t : State) → IsWhole how → (memory : List Area) → LeavesNoPart (outcome_of (fin how t) memory)
@@ -101,46 +99,42 @@ begun_ready : (s : State) (regs : List ℕ) → IsAtAddress regs → IsReady (be
 unfolding operands.sixteen
 begun_ready s regs good = record { full = refl; pc = good.pc; clear = omega arith }
 
-tells_it : (memory : List Area) (p : Progress) (s : State) → told (outcome_of (tells memory p s) memory) ≡ units_at_start p memory
+tells_it : (memory : List Area) (p : Progress) (s : State) → told (outcome_of (tells memory p s) memory) ≡ units_at_start p (mode s) memory
 unfolding outcome_of
 tells_it memory p s = refl
 
-told_by : (t : Text) (p : Progress) (s : State) (memory : List Area) → IsFresh t p → told (outcome_of (tells memory p s) memory) ≡ (if is_reserved_by p.op p then 0 else units_by (family_of t) p memory)
-told_by t p s memory f = tells_it memory p s ∙ ap (λ n. if is_reserved_by p.op p then 0 else n) (ap (λ opcode. units_left opcode p memory) f.op ∙ left_is t p memory)
+told_by : (t : Text) (p : Progress) (s : State) (memory : List Area) → IsFresh t p → told (outcome_of (tells memory p s) memory) ≡ (if is_reserved_by p.op p || is_violated_by p.op p (mode s) memory then 0 else reached_by (family_of t) p (mode s) memory)
+told_by t p s memory f =
+    tells_it memory p s
+    ∙ ap (λ n. if is_reserved_by p.op p || is_violated_by p.op p (mode s) memory then 0 else n) (ap (λ opcode. units_reached opcode p (mode s) memory) f.op ∙ reached_is t p (mode s) memory)
 
--- a move that is reserved raises its exception
-by_opcode : (t : Text) (p : Progress) → IsFresh t p → is_reserved_by p.op p ≡ true → is_reserved_by (opcode_of t) p ≡ true
-by_opcode t p f so = sym (ap (λ opcode. is_reserved_by opcode p) f.op) ∙ so
+-- a move that has no units
+by_opcode : (t : Text) (p : Progress) (s : State) (memory : List Area) → IsFresh t p → (is_reserved_by p.op p || is_violated_by p.op p (mode s) memory) ≡ true → (is_reserved_by (opcode_of t) p || is_violated_by (opcode_of t) p (mode s) memory) ≡ true
+by_opcode t p s memory f so = sym (ap (λ opcode. is_reserved_by opcode p || is_violated_by opcode p (mode s) memory) f.op) ∙ so
 
-reserved_raises : (t : Text) (p : Progress) (s : State) (memory : List Area) → is_reserved_by (opcode_of t) p ≡ true → outcome_of (first_by t p s fin) memory ≡ Raised exception.Operand
-unfolding first_by move_start escape_start outcome_of
-reserved_raises text.Move p s memory so = absurd (true≢false (sym so))
-reserved_raises text.MoveFilled p s memory so = absurd (true≢false (sym so))
-reserved_raises text.MoveTranslated p s memory so = rw so refl
-reserved_raises text.MoveTranslatedUntil p s memory so = rw so refl
-reserved_raises text.Compare p s memory so = absurd (true≢false (sym so))
-reserved_raises text.CompareFilled p s memory so = absurd (true≢false (sym so))
-reserved_raises text.Locate p s memory so = absurd (true≢false (sym so))
-reserved_raises text.Skip p s memory so = absurd (true≢false (sym so))
-reserved_raises text.Scan p s memory so = absurd (true≢false (sym so))
-reserved_raises text.Span p s memory so = absurd (true≢false (sym so))
-reserved_raises text.Match p s memory so = absurd (true≢false (sym so))
+-- a move whose checks are violated has no units
+pub none_violated : (p : Progress) (in_mode : ℕ) (memory : List Area) → is_violated_by p.op p in_mode memory ≡ true → units_at_start p in_mode memory ≡ 0
+none_violated p in_mode memory so = rw so (by (is_reserved_by p.op p))
+  where
+    by : (b : Bool) → (if b || true then 0 else units_reached p.op p in_mode memory) ≡ 0
+    by true = refl
+    by false = refl
 
 -- the first part of a step: it leaves nothing, or some units, and the others are left
 pub data IsFirst (m : Flat) (total : ℕ) : Outcome Leaf → Type 0 where
   Whole : (o : Outcome Leaf) → LeavesNoPart o → IsFirst m total o
   Opens : (t : Text) (q : Progress) (made : ℕ) (u : State) (memory : List Area) → q.op ≡ opcode_of t → IsReady u → IsSound (family_of t) q u memory → u.input ≡ m.input → u.sent ≡ None →
-      1 ≤ made → 1 ≤ units_by (family_of t) q memory → total ≡ made + units_by (family_of t) q memory → IsFirst m total (Ends (Went (flow.More q.op made) (suspended q u)) memory)
+      1 ≤ made → 1 ≤ reached_by (family_of t) q (mode u) memory → total ≡ made + reached_by (family_of t) q (mode u) memory → IsFirst m total (Ends (Went (flow.More q.op made) (suspended q u)) memory)
 
 module _ (m : Flat) where
-  begins_first : (t : Text) (p : Progress) (u : State) (total : ℕ) (part : Outcome Leaf) → p.op ≡ opcode_of t → IsReady u → u.input ≡ m.input → u.sent ≡ None →
-      Begins (family_of t) p u m.memory part → Counts (units_by (family_of t)) p.op total part → IsFirst m total part
-  begins_first t p u total part op ready input sent (Stopping e) c = Whole (Raised e) tt
-  begins_first t p u total part op ready input sent (Going o (Completed v memory)) c = Whole (Ends (Went flow.Done v) memory) tt
-  begins_first t p u total part op ready input sent (Going o (Failing e reads)) c = Whole (Raised e) tt
-  begins_first t p u total part op ready input sent (Going o (Leaving q made memory is sound kept less)) c =
-      let held : unpacked p.op (low_registers (suspended q u)) ≡ q = ap (λ o. unpacked o (low_registers (suspended q u))) (sym is) ∙ unpacked_suspended q u ready.full sound.proper in
-      Opens t q made u memory (is ∙ op) ready sound input sent c.some (subst (λ r. 1 ≤ units_by (family_of t) r memory) held c.rest) (c.sum ∙ ap (λ r. made + units_by (family_of t) r memory) held)
+  begins_first : (t : Text) (p : Progress) (u : State) (part : Outcome Leaf) → p.op ≡ opcode_of t → IsReady u → u.input ≡ m.input → u.sent ≡ None → Begins (family_of t) p u m.memory part →
+      Counts (units_by (family_of t)) p.op (units_by (family_of t) p m.memory) part → AreClear (family_of t) p u m.memory part → IsFirst m (reached_by (family_of t) p (mode u) m.memory) part
+  begins_first t p u part op ready input sent (Stopping e) c k = Whole (Raised e) tt
+  begins_first t p u part op ready input sent (Going o (Completed v memory)) c k = Whole (Ends (Went flow.Done v) memory) tt
+  begins_first t p u part op ready input sent (Going o (Failing e reads)) c k = Whole (Raised e) tt
+  begins_first t p u part op ready input sent (Going o (Leaving q made memory is sound kept less)) c k =
+      let of = made_of (family_of t) p q u made m.memory memory ready sound is kept c k in
+      Opens t q made u memory (is ∙ op) ready sound input sent of.some of.rest of.sum
 
   text_first : (t : Text) (regs : List ℕ) → IsAtAddress regs → IsFirst m (told (outcome_of (text_operands t (with_regs (state_of m) regs) (tells m.memory)) m.memory)) (outcome_of (text_part t (with_regs (state_of m) regs) fin) m.memory)
   text_first t regs good = by (reading_operands (state_of m) m.memory (of_text t) (texts_read (state_of m) m.memory t) regs good)
@@ -156,15 +150,14 @@ module _ (m : Flat) where
           let ready = begun_ready (state_of m) more fine in
           let f = fresh t u xs (with_regs (state_of m) more) in
           let part : outcome_of (text_part t u fin) m.memory ≡ outcome_of (first_by t p v fin) m.memory = ap (λ tree. outcome_of tree m.memory) (part_takes t u fin) ∙ is _ in
-          let total : told (outcome_of (text_operands t u (tells m.memory)) m.memory) ≡ (if is_reserved_by p.op p then 0 else units_by (family_of t) p m.memory) =
+          let total : told (outcome_of (text_operands t u (tells m.memory)) m.memory) ≡ (if is_reserved_by p.op p || is_violated_by p.op p (mode v) m.memory then 0 else reached_by (family_of t) p (mode v) m.memory) =
           ap told (ap (λ tree. outcome_of tree m.memory) (operands_taken t u (tells m.memory)) ∙ is _) ∙ told_by t p v m.memory f in
           subst (IsFirst m _) (sym part)
           (subst (λ n. IsFirst m n (outcome_of (first_by t p v fin) m.memory)) (sym total)
-          (elim (cases_Bool (is_reserved_by p.op p)) [
-            | inl so ↦
-                rw so (subst (IsFirst m 0) (sym (reserved_raises t p v m.memory (by_opcode t p f so))) (Whole (Raised exception.Operand) tt))
+          (elim (cases_Bool (is_reserved_by p.op p || is_violated_by p.op p (mode v) m.memory)) [
+            | inl so ↦ rw so (Whole _ (stopped_leaves t p v m.memory (by_opcode t p v m.memory f so)))
             | inr isnt ↦
-                rw isnt (begins_first t p v (units_by (family_of t) p m.memory) (outcome_of (first_by t p v fin) m.memory) f.op ready refl refl (starts t p v m.memory ready f).begins_so (first_right t p v m.memory ready f))
+                rw isnt (begins_first t p v (outcome_of (first_by t p v fin) m.memory) f.op ready refl refl (starts t p v m.memory ready f).begins_so (first_right t p v m.memory ready f) (first_clears t p v m.memory ready f))
           ]))
 
   act_first : (a : Option Action) (regs : List ℕ) → IsAtAddress regs → IsFirst m (told (outcome_of (tells_if a m.memory (with_regs (state_of m) regs)) m.memory)) (outcome_of (acted_part_if a (with_regs (state_of m) regs) fin) m.memory)
@@ -216,13 +209,14 @@ module _ (m : Flat) where
       by (Fails e is) = let z : told (outcome_of (text_operands t u (tells m.memory)) m.memory) ≡ 0 = ap told (ap (λ tree. outcome_of tree m.memory) (operands_taken t u (tells m.memory)) ∙ is _) in omega (arith, z)
       by (Gives xs more fine is) =
           let p = begins t u xs (with_regs (state_of m) more) in
+          let v = begun (with_regs (state_of m) more) in
           let f = fresh t u xs (with_regs (state_of m) more) in
-          let total : told (outcome_of (text_operands t u (tells m.memory)) m.memory) ≡ (if is_reserved_by p.op p then 0 else units_by (family_of t) p m.memory) =
-          ap told (ap (λ tree. outcome_of tree m.memory) (operands_taken t u (tells m.memory)) ∙ is _) ∙ told_by t p (begun (with_regs (state_of m) more)) m.memory f in
+          let total : told (outcome_of (text_operands t u (tells m.memory)) m.memory) ≡ (if is_reserved_by p.op p || is_violated_by p.op p (mode v) m.memory then 0 else reached_by (family_of t) p (mode v) m.memory) =
+          ap told (ap (λ tree. outcome_of tree m.memory) (operands_taken t u (tells m.memory)) ∙ is _) ∙ told_by t p v m.memory f in
           subst (λ n. n < 2 ^ 32) (sym total)
-          (elim (cases_Bool (is_reserved_by p.op p)) [
+          (elim (cases_Bool (is_reserved_by p.op p || is_violated_by p.op p (mode v) m.memory)) [
             | inl so ↦ rw so (omega arith)
-            | inr isnt ↦ rw isnt (units_few (family_of t) p m.memory f.proper.len1 f.proper.len2)
+            | inr isnt ↦ rw isnt (reached_few (family_of t) p (mode v) m.memory f.proper.len1 f.proper.len2)
           ])
 
   act_few : (a : Option Action) (regs : List ℕ) → IsAtAddress regs → told (outcome_of (tells_if a m.memory (with_regs (state_of m) regs)) m.memory) < 2 ^ 32

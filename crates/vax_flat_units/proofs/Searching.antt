@@ -47,13 +47,13 @@ unfolding to_first bytes_from
 some_first found byte addr zero h = absurd (omega arith)
 some_first found byte addr (suc n) h = some_or (found (byte addr)) (to_first found (bytes_from byte (after addr) n))
 
-searched_proper : (p : Progress) (n : ℕ) → IsProper p → IsProper (searched p n)
+pub searched_proper : (p : Progress) (n : ℕ) → IsProper p → IsProper (searched p n)
 searched_proper p n proper = record { len1 = (let h = proper.len1 in omega arith); byte = proper.byte; len2 = proper.len2; unused = unused_alike p n (layout_of p.op) proper.unused }
 
-none_left : (p : Progress) → (p.len1 == 0) ≡ false → 0 < p.len1
+pub none_left : (p : Progress) → (p.len1 == 0) ≡ false → 0 < p.len1
 none_left p e = grind (arith, nat_tests)
 
-room : (p : Progress) → 0 < p.len1 → (0 < search_room p) × (search_room p ≤ p.len1)
+pub room : (p : Progress) → 0 < p.len1 → (0 < search_room p) × (search_room p ≤ p.len1)
 unfolding search_room
 room p h = (omega arith, omega arith)
 

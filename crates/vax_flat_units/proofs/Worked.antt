@@ -13,7 +13,8 @@ use Rattle.vax_flat.specs.StringOperands.{search_operands, equal_operands, fille
 use Rattle.vax_space.specs.Reference.{violation, may_access}
 use Rattle.vax_isa.specs.Rows.{action_of, with_opcode}
 use Rattle.vax_isa.specs.Instructions.{instructions}
-use Rattle.vax_flat_units.specs.Places.{units_of, instruction_units, is_reserved_by, text_operands}
+use Rattle.vax_flat_units.specs.Places.{units_of, instruction_units, text_operands}
+use Rattle.vax_flat_units.specs.Violations.{is_reserved_by, match_later, to_violation, unit_violates, units_reached}
 use Rattle.vax_flat.specs.StringMatch.{places_of}
 use Rattle.vax_flat_units.specs.Units.{to_first, search_units, scan_units, pair_units, compare_units, move_units, escape_units, place_units, stands_at, places_units, match_units, units_left}
 
@@ -90,7 +91,7 @@ at_start : (units_of (at_pc (0x3A ∷ 0x8F ∷ 0x42 ∷ 0x04 ∷ 0x61 ∷ [])) �
     × (units_of (at_pc (0x39 ∷ 0x02 ∷ 0x63 ∷ 0x04 ∷ 0x61 ∷ [])) ≡ 6)
     × (units_of (at_pc (0x01 ∷ [])) ≡ 0)
     × (units_of (at_pc (0x3A ∷ 0x8F ∷ 0x42 ∷ 0x04 ∷ 0x51 ∷ [])) ≡ 0)
-unfolding units_of instruction_units level highest ipl_of text_operands outcome_of search_operands equal_operands filled_operands match_operands next_word next_byte next_longword read_value address_value value_of address_in next_operand specified fetched read_at formed in_memory in_register addressed at_address literal is_reserved form_of action_of with_opcode instructions sixteen units_left search_units compare_units pair_units move_units match_units places_units place_units stands_at places_of to_first byte_at bytes_from has_page number violation may_access prot_of area_of allows right_of mode_of
+unfolding units_of instruction_units level highest ipl_of text_operands outcome_of search_operands equal_operands filled_operands match_operands next_word next_byte next_longword read_value address_value value_of address_in next_operand specified fetched read_at formed in_memory in_register addressed at_address literal is_reserved form_of action_of with_opcode instructions sixteen units_left search_units compare_units pair_units move_units match_units places_units place_units stands_at places_of to_first to_violation unit_violates match_later byte_at bytes_from has_page number violation may_access prot_of area_of allows right_of mode_of
 at_start = (refl, refl, refl, refl, refl, refl)
 
 -- MOVTC to a destination in which its table begins, and MOVTUC to one that begins in its source, raise a reserved operand; to one that is their
@@ -100,3 +101,26 @@ reserved opcode len1 addr1 len2 addr2 = is_reserved_by opcode (record { op = opc
 
 overlapping : (reserved 0x2E 4 0 4 510 ≡ true) × (reserved 0x2E 4 0 2 510 ≡ false) × (reserved 0x2E 0 0 4 510 ≡ false) × (reserved 0x2F 4 0 4 2 ≡ true) × (reserved 0x2F 4 0 4 0 ≡ false) × (reserved 0x2C 4 0 4 510 ≡ false)
 overlapping = (refl, refl, refl, refl, refl, refl)
+
+-- Units end with the first that violates. LOCC #^A/C/,#4 from 510 on comes to page 1, where user mode may read nothing; CMPC3 #4 of AAAB and what
+-- stands at 510; SCANC #4 by a table in page 1; MATCHC #1 of A, from 511 on; and MOVC3 counts on, as its checks come before its first unit
+abbrev guarded : List Area
+guarded =
+    record { first = 0; pages = 1; prot = 4; bytes = 65 ∷ 65 ∷ 65 ∷ 66 ∷ [] }
+    ∷ record { first = 1; pages = 1; prot = 2; bytes = [] }
+    ∷ []
+
+abbrev reached : ℕ → ℕ → ℕ → ℕ → ℕ → ℕ
+reached in_mode opcode len1 addr1 addr2 = units_reached opcode (record { op = opcode; len1 = len1; addr1 = addr1; byte = 67; len2 = 4; addr2 = addr2; table = 512; done = 0; delta = 6 }) in_mode guarded
+
+violating : (reached 3 0x3A 4 510 0 ≡ 3)
+    × (reached 0 0x3A 4 510 0 ≡ 4)
+    × (reached 3 0x29 4 100 510 ≡ 3)
+    × (reached 0 0x29 4 100 510 ≡ 4)
+    × (reached 3 0x2A 4 0 0 ≡ 1)
+    × (reached 0 0x2A 4 0 0 ≡ 4)
+    × (reached 3 0x39 1 0 511 ≡ 2)
+    × (reached 0 0x39 1 0 511 ≡ 4)
+    × (reached 3 0x28 4 0 510 ≡ 4)
+unfolding units_left search_units compare_units pair_units move_units scan_units match_units places_units place_units stands_at places_of to_first to_violation unit_violates match_later byte_at bytes_from has_page may_access prot_of area_of allows right_of
+violating = (refl, refl, refl, refl, refl, refl, refl, refl, refl)

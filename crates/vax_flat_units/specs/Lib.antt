@@ -1,4 +1,5 @@
 pub mod Units
+pub mod Violations
 pub mod Places
 pub mod Wholes
 pub mod Laws

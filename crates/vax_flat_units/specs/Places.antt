@@ -1,5 +1,5 @@
 -- How many units the string instruction at PC has, and how many are left at a place within a step.
-use Rattle.std.specs.Prelude.{◌≡◌, ◌≤◌, ◌+◌, ◌==◌, ℕ, Bool, true, false, nat_lt, if◌then◌else◌, Option, Some, None, List}
+use Rattle.std.specs.Prelude.{◌≡◌, ◌≤◌, ◌+◌, ◌||◌, ℕ, Bool, nat_lt, if◌then◌else◌, Option, Some, None, List}
 use Rattle.vax_space.specs.declared.Area.{Area}
 use Rattle.vax_isa.specs.declared.actions.Action.{Action}
 use Rattle.vax_isa.specs.declared.actions.Action.TheVariants as action
@@ -7,17 +7,17 @@ use Rattle.vax_isa.specs.declared.actions.Text.{Text}
 use Rattle.vax_isa.specs.declared.actions.Text.TheVariants as text
 use Rattle.vax_isa.specs.Rows.{action_of}
 use Rattle.vax_strpart.specs.declared.packing.Progress.{Progress}
+use Rattle.vax_strpart.specs.Packing.{unpacked}
 use Rattle.vax_flat.specs.declared.Flow.TheVariants as flow
-use Rattle.vax_flat.specs.State.{State, priority}
+use Rattle.vax_flat.specs.State.{State, mode, priority}
 use Rattle.vax_flat.specs.Accesses.{Accesses, Leaf, Went, Found}
 use Rattle.vax_flat.specs.Operand.{fetched}
 use Rattle.vax_flat.specs.Outcome.{Outcome, Ends, Raised, outcome_of}
 use Rattle.vax_flat.specs.Parts.{Partway, Place, At, Within, units_done}
 use Rattle.vax_flat.specs.Step.{Flat, leaf, level, state_of}
-use Rattle.vax_flat.specs.StringMove.{is_reserved}
-use Rattle.vax_flat.specs.StringEscape.{is_escape_reserved}
+use Rattle.vax_flat.specs.String.{low_registers}
 use Rattle.vax_flat.specs.StringOperands.{search_operands, scan_operands, equal_operands, filled_operands, translated_operands, match_operands}
-use Rattle.vax_flat_units.specs.Units.{units_left, units_in}
+use Rattle.vax_flat_units.specs.Violations.{is_reserved_by, is_violated_by, units_reached}
 
 -- the operands of a string instruction, whose opcode PC is past
 unfoldable pub text_operands : Text → State → (Progress → State → Accesses Leaf) → Accesses Leaf
@@ -33,20 +33,14 @@ text_operands text.Scan s next = scan_operands 0x2A s next
 text_operands text.Span s next = scan_operands 0x2B s next
 text_operands text.Match s next = match_operands 0x39 s next
 
--- MOVTC and MOVTUC raise a reserved operand
-abbrev pub is_reserved_by : ℕ → Progress → Bool
-is_reserved_by opcode p =
-    if opcode == 0x2E then is_reserved true p
-    else if opcode == 0x2F then is_escape_reserved p
-    else false
-
--- how many units it has, which is none where it raises a reserved operand
-abbrev pub units_at_start : Progress → List Area → ℕ
-units_at_start p memory = if is_reserved_by p.op p then 0 else units_left p.op p memory
+-- how many units it has, which is none where it raises a reserved operand or where its checks raise a violation
+abbrev pub units_at_start : Progress → ℕ → List Area → ℕ
+units_at_start p mode memory =
+    if is_reserved_by p.op p || is_violated_by p.op p mode memory then 0 else units_reached p.op p mode memory
 
 -- once its operands are read, that is told
 abbrev pub tells : List Area → Progress → State → Accesses Leaf
-tells memory p s = leaf (flow.More p.op (units_at_start p memory)) s
+tells memory p s = leaf (flow.More p.op (units_at_start p (mode s) memory)) s
 
 -- no other instruction has units
 abbrev pub tells_if : Option Action → List Area → State → Accesses Leaf
@@ -68,7 +62,8 @@ told (Ends (Went (flow.Ended e) s) memory) = 0
 told (Ends (Found operand s) memory) = 0
 told (Raised e) = 0
 
--- how many units the instruction at PC has: of a string instruction whose operands can be read, as many as are left with nothing done
+-- How many units the instruction at PC has: of a string instruction whose operands can be read, as many as are left with nothing done. They end
+-- with the first that violates in the current access mode.
 unfoldable pub instruction_units : Flat → ℕ
 instruction_units m = told (outcome_of (fetched 1 (state_of m) (λ opcode s. tells_if (action_of opcode) m.memory s)) m.memory)
 
@@ -80,10 +75,14 @@ is_interrupted m = nat_lt (priority (state_of m)) (level m.core)
 unfoldable pub units_of : Flat → ℕ
 units_of m = if is_interrupted m then 0 else instruction_units m
 
+-- how many are left between two parts, by the registers
+abbrev pub units_within : ℕ → State → List Area → ℕ
+units_within opcode s memory = units_reached opcode (unpacked opcode (low_registers s)) (mode s) memory
+
 -- how many are left where an attempt begins
 abbrev pub units_from : Place → ℕ
 units_from (At m) = units_of m
-units_from (Within p) = units_in p.opcode (state_of p.now) p.now.memory
+units_from (Within p) = units_within p.opcode (state_of p.now) p.now.memory
 
 -- a turn made so many units, one or more: so many more are done, and so many fewer are left, one or more
 pub record AreMade (place : Place) (next : Partway) : Type 0 where

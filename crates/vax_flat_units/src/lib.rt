@@ -19,8 +19,9 @@ ghost use Rattle.vax_flat.specs.StringMove.{move_part, whole_move};
 ghost use Rattle.vax_flat.specs.StringParts.{resumed};
 ghost use Rattle.vax_flat.specs.StringSearch.{scan_part, search_part, whole_scan, whole_search};
 ghost use Rattle.vax_flat_units.specs.Laws.{CanResume, IsComparison, IsEscape, IsMatch, IsMove, IsScan, IsSearch, PartsCount, Reads, Writes, WritesOrEscapes, bytes_compared};
-ghost use Rattle.vax_flat_units.specs.Places.{AreMade, is_interrupted, is_reserved_by, units_at_start, units_from, units_of};
+ghost use Rattle.vax_flat_units.specs.Places.{AreMade, is_interrupted, units_at_start, units_from, units_of};
 ghost use Rattle.vax_flat_units.specs.Units.{Counts, compare_units, escape_units, match_units, move_units, scan_units, search_units, units_in, units_left};
+ghost use Rattle.vax_flat_units.specs.Violations.{is_reserved_by, is_violated_by};
 
 /// Units are what a whole instruction, whose definition knows no parts, touches where it is completed: a search reads a byte for each of its
 /// units, and a search by a table or a match two; a comparison reads for each a byte of both strings, but none of one that is exhausted; a move
@@ -57,8 +58,8 @@ pub fn later_parts_count_units()
 
 /// At every place by which a step goes, the units that are done and those that are left come to the units of its instruction. An attempt from
 /// there that leaves a place made one unit or more: so many more are done at that place, and so many fewer are left, one or more. An instruction
-/// has fewer than 2^32 of them, so the count of what is done, which goes no further, never stops short. A step that takes an interrupt has none, and
-/// neither has a move that raises a reserved operand.
+/// has fewer than 2^32 of them, so the count of what is done, which goes no further, never stops short. They end with the first that violates in the
+/// current access mode. A step that takes an interrupt has none, and neither has a move that raises a reserved operand or whose checks are violated.
 pub fn places_count_units()
     ensures sum { (m : Flat) (place : Place) → GoesBy m place →
         units_done place + units_from place ≡ units_of m }
@@ -66,6 +67,8 @@ pub fn places_count_units()
         GoesBy m place → turn place ≡ Leaves next → AreMade place next }
     ensures few { (m : Flat) → units_of m < 2 ^ 32 }
     ensures interrupted { (m : Flat) → is_interrupted m ≡ true → units_of m ≡ 0 }
-    ensures reserved { (p : Progress) (memory : List Area) →
-        is_reserved_by p.op p ≡ true → units_at_start p memory ≡ 0 }
+    ensures reserved { (p : Progress) (in_mode : ℕ) (memory : List Area) →
+        is_reserved_by p.op p ≡ true → units_at_start p in_mode memory ≡ 0 }
+    ensures violated { (p : Progress) (in_mode : ℕ) (memory : List Area) →
+        is_violated_by p.op p in_mode memory ≡ true → units_at_start p in_mode memory ≡ 0 }
 {}

@@ -1,5 +1,5 @@
 use Rattle.std.proofs.Common.{refl}
-use Rattle.vax_flat_units.proofs.Places.{few, interrupted_has_none}
+use Rattle.vax_flat_units.proofs.Places.{few, interrupted_has_none, none_violated}
 use Rattle.vax_flat_units.proofs.Sums.{made, sums}
 use Rattle.vax_flat_units.proofs.places_count_units.Goals as goal
 
@@ -9,5 +9,6 @@ returns c = record {
   made = λ m place next by is. made m place next by is;
   few = λ m. few m;
   interrupted = λ m so. interrupted_has_none m so;
-  reserved = λ p memory so. rw so refl;
+  reserved = λ p in_mode memory so. rw so refl;
+  violated = λ p in_mode memory so. none_violated p in_mode memory so;
 }
