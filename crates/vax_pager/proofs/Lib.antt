@@ -8,6 +8,7 @@ pub mod Told
 pub mod Effects
 pub mod Start
 pub mod Views
+pub mod Walking
 pub mod Writes
 pub mod Writable
 pub mod Apart

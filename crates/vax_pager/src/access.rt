@@ -1,5 +1,5 @@
 //! Reads and writes of resident pages.
-ghost use Rattle.std.specs.Prelude.{◌≡◌, ◌+◌, ◌-◌, ◌<◌, ◌≤◌, ◌%◌, true, length, is_some, IfSome, OnErr, OnOk, Some, None};
+ghost use Rattle.std.specs.Prelude.{◌≡◌, ◌+◌, ◌-◌, ◌<◌, ◌≤◌, ◌%◌, false, true, length, is_some, IfNone, IfSome, OnErr, OnOk, Some, None};
 ghost use Rattle.vax_table.specs.Mapping.{frame_of};
 
 use crate::store::Store;
@@ -79,6 +79,35 @@ impl Store {
             return None;
         }
         self.buffer.frame_at_once(addr / PAGE_BYTES, mode, access)
+    }
+
+    /// The same of a page that has no entry in the buffer, by the tables: its entry is there afterwards.
+    #[inline(always)]
+    fn frame_by_walk(&mut self, addr: u32, n: u32, mode: u8, access: Access) -> Option<u32>
+        requires sound { IsSound 0 self.old }
+        requires of_mode { mode ≤ 3 }
+        ensures sound { IsSound 0 self.new }
+        ensures paging { paging self.new ≡ paging self.old }
+        ensures held { IfSome result (λ frame. held self.new (page_of addr) ≡ Some frame) }
+        ensures one_page { is_some result ≡ true → addr % 512 + n ≤ 512 }
+        ensures free { is_some result ≡ true
+            → stop (view_of (paging self.old)) addr n mode access ≡ None }
+        ensures marked { is_some result ≡ true → access ≡ Access.Write
+            → is_listed (page_of addr) (paging self.old).modified ≡ true }
+        ensures resident { is_some result ≡ true
+            → is_listed (page_of addr) (paging self.old).order ≡ true }
+        ensures left { IfNone result (buffered self.new.buffer ≡ buffered self.old.buffer) }
+        ensures entry { is_some result ≡ true
+            → is_some (buffered self.new.buffer (page_of addr)) ≡ true }
+        ensures missed { is_some result ≡ true
+            → is_some (buffered self.old.buffer (page_of addr)) ≡ false }
+        ensures hits { self.new.buffer.hits ≡ self.old.buffer.hits }
+    {
+        if n > PAGE_BYTES - addr % PAGE_BYTES {
+            return None;
+        }
+        self.buffer
+            .frame_by_walk(addr / PAGE_BYTES, mode, access, &self.tables)
     }
 
     /// The number that some bytes of a frame are.
@@ -176,6 +205,26 @@ impl Store {
         ensures bytes { AreBytes (view_of (paging self.old)).byte }
     {
         if let Some(frame) = self.frame_at_once(addr, n, mode, Access::Read) {
+            return Ok(self.number_in(frame, addr, n));
+        }
+        self.read_by_walk(addr, n, mode)
+    }
+
+    /// The same by the tables.
+    #[inline(never)]
+    fn read_by_walk(&mut self, addr: u32, n: u32, mode: u8) -> Result<u64, Stop>
+        requires sound { IsSound 0 self.old }
+        requires some { 1 ≤ n }
+        requires few { n ≤ 8 }
+        requires of_mode { mode ≤ 3 }
+        ensures sound { IsSound 0 self.new }
+        ensures paging { paging self.new ≡ paging self.old }
+        ensures answer { result ≡ loaded (view_of (paging self.old)) addr n mode }
+        ensures entry { OnOk result (addr % 512 + n ≤ 512
+            → is_some (buffered self.new.buffer (page_of addr)) ≡ true) }
+        ensures hits { OnOk result (CountsHit addr n self.old self.new) }
+    {
+        if let Some(frame) = self.frame_by_walk(addr, n, mode, Access::Read) {
             return Ok(self.number_in(frame, addr, n));
         }
         self.read_slowly(addr, n, mode)
@@ -302,6 +351,30 @@ impl Store {
         ensures only { OnlyWritten (paging self.old) (paging self.new) }
     {
         if let Some(frame) = self.frame_at_once(addr, n, mode, Access::Write) {
+            let old = self.number_in(frame, addr, n);
+            self.put_number(frame, addr, n, value);
+            return Ok(old);
+        }
+        self.write_by_walk(addr, n, value, mode)
+    }
+
+    /// The same by the tables.
+    #[inline(never)]
+    fn write_by_walk(&mut self, addr: u32, n: u32, value: u64, mode: u8) -> Result<u64, Stop>
+        requires sound { IsSound 0 self.old }
+        requires some { 1 ≤ n }
+        requires few { n ≤ 8 }
+        requires of_mode { mode ≤ 3 }
+        ensures sound { IsSound 0 self.new }
+        ensures answer { result ≡ replaced (view_of (paging self.old)) addr n mode }
+        ensures stored { view_of (paging self.new)
+            ≡ stored (view_of (paging self.old)) addr n value mode }
+        ensures listed { OnOk result
+            ((paging self.new).modified ≡ touched (paging self.old).modified addr n) }
+        ensures unpaged { OnErr result (paging self.new ≡ paging self.old) }
+        ensures only { OnlyWritten (paging self.old) (paging self.new) }
+    {
+        if let Some(frame) = self.frame_by_walk(addr, n, mode, Access::Write) {
             let old = self.number_in(frame, addr, n);
             self.put_number(frame, addr, n, value);
             return Ok(old);

@@ -46,24 +46,6 @@ found_p1 bytes p0 p1 page high low tables there below =
     translated bytes (p1_base + 4 * (page - 0x200000)) (4096 + (256 + (page - 0x3F8000) / 128)) ((p1_place p0 + (0x3F8000 + 128 * ((page - 0x3F8000) / 128) - p1_first p1)) / 128) at entry (omega arith)
     ∙ p1_at p0 p1 page low there
 
--- so an address of a table lies in the wired memory
-wired : (bytes : List ℕ) (address page frame : ℕ) → (address - 2 ^ 31) / 512 ≡ page → entry_at bytes page ≡ table_entry (wired_frame + frame) → frame < 2 ^ 20 → 512 * wired_frame ≤ physical bytes address
-wired bytes address page frame at entry small =
-    let made : frame_in (entry_at bytes page) ≡ wired_frame + frame = ap frame_in entry ∙ frame_made true 1 false (wired_frame + frame) (omega arith) in
-    rw (at, made) (omega arith)
-
-pub wired_p0 : (bytes : List ℕ) (p0 p1 page : ℕ) → p0 ≤ 0x8000 → ((n : ℕ) → n < 512 → entry_at bytes (4096 + n) ≡ table_page p0 p1 n) → page < p0 → 512 * wired_frame ≤ physical bytes (p0_base + 4 * page)
-wired_p0 bytes p0 p1 page high tables below =
-    let at : (p0_base + 4 * page - 2 ^ 31) / 512 ≡ 4096 + page / 128 = omega arith in
-    let entry = tables (page / 128) (omega arith) ∙ table_p0 p0 p1 (page / 128) (omega arith) (omega arith) in
-    wired bytes (p0_base + 4 * page) (4096 + page / 128) (36 + page / 128) at entry (omega arith)
-
-pub wired_p1 : (bytes : List ℕ) (p0 p1 page : ℕ) → p0 ≤ 0x8000 → 0x3F8000 ≤ p1 → ((n : ℕ) → n < 512 → entry_at bytes (4096 + n) ≡ table_page p0 p1 n) → p1 ≤ page → page < 0x400000 → 512 * wired_frame ≤ physical bytes (p1_base + 4 * (page - 0x200000))
-wired_p1 bytes p0 p1 page high low tables there below =
-    let at : (p1_base + 4 * (page - 0x200000) - 2 ^ 31) / 512 ≡ 4096 + (256 + (page - 0x3F8000) / 128) = omega arith in
-    let entry = tables (256 + (page - 0x3F8000) / 128) (omega arith) ∙ table_p1 p0 p1 ((page - 0x3F8000) / 128) (omega arith) in
-    wired bytes (p1_base + 4 * (page - 0x200000)) (4096 + (256 + (page - 0x3F8000) / 128)) ((p1_place p0 + (0x3F8000 + 128 * ((page - 0x3F8000) / 128) - p1_first p1)) / 128) at entry (omega arith)
-
 -- each page's place, region by region
 pub place_p0 : (p0 p1 page : ℕ) → page < 0x200000 → page < p0 → place_of p0 p1 page ≡ Some (4608 + page)
 unfolding place_of

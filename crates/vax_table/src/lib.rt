@@ -2,7 +2,8 @@
 //! address translation).
 //!
 //! The system page table lies at a physical address. P0's and P1's tables lie at system virtual addresses, so an entry
-//! of theirs is found through the system's entry for the page of the table. All entries are longwords, low byte first.
+//! of theirs is found through the system's entry for the page of the table. Those entries stay as they are, so a walk
+//! reads the entry at once where they lead to. All entries are longwords, low byte first.
 #![tactic(auto)]
 
 ghost use Rattle.std.specs.Prelude.{◌≡◌, ◌<◌, ◌≤◌, true, false, Option, Some, None, IfOk, IfSome, option_map};

@@ -21,10 +21,6 @@ pub struct Memory {
     pub p1_start: u32,
 }
 
-/// The system virtual address of P0's page table, which is its base register.
-const P0_BASE: u32 = 0x8020_0000;
-/// P1's base register. Its page 1F8000 (hexadecimal), the first that can be in an area, has its entry at 80220000.
-const P1_BASE: u32 = 0x7FA4_0000;
 /// The first frame of the wired memory: those below it are for the pages of areas.
 const WIRED_FRAME: u32 = 0x8000;
 /// How many entries the system page table has: 4,096 for areas and 512 for the pages of P0's and P1's tables.
@@ -33,21 +29,9 @@ const SYSTEM_LENGTH: u32 = 4608;
 const ENTRIES: u32 = 128;
 
 impl Memory {
-    /// The place of the entry at a system virtual address, counted in longwords from the start of the wired memory: by
-    /// the system's entry for the page of the table.
-    #[inline]
-    fn translate(&self, address: u32) -> usize
-        requires system { 2 ^ 31 ≤ address }
-        requires within { 4 * ((address - 2 ^ 31) / 512) + 4 ≤ length self.now.bytes.items }
-        requires wired { layout.wired_frame * 512 ≤ layout.physical self.now.bytes.items address }
-        ensures { result ≡ (layout.physical self.now.bytes.items address - 512 * layout.wired_frame) / 4 }
-    {
-        let entry = entry_at(&self.bytes, ((address - 0x8000_0000) / 512) as usize);
-        let physical = frame_in(entry) as usize * 512 + address as usize % 512;
-        (physical - WIRED_FRAME as usize * 512) / 4
-    }
-
-    /// The place of a page's entry; none where the page lies past the length of its region's table.
+    /// The place of a page's entry, counted in longwords from the start of the wired memory; none where the page lies
+    /// past the length of its region's table. P0's and P1's tables stand whole behind the system's, so the page alone
+    /// tells the place to which the system's entries lead.
     #[inline]
     pub fn place_of(&self, page: u32) -> Option<usize>
         requires { IsSound self.now }
@@ -56,13 +40,15 @@ impl Memory {
     {
         if page < 0x20_0000 {
             if page < self.p0_end {
-                Some(self.translate(P0_BASE + 4 * page))
+                Some((SYSTEM_LENGTH + page) as usize)
             } else {
                 None
             }
         } else if page < 0x40_0000 {
             if self.p1_start <= page {
-                Some(self.translate(P1_BASE + 4 * (page - 0x20_0000)))
+                let first = self.p1_start - self.p1_start % ENTRIES;
+                let table = SYSTEM_LENGTH + ENTRIES * self.p0_end.div_ceil(ENTRIES);
+                Some((table + (page - first)) as usize)
             } else {
                 None
             }

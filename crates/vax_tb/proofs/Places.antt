@@ -1,5 +1,5 @@
 -- Entries of a translation buffer, and its places.
-use Rattle.std.proofs.Common.{ℕ, zero, suc, ◌≡◌, ◌≢◌, ◌%◌, ◌<◌, ◌≤◌, Bool, true, false, List, [], ◌∷◌, length, eqb, slice_index_or, slice_set, get_or-set_same, get_or-set_other, length-set, refl, ap, sym, ◌∙◌, subst, arith, inl, inr, Option, Some, None, replicate}
+use Rattle.std.proofs.Common.{ℕ, zero, suc, ◌≡◌, ◌≢◌, ◌%◌, ◌<◌, ◌≤◌, Bool, true, false, List, [], ◌∷◌, length, slice_index_or, slice_set, get_or-set_same, get_or-set_other, length-set, refl, ap, sym, ◌∙◌, subst, arith, inl, inr, map, Option, Some, None, replicate}
 use Rattle.std.specs.Prelude.{◌==◌, ◌&&◌, if◌then◌else◌, is_some}
 use Rattle.std.proofs.Math.Path.{fun_ext}
 use Rattle.std.proofs.lemmas.Bool.{cases_Bool, cases_eq, eq-eqb, ne_eqb}
@@ -8,13 +8,13 @@ use Rattle.vax_space.specs.declared.Access.{Access}
 use Rattle.vax_space.specs.declared.Access.TheVariants.{Read, Write}
 use Rattle.vax_space.specs.declared.Right.{Right}
 use Rattle.vax_space.specs.declared.Right.TheVariants.{Nothing, ReadOnly, ReadWrite}
-use Rattle.vax_space.specs.Protection.{allows, permits, right_of}
+use Rattle.vax_space.specs.Protection.{allows, permits, protection_table, right_of}
 use Rattle.vax_table.specs.declared.Walk.{Walk}
-use Rattle.vax_table.specs.declared.Walk.TheVariants.{Resident, Absent, Outside}
+use Rattle.vax_table.specs.declared.Walk.TheVariants.{Resident}
 use Rattle.vax_tb.specs.declared.buffer.Entry.{Entry}
 use Rattle.vax_tb.specs.declared.buffer.Said.TheVariants as said
 use Rattle.vax_tb.specs.Buffer.{Agrees, filled, dropped, empty, leaves_entry, at_once, raised_if}
-use Rattle.vax_tb.specs.Entries.{no_entry, told, entry_for, unless_new, AreRights, AreSound}
+use Rattle.vax_tb.specs.Entries.{no_entry, told, entry_for, unless_new, AreRights, AreSound, HaveRights}
 
 -- rights
 permits_once : (right : Right) (modified : Bool) (access : Access) → permits (unless_new right modified) access ≡ (permits right access && leaves_entry access modified)
@@ -37,13 +37,60 @@ right_allows : (prot mode frame : ℕ) (modified : Bool) (access : Access) (righ
 unfolding allows
 right_allows prot mode frame modified access right e = rw (e, permits_once (right_of prot mode) modified access) refl
 
-pub rights_resident : (page frame prot : ℕ) (modified : Bool) (a b c d : Right) → a ≡ unless_new (right_of prot 0) modified → b ≡ unless_new (right_of prot 1) modified → c ≡ unless_new (right_of prot 2) modified → d ≡ unless_new (right_of prot 3) modified → AreRights (record { page = page; frame = frame; rights = a ∷ b ∷ c ∷ d ∷ []; said = said.Resident prot modified })
-rights_resident page frame prot modified a b c d ea eb ec ed = record {
-  modes = refl;
-  rights = λ mode access low.
-      at_mode a b c d mode (λ right m. (if permits right access then Some frame else None) ≡ (if allows prot m access && leaves_entry access modified then Some frame else None)) low
-      (right_allows prot 0 frame modified access a ea) (right_allows prot 1 frame modified access b eb) (right_allows prot 2 frame modified access c ec) (right_allows prot 3 frame modified access d ed);
+pub rights_resident : (page frame prot : ℕ) (modified : Bool) (rights : List Right) → HaveRights prot modified rights → AreRights (record { page = page; frame = frame; rights = rights; said = said.Resident prot modified })
+rights_resident page frame prot modified rights have = record {
+  modes = have.modes;
+  rights = λ mode access low. right_allows prot mode frame modified access (slice_index_or rights mode Nothing) (have.each mode);
 }
+
+-- the rows of the two tables, of a modified page first
+unless_modified : (right : Right) → right ≡ unless_new right true
+unless_modified Nothing = refl
+unless_modified ReadOnly = refl
+unless_modified ReadWrite = refl
+
+-- of a page that isn't modified
+abbrev pub without_writes : List (List Right)
+without_writes = map (map (λ (right : Right). unless_new right false)) protection_table
+
+in_row : (rights : List Right) (mode : ℕ) → slice_index_or (map (λ (right : Right). unless_new right false) rights) mode Nothing ≡ unless_new (slice_index_or rights mode Nothing) false
+in_row [] mode = refl
+in_row (right ∷ rights) zero = refl
+in_row (right ∷ rights) (suc mode) = in_row rights mode
+
+in_rows : (rows : List (List Right)) (prot : ℕ) → slice_index_or (map (map (λ (right : Right). unless_new right false)) rows) prot [] ≡ map (λ (right : Right). unless_new right false) (slice_index_or rows prot [])
+in_rows [] prot = refl
+in_rows (row ∷ rows) zero = refl
+in_rows (row ∷ rows) (suc prot) = in_rows rows prot
+
+row_modified : (prot mode : ℕ) → slice_index_or (slice_index_or protection_table prot []) mode Nothing ≡ unless_new (right_of prot mode) true
+unfolding right_of
+row_modified prot mode = unless_modified (slice_index_or (slice_index_or protection_table prot []) mode Nothing)
+
+row_unmodified : (prot mode : ℕ) → slice_index_or (slice_index_or without_writes prot []) mode Nothing ≡ unless_new (right_of prot mode) false
+unfolding right_of
+row_unmodified prot mode =
+    ap (λ (row : List Right). slice_index_or row mode Nothing) (in_rows protection_table prot) ∙ in_row (slice_index_or protection_table prot []) mode
+
+-- a row has four rights
+size_at : (rows : List (List Right)) (place : ℕ) → length (slice_index_or rows place []) ≡ slice_index_or (map (λ (row : List Right). length row) rows) place 0
+size_at [] place = refl
+size_at (row ∷ rows) zero = refl
+size_at (row ∷ rows) (suc place) = size_at rows place
+
+same_at : (n place size : ℕ) → place < n → slice_index_or (replicate n size) place 0 ≡ size
+same_at zero place size low = absurd (omega arith)
+same_at (suc n) zero size low = refl
+same_at (suc n) (suc place) size low = same_at n place size (omega arith)
+
+four : (rows : List (List Right)) (prot : ℕ) → map (λ (row : List Right). length row) rows ≡ replicate 16 4 → prot ≤ 15 → length (slice_index_or rows prot []) ≡ 4
+four rows prot sizes low = size_at rows prot ∙ ap (λ (xs : List ℕ). slice_index_or xs prot 0) sizes ∙ same_at 16 prot 4 (omega arith)
+
+pub have_modified : (prot : ℕ) → prot ≤ 15 → HaveRights prot true (slice_index_or protection_table prot [])
+have_modified prot low = record { modes = four protection_table prot refl low; each = row_modified prot }
+
+pub have_unmodified : (prot : ℕ) → prot ≤ 15 → HaveRights prot false (slice_index_or without_writes prot [])
+have_unmodified prot low = record { modes = four without_writes prot refl low; each = row_unmodified prot }
 
 none_at : (mode : ℕ) (access : Access) (frame : ℕ) → mode ≤ 3 → ◌≡◌ {A = Option ℕ} (if permits (slice_index_or (Nothing ∷ Nothing ∷ Nothing ∷ Nothing ∷ []) mode Nothing) access then Some frame else None) None
 none_at mode access frame low = at_mode Nothing Nothing Nothing Nothing mode (λ right m. ◌≡◌ {A = Option ℕ} (if permits right access then Some frame else None) None) low refl refl refl refl
@@ -225,3 +272,10 @@ counts_hit b page hits count o walk is some e = e ∙ ap (λ (z : Option Walk). 
 
 pub counts_miss : (b : ℕ → Option Walk) (page hits : ℕ) (o : Option Walk) → o ≡ b page → o ≡ None → hits ≡ raised_if (is_some (b page)) hits
 counts_miss b page hits o is none = ap (λ (z : Option Walk). raised_if (is_some z) hits) (sym none ∙ is)
+
+-- an entry that comes in allows what the tables allow
+pub once_walked : (page frame prot mode : ℕ) (modified may : Bool) (access : Access) (rights : List Right) (walk : Walk) → walk ≡ Resident frame prot modified → mode ≤ 3 → HaveRights prot modified rights → may ≡ permits (slice_index_or rights mode Nothing) access → may ≡ true → at_once (Some walk) mode access ≡ Some frame
+once_walked page frame prot mode modified may access rights walk is low have e so =
+    ap (λ (w : Walk). at_once (Some w) mode access) is
+    ∙ sym ((rights_resident page frame prot modified rights have).rights mode access low)
+    ∙ ap (λ (z : Bool). if z then Some frame else None) (sym e ∙ so)

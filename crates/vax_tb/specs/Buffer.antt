@@ -16,6 +16,11 @@ unfoldable pub filled : (ℕ → Option Walk) → ℕ → Walk → ℕ → Optio
 filled buffered page walk other =
     if other == page then Some walk else (if other % 128 == page % 128 then None else buffered other)
 
+-- the same where the entry comes in
+abbrev pub filled_if : Bool → (ℕ → Option Walk) → ℕ → Walk → ℕ → Option Walk
+filled_if true buffered page walk = filled buffered page walk
+filled_if false buffered page walk = buffered
+
 -- a page's entry is dropped
 unfoldable pub dropped : (ℕ → Option Walk) → ℕ → ℕ → Option Walk
 dropped buffered page other = if other == page then None else buffered other

@@ -5,7 +5,7 @@ use Rattle.vax_table.specs.declared.Walk.{Walk}
 use Rattle.vax_table.specs.declared.Walk.TheVariants.{Resident, Absent, Outside}
 use Rattle.vax_space.specs.declared.Right.{Right}
 use Rattle.vax_space.specs.declared.Right.TheVariants.{Nothing, ReadOnly, ReadWrite}
-use Rattle.vax_space.specs.Protection.{permits}
+use Rattle.vax_space.specs.Protection.{permits, right_of}
 use Rattle.vax_tb.specs.declared.buffer.Entry.{Entry}
 use Rattle.vax_tb.specs.declared.buffer.Said.{Said}
 use Rattle.vax_tb.specs.declared.buffer.Said.TheVariants as said
@@ -20,6 +20,11 @@ unless_new Nothing modified = Nothing
 unless_new ReadOnly modified = ReadOnly
 unless_new ReadWrite false = ReadOnly
 unless_new ReadWrite true = ReadWrite
+
+-- what each mode may do at once to a page with this protection code
+pub record HaveRights (prot : ℕ) (modified : Bool) (rights : List Right) : Type 0 where
+  pub modes : length rights ≡ 4
+  pub each : (mode : ℕ) → slice_index_or rights mode Nothing ≡ unless_new (right_of prot mode) modified
 
 -- what an entry says of its page, none where it is of no page
 abbrev pub told_by : ℕ → Said → Option Walk

@@ -1,11 +1,11 @@
 //! The buffer.
-ghost use Rattle.std.specs.Prelude.{◌≡◌, ◌≤◌, ◌%◌, IfSome, Some, None, is_some};
-ghost use Rattle.vax_tb.specs.Buffer.{Agrees, at_once, dropped, empty, filled, raised_if};
-ghost use Rattle.vax_tb.specs.Entries.{AreRights, AreSound, told, unless_new};
-ghost use Rattle.vax_space.specs.Protection.{permits, right_of};
+ghost use Rattle.std.specs.Prelude.{◌≡◌, ◌≤◌, ◌%◌, IfSome, Some, None, is_some, true};
+ghost use Rattle.vax_tb.specs.Buffer.{Agrees, at_once, dropped, empty, filled, filled_if, raised_if};
+ghost use Rattle.vax_tb.specs.Entries.{AreRights, AreSound, HaveRights, told};
+ghost use Rattle.vax_space.specs.Protection.{permits};
 ghost use Rattle.vax_table.specs.Mapping.{prot_said};
 
-use vax_space::{Access, Right, right_of};
+use vax_space::{Access, Right};
 use vax_table::{Tables, Walk};
 
 /// How many entries a buffer has.
@@ -39,15 +39,58 @@ pub struct Buffer {
     ghost sound: { AreSound entries },
 }
 
-/// What a mode may do at once to a page with this protection code.
-fn right_at_once(prot: u8, mode: u8, modified: bool) -> Right
-    requires of_code { prot ≤ 15 }
-    requires of_mode { mode ≤ 3 }
-    ensures { result ≡ unless_new (right_of prot mode) modified }
+use Right::{Nothing, ReadOnly, ReadWrite};
+
+/// What the modes may do at once to a modified page, by protection code.
+static MODIFIED: [[Right; 4]; 16] = [
+    [Nothing, Nothing, Nothing, Nothing],
+    [Nothing, Nothing, Nothing, Nothing],
+    [ReadWrite, Nothing, Nothing, Nothing],
+    [ReadOnly, Nothing, Nothing, Nothing],
+    [ReadWrite, ReadWrite, ReadWrite, ReadWrite],
+    [ReadWrite, ReadWrite, Nothing, Nothing],
+    [ReadWrite, ReadOnly, Nothing, Nothing],
+    [ReadOnly, ReadOnly, Nothing, Nothing],
+    [ReadWrite, ReadWrite, ReadWrite, Nothing],
+    [ReadWrite, ReadWrite, ReadOnly, Nothing],
+    [ReadWrite, ReadOnly, ReadOnly, Nothing],
+    [ReadOnly, ReadOnly, ReadOnly, Nothing],
+    [ReadWrite, ReadWrite, ReadWrite, ReadOnly],
+    [ReadWrite, ReadWrite, ReadOnly, ReadOnly],
+    [ReadWrite, ReadOnly, ReadOnly, ReadOnly],
+    [ReadOnly, ReadOnly, ReadOnly, ReadOnly],
+];
+
+/// The same to a page that isn't modified, which no mode may write at once.
+static UNMODIFIED: [[Right; 4]; 16] = [
+    [Nothing, Nothing, Nothing, Nothing],
+    [Nothing, Nothing, Nothing, Nothing],
+    [ReadOnly, Nothing, Nothing, Nothing],
+    [ReadOnly, Nothing, Nothing, Nothing],
+    [ReadOnly, ReadOnly, ReadOnly, ReadOnly],
+    [ReadOnly, ReadOnly, Nothing, Nothing],
+    [ReadOnly, ReadOnly, Nothing, Nothing],
+    [ReadOnly, ReadOnly, Nothing, Nothing],
+    [ReadOnly, ReadOnly, ReadOnly, Nothing],
+    [ReadOnly, ReadOnly, ReadOnly, Nothing],
+    [ReadOnly, ReadOnly, ReadOnly, Nothing],
+    [ReadOnly, ReadOnly, ReadOnly, Nothing],
+    [ReadOnly, ReadOnly, ReadOnly, ReadOnly],
+    [ReadOnly, ReadOnly, ReadOnly, ReadOnly],
+    [ReadOnly, ReadOnly, ReadOnly, ReadOnly],
+    [ReadOnly, ReadOnly, ReadOnly, ReadOnly],
+];
+
+/// What each mode may do at once to a page with this protection code.
+#[inline]
+fn rights_at_once(prot: u8, modified: bool) -> [Right; 4]
+    requires { prot ≤ 15 }
+    ensures { HaveRights prot modified result }
 {
-    match right_of(prot, mode) {
-        Right::ReadWrite if !modified => Right::ReadOnly,
-        right => right,
+    if modified {
+        MODIFIED[prot as usize]
+    } else {
+        UNMODIFIED[prot as usize]
     }
 }
 
@@ -69,12 +112,7 @@ fn entry_of(page: u32, walk: Walk) -> Entry
         } => Entry {
             page,
             frame,
-            rights: [
-                right_at_once(prot, 0, modified),
-                right_at_once(prot, 1, modified),
-                right_at_once(prot, 2, modified),
-                right_at_once(prot, 3, modified),
-            ],
+            rights: rights_at_once(prot, modified),
             said: Said::Resident { prot, modified },
         },
         Walk::Absent { prot } => Entry {
@@ -226,6 +264,51 @@ impl Buffer {
         }
         let frame = entry.frame;
         self.hits = self.hits.saturating_add(1);
+        Some(frame)
+    }
+
+    /// The frame of a page that has no entry, where the tables say that a mode may make an access at once. Then its
+    /// entry is there afterwards. None says nothing of the page.
+    #[inline]
+    pub fn frame_by_walk(
+        &mut self,
+        page: u32,
+        mode: u8,
+        access: Access,
+        tables: &Tables,
+    ) -> Option<u32>
+        requires of_mode { mode ≤ 3 }
+        requires agrees { Agrees (buffered self.old) (walked tables.now) }
+        ensures frame { IfSome result
+            (λ frame. at_once (Some (walked tables.now page)) mode access ≡ Some frame) }
+        ensures missed { is_some result ≡ true → buffered self.old page ≡ None }
+        ensures agrees { Agrees (buffered self.new) (walked tables.now) }
+        ensures entries { buffered self.new
+            ≡ filled_if (is_some result) (buffered self.old) page (walked tables.now page) }
+        ensures hits { self.new.hits ≡ self.old.hits }
+    {
+        let place = place_of(page);
+        if self.entries[place].page == page {
+            return None;
+        }
+        let Walk::Resident {
+            frame,
+            prot,
+            modified,
+        } = tables.walk(page)
+        else {
+            return None;
+        };
+        let rights = rights_at_once(prot, modified);
+        if !permits(rights[mode as usize], access) {
+            return None;
+        }
+        self.entries[place] = Entry {
+            page,
+            frame,
+            rights,
+            said: Said::Resident { prot, modified },
+        };
         Some(frame)
     }
 
