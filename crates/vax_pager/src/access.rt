@@ -160,6 +160,41 @@ impl Store {
         );
     }
 
+    /// Writes a number to a frame, and gives the number that was there.
+    #[inline(always)]
+    fn exchange_bytes(&mut self, frame: u32, addr: u32, n: u32, value: u64) -> u64
+        requires sound { IsSound 0 self.old }
+        requires some { 1 ≤ n }
+        requires few { n ≤ 8 }
+        requires one_page { addr % 512 + n ≤ 512 }
+        requires held { held self.old (page_of addr) ≡ Some frame }
+        ensures number { result ≡ number (view_of (paging self.old)).byte addr n }
+        ensures sound { IsSound 0 self.new }
+        ensures paging { paging self.new ≡ with_bytes addr (low_bytes n value) (paging self.old) }
+    {
+        let old = self.number_in(frame, addr, n);
+        self.put_number(frame, addr, n, value);
+        old
+    }
+
+    /// The same. Most are longwords, so that width is told here, where it makes the shorter way.
+    #[inline(always)]
+    fn exchange(&mut self, frame: u32, addr: u32, n: u32, value: u64) -> u64
+        requires sound { IsSound 0 self.old }
+        requires some { 1 ≤ n }
+        requires few { n ≤ 8 }
+        requires one_page { addr % 512 + n ≤ 512 }
+        requires held { held self.old (page_of addr) ≡ Some frame }
+        ensures number { result ≡ number (view_of (paging self.old)).byte addr n }
+        ensures sound { IsSound 0 self.new }
+        ensures paging { paging self.new ≡ with_bytes addr (low_bytes n value) (paging self.old) }
+    {
+        match n {
+            4 => self.exchange_bytes(frame, addr, 4, value),
+            _ => self.exchange_bytes(frame, addr, n, value),
+        }
+    }
+
     /// Writes a run to a frame.
     fn put_run(&mut self, frame: u32, addr: u32, from: &[u8])
         requires sound { IsSound 0 self.old }
@@ -211,7 +246,7 @@ impl Store {
     }
 
     /// The same by the tables.
-    #[inline(never)]
+    #[cold]
     fn read_by_walk(&mut self, addr: u32, n: u32, mode: u8) -> Result<u64, Stop>
         requires sound { IsSound 0 self.old }
         requires some { 1 ≤ n }
@@ -359,7 +394,7 @@ impl Store {
     }
 
     /// The same by the tables.
-    #[inline(never)]
+    #[cold]
     fn write_by_walk(&mut self, addr: u32, n: u32, value: u64, mode: u8) -> Result<u64, Stop>
         requires sound { IsSound 0 self.old }
         requires some { 1 ≤ n }
@@ -375,9 +410,7 @@ impl Store {
         ensures only { OnlyWritten (paging self.old) (paging self.new) }
     {
         if let Some(frame) = self.frame_by_walk(addr, n, mode, Access::Write) {
-            let old = self.number_in(frame, addr, n);
-            self.put_number(frame, addr, n, value);
-            return Ok(old);
+            return Ok(self.exchange(frame, addr, n, value));
         }
         self.write_slowly(addr, n, value, mode)
     }

@@ -1,5 +1,5 @@
 //! The wired memory in which the page tables lie.
-ghost use Rattle.std.specs.Prelude.{◌≡◌, ◌≤◌, ◌<◌, ◌*◌, ◌+◌, ◌-◌, ◌/◌, ◌^◌, true, length, Some, IfOk, IfSome};
+ghost use Rattle.std.specs.Prelude.{◌≡◌, ◌≤◌, ◌<◌, ◌*◌, ◌+◌, true, length, Some, IfOk, IfSome};
 ghost use Rattle.vax_table.specs.Entry as entry_spec;
 ghost use Rattle.vax_table.specs.Layout as layout;
 ghost use Rattle.vax_table.specs.Layout.{IsSound, walked_in, kept_in, total, IsFilled};
