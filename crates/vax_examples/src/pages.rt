@@ -16,6 +16,8 @@ impl PageFile for Pages {
 
     ghost faults = { λ p. faults_of p.blocks };
 
+    ghost since = { λ start now. Unit {0} };
+
     fn read_block(&mut self, n: u32, into: &mut [u8; 512]) -> Result<(), Failed> {
         self.blocks.read_block(n, into)?;
         into[0] = into[0].wrapping_add(self.added);

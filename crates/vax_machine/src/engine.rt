@@ -140,6 +140,7 @@ impl Engine {
         ensures inside { (page : ℕ) → result ≡ Applied.Served (Some page)
             → is_some (area_of (pages self.new.pager).areas page) ≡ true }
         ensures counts { CountsFailure (has_failed result) (F.faults file.old) (F.faults file.new) }
+        ensures since { (start : F) → F.since start file.old → F.since start file.new }
     {
         match self.wanted {
             None => Applied::Nothing,
@@ -166,6 +167,7 @@ impl Engine {
         ensures inside { result ≡ Applied.Evicted
             → is_some (area_of (pages self.new.pager).areas page) ≡ true }
         ensures counts { CountsFailure (has_failed result) (F.faults file.old) (F.faults file.new) }
+        ensures since { (start : F) → F.since start file.old → F.since start file.new }
     {
         if !self.pager.has(page) {
             return Applied::Nothing;
@@ -191,6 +193,7 @@ impl Engine {
         ensures moves { Moves (event.Flush page) self.old (F.contents file.old) result self.new
             (F.contents file.new) }
         ensures counts { CountsFailure (has_failed result) (F.faults file.old) (F.faults file.new) }
+        ensures since { (start : F) → F.since start file.old → F.since start file.new }
     {
         if !self.pager.has(page) {
             return Applied::Nothing;
@@ -218,6 +221,7 @@ impl Engine {
         ensures unsettled { KeepsPins self.old (F.contents file.old) result self.new }
         ensures spends { HasSpent result (keeping self.old) (keeping self.new) }
         ensures counts { CountsFailure (has_failed result) (F.faults file.old) (F.faults file.new) }
+        ensures since { (start : F) → F.since start file.old → F.since start file.new }
     {
         match event {
             Event::Attempt => self.attempt(),

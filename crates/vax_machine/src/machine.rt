@@ -139,6 +139,7 @@ impl Machine {
             (engine self.new) }
         ensures spends { HasSpent result (keeping (engine self.old)) (keeping (engine self.new)) }
         ensures counts { CountsFailure (has_failed result) (F.faults file.old) (F.faults file.new) }
+        ensures since { (start : F) → F.since start file.old → F.since start file.new }
     {
         self.engine.apply(event, file)
     }

@@ -216,6 +216,8 @@ impl<R: rt::Files<File = File>> PageFile for HostPages<R> {
 
     ghost faults = { λ p. p.faults };
 
+    ghost since = { λ start now. Unit {0} };
+
     fn read_block(&mut self, n: u32, into: &mut [u8; 512]) -> Result<(), Failed> {
         self.open();
         // A read that fails may have changed the bytes that it was given.

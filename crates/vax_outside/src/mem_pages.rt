@@ -98,6 +98,8 @@ impl PageFile for MemPages {
 
     ghost faults = { λ m. faults_of m };
 
+    ghost since = { λ start now. Unit {0} };
+
     fn read_block(&mut self, n: u32, into: &mut [u8; 512]) -> Result<(), Failed>
         ensures bytes { OnOk result (GivesBlock (Some (file_of self.old)) n into.new) }
         ensures ok { OnOk result (CountsRead (Some (file_of self.old)) (Some (file_of self.new))) }

@@ -85,6 +85,9 @@ pub trait PageFile {
     /// How many calls have failed, and whether the last one did.
     ghost faults: { Self → Failures };
 
+    /// What stays of the first object in the second, which came from it by calls of this trait alone.
+    ghost since: { Self → Self → Type 0 };
+
     /// Reads block `n`. The bytes of a block that was never there are left open. After a failure `into` holds
     /// what it held before.
     fn read_block(&mut self, n: u32, into: &mut [u8; 512]) -> Result<(), Failed>
@@ -93,12 +96,14 @@ pub trait PageFile {
         ensures err { OnErr result (contents self.new ≡ contents self.old) }
         ensures unread { OnErr result (into.new ≡ into.old) }
         ensures counts { CountsFailure (is_err result) (faults self.old) (faults self.new) }
-        ensures last { (faults self.new).last ≡ is_err result };
+        ensures last { (faults self.new).last ≡ is_err result }
+        ensures since { (start : Self) → since start self.old → since start self.new };
 
     /// Writes block `n`, and no other.
     fn write_block(&mut self, n: u32, from: &[u8; 512]) -> Result<(), Failed>
         ensures ok { OnOk result (PutsBlock n from.now (contents self.old) (contents self.new)) }
         ensures err { OnErr result (contents self.new ≡ contents self.old) }
         ensures counts { CountsFailure (is_err result) (faults self.old) (faults self.new) }
-        ensures last { (faults self.new).last ≡ is_err result };
+        ensures last { (faults self.new).last ≡ is_err result }
+        ensures since { (start : Self) → since start self.old → since start self.new };
 }

@@ -41,6 +41,7 @@ impl Store {
         ensures counts { CountsFailure (is_err result) (F.faults file.old) (F.faults file.new) }
         ensures keeps { Keeps (paging self.old) (F.contents file.old) (paging self.new)
             (F.contents file.new) }
+        ensures since { (start : F) → F.since start file.old → F.since start file.new }
     {
         match self.modified_frame(page) {
             None => Ok(false),
@@ -81,6 +82,7 @@ impl Store {
         ensures err { OnErr result (F.contents file.new ≡ F.contents file.old) }
         ensures needed { OnErr result ((paging self.now).blocked page ≡ true) }
         ensures counts { CountsFailure (is_err result) (F.faults file.old) (F.faults file.new) }
+        ensures since { (start : F) → F.since start file.old → F.since start file.new }
     {
         match self.written_block(page) {
             None => Ok(self.start_of(page)),
@@ -130,6 +132,7 @@ impl Store {
         ensures counts { CountsFailure (is_err result) (F.faults file.old) (F.faults file.new) }
         ensures keeps { Keeps (paging self.old) (F.contents file.old) (paging self.new)
             (F.contents file.new) }
+        ensures since { (start : F) → F.since start file.old → F.since start file.new }
     {
         if !self.is_resident(page) {
             return Ok(false);
@@ -160,6 +163,7 @@ impl Store {
         ensures untouched { (paging self.old).blocked page ≡ false → file.new ≡ file.old }
         ensures keeps { Keeps (paging self.old) (F.contents file.old) (paging self.new)
             (F.contents file.new) }
+        ensures since { (start : F) → F.since start file.old → F.since start file.new }
     {
         let bytes = self.fetch(page, file)?;
         let frame = self.grow();
@@ -192,6 +196,7 @@ impl Store {
         ensures untouched { (paging self.old).blocked page ≡ false → file.new ≡ file.old }
         ensures keeps { Keeps (paging self.old) (F.contents file.old) (paging self.new)
             (F.contents file.new) }
+        ensures since { (start : F) → F.since start file.old → F.since start file.new }
     {
         let bytes = self.fetch(page, file)?;
         self.forget(old.page, old.frame);
@@ -226,6 +231,7 @@ impl Store {
             → is_listed victim (paging self.old).modified ≡ false → file.new ≡ file.old }
         ensures keeps { Keeps (paging self.old) (F.contents file.old) (paging self.new)
             (F.contents file.new) }
+        ensures since { (start : F) → F.since start file.old → F.since start file.new }
     {
         self.flush(victim, file)?;
         let bytes = self.fetch(page, file)?;
@@ -261,6 +267,7 @@ impl Store {
         ensures blockless { WhereNoCall page (paging self.old) (file.new ≡ file.old) }
         ensures keeps { Keeps (paging self.old) (F.contents file.old) (paging self.new)
             (F.contents file.new) }
+        ensures since { (start : F) → F.since start file.old → F.since start file.new }
     {
         if let Some(frame) = self.kept_frame(page) {
             self.take_back(page, frame);

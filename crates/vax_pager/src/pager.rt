@@ -80,6 +80,7 @@ impl Pager {
         ensures blockless { WhereNoCall page (pages self.old) (file.new ≡ file.old) }
         ensures keeps { Keeps (pages self.old) (F.contents file.old) (pages self.new)
             (F.contents file.new) }
+        ensures since { (start : F) → F.since start file.old → F.since start file.new }
     {
         self.store.serve(page, file)
     }
@@ -99,6 +100,7 @@ impl Pager {
         ensures counts { CountsFailure (is_err result) (F.faults file.old) (F.faults file.new) }
         ensures keeps { Keeps (pages self.old) (F.contents file.old) (pages self.new)
             (F.contents file.new) }
+        ensures since { (start : F) → F.since start file.old → F.since start file.new }
     {
         self.store.evict(page, file)
     }
@@ -118,6 +120,7 @@ impl Pager {
         ensures counts { CountsFailure (is_err result) (F.faults file.old) (F.faults file.new) }
         ensures keeps { Keeps (pages self.old) (F.contents file.old) (pages self.new)
             (F.contents file.new) }
+        ensures since { (start : F) → F.since start file.old → F.since start file.new }
     {
         self.store.flush(page, file)
     }
