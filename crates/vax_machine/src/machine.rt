@@ -40,7 +40,7 @@ impl Machine {
     ghost use Rattle.vax_flat.specs.Start.{start_memory};
     ghost use Rattle.vax_flat.specs.Step.{Flat};
     ghost use Rattle.vax_pager.specs.Calls.{IsByte};
-    ghost use Rattle.vax_pager.specs.Listing.{first};
+    ghost use Rattle.vax_pager.specs.Listing.{first, is_listed};
     ghost use Rattle.vax_pager.specs.Poking.{OnlyRead, ReadsAtMost, WritesBlocks, pages_of_bytes};
     ghost use Rattle.vax_machine.specs.Console.{AreShown, BringsPages, Deposits, DepositsRegister, IsBetween, IsThereIn, ShowsMemory, ShowsPage, StopsBetween, cpu_with_register, let_go, pages_in};
     ghost use Rattle.vax_machine.specs.Machine.{Applies, HasSpent, KeepsPlace, Means, Moves, has_failed, keeping, modified_of, residence};
@@ -295,6 +295,13 @@ impl Machine {
         ensures { result ≡ (residence (engine self.now)).spoiled }
     {
         self.engine.pager.spoiled()
+    }
+
+    /// Whether the page is pinned: the part of a step that is under way needs it.
+    pub fn is_pinned(&self, page: u32) -> bool
+        ensures { result ≡ is_listed page (residence (engine self.now)).pinned }
+    {
+        self.engine.pager.is_pinned(page)
     }
 
     /// A byte of memory, with no change of what is resident; none exactly where no area has it.

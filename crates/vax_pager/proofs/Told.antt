@@ -2,7 +2,7 @@
 use Rattle.std.proofs.Common.{ℕ, ◌≡◌, ◌+◌, ◌<◌, ◌≤◌, ◌^◌, Bool, true, false, List, [], ◌∷◌, ◌++◌, ◌-◌, drop, length, refl, ap, sym, ◌∙◌, subst, arith, inl, inr, Option, Some, None, slice_index_or}
 use Rattle.std.specs.Prelude.{is_some, nat_lt, slice_get, IfSome}
 use Rattle.std.specs.Option.{option_map}
-use Rattle.std.proofs.lemmas.Bool.{cases_eq, eq-eqb, ne_eqb, false≢true}
+use Rattle.std.proofs.lemmas.Bool.{cases_eq, eq-eqb, ne_eqb, false≢true, false_from_ne_true}
 use Rattle.vax_space.specs.declared.Area.{Area}
 use Rattle.vax_space.specs.Areas.{area_of, block_of, prot_of}
 use Rattle.vax_table.specs.declared.Walk.{Walk}
@@ -262,6 +262,10 @@ listed_before p (x ∷ front) end h = elim (cases_eq x p) [
 pinned_resident : (s : Store) (p : ℕ) → IsSound 0 s → is_listed p (paging s).pinned ≡ true → is_listed p (paging s).order ≡ true
 unfolding paging
 pinned_resident s p h n = ap (is_listed p) (parts s) ∙ listed_before p (front_of s) (last_of s.pinned (pages_of s.lists.order)) n
+
+-- an absent page isn't pinned
+pub absent_unpinned : (s : Store) (p : ℕ) → IsSound 0 s → is_listed p (paging s).order ≡ false → is_listed p (paging s).pinned ≡ false
+absent_unpinned s p h away = false_from_ne_true (is_listed p (paging s).pinned) (λ yes. false≢true (sym away ∙ pinned_resident s p h yes))
 
 dirty_there : (s : Store) (p : ℕ) → IsSound 0 s → is_listed p (paging s).modified ≡ true → is_listed p (paging s).order ≡ true
 dirty_there s p h m = resident_is 0 s p h ∙ dirty_resident (walked s.tables p) (sym (modified_is 0 s p h) ∙ m)

@@ -3,10 +3,11 @@ ghost use Rattle.std.specs.Prelude.{◌≡◌, length};
 
 use crate::Counts;
 use crate::store::Store;
+use vax_lists::Placed;
 use vax_space::Space;
 
 impl Store {
-    ghost use Rattle.vax_pager.specs.Listing.{first};
+    ghost use Rattle.vax_pager.specs.Listing.{first, is_listed};
     ghost use Rattle.vax_pager.specs.Store.{IsSound, paging};
 
     #[tactic(auto, unfolding(crate::specs::Store::paging))]
@@ -30,6 +31,18 @@ impl Store {
         ensures { result ≡ length (paging self.now).pinned }
     {
         self.pinned
+    }
+
+    pub(crate) fn is_pinned(&self, page: u32) -> bool
+        requires sound { IsSound 0 self.now }
+        ensures { result ≡ is_listed page (paging self.now).pinned }
+    {
+        if !self.is_resident(page) {
+            return false;
+        }
+        let frame = self.resident_frame(page);
+        self.lists
+            .is_among_last(Placed { page, frame }, self.pinned)
     }
 
     #[tactic(auto, using(crate::proofs::Told::kept_are))]

@@ -247,6 +247,13 @@ impl Pager {
         self.store.pins()
     }
 
+    /// Whether the page is pinned; looks at 40 pages at most.
+    pub fn is_pinned(&self, page: u32) -> bool
+        ensures { result ≡ is_listed page (pages self.now).pinned }
+    {
+        self.store.is_pinned(page)
+    }
+
     /// How many pages are kept: absent pages that still have a frame.
     pub fn kept(&self) -> u32
         ensures { result ≡ length (pages self.now).kept }
