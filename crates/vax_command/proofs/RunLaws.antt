@@ -22,6 +22,7 @@ use Rattle.vax_report.specs.Report.{report}
 use Rattle.vax_report.specs.declared.Dump.{Dump}
 use Rattle.vax_report.specs.declared.Last.{Last}
 use Rattle.vax_report.specs.declared.Last.TheVariants as lasts
+use Rattle.vax_machine.specs.Calling.{asking_of}
 use Rattle.vax_machine.specs.Console.{IsBetween}
 use Rattle.vax_machine.specs.Machine.{Means, keeping, residence}
 use Rattle.vax_machine.specs.Meaning.{starts_at, units_of}
@@ -298,7 +299,7 @@ module _ (outside : Outside) (setup : Setup) (m n : Engine) (f : Starts setup m)
             front = w.front;
             rest = w.rest;
             splits = w.splits;
-            turns = n.turns;
+            asks = asking_of n;
             fails = w.fails;
             answer = refl;
             wrote = refl;

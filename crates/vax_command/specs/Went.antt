@@ -10,7 +10,7 @@ use Rattle.vax_report.specs.declared.Dump.{Dump}
 use Rattle.vax_report.specs.declared.Last.{Last}
 use Rattle.vax_report.specs.declared.Last.TheVariants as last
 use Rattle.vax_sched.specs.Due.{due}
-use Rattle.vax_machine.specs.Calling.{NextCallFails}
+use Rattle.vax_machine.specs.Calling.{Asking, NextCallFails}
 use Rattle.vax_machine.specs.Console.{memory_from}
 use Rattle.vax_machine.specs.Paged.{Paged, Why, ByEnding, BySteps, ByTurns, all_evicted, all_named, stops}
 use Rattle.vax_machine.specs.Writing.{both, lines_of}
@@ -103,8 +103,8 @@ pub record IsCut (setup : Setup) (file : BlockFile) (outside : Outside) (status 
   pub front : List ℕ
   pub rest : List ℕ
   pub splits : all_named setup.areas (due setup.rules ((after_turns setup count).turns + 1)) ≡ front ++ rest
-  pub turns : ℕ
-  pub fails : NextCallFails setup.areas (before_turns setup) (all_evicted front (after_turns setup count)) rest turns (Some file) outside.pages.after.told
+  pub asks : Asking
+  pub fails : NextCallFails setup.areas (before_turns setup) (all_evicted front (after_turns setup count)) rest asks (Some file) outside.pages.after.told
   pub answer : status ≡ PageFault
   pub wrote : grown ≡ run_output at (recorded setup (all_evicted front (after_turns setup count))) last.PageFault []
 

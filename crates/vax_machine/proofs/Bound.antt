@@ -32,7 +32,7 @@ use Rattle.vax_machine.specs.Paged.{Paged, all_evicted, all_named, attempted, at
 use Rattle.vax_machine.specs.Residence.{Residence, is_resident, kept_after, served, taken_out, victim, without_victim}
 use Rattle.vax_machine.specs.Run.{FewTurns}
 use Rattle.vax_machine.specs.Touched.{PinsTouched, is_touched}
-use Rattle.vax_machine.specs.Calling.{Misses, NextCallFails}
+use Rattle.vax_machine.specs.Calling.{Asking, Misses, NextCallFails}
 
 -- a page that is missed first is one of an area
 
@@ -437,8 +437,8 @@ missed_pins areas b p space h m =
     mapped_is areas m.page (sym (mapped_alike m.page (machine_at p.place).memory areas h.memory) ∙ place_mapped (is_resident p.residence) p.place m.page m.missing) in
     fewer_pins p.residence p.place m.page h.once h.held h.small (page_small areas m.page space inside) h.pins m.missing
 
-pub few_cut : (areas : List Area) (b p : Paged) (front rest : List ℕ) (turns : ℕ) (before after : Option BlockFile) → IsSpace areas → IsBounded areas b p → NextCallFails areas b (all_evicted front p) rest turns before after → (all_evicted front p).residence.spoiled < last → turns + 41 * b.parts + length b.residence.pinned + b.residence.spoiled ≤ 41 * p.parts + 40 + (all_evicted front p).residence.spoiled + b.turns
-few_cut areas b p front rest turns before after space h fails low =
+pub few_cut : (areas : List Area) (b p : Paged) (front rest : List ℕ) (asks : Asking) (before after : Option BlockFile) → IsSpace areas → IsBounded areas b p → NextCallFails areas b (all_evicted front p) rest asks before after → (all_evicted front p).residence.spoiled < last → asks.turns + 41 * b.parts + length b.residence.pinned + b.residence.spoiled ≤ 41 * p.parts + 40 + (all_evicted front p).residence.spoiled + b.turns
+few_cut areas b p front rest asks before after space h fails low =
     let q = all_evicted front p in
     let k = all_bounded areas b front p h in
     let same = many_evicted front p in

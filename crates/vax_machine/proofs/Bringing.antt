@@ -3,59 +3,55 @@ use Rattle.std.proofs.Common.{ℕ, zero, suc, ◌≡◌, ◌+◌, ◌/◌, ◌%�
 use Rattle.std.specs.Prelude.{◌⊎◌}
 use Rattle.vax_space.specs.Reference.{byte_after}
 use Rattle.vax_outside.specs.Blocks.{BlockFile, after_read}
-use Rattle.vax_pager.specs.Calls.{IsPaging, begun, came, source}
+use Rattle.vax_pager.specs.Calls.{IsPaging, source}
 use Rattle.vax_pager.specs.Listing.{is_listed}
 use Rattle.vax_pager.specs.Meaning.{pages}
 use Rattle.vax_pager.specs.Paging.{Paging}
-use Rattle.vax_pager.specs.Poking.{AllComeIn, ComesIn, ComesInBy, Pokes, ReadsAtMost, SomeComeIn, after_reads, pages_of_bytes}
+use Rattle.vax_pager.specs.Poking.{AllComeIn, Backed, ComesIn, ComesInBy, Pokes, ReadsAtMost, SomeComeIn, after_reads, backed, pages_of_bytes}
 use Rattle.vax_pager.specs.Steps.{OnlyWritten, settled}
 use Rattle.vax_machine.proofs.Attempts.{residence_same, residence_settled}
-use Rattle.vax_machine.proofs.Services.{begun_same, residence_after}
+use Rattle.vax_machine.proofs.Services.{failed_same, residence_after}
 use Rattle.vax_machine.specs.Console.{pages_in}
 use Rattle.vax_machine.specs.Paged.{one_if}
 use Rattle.vax_machine.specs.Residence.{HasBroughtSome, Residence, after_deposit, all_brought, brought_in, is_resident, residence_of, served, unpinned}
 
 -- pages that come in
 
-come_step : (page : ℕ) (s t : Paging) (b : Bool) → ComesInBy b page s t → IsPaging s → length s.pinned < s.frames → residence_of t ≡ (if b then residence_of s else served page (residence_of s))
-come_step page s t true e f few = ap residence_of e
-come_step page s t false e f few = residence_after s t page (t.frame page) e f few
+come_step : (page : ℕ) (s t : Backed) (b : Bool) → ComesInBy b page s t → IsPaging s.paging → length s.paging.pinned < s.paging.frames → residence_of t.paging ≡ (if b then residence_of s.paging else served page (residence_of s.paging))
+come_step page s t true e f few = ap (λ (z : Backed). residence_of z.paging) e
+come_step page s t false e f few = residence_after s.paging t.paging page (t.paging.frame page) e.paging f few
 
-come_in : (page : ℕ) (s t : Paging) → ComesIn page s t → residence_of t ≡ brought_in page (residence_of s)
-come_in page s t c = come_step page s t (is_listed page s.order) c.by c.paging c.room
+come_in : (page : ℕ) (s t : Backed) → ComesIn page s t → residence_of t.paging ≡ brought_in page (residence_of s.paging)
+come_in page s t c = come_step page s t (is_listed page s.paging.order) c.by c.fine c.room
 
-all_in : (pages : List ℕ) (s t : Paging) → AllComeIn pages s t → residence_of t ≡ all_brought pages (residence_of s)
+all_in : (pages : List ℕ) (s t : Backed) → AllComeIn pages s t → residence_of t.paging ≡ all_brought pages (residence_of s.paging)
 unfolding AllComeIn all_brought
-all_in [] s t e = ap residence_of e
+all_in [] s t e = ap (λ (z : Backed). residence_of z.paging) e
 all_in (page ∷ pages) s t c = all_in pages c.0 t c.2 ∙ ap (all_brought pages) (come_in page s c.0 c.1)
 
 begins_unpinned : (s : Paging) → residence_of (settled s) ≡ unpinned (residence_of s)
 begins_unpinned s = residence_settled s (settled s) refl
 
-pub deposit_in : (pages : List ℕ) (s mid t : Paging) → AllComeIn pages (settled s) mid → OnlyWritten (settled mid) t → residence_of t ≡ after_deposit pages (residence_of s)
-deposit_in pages s mid t c w =
+pub deposit_in : (pages : List ℕ) (s mid t : Paging) (file after : Option BlockFile) → AllComeIn pages (backed (settled s) file) (backed mid after) → OnlyWritten (settled mid) t → residence_of t ≡ after_deposit pages (residence_of s)
+deposit_in pages s mid t file after c w =
     residence_same (settled mid) t w
-    ∙ (begins_unpinned mid ∙ ap unpinned (all_in pages (settled s) mid c ∙ ap (all_brought pages) (begins_unpinned s)))
+    ∙ (begins_unpinned mid ∙ ap unpinned (all_in pages (backed (settled s) file) (backed mid after) c ∙ ap (all_brought pages) (begins_unpinned s)))
 
 pub brought_ok : (b : Bool) (addr : ℕ) (bytes : List ℕ) (s t : Paging) (file after : Option BlockFile) → b ≡ true → Pokes (Ok b) addr bytes s file t after → residence_of t ≡ after_deposit (pages_of_bytes addr (length bytes)) (residence_of s)
 brought_ok b addr bytes s t file after e h =
     let k = subst (λ (z : Bool). Pokes (Ok z) addr bytes s file t after) e h in
-    deposit_in (pages_of_bytes addr (length bytes)) s k.mid t k.brings k.then
+    deposit_in (pages_of_bytes addr (length bytes)) s k.mid t file after k.brings k.then
 
-left_same : (page : ℕ) (s t : Paging) → (t ≡ s) ⊎ (t ≡ begun (source page s) s) → residence_of t ≡ residence_of s
-left_same page s t (inl e) = ap residence_of e
-left_same page s t (inr e) = ap residence_of e ∙ (begun_same s (source page s)).0
-
-pub deposit_cut : (pages : List ℕ) (s mid t : Paging) → SomeComeIn pages (settled s) mid → t ≡ settled mid → HasBroughtSome pages (residence_of s) (residence_of t)
-deposit_cut pages s mid t c e =
-    let there : residence_of c.mid ≡ all_brought c.front (unpinned (residence_of s)) = all_in c.front (settled s) c.mid c.came ∙ ap (all_brought c.front) (begins_unpinned s) in
+pub deposit_cut : (pages : List ℕ) (s mid t : Paging) (file after : Option BlockFile) → SomeComeIn pages (backed (settled s) file) (backed mid after) → t ≡ settled mid → HasBroughtSome pages (residence_of s) (residence_of t)
+deposit_cut pages s mid t file after c e =
+    let there : residence_of c.mid.paging ≡ all_brought c.front (unpinned (residence_of s)) = all_in c.front (backed (settled s) file) c.mid c.came ∙ ap (all_brought c.front) (begins_unpinned s) in
     record {
       front = c.front;
       page = c.page;
       rest = c.rest;
       splits = c.splits;
       away = ap (λ (r : Residence). is_resident r c.page) (sym there) ∙ c.out.away;
-      is = residence_settled mid t e ∙ ap unpinned (left_same c.page c.mid mid c.out.stays ∙ there);
+      is = residence_settled mid t e ∙ ap unpinned ((failed_same c.mid.paging mid (source c.page c.mid.paging) c.page c.mid.file after c.out.stays).0 ∙ there);
     }
 
 -- reads

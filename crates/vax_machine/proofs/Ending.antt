@@ -1,6 +1,7 @@
 -- Where a run that goes on stops: what it does to the counts of failures, and that it stands between two steps.
-use Rattle.std.proofs.Common.{◌≡◌, true, false, refl, sym, subst, arith, Option, Result, Ok, Err}
-use Rattle.vax_outside.specs.Faults.{CountsFailure}
+use Rattle.std.proofs.Common.{◌≡◌, Bool, true, false, refl, sym, subst, arith, Option, Result, Ok, Err}
+use Rattle.std.specs.Prelude.{◌≢◌}
+use Rattle.vax_outside.specs.Faults.{CountsFailure, Rose}
 use Rattle.vax_outside.specs.declared.faults.Failures.{Failures}
 use Rattle.vax_outside.specs.Channels.{Channels, GrewByPrefix}
 use Rattle.vax_outside.proofs.Counting.{counts_then}
@@ -37,6 +38,11 @@ pub counts_write : (r : Result (Unit {0}) Fault) → r ≡ Err Write → (a b c 
 counts_write (Ok u) is a b c x y z p q k = cc
 counts_write (Err Page) is a b c x y z p q k = cc
 counts_write (Err Write) is a b c x y z p q k = record { file = counts_then refl p k.file; sink = counts_then refl q k.sink }
+
+-- a count that changed rose, by one call that failed and was the last
+pub changed_rose : (failed : Bool) (a b : Failures) → CountsFailure failed a b → b.count ≢ a.count → Rose a b
+changed_rose true a b c n = c.cause
+changed_rose false a b c n = absurd (n c.quiet)
 
 -- what is held back wasn't all written
 

@@ -25,3 +25,4 @@ pub mod Between
 pub mod Showing
 pub mod Following
 pub mod Bringing
+pub mod Depositing

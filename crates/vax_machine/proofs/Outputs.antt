@@ -1,5 +1,5 @@
 -- What a paged run writes, and how it passes through what is held back.
-use Rattle.std.proofs.Common.{ℕ, ◌≡◌, ◌+◌, ◌≤◌, arith, if◌then◌else◌, Bool, true, false, List, [], ◌++◌, append_assoc, append-nil, refl, ap, sym, ◌∙◌, subst, Option, Some, None, Result, Ok, Err}
+use Rattle.std.proofs.Common.{ℕ, ◌≡◌, ◌≤◌, arith, if◌then◌else◌, Bool, true, false, List, [], ◌++◌, append_assoc, append-nil, refl, ap, sym, ◌∙◌, subst, Option, Some, None, Result, Ok, Err}
 use Rattle.std.specs.Prelude.{IsErrAnd}
 use Rattle.std.proofs.lemmas.Grind.{flat_map-append}
 use Rattle.vax_outside.specs.Blocks.{BlockFile}

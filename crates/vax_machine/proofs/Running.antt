@@ -33,7 +33,7 @@ use Rattle.vax_machine.specs.Paged.{Paged, ByEnding, BySteps, ByTurns, all_evict
 use Rattle.vax_machine.specs.Residence.{Residence, is_resident, served, victim, without_victim}
 use Rattle.vax_machine.specs.Run.{Ends, FewTurns, IsCut, IsLost, IsWhole, Runs, Tracks, begun, origin, why_of}
 use Rattle.vax_machine.specs.Touched.{PinsTouched, is_touched}
-use Rattle.vax_machine.specs.Calling.{Misses, NextCallFails, ServiceFails, room_made}
+use Rattle.vax_machine.specs.Calling.{Asking, Misses, NextCallFails, ServiceFails, asking_of, room_made}
 use Rattle.vax_machine.specs.GoingOn.{GoneOn, HasStopped}
 use Rattle.vax_machine.specs.Turn.{AreCut, AreLost, AreMade, AreWhole, AttemptsCut, AttemptsDone, AttemptsFollow, AttemptsLost, EvictedAll, Finishes, Follows, IsBegun, IsCutTurn, IsStop, IsUnserved, LostPart, Reached, TurnsMade, attempted_times}
 use Rattle.vax_machine.specs.Writing.{Origin, Sends, WrotePart, held_in}
@@ -240,7 +240,7 @@ module _ (limits : Limits) (o : Origin) (areas : List Area) (rules : List Rule) 
     }
 
     -- what the file did up to the attempt whose page wasn't served
-    fails_here : (middle : Option BlockFile) (u : IsUnserved most o.areas here middle m file) → Moved o.areas o.at here o.file middle → ServiceFails o.areas o.at (attempted_times u.count here) m.turns o.file file
+    fails_here : (middle : Option BlockFile) (u : IsUnserved most o.areas here middle m file) → Moved o.areas o.at here o.file middle → ServiceFails o.areas o.at (attempted_times u.count here) (asking_of m) o.file file
     fails_here middle u x = record {
       missed = u.fails.missed;
       fails = elim u.fails.fails [
@@ -248,9 +248,10 @@ module _ (limits : Limits) (o : Origin) (areas : List Area) (rules : List Rule) 
         | inr y ↦ inr (y.0, moved_again o.areas o.at here (room_made (marked (attempted_times u.count here))) o.file middle file x y.1)
       ];
       made = u.fails.made;
+      wanted = u.fails.wanted;
     }
 
-    cut_at : (count : ℕ) → (whole : AreWhole here count) → count < most → m.steps ≡ (attempted_times count here).steps → residence m ≡ (attempted_times count here).residence → Means m file (attempted_times count here).place → ServiceFails o.areas o.at (attempted_times count here) m.turns o.file file → Sends o (attempted_times count here) now (held_in left) → IsCutTurn o areas rules (paged areas (due rules) count p) m file now left
+    cut_at : (count : ℕ) → (whole : AreWhole here count) → count < most → m.steps ≡ (attempted_times count here).steps → residence m ≡ (attempted_times count here).residence → Means m file (attempted_times count here).place → ServiceFails o.areas o.at (attempted_times count here) (asking_of m) o.file file → Sends o (attempted_times count here) now (held_in left) → IsCutTurn o areas rules (paged areas (due rules) count p) m file now left
     unfolding paged attempted_times
     cut_at zero whole few s r means fails sends =
         let all = all_named areas (due rules (p.turns + 1)) in
@@ -278,7 +279,7 @@ module _ (limits : Limits) (o : Origin) (areas : List Area) (rules : List Rule) 
           residence = r ∙ ap (λ (z : Paged). z.residence) none_more;
           means = means;
           steps = s;
-          fails = inr (refl, subst (λ (z : Paged). ServiceFails o.areas o.at z m.turns o.file file) none_more fails);
+          fails = inr (refl, subst (λ (z : Paged). ServiceFails o.areas o.at z (asking_of m) o.file file) none_more fails);
           sends = subst (λ (z : Paged). Sends o z now (held_in left)) none_more sends;
         })
 
@@ -312,10 +313,10 @@ room_reads p m = let e = ap (λ (z : Paged). z.reads) (attempted_miss p m.page m
 room_evictions : (p : Paged) (m : Misses p) → (attempted p).evictions ≡ (room_made (marked p)).evictions ++ []
 room_evictions p m = ap (λ (z : Paged). z.evictions) (attempted_miss p m.page m.going m.missing) ∙ sym (append-nil (room_made (marked p)).evictions)
 
-lost_cut : (o : Origin) (p all : Paged) (rest : List ℕ) (turns : ℕ) (file : Option BlockFile) (now : Option Channels) → Grows o.listed p all → all_evicted rest p ≡ all → WrotePart o p now → NextCallFails o.areas o.at p rest turns o.file file → LostPart o (attempted all) file now
-lost_cut o p all rest turns file now g e w (inl x) =
+lost_cut : (o : Origin) (p all : Paged) (rest : List ℕ) (asks : Asking) (file : Option BlockFile) (now : Option Channels) → Grows o.listed p all → all_evicted rest p ≡ all → WrotePart o p now → NextCallFails o.areas o.at p rest asks o.file file → LostPart o (attempted all) file now
+lost_cut o p all rest asks file now g e w (inl x) =
     lost_on o all (attempted all) file now (grows_attempted o.listed all) (lost_on o p all file now g (record { wrote = w; moved = moved_first o.areas o.at p o.file file x.1 }))
-lost_cut o p all rest turns file now g e w (inr x) =
+lost_cut o p all rest asks file now g e w (inr x) =
     let same : p ≡ all = sym (evicted_none p) ∙ (ap (λ (xs : List ℕ). all_evicted xs p) (sym x.0) ∙ e) in
     let m = x.1.missed in
     let wrote = part_on o p (attempted p) now (grows_attempted o.listed p) w in
@@ -454,7 +455,7 @@ module _ (limits : Limits) (areas : List Area) (rules : List Rule) (b : Paged) (
         steps = k.steps;
         fails = k.fails;
         wrote = wrote_all o (all_evicted k.front p) now (held_in left) k.sends next g;
-        few = few_cut areas b p k.front k.rest m.turns before file space (paged_bounded areas (due rules) h.count b b space bounded) k.fails;
+        few = few_cut areas b p k.front k.rest (asking_of m) before file space (paged_bounded areas (due rules) h.count b b space bounded) k.fails;
       }
 
   cut_lost : (next : Option Channels) → AreCut limits o areas rules b m file now left → GrewByPrefix now next (held_in left) → IsLost limits areas rules b before file old next
@@ -466,7 +467,7 @@ module _ (limits : Limits) (areas : List Area) (rules : List Rule) (b : Paged) (
       let all = all_evicted (all_named areas (due rules (p.turns + 1))) p in
       let e : all_evicted k.rest (all_evicted k.front p) ≡ all = sym (ap (λ (xs : List ℕ). all_evicted xs p) k.splits ∙ evicted_append k.front k.rest p) in
       lost_at limits areas rules b before file (suc h.count) old next (runs_to h.count h.going)
-      (lost_cut o (all_evicted k.front p) all k.rest m.turns file next (subst (λ (z : Paged). Grows limits.listed (all_evicted k.front p) z) e (grows_evicted limits.listed k.rest (all_evicted k.front p))) e w k.fails)
+      (lost_cut o (all_evicted k.front p) all k.rest (asking_of m) file next (subst (λ (z : Paged). Grows limits.listed (all_evicted k.front p) z) e (grows_evicted limits.listed k.rest (all_evicted k.front p))) e w k.fails)
 
   written_all : (end : RunEnd) (next : Option Channels) → GoneOn limits o areas rules b end m file now left → Grew now next (held_in left) → (end ≡ run_end.WriteFault → ⊥) → Ends limits areas rules b before end m file old next
   written_all (run_end.Ended e) next h g other = whole (run_end.Ended e) next h g

@@ -377,6 +377,7 @@ module _ (old mid : Engine) (p : Paged) (page : ℕ) (file : Option BlockFile) (
         | inr r ↦ inr (sym read_there ∙ r.0, room_moved after r.1)
       ];
       made = turns_at new e;
+      wanted = ap (λ (k : Keeping). k.wanted) e ∙ wanted_there;
     };
   }
 

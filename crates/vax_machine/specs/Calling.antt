@@ -7,6 +7,7 @@ use Rattle.vax_flat.specs.Parts.{machine_at, touches_at}
 use Rattle.vax_machine.specs.Blocks.{Moved}
 use Rattle.vax_machine.specs.Paged.{Paged, evictions_of, is_read, marked}
 use Rattle.vax_machine.specs.Residence.{is_resident, victim}
+use Rattle.vax_machine.specs.declared.engine.Engine.{Engine}
 
 -- the attempt that comes misses a page
 pub record Misses (p : Paged) : Type 0 where
@@ -39,14 +40,23 @@ FailsToServe areas b p m before after =
     (WritesVictim (marked p) × Moved areas b p before after)
     ⊎ ((is_read m.page p ≡ true) × Moved areas b (room_made (marked p)) before after)
 
--- so it is, behind so many attempts of which this one is the last
-pub record ServiceFails (areas : List Area) (b p : Paged) (turns : ℕ) (before after : Option BlockFile) : Type 0 where
+-- how many attempts a machine counts, and the page that it wants
+pub record Asking : Type 0 where
+  pub turns : ℕ
+  pub wanted : Option ℕ
+
+abbrev pub asking_of : Engine → Asking
+asking_of m = record { turns = m.turns; wanted = m.wanted }
+
+-- so it is, behind so many attempts of which this one is the last, and the page is wanted still
+pub record ServiceFails (areas : List Area) (b p : Paged) (asks : Asking) (before after : Option BlockFile) : Type 0 where
   pub missed : Misses p
   pub fails : FailsToServe areas b p missed before after
-  pub made : turns ≡ p.turns + 1
+  pub made : asks.turns ≡ p.turns + 1
+  pub wanted : asks.wanted ≡ Some missed.page
 
 -- The call of the file that comes next failed, and each before it was made: these pages were still to be made absent, and the first was to be written to its
 -- block; or none was left, and the service of the page that the attempt misses was cut short.
-abbrev pub NextCallFails : List Area → Paged → Paged → List ℕ → ℕ → Option BlockFile → Option BlockFile → Type 0
-NextCallFails areas b p rest turns before after =
-    (WritesFirst rest p × Moved areas b p before after × (turns ≡ p.turns)) ⊎ ((rest ≡ []) × ServiceFails areas b p turns before after)
+abbrev pub NextCallFails : List Area → Paged → Paged → List ℕ → Asking → Option BlockFile → Option BlockFile → Type 0
+NextCallFails areas b p rest asks before after =
+    (WritesFirst rest p × Moved areas b p before after × (asks.turns ≡ p.turns)) ⊎ ((rest ≡ []) × ServiceFails areas b p asks before after)

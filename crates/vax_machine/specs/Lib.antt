@@ -15,3 +15,4 @@ pub mod GoingOn
 pub mod Meaning
 pub mod Console
 pub mod Marking
+pub mod Depositing

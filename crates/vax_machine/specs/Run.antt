@@ -8,7 +8,7 @@ use Rattle.vax_pager.specs.Meaning.{pages}
 use Rattle.vax_sched.specs.Due.{due}
 use Rattle.vax_sched.specs.declared.rule.Rule.{Rule}
 use Rattle.vax_machine.specs.Blocks.{Moved, MovedFirst}
-use Rattle.vax_machine.specs.Calling.{NextCallFails}
+use Rattle.vax_machine.specs.Calling.{NextCallFails, asking_of}
 use Rattle.vax_machine.specs.Machine.{Means, modified_of, residence}
 use Rattle.vax_machine.specs.Paged.{Paged, Why, ByEnding, BySteps, ByTurns, all_evicted, all_named, paged, stops}
 use Rattle.vax_machine.specs.Touched.{PinsTouched}
@@ -74,7 +74,7 @@ pub record IsCut (limits : Limits) (areas : List Area) (rules : List Rule) (b : 
   pub residence : residence m ≡ (all_evicted front (paged areas (due rules) count b)).residence
   pub means : Means m file (paged areas (due rules) count b).place
   pub steps : m.steps ≡ (paged areas (due rules) count b).steps
-  pub fails : NextCallFails areas b (all_evicted front (paged areas (due rules) count b)) rest m.turns before file
+  pub fails : NextCallFails areas b (all_evicted front (paged areas (due rules) count b)) rest (asking_of m) before file
   pub wrote : Wrote (origin limits areas b before old) (all_evicted front (paged areas (due rules) count b)) new
   pub few : (all_evicted front (paged areas (due rules) count b)).residence.spoiled < 2 ^ 64 - 1 →
       m.turns + 41 * b.parts + length b.residence.pinned + b.residence.spoiled

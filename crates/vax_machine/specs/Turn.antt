@@ -8,7 +8,7 @@ use Rattle.vax_pager.specs.Meaning.{pages}
 use Rattle.vax_sched.specs.Due.{due}
 use Rattle.vax_sched.specs.declared.rule.Rule.{Rule}
 use Rattle.vax_machine.specs.Blocks.{Moved, MovedFirst}
-use Rattle.vax_machine.specs.Calling.{NextCallFails, ServiceFails, WritesFirst}
+use Rattle.vax_machine.specs.Calling.{NextCallFails, ServiceFails, WritesFirst, asking_of}
 use Rattle.vax_machine.specs.Machine.{KeepsPlace, Means, Serves, ServesAs, keeping, residence}
 use Rattle.vax_machine.specs.Paged.{Paged, Why, all_evicted, all_named, attempted, paged, stops}
 use Rattle.vax_machine.specs.Run.{Runs, System, Tracks, system_of, why_of}
@@ -110,7 +110,7 @@ pub record IsUnserved (most : ℕ) (areas : List Area) (p : Paged) (before : Opt
   pub turns : m.turns ≡ (attempted_times count p).turns + 1
   pub residence : residence m ≡ (attempted_times count p).residence
   pub means : Means m file (attempted_times count p).place
-  pub fails : ServiceFails areas p (attempted_times count p) m.turns before file
+  pub fails : ServiceFails areas p (attempted_times count p) (asking_of m) before file
 
 -- the attempts were made, and what they write was written or is held back
 pub record AttemptsFollow (most : ℕ) (o : Origin) (p : Paged) (m : Engine) (file : Option BlockFile) (now : Option Channels) (left : Held) : Type 0 where
@@ -146,7 +146,7 @@ pub record IsCutTurn (o : Origin) (areas : List Area) (rules : List Rule) (p : P
   pub residence : residence m ≡ (all_evicted front p).residence
   pub means : Means m file p.place
   pub steps : m.steps ≡ p.steps
-  pub fails : NextCallFails o.areas o.at (all_evicted front p) rest m.turns o.file file
+  pub fails : NextCallFails o.areas o.at (all_evicted front p) rest (asking_of m) o.file file
   pub sends : Sends o (all_evicted front p) now (held_in left)
 
 -- several whole turns

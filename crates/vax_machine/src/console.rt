@@ -93,6 +93,7 @@ impl Engine {
     ghost use Rattle.vax_space.specs.Reference.{violation};
     ghost use Rattle.vax_flat.specs.Outcome.{is_allowed};
     ghost use Rattle.vax_machine.specs.Console.{BringsPages, Deposits, DepositsRegister, ShowsMemory, cpu_with_register, let_go};
+    ghost use Rattle.vax_machine.specs.Depositing.{DepositsIn, filed};
     ghost use Rattle.vax_machine.specs.Machine.{IsSound, KeepsPlace, keeping, modified_of};
     ghost use Rattle.vax_machine.specs.Marking.{Marks};
 
@@ -144,6 +145,8 @@ impl Engine {
             self.new }
         ensures writes { WritesBlocks (keeping self.old).areas (F.contents file.old)
             (F.contents file.new) }
+        ensures paged { DepositsIn result addr bytes.now (filed self.old (F.contents file.old))
+            (filed self.new (F.contents file.new)) }
         ensures counts { CountsFailure (is_err result) (F.faults file.old) (F.faults file.new) }
     {
         match self.pager.poke(addr, bytes, file) {

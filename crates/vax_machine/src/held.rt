@@ -1,5 +1,5 @@
 //! What a run has to write, held back until there is much of it.
-ghost use Rattle.std.specs.Prelude.{◌≡◌, [], ◌+◌, ◌<◌, ◌≤◌, ◌^◌, length, is_err, OnErr, OnOk, Some, None, if◌then◌else◌};
+ghost use Rattle.std.specs.Prelude.{◌≡◌, ℕ, [], ◌+◌, ◌<◌, ◌≤◌, ◌^◌, length, is_err, OnErr, OnOk, Some, None, if◌then◌else◌};
 ghost use Rattle.vax_outside.specs.Channels.{Grew, GrewByPrefix, nothing, only};
 ghost use Rattle.vax_outside.specs.Faults.{CountsFailure};
 ghost use Rattle.vax_outside.specs.declared.faults.Failures.{Failures};
@@ -163,22 +163,32 @@ impl Held {
         Ok(())
     }
 
-    /// Holds one line more for Record, of a page that was made absent before this attempt, where evictions are listed; those that are held are
-    /// written first where there is no room.
-    pub(crate) fn list<K: Sink>(&mut self, turn: u64, page: u32, sink: &mut K) -> Result<(), Fault>
-        requires small { page < 2 ^ 23 }
+    /// Holds one line more for Record, of the page that was made absent before this attempt, if one was and evictions are listed. Those that are held
+    /// are written first where there is no room.
+    pub(crate) fn list<K: Sink>(
+        &mut self,
+        turn: u64,
+        evicted: Option<u32>,
+        sink: &mut K,
+    ) -> Result<(), Fault>
+        requires small { (page : ℕ) → evicted ≡ Some page → page < 2 ^ 23 }
         ensures passes { Passed result (held_in self.old)
-            (listed_by self.old.listed turn (Some page)) (held_in self.new)
+            (listed_by self.old.listed turn evicted) (held_in self.new)
             (K.contents sink.old) (K.contents sink.new) }
         ensures still { StillWrites self.old self.new (K.contents sink.old) (K.contents sink.new) }
         ensures counts { (file : Failures)
             → Counts result file file (K.faults sink.old) (K.faults sink.new) }
     {
-        if self.listed {
-            make_room(&mut self.lines, sink)?;
-            push_at(&mut self.lines, turn, page);
+        match evicted {
+            None => Ok(()),
+            Some(page) => {
+                if self.listed {
+                    make_room(&mut self.lines, sink)?;
+                    push_at(&mut self.lines, turn, page);
+                }
+                Ok(())
+            }
         }
-        Ok(())
     }
 
     /// Writes the lines that are held, where evictions are listed.

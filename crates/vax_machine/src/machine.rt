@@ -45,6 +45,7 @@ impl Machine {
     ghost use Rattle.vax_machine.specs.Console.{AreShown, BringsPages, Deposits, DepositsRegister, IsBetween, IsThereIn, ShowsMemory, ShowsPage, StopsBetween, cpu_with_register, let_go, pages_in};
     ghost use Rattle.vax_machine.specs.Machine.{Applies, HasSpent, KeepsPlace, Means, Moves, has_failed, keeping, modified_of, residence};
     ghost use Rattle.vax_machine.specs.Marking.{Marks};
+    ghost use Rattle.vax_machine.specs.Depositing.{DepositsIn, filed};
     ghost use Rattle.vax_machine.specs.Events.{FollowsFrom, FollowsRun, KeepsPins, KeepsRun};
     ghost use Rattle.vax_machine.specs.GoingOn.{CountsEnd, GoesOnTo, HasReason};
     ghost use Rattle.vax_machine.specs.Meaning.{engine, flat_start, left_at, memory_of, resumed_at, units_of};
@@ -166,6 +167,9 @@ impl Machine {
             (F.contents file.new) }
         ensures between { StopsBetween result → IsBetween (engine self.old)
             → IsBetween (engine self.new) }
+        ensures turns { (engine self.old).turns ≤ (engine self.new).turns }
+        ensures few { (engine self.old).turns ≤ limits.now.turns
+            → (engine self.new).turns ≤ limits.now.turns }
         ensures areas { StopsBetween result
             → (keeping (engine self.new)).areas ≡ (keeping (engine self.old)).areas }
         ensures later { (F.faults file.old).count ≤ (F.faults file.new).count }
@@ -174,6 +178,8 @@ impl Machine {
         ensures cause { result ≡ RunEnd.WriteFault → Rose (K.faults sink.old) (K.faults sink.new) }
         ensures unfailed { result ≢ RunEnd.PageFault → result ≢ RunEnd.WriteFault
             → (F.faults file.new).count ≡ (F.faults file.old).count }
+        ensures failed { (F.faults file.new).count ≢ (F.faults file.old).count
+            → Rose (F.faults file.old) (F.faults file.new) }
         ensures written { result ≢ RunEnd.WriteFault
             → (K.faults sink.new).count ≡ (K.faults sink.old).count }
         ensures only { OnlyWrote limits.now.listed (K.contents sink.old) (K.contents sink.new) }
@@ -204,6 +210,9 @@ impl Machine {
         ensures reason { HasReason limits.now (engine self.new) result }
         ensures steps { StopsBetween result → (engine self.old).steps ≤ limits.now.steps
             → (engine self.new).steps ≤ limits.now.steps }
+        ensures turns { (engine self.old).turns ≤ (engine self.new).turns }
+        ensures few { (engine self.old).turns ≤ limits.now.turns
+            → (engine self.new).turns ≤ limits.now.turns }
         ensures areas { StopsBetween result
             → (keeping (engine self.new)).areas ≡ (keeping (engine self.old)).areas }
         ensures writes { StillWrites held.old held.new (K.contents sink.old) (K.contents sink.new) }
@@ -385,6 +394,7 @@ impl Machine {
     ///
     /// After any other answer no page is pinned and none is wanted. The pages of the bytes came in, by services as a run makes them; after a failure
     /// the first of them. Exactly these pages are modified anew, and none where nothing was changed. After a failure every byte is as it was.
+    /// The page file is written and read for these services alone; a call that failed is the last of them.
     pub fn poke<F: PageFile>(
         &mut self,
         addr: u32,
@@ -404,6 +414,9 @@ impl Machine {
             (engine self.old) (engine self.new) }
         ensures writes { WritesBlocks (keeping (engine self.old)).areas (F.contents file.old)
             (F.contents file.new) }
+        ensures paged { DepositsIn result addr bytes.now
+            (filed (engine self.old) (F.contents file.old))
+            (filed (engine self.new) (F.contents file.new)) }
         ensures counts { CountsFailure (is_err result) (F.faults file.old) (F.faults file.new) }
     {
         self.engine.poke(addr, bytes, file)

@@ -59,31 +59,8 @@ impl Engine {
         ensures counts { (file : Failures)
             → Counts result file file (K.faults sink.old) (K.faults sink.new) }
     {
-        self.list_one(evicted, held, sink)?;
+        held.list(self.turns + 1, evicted, sink)?;
         held.write_due(false, self.steps, sink)
-    }
-
-    /// Lists a page, if one was made absent before the attempt that comes.
-    fn list_one<K: Sink>(
-        &self,
-        evicted: Option<u32>,
-        held: &mut Held,
-        sink: &mut K,
-    ) -> Result<(), Fault>
-        requires turns { self.now.turns < 2 ^ 64 - 1 }
-        requires inside { (page : ℕ) → evicted ≡ Some page
-            → is_some (area_of (pages self.now.pager).areas page) ≡ true }
-        ensures passes { Passed result (held_in held.old)
-            (listed_by held.old.listed (self.now.turns + 1) evicted) (held_in held.new)
-            (K.contents sink.old) (K.contents sink.new) }
-        ensures writes { StillWrites held.old held.new (K.contents sink.old) (K.contents sink.new) }
-        ensures counts { (file : Failures)
-            → Counts result file file (K.faults sink.old) (K.faults sink.new) }
-    {
-        match evicted {
-            None => Ok(()),
-            Some(page) => held.list(self.turns + 1, page, sink),
-        }
     }
 
     /// Makes a page absent, and lists it where it was resident.
@@ -152,32 +129,8 @@ impl Engine {
         count
     }
 
-    /// Makes all pages absent, in ascending order: those that are resident, since it changes nothing at others.
-    fn evict_all<F: PageFile, K: Sink>(
-        &mut self,
-        found: &mut [u32],
-        held: &mut Held,
-        file: &mut F,
-        sink: &mut K,
-    ) -> Result<(), Fault>
-        requires sound { IsSound self.old }
-        requires turns { self.old.turns < 2 ^ 64 - 1 }
-        requires room { length found.old ≡ 32768 }
-        ensures sound { IsSound self.new }
-        ensures done { MakesAbsent result (flat_map pages_of (pages self.old.pager).areas)
-            (underway_of self.old (F.contents file.old) (K.contents sink.old) held.old)
-            (underway_of self.new (F.contents file.new) (K.contents sink.new) held.new) }
-        ensures still { Still self.old self.new }
-        ensures follows { KeepsRun self.old (F.contents file.old) self.new (F.contents file.new) }
-        ensures writes { StillWrites held.old held.new (K.contents sink.old) (K.contents sink.new) }
-        ensures counts { Counts result (F.faults file.old) (F.faults file.new) (K.faults sink.old)
-            (K.faults sink.new) }
-    {
-        let count = self.residents(found);
-        self.evict_pages(&found[..count], held, file, sink)
-    }
-
-    /// Makes what a target names absent.
+    /// Makes what a target names absent: a page, or all pages in ascending order. Of these it goes to those that are resident, since it changes nothing at
+    /// others.
     fn evict_target<F: PageFile, K: Sink>(
         &mut self,
         target: Target,
@@ -201,7 +154,10 @@ impl Engine {
     {
         match target {
             Target::Page(page) => self.evict_one(page, held, file, sink),
-            Target::All => self.evict_all(found, held, file, sink),
+            Target::All => {
+                let count = self.residents(found);
+                self.evict_pages(&found[..count], held, file, sink)
+            }
         }
     }
 
@@ -329,7 +285,8 @@ impl Engine {
             (underway_of self.old (F.contents file.old) (K.contents sink.old) held.old)
             (underway_of self.new (F.contents file.new) (K.contents sink.new) held.new) }
         ensures steps { OnOk result (self.new.steps ≤ limits.now.steps) }
-        ensures turns { OnOk result (self.new.turns ≤ limits.now.turns) }
+        ensures turns { self.new.turns ≤ limits.now.turns }
+        ensures later { self.old.turns ≤ self.new.turns }
         ensures some { OnOk result (self.old.turns < self.new.turns) }
         ensures areas { OnOk result ((pages self.new.pager).areas ≡ (pages self.old.pager).areas) }
         ensures goes_on { OnOk result (MayGoOn limits.now.steps self.new) }
@@ -393,6 +350,8 @@ impl Engine {
         ensures reason { HasReason limits.now self.new result }
         ensures steps { StopsBetween result → self.old.steps ≤ limits.now.steps
             → self.new.steps ≤ limits.now.steps }
+        ensures turns { self.old.turns ≤ self.new.turns }
+        ensures few { self.old.turns ≤ limits.now.turns → self.new.turns ≤ limits.now.turns }
         ensures areas { StopsBetween result
             → (keeping self.new).areas ≡ (keeping self.old).areas }
         ensures writes { StillWrites held.old held.new (K.contents sink.old) (K.contents sink.new) }
@@ -434,6 +393,8 @@ impl Engine {
             (system_of self.new (F.contents file.new) (K.contents sink.new)) }
         ensures follows { KeepsRun self.old (F.contents file.old) self.new (F.contents file.new) }
         ensures between { StopsBetween result → IsBetween self.old → IsBetween self.new }
+        ensures turns { self.old.turns ≤ self.new.turns }
+        ensures few { self.old.turns ≤ limits.now.turns → self.new.turns ≤ limits.now.turns }
         ensures areas { StopsBetween result
             → (keeping self.new).areas ≡ (keeping self.old).areas }
         ensures later { (F.faults file.old).count ≤ (F.faults file.new).count }
@@ -442,6 +403,8 @@ impl Engine {
         ensures cause { result ≡ RunEnd.WriteFault → Rose (K.faults sink.old) (K.faults sink.new) }
         ensures unfailed { result ≢ RunEnd.PageFault → result ≢ RunEnd.WriteFault
             → (F.faults file.new).count ≡ (F.faults file.old).count }
+        ensures failed { (F.faults file.new).count ≢ (F.faults file.old).count
+            → Rose (F.faults file.old) (F.faults file.new) }
         ensures written { result ≢ RunEnd.WriteFault
             → (K.faults sink.new).count ≡ (K.faults sink.old).count }
         ensures only { OnlyWrote limits.now.listed (K.contents sink.old) (K.contents sink.new) }

@@ -7,7 +7,7 @@ use Rattle.vax_flat.specs.Port.{is_in}
 use Rattle.vax_pager.specs.Calls.{IsPaging}
 use Rattle.vax_pager.specs.Listing.{is_listed}
 use Rattle.vax_pager.specs.Paging.{Keeps, Numbers, Paging, StandsWith}
-use Rattle.vax_pager.specs.Poking.{AllComeIn, HasFailed, HasPoked, MarksNone, SomeComeIn, StaysAlike, WritesThere, pages_of_bytes}
+use Rattle.vax_pager.specs.Poking.{AllComeIn, HasFailed, HasPoked, MarksNone, SomeComeIn, StaysAlike, WritesThere, backed, pages_of_bytes}
 use Rattle.vax_pager.specs.Steps.{OnlyWritten, settled}
 use Rattle.vax_pager.proofs.Marking.{none_settled, or_more, or_true, then_none}
 use Rattle.vax_pager.proofs.Poking.{then_alike}
@@ -26,6 +26,10 @@ pins_settled s t e = ap (λ (z : Paging). z.pinned) e
 pub order_settled : (s t : Paging) → t ≡ settled s → t.order ≡ s.order
 unfolding settled
 order_settled s t e = ap (λ (z : Paging). z.order) e
+
+modified_settled : (s t : Paging) → t ≡ settled s → t.modified ≡ s.modified
+unfolding settled
+modified_settled s t e = ap (λ (z : Paging). z.modified) e
 
 pub areas_settled : (s t : Paging) → t ≡ settled s → t.areas ≡ s.areas
 areas_settled s t e = (alike_settled s t e).areas
@@ -47,18 +51,18 @@ module _ (s a b c : Paging) (file now : Option BlockFile) (first : a ≡ settled
   all_marks : MarksNone s file c now
   all_marks = then_none s a c file file now (none_settled s a file first) (then_none a b c file now now marks (none_settled b c now second))
 
-  pub has_failed : (addr count : ℕ) → SomeComeIn (pages_of_bytes addr count) a b → HasFailed addr count s file c now
+  pub has_failed : (addr count : ℕ) → SomeComeIn (pages_of_bytes addr count) (backed a file) (backed b now) → HasFailed addr count s file c now
   has_failed addr count brings = record {
     alike = all_alike;
     unpinned = pins_settled b c second;
     keeps = all_keeps;
     marks = all_marks;
     mid = b;
-    brings = subst (λ (z : Paging). SomeComeIn (pages_of_bytes addr count) z b) first brings;
+    brings = subst (λ (z : Paging). SomeComeIn (pages_of_bytes addr count) (backed z file) (backed b now)) first brings;
     then = second;
   }
 
-  pub has_poked : (t : Paging) (addr : ℕ) (bytes : List ℕ) → IsPaging c → AllComeIn (pages_of_bytes addr (length bytes)) a b → WritesThere c addr bytes t → HasPoked addr bytes s file t now
+  pub has_poked : (t : Paging) (addr : ℕ) (bytes : List ℕ) → IsPaging c → AllComeIn (pages_of_bytes addr (length bytes)) (backed a file) (backed b now) → WritesThere c addr bytes t → HasPoked addr bytes s file t now
   has_poked t addr bytes f brings w =
       let o = w.only in
       record {
@@ -72,6 +76,7 @@ module _ (s a b c : Paging) (file now : Option BlockFile) (first : a ≡ settled
         only = λ page h. or_more (is_listed page c.modified) (is_listed page s.modified) (is_in addr (length bytes) page) (all_marks.marked page) (sym (w.marked page) ∙ h);
         writes = all_marks.writes;
         mid = b;
-        brings = subst (λ (z : Paging). AllComeIn (pages_of_bytes addr (length bytes)) z b) first brings;
+        brings = subst (λ (z : Paging). AllComeIn (pages_of_bytes addr (length bytes)) (backed z file) (backed b now)) first brings;
         then = subst (λ (z : Paging). OnlyWritten z t) second o;
+        touches = λ page. w.marked page ∙ ap (λ (z : List ℕ). is_listed page z || is_in addr (length bytes) page) (modified_settled b c second);
       }

@@ -23,8 +23,8 @@ use Rattle.vax_undo.specs.Answers.{err_of}
 use Rattle.vax_undo.proofs.Accesses.{fine}
 use Rattle.vax_pager.specs.Calls.{Back, Empty, IsLeft, IsPaging, Nowhere, OfKept, OfVictim, Source, after_flush, begun, came, source}
 use Rattle.vax_pager.specs.Listing.{is_listed}
-use Rattle.vax_pager.specs.Paging.{ComesFrom, Paging, view_of}
-use Rattle.vax_pager.specs.Poking.{AllComeIn, BringsIn, ComesIn, ComesInBy, HasFailed, IsPage, Pokes, SomeComeIn, StaysAlike, StaysOut, WritesThere}
+use Rattle.vax_pager.specs.Paging.{ComesFrom, Keeps, Paging, view_of}
+use Rattle.vax_pager.specs.Poking.{AllComeIn, Backed, BringsIn, ComesIn, ComesInBy, HasFailed, IsPage, IsServed, Pokes, SomeComeIn, StaysAlike, StaysOut, WritesThere}
 use Rattle.vax_pager.specs.Steps.{OnlyWritten, brought, flushed, forgotten, removed, taken_back}
 use Rattle.vax_pager.specs.declared.calls.PageFault.{PageFault}
 use Rattle.vax_pager.proofs.Apart.{in_parts}
@@ -263,28 +263,24 @@ never_stopped r e x is h n = let k : Some e ≡ None = sym (ap err_of is) ∙ (h
 
 -- pages that come in
 
-pub comes_served : (page : ℕ) (s t : Paging) → is_listed page s.order ≡ false → t ≡ came (source page s) page (t.frame page) s → IsPaging s → length s.pinned < s.frames → ComesIn page s t
-comes_served page s t away e f few = record { by = subst (λ (b : Bool). ComesInBy b page s t) (sym away) e; paging = f; room = few }
+pub comes_served : (page : ℕ) (s t : Backed) → is_listed page s.paging.order ≡ false → IsServed page s t → IsPaging s.paging → length s.paging.pinned < s.paging.frames → Keeps s.paging s.file t.paging t.file → ComesIn page s t
+comes_served page s t away e f few keeps = record { by = subst (λ (b : Bool). ComesInBy b page s t) (sym away) e; fine = f; room = few; keeps = keeps }
 
-pub comes_there : (page : ℕ) (s : Paging) → is_listed page s.order ≡ true → IsPaging s → length s.pinned < s.frames → ComesIn page s s
-comes_there page s here f few = record { by = subst (λ (b : Bool). ComesInBy b page s s) (sym here) refl; paging = f; room = few }
+pub comes_there : (page : ℕ) (s : Backed) → is_listed page s.paging.order ≡ true → IsPaging s.paging → length s.paging.pinned < s.paging.frames → ComesIn page s s
+comes_there page s here f few = record { by = subst (λ (b : Bool). ComesInBy b page s s) (sym here) refl; fine = f; room = few; keeps = λ memory st. st }
 
-pub stays_out : (page : ℕ) (s t : Paging) (file after : Option BlockFile) → is_listed page s.order ≡ false → IsLeft (source page s) page s file t after → StaysOut page s t
-stays_out page s t file after away (inl h) = record { away = away; stays = inl h.1 }
-stays_out page s t file after away (inr h) = record { away = away; stays = inr h.1 }
-
-pub three_come : (x y z : ℕ) (a b c d : Paging) → ComesIn x a b → ComesIn y b c → ComesIn z c d → AllComeIn (x ∷ y ∷ z ∷ []) a d
+pub three_come : (x y z : ℕ) (a b c d : Backed) → ComesIn x a b → ComesIn y b c → ComesIn z c d → AllComeIn (x ∷ y ∷ z ∷ []) a d
 unfolding AllComeIn
 three_come x y z a b c d p q r = (b, p, (c, q, (d, r, refl)))
 
-pub first_out : (x y z : ℕ) (a b : Paging) → StaysOut x a b → SomeComeIn (x ∷ y ∷ z ∷ []) a b
+pub first_out : (x y z : ℕ) (a b : Backed) → StaysOut x a b → SomeComeIn (x ∷ y ∷ z ∷ []) a b
 unfolding AllComeIn
 first_out x y z a b o = record { front = []; page = x; rest = y ∷ z ∷ []; splits = refl; mid = a; came = refl; out = o }
 
-pub second_out : (x y z : ℕ) (a b c : Paging) → ComesIn x a b → StaysOut y b c → SomeComeIn (x ∷ y ∷ z ∷ []) a c
+pub second_out : (x y z : ℕ) (a b c : Backed) → ComesIn x a b → StaysOut y b c → SomeComeIn (x ∷ y ∷ z ∷ []) a c
 unfolding AllComeIn
 second_out x y z a b c p o = record { front = x ∷ []; page = y; rest = z ∷ []; splits = refl; mid = b; came = (b, p, refl); out = o }
 
-pub third_out : (x y z : ℕ) (a b c d : Paging) → ComesIn x a b → ComesIn y b c → StaysOut z c d → SomeComeIn (x ∷ y ∷ z ∷ []) a d
+pub third_out : (x y z : ℕ) (a b c d : Backed) → ComesIn x a b → ComesIn y b c → StaysOut z c d → SomeComeIn (x ∷ y ∷ z ∷ []) a d
 unfolding AllComeIn
 third_out x y z a b c d p q o = record { front = x ∷ y ∷ []; page = z; rest = []; splits = refl; mid = c; came = (b, p, (c, q, refl)); out = o }

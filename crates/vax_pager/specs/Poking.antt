@@ -7,7 +7,7 @@ use Rattle.vax_space.specs.Reference.{byte_after, page_of}
 use Rattle.vax_outside.specs.Blocks.{BlockFile, after_read}
 use Rattle.vax_flat.specs.Memory.{byte_at, written_run}
 use Rattle.vax_flat.specs.Port.{StandsFor, is_in}
-use Rattle.vax_pager.specs.Calls.{IsPaging, begun, came, source}
+use Rattle.vax_pager.specs.Calls.{FillsFrame, IsLeft, IsPaging, came, file_after, source}
 use Rattle.vax_pager.specs.Listing.{is_listed}
 use Rattle.vax_pager.specs.Paging.{Keeps, Paging, StandsWith, view_of}
 use Rattle.vax_pager.specs.Steps.{OnlyWritten, settled}
@@ -49,34 +49,51 @@ pub record BringsIn (page : ℕ) (s t : Paging) : Type 0 where
   pub same : is_listed page s.order ≡ true → t ≡ s
   pub pinned : is_listed page s.order ≡ false → t.pinned ≡ s.pinned ++ page ∷ []
 
+-- a pager with what its page file tells
+pub record Backed : Type 0 where
+  pub paging : Paging
+  pub file : Option BlockFile
+
+abbrev pub backed : Paging → Option BlockFile → Backed
+backed paging file = record { paging = paging; file = file }
+
+-- a page was served: the page that made room was written to its block, if it was modified, the page was read, if it has a block, and that is all
+pub record IsServed (page : ℕ) (s t : Backed) : Type 0 where
+  pub paging : t.paging ≡ came (source page s.paging) page (t.paging.frame page) s.paging
+  pub file : t.file ≡ file_after (source page s.paging) page s.paging s.file
+  pub bytes : FillsFrame page s.paging s.file t.paging
+
 -- a page comes in, by a service where it isn't resident
-abbrev pub ComesInBy : Bool → ℕ → Paging → Paging → Type 0
+abbrev pub ComesInBy : Bool → ℕ → Backed → Backed → Type 0
 ComesInBy true page s t = t ≡ s
-ComesInBy false page s t = t ≡ came (source page s) page (t.frame page) s
+ComesInBy false page s t = IsServed page s t
 
 -- so it does where one page more may be pinned
-pub record ComesIn (page : ℕ) (s t : Paging) : Type 0 where
-  pub by : ComesInBy (is_listed page s.order) page s t
-  pub paging : IsPaging s
-  pub room : length s.pinned < s.frames
+pub record ComesIn (page : ℕ) (s t : Backed) : Type 0 where
+  pub by : ComesInBy (is_listed page s.paging.order) page s t
+  pub fine : IsPaging s.paging
+  pub room : length s.paging.pinned < s.paging.frames
+  pub keeps : Keeps s.paging s.file t.paging t.file
 
 -- pages come in, one after the other
-unfoldable pub AllComeIn : List ℕ → Paging → Paging → Type 0
+unfoldable pub AllComeIn : List ℕ → Backed → Backed → Type 0
 AllComeIn [] s t = t ≡ s
-AllComeIn (page ∷ pages) s t = (mid : Paging) × ComesIn page s mid × AllComeIn pages mid t
+AllComeIn (page ∷ pages) s t = (mid : Backed) × ComesIn page s mid × AllComeIn pages mid t
 
 -- the service of the page failed: the page that was to make room may have been written
-pub record StaysOut (page : ℕ) (s t : Paging) : Type 0 where
-  pub away : is_listed page s.order ≡ false
-  pub stays : (t ≡ s) ⊎ (t ≡ begun (source page s) s)
+pub record StaysOut (page : ℕ) (s t : Backed) : Type 0 where
+  pub away : is_listed page s.paging.order ≡ false
+  pub stays : IsLeft (source page s.paging) page s.paging s.file t.paging t.file
+  pub fine : IsPaging s.paging
+  pub room : length s.paging.pinned < s.paging.frames
 
 -- the first of these pages came in, and the next didn't
-pub record SomeComeIn (pages : List ℕ) (s t : Paging) : Type 0 where
+pub record SomeComeIn (pages : List ℕ) (s t : Backed) : Type 0 where
   pub front : List ℕ
   pub page : ℕ
   pub rest : List ℕ
   pub splits : pages ≡ front ++ page ∷ rest
-  pub mid : Paging
+  pub mid : Backed
   pub came : AllComeIn front s mid
   pub out : StaysOut page mid t
 
@@ -126,8 +143,9 @@ pub record HasPoked (addr : ℕ) (bytes : List ℕ) (s : Paging) (file : Option 
   pub only : (page : ℕ) → is_listed page t.modified ≡ true → (is_listed page s.modified || is_in addr (length bytes) page) ≡ true
   pub writes : WritesBlocks s.areas file after
   pub mid : Paging
-  pub brings : AllComeIn (pages_of_bytes addr (length bytes)) (settled s) mid
+  pub brings : AllComeIn (pages_of_bytes addr (length bytes)) (backed (settled s) file) (backed mid after)
   pub then : OnlyWritten (settled mid) t
+  pub touches : (page : ℕ) → is_listed page t.modified ≡ (is_listed page mid.modified || is_in addr (length bytes) page)
 
 -- every byte is as it was, no page is modified that wasn't, and no page is pinned
 pub record HasFailed (addr count : ℕ) (s : Paging) (file : Option BlockFile) (t : Paging) (after : Option BlockFile) : Type 0 where
@@ -136,7 +154,7 @@ pub record HasFailed (addr count : ℕ) (s : Paging) (file : Option BlockFile) (
   pub keeps : Keeps s file t after
   pub marks : MarksNone s file t after
   pub mid : Paging
-  pub brings : SomeComeIn (pages_of_bytes addr count) (settled s) mid
+  pub brings : SomeComeIn (pages_of_bytes addr count) (backed (settled s) file) (backed mid after)
   pub then : t ≡ settled mid
 
 -- what writing these bytes comes to, where it isn't refused

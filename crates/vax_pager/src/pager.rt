@@ -181,7 +181,8 @@ impl Pager {
     /// Writes 1 to 64 bytes whatever the protection of their pages. It answers false exactly where some byte lies in no area, or in a page that no
     /// mode may write (those that some mode may write the kernel may), and changes nothing then.
     ///
-    /// The pages come in first, and no page is pinned afterwards. After a failure every byte is as it was.
+    /// The pages come in first, and no page is pinned afterwards. The file is written and read for their services alone, and no call is made behind one that
+    /// failed. After a failure every byte is as it was.
     pub fn poke<F: PageFile>(
         &mut self,
         addr: u32,

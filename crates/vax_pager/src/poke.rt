@@ -16,7 +16,7 @@ impl Store {
     ghost use Rattle.vax_flat.specs.Outcome.{is_allowed};
     ghost use Rattle.vax_pager.specs.Listing.{is_listed};
     ghost use Rattle.vax_pager.specs.Paging.{Keeps};
-    ghost use Rattle.vax_pager.specs.Poking.{AllComeIn, BringsIn, ComesIn, IsPage, MarksNone, OnlyRead, Pokes, ReadsAtMost, SomeComeIn, StaysAlike, StaysOut, WritesThere};
+    ghost use Rattle.vax_pager.specs.Poking.{AllComeIn, BringsIn, ComesIn, IsPage, MarksNone, OnlyRead, Pokes, ReadsAtMost, SomeComeIn, StaysAlike, StaysOut, WritesThere, backed};
     ghost use Rattle.vax_pager.specs.Store.{IsSound, paging};
 
     /// The bytes of a page, resident or not.
@@ -61,8 +61,10 @@ impl Store {
         ensures marks { MarksNone (paging self.old) (F.contents file.old) (paging self.new)
             (F.contents file.new) }
         ensures brings { OnOk result (BringsIn page (paging self.old) (paging self.new)) }
-        ensures comes { OnOk result (ComesIn page (paging self.old) (paging self.new)) }
-        ensures out { OnErr result (StaysOut page (paging self.old) (paging self.new)) }
+        ensures comes { OnOk result (ComesIn page (backed (paging self.old) (F.contents file.old))
+            (backed (paging self.new) (F.contents file.new))) }
+        ensures out { OnErr result (StaysOut page (backed (paging self.old) (F.contents file.old))
+            (backed (paging self.new) (F.contents file.new))) }
         ensures counts { CountsFailure (is_err result) (F.faults file.old) (F.faults file.new) }
         ensures keeps { Keeps (paging self.old) (F.contents file.old) (paging self.new)
             (F.contents file.new) }
@@ -91,10 +93,12 @@ impl Store {
             (F.contents file.new) }
         ensures low { OnOk result (is_listed low (paging self.new).order ≡ true) }
         ensures high { OnOk result (is_listed high (paging self.new).order ≡ true) }
-        ensures comes { OnOk result
-            (AllComeIn (low ∷ high ∷ low ∷ []) (paging self.old) (paging self.new)) }
-        ensures out { OnErr result
-            (SomeComeIn (low ∷ high ∷ low ∷ []) (paging self.old) (paging self.new)) }
+        ensures comes { OnOk result (AllComeIn (low ∷ high ∷ low ∷ [])
+            (backed (paging self.old) (F.contents file.old))
+            (backed (paging self.new) (F.contents file.new))) }
+        ensures out { OnErr result (SomeComeIn (low ∷ high ∷ low ∷ [])
+            (backed (paging self.old) (F.contents file.old))
+            (backed (paging self.new) (F.contents file.new))) }
         ensures counts { CountsFailure (is_err result) (F.faults file.old) (F.faults file.new) }
         ensures keeps { Keeps (paging self.old) (F.contents file.old) (paging self.new)
             (F.contents file.new) }

@@ -1,4 +1,4 @@
-use Rattle.std.proofs.Common.{◌≡◌, inl, refl, ap, subst, ◌∙◌, List, Result, Err}
+use Rattle.std.proofs.Common.{◌≡◌, arith, inl, refl, ap, subst, ◌∙◌, List, Result, Err}
 use Rattle.vax_space.specs.declared.Area.{Area}
 use Rattle.vax_pager.specs.Meaning.{pages}
 use Rattle.vax_sched.specs.Due.{due}
@@ -18,6 +18,8 @@ loop-end-init g c = record {
   at = λ o p f pins. at_here c.args.limits.now o _ c.args.schedule.now p c.args.self.now _ _ _ f;
   follows = λ first start f. f;
   goes_on = λ b. inl b;
+  turns = omega arith;
+  low = λ low. low;
   few = λ low. low;
   quiet = refl;
   written = refl;
@@ -39,6 +41,24 @@ returns-in-Some-clause-between g c = λ s b. c.in-Some.ensures.between (c.loop-e
 
 pub returns-in-Some-clause-steps : goal.returns-in-Some-clause-steps
 returns-in-Some-clause-steps g c = λ s. c.loop-end.invariant.few
+
+pub returns-in-Some-clause-turns : goal.returns-in-Some-clause-turns
+returns-in-Some-clause-turns g c = c.loop-end.invariant.turns
+
+pub returns-in-Some-clause-few : goal.returns-in-Some-clause-few
+returns-in-Some-clause-few g c = c.loop-end.invariant.low
+
+pub returns-in-Err-Page-clause-turns : goal.returns-in-Err-Page-clause-turns
+returns-in-Err-Page-clause-turns g c = let a = c.loop-end.invariant.turns in let b = c.several_turns.ensures.later in omega (arith, a, b)
+
+pub returns-in-Err-Page-clause-few : goal.returns-in-Err-Page-clause-few
+returns-in-Err-Page-clause-few g c = λ low. c.several_turns.ensures.turns
+
+pub returns-in-Err-Write-clause-turns : goal.returns-in-Err-Write-clause-turns
+returns-in-Err-Write-clause-turns g c = let a = c.loop-end.invariant.turns in let b = c.several_turns.ensures.later in omega (arith, a, b)
+
+pub returns-in-Err-Write-clause-few : goal.returns-in-Err-Write-clause-few
+returns-in-Err-Write-clause-few g c = λ low. c.several_turns.ensures.turns
 
 pub returns-in-Some-clause-areas : goal.returns-in-Some-clause-areas
 returns-in-Some-clause-areas g c = λ s. c.loop-end.invariant.areas
@@ -73,6 +93,8 @@ loop-end-preserved g c = record {
       (subst (λ (z : List Area). AreMade c.args.limits.now o z c.args.schedule.now q c.several_turns.new.self (g.F.PageFile.contents c.several_turns.new.file) (g.K.Sink.contents c.several_turns.new.sink) c.several_turns.new.held) c.loop-end.invariant.areas (c.in-Ok.ensures.done o q r.follows here));
   follows = λ first start f. c.several_turns.ensures.follows first start (c.loop-end.invariant.follows first start f);
   goes_on = λ b. c.in-Ok.ensures.goes_on;
+  turns = let a = c.loop-end.invariant.turns in let b = c.several_turns.ensures.later in omega (arith, a, b);
+  low = λ low. c.several_turns.ensures.turns;
   few = λ low. c.in-Ok.ensures.steps;
   quiet = c.in-Ok.ensures.counts.file.quiet ∙ c.loop-end.invariant.quiet;
   written = c.in-Ok.ensures.counts.sink.quiet ∙ c.loop-end.invariant.written;

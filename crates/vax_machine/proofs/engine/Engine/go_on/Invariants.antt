@@ -16,6 +16,8 @@ invariant-loop-end g l = record {
   at : (o : Origin) → (p : Paged) → Follows o p l.fn.self (g.F.PageFile.contents l.fn.file) (g.K.Sink.contents l.fn.sink) l.fn.held → PinsTouched p.residence p.place → Reached l.limits o (pages l.fn.self.pager).areas l.schedule p l.self (g.F.PageFile.contents l.file) (g.K.Sink.contents l.sink) l.held;
   follows : KeepsRun l.fn.self (g.F.PageFile.contents l.fn.file) l.self (g.F.PageFile.contents l.file);
   goes_on : IsBetween l.fn.self → MayGoOn l.limits.steps l.self;
+  turns : l.fn.self.turns ≤ l.self.turns;
+  low : l.fn.self.turns ≤ l.limits.turns → l.self.turns ≤ l.limits.turns;
   few : l.fn.self.steps ≤ l.limits.steps → l.self.steps ≤ l.limits.steps;
   quiet : (g.F.PageFile.faults l.file).count ≡ (g.F.PageFile.faults l.fn.file).count;
   written : (g.K.Sink.faults l.sink).count ≡ (g.K.Sink.faults l.fn.sink).count;

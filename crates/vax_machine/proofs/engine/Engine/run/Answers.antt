@@ -1,10 +1,11 @@
 use Rattle.std.proofs.Common.{refl, subst, ◌∙◌, Bool}
 use Rattle.vax_pager.specs.Meaning.{pages}
 use Rattle.vax_pager.proofs.Told.{pager_is, space_is}
-use Rattle.vax_machine.specs.GoingOn.{GoneOn}
+use Rattle.vax_machine.specs.GoingOn.{GoneOn, by_page}
 use Rattle.vax_machine.specs.Run.{begun, origin}
 use Rattle.vax_machine.specs.Writing.{OnlyWrote}
 use Rattle.vax_machine.specs.declared.event.RunEnd.{RunEnd}
+use Rattle.vax_machine.proofs.Ending.{changed_rose}
 use Rattle.vax_machine.proofs.Outputs.{then_wrote}
 use Rattle.vax_machine.proofs.Running.{at_start, begins_bounded, ends_so, lost_turns}
 use Rattle.vax_machine.proofs.engine.Engine.run.Goals as goal
@@ -32,3 +33,9 @@ returns-in_default-clause-only g c =
     let w = c.go_on.ensures.writes in
     then_wrote c.args.limits.now.listed _ _ _ (subst (λ (b : Bool). OnlyWrote b (g.K.Sink.contents c.args.sink.now) (g.K.Sink.contents c.go_on.new.sink)) c.new-held.ensures.listed w.only)
     (subst (λ (b : Bool). OnlyWrote b (g.K.Sink.contents c.go_on.new.sink) (g.K.Sink.contents c.finish.new.sink)) (w.listed ∙ c.new-held.ensures.listed) c.finish.ensures.only)
+
+pub returns-in-WriteFault-clause-failed : goal.returns-in-WriteFault-clause-failed
+returns-in-WriteFault-clause-failed g c = λ n. changed_rose (by_page c.go_on.result) _ _ c.go_on.ensures.counts.file n
+
+pub returns-in_default-clause-failed : goal.returns-in_default-clause-failed
+returns-in_default-clause-failed g c = λ n. changed_rose (by_page c.go_on.result) _ _ c.go_on.ensures.counts.file n

@@ -48,7 +48,19 @@ pub returns-clause-turns : goal.returns-clause-turns
 returns-clause-turns g c =
     let a = c.most_attempts-most.ensures.turns in
     let b = c.attempt_and_serve.ensures.gone.turns in
-    on_ok c.attempt_and_serve.result (omega (arith, a, b))
+    omega (arith, a, b)
+
+pub returns-in_err-evict_due-clause-turns : goal.returns-in_err-evict_due-clause-turns
+returns-in_err-evict_due-clause-turns g c = let a = c.evict_due.ensures.still.turns in let b = c.requires.turns in omega (arith, a, b)
+
+pub returns-in_err-evict_due-clause-later : goal.returns-in_err-evict_due-clause-later
+returns-in_err-evict_due-clause-later g c = let a = c.evict_due.ensures.still.turns in omega (arith, a)
+
+pub returns-clause-later : goal.returns-clause-later
+returns-clause-later g c =
+    let a = c.in_ok-evict_due.ensures.still.turns in
+    let b = c.attempt_and_serve.ensures.gone.some in
+    omega (arith, a, b)
 
 pub returns-clause-some : goal.returns-clause-some
 returns-clause-some g c =

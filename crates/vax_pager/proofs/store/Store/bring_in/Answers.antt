@@ -1,7 +1,7 @@
 use Rattle.std.proofs.Common.{rules}
 use Rattle.vax_pager.proofs.Marking.{came_none, left_none, none_itself}
 use Rattle.vax_pager.proofs.Told.{is_paging}
-use Rattle.vax_pager.proofs.Poking.{alike_itself, came_alike, comes_served, comes_there, left_alike, served_in, stays_out, was_in}
+use Rattle.vax_pager.proofs.Poking.{alike_itself, came_alike, comes_served, comes_there, left_alike, served_in, was_in}
 use Rattle.vax_pager.proofs.Effects.{on_err}
 use Rattle.vax_pager.proofs.store.Store.bring_in.Goals as goal
 
@@ -30,10 +30,10 @@ pub returns-else-not-is_resident-clause-marks : goal.returns-else-not-is_residen
 returns-else-not-is_resident-clause-marks g c = none_itself _ _
 
 pub returns-in_ok-serve-clause-comes : goal.returns-in_ok-serve-clause-comes
-returns-in_ok-serve-clause-comes g c = comes_served c.args.page _ _ (search rules) c.in_ok-serve.ensures.ok (is_paging _ c.requires.sound) c.requires.pins
+returns-in_ok-serve-clause-comes g c = comes_served c.args.page _ _ (search rules) (record { paging = c.in_ok-serve.ensures.ok; file = c.in_ok-serve.ensures.file; bytes = c.in_ok-serve.ensures.bytes }) (is_paging _ c.requires.sound) c.requires.pins c.serve.ensures.keeps
 
 pub returns-else-not-is_resident-clause-comes : goal.returns-else-not-is_resident-clause-comes
 returns-else-not-is_resident-clause-comes g c = comes_there c.args.page _ (search rules) (is_paging _ c.requires.sound) c.requires.pins
 
 pub returns-in_err-serve-clause-out : goal.returns-in_err-serve-clause-out
-returns-in_err-serve-clause-out g c = on_err c.from_residual.result (stays_out c.args.page _ _ _ _ (search rules) c.in_err-serve.ensures.err)
+returns-in_err-serve-clause-out g c = on_err c.from_residual.result (record { away = search rules; stays = c.in_err-serve.ensures.err; fine = is_paging _ c.requires.sound; room = c.requires.pins })
