@@ -1,5 +1,5 @@
 -- What a traced run sends and lists is written, or held back.
-use Rattle.std.proofs.Common.{ℕ, ◌≡◌, Bool, false, List, [], ◌∷◌, ◌++◌, append-nil, append_assoc, Option, refl, sym, ap, subst, ◌∙◌}
+use Rattle.std.proofs.Common.{ℕ, ◌≡◌, ◌≤◌, Bool, false, List, [], ◌∷◌, ◌++◌, append-nil, append_assoc, Option, refl, sym, ap, subst, ◌∙◌}
 use Rattle.std.specs.Prelude.{if◌then◌else◌}
 use Rattle.vax_space.specs.declared.Area.{Area}
 use Rattle.vax_outside.specs.Blocks.{BlockFile}
@@ -56,7 +56,7 @@ pub record HasSent (output : List ℕ) (q : Paged) (sent : List ℕ) (left : Cha
   pub is : (machine_at q.place).output ≡ output ++ (sent ++ left.out)
   pub only_out : more ≡ both sent []
 
-none_first : (xs ys : List ℕ) → xs ++ ys ≡ [] → xs ≡ []
+pub none_first : (xs ys : List ℕ) → xs ++ ys ≡ [] → xs ≡ []
 none_first [] ys e = refl
 none_first (x ∷ xs) ys e = absurd (cc e)
 
@@ -154,8 +154,8 @@ lost_since p q output areas file was now w =
     let recorded : w.more.recorded ≡ [] = sym (ap (λ (c : Channels). c.recorded) e) in
     record { is = ap (λ (c : Channels). c.out) e; only_out = λ i. record { out = w.more.out; report = report i; recorded = recorded i } }
 
-pub lost_turns : (t : Trace) (old : Option Channels) (steps : ℕ) (s : Stage) (p q : Paged) (h : Holds t old (machine_at p.place).output steps s) (now : Option Channels) → WrotePart (origin_at p (t.start.output ++ h.out) (pages s.system.machine.pager).areas s.system.file s.system.channels) q now → (made : ℕ) → q ≡ turns_of t made → Runs (limits_of t) t.areas t.rules t.from made → IsLostTrace t old now
-lost_turns t old steps s p q h now w made is goes =
+pub lost_turns : (t : Trace) (old : Option Channels) (steps : ℕ) (s : Stage) (p q : Paged) (h : Holds t old (machine_at p.place).output steps s) (now : Option Channels) → WrotePart (origin_at p (t.start.output ++ h.out) (pages s.system.machine.pager).areas s.system.file s.system.channels) q now → (made : ℕ) → q ≡ turns_of t made → steps ≤ (turns_of t made).steps → Runs (limits_of t) t.areas t.rules t.from made → IsLostTrace t old now
+lost_turns t old steps s p q h now w made is few goes =
     let k = lost_since p q (t.start.output ++ h.out) (pages s.system.machine.pager).areas s.system.file s.system.channels now w in
     let more = w.more.out in
     record {
@@ -164,6 +164,7 @@ lost_turns t old steps s p q h now w made is goes =
       sent = h.out ++ more;
       output = ap (λ (z : Paged). (machine_at z.place).output) (sym is) ∙ (k.is ∙ append_assoc t.start.output h.out more);
       lines = steps;
+      few = few;
       wrote =
           prefix_in old s.system.channels now (both h.out h.recorded) w.more (only Record s.lines) (both (h.out ++ more) (listing steps t.start t.watches))
           (ap (λ (c : Channels). append (both h.out h.recorded) (append c (only Record s.lines))) k.only_out

@@ -5,3 +5,4 @@ pub mod Holding
 pub mod Stepping
 pub mod Making
 pub mod Stopping
+pub mod Writing

@@ -23,7 +23,7 @@ use Rattle.vax_machine.specs.declared.held.Held.{Held}
 use Rattle.vax_watch.specs.Listing.{core_line}
 use Rattle.vax_watch.specs.Plans.{AreLookedAt, IsLookedAt, changes_in}
 use Rattle.vax_watch.specs.Traced.{IsLostTrace, Trace, turns_of}
-use Rattle.vax_watch.specs.Tracing.{Comes, IsBegun, IsCutShort, Leaves, Stage, Stands}
+use Rattle.vax_watch.specs.Tracing.{Comes, IsBegun, IsCutShort, IsUnlisted, Leaves, Stage, Stands}
 use Rattle.vax_watch.specs.declared.watch.Seen.{Seen}
 use Rattle.vax_watch.specs.declared.steps.TraceEnd.{TraceEnd}
 use Rattle.vax_watch.specs.declared.steps.TraceEnd.TheVariants.{PageFault, WriteFault}
@@ -38,6 +38,7 @@ room_cut t old s now h g = record {
   sent = h.keeps.holds.out ++ (held_in s.held).out;
   output = h.keeps.holds.sent;
   lines = s.system.machine.steps;
+  few = let e = h.keeps.tracks.steps in omega (arith, e);
   wrote = room_lost t old s.system.machine.steps s (machine_at (turns_of t h.made).place).output h.keeps.holds now g;
 }
 
@@ -91,6 +92,6 @@ module _ (t : Trace) (old : Option Channels) (s : Stage) (begun : IsBegun t) (r 
   behind = record { system = record { machine = m4; file = file4; channels = now }; held = held; lines = lines; seen = seen }
 
   -- by what the call that lists it answers
-  pub comes : (result : Result (Unit {0}) TraceEnd) → OnOk result (AreLookedAt m file s.seen seen) → OnOk result (lines ≡ s.lines ++ (core_line m.steps s.system.machine.cpu.core byte m.cpu.core ++ changes_in seen)) → OnErr result (lines ≡ s.lines) → IfErr result (λ e. e ≡ PageFault) → Comes t result old behind
+  pub comes : (result : Result (Unit {0}) TraceEnd) → OnOk result (AreLookedAt m file s.seen seen) → OnOk result (lines ≡ s.lines ++ (core_line m.steps s.system.machine.cpu.core byte m.cpu.core ++ changes_in seen)) → OnErr result (IsUnlisted s.lines lines s.seen) → IfErr result (λ e. e ≡ PageFault) → Comes t result old behind
   comes (Ok x) looked lines_are same fault = stands_next t old s begun r byte byte_here m file now held unlisted end h between one seen looked m4 file4 l lines lines_are
   comes (Err e) looked lines_are same fault = cut_as t old behind e fault (unlisted_next t old s begun r m file now held unlisted end h one m4 file4 l lines seen same)

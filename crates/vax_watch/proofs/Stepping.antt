@@ -1,7 +1,8 @@
 -- A step of a traced run.
-use Rattle.std.proofs.Common.{ℕ, suc, ◌≡◌, ◌+◌, ◌-◌, ◌<◌, ◌≤◌, Bool, true, false, is_some, List, ◌++◌, append_assoc, Option, Some, None, refl, sym, ap, subst, ◌∙◌, arith, inl, inr}
+use Rattle.std.proofs.Common.{ℕ, suc, ◌≡◌, ◌+◌, ◌-◌, ◌<◌, ◌≤◌, Bool, true, false, is_some, List, ◌++◌, length, append_assoc, Option, Some, None, refl, sym, ap, subst, ◌∙◌, arith, inl, inr}
 use Rattle.std.specs.Prelude.{if◌then◌else◌, IfSome, slice_index}
 use Rattle.std.proofs.lemmas.Bool.{cases_lt}
+use Rattle.std.proofs.lemmas.List.{length-map}
 use Rattle.vax_word.specs.declared.Core.{Core}
 use Rattle.vax_space.specs.declared.Area.{Area}
 use Rattle.vax_space.specs.Areas.{area_of}
@@ -40,7 +41,7 @@ use Rattle.vax_watch.specs.Breaks.{is_break}
 use Rattle.vax_watch.specs.Listing.{core_line, listing, step_line, watch_lines}
 use Rattle.vax_watch.specs.Plans.{AreLookedAt, IsLookedAt, all_watched, changes_in, latest_in, watches_in}
 use Rattle.vax_watch.specs.Traced.{IsLostTrace, Trace, limits_of, stop_of, turns_of}
-use Rattle.vax_watch.specs.Tracing.{Holds, IsBegun, IsCutShort, IsDue, Keeps, PassedOn, Stage, Stands, Stops}
+use Rattle.vax_watch.specs.Tracing.{Holds, IsBegun, IsCutShort, IsDue, IsUnlisted, Keeps, PassedOn, Stage, Stands, Stops}
 use Rattle.vax_watch.specs.declared.watch.Seen.{Seen}
 use Rattle.vax_watch.specs.declared.watch.Watch.{Watch}
 use Rattle.vax_watch.specs.declared.steps.TraceEnd.TheVariants.{Ended, Turns}
@@ -276,7 +277,7 @@ module _ (t : Trace) (old : Option Channels) (s : Stage) (begun : IsBegun t) (r 
 
   -- a write failed
   pub lost_then : (file : Option BlockFile) (now : Option Channels) → AreLost near o t.areas t.rules p file now → IsLostTrace t old now
-  lost_then file now h = lost_turns t old n s p (paged t.areas (due t.rules) (suc h.count) p) r.keeps.holds now h.part.wrote (suc h.count + r.made) (joined (suc h.count))
+  lost_then file now h = lost_turns t old n s p (paged t.areas (due t.rules) (suc h.count) p) r.keeps.holds now h.part.wrote (suc h.count + r.made) (joined (suc h.count)) (not_fewer (suc h.count))
       (goes_joined (suc h.count) (record { going = λ i less. h.going i (omega (arith, less)) }))
 
 -- a step is listed
@@ -397,8 +398,8 @@ module _ (t : Trace) (old : Option Channels) (s : Stage) (begun : IsBegun t) (r 
   abbrev turns_cut : ℕ
   turns_cut = made t old s begun r m file now held unlisted end h
 
-  pub unlisted_next : lines ≡ s.lines → IsCutShort t old cut_at
-  unlisted_next same =
+  pub unlisted_next : IsUnlisted s.lines lines s.seen → IsCutShort t old cut_at
+  unlisted_next u =
       let k = keeps_then t old s begun r m file now held unlisted end h in
       let tracks = tracks_looked m m4 file file4 (turns_of t turns_cut) l (tracks_then t old s begun r m file now held unlisted end h) in
       let steps : m4.steps ≡ m.steps = ap (λ (k : Keeping). k.steps) l.keeps in
@@ -408,12 +409,16 @@ module _ (t : Trace) (old : Option Channels) (s : Stage) (begun : IsBegun t) (r 
         means = tracks.means;
         steps = tracks.steps;
         lines = s.system.machine.steps;
-        all_but = inr (sym (steps ∙ one));
+        all_but = inr (record {
+          watched = let e = ap length r.watches in let n = length-map s.seen (λ w. w.watch) in let some = u.watched in omega (arith, e, n, some);
+          but_one = sym (steps ∙ one);
+          tracks = tracks;
+        });
         holds = record {
           out = k.holds.out;
           recorded = k.holds.recorded;
           sent = k.holds.sent;
-          lines = ap (λ (xs : List ℕ). k.holds.recorded ++ xs) same ∙ k.holds.lines;
+          lines = ap (λ (xs : List ℕ). k.holds.recorded ++ xs) u.same ∙ k.holds.lines;
           wrote = k.holds.wrote;
           unlisted = k.holds.unlisted;
         };

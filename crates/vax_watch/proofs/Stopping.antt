@@ -210,6 +210,7 @@ module _ (t : Trace) (old : Option Channels) (s : Stage) (begun : IsBegun t) (no
     sent = h.keeps.holds.out ++ (held_in s.held).out;
     output = h.keeps.holds.sent;
     lines = s.system.machine.steps;
+    few = let e = h.keeps.tracks.steps in omega (arith, e);
     wrote = part_written t old s.system.machine.steps s (machine_at (turns_of t h.made).place).output h.keeps.holds now g;
   }
 
@@ -220,6 +221,10 @@ module _ (t : Trace) (old : Option Channels) (s : Stage) (begun : IsBegun t) (no
     sent = h.holds.out ++ (held_in s.held).out;
     output = h.holds.sent;
     lines = h.lines;
+    few = elim h.all_but [
+      | inl e ↦ let k = h.steps in omega (arith, e, k)
+      | inr u ↦ let e = u.but_one in let k = h.steps in omega (arith, e, k)
+    ];
     wrote = part_written t old h.lines s (machine_at (turns_of t h.made).place).output h.holds now g;
   }
 

@@ -1,7 +1,8 @@
 -- What a traced run comes to.
-use Rattle.std.specs.Prelude.{ℕ, ◌≡◌, ◌+◌, ◌<◌, ◌⊎◌, Bool, true, false, Option, List, ◌++◌}
+use Rattle.std.specs.Prelude.{ℕ, ◌≡◌, ◌+◌, ◌<◌, ◌≤◌, ◌⊎◌, Bool, true, false, Option, List, ◌++◌, length}
 use Rattle.vax_space.specs.declared.Area.{Area}
 use Rattle.vax_outside.specs.declared.faults.Failures.{Failures}
+use Rattle.vax_outside.specs.Blocks.{BlockFile}
 use Rattle.vax_outside.specs.Channels.{Channels, Grew, GrewByPrefix}
 use Rattle.vax_outside.specs.Faults.{CountsFailure}
 use Rattle.vax_flat.specs.Parts.{At, GoesBy, machine_at}
@@ -87,8 +88,14 @@ pub record IsTraced (t : Trace) (result : TraceEnd) (old : Option Channels) (new
   pub output : (machine_at (turns_of t made).place).output ≡ t.start.output ++ sent
   pub wrote : Grew old new.channels (both sent (listing new.machine.steps t.start t.watches))
 
+-- the last step that was made has no line: behind it, with its turns whole, the bytes of a watch couldn't be read
+pub record IsUnseen (t : Trace) (made lines : ℕ) (m : Engine) (file : Option BlockFile) : Type 0 where
+  pub watched : 1 ≤ length t.watches
+  pub but_one : lines + 1 ≡ m.steps
+  pub tracks : Tracks m file (turns_of t made)
+
 -- A call of the page file failed: in a turn of this run, at the byte of the step that comes, or at the watched bytes of the step that was made. The lines
--- are those of all steps that were made, or of all but the last of them.
+-- are those of all steps that were made, but for the last where its watched bytes weren't seen.
 pub record IsCutTrace (t : Trace) (old : Option Channels) (new : System) : Type 0 where
   pub made : ℕ
   pub goes : Runs (limits_of t) t.areas t.rules t.from made
@@ -98,16 +105,17 @@ pub record IsCutTrace (t : Trace) (old : Option Channels) (new : System) : Type 
   pub sent : List ℕ
   pub output : (machine_at (turns_of t made).place).output ≡ t.start.output ++ sent
   pub lines : ℕ
-  pub all_but : (lines ≡ new.machine.steps) ⊎ (lines + 1 ≡ new.machine.steps)
+  pub all_but : (lines ≡ new.machine.steps) ⊎ IsUnseen t made lines new.machine new.file
   pub wrote : Grew old new.channels (both sent (listing lines t.start t.watches))
 
--- a write failed: a prefix was written of what some turns of this run sent and of the lines of some steps
+-- a write failed: a prefix was written of what some turns of this run sent and of the lines of some of their steps
 pub record IsLostTrace (t : Trace) (old new : Option Channels) : Type 0 where
   pub made : ℕ
   pub goes : Runs (limits_of t) t.areas t.rules t.from made
   pub sent : List ℕ
   pub output : (machine_at (turns_of t made).place).output ≡ t.start.output ++ sent
   pub lines : ℕ
+  pub few : lines ≤ (turns_of t made).steps
   pub wrote : GrewByPrefix old new (both sent (listing lines t.start t.watches))
 
 abbrev pub Traces : Trace → TraceEnd → Option Channels → System → Type 0

@@ -1,5 +1,5 @@
 -- A traced run on its way.
-use Rattle.std.specs.Prelude.{ℕ, ◌≡◌, ◌+◌, ◌<◌, ◌≤◌, ◌⊎◌, Bool, true, false, Option, Some, None, Result, Ok, Err, List, ◌++◌}
+use Rattle.std.specs.Prelude.{ℕ, ◌≡◌, ◌+◌, ◌<◌, ◌≤◌, ◌⊎◌, Bool, true, false, Option, Some, None, Result, Ok, Err, List, ◌++◌, length}
 use Rattle.vax_outside.specs.declared.faults.Failures.{Failures}
 use Rattle.vax_outside.specs.Channels.{Channels, Grew, GrewByPrefix, only}
 use Rattle.vax_outside.specs.Faults.{CountsFailure}
@@ -19,7 +19,7 @@ use Rattle.vax_machine.specs.declared.held.Held.{Held}
 use Rattle.vax_watch.specs.Breaks.{is_break}
 use Rattle.vax_watch.specs.Listing.{listing}
 use Rattle.vax_watch.specs.Plans.{all_watched, latest_in, watches_in}
-use Rattle.vax_watch.specs.Traced.{IsLostTrace, NamesStop, Trace, as_run, by_page, by_write, limits_of, stop_of, turns_of}
+use Rattle.vax_watch.specs.Traced.{IsLostTrace, IsUnseen, NamesStop, Trace, as_run, by_page, by_write, limits_of, stop_of, turns_of}
 use Rattle.vax_watch.specs.declared.watch.Plan.{Plan}
 use Rattle.vax_watch.specs.declared.watch.Seen.{Seen}
 use Rattle.vax_watch.specs.declared.steps.Notes.{Notes}
@@ -31,6 +31,11 @@ pub record PassedOn (old new : Option Channels) (lines left : List ℕ) : Type 0
   pub sent : List ℕ
   pub is : sent ++ left ≡ lines
   pub wrote : Grew old new (only Record sent)
+
+-- no line was added for a step, as the bytes of a watch couldn't be read
+pub record IsUnlisted (old new : List ℕ) (seen : List Seen) : Type 0 where
+  pub same : new ≡ old
+  pub watched : 1 ≤ length seen
 
 -- why a traced run stops between two steps, if it does
 abbrev pub stopped_by : Option Ending → (at_limit at_break : Bool) → Option TraceEnd
@@ -95,7 +100,7 @@ pub record IsCutShort (t : Trace) (old : Option Channels) (s : Stage) : Type 0 w
   pub means : Means s.system.machine s.system.file (turns_of t made).place
   pub steps : s.system.machine.steps ≡ (turns_of t made).steps
   pub lines : ℕ
-  pub all_but : (lines ≡ s.system.machine.steps) ⊎ (lines + 1 ≡ s.system.machine.steps)
+  pub all_but : (lines ≡ s.system.machine.steps) ⊎ IsUnseen t made lines s.system.machine s.system.file
   pub holds : Holds t old (machine_at (turns_of t made).place).output lines s
 
 -- by how it stopped, with what is held back still to be written

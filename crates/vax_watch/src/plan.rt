@@ -1,5 +1,5 @@
 //! Where a traced run is to stop, and what it watches.
-ghost use Rattle.std.specs.Prelude.{◌≡◌, ◌+◌, ◌≤◌, ◌++◌, IfOk, OnOk, true, false, is_err, length, ◌==◌, Err};
+ghost use Rattle.std.specs.Prelude.{◌≡◌, ◌+◌, ◌≤◌, ◌++◌, IfOk, OnErr, OnOk, true, false, is_err, length, ◌==◌, Err};
 ghost use Rattle.std.specs.List.{list_all, list_any};
 ghost use Rattle.vax_outside.specs.Faults.{CountsFailure};
 ghost use Rattle.vax_watch.specs.Plans.{is_sized};
@@ -157,6 +157,7 @@ impl Plan {
         ensures breaks { breaks_of self.new ≡ breaks_of self.old }
         ensures seen { OnOk result (AreLookedAt (engine machine.old) (F.contents file.old)
             self.old.seen.items self.new.seen.items) }
+        ensures watched { OnErr result (1 ≤ length self.old.seen.items) }
         ensures looked { IsLookedAt (engine machine.old) (F.contents file.old)
             (engine machine.new) (F.contents file.new) }
         ensures counts { CountsFailure (is_err result) (F.faults file.old) (F.faults file.new) }

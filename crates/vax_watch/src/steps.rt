@@ -1,5 +1,5 @@
 //! Traced runs.
-ghost use Rattle.std.specs.Prelude.{◌≡◌, ◌≢◌, ◌+◌, ◌-◌, ◌<◌, ◌≤◌, ◌++◌, ◌^◌, ◌==◌, ◌&&◌, nat_le, nat_lt, slice_index, length, is_err, OnErr, OnOk, IfErr, None};
+ghost use Rattle.std.specs.Prelude.{◌≡◌, ◌≢◌, ◌+◌, ◌-◌, ◌<◌, ◌≤◌, ◌++◌, ◌^◌, ◌==◌, ◌&&◌, nat_le, nat_lt, slice_index, length, is_err, OnErr, OnOk, IfErr, None, true};
 ghost use Rattle.std.specs.List.{list_any};
 ghost use Rattle.vax_outside.specs.Channels.{Grew, GrewByPrefix, append, only};
 ghost use Rattle.vax_outside.specs.Faults.{CountsFailure};
@@ -9,11 +9,11 @@ ghost use Rattle.vax_machine.specs.Console.{IsBetween};
 ghost use Rattle.vax_machine.specs.Machine.{Means};
 ghost use Rattle.vax_machine.specs.Meaning.{engine};
 ghost use Rattle.vax_machine.specs.Run.{system_of};
-ghost use Rattle.vax_machine.specs.Writing.{held_in};
+ghost use Rattle.vax_machine.specs.Writing.{OnlyWrote, held_in};
 ghost use Rattle.vax_watch.specs.Plans.{AreLookedAt, IsLookedAt, breaks_of, changes_in};
 ghost use Rattle.vax_watch.specs.Listing.{core_line};
 ghost use Rattle.vax_watch.specs.Traced.{CountsTrace, Traces, by_write, trace_of};
-ghost use Rattle.vax_watch.specs.Tracing.{BeginsSteps, CountsEnd, CountsSteps, Finishes, MakesStep, MakesSteps, stage_of, stopped_by};
+ghost use Rattle.vax_watch.specs.Tracing.{BeginsSteps, CountsEnd, CountsSteps, Finishes, IsUnlisted, MakesStep, MakesSteps, stage_of, stopped_by};
 
 use crate::lines::{Lines, make_room, push_step};
 use crate::watch::Plan;
@@ -109,7 +109,8 @@ fn list_step<F: PageFile>(
     ensures lines { OnOk result (lines.new.items ≡ lines.old.items
         ++ core_line (engine machine.old).steps before.now byte (engine machine.old).cpu.core
         ++ changes_in plan.new.seen.items) }
-    ensures unlisted { OnErr result (lines.new.items ≡ lines.old.items) }
+    ensures unlisted { OnErr result
+        (IsUnlisted lines.old.items lines.new.items plan.old.seen.items) }
     ensures fault { IfErr result (λ e. e ≡ TraceEnd.PageFault) }
     ensures counts { CountsFailure (is_err result) (F.faults file.old) (F.faults file.new) }
 {
@@ -138,6 +139,7 @@ fn trace_step<F: PageFile, K: Sink>(
         notes.old plan.old)
         (stage_of (system_of (engine machine.new) (F.contents file.new) (K.contents sink.new))
         notes.new plan.new) }
+    ensures only { OnlyWrote true (K.contents sink.old) (K.contents sink.new) }
     ensures counts { CountsSteps result (F.faults file.old) (F.faults file.new) (K.faults sink.old)
         (K.faults sink.new) }
 {
@@ -178,6 +180,7 @@ fn trace<F: PageFile, K: Sink>(
         notes.old plan.old)
         (stage_of (system_of (engine machine.new) (F.contents file.new) (K.contents sink.new))
         notes.new plan.new) }
+    ensures only { OnlyWrote true (K.contents sink.old) (K.contents sink.new) }
     ensures counts { CountsEnd result (F.faults file.old) (F.faults file.new) (K.faults sink.old)
         (K.faults sink.new) }
 {
@@ -209,6 +212,7 @@ fn begin<F: PageFile, K: Sink>(
         notes.old plan.old)
         (stage_of (system_of (engine machine.new) (F.contents file.new) (K.contents sink.new))
         notes.new plan.new) }
+    ensures only { OnlyWrote true (K.contents sink.old) (K.contents sink.new) }
     ensures counts { CountsEnd result (F.faults file.old) (F.faults file.new) (K.faults sink.old)
         (K.faults sink.new) }
 {
@@ -269,6 +273,7 @@ pub fn traced<F: PageFile, K: Sink>(
         → Traces (trace_of limits.now schedule.now plan.old (engine machine.old) start) result
         (K.contents sink.old)
         (system_of (engine machine.new) (F.contents file.new) (K.contents sink.new)) }
+    ensures only { OnlyWrote true (K.contents sink.old) (K.contents sink.new) }
     ensures counts { CountsTrace result (F.faults file.old) (F.faults file.new) (K.faults sink.old)
         (K.faults sink.new) }
 {

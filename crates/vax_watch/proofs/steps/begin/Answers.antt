@@ -1,7 +1,8 @@
-use Rattle.std.proofs.Common.{refl, ◌∙◌, sym}
+use Rattle.std.proofs.Common.{refl, ◌∙◌, sym, true}
 use Rattle.vax_outside.proofs.Counting.{counts_still, counts_then}
 use Rattle.vax_machine.specs.Meaning.{engine}
 use Rattle.vax_machine.specs.Run.{system_of}
+use Rattle.vax_machine.proofs.Outputs.{wrote_nothing}
 use Rattle.vax_watch.specs.Tracing.{stage_of}
 use Rattle.vax_watch.proofs.Stopping.{stands_first, unseen}
 use Rattle.vax_watch.proofs.steps.begin.Goals as goal
@@ -22,3 +23,6 @@ returns-in-Err-clause-begins g c = λ t old f h.
 
 pub returns-in-Err-clause-counts : goal.returns-in-Err-clause-counts
 returns-in-Err-clause-counts g c = record { file = c.in-Err.ensures.counts; sink = counts_still refl refl }
+
+pub returns-in-Err-clause-only : goal.returns-in-Err-clause-only
+returns-in-Err-clause-only g c = wrote_nothing true _

@@ -1,7 +1,9 @@
-use Rattle.std.proofs.Common.{◌≡◌, ◌+◌, ◌++◌, append_assoc, false, ap, sym, ◌∙◌, arith}
+use Rattle.std.proofs.Common.{◌≡◌, ◌+◌, ◌++◌, append_assoc, false, refl, ap, sym, ◌∙◌, arith}
 use Rattle.std.specs.Prelude.{slice_index}
 use Rattle.std.proofs.lemmas.Result.{on_ok_weaker}
 use Rattle.vax_word.specs.declared.Core.{Core}
+use Rattle.vax_outside.specs.Channels.{only}
+use Rattle.vax_outside.specs.declared.traits.Chan.TheVariants.{Record}
 use Rattle.vax_machine.specs.Console.{memory_at}
 use Rattle.vax_machine.specs.Machine.{Keeping}
 use Rattle.vax_machine.specs.Meaning.{engine}
@@ -16,6 +18,7 @@ use Rattle.vax_watch.specs.Tracing.{Stage, stage_of}
 use Rattle.vax_watch.specs.declared.steps.TraceEnd.TheVariants.{PageFault, WriteFault}
 use Rattle.vax_watch.proofs.Making.{byte_read, comes, cut_as, ended_more, err_comes, looked_by, peek_cut, room_cut}
 use Rattle.vax_watch.proofs.Stepping.{cut_then, from_here, gone_as, lost_then, o, p, pins_here, ready, stops_ended, stops_turns, unlisted_next}
+use Rattle.vax_watch.proofs.Writing.{part_only, passed_only, step_only}
 use Rattle.vax_watch.proofs.steps.trace_step.Goals as goal
 
 pub returns-in_err-make_room-clause-makes : goal.returns-in_err-make_room-clause-makes
@@ -225,3 +228,27 @@ returns-in_ok-list_step-in-Ended-clause-makes g c = λ t old f h d.
     c.in_ok-list_step-in-Ended.ensures.lines ∙ (append_assoc c.make_room.new.lines.items (core_line m3.steps c.core.result.now byte m3.cpu.core) (changes_in seen)
     ∙ ap (λ (z : Core). c.make_room.new.lines.items ++ (core_line m3.steps z byte m3.cpu.core ++ changes_in seen)) e2) in
     stops_ended t old s2 f.begun r byte here m3 f3 now3 held3 unlisted (run_end.Ended c.in-Ended.ending) gone between one seen c.in_ok-list_step-in-Ended.ensures.seen m4 (g.F.PageFile.contents call.new.file) call.ensures.looked lines all c.in-Ended.ending low
+
+pub returns-in_err-make_room-clause-only : goal.returns-in_err-make_room-clause-only
+returns-in_err-make_room-clause-only g c = part_only _ _ (only Record c.args.notes.now.lines.items) refl c.in_err-make_room.ensures.prefix
+
+pub returns-in_err-byte-clause-only : goal.returns-in_err-byte-clause-only
+returns-in_err-byte-clause-only g c = passed_only _ _ _ _ c.in_ok-make_room.ensures.ok
+
+pub returns-in-Steps-clause-only : goal.returns-in-Steps-clause-only
+returns-in-Steps-clause-only g c = step_only _ _ _ _ _ _ c.in_ok-make_room.ensures.ok c.go_on.ensures.writes.only
+
+pub returns-in-Turns-clause-only : goal.returns-in-Turns-clause-only
+returns-in-Turns-clause-only g c = step_only _ _ _ _ _ _ c.in_ok-make_room.ensures.ok c.go_on.ensures.writes.only
+
+pub returns-in-PageFault-clause-only : goal.returns-in-PageFault-clause-only
+returns-in-PageFault-clause-only g c = step_only _ _ _ _ _ _ c.in_ok-make_room.ensures.ok c.go_on.ensures.writes.only
+
+pub returns-in-WriteFault-clause-only : goal.returns-in-WriteFault-clause-only
+returns-in-WriteFault-clause-only g c = step_only _ _ _ _ _ _ c.in_ok-make_room.ensures.ok c.go_on.ensures.writes.only
+
+pub returns-in_err-list_step-in-Ended-clause-only : goal.returns-in_err-list_step-in-Ended-clause-only
+returns-in_err-list_step-in-Ended-clause-only g c = step_only _ _ _ _ _ _ c.in_ok-make_room.ensures.ok c.go_on.ensures.writes.only
+
+pub returns-in_ok-list_step-in-Ended-clause-only : goal.returns-in_ok-list_step-in-Ended-clause-only
+returns-in_ok-list_step-in-Ended-clause-only g c = step_only _ _ _ _ _ _ c.in_ok-make_room.ensures.ok c.go_on.ensures.writes.only

@@ -8,6 +8,7 @@ use Rattle.vax_watch.specs.Traced.{trace_of}
 use Rattle.vax_watch.specs.Tracing.{stage_of}
 use Rattle.vax_watch.proofs.Counted.{finished_counts, lost_counts}
 use Rattle.vax_watch.proofs.Stopping.{finished_traces, starts_here}
+use Rattle.vax_watch.proofs.Writing.{finished_only}
 use Rattle.vax_watch.proofs.steps.traced.Goals as goal
 
 pub returns-in-WriteFault-clause-traces : goal.returns-in-WriteFault-clause-traces
@@ -35,6 +36,9 @@ returns-in_default-clause-traces g c = λ start means steps.
 
 pub returns-in_default-clause-counts : goal.returns-in_default-clause-counts
 returns-in_default-clause-counts g c = finished_counts c.begin.result c.finish.result (append (held_in c.begin.new.notes.held) (only Record c.begin.new.notes.lines.items)) _ _ _ _ _ _ _ c.in_default.not-WriteFault c.finish.ensures.done c.begin.ensures.counts c.finish.ensures.counts
+
+pub returns-in_default-clause-only : goal.returns-in_default-clause-only
+returns-in_default-clause-only g c = finished_only c.begin.result c.finish.result c.begin.new.notes.held c.begin.new.notes.lines.items _ _ _ c.begin.ensures.only c.finish.ensures.done
 
 pub finish-requires : goal.finish-requires
 finish-requires g c = c.in_default.not-WriteFault

@@ -1,5 +1,7 @@
-use Rattle.std.proofs.Common.{◌≡◌, ◌+◌, suc, take, drop, ℕ, arith, refl, subst, ◌∙◌}
+use Rattle.std.proofs.Common.{◌≡◌, ◌+◌, suc, take, drop, length, ℕ, ap, arith, refl, subst, ◌∙◌}
 use Rattle.std.specs.Prelude.{slice_set}
+use Rattle.std.proofs.lemmas.List.{length-drop}
+use Rattle.vax_outside.proofs.Growth.{on_err}
 use Rattle.vax_machine.specs.Meaning.{engine}
 use Rattle.vax_watch.specs.Plans.{AreLookedAt}
 use Rattle.vax_watch.proofs.Watching.{looked_then, looks_from, looks_next}
@@ -26,3 +28,13 @@ loop-seen-preserved g c =
       looked = looked_then m (engine c.loop-seen.machine) (engine c.look.new.machine) file (g.F.PageFile.contents c.loop-seen.file) (g.F.PageFile.contents c.look.new.file) v.looked c.look.ensures.looked;
       quiet = c.in_ok-look.ensures.counts.quiet ∙ v.quiet;
     }
+
+-- the watch whose bytes couldn't be read is one of them
+pub returns-in_err-look-clause-watched : goal.returns-in_err-look-clause-watched
+returns-in_err-look-clause-watched g c =
+    let k = c.loop-seen.seen-index in
+    let test = c.loop-seen-test.true in
+    let same = ap length c.loop-seen.invariant.rest in
+    let a = length-drop k c.loop-seen.seen-items in
+    let b = length-drop k c.args.self.now.seen.items in
+    on_err c.from_residual.result (omega (arith, test, same, a, b))
