@@ -4,5 +4,6 @@ pub mod Watching
 pub mod Holding
 pub mod Stepping
 pub mod Making
+pub mod Stepped
 pub mod Stopping
 pub mod Writing

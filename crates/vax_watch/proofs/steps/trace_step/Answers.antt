@@ -17,6 +17,7 @@ use Rattle.vax_watch.specs.Plans.{changes_in}
 use Rattle.vax_watch.specs.Tracing.{Stage, stage_of}
 use Rattle.vax_watch.specs.declared.steps.TraceEnd.TheVariants.{PageFault, WriteFault}
 use Rattle.vax_watch.proofs.Making.{byte_read, comes, cut_as, ended_more, err_comes, looked_by, peek_cut, room_cut}
+use Rattle.vax_watch.proofs.Stepped.{byte_peeked, core_peeked, gone_peeked, line_behind, peeked, peeked_by, ready_peeked}
 use Rattle.vax_watch.proofs.Stepping.{cut_then, from_here, gone_as, lost_then, o, p, pins_here, ready, stops_ended, stops_turns, unlisted_next}
 use Rattle.vax_watch.proofs.Writing.{part_only, passed_only, step_only}
 use Rattle.vax_watch.proofs.steps.trace_step.Goals as goal
@@ -30,204 +31,170 @@ returns-in_err-make_room-clause-makes g c = λ t old f h d.
 
 pub returns-in_err-byte-clause-makes : goal.returns-in_err-byte-clause-makes
 returns-in_err-byte-clause-makes g c = λ t old f h d.
-    let m0 = engine c.args.machine.now in
-    let f0 = g.F.PageFile.contents c.args.file.now in
+    let s = stage_of (system_of (engine c.args.machine.now) (g.F.PageFile.contents c.args.file.now) (g.K.Sink.contents c.args.sink.now)) c.args.notes.now c.args.plan.now in
     let now1 = g.K.Sink.contents c.make_room.new.sink in
-    let s = stage_of (system_of m0 f0 (g.K.Sink.contents c.args.sink.now)) c.args.notes.now c.args.plan.now in
+    let lines1 = c.make_room.new.lines.items in
     let m2 = engine c.peek.new.self in
     let f2 = g.F.PageFile.contents c.peek.new.file in
-    let looked = looked_by m0 m2 f0 f2 c.peek.ensures.cpu c.peek.ensures.keeps c.peek.ensures.same c.peek.ensures.means in
-    let r = ready t old s h d now1 c.make_room.new.lines.items c.in_ok-make_room.ensures.ok m2 f2 looked in
-    let s2 : Stage = record s { system = record { machine = m2; file = f2; channels = now1 }; lines = c.make_room.new.lines.items } in
-    err_comes t old s2 PageFault c.from_residual-in_err-byte.result c.from_residual-in_err-byte.ensures.1 (peek_cut t old s2 r)
+    let k = peeked_by t old s f.begun h d now1 lines1 c.in_ok-make_room.ensures.ok m2 f2 c.peek.ensures.cpu c.peek.ensures.keeps c.peek.ensures.same c.peek.ensures.means in
+    err_comes t old (peeked s now1 lines1 m2 f2) PageFault c.from_residual-in_err-byte.result c.from_residual-in_err-byte.ensures.1 (peek_cut t old (peeked s now1 lines1 m2 f2) (ready_peeked t old s now1 lines1 m2 f2 k))
 
 pub returns-in-Steps-clause-makes : goal.returns-in-Steps-clause-makes
 returns-in-Steps-clause-makes g c = λ t old f h d.
-    let m0 = engine c.args.machine.now in
-    let f0 = g.F.PageFile.contents c.args.file.now in
+    let s = stage_of (system_of (engine c.args.machine.now) (g.F.PageFile.contents c.args.file.now) (g.K.Sink.contents c.args.sink.now)) c.args.notes.now c.args.plan.now in
     let now1 = g.K.Sink.contents c.make_room.new.sink in
-    let s = stage_of (system_of m0 f0 (g.K.Sink.contents c.args.sink.now)) c.args.notes.now c.args.plan.now in
+    let lines1 = c.make_room.new.lines.items in
     let m2 = engine c.peek.new.self in
     let f2 = g.F.PageFile.contents c.peek.new.file in
-    let looked = looked_by m0 m2 f0 f2 c.peek.ensures.cpu c.peek.ensures.keeps c.peek.ensures.same c.peek.ensures.means in
-    let r = ready t old s h d now1 c.make_room.new.lines.items c.in_ok-make_room.ensures.ok m2 f2 looked in
-    let s2 : Stage = record s { system = record { machine = m2; file = f2; channels = now1 }; lines = c.make_room.new.lines.items } in
+    let k = peeked_by t old s f.begun h d now1 lines1 c.in_ok-make_room.ensures.ok m2 f2 c.peek.ensures.cpu c.peek.ensures.keeps c.peek.ensures.same c.peek.ensures.means in
+    let s2 = peeked s now1 lines1 m2 f2 in
+    let r = ready_peeked t old s now1 lines1 m2 f2 k in
     let m3 = engine c.go_on.new.self in
     let f3 = g.F.PageFile.contents c.go_on.new.file in
     let now3 = g.K.Sink.contents c.go_on.new.sink in
     let held3 = c.go_on.new.held in
     let unlisted : held3.listed ≡ false = c.go_on.ensures.writes.listed ∙ h.keeps.holds.unlisted in
-    let limits : Limits = record { steps = c.steps.result + 1; turns = c.args.limits.now.turns; listed = false } in
     let same = c.steps.ensures in
-    let turns = ap (λ (l : Limits). l.turns) (sym f.same_limits) in
-    let raw = c.in-Steps.ensures.goes (o t old s2 f.begun r) (p t old s2 f.begun r) (from_here t old s2 f.begun r) (pins_here t old s2 f.begun r) in
-    let gone = gone_as t old s2 f.begun r limits (pages m2.pager).areas c.args.schedule.now (λ i. record { steps = same i + 1; turns = turns i; listed = false }) r.areas (sym f.same_rules) run_end.Steps m3 f3 now3 held3 raw in
+    let gone = gone_peeked t old s now1 lines1 m2 f2 k c.args.limits.now c.args.schedule.now _ f c.steps.result same run_end.Steps m3 f3 now3 held3 c.in-Steps.ensures.goes in
     let high = c.in-Steps.ensures.steps tt (omega (arith, same)) in
     let low = c.in-Steps.ensures.reason in
     let between = c.in-Steps.ensures.between tt r.between in
-    let e1 : m0.steps ≡ m2.steps = sym (ap (λ (k : Keeping). k.steps) looked.keeps) in
-    let e2 : c.core.result.now ≡ m2.cpu.core = c.core.ensures ∙ sym (ap (λ z. z.core) looked.cpu) in
     let byte = c.in_ok-byte.byte in
-    let read : byte ≡ memory_at (run m0.steps t.start).memory (slice_index c.core.result.now.regs 15) = byte_read t old s f.begun h (slice_index c.core.result.now.regs 15) byte c.in_ok-byte.ensures.none c.in_ok-byte.ensures.byte in
-    let here : byte ≡ memory_at (run m2.steps t.start).memory (slice_index m2.cpu.core.regs 15) = read ∙ (λ i. memory_at (run (e1 i) t.start).memory (slice_index (e2 i).regs 15)) in
+    let core = core_peeked t old s now1 lines1 m2 f2 k c.core.result.now c.core.ensures in
+    let here = byte_peeked t old s now1 lines1 m2 f2 k c.core.result.now c.core.ensures byte c.in_ok-byte.ensures.none c.in_ok-byte.ensures.byte in
     let least = low.1 in
     let one : m3.steps ≡ m2.steps + 1 = omega (arith, high, least, same) in
-    let m4 = engine c.list_step.new.machine in
-    let lines = c.list_step.new.lines.items in
     let seen = c.list_step.new.plan.seen.items in
-    comes t old s2 f.begun r byte here m3 f3 now3 held3 unlisted run_end.Steps gone between one m4 (g.F.PageFile.contents c.list_step.new.file) c.list_step.ensures.looked lines seen c.list_step.result c.list_step.ensures.seen
-    (on_ok_weaker c.list_step.result (λ e. e ∙ (append_assoc c.make_room.new.lines.items (core_line m3.steps c.core.result.now byte m3.cpu.core) (changes_in seen)
-    ∙ ap (λ (z : Core). c.make_room.new.lines.items ++ (core_line m3.steps z byte m3.cpu.core ++ changes_in seen)) e2)) c.list_step.ensures.lines) c.list_step.ensures.unlisted c.list_step.ensures.fault
+    comes t old s2 f.begun r byte here m3 f3 now3 held3 unlisted run_end.Steps gone between one (engine c.list_step.new.machine) (g.F.PageFile.contents c.list_step.new.file) c.list_step.ensures.looked c.list_step.new.lines.items seen c.list_step.result c.list_step.ensures.seen
+    (on_ok_weaker c.list_step.result (λ e. e ∙ line_behind lines1 m3.steps c.core.result.now m2.cpu.core byte m3.cpu.core seen core) c.list_step.ensures.lines) c.list_step.ensures.unlisted c.list_step.ensures.fault
 
 pub returns-in-Turns-clause-makes : goal.returns-in-Turns-clause-makes
 returns-in-Turns-clause-makes g c = λ t old f h d.
-    let m0 = engine c.args.machine.now in
-    let f0 = g.F.PageFile.contents c.args.file.now in
+    let s = stage_of (system_of (engine c.args.machine.now) (g.F.PageFile.contents c.args.file.now) (g.K.Sink.contents c.args.sink.now)) c.args.notes.now c.args.plan.now in
     let now1 = g.K.Sink.contents c.make_room.new.sink in
-    let s = stage_of (system_of m0 f0 (g.K.Sink.contents c.args.sink.now)) c.args.notes.now c.args.plan.now in
+    let lines1 = c.make_room.new.lines.items in
     let m2 = engine c.peek.new.self in
     let f2 = g.F.PageFile.contents c.peek.new.file in
-    let looked = looked_by m0 m2 f0 f2 c.peek.ensures.cpu c.peek.ensures.keeps c.peek.ensures.same c.peek.ensures.means in
-    let r = ready t old s h d now1 c.make_room.new.lines.items c.in_ok-make_room.ensures.ok m2 f2 looked in
-    let s2 : Stage = record s { system = record { machine = m2; file = f2; channels = now1 }; lines = c.make_room.new.lines.items } in
+    let k = peeked_by t old s f.begun h d now1 lines1 c.in_ok-make_room.ensures.ok m2 f2 c.peek.ensures.cpu c.peek.ensures.keeps c.peek.ensures.same c.peek.ensures.means in
+    let s2 = peeked s now1 lines1 m2 f2 in
+    let r = ready_peeked t old s now1 lines1 m2 f2 k in
     let m3 = engine c.go_on.new.self in
     let f3 = g.F.PageFile.contents c.go_on.new.file in
     let now3 = g.K.Sink.contents c.go_on.new.sink in
     let held3 = c.go_on.new.held in
     let unlisted : held3.listed ≡ false = c.go_on.ensures.writes.listed ∙ h.keeps.holds.unlisted in
-    let limits : Limits = record { steps = c.steps.result + 1; turns = c.args.limits.now.turns; listed = false } in
     let same = c.steps.ensures in
-    let turns = ap (λ (l : Limits). l.turns) (sym f.same_limits) in
-    let raw = c.in-Turns.ensures.goes (o t old s2 f.begun r) (p t old s2 f.begun r) (from_here t old s2 f.begun r) (pins_here t old s2 f.begun r) in
-    let gone = gone_as t old s2 f.begun r limits (pages m2.pager).areas c.args.schedule.now (λ i. record { steps = same i + 1; turns = turns i; listed = false }) r.areas (sym f.same_rules) run_end.Turns m3 f3 now3 held3 raw in
+    let gone = gone_peeked t old s now1 lines1 m2 f2 k c.args.limits.now c.args.schedule.now _ f c.steps.result same run_end.Turns m3 f3 now3 held3 c.in-Turns.ensures.goes in
     let why = c.in-Turns.ensures.reason in
     let low = why.1 in
     let high = why.2 in
-    stops_turns t old s2 f.begun r m3 f3 now3 held3 unlisted run_end.Turns gone why.0 (omega (arith, low, same)) (omega (arith, high, turns))
+    stops_turns t old s2 f.begun r m3 f3 now3 held3 unlisted run_end.Turns gone why.0 (omega (arith, low, same)) (let turns = ap (λ (l : Limits). l.turns) (sym f.same_limits) in omega (arith, high, turns))
 
 pub returns-in-PageFault-clause-makes : goal.returns-in-PageFault-clause-makes
 returns-in-PageFault-clause-makes g c = λ t old f h d.
-    let m0 = engine c.args.machine.now in
-    let f0 = g.F.PageFile.contents c.args.file.now in
+    let s = stage_of (system_of (engine c.args.machine.now) (g.F.PageFile.contents c.args.file.now) (g.K.Sink.contents c.args.sink.now)) c.args.notes.now c.args.plan.now in
     let now1 = g.K.Sink.contents c.make_room.new.sink in
-    let s = stage_of (system_of m0 f0 (g.K.Sink.contents c.args.sink.now)) c.args.notes.now c.args.plan.now in
+    let lines1 = c.make_room.new.lines.items in
     let m2 = engine c.peek.new.self in
     let f2 = g.F.PageFile.contents c.peek.new.file in
-    let looked = looked_by m0 m2 f0 f2 c.peek.ensures.cpu c.peek.ensures.keeps c.peek.ensures.same c.peek.ensures.means in
-    let r = ready t old s h d now1 c.make_room.new.lines.items c.in_ok-make_room.ensures.ok m2 f2 looked in
-    let s2 : Stage = record s { system = record { machine = m2; file = f2; channels = now1 }; lines = c.make_room.new.lines.items } in
+    let k = peeked_by t old s f.begun h d now1 lines1 c.in_ok-make_room.ensures.ok m2 f2 c.peek.ensures.cpu c.peek.ensures.keeps c.peek.ensures.same c.peek.ensures.means in
+    let s2 = peeked s now1 lines1 m2 f2 in
+    let r = ready_peeked t old s now1 lines1 m2 f2 k in
     let m3 = engine c.go_on.new.self in
     let f3 = g.F.PageFile.contents c.go_on.new.file in
     let now3 = g.K.Sink.contents c.go_on.new.sink in
     let held3 = c.go_on.new.held in
     let unlisted : held3.listed ≡ false = c.go_on.ensures.writes.listed ∙ h.keeps.holds.unlisted in
-    let limits : Limits = record { steps = c.steps.result + 1; turns = c.args.limits.now.turns; listed = false } in
     let same = c.steps.ensures in
-    let turns = ap (λ (l : Limits). l.turns) (sym f.same_limits) in
-    let raw = c.in-PageFault.ensures.goes (o t old s2 f.begun r) (p t old s2 f.begun r) (from_here t old s2 f.begun r) (pins_here t old s2 f.begun r) in
-    let gone = gone_as t old s2 f.begun r limits (pages m2.pager).areas c.args.schedule.now (λ i. record { steps = same i + 1; turns = turns i; listed = false }) r.areas (sym f.same_rules) run_end.PageFault m3 f3 now3 held3 raw in
+    let gone = gone_peeked t old s now1 lines1 m2 f2 k c.args.limits.now c.args.schedule.now _ f c.steps.result same run_end.PageFault m3 f3 now3 held3 c.in-PageFault.ensures.goes in
     cut_then t old s2 f.begun r m3 f3 now3 held3 unlisted gone
 
 pub returns-in-WriteFault-clause-makes : goal.returns-in-WriteFault-clause-makes
 returns-in-WriteFault-clause-makes g c = λ t old f h d.
-    let m0 = engine c.args.machine.now in
-    let f0 = g.F.PageFile.contents c.args.file.now in
+    let s = stage_of (system_of (engine c.args.machine.now) (g.F.PageFile.contents c.args.file.now) (g.K.Sink.contents c.args.sink.now)) c.args.notes.now c.args.plan.now in
     let now1 = g.K.Sink.contents c.make_room.new.sink in
-    let s = stage_of (system_of m0 f0 (g.K.Sink.contents c.args.sink.now)) c.args.notes.now c.args.plan.now in
+    let lines1 = c.make_room.new.lines.items in
     let m2 = engine c.peek.new.self in
     let f2 = g.F.PageFile.contents c.peek.new.file in
-    let looked = looked_by m0 m2 f0 f2 c.peek.ensures.cpu c.peek.ensures.keeps c.peek.ensures.same c.peek.ensures.means in
-    let r = ready t old s h d now1 c.make_room.new.lines.items c.in_ok-make_room.ensures.ok m2 f2 looked in
-    let s2 : Stage = record s { system = record { machine = m2; file = f2; channels = now1 }; lines = c.make_room.new.lines.items } in
+    let k = peeked_by t old s f.begun h d now1 lines1 c.in_ok-make_room.ensures.ok m2 f2 c.peek.ensures.cpu c.peek.ensures.keeps c.peek.ensures.same c.peek.ensures.means in
+    let s2 = peeked s now1 lines1 m2 f2 in
+    let r = ready_peeked t old s now1 lines1 m2 f2 k in
     let m3 = engine c.go_on.new.self in
     let f3 = g.F.PageFile.contents c.go_on.new.file in
     let now3 = g.K.Sink.contents c.go_on.new.sink in
     let held3 = c.go_on.new.held in
     let unlisted : held3.listed ≡ false = c.go_on.ensures.writes.listed ∙ h.keeps.holds.unlisted in
-    let limits : Limits = record { steps = c.steps.result + 1; turns = c.args.limits.now.turns; listed = false } in
     let same = c.steps.ensures in
-    let turns = ap (λ (l : Limits). l.turns) (sym f.same_limits) in
-    let raw = c.in-WriteFault.ensures.goes (o t old s2 f.begun r) (p t old s2 f.begun r) (from_here t old s2 f.begun r) (pins_here t old s2 f.begun r) in
-    let gone = gone_as t old s2 f.begun r limits (pages m2.pager).areas c.args.schedule.now (λ i. record { steps = same i + 1; turns = turns i; listed = false }) r.areas (sym f.same_rules) run_end.WriteFault m3 f3 now3 held3 raw in
+    let gone = gone_peeked t old s now1 lines1 m2 f2 k c.args.limits.now c.args.schedule.now _ f c.steps.result same run_end.WriteFault m3 f3 now3 held3 c.in-WriteFault.ensures.goes in
     lost_then t old s2 f.begun r f3 now3 gone
 
 pub returns-in_err-list_step-in-Ended-clause-makes : goal.returns-in_err-list_step-in-Ended-clause-makes
 returns-in_err-list_step-in-Ended-clause-makes g c = λ t old f h d.
-    let m0 = engine c.args.machine.now in
-    let f0 = g.F.PageFile.contents c.args.file.now in
+    let s = stage_of (system_of (engine c.args.machine.now) (g.F.PageFile.contents c.args.file.now) (g.K.Sink.contents c.args.sink.now)) c.args.notes.now c.args.plan.now in
     let now1 = g.K.Sink.contents c.make_room.new.sink in
-    let s = stage_of (system_of m0 f0 (g.K.Sink.contents c.args.sink.now)) c.args.notes.now c.args.plan.now in
+    let lines1 = c.make_room.new.lines.items in
     let m2 = engine c.peek.new.self in
     let f2 = g.F.PageFile.contents c.peek.new.file in
-    let looked = looked_by m0 m2 f0 f2 c.peek.ensures.cpu c.peek.ensures.keeps c.peek.ensures.same c.peek.ensures.means in
-    let r = ready t old s h d now1 c.make_room.new.lines.items c.in_ok-make_room.ensures.ok m2 f2 looked in
-    let s2 : Stage = record s { system = record { machine = m2; file = f2; channels = now1 }; lines = c.make_room.new.lines.items } in
+    let k = peeked_by t old s f.begun h d now1 lines1 c.in_ok-make_room.ensures.ok m2 f2 c.peek.ensures.cpu c.peek.ensures.keeps c.peek.ensures.same c.peek.ensures.means in
+    let ending = run_end.Ended c.in-Ended.ending in
+    let s2 = peeked s now1 lines1 m2 f2 in
+    let r = ready_peeked t old s now1 lines1 m2 f2 k in
     let m3 = engine c.go_on.new.self in
     let f3 = g.F.PageFile.contents c.go_on.new.file in
     let now3 = g.K.Sink.contents c.go_on.new.sink in
     let held3 = c.go_on.new.held in
     let unlisted : held3.listed ≡ false = c.go_on.ensures.writes.listed ∙ h.keeps.holds.unlisted in
-    let limits : Limits = record { steps = c.steps.result + 1; turns = c.args.limits.now.turns; listed = false } in
     let same = c.steps.ensures in
-    let turns = ap (λ (l : Limits). l.turns) (sym f.same_limits) in
-    let raw = c.in-Ended.ensures.goes (o t old s2 f.begun r) (p t old s2 f.begun r) (from_here t old s2 f.begun r) (pins_here t old s2 f.begun r) in
-    let gone = gone_as t old s2 f.begun r limits (pages m2.pager).areas c.args.schedule.now (λ i. record { steps = same i + 1; turns = turns i; listed = false }) r.areas (sym f.same_rules) (run_end.Ended c.in-Ended.ending) m3 f3 now3 held3 raw in
+    let gone = gone_peeked t old s now1 lines1 m2 f2 k c.args.limits.now c.args.schedule.now _ f c.steps.result same ending m3 f3 now3 held3 c.in-Ended.ensures.goes in
     let high = c.in-Ended.ensures.steps tt (omega (arith, same)) in
     let low = c.in-Ended.ensures.reason in
     let between = c.in-Ended.ensures.between tt r.between in
-    let e1 : m0.steps ≡ m2.steps = sym (ap (λ (k : Keeping). k.steps) looked.keeps) in
-    let e2 : c.core.result.now ≡ m2.cpu.core = c.core.ensures ∙ sym (ap (λ z. z.core) looked.cpu) in
     let byte = c.in_ok-byte.byte in
-    let read : byte ≡ memory_at (run m0.steps t.start).memory (slice_index c.core.result.now.regs 15) = byte_read t old s f.begun h (slice_index c.core.result.now.regs 15) byte c.in_ok-byte.ensures.none c.in_ok-byte.ensures.byte in
-    let here : byte ≡ memory_at (run m2.steps t.start).memory (slice_index m2.cpu.core.regs 15) = read ∙ (λ i. memory_at (run (e1 i) t.start).memory (slice_index (e2 i).regs 15)) in
-    let one = ended_more t old s2 f.begun r m3 f3 now3 held3 unlisted (run_end.Ended c.in-Ended.ending) gone between c.in-Ended.ending low (omega (arith, high, same)) in
+    let core = core_peeked t old s now1 lines1 m2 f2 k c.core.result.now c.core.ensures in
+    let here = byte_peeked t old s now1 lines1 m2 f2 k c.core.result.now c.core.ensures byte c.in_ok-byte.ensures.none c.in_ok-byte.ensures.byte in
+    let one = ended_more t old s2 f.begun r m3 f3 now3 held3 unlisted ending gone between c.in-Ended.ending low (omega (arith, high, same)) in
     let call = c.list_step-in-Ended in
     let m4 = engine call.new.machine in
+    let f4 = g.F.PageFile.contents call.new.file in
     let lines = call.new.lines.items in
     let seen = call.new.plan.seen.items in
-    let u : Stage = record s2 { system = record { machine = m4; file = g.F.PageFile.contents call.new.file; channels = now3 }; held = held3; lines = lines; seen = seen } in
+    let u : Stage = record s2 { system = record { machine = m4; file = f4; channels = now3 }; held = held3; lines = lines; seen = seen } in
     let e = c.in_err-list_step-in-Ended.field-0.0 in
     err_comes t old u e c.from_residual-in_err-list_step-in-Ended.result c.from_residual-in_err-list_step-in-Ended.ensures.1
-    (cut_as t old u e c.in_err-list_step-in-Ended.ensures.fault (unlisted_next t old s2 f.begun r m3 f3 now3 held3 unlisted (run_end.Ended c.in-Ended.ending) gone one m4 (g.F.PageFile.contents call.new.file) call.ensures.looked lines seen c.in_err-list_step-in-Ended.ensures.unlisted))
+    (cut_as t old u e c.in_err-list_step-in-Ended.ensures.fault (unlisted_next t old s2 f.begun r m3 f3 now3 held3 unlisted ending gone one m4 f4 call.ensures.looked lines seen c.in_err-list_step-in-Ended.ensures.unlisted))
 
 pub returns-in_ok-list_step-in-Ended-clause-makes : goal.returns-in_ok-list_step-in-Ended-clause-makes
 returns-in_ok-list_step-in-Ended-clause-makes g c = λ t old f h d.
-    let m0 = engine c.args.machine.now in
-    let f0 = g.F.PageFile.contents c.args.file.now in
+    let s = stage_of (system_of (engine c.args.machine.now) (g.F.PageFile.contents c.args.file.now) (g.K.Sink.contents c.args.sink.now)) c.args.notes.now c.args.plan.now in
     let now1 = g.K.Sink.contents c.make_room.new.sink in
-    let s = stage_of (system_of m0 f0 (g.K.Sink.contents c.args.sink.now)) c.args.notes.now c.args.plan.now in
+    let lines1 = c.make_room.new.lines.items in
     let m2 = engine c.peek.new.self in
     let f2 = g.F.PageFile.contents c.peek.new.file in
-    let looked = looked_by m0 m2 f0 f2 c.peek.ensures.cpu c.peek.ensures.keeps c.peek.ensures.same c.peek.ensures.means in
-    let r = ready t old s h d now1 c.make_room.new.lines.items c.in_ok-make_room.ensures.ok m2 f2 looked in
-    let s2 : Stage = record s { system = record { machine = m2; file = f2; channels = now1 }; lines = c.make_room.new.lines.items } in
+    let k = peeked_by t old s f.begun h d now1 lines1 c.in_ok-make_room.ensures.ok m2 f2 c.peek.ensures.cpu c.peek.ensures.keeps c.peek.ensures.same c.peek.ensures.means in
+    let ending = run_end.Ended c.in-Ended.ending in
+    let s2 = peeked s now1 lines1 m2 f2 in
+    let r = ready_peeked t old s now1 lines1 m2 f2 k in
     let m3 = engine c.go_on.new.self in
     let f3 = g.F.PageFile.contents c.go_on.new.file in
     let now3 = g.K.Sink.contents c.go_on.new.sink in
     let held3 = c.go_on.new.held in
     let unlisted : held3.listed ≡ false = c.go_on.ensures.writes.listed ∙ h.keeps.holds.unlisted in
-    let limits : Limits = record { steps = c.steps.result + 1; turns = c.args.limits.now.turns; listed = false } in
     let same = c.steps.ensures in
-    let turns = ap (λ (l : Limits). l.turns) (sym f.same_limits) in
-    let raw = c.in-Ended.ensures.goes (o t old s2 f.begun r) (p t old s2 f.begun r) (from_here t old s2 f.begun r) (pins_here t old s2 f.begun r) in
-    let gone = gone_as t old s2 f.begun r limits (pages m2.pager).areas c.args.schedule.now (λ i. record { steps = same i + 1; turns = turns i; listed = false }) r.areas (sym f.same_rules) (run_end.Ended c.in-Ended.ending) m3 f3 now3 held3 raw in
+    let gone = gone_peeked t old s now1 lines1 m2 f2 k c.args.limits.now c.args.schedule.now _ f c.steps.result same ending m3 f3 now3 held3 c.in-Ended.ensures.goes in
     let high = c.in-Ended.ensures.steps tt (omega (arith, same)) in
     let low = c.in-Ended.ensures.reason in
     let between = c.in-Ended.ensures.between tt r.between in
-    let e1 : m0.steps ≡ m2.steps = sym (ap (λ (k : Keeping). k.steps) looked.keeps) in
-    let e2 : c.core.result.now ≡ m2.cpu.core = c.core.ensures ∙ sym (ap (λ z. z.core) looked.cpu) in
     let byte = c.in_ok-byte.byte in
-    let read : byte ≡ memory_at (run m0.steps t.start).memory (slice_index c.core.result.now.regs 15) = byte_read t old s f.begun h (slice_index c.core.result.now.regs 15) byte c.in_ok-byte.ensures.none c.in_ok-byte.ensures.byte in
-    let here : byte ≡ memory_at (run m2.steps t.start).memory (slice_index m2.cpu.core.regs 15) = read ∙ (λ i. memory_at (run (e1 i) t.start).memory (slice_index (e2 i).regs 15)) in
-    let one = ended_more t old s2 f.begun r m3 f3 now3 held3 unlisted (run_end.Ended c.in-Ended.ending) gone between c.in-Ended.ending low (omega (arith, high, same)) in
+    let core = core_peeked t old s now1 lines1 m2 f2 k c.core.result.now c.core.ensures in
+    let here = byte_peeked t old s now1 lines1 m2 f2 k c.core.result.now c.core.ensures byte c.in_ok-byte.ensures.none c.in_ok-byte.ensures.byte in
+    let one = ended_more t old s2 f.begun r m3 f3 now3 held3 unlisted ending gone between c.in-Ended.ending low (omega (arith, high, same)) in
     let call = c.list_step-in-Ended in
     let m4 = engine call.new.machine in
+    let f4 = g.F.PageFile.contents call.new.file in
     let lines = call.new.lines.items in
     let seen = call.new.plan.seen.items in
-    let all : lines ≡ c.make_room.new.lines.items ++ (core_line m3.steps m2.cpu.core byte m3.cpu.core ++ changes_in seen) =
-    c.in_ok-list_step-in-Ended.ensures.lines ∙ (append_assoc c.make_room.new.lines.items (core_line m3.steps c.core.result.now byte m3.cpu.core) (changes_in seen)
-    ∙ ap (λ (z : Core). c.make_room.new.lines.items ++ (core_line m3.steps z byte m3.cpu.core ++ changes_in seen)) e2) in
-    stops_ended t old s2 f.begun r byte here m3 f3 now3 held3 unlisted (run_end.Ended c.in-Ended.ending) gone between one seen c.in_ok-list_step-in-Ended.ensures.seen m4 (g.F.PageFile.contents call.new.file) call.ensures.looked lines all c.in-Ended.ending low
+    let all = c.in_ok-list_step-in-Ended.ensures.lines ∙ line_behind lines1 m3.steps c.core.result.now m2.cpu.core byte m3.cpu.core seen core in
+    stops_ended t old s2 f.begun r byte here m3 f3 now3 held3 unlisted ending gone between one seen c.in_ok-list_step-in-Ended.ensures.seen m4 f4 call.ensures.looked lines all c.in-Ended.ending low
 
 pub returns-in_err-make_room-clause-only : goal.returns-in_err-make_room-clause-only
 returns-in_err-make_room-clause-only g c = part_only _ _ (only Record c.args.notes.now.lines.items) refl c.in_err-make_room.ensures.prefix
