@@ -1,24 +1,16 @@
-use Rattle.std.proofs.Common.{◌≡◌, ◌+◌, ◌++◌, append_assoc, false, refl, ap, sym, ◌∙◌, arith}
-use Rattle.std.specs.Prelude.{slice_index}
+use Rattle.std.proofs.Common.{◌≡◌, ◌+◌, false, refl, ap, sym, ◌∙◌, arith}
 use Rattle.std.proofs.lemmas.Result.{on_ok_weaker}
-use Rattle.vax_word.specs.declared.Core.{Core}
 use Rattle.vax_outside.specs.Channels.{only}
 use Rattle.vax_outside.specs.declared.traits.Chan.TheVariants.{Record}
-use Rattle.vax_machine.specs.Console.{memory_at}
-use Rattle.vax_machine.specs.Machine.{Keeping}
 use Rattle.vax_machine.specs.Meaning.{engine}
 use Rattle.vax_machine.specs.Run.{system_of}
 use Rattle.vax_machine.specs.declared.event.Limits.{Limits}
 use Rattle.vax_machine.specs.declared.event.RunEnd.TheVariants as run_end
-use Rattle.vax_flat.specs.Step.{run}
-use Rattle.vax_pager.specs.Meaning.{pages}
-use Rattle.vax_watch.specs.Listing.{core_line}
-use Rattle.vax_watch.specs.Plans.{changes_in}
 use Rattle.vax_watch.specs.Tracing.{Stage, stage_of}
 use Rattle.vax_watch.specs.declared.steps.TraceEnd.TheVariants.{PageFault, WriteFault}
-use Rattle.vax_watch.proofs.Making.{byte_read, comes, cut_as, ended_more, err_comes, looked_by, peek_cut, room_cut}
+use Rattle.vax_watch.proofs.Making.{comes, cut_as, ended_more, err_comes, peek_cut, room_cut}
 use Rattle.vax_watch.proofs.Stepped.{byte_peeked, core_peeked, gone_peeked, line_behind, peeked, peeked_by, ready_peeked}
-use Rattle.vax_watch.proofs.Stepping.{cut_then, from_here, gone_as, lost_then, o, p, pins_here, ready, stops_ended, stops_turns, unlisted_next}
+use Rattle.vax_watch.proofs.Stepping.{cut_then, lost_then, stops_ended, stops_turns, unlisted_next}
 use Rattle.vax_watch.proofs.Writing.{part_only, passed_only, step_only}
 use Rattle.vax_watch.proofs.steps.trace_step.Goals as goal
 
