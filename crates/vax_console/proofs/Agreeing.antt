@@ -1,12 +1,16 @@
 -- A session by turns is the session of the flat machine.
-use Rattle.std.proofs.Common.{◌≡◌, ◌≤◌, ◌+◌, ℕ, Bool, true, false, nat_le, if◌then◌else◌, List, [], ◌∷◌, ◌++◌, append_assoc, append-nil, length, Option, Some, None, refl, sym, ap, subst, ◌∙◌, arith}
+use Rattle.std.proofs.Common.{◌≡◌, ◌≤◌, ◌+◌, ℕ, Bool, true, false, nat_le, if◌then◌else◌, List, [], ◌∷◌, ◌++◌, append_assoc, append-nil, length, Option, Some, None, refl, sym, ap, subst, ◌∙◌, arith, inl, inr}
+use Rattle.std.proofs.lemmas.Bool.{cases_Bool}
 use Rattle.vax_space.specs.declared.Area.{Area}
 use Rattle.vax_outside.proofs.Growth.{grew_more, grew_nothing}
 use Rattle.vax_flat.specs.declared.Ending.{Ending}
 use Rattle.vax_flat.specs.Parts.{Place, At, GoesBy, machine_at}
 use Rattle.vax_flat.specs.Step.{Flat}
+use Rattle.vax_pager.specs.Poking.{pages_of_bytes}
 use Rattle.vax_machine.specs.Console.{with_bytes, with_register}
+use Rattle.vax_machine.specs.Depositing.{with_page, with_pages, without_pins}
 use Rattle.vax_machine.specs.Paged.{Paged, Why, ByEnding, BySteps, ByTurns, stops}
+use Rattle.vax_machine.specs.Residence.{is_resident}
 use Rattle.vax_script.specs.declared.request.Request.{Request}
 use Rattle.vax_script.specs.declared.request.Request.TheVariants.{ExamineRegister, ExamineMemory, DepositRegister, DepositMemory, Next, Continue, Show}
 use Rattle.vax_script.specs.declared.request.Line.{Line}
@@ -66,12 +70,23 @@ unless_agrees : (how : Option Ending) (g : Setting) (count : ℕ) (s t : Stand) 
 unless_agrees (Some e) g count s t b is h = record { between = (stays_agrees s t b h.at).between; same = (stays_agrees s t b h.at).same ∙ sym (advanced_ended count (session_at s) e is) }
 unless_agrees None g count s t b is h = runs_agree g count s t b h
 
--- a deposit
+-- a deposit makes no step
+
+page_steps : (page : ℕ) (p : Paged) → (with_page page p).steps ≡ p.steps
+unfolding with_page
+page_steps page p = elim (cases_Bool (is_resident p.residence page)) [ inl t ↦ rw t refl | inr f ↦ rw f refl ]
+
+pages_steps : (pages : List ℕ) (p : Paged) → (with_pages pages p).steps ≡ p.steps
+unfolding with_pages
+pages_steps [] p = refl
+pages_steps (page ∷ pages) p = pages_steps pages (with_page page p) ∙ page_steps page p
+
 sets_agree : (may : Bool) (areas : List Area) (addr : ℕ) (bytes : List ℕ) (s t : Stand) → IsBetweenSteps s → SetsBytesIf may areas addr bytes s t → Agrees t (if may then with_machine (with_bytes addr bytes (session_at s).machine) (session_at s) else session_at s)
 sets_agree true areas addr bytes s t b h =
-    let machine : machine_at t.at.place ≡ with_bytes addr bytes (machine_at s.at.place) = ap machine_at h.place in
-    let steps = h.brings.steps in
-    record { between = (with_bytes addr bytes (machine_at s.at.place), h.place); same = λ i. record { machine = machine i; steps = steps i } }
+    let at = h.at in
+    let machine : machine_at t.at.place ≡ with_bytes addr bytes (machine_at s.at.place) = ap (λ (p : Paged). machine_at p.place) at in
+    let steps : t.at.steps ≡ s.at.steps = ap (λ (p : Paged). p.steps) at ∙ pages_steps (pages_of_bytes addr (length bytes)) (without_pins s.at) in
+    record { between = (with_bytes addr bytes (machine_at s.at.place), ap (λ (p : Paged). p.place) at); same = λ i. record { machine = machine i; steps = steps i } }
 sets_agree false areas addr bytes s t b h = stays_agrees s t b h.at
 
 answers_agree : (g : Setting) (r : Request) (s t : Stand) → IsBetweenSteps s → Answers g r s t → Agrees t (answered g.limits.steps (session_at s) r)

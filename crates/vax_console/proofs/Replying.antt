@@ -4,6 +4,7 @@ use Rattle.vax_outside.specs.Blocks.{BlockFile}
 use Rattle.vax_outside.specs.Channels.{Channels, Grew, GrewByPrefix, append, nothing, only}
 use Rattle.vax_outside.specs.declared.traits.Chan.TheVariants.{Report}
 use Rattle.vax_outside.specs.declared.faults.Failures.{Failures}
+use Rattle.vax_outside.proofs.Counting.{rose_then}
 use Rattle.vax_outside.proofs.Growth.{append-nothing, channels_assoc, grew_more, grew_nothing, prefix_in}
 use Rattle.vax_flat.specs.Parts.{At}
 use Rattle.vax_machine.specs.Machine.{Means}
@@ -11,7 +12,7 @@ use Rattle.vax_machine.specs.declared.engine.Engine.{Engine}
 use Rattle.vax_machine.specs.declared.event.Limits.{Limits}
 use Rattle.vax_script.specs.declared.request.Line.{Line}
 use Rattle.vax_console.specs.Transcript.{Session, advanced, after_line, line_reply, session_after, transcript}
-use Rattle.vax_console.specs.Ends.{Carries, Causes, Goes, IsAt, IsOnTheWay, IsOutOfTurns, IsPartOf, IsWithin, Replies, steps_in, writes}
+use Rattle.vax_console.specs.Ends.{Carries, Causes, ChangesOnce, Goes, IsAt, IsOnTheWay, IsOutOfTurns, IsPartOf, IsWithin, Replies, steps_in, writes}
 use Rattle.vax_console.specs.declared.stopped.Stopped.{Stopped}
 use Rattle.vax_console.specs.declared.stopped.Stopped.TheVariants as stopped
 
@@ -131,7 +132,17 @@ pub reply_causes : (r : Result (Unit {0}) Stopped) (file before now : Failures) 
 reply_causes (Ok x) file before now old new text p = (refl, p.0)
 reply_causes (Err stopped.Turns) file before now old new text p = absurd p
 reply_causes (Err stopped.PageFault) file before now old new text p = absurd p
-reply_causes (Err stopped.WriteFault) file before now old new text p = (omega arith, p.0, p.1)
+reply_causes (Err stopped.WriteFault) file before now old new text p = (omega arith, p.0, p.1, λ n. absurd (n refl))
+
+-- a count that hadn't changed before
+pub changes_once_then : (before mid now : Failures) → mid.count ≡ before.count → ChangesOnce mid now → ChangesOnce before now
+changes_once_then before mid now still h = λ n. rose_then still (h (λ e. n (e ∙ still)))
+
+pub causes_then : {T : Type 0} (r : Result T Stopped) (f g h x y z : Failures) → g.count ≡ f.count → y.count ≡ x.count → Causes r g h y z → Causes r f h x z
+causes_then (Ok v) f g h x y z a b c = (c.0 ∙ a, c.1 ∙ b)
+causes_then (Err stopped.Turns) f g h x y z a b c = (c.0 ∙ a, c.1 ∙ b)
+causes_then (Err stopped.PageFault) f g h x y z a b c = (let l = c.0 in omega (arith, a, l), rose_then a c.1, c.2 ∙ b)
+causes_then (Err stopped.WriteFault) f g h x y z a b c = (let l = c.0 in omega (arith, a, l), let m = c.1 in omega (arith, b, m), rose_then b c.2, changes_once_then f g h a c.3)
 
 pub replies_as : (r : Result (Unit {0}) Stopped) (before now : Failures) (old new : Option Channels) (text said : List ℕ) → text ≡ said → Replies r before now old new text → Replies r before now old new said
 replies_as r before now old new text said e p = subst (λ (z : List ℕ). Replies r before now old new z) e p

@@ -9,15 +9,16 @@ use Rattle.vax_flat.specs.Parts.{Place, At, machine_at}
 use Rattle.vax_flat.specs.Step.{Flat}
 use Rattle.vax_pager.specs.Listing.{is_listed}
 use Rattle.vax_pager.specs.Meaning.{pages}
-use Rattle.vax_pager.specs.Poking.{OnlyRead, ReadsAtMost, WritesBlocks, pages_of_bytes}
+use Rattle.vax_pager.specs.Poking.{OnlyRead, ReadsAtMost, pages_of_bytes}
 use Rattle.vax_sched.specs.declared.rule.Rule.{Rule}
 use Rattle.vax_report.specs.Lines.{line, memory_line, register_line}
 use Rattle.vax_report.specs.Report.{report}
-use Rattle.vax_machine.specs.Console.{BringsPages, HasLetGo, IsBetween, StopsBetween, let_go, memory_from, pages_in, with_bytes, with_register}
+use Rattle.vax_machine.specs.Console.{HasLetGo, IsBetween, StopsBetween, let_go, memory_from, pages_in, with_bytes, with_register}
+use Rattle.vax_machine.specs.Depositing.{DepositsIn, Filed, IsBroughtInPart, IsDeposited, deposited, filed}
 use Rattle.vax_machine.specs.Machine.{Keeping, Means, keeping, modified_of, residence}
-use Rattle.vax_machine.specs.Marking.{HasMarked, Marks, MarksNoOther}
+use Rattle.vax_machine.specs.Marking.{MarksNoOther}
 use Rattle.vax_machine.specs.Paged.{Paged, Why, ByEnding, BySteps, ByTurns}
-use Rattle.vax_machine.specs.Residence.{HasBroughtSome, Residence, after_deposit, residence_of}
+use Rattle.vax_machine.specs.Residence.{Residence, residence_of}
 use Rattle.vax_machine.specs.Run as run_spec
 use Rattle.vax_machine.specs.Run.{IsWhole, Tracks, begun, origin, why_of}
 use Rattle.vax_machine.specs.Writing.{Wrote, lines_of, output_of}
@@ -127,26 +128,20 @@ put_refused : (limit : ℕ) (s : Session) (addr : ℕ) (bytes : List ℕ) → ma
 unfolding reply
 put_refused limit s addr bytes refused = rw refused refl
 
-pub brings_as : (b said : Bool) (pages : List ℕ) (old new : Engine) → b ≡ said → BringsPages (Ok b) pages old new → BringsPages (Ok said) pages old new
-brings_as b said pages old new e d = subst (λ (z : Bool). BringsPages (Ok z) pages old new) e d
+pub deposits_in_as : (b said : Bool) (addr : ℕ) (bytes : List ℕ) (old new : Filed) → b ≡ said → DepositsIn (Ok b) addr bytes old new → DepositsIn (Ok said) addr bytes old new
+deposits_in_as b said addr bytes old new e d = subst (λ (z : Bool). DepositsIn (Ok z) addr bytes old new) e d
 
-pub marks_as : (b said : Bool) (addr count : ℕ) (old new : Engine) → b ≡ said → Marks (Ok b) addr count old new → Marks (Ok said) addr count old new
-marks_as b said addr count old new e d = subst (λ (z : Bool). Marks (Ok z) addr count old new) e d
-
-pub put_at_held : (r : Result (Unit {0}) Stopped) (limits : Limits) (rules : List Rule) (before after : Scene) (flat : Flat) (addr : ℕ) (bytes : List ℕ) (was now : Failures) → may_deposit flat.memory addr (length bytes) ≡ true → HasLetGo before.machine after.machine → HasMarked addr (length bytes) before.machine after.machine →
-    residence after.machine ≡ after_deposit (pages_of_bytes addr (length bytes)) (residence before.machine) → WritesBlocks (keeping before.machine).areas before.file after.file → Means after.machine after.file (At (with_bytes addr bytes flat)) → Replies r was now before.sink after.sink done_line → Holds r (setting_of before limits rules) (Asks (DepositMemory addr bytes) ∷ []) (stand_at before (At flat)) after
-put_at_held r limits rules before after flat addr bytes was now allowed kept marks brings writes means p =
+pub put_at_held : (r : Result (Unit {0}) Stopped) (limits : Limits) (rules : List Rule) (before after : Scene) (flat : Flat) (addr : ℕ) (bytes : List ℕ) (was now : Failures) → may_deposit flat.memory addr (length bytes) ≡ true → HasLetGo before.machine after.machine →
+    IsDeposited (keeping before.machine).areas addr bytes (begun before.machine (At flat)) before.file (filed after.machine after.file) → Replies r was now before.sink after.sink done_line → Holds r (setting_of before limits rules) (Asks (DepositMemory addr bytes) ∷ []) (stand_at before (At flat)) after
+put_at_held r limits rules before after flat addr bytes was now allowed kept is p =
     let s = stand_at before (At flat) in
     let t = stand_at after (At (with_bytes addr bytes flat)) in
     let done : SetsBytesIf true (keeping before.machine).areas addr bytes s t = record {
-      place = refl;
-      brings = record { steps = kept.steps; turns = kept.turns; frames = kept.frames; spoiled = kept.spoiled; pinned = kept.pinned; writes = writes };
-      residence = brings;
-      marked = marks.marked;
-      only = marks.only;
+      at = begun_at after.machine after.file (deposited addr bytes s.at) (At (with_bytes addr bytes flat)) is.tracks refl;
+      moved = is.moved;
     } in
     simple_held r (setting_of before limits rules) (Asks (DepositMemory addr bytes)) s after (with_bytes addr bytes flat) done_line was now
-    (subst (λ (b : Bool). SetsBytesIf b (keeping before.machine).areas addr bytes s t) (sym allowed) done) refl (put_done limits.steps (session_at s) addr bytes allowed) means kept.areas p
+    (subst (λ (b : Bool). SetsBytesIf b (keeping before.machine).areas addr bytes s t) (sym allowed) done) refl (put_done limits.steps (session_at s) addr bytes allowed) is.tracks.means kept.areas p
 
 pub refused_held : (r : Result (Unit {0}) Stopped) (limits : Limits) (rules : List Rule) (before after : Scene) (flat : Flat) (addr : ℕ) (bytes : List ℕ) (was now : Failures) → may_deposit flat.memory addr (length bytes) ≡ false → after.machine ≡ before.machine → after.file ≡ before.file →
     Means before.machine before.file (At flat) → Replies r was now before.sink after.sink (line (codes "?ADDRESS")) → Holds r (setting_of before limits rules) (Asks (DepositMemory addr bytes) ∷ []) (stand_at before (At flat)) after
@@ -157,13 +152,13 @@ refused_held r limits rules before after flat addr bytes was now refused same fi
     simple_held r (setting_of before limits rules) (Asks (DepositMemory addr bytes)) s after flat (line (codes "?ADDRESS")) was now
     (subst (λ (b : Bool). SetsBytesIf b (keeping before.machine).areas addr bytes s t) (sym refused) done) refl (put_refused limits.steps (session_at s) addr bytes refused) (means_as before after flat same file means) (ap (λ (z : Engine). (pages z.pager).areas) same) p
 
-pub bytes_unset : (limits : Limits) (rules : List Rule) (before after : Scene) (flat : Flat) (addr : ℕ) (bytes : List ℕ) → HasLetGo before.machine after.machine → MarksNoOther before.machine after.machine → HasBroughtSome (pages_of_bytes addr (length bytes)) (residence before.machine) (residence after.machine) → WritesBlocks (keeping before.machine).areas before.file after.file →
+pub bytes_unset : (limits : Limits) (rules : List Rule) (before after : Scene) (flat : Flat) (addr : ℕ) (bytes : List ℕ) → HasLetGo before.machine after.machine → MarksNoOther before.machine after.machine → IsBroughtInPart (keeping before.machine).areas (pages_of_bytes addr (length bytes)) (begun before.machine (At flat)) before.file (filed after.machine after.file) →
     Means after.machine after.file (At flat) → after.sink ≡ before.sink → Holds (Err stopped.PageFault) (setting_of before limits rules) (Asks (DepositMemory addr bytes) ∷ []) (stand_at before (At flat)) after
-bytes_unset limits rules before after flat addr bytes kept marks brings writes means silent =
+bytes_unset limits rules before after flat addr bytes kept marks fails means silent =
     let g = setting_of before limits rules in
     line_short (λ x here. Fails g x here after) g (Asks (DepositMemory addr bytes)) (stand_at before (At flat)) (record {
-      brings = record { steps = kept.steps; turns = kept.turns; frames = kept.frames; spoiled = kept.spoiled; pinned = kept.pinned; writes = writes };
-      residence = brings;
+      brings = record { steps = kept.steps; turns = kept.turns; frames = kept.frames; spoiled = kept.spoiled; pinned = kept.pinned };
+      fails = fails;
       only = marks;
       means = means;
       silent = silent;

@@ -1,5 +1,5 @@
 -- How a session goes on and ends.
-use Rattle.std.specs.Prelude.{◌≡◌, ◌<◌, ◌≤◌, ◌+◌, ℕ, List, [], ◌∷◌, ◌++◌, Option, None, Result, Ok, Err, min}
+use Rattle.std.specs.Prelude.{◌≡◌, ◌≢◌, ◌<◌, ◌≤◌, ◌+◌, ℕ, List, [], ◌∷◌, ◌++◌, Option, None, Result, Ok, Err, min}
 use Rattle.vax_outside.specs.Blocks.{BlockFile}
 use Rattle.vax_outside.specs.Channels.{Channels, Grew, GrewByPrefix, only}
 use Rattle.vax_outside.specs.Faults.{Rose}
@@ -94,12 +94,16 @@ pub record IsOutOfTurns (turns : ℕ) (s : Session) (most : ℕ) (m : Engine) : 
   pub going : m.ended ≡ None
   pub below : m.steps < s.steps + most
 
+-- where a count of failures has changed, one call failed, and no call was made behind it
+abbrev pub ChangesOnce : Failures → Failures → Type 0
+ChangesOnce before now = now.count ≢ before.count → Rose before now
+
 -- the failures of the page file and of the sink, before and now, by what stopped a session
 abbrev pub Causes : {T : Type 0} → Result T Stopped → Failures → Failures → Failures → Failures → Type 0
 Causes (Ok x) file_before file_now sink_before sink_now = (file_now.count ≡ file_before.count) × (sink_now.count ≡ sink_before.count)
 Causes (Err stopped.Turns) file_before file_now sink_before sink_now = (file_now.count ≡ file_before.count) × (sink_now.count ≡ sink_before.count)
 Causes (Err stopped.PageFault) file_before file_now sink_before sink_now = (file_before.count ≤ file_now.count) × Rose file_before file_now × (sink_now.count ≡ sink_before.count)
-Causes (Err stopped.WriteFault) file_before file_now sink_before sink_now = (file_before.count ≤ file_now.count) × (sink_before.count ≤ sink_now.count) × Rose sink_before sink_now
+Causes (Err stopped.WriteFault) file_before file_now sink_before sink_now = (file_before.count ≤ file_now.count) × (sink_before.count ≤ sink_now.count) × Rose sink_before sink_now × ChangesOnce file_before file_now
 
 -- a reply was written, or a prefix of it where a write failed
 abbrev pub Replies : Result (Unit {0}) Stopped → Failures → Failures → Option Channels → Option Channels → List ℕ → Type 0

@@ -1,21 +1,20 @@
 -- How a session goes, turn by turn: what each line makes of the machine, of its page file and of the channels.
-use Rattle.std.specs.Prelude.{◌≡◌, ◌+◌, ◌||◌, ◌⊎◌, ℕ, Bool, true, false, List, [], ◌∷◌, ◌++◌, length, Option, None, Some, Result, Ok, Err}
+use Rattle.std.specs.Prelude.{◌≡◌, ◌+◌, ◌⊎◌, ℕ, Bool, true, false, List, [], ◌∷◌, ◌++◌, length, Option, None, Some, Result, Ok, Err}
 use Rattle.vax_space.specs.declared.Area.{Area}
 use Rattle.vax_outside.specs.Blocks.{BlockFile}
 use Rattle.vax_outside.specs.Channels.{Channels, Grew, GrewByPrefix}
 use Rattle.vax_flat.specs.declared.Ending.{Ending}
 use Rattle.vax_flat.specs.Parts.{Place, At, machine_at}
-use Rattle.vax_flat.specs.Port.{is_in}
 use Rattle.vax_flat.specs.Step.{Flat}
 use Rattle.vax_pager.specs.Meaning.{pages}
-use Rattle.vax_pager.specs.Poking.{OnlyRead, ReadsAtMost, WritesBlocks, pages_of_bytes}
+use Rattle.vax_pager.specs.Poking.{OnlyRead, ReadsAtMost, pages_of_bytes}
 use Rattle.vax_sched.specs.Due.{due}
 use Rattle.vax_sched.specs.declared.rule.Rule.{Rule}
 use Rattle.vax_machine.specs.Blocks.{Moved}
-use Rattle.vax_machine.specs.Console.{pages_in, with_bytes, with_register}
-use Rattle.vax_machine.specs.Machine.{Means, modified_of, residence}
+use Rattle.vax_machine.specs.Console.{pages_in, with_register}
+use Rattle.vax_machine.specs.Depositing.{IsBroughtInPart, deposited, filed}
+use Rattle.vax_machine.specs.Machine.{Means, modified_of}
 use Rattle.vax_machine.specs.Paged.{Paged, Why, ByEnding, BySteps, ByTurns, paged, stops}
-use Rattle.vax_machine.specs.Residence.{HasBroughtSome, after_deposit}
 use Rattle.vax_machine.specs.Run as run
 use Rattle.vax_machine.specs.Run.{Runs, begun}
 use Rattle.vax_machine.specs.declared.event.Limits.{Limits}
@@ -122,22 +121,19 @@ pub record SetsRegister (n value : ℕ) (s t : Stand) : Type 0 where
   pub at : t.at ≡ record s.at { place = At (with_register n value (machine_at s.at.place)) }
   pub file : t.file ≡ s.file
 
--- No step and no turn was made, and no page is pinned. Of the blocks those of the space's pages alone were written.
-pub record Brings (areas : List Area) (s t : Stand) : Type 0 where
+-- no step and no turn was made, and no page is pinned
+pub record Brings (s t : Stand) : Type 0 where
   pub steps : t.at.steps ≡ s.at.steps
   pub turns : t.at.turns ≡ s.at.turns
   pub frames : t.at.residence.frames ≡ s.at.residence.frames
   pub spoiled : t.at.residence.spoiled ≡ s.at.residence.spoiled
   pub pinned : t.at.residence.pinned ≡ []
-  pub writes : WritesBlocks areas s.file t.file
 
--- bytes of memory are others: their pages came in, they are modified, and no others that weren't
+-- Bytes of memory are others: their pages came in, they are modified, and no others that weren't. The file was written and read for the services
+-- of these pages, and for nothing else.
 pub record SetsBytes (areas : List Area) (addr : ℕ) (bytes : List ℕ) (s t : Stand) : Type 0 where
-  pub place : t.at.place ≡ At (with_bytes addr bytes (machine_at s.at.place))
-  pub brings : Brings areas s t
-  pub residence : t.at.residence ≡ after_deposit (pages_of_bytes addr (length bytes)) s.at.residence
-  pub marked : (page : ℕ) → is_in addr (length bytes) page ≡ true → t.at.modified page ≡ true
-  pub only : (page : ℕ) → t.at.modified page ≡ true → (s.at.modified page || is_in addr (length bytes) page) ≡ true
+  pub at : t.at ≡ anew (deposited addr bytes s.at)
+  pub moved : Moved areas s.at (deposited addr bytes s.at) s.file t.file
 
 -- they are where they may be deposited, and else nothing changes
 abbrev pub SetsBytesIf : Bool → List Area → ℕ → List ℕ → Stand → Stand → Type 0
@@ -203,10 +199,11 @@ pub record IsUnread (most : ℕ) (s : Stand) (after : Scene) : Type 0 where
   pub means : Means after.machine after.file s.at.place
   pub silent : after.sink ≡ s.sink
 
--- bytes weren't deposited: the first of their pages came in, every byte is as it was, and no page is modified that wasn't
+-- Bytes weren't deposited: the first of their pages came in, and a call of the file failed within the service of the next, the last call that was made.
+-- Every byte is as it was, and no page is modified that wasn't.
 pub record IsUnset (areas : List Area) (pages : List ℕ) (s : Stand) (after : Scene) : Type 0 where
-  pub brings : Brings areas s (stand_at after s.at.place)
-  pub residence : HasBroughtSome pages s.at.residence (residence after.machine)
+  pub brings : Brings s (stand_at after s.at.place)
+  pub fails : IsBroughtInPart areas pages s.at s.file (filed after.machine after.file)
   pub only : (page : ℕ) → modified_of after.machine page ≡ true → s.at.modified page ≡ true
   pub means : Means after.machine after.file s.at.place
   pub silent : after.sink ≡ s.sink

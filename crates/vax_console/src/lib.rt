@@ -9,7 +9,7 @@ ghost use Rattle.vax_outside.specs.Faults.{Rose};
 ghost use Rattle.vax_machine.specs.Console.{IsBetween};
 ghost use Rattle.vax_machine.specs.Meaning.{engine};
 ghost use Rattle.vax_script.specs.Requests.{readings};
-ghost use Rattle.vax_console.specs.Ends.{GoesFrom, OnlyReplied, outcome_of, scene};
+ghost use Rattle.vax_console.specs.Ends.{ChangesOnce, GoesFrom, OnlyReplied, outcome_of, scene};
 ghost use Rattle.vax_console.specs.Parts.{IsTooSmallFor, SpendsFrom};
 ghost use Rattle.vax_console.specs.Turns.{HoldsFrom};
 
@@ -84,6 +84,7 @@ pub fn session<F: PageFile, K: Sink>(
     ensures cause { result ≡ SessionEnd.WriteFault → Rose (K.faults sink.old) (K.faults sink.new) }
     ensures unfailed { result ≢ SessionEnd.PageFault → result ≢ SessionEnd.WriteFault →
         (F.faults file.new).count ≡ (F.faults file.old).count }
+    ensures failed { ChangesOnce (F.faults file.old) (F.faults file.new) }
     ensures written { result ≢ SessionEnd.WriteFault →
         (K.faults sink.new).count ≡ (K.faults sink.old).count }
     ensures only { OnlyReplied (K.contents sink.old) (K.contents sink.new) }

@@ -2,10 +2,11 @@ use Rattle.std.proofs.Common.{◌≡◌, ◌∙◌, ◌++◌, ◌∷◌, [], Lis
 use Rattle.vax_machine.specs.Meaning.{engine}
 use Rattle.vax_script.specs.Requests.{readings}
 use Rattle.vax_script.specs.declared.request.Line.{Line}
-use Rattle.vax_console.specs.Ends.{Goes, scene, session_on}
+use Rattle.vax_console.specs.Ends.{Causes, Goes, scene, session_on}
 use Rattle.vax_console.specs.Parts.{Spends}
 use Rattle.vax_console.specs.declared.stopped.Stopped.{Stopped}
 use Rattle.vax_console.proofs.Only.{only_none, only_then}
+use Rattle.vax_console.proofs.Replying.{causes_then}
 use Rattle.vax_console.proofs.Running.{err_same}
 use Rattle.vax_console.proofs.Sessions.{none_carried, one_read, stopped_further, then_goes}
 use Rattle.vax_console.proofs.Spending.{none_spent, spends_further, then_spends}
@@ -75,3 +76,9 @@ returns-in_err-carry_out-clause-holds g c m means =
     let all = held_further e (setting_of (scene (engine c.args.machine.now) (g.F.PageFile.contents c.args.file.now) (g.K.Sink.contents c.args.sink.now)) c.args.limits.now c.args.schedule.now) (before.0 ++ c.read_line.result ∷ []) (readings c.in-Some.behind.now) (stand_at (scene (engine c.args.machine.now) (g.F.PageFile.contents c.args.file.now) (g.K.Sink.contents c.args.sink.now)) (At m)) (scene (engine c.carry_out.new.machine) (g.F.PageFile.contents c.carry_out.new.file) (g.K.Sink.contents c.carry_out.new.sink)) here in
     subst (λ (z : Result (Unit {0}) Stopped). Holds z (setting_of (scene (engine c.args.machine.now) (g.F.PageFile.contents c.args.file.now) (g.K.Sink.contents c.args.sink.now)) c.args.limits.now c.args.schedule.now) (readings c.args.script.now) (stand_at (scene (engine c.args.machine.now) (g.F.PageFile.contents c.args.file.now) (g.K.Sink.contents c.args.sink.now)) (At m)) (scene (engine c.carry_out.new.machine) (g.F.PageFile.contents c.carry_out.new.file) (g.K.Sink.contents c.carry_out.new.sink))) (sym (err_same c.from_residual.result e c.from_residual.ensures.1))
     (subst (λ (z : List Line). Holds (Err e) (setting_of (scene (engine c.args.machine.now) (g.F.PageFile.contents c.args.file.now) (g.K.Sink.contents c.args.sink.now)) c.args.limits.now c.args.schedule.now) z (stand_at (scene (engine c.args.machine.now) (g.F.PageFile.contents c.args.file.now) (g.K.Sink.contents c.args.sink.now)) (At m)) (scene (engine c.carry_out.new.machine) (g.F.PageFile.contents c.carry_out.new.file) (g.K.Sink.contents c.carry_out.new.sink))) (sym split) all)
+
+pub returns-in_err-carry_out-clause-causes : goal.returns-in_err-carry_out-clause-causes
+returns-in_err-carry_out-clause-causes g c =
+    let e = c.in_err-carry_out.field-0.0 in
+    subst (λ (z : Result (Unit {0}) Stopped). Causes z (g.F.PageFile.faults c.args.file.now) (g.F.PageFile.faults c.carry_out.new.file) (g.K.Sink.faults c.args.sink.now) (g.K.Sink.faults c.carry_out.new.sink)) (sym (err_same c.from_residual.result e c.from_residual.ensures.1))
+    (causes_then {T = Unit {0}} (Err e) _ _ _ _ _ _ c.loop-line.invariant.quiet c.loop-line.invariant.sunk c.in_err-carry_out.ensures.causes)

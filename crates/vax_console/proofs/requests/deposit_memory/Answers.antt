@@ -1,7 +1,7 @@
 use Rattle.std.proofs.Common.{◌≡◌, ◌∙◌, ◌∷◌, [], Option, refl, sym, subst, true, false, length}
 use Rattle.vax_outside.specs.Blocks.{BlockFile}
 use Rattle.vax_flat.specs.Parts.{At}
-use Rattle.vax_pager.specs.Poking.{pages_of_bytes}
+use Rattle.vax_machine.specs.Depositing.{filed}
 use Rattle.vax_machine.specs.Meaning.{engine}
 use Rattle.vax_machine.specs.declared.engine.Engine.{Engine}
 use Rattle.vax_script.specs.declared.request.Request.TheVariants.{DepositMemory}
@@ -13,7 +13,7 @@ use Rattle.vax_console.proofs.Spending.{cut_spends, none_let_go, none_same, simp
 use Rattle.vax_console.proofs.Only.{reply_only}
 use Rattle.vax_console.proofs.Replying.{line_cut}
 use Rattle.vax_console.proofs.Requested.{deposits_as, put_at_goes, refused_goes, same_right}
-use Rattle.vax_console.proofs.Turned.{brings_as, bytes_unset, marks_as, put_at_held, refused_held}
+use Rattle.vax_console.proofs.Turned.{bytes_unset, deposits_in_as, put_at_held, refused_held}
 use Rattle.vax_console.proofs.requests.deposit_memory.Goals as goal
 
 pub returns-in-Ok-true-clause-goes : goal.returns-in-Ok-true-clause-goes
@@ -60,10 +60,9 @@ pub returns-in-Ok-true-clause-holds : goal.returns-in-Ok-true-clause-holds
 returns-in-Ok-true-clause-holds g c rules m means =
     let may : may_deposit m.memory c.args.addr (length c.args.bytes.now) ≡ true = sym (same_right (engine c.args.machine.now) (g.F.PageFile.contents c.args.file.now) m c.args.addr (length c.args.bytes.now) means) ∙ (sym c.in-Ok-true.ensures.answer ∙ c.in-Ok-true.field-0-test) in
     let done = deposits_as c.in-Ok-true.field-0 true c.args.addr c.args.bytes.now (engine c.args.machine.now) (engine c.poke.new.self) (g.F.PageFile.contents c.args.file.now) (g.F.PageFile.contents c.poke.new.file) c.in-Ok-true.field-0-test c.in-Ok-true.ensures.deposits in
-    let marks = marks_as c.in-Ok-true.field-0 true c.args.addr (length c.args.bytes.now) (engine c.args.machine.now) (engine c.poke.new.self) c.in-Ok-true.field-0-test c.in-Ok-true.ensures.marks in
-    let brings = brings_as c.in-Ok-true.field-0 true (pages_of_bytes c.args.addr (length c.args.bytes.now)) (engine c.args.machine.now) (engine c.poke.new.self) c.in-Ok-true.field-0-test c.in-Ok-true.ensures.brings in
+    let is = deposits_in_as c.in-Ok-true.field-0 true c.args.addr c.args.bytes.now (filed (engine c.args.machine.now) (g.F.PageFile.contents c.args.file.now)) (filed (engine c.poke.new.self) (g.F.PageFile.contents c.poke.new.file)) c.in-Ok-true.field-0-test c.in-Ok-true.ensures.paged in
     put_at_held c.reply.result c.args.limits.now rules (scene (engine c.args.machine.now) (g.F.PageFile.contents c.args.file.now) (g.K.Sink.contents c.args.sink.now)) (scene (engine c.poke.new.self) (g.F.PageFile.contents c.poke.new.file) (g.K.Sink.contents c.reply.new.sink)) m c.args.addr c.args.bytes.now (g.K.Sink.faults c.args.sink.now) (g.K.Sink.faults c.reply.new.sink)
-    may done.0 marks brings c.poke.ensures.writes (done.1 m means) c.reply.ensures
+    may done.0 (is m means) c.reply.ensures
 
 pub returns-in-Ok-false-clause-holds : goal.returns-in-Ok-false-clause-holds
 returns-in-Ok-false-clause-holds g c rules m means =
@@ -75,4 +74,4 @@ returns-in-Ok-false-clause-holds g c rules m means =
 pub returns-in-Err-clause-holds : goal.returns-in-Err-clause-holds
 returns-in-Err-clause-holds g c rules m means =
     bytes_unset c.args.limits.now rules (scene (engine c.args.machine.now) (g.F.PageFile.contents c.args.file.now) (g.K.Sink.contents c.args.sink.now)) (scene (engine c.poke.new.self) (g.F.PageFile.contents c.poke.new.file) (g.K.Sink.contents c.args.sink.now)) m c.args.addr c.args.bytes.now
-    c.in-Err.ensures.deposits.0 c.in-Err.ensures.marks c.in-Err.ensures.brings c.poke.ensures.writes (c.in-Err.ensures.deposits.1 (At m) means) refl
+    c.in-Err.ensures.deposits.0 c.in-Err.ensures.marks (c.in-Err.ensures.paged m means) (c.in-Err.ensures.deposits.1 (At m) means) refl

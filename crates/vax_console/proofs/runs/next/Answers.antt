@@ -8,6 +8,7 @@ use Rattle.vax_console.specs.declared.stopped.Stopped.{Stopped}
 use Rattle.vax_console.specs.Parts.{Spends}
 use Rattle.vax_console.proofs.Spending.{ended_spends, run_spends, stopped_spends}
 use Rattle.vax_console.proofs.Only.{only_then, reply_only}
+use Rattle.vax_console.proofs.Replying.{causes_then, reply_causes}
 use Rattle.vax_console.proofs.Requested.{same_core, same_ending}
 use Rattle.vax_console.proofs.Running.{err_same, none_of, next_goes, some_of, next_refused, next_stopped}
 use Rattle.vax_flat.specs.Parts.{At}
@@ -104,3 +105,6 @@ returns-clause-holds g c m means =
     c.as_slice.ensures ∙ (said ∙ (ap (λ (n : ℕ). next_line (nat_lt n c.args.count) (session_on (engine c.advance.new.machine) t.machine)) c.steps_left-left.ensures.left ∙ ap (λ (z : Session). next_line (nat_lt (left c.args.limits.now.steps s) c.args.count) z) same)) in
     let made = subst (λ (n : ℕ). HasMadeSteps (setting_of (scene (engine c.args.machine.now) (g.F.PageFile.contents c.args.file.now) (g.K.Sink.contents c.args.sink.now)) c.args.limits.now c.args.schedule.now) n (stand_at (scene (engine c.args.machine.now) (g.F.PageFile.contents c.args.file.now) (g.K.Sink.contents c.args.sink.now)) (At m)) (scene (engine c.advance.new.machine) (g.F.PageFile.contents c.advance.new.file) (g.K.Sink.contents c.advance.new.sink))) count (c.in_ok-ended.ensures.holds m means) in
     next_held c.reply-2.result c.args.limits.now c.args.schedule.now (scene (engine c.args.machine.now) (g.F.PageFile.contents c.args.file.now) (g.K.Sink.contents c.args.sink.now)) (scene (engine c.advance.new.machine) (g.F.PageFile.contents c.advance.new.file) (g.K.Sink.contents c.reply-2.new.sink)) m c.args.count (g.K.Sink.contents c.advance.new.sink) c.as_slice.result.now (g.K.Sink.faults c.advance.new.sink) (g.K.Sink.faults c.reply-2.new.sink) going made (sym text) c.reply-2.ensures
+
+pub returns-clause-causes : goal.returns-clause-causes
+returns-clause-causes g c = causes_then c.reply-2.result _ _ _ _ _ _ c.in_ok-ended.ensures.causes.0 c.in_ok-ended.ensures.causes.1 (reply_causes c.reply-2.result (g.F.PageFile.faults c.advance.new.file) _ _ _ _ _ c.reply-2.ensures)
