@@ -1,0 +1,3 @@
+pub mod Pooling
+pub mod Pool
+pub mod Beginning

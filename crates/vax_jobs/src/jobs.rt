@@ -1,0 +1,82 @@
+//! Several processes and their pool.
+ghost use Rattle.std.specs.Prelude.{◌≡◌, ◌<◌, ◌≤◌, Some, Err, IfOk, IsOk, length, slice_get};
+ghost use Rattle.std.specs.List.{All};
+ghost use Rattle.vax_jobs.specs.Pool.{IsPool};
+
+use crate::job::{Job, JobsError, machines_of};
+use crate::pool::Pool;
+use std::alloc::Global;
+use std::collections::VecDeque;
+use vax_machine::Machine;
+
+/// The most processes.
+const MOST_JOBS: usize = 8;
+
+/// The fewest resident pages for each process.
+const FEWEST_PAGES: u32 = 64;
+
+/// The most resident pages.
+const MOST_PAGES: u32 = 32_768;
+
+/// Several processes, numbered from 0: each a machine of its own, with a bound on the pages that are resident together. Only `new` takes memory.
+#[derive(Drop)]
+pub struct Jobs {
+    pub(crate) pool: Pool,
+    ghost sound: { IsPool pool },
+}
+
+impl Jobs {
+    ghost use Rattle.vax_jobs.specs.Beginning.{Begins, IsCount, IsMost, machines, pooling};
+
+    /// Processes at the start, with so many resident pages together, 64 for each to 32,768. An input has at most 4,194,304 bytes.
+    ///
+    /// Nothing is resident, and with any page file each stands for the flat machine with which it begins.
+    pub fn new(alloc: Global, jobs: Vec<Job>, pool: u32) -> Result<Jobs, JobsError>
+        requires short { All (λ j. length j.input.items ≤ 4194304) jobs.items }
+        ensures begins { IfOk result (Begins jobs.items pool) }
+        ensures count { result ≡ Err JobsError.Count → IsCount (length jobs.items) → ⊥ }
+        ensures pool { result ≡ Err JobsError.Pool
+            → IsCount (length jobs.items) × (IsMost (length jobs.items) pool → ⊥) }
+        ensures whole { IsOk result → IsCount (length jobs.items) × IsMost (length jobs.items) pool }
+    {
+        let count = jobs.len();
+        if count == 0 || MOST_JOBS < count {
+            return Err(JobsError::Count);
+        }
+        if pool < FEWEST_PAGES * count as u32 || MOST_PAGES < pool {
+            return Err(JobsError::Pool);
+        }
+        let machines = machines_of(alloc, jobs, pool)?;
+        let residents = VecDeque::with_capacity(alloc, pool as usize)?;
+        Ok(Jobs {
+            pool: Pool {
+                machines,
+                residents,
+                most: pool,
+            },
+        })
+    }
+
+    /// How many processes there are, 1 to 8.
+    pub fn count(&self) -> u8
+        ensures { result ≡ length (machines self.now) }
+    {
+        self.pool.machines.len() as u8
+    }
+
+    /// The machine of a process that there is.
+    pub fn machine(&self, job: u8) -> &Machine
+        requires { job < length (machines self.now) }
+        ensures { slice_get (machines self.now) job ≡ Some result.now }
+    {
+        &self.pool.machines[job as usize]
+    }
+
+    /// How many pages are resident.
+    pub fn used(&self) -> u32
+        ensures count { result ≡ length (pooling self.now).resident }
+        ensures most { result ≤ (pooling self.now).most }
+    {
+        self.pool.residents.len() as u32
+    }
+}
