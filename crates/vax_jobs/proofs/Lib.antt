@@ -1,1 +1,11 @@
+pub mod Few
+pub mod Apart
+pub mod Shares
+pub mod Rooms
+pub mod Turns
+pub mod Going
+pub mod Serving
+pub mod Moving
+pub mod Searching
 pub mod Starting
+pub mod Applying

@@ -1,3 +1,4 @@
 pub mod Pooling
 pub mod Pool
+pub mod Turning
 pub mod Beginning

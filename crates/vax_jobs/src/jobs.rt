@@ -1,13 +1,16 @@
 //! Several processes and their pool.
 ghost use Rattle.std.specs.Prelude.{◌≡◌, ◌<◌, ◌≤◌, Some, Err, IfOk, IsOk, length, slice_get};
 ghost use Rattle.std.specs.List.{All};
+ghost use Rattle.vax_outside.specs.Faults.{CountsFailure};
 ghost use Rattle.vax_jobs.specs.Pool.{IsPool};
 
 use crate::job::{Job, JobsError, machines_of};
 use crate::pool::Pool;
+use crate::turn::{Turn, Turned};
 use std::alloc::Global;
 use std::collections::VecDeque;
 use vax_machine::Machine;
+use vax_outside::PageFile;
 
 /// The most processes.
 const MOST_JOBS: usize = 8;
@@ -27,6 +30,7 @@ pub struct Jobs {
 
 impl Jobs {
     ghost use Rattle.vax_jobs.specs.Beginning.{Begins, IsCount, IsMost, machines, pooling};
+    ghost use Rattle.vax_jobs.specs.Turning.{HasTurned, IsTurned, has_failed, job_of};
 
     /// Processes at the start, with so many resident pages together, 64 for each to 32,768. An input has at most 4,194,304 bytes.
     ///
@@ -57,6 +61,24 @@ impl Jobs {
         })
     }
 
+    /// Makes a turn of a process that there is. It takes no memory.
+    ///
+    /// `Go` makes one attempt; the page that it misses is served. Where the pool is full, the page that was served longest ago and that no process has
+    /// pinned is made absent first. After a failure the attempt is made, and the page isn't served. No other turn makes an attempt.
+    pub fn turn<F: PageFile>(&mut self, turn: Turn, file: &mut F) -> Turned
+        requires there { job_of turn < length (machines self.old) }
+        ensures turned { IsTurned turn result (pooling self.old) (pooling self.new) }
+        ensures goes { HasTurned turn result (pooling self.old) (machines self.old)
+            (F.contents file.old) (machines self.new) (F.contents file.new) }
+        ensures counts { CountsFailure (has_failed result) (F.faults file.old) (F.faults file.new) }
+    {
+        match turn {
+            Turn::Go(job) => self.pool.go(job, file),
+            Turn::Out(job, page) => self.pool.out(job, page, file),
+            Turn::Clean(job) => self.pool.clean(job, file),
+        }
+    }
+
     /// How many processes there are, 1 to 8.
     pub fn count(&self) -> u8
         ensures { result ≡ length (machines self.now) }
@@ -77,6 +99,6 @@ impl Jobs {
         ensures count { result ≡ length (pooling self.now).resident }
         ensures most { result ≤ (pooling self.now).most }
     {
-        self.pool.residents.len() as u32
+        self.pool.used()
     }
 }

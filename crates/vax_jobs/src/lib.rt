@@ -6,7 +6,9 @@
 mod job;
 mod jobs;
 mod pool;
+mod turn;
 
 pub use job::{Job, JobsError};
 pub use jobs::Jobs;
 pub use pool::Pair;
+pub use turn::{Turn, Turned};
