@@ -1,9 +1,10 @@
 -- The errors of a source as text.
-use Rattle.std.specs.Prelude.{◌≡◌, ℕ, ◌+◌, ◌-◌, Bool, ◌==◌, ◌&&◌, ◌||◌, not, nat_le, nat_lt, if◌then◌else◌, List, [], ◌∷◌, ◌++◌, length, map, take, codes, decimal}
+use Rattle.std.specs.Prelude.{◌≡◌, All, ℕ, ◌+◌, ◌-◌, Bool, ◌==◌, ◌&&◌, ◌||◌, not, nat_le, nat_lt, if◌then◌else◌, List, [], ◌∷◌, ◌++◌, length, map, take, codes, decimal}
 use Rattle.std.specs.List.{flat_map, position_or_len}
 use Rattle.vax_asm_check.specs.Listed.{AreFirst, in_order}
 use Rattle.vax_asm_faults.specs.Refusal.{faults_of}
-use Rattle.vax_asm_second.specs.declared.types.Fault.{Fault}
+use Rattle.vax_asm_causes.specs.Printed.{ArePrinted}
+use Rattle.vax_asm_errors.specs.declared.said.Said.{Said}
 use Rattle.vax_lines.specs.Lines.{Text, lines}
 use Rattle.vax_macro.specs.Fault.{code_of}
 use Rattle.vax_macro.specs.declared.error.FaultKind.{FaultKind}
@@ -48,25 +49,46 @@ shown_line line = map shown (take 160 line)
 unfoldable pub place : Text → (line column : ℕ) → Text
 place name line column = name ++ codes ":" ++ decimal line ++ codes ":" ++ decimal column ++ codes ": error: "
 
+-- a tab stands below a tab, and else a blank
+abbrev pub under : ℕ → ℕ
+under b = if b == 9 then b else 32
+
+abbrev pub under_line : Text → ℕ → Text
+under_line line column = map under (take column (take 160 line))
+
 -- a line, and a mark below a column of it
 unfoldable pub mark : Text → (column : ℕ) → Text
-mark line column = shown_line line ++ codes "\n" ++ shown_line (take column line) ++ codes "^\n"
+mark line column = shown_line line ++ codes "\n" ++ under_line line column ++ codes "^\n"
 
--- an error: its place, kind and text, the line, and a mark below where its text begins
-unfoldable pub error : (name source : Text) → Fault → Text
-error name source f =
-    let line = line_at f.origin.line (lines source) in
-    place name f.origin.line (indent line + 1) ++ decimal (code_of f.kind) ++ codes ": " ++ message f.kind ++ codes "\n" ++ mark line (indent line)
+-- the line of an expansion, if there is one
+unfoldable pub noted : Text → (line : ℕ) → Text → Text
+noted name line [] = []
+noted name line (b ∷ expansion) = name ++ codes ":" ++ decimal line ++ codes ": " ++ (b ∷ expansion) ++ codes "\n"
+
+-- the first line of an error: its place, its kind, what that says, and words on its cause
+unfoldable pub headline : (name : Text) → Said → Text
+headline name s = place name s.fault.origin.line (s.column + 1) ++ decimal (code_of s.fault.kind) ++ codes ": " ++ message s.fault.kind ++ s.cause.items ++ codes "\n"
+
+-- an error: its first line, the line of the source with a mark below a column, and the line of an expansion
+unfoldable pub error : (name source : Text) → Said → Text
+error name source s =
+    headline name s ++ mark (line_at s.fault.origin.line (lines source)) s.column ++ noted name s.fault.origin.line s.expansion.items
+
+-- The words on a cause and the line of an expansion can be printed.
+pub record IsPlain (s : Said) : Type 0 where
+  pub cause : ArePrinted s.cause.items
+  pub expansion : ArePrinted s.expansion.items
 
 -- a hundred faults are told at most
 unfoldable pub ending : Text → ℕ → Text
 ending name count = if nat_lt count 100 then [] else name ++ codes ": error: the rest of this file isn't checked\n"
 
-abbrev pub errors : (name source : Text) → List Fault → Text
-errors name source faults = flat_map (error name source) faults ++ ending name (length faults)
+abbrev pub errors : (name source : Text) → List Said → Text
+errors name source said = flat_map (error name source) said ++ ending name (length said)
 
--- The errors of a source were added: those of its first hundred faults, or of all.
+-- The errors of a source were added: those of its first hundred faults, or of all. Each has a column and words on its cause.
 pub record IsErrors (name source before after : Text) : Type 0 where
-  pub faults : List Fault
-  pub first : AreFirst 100 faults (in_order (faults_of source))
-  pub text : after ≡ before ++ errors name source faults
+  pub said : List Said
+  pub first : AreFirst 100 (map (λ s. s.fault) said) (in_order (faults_of source))
+  pub plain : All IsPlain said
+  pub text : after ≡ before ++ errors name source said

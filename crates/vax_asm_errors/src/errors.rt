@@ -1,14 +1,14 @@
 // Errors of a source.
 
-ghost use Rattle.std.specs.Prelude.{◌≡◌, ◌≤◌, ◌++◌, OnOk, decimal, length};
+ghost use Rattle.std.specs.Prelude.{◌≡◌, ◌++◌, ◌+◌, OnOk, decimal};
 ghost use Rattle.std.specs.List.{flat_map};
-ghost use Rattle.vax_asm_errors.specs.Errors.{IsErrors, ending, error, mark, place};
+ghost use Rattle.vax_asm_errors.specs.Errors.{IsErrors, ending, error, headline, mark, noted, place};
 
-use crate::line::{indent, line_at, push_line};
+use crate::line::{line_at, push_line, push_under};
 use crate::messages::message;
+use crate::said::{Said, said_of};
 use std::alloc::Global;
 use vax_asm_check::faults;
-use vax_asm_second::Fault;
 use vax_outside::Text;
 use vax_space::NoMemory;
 
@@ -22,13 +22,13 @@ pub struct Source<'a> {
     pub text: &'a [u8],
 }
 
-fn push(out: &mut Vec<u8>, bytes: &[u8]) -> Result<(), NoMemory>
+pub(crate) fn push(out: &mut Vec<u8>, bytes: &[u8]) -> Result<(), NoMemory>
     ensures { OnOk result (out.new.items ≡ out.old.items ++ bytes.now) }
 {
     out.extend_from_slice(bytes).map_err(|_| NoMemory)
 }
 
-fn push_number(out: &mut Vec<u8>, number: u64) -> Result<(), NoMemory>
+pub(crate) fn push_number(out: &mut Vec<u8>, number: u64) -> Result<(), NoMemory>
     ensures { OnOk result (out.new.items ≡ out.old.items ++ decimal number) }
 {
     let mut text = Text::new();
@@ -36,55 +36,79 @@ fn push_number(out: &mut Vec<u8>, number: u64) -> Result<(), NoMemory>
     push(out, text.as_slice())
 }
 
-/// Appends where an error stands: the file, the line and the column.
+/// Appends where an error stands: the file, the line and the column, counted from 0.
 #[tactic(auto, unfolding(crate::specs::Errors::place))]
-fn push_place(out: &mut Vec<u8>, name: &[u8], line: u32, column: usize) -> Result<(), NoMemory>
-    ensures { OnOk result (out.new.items ≡ out.old.items ++ place name.now line column) }
+fn push_place(out: &mut Vec<u8>, name: &[u8], line: u32, column: u32) -> Result<(), NoMemory>
+    ensures { OnOk result (out.new.items ≡ out.old.items ++ place name.now line (column + 1)) }
 {
     push(out, name)?;
     push(out, b":")?;
     push_number(out, u64::from(line))?;
     push(out, b":")?;
-    push_number(out, column as u64)?;
+    push_number(out, u64::from(column) + 1)?;
     push(out, b": error: ")
 }
 
-/// Appends a line, and below it a mark under its first character that isn't blank.
+/// Appends a line, and below it a mark under a column.
 #[tactic(auto, unfolding(crate::specs::Errors::mark))]
-fn push_mark(out: &mut Vec<u8>, line: &[u8], column: usize) -> Result<(), NoMemory>
-    requires { column ≤ length line.now }
+pub(crate) fn push_mark(out: &mut Vec<u8>, line: &[u8], column: u32) -> Result<(), NoMemory>
     ensures { OnOk result (out.new.items ≡ out.old.items ++ mark line.now column) }
 {
     push_line(out, line)?;
     push(out, b"\n")?;
-    push_line(out, line.split_at(column).0)?;
+    push_under(out, line, column as usize)?;
     push(out, b"^\n")
+}
+
+/// Appends the line of an expansion, if there is one.
+#[tactic(auto, unfolding(crate::specs::Errors::noted))]
+fn push_note(out: &mut Vec<u8>, name: &[u8], line: u32, expansion: &[u8]) -> Result<(), NoMemory>
+    ensures { OnOk result (out.new.items ≡ out.old.items ++ noted name.now line expansion.now) }
+{
+    if expansion.is_empty() {
+        return Ok(());
+    }
+    push(out, name)?;
+    push(out, b":")?;
+    push_number(out, u64::from(line))?;
+    push(out, b": ")?;
+    push(out, expansion)?;
+    push(out, b"\n")
+}
+
+/// Appends the first line of an error: its place, its kind, what that says, and words on its cause.
+#[tactic(auto, unfolding(crate::specs::Errors::headline))]
+fn push_headline(out: &mut Vec<u8>, name: &[u8], said: &Said) -> Result<(), NoMemory>
+    ensures { OnOk result (out.new.items ≡ out.old.items ++ headline name.now said.now) }
+{
+    push_place(out, name, said.fault.origin.line, said.column)?;
+    push_number(out, u64::from(said.fault.kind.code()))?;
+    push(out, b": ")?;
+    push(out, message(said.fault.kind))?;
+    push(out, &said.cause)?;
+    push(out, b"\n")
 }
 
 /// Appends an error.
 #[tactic(auto, unfolding(crate::specs::Errors::error))]
-fn push_error(out: &mut Vec<u8>, source: Source<'_>, fault: Fault) -> Result<(), NoMemory>
+fn push_error(out: &mut Vec<u8>, source: Source<'_>, said: &Said) -> Result<(), NoMemory>
     ensures { OnOk result (out.new.items
-        ≡ out.old.items ++ error source.entry.name.now source.entry.text.now fault) }
+        ≡ out.old.items ++ error source.entry.name.now source.entry.text.now said.now) }
 {
-    let line = line_at(source.text, fault.origin.line);
-    let column = indent(line);
-    push_place(out, source.name, fault.origin.line, column + 1)?;
-    push_number(out, u64::from(fault.kind.code()))?;
-    push(out, b": ")?;
-    push(out, message(fault.kind))?;
-    push(out, b"\n")?;
-    push_mark(out, line, column)
+    let number = said.fault.origin.line;
+    push_headline(out, source.name, said)?;
+    push_mark(out, line_at(source.text, number), said.column)?;
+    push_note(out, source.name, number, &said.expansion)
 }
 
 /// Appends errors.
 #[tactic(auto, using(crate::proofs::Listing::error_added, crate::proofs::Listing::errors_added))]
-fn push_each(out: &mut Vec<u8>, source: Source<'_>, faults: &[Fault]) -> Result<(), NoMemory>
+fn push_each(out: &mut Vec<u8>, source: Source<'_>, said: &[Said]) -> Result<(), NoMemory>
     ensures { OnOk result (out.new.items ≡ out.old.items
-        ++ flat_map (error source.entry.name.now source.entry.text.now) faults.now) }
+        ++ flat_map (error source.entry.name.now source.entry.text.now) said.now) }
 {
-    for fault in faults {
-        push_error(out, source, *fault)?;
+    for one in said {
+        push_error(out, source, one)?;
     }
     Ok(())
 }
@@ -112,6 +136,7 @@ pub fn push_errors(alloc: Global, out: &mut Vec<u8>, source: Source<'_>) -> Resu
         (IsErrors source.entry.name.now source.entry.text.now out.old.items out.new.items) }
 {
     let found = faults(alloc, source.text, MOST)?;
-    push_each(out, source, &found)?;
-    push_ending(out, source.name, found.len())
+    let said = said_of(alloc, source, &found)?;
+    push_each(out, source, &said)?;
+    push_ending(out, source.name, said.len())
 }

@@ -4,5 +4,11 @@
 mod errors;
 mod line;
 mod messages;
+mod remarks;
+mod said;
+mod walk;
 
 pub use errors::{MOST, Source, push_errors};
+pub use remarks::push_remarks;
+pub use said::Said;
+pub use vax_asm_causes::Wanted;

@@ -1,7 +1,7 @@
 // A line of a source, as it is shown.
 
 ghost use Rattle.std.specs.Prelude.{◌≡◌, ◌≤◌, ◌++◌, OnOk, length, map, take};
-ghost use Rattle.vax_asm_errors.specs.Errors.{indent, is_text, line_at, shown, shown_line};
+ghost use Rattle.vax_asm_errors.specs.Errors.{indent, is_text, line_at, shown, shown_line, under, under_line};
 ghost use Rattle.vax_lines.specs.Lines.{lines};
 
 use vax_lines::next_line;
@@ -60,7 +60,7 @@ fn shown(byte: u8) -> u8
 
 /// Appends bytes as they are shown.
 #[tactic(auto, using(crate::proofs::Lines::byte_shown, crate::proofs::Lines::all_shown))]
-fn push_bytes(out: &mut Vec<u8>, bytes: &[u8]) -> Result<(), NoMemory>
+pub(crate) fn push_bytes(out: &mut Vec<u8>, bytes: &[u8]) -> Result<(), NoMemory>
     ensures { OnOk result (out.new.items ≡ out.old.items ++ map shown bytes.now) }
 {
     for byte in bytes {
@@ -81,4 +81,29 @@ pub(crate) fn push_line(out: &mut Vec<u8>, line: &[u8]) -> Result<(), NoMemory>
     ensures { OnOk result (out.new.items ≡ out.old.items ++ shown_line line.now) }
 {
     push_bytes(out, front(line, SHOWN))
+}
+
+/// What stands below a byte: a tab below a tab, else a blank.
+fn under(byte: u8) -> u8
+    ensures { result ≡ under byte }
+{
+    if byte == b'\t' { byte } else { b' ' }
+}
+
+/// Appends what stands below bytes.
+#[tactic(auto, using(crate::proofs::Lines::byte_under, crate::proofs::Lines::all_under))]
+fn push_blanks(out: &mut Vec<u8>, bytes: &[u8]) -> Result<(), NoMemory>
+    ensures { OnOk result (out.new.items ≡ out.old.items ++ map under bytes.now) }
+{
+    for byte in bytes {
+        out.push(under(*byte)).map_err(|_| NoMemory)?;
+    }
+    Ok(())
+}
+
+/// Appends what stands below a line in front of a column.
+pub(crate) fn push_under(out: &mut Vec<u8>, line: &[u8], column: usize) -> Result<(), NoMemory>
+    ensures { OnOk result (out.new.items ≡ out.old.items ++ under_line line.now column) }
+{
+    push_blanks(out, front(front(line, SHOWN), column))
 }

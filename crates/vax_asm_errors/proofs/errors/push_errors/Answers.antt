@@ -9,7 +9,9 @@ returns c =
     let name = c.args.source.name.now in
     let source = c.args.source.text.now in
     let found = c.in_ok-found.found.items in
+    let said = c.in_ok-said.said.items in
     let before = c.args.out.now.items in
-    let many : c.len.result ≡ length found = search rules in
-    all_added c.push_ending.result name source found c.len.result before c.push_each.new.out.items c.push_ending.new.out.items c.in_ok-found.ensures
-    (c.in_ok-push_each.ensures ∙ ap (λ l. before ++ flat_map (error name source) l) c.deref.ensures.value) many c.push_ending.ensures
+    let many : c.len.result ≡ length said = search rules in
+    all_added c.push_ending.result name source found said c.len.result before c.push_each.new.out.items c.push_ending.new.out.items c.in_ok-found.ensures
+    (c.in_ok-said.ensures.faults ∙ c.deref.ensures.value) c.in_ok-said.ensures.plain
+    (c.in_ok-push_each.ensures ∙ ap (λ l. before ++ flat_map (error name source) l) c.deref-2.ensures.value) many c.push_ending.ensures

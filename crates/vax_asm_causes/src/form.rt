@@ -1,0 +1,175 @@
+// Operands and expressions of no form.
+
+use crate::count::instruction;
+use crate::names::definition_of;
+use crate::statement::{is_mark, is_name, text_of};
+use crate::words::{Found, at, cause_at, decimal};
+use std::alloc::Global;
+use vax_isa::{Letter, OperandKind};
+use vax_lex::Piece;
+use vax_space::NoMemory;
+
+/// Whether a name looks like a register and is none: `R` and a digit, and more than `R15` is.
+pub(crate) fn looks_like_register(name: &[u8]) -> bool {
+    let Some((first, digits)) = name.split_first() else {
+        return false;
+    };
+    if (*first != b'R' && *first != b'r') || digits.len() < 2 || digits.len() > 3 {
+        return false;
+    }
+    match (digits.first(), digits.get(1)) {
+        (Some(b'1'), Some(b'0'..=b'5')) => digits.len() > 2,
+        (Some(b'0'..=b'9'), Some(b'0'..=b'9' | b'o' | b'O' | b'l' | b'L' | b'i' | b'I')) => true,
+        _ => false,
+    }
+}
+
+/// The first name that looks like a register and is none.
+fn false_register(line: &[u8], pieces: &[Piece]) -> Option<Piece> {
+    for piece in pieces {
+        if is_name(*piece) && looks_like_register(text_of(line, *piece)) {
+            return Some(*piece);
+        }
+    }
+    None
+}
+
+/// Why a branch's operand has no form, if it shows: no file can say where another's name is in a branch.
+fn branch_cause(
+    alloc: Global,
+    source: &[u8],
+    line: &[u8],
+    operand: &[Piece],
+) -> Result<Option<Found>, NoMemory> {
+    let Some(first) = operand.first() else {
+        return Ok(None);
+    };
+    let name = text_of(line, *first);
+    if !is_name(*first) {
+        let cause = cause_at(
+            alloc,
+            first.start,
+            &[b": a branch takes the place that it goes to"],
+        )?;
+        return Ok(Some(cause));
+    }
+    let cause = match definition_of(source, name) {
+        None => cause_at(
+            alloc,
+            first.start,
+            &[
+                b": a branch goes to a place of this file, and `",
+                name,
+                b"` isn't in it",
+            ],
+        )?,
+        Some(number) => {
+            let number = decimal(alloc, u64::from(number))?;
+            cause_at(
+                alloc,
+                first.start,
+                &[
+                    b": `",
+                    name,
+                    b"` stands on line ",
+                    &number,
+                    b", which isn't a place of this section or has a fault",
+                ],
+            )?
+        }
+    };
+    Ok(Some(cause))
+}
+
+/// Whether a kind of operand is stored to, or has to lie in memory.
+fn needs_place(kind: OperandKind) -> bool {
+    matches!(
+        kind.letter,
+        Letter::Modify | Letter::Write | Letter::Address | Letter::Field
+    )
+}
+
+/// Why the operand with this number, counted from 1, has no form, if it shows.
+fn operand_cause(
+    alloc: Global,
+    source: &[u8],
+    line: &[u8],
+    operand: &[Piece],
+    kind: OperandKind,
+    number: usize,
+) -> Result<Option<Found>, NoMemory> {
+    let Some(first) = operand.first() else {
+        return Ok(None);
+    };
+    if matches!(kind.letter, Letter::Branch) {
+        return branch_cause(alloc, source, line, operand);
+    }
+    if needs_place(kind) && is_mark(*first, b'#') {
+        let number = decimal(alloc, number as u64)?;
+        let cause = cause_at(
+            alloc,
+            first.start,
+            &[
+                b": operand ",
+                &number,
+                b" is a place, and `#` begins a value",
+            ],
+        )?;
+        return Ok(Some(cause));
+    }
+    Ok(None)
+}
+
+/// Why an instruction's operands have no form, if it shows.
+fn instruction_cause(
+    alloc: Global,
+    source: &[u8],
+    line: &[u8],
+    name: &[u8],
+    operands: &[&[Piece]],
+) -> Result<Option<Found>, NoMemory> {
+    let Some(row) = instruction(name) else {
+        return Ok(None);
+    };
+    for (i, (operand, kind)) in operands.iter().zip(row.operands.iter()).enumerate() {
+        let number = i.saturating_add(1);
+        if let Some(cause) = operand_cause(alloc, source, line, operand, *kind, number)? {
+            return Ok(Some(cause));
+        }
+    }
+    Ok(None)
+}
+
+/// Where the first empty operand would stand, if there is one.
+fn empty_operand(pieces: &[Piece], operands: &[&[Piece]]) -> Option<u32> {
+    if operands.iter().all(|operand| !operand.is_empty()) {
+        return None;
+    }
+    let last = pieces.last()?;
+    Some(last.start)
+}
+
+/// Why a statement has an operand of no form.
+pub(crate) fn form_cause(
+    alloc: Global,
+    source: &[u8],
+    line: &[u8],
+    operator: Piece,
+    pieces: &[Piece],
+    operands: &[&[Piece]],
+) -> Result<Found, NoMemory> {
+    if let Some(piece) = false_register(line, pieces) {
+        let name = text_of(line, piece);
+        return cause_at(alloc, piece.start, &[b": `", name, b"` is no register"]);
+    }
+    if let Some(start) = empty_operand(pieces, operands) {
+        return cause_at(alloc, start, &[b": an operand is empty"]);
+    }
+    match instruction_cause(alloc, source, line, text_of(line, operator), operands)? {
+        Some(cause) => Ok(cause),
+        None => match pieces.first() {
+            Some(first) => Ok(at(alloc, first.start)),
+            None => Ok(at(alloc, operator.start)),
+        },
+    }
+}

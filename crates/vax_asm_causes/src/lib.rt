@@ -1,0 +1,19 @@
+//! Where in a line a fault stands, and what causes it, in words (VAX MACRO and Instruction Set Reference Manual, "Diagnostic messages").
+//!
+//! What is proved of these is that the column lies within the line and that the words can be printed. Which they are is tested.
+#![tactic(auto)]
+
+mod cause;
+mod count;
+mod expansion;
+mod form;
+mod names;
+mod range;
+mod remarks;
+mod statement;
+mod words;
+
+pub use cause::{Cause, Place, cause_of};
+pub use expansion::expansion_of;
+pub use names::{Spot, definition_of, first_use, is_definition};
+pub use remarks::{Remark, Tone, Wanted, remarks_of};

@@ -1,0 +1,273 @@
+// Numbers and distances out of range.
+
+use crate::count::instruction;
+use crate::names::are_same;
+use crate::statement::{is_mark, number_of, text_of};
+use crate::words::{Found, at, cause_at, decimal};
+use std::alloc::Global;
+use vax_isa::{Letter, OperandKind};
+use vax_lex::{Piece, PieceKind};
+use vax_space::NoMemory;
+
+/// A number with its sign.
+#[derive(Clone, Copy)]
+struct Signed {
+    negative: bool,
+    size: u64,
+}
+
+/// The number that an operand is, behind `#` or not, if it is one and nothing else.
+fn number_in(operand: &[Piece]) -> Option<Signed> {
+    let (first, rest) = operand.split_first()?;
+    if is_mark(*first, b'#') {
+        return number_in_rest(rest);
+    }
+    number_in_rest(operand)
+}
+
+/// The number that pieces are, with a sign or without.
+fn number_in_rest(pieces: &[Piece]) -> Option<Signed> {
+    match pieces {
+        [number] => Some(Signed {
+            negative: false,
+            size: number_of(*number)?,
+        }),
+        [sign, number] if is_mark(*sign, b'-') => Some(Signed {
+            negative: true,
+            size: number_of(*number)?,
+        }),
+        _ => None,
+    }
+}
+
+/// What a field holds: from minus `below` on up to `above`.
+#[derive(Clone, Copy)]
+struct Field {
+    name: &'static [u8],
+    below: u64,
+    above: u64,
+    range: &'static [u8],
+}
+
+/// The field of so many bytes.
+fn field_of(width: u8) -> Option<Field> {
+    match width {
+        1 => Some(Field {
+            name: b"a byte",
+            below: 128,
+            above: 255,
+            range: b"-128 to 255",
+        }),
+        2 => Some(Field {
+            name: b"a word",
+            below: 32_768,
+            above: 65_535,
+            range: b"-32768 to 65535",
+        }),
+        4 => Some(Field {
+            name: b"a longword",
+            below: 2_147_483_648,
+            above: 4_294_967_295,
+            range: b"-2147483648 to 4294967295",
+        }),
+        _ => None,
+    }
+}
+
+fn fits(number: Signed, field: Field) -> bool {
+    if number.negative {
+        number.size <= field.below
+    } else {
+        number.size <= field.above
+    }
+}
+
+/// The width of a directive's items.
+fn width_of(name: &[u8]) -> u8 {
+    if are_same(name, b".BYTE") {
+        1
+    } else if are_same(name, b".WORD") {
+        2
+    } else if are_same(name, b".LONG") || are_same(name, b".ADDRESS") {
+        4
+    } else {
+        0
+    }
+}
+
+/// How a sign is written.
+fn sign_of(number: Signed) -> &'static [u8] {
+    if number.negative { b"-" } else { b"" }
+}
+
+/// The words on a number that doesn't fit its field.
+fn misfit_at(
+    alloc: Global,
+    column: u32,
+    number: Signed,
+    field: Field,
+) -> Result<Option<Found>, NoMemory> {
+    let size = decimal(alloc, number.size)?;
+    let sign = sign_of(number);
+    let cause = cause_at(
+        alloc,
+        column,
+        &[
+            b": ",
+            field.name,
+            b" holds ",
+            field.range,
+            b", not ",
+            sign,
+            &size,
+        ],
+    )?;
+    Ok(Some(cause))
+}
+
+/// Why a number doesn't fit its field, if it is one that doesn't.
+fn misfit(alloc: Global, operand: &[Piece], width: u8) -> Result<Option<Found>, NoMemory> {
+    let Some(number) = number_in(operand) else {
+        return Ok(None);
+    };
+    let Some(field) = field_of(width) else {
+        return Ok(None);
+    };
+    let Some(last) = operand.last() else {
+        return Ok(None);
+    };
+    if fits(number, field) {
+        return Ok(None);
+    }
+    misfit_at(alloc, last.start, number, field)
+}
+
+/// The first piece that is a number above 64 bits.
+fn wide_in(pieces: &[Piece]) -> Option<Piece> {
+    for piece in pieces {
+        if matches!(piece.kind, PieceKind::Wide) {
+            return Some(*piece);
+        }
+    }
+    None
+}
+
+/// The first 0 that stands behind a `/`.
+fn zero_divisor(pieces: &[Piece]) -> Option<Piece> {
+    let mut divides = false;
+    for piece in pieces {
+        if divides && number_of(*piece) == Some(0) {
+            return Some(*piece);
+        }
+        divides = is_mark(*piece, b'/');
+    }
+    None
+}
+
+/// What is said of a branch's operand.
+fn reach(
+    alloc: Global,
+    line: &[u8],
+    operand: &[Piece],
+    width: u8,
+) -> Result<Option<Found>, NoMemory> {
+    let Some(first) = operand.first() else {
+        return Ok(None);
+    };
+    let name = text_of(line, *first);
+    let (below, above) = if width == 1 {
+        (128, 127)
+    } else {
+        (32_768, 32_767)
+    };
+    let below = decimal(alloc, below)?;
+    let above = decimal(alloc, above)?;
+    let cause = cause_at(
+        alloc,
+        first.start,
+        &[
+            b": `",
+            name,
+            b"` is too far, the branch reaches -",
+            &below,
+            b" to ",
+            &above,
+            b" bytes from its end",
+        ],
+    )?;
+    Ok(Some(cause))
+}
+
+/// Why an operand of this kind is out of range, if it shows.
+fn operand_cause(
+    alloc: Global,
+    line: &[u8],
+    operand: &[Piece],
+    kind: OperandKind,
+) -> Result<Option<Found>, NoMemory> {
+    if matches!(kind.letter, Letter::Branch) {
+        return reach(alloc, line, operand, kind.width);
+    }
+    match operand.first() {
+        Some(first) if is_mark(*first, b'#') => misfit(alloc, operand, kind.width),
+        _ => Ok(None),
+    }
+}
+
+/// Why an instruction's operands are out of range, if it shows.
+fn instruction_cause(
+    alloc: Global,
+    line: &[u8],
+    name: &[u8],
+    operands: &[&[Piece]],
+) -> Result<Option<Found>, NoMemory> {
+    let Some(row) = instruction(name) else {
+        return Ok(None);
+    };
+    for (operand, kind) in operands.iter().zip(row.operands.iter()) {
+        if let Some(cause) = operand_cause(alloc, line, operand, *kind)? {
+            return Ok(Some(cause));
+        }
+    }
+    Ok(None)
+}
+
+/// Why a directive's items are out of range, if it shows.
+fn items_cause(
+    alloc: Global,
+    line: &[u8],
+    name: &[u8],
+    operands: &[&[Piece]],
+) -> Result<Option<Found>, NoMemory> {
+    let width = width_of(name);
+    for operand in operands {
+        if let Some(cause) = misfit(alloc, operand, width)? {
+            return Ok(Some(cause));
+        }
+    }
+    Ok(None)
+}
+
+/// Why a statement has a number or a distance out of range.
+pub(crate) fn range_cause(
+    alloc: Global,
+    line: &[u8],
+    operator: Piece,
+    pieces: &[Piece],
+    operands: &[&[Piece]],
+) -> Result<Found, NoMemory> {
+    if let Some(piece) = wide_in(pieces) {
+        return cause_at(alloc, piece.start, &[b": a number has at most 64 bits"]);
+    }
+    if let Some(piece) = zero_divisor(pieces) {
+        return cause_at(alloc, piece.start, &[b": a division by 0"]);
+    }
+    let name = text_of(line, operator);
+    if let Some(cause) = items_cause(alloc, line, name, operands)? {
+        return Ok(cause);
+    }
+    match instruction_cause(alloc, line, name, operands)? {
+        Some(cause) => Ok(cause),
+        None => Ok(at(alloc, operator.start)),
+    }
+}

@@ -1,0 +1,149 @@
+// A line as a statement: its label, its operator and its operands.
+
+ghost use Rattle.std.specs.Prelude.{◌≤◌, IfOk, length};
+
+use std::alloc::Global;
+use vax_lex::{Piece, PieceKind, TokenKind, pieces};
+use vax_space::NoMemory;
+
+/// The longest line of a source.
+pub(crate) const LONGEST: usize = 1024;
+
+/// The pieces of a line, of a long one those of its front.
+pub(crate) fn pieces_of(alloc: Global, line: &[u8]) -> Result<Vec<Piece>, NoMemory> {
+    let front = line.split_at(line.len().min(LONGEST)).0;
+    pieces(alloc, front).map_err(|_| NoMemory)
+}
+
+/// The bytes of a piece.
+pub(crate) fn text_of<'a>(line: &'a [u8], piece: Piece) -> &'a [u8] {
+    match line.get(piece.start as usize..piece.end as usize) {
+        Some(text) => text,
+        None => &[],
+    }
+}
+
+/// Whether a piece is this mark.
+pub(crate) fn is_mark(piece: Piece, mark: u8) -> bool {
+    match piece.kind {
+        PieceKind::Token(TokenKind::Mark(byte)) => byte == mark,
+        _ => false,
+    }
+}
+
+/// Whether a piece is a name.
+pub(crate) fn is_name(piece: Piece) -> bool {
+    matches!(piece.kind, PieceKind::Token(TokenKind::Name))
+}
+
+/// The value of a number.
+pub(crate) fn number_of(piece: Piece) -> Option<u64> {
+    match piece.kind {
+        PieceKind::Token(TokenKind::Number(value)) => Some(value),
+        _ => None,
+    }
+}
+
+/// The parts of a statement. An assignment has its name as a label, and no operator.
+#[derive(Clone, Copy)]
+pub(crate) struct Statement<'a> {
+    pub(crate) label: Option<Piece>,
+    pub(crate) operator: Option<Piece>,
+    pub(crate) operands: &'a [Piece],
+}
+
+/// What stands behind a mark, if a list begins with it.
+fn behind_mark<'a>(pieces: &'a [Piece], mark: u8) -> Option<&'a [Piece]> {
+    let (first, rest) = pieces.split_first()?;
+    if is_mark(*first, mark) {
+        return Some(rest);
+    }
+    None
+}
+
+/// What stands behind one mark or two.
+fn behind_marks<'a>(pieces: &'a [Piece], mark: u8) -> Option<&'a [Piece]> {
+    let rest = behind_mark(pieces, mark)?;
+    match behind_mark(rest, mark) {
+        Some(more) => Some(more),
+        None => Some(rest),
+    }
+}
+
+/// An operator and its operands, or none.
+fn operation<'a>(label: Option<Piece>, pieces: &'a [Piece]) -> Statement<'a> {
+    match pieces.split_first() {
+        None => Statement {
+            label,
+            operator: None,
+            operands: &[],
+        },
+        Some((operator, operands)) => Statement {
+            label,
+            operator: Some(*operator),
+            operands,
+        },
+    }
+}
+
+/// The statement of these pieces.
+pub(crate) fn parts_of<'a>(pieces: &'a [Piece]) -> Statement<'a> {
+    let Some((first, rest)) = pieces.split_first() else {
+        return operation(None, pieces);
+    };
+    if let Some(behind) = behind_marks(rest, b':') {
+        return operation(Some(*first), behind);
+    }
+    if let Some(operands) = behind_marks(rest, b'=') {
+        return Statement {
+            label: Some(*first),
+            operator: None,
+            operands,
+        };
+    }
+    operation(None, pieces)
+}
+
+/// How many brackets are open behind a piece.
+fn depth_behind(depth: u32, piece: Piece) -> u32 {
+    match piece.kind {
+        PieceKind::Token(TokenKind::Mark(b'<' | b'(' | b'[')) => depth.saturating_add(1),
+        PieceKind::Token(TokenKind::Mark(b'>' | b')' | b']')) => depth.saturating_sub(1),
+        _ => depth,
+    }
+}
+
+/// What stands behind the first piece.
+fn tail<'a>(pieces: &'a [Piece]) -> &'a [Piece] {
+    match pieces.split_first() {
+        Some((_, rest)) => rest,
+        None => &[],
+    }
+}
+
+/// The operands, which commas outside of brackets separate.
+pub(crate) fn operands_of<'a>(
+    alloc: Global,
+    pieces: &'a [Piece],
+) -> Result<Vec<&'a [Piece]>, NoMemory> {
+    let mut all = Vec::new(alloc);
+    if pieces.is_empty() {
+        return Ok(all);
+    }
+    let mut rest = pieces;
+    let mut count: usize = 0;
+    let mut depth: u32 = 0;
+    for piece in pieces {
+        if depth == 0 && is_mark(*piece, b',') {
+            let (one, behind) = rest.split_at(count.min(rest.len()));
+            all.push(one).map_err(|_| NoMemory)?;
+            rest = tail(behind);
+            count = 0;
+        } else {
+            depth = depth_behind(depth, *piece);
+            count = count.saturating_add(1);
+        }
+    }
+    all.push(rest).map_err(|_| NoMemory)?;
+    Ok(all)
+}

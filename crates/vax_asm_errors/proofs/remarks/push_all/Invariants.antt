@@ -1,0 +1,7 @@
+use Rattle.std.proofs.Common.{◌≡◌, ◌++◌, drop}
+use Rattle.std.specs.List.{flat_map}
+use Rattle.vax_asm_errors.specs.Remarks.{remark}
+use Rattle.vax_asm_errors.proofs.remarks.push_all.Given as goal
+
+abbrev pub invariant-loop-one : goal.invariant-loop-one
+invariant-loop-one l = l.out.items ++ flat_map (remark l.source.name.now l.source.text.now) (drop l.one-index l.all) ≡ l.fn.out.items ++ flat_map (remark l.source.name.now l.source.text.now) l.all

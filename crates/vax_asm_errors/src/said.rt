@@ -1,0 +1,119 @@
+// Faults as they are told.
+
+ghost use Rattle.std.specs.Prelude.{◌≡◌, All, IfOk, map};
+ghost use Rattle.vax_asm_causes.specs.Printed.{ArePrinted};
+ghost use Rattle.vax_asm_errors.specs.Errors.{IsPlain};
+
+use crate::errors::Source;
+use crate::line::{indent, line_at};
+use crate::walk::{Texts, texts_of};
+use std::alloc::Global;
+use vax_asm_causes::{Cause, Place, cause_of, expansion_of};
+use vax_asm_second::Fault;
+use vax_space::NoMemory;
+
+/// A fault as it is told: the column at which it is marked, counted from 0, and words on its cause. Behind an error in an expansion stands the
+/// expansion's line; else that is empty.
+#[derive(Drop)]
+pub struct Said {
+    pub fault: Fault,
+    pub column: u32,
+    pub cause: Vec<u8>,
+    pub expansion: Vec<u8>,
+}
+
+/// A column of a line that isn't too long; else the first.
+fn as_column(column: usize) -> u32 {
+    u32::try_from(column).unwrap_or(0)
+}
+
+/// A fault in an expansion, whose line has this text.
+fn said_inside(
+    alloc: Global,
+    source: Source<'_>,
+    line: &[u8],
+    text: &[u8],
+    expansion: Vec<u8>,
+    fault: Fault,
+) -> Result<Said, NoMemory>
+    requires { ArePrinted expansion.items }
+    ensures fault { IfOk result (λ s. s.fault ≡ fault) }
+    ensures plain { IfOk result IsPlain }
+{
+    let place = Place {
+        source: source.text,
+        number: fault.origin.line,
+        line: text,
+    };
+    let Cause { words, .. } = cause_of(alloc, place, fault.kind)?;
+    Ok(Said {
+        fault,
+        column: as_column(indent(line)),
+        cause: words,
+        expansion,
+    })
+}
+
+/// A fault of a line.
+fn said_there(
+    alloc: Global,
+    source: Source<'_>,
+    line: &[u8],
+    fault: Fault,
+) -> Result<Said, NoMemory>
+    ensures fault { IfOk result (λ s. s.fault ≡ fault) }
+    ensures plain { IfOk result IsPlain }
+{
+    let place = Place {
+        source: source.text,
+        number: fault.origin.line,
+        line,
+    };
+    let Cause { column, words } = cause_of(alloc, place, fault.kind)?;
+    Ok(Said {
+        fault,
+        column: as_column(column),
+        cause: words,
+        expansion: Vec::new(alloc),
+    })
+}
+
+/// A fault as it is told.
+fn one_said(
+    alloc: Global,
+    source: Source<'_>,
+    texts: &Texts,
+    fault: Fault,
+) -> Result<Said, NoMemory>
+    ensures fault { IfOk result (λ s. s.fault ≡ fault) }
+    ensures plain { IfOk result IsPlain }
+{
+    let line = line_at(source.text, fault.origin.line);
+    let Some(text) = texts.get(&fault.origin.place) else {
+        return said_there(alloc, source, line, fault);
+    };
+    let expansion = expansion_of(alloc, line, text)?;
+    if expansion.is_empty() {
+        return said_there(alloc, source, line, fault);
+    }
+    said_inside(alloc, source, line, text, expansion, fault)
+}
+
+/// Faults as they are told.
+#[tactic(auto, using(crate::proofs::Saying::said_added, crate::proofs::Saying::all_said))]
+pub(crate) fn said_of(
+    alloc: Global,
+    source: Source<'_>,
+    faults: &[Fault],
+) -> Result<Vec<Said>, NoMemory>
+    ensures faults { IfOk result (λ v. map (λ s. s.fault) v.items ≡ faults.now) }
+    ensures plain { IfOk result (λ v. All IsPlain v.items) }
+{
+    let texts = texts_of(alloc, source.text, faults)?;
+    let mut all = Vec::new(alloc);
+    for fault in faults {
+        let one = one_said(alloc, source, &texts, *fault)?;
+        all.push(one).map_err(|_| NoMemory)?;
+    }
+    Ok(all)
+}
