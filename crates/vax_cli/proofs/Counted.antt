@@ -1,4 +1,4 @@
--- So many names and distinct options are no more than 22 items.
+-- So many names and distinct options are no more than 32 items.
 use Rattle.std.proofs.Common.{◌≡◌, ◌≤◌, ◌+◌, ◌&&◌, ℕ, Bool, true, false, nat_le, List, [], ◌∷◌, length, Option, None, Some, is_none, refl, arith}
 use Rattle.std.proofs.lemmas.Bool.Decides.{nat_tests}
 use Rattle.std.specs.Option.{option_and_then}
@@ -36,7 +36,7 @@ given items =
     present (value key.Input items) + present (value key.System items) + present (value key.Schedule items) + present (value key.Frames items)
     + present (value key.Steps items) + present (value key.Turns items) + present (value key.Dump items) + present (value key.Record items)
     + present (value key.Base items) + present (value key.Format items) + present (value key.Script items) + present (value key.Seed items)
-    + present (value key.Size items) + present (value key.Strict items)
+    + present (value key.Size items) + present (value key.Strict items) + present (value key.Break items) + present (value key.Watch items)
 
 -- an option that wasn't there
 one_more : (k : Key) (word : Text) (items : List Item) → is_none (value k items) ≡ true → given (setting k word ∷ items) ≡ given items + 1
@@ -54,9 +54,11 @@ one_more key.Script word items e = omega (arith, present-some word, present-none
 one_more key.Seed word items e = omega (arith, present-some word, present-none (value key.Seed items) e)
 one_more key.Size word items e = omega (arith, present-some word, present-none (value key.Size items) e)
 one_more key.Strict word items e = omega (arith, present-some word, present-none (value key.Strict items) e)
+one_more key.Break word items e = omega (arith, present-some word, present-none (value key.Break items) e)
+one_more key.Watch word items e = omega (arith, present-some word, present-none (value key.Watch items) e)
 
-at_most_fourteen : (items : List Item) → given items ≤ 14
-at_most_fourteen items =
+few_given : (items : List Item) → given items ≤ 24
+few_given items =
     omega (
       arith,
       present-one (value key.Input items),
@@ -73,6 +75,8 @@ at_most_fourteen items =
       present-one (value key.Seed items),
       present-one (value key.Size items),
       present-one (value key.Strict items),
+      present-one (value key.Break items),
+      present-one (value key.Watch items),
     )
 
 both : (a b : Bool) → (a && b) ≡ true → (a ≡ true) × (b ≡ true)
@@ -93,28 +97,29 @@ few_names verb.Build count e = grind (arith, nat_tests)
 few_names verb.List count e = grind (arith, nat_tests)
 few_names verb.Listing count e = grind (arith, nat_tests)
 few_names verb.Console count e = grind (arith, nat_tests)
+few_names verb.Trace count e = grind (arith, nat_tests)
 few_names verb.Work count e = grind (arith, nat_tests)
 
-few_items : (v : Verb) (items : List Item) → (takes_files v (length (names items)) && are_distinct items) ≡ true → length items ≤ 22
+few_items : (v : Verb) (items : List Item) → (takes_files v (length (names items)) && are_distinct items) ≡ true → length items ≤ 32
 few_items v items e =
     let each = both (takes_files v (length (names items))) (are_distinct items) e in
-    omega (arith, counted items each.1, few_names v (length (names items)) each.0, at_most_fourteen items)
+    omega (arith, counted items each.1, few_names v (length (names items)) each.0, few_given items)
 
-short : (n : ℕ) → nat_le n 22 ≡ false → n ≤ 22 → ⊥
+short : (n : ℕ) → nat_le n 32 ≡ false → n ≤ 32 → ⊥
 short n e l = grind (arith, nat_tests)
 
-too_long : (v : Verb) (items : List Item) (b : Bool) → (takes_files v (length (names items)) && are_distinct items) ≡ b → nat_le (length items) 22 ≡ false → None ≡ checked v items
+too_long : (v : Verb) (items : List Item) (b : Bool) → (takes_files v (length (names items)) && are_distinct items) ≡ b → nat_le (length items) 32 ≡ false → None ≡ checked v items
 too_long v items true e long = absurd (short (length items) long (few_items v items e))
 too_long v items false e long = rw e refl
 
-by_length : (v : Verb) (items : List Item) (b : Bool) → nat_le (length items) 22 ≡ b → option_and_then (checked v) (at_most 22 items) ≡ checked v items
+by_length : (v : Verb) (items : List Item) (b : Bool) → nat_le (length items) 32 ≡ b → option_and_then (checked v) (at_most 32 items) ≡ checked v items
 by_length v items true e = rw e refl
 by_length v items false e = rw (e, ← too_long v items _ refl e) refl
 
--- more than 22 items are none of a command
-pub few_checked : (v : Verb) (items : Option (List Item)) → option_and_then (checked v) (option_and_then (at_most 22) items) ≡ option_and_then (checked v) items
+-- more than 32 items are none of a command
+pub few_checked : (v : Verb) (items : Option (List Item)) → option_and_then (checked v) (option_and_then (at_most 32) items) ≡ option_and_then (checked v) items
 few_checked v None = refl
 few_checked v (Some items) = by_length v items _ refl
 
-pub none_checked : (v : Verb) (items : Option (List Item)) → None ≡ option_and_then (at_most 22) items → None ≡ option_and_then (checked v) items
+pub none_checked : (v : Verb) (items : Option (List Item)) → None ≡ option_and_then (at_most 32) items → None ≡ option_and_then (checked v) items
 none_checked v items e = rw (← few_checked v items, ← e) refl

@@ -1,5 +1,6 @@
 pub mod Table
 pub mod Values
 pub mod Items
+pub mod Tracing
 pub mod Words
 pub mod Said

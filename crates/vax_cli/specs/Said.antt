@@ -5,10 +5,12 @@ use Rattle.std.specs.Global.{Global}
 use Rattle.std.specs.declared.string.String.{String}
 use Rattle.std.specs.Borrow.{Bor}
 use Rattle.vax_cli.specs.Words as words
-use Rattle.vax_cli.specs.Words.{Text, Said, bare, run, build, list, listing, console, work, about}
+use Rattle.vax_cli.specs.Words.{Text, Said, bare, run, build, list, listing, console, trace, work, about}
 use Rattle.vax_cli.specs.Items as plain
 use Rattle.vax_cli.specs.declared.command.DumpItem.{DumpItem}
+use Rattle.vax_cli.specs.Tracing as tracing_words
 use Rattle.vax_cli.specs.declared.command.Options.{Options}
+use Rattle.vax_cli.specs.declared.command.Tracing.{Tracing}
 use Rattle.vax_cli.specs.declared.command.Command.{Command}
 use Rattle.vax_cli.specs.declared.command.Command.TheVariants as command
 use Rattle.vax_cli.specs.declared.items.Item.{Item}
@@ -46,6 +48,9 @@ options o = record {
   strict = o.strict;
 }
 
+abbrev pub tracing : Tracing → tracing_words.Tracing
+tracing t = record { breaks = t.breaks.items; watches = t.watches.items }
+
 abbrev pub said : Command → Said
 said (command.Bare files o) = bare (names_of files.items) (options o)
 said (command.Run files o) = run (names_of files.items) (options o)
@@ -53,6 +58,7 @@ said (command.Build files base format) = build (names_of files.items) base forma
 said (command.List files base) = list (names_of files.items) base
 said (command.Listing files base) = listing (names_of files.items) base
 said (command.Console files base script o) = console (names_of files.items) base script.now (options o)
+said (command.Trace files base t o) = trace (names_of files.items) base (tracing t) (options o)
 said (command.Work seed size o) = work seed size (options o)
 said command.About = about
 
@@ -69,6 +75,12 @@ pub record AreWithin (o : words.Options) : Type 0 where
   pub turns : o.turns ≤ 10 ^ 15
   pub dumps : All IsDump o.dumps
 
+-- there are at most 16 addresses and watches, of 1 to 4,096 bytes each
+pub record IsTracing (t : tracing_words.Tracing) : Type 0 where
+  pub breaks : length t.breaks ≤ 16
+  pub watches : length t.watches ≤ 16
+  pub sized : All IsDump t.watches
+
 -- there are 1 to 8 files
 pub record AreFiles (files : List Text) : Type 0 where
   pub some : 1 ≤ length files
@@ -81,5 +93,6 @@ IsWithin (build files linked format) = AreFiles files
 IsWithin (list files linked) = AreFiles files
 IsWithin (listing files linked) = AreFiles files
 IsWithin (console files linked script o) = AreFiles files × AreWithin o
+IsWithin (trace files linked t o) = AreFiles files × IsTracing t × AreWithin o
 IsWithin (work seed size o) = (1 ≤ size) × (size ≤ 5000) × AreWithin o
 IsWithin about = Unit {0}

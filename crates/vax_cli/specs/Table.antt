@@ -11,7 +11,7 @@ Text = List ℕ
 
 -- the commands
 abbrev pub verbs : List Verb
-verbs = verb.Bare ∷ verb.Run ∷ verb.Build ∷ verb.List ∷ verb.Listing ∷ verb.Console ∷ verb.Work ∷ []
+verbs = verb.Bare ∷ verb.Run ∷ verb.Build ∷ verb.List ∷ verb.Listing ∷ verb.Console ∷ verb.Trace ∷ verb.Work ∷ []
 
 abbrev pub verb_name : Verb → Text
 verb_name verb.Bare = codes "bare"
@@ -20,6 +20,7 @@ verb_name verb.Build = codes "build"
 verb_name verb.List = codes "list"
 verb_name verb.Listing = codes "listing"
 verb_name verb.Console = codes "console"
+verb_name verb.Trace = codes "trace"
 verb_name verb.Work = codes "work"
 
 -- the options
@@ -38,6 +39,8 @@ key_name key.Script = codes "--script"
 key_name key.Seed = codes "--seed"
 key_name key.Size = codes "--size"
 key_name key.Strict = codes "--strict"
+key_name key.Break = codes "--break"
+key_name key.Watch = codes "--watch"
 
 -- the options that a command takes
 abbrev pub keys_of : Verb → List Key
@@ -47,6 +50,7 @@ keys_of verb.Build = key.Base ∷ key.Format ∷ []
 keys_of verb.List = key.Base ∷ []
 keys_of verb.Listing = key.Base ∷ []
 keys_of verb.Console = key.Script ∷ key.Base ∷ key.Input ∷ key.System ∷ key.Schedule ∷ key.Frames ∷ key.Steps ∷ key.Turns ∷ []
+keys_of verb.Trace = key.Base ∷ key.Input ∷ key.System ∷ key.Schedule ∷ key.Frames ∷ key.Steps ∷ key.Turns ∷ key.Dump ∷ key.Break ∷ key.Watch ∷ []
 keys_of verb.Work = key.Seed ∷ key.Size ∷ key.Schedule ∷ key.Frames ∷ key.Steps ∷ key.Turns ∷ key.Dump ∷ key.Record ∷ key.Strict ∷ []
 
 -- it takes so many files: one to eight, and `work` none
@@ -78,6 +82,8 @@ place key.Script = 10
 place key.Seed = 11
 place key.Size = 12
 place key.Strict = 13
+place key.Break = 14
+place key.Watch = 15
 
 abbrev pub is_same : Key → Key → Bool
 is_same a b = place a == place b

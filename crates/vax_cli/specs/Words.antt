@@ -4,6 +4,7 @@ use Rattle.std.specs.Option.{option_map, option_and_then}
 use Rattle.std.specs.Str.{bytes_eq}
 use Rattle.vax_cli.specs.Table.{Text as Word, keys_of, takes_files, verb_of}
 use Rattle.vax_cli.specs.Items.{Item, are_distinct, items_from, names, value}
+use Rattle.vax_cli.specs.Tracing.{Tracing, breaks_of}
 use Rattle.vax_cli.specs.Values.{base_of, dumps_of, format_of, frames_of, seed_of, size_of, steps_of, strictness, switch_of, turns_of}
 use Rattle.vax_cli.specs.declared.command.Base.{Base}
 use Rattle.vax_cli.specs.declared.command.Base.TheVariants as base
@@ -39,6 +40,7 @@ pub data Said : Type 0 where
   list : List Text → Base → Said
   listing : List Text → Base → Said
   console : List Text → Base → Text → Options → Said
+  trace : List Text → Base → Tracing → Options → Said
   work : ℕ → ℕ → Options → Said
   about : Said
 
@@ -80,6 +82,15 @@ console_of items =
     option_and_then (λ options. if is_session base options then Some (console (names items) base script options) else None)
     (options_of Halt items)) (base_of (value key.Base items))) (value key.Script items)
 
+-- a traced run takes no other system on the bare machine either
+abbrev pub trace_of : List Item → Option Said
+trace_of items =
+    option_and_then (λ base.
+    option_and_then (λ breaks.
+    option_and_then (λ watches.
+    option_and_then (λ options. if is_session base options then Some (trace (names items) base (record { breaks = breaks; watches = watches }) options) else None)
+    (options_of Halt items)) (dumps_of (value key.Watch items))) (breaks_of (value key.Break items))) (base_of (value key.Base items))
+
 abbrev pub work_of : List Item → Option Said
 work_of items =
     option_and_then (λ seed.
@@ -95,6 +106,7 @@ said_of verb.Build items = build_of items
 said_of verb.List items = option_map (λ base. list (names items) base) (base_of (value key.Base items))
 said_of verb.Listing items = option_map (λ base. listing (names items) base) (base_of (value key.Base items))
 said_of verb.Console items = console_of items
+said_of verb.Trace items = trace_of items
 said_of verb.Work items = work_of items
 
 -- a command takes so many files as it is given, and each option at most once

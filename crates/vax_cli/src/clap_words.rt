@@ -66,6 +66,15 @@ fn summary_of<'a>(verb: Verb) -> Summary<'a> {
                 Sources: docs/ASSEMBLER.md\n\
                 Scripts, exit statuses and kinds of faults: docs/MESSAGES.md",
         },
+        Verb::Trace => Summary {
+            name: "vax trace",
+            about: "Run a program, list its steps in the file vax.rec and report the registers on standard error",
+            example: "Example: the steps up to an address, and those of them that change a longword\n  \
+                vax trace COUNT.MAR --base bare --break 80000210 --watch 80000600:4\n\n\
+                Sources: docs/ASSEMBLER.md\n\
+                Listings of steps: docs/MACHINE.md\n\
+                Reports, exit statuses and kinds of faults: docs/MESSAGES.md",
+        },
         Verb::Work => Summary {
             name: "vax work",
             about: "Make a program from a number, run it, and report the registers on standard error",
@@ -136,6 +145,15 @@ fn value_and_help<'a>(key: Key) -> (&'a str, &'a str) {
             "on|off",
             "Answer by an exit status how the program ended, 15 where not by HALT, and for `vax run` \
                 16 where R0 has neither 0 nor 1; off where it isn't given",
+        ),
+        Key::Break => (
+            "LIST",
+            "Stop before a step, but for the first, at one of these addresses: 1 to 16 of eight \
+                hexadecimal digits with commas between them",
+        ),
+        Key::Watch => (
+            "LIST",
+            "Memory whose changes are listed: 1 to 16 items AAAAAAAA:N as for --dump",
         ),
     }
 }

@@ -7,6 +7,9 @@ pub type Names<'a> = ArrayVec<&'a str, 8>;
 /// The memory that a report shows, in order: at most 16 items.
 pub type Dumps = ArrayVec<DumpItem, 16>;
 
+/// Addresses before which a traced run stops: at most 16.
+pub type Breaks = ArrayVec<u32, 16>;
+
 /// What the words ask for.
 #[derive(PartialEq, Eq, Drop)]
 pub enum Command<'a> {
@@ -44,6 +47,13 @@ pub enum Command<'a> {
         script: &'a str,
         options: Options<'a>,
     },
+    /// `trace FILE..`: run a program and list its steps.
+    Trace {
+        files: Names<'a>,
+        base: Base,
+        tracing: Tracing,
+        options: Options<'a>,
+    },
     /// `work`: run a workload that is made from a number.
     Work {
         /// `--seed N`: the number; 1 where no word says it.
@@ -77,6 +87,15 @@ pub struct Options<'a> {
     pub recorded: bool,
     /// `--strict on` or `--strict off`: what the exit status tells of the end; nothing where no word says it.
     pub strict: Strictness,
+}
+
+/// What a traced run is given beside its options.
+#[derive(PartialEq, Eq, Drop)]
+pub struct Tracing {
+    /// `--break LIST`: the addresses before which it stops.
+    pub breaks: Breaks,
+    /// `--watch LIST`: the memory whose changes it lists.
+    pub watches: Dumps,
 }
 
 /// What the exit status of a run tells of its end.

@@ -14,5 +14,7 @@ mod read;
 mod table;
 mod values;
 
-pub use command::{Base, Command, DumpItem, Dumps, Format, Names, Options, Strictness};
+pub use command::{
+    Base, Breaks, Command, DumpItem, Dumps, Format, Names, Options, Strictness, Tracing,
+};
 pub use read::{WordsError, about, command_of};

@@ -3,16 +3,16 @@ ghost use Rattle.std.specs.Prelude.{◌≡◌, IfSome, None, length, true};
 ghost use Rattle.std.specs.Option.{option_and_then, option_map};
 ghost use Rattle.vax_cli.specs.Table.{keys_of, takes_files};
 ghost use Rattle.vax_cli.specs.Items.{items_from, names};
-ghost use Rattle.vax_cli.specs.Words.{asks_about, asks_help, behind, build_of, checked, command_of, console_of, is_session, options_of, said_of, work_of};
+ghost use Rattle.vax_cli.specs.Words.{asks_about, asks_help, behind, build_of, checked, command_of, console_of, is_session, options_of, said_of, trace_of, work_of};
 ghost use Rattle.vax_cli.specs.declared.command.Command.TheVariants.{About};
 ghost use Rattle.vax_cli.specs.Said.{AreFiles, AreWithin, IsWithin, items_of, names_of, options, said, texts};
 
-use crate::command::{Base, Command, Names, Options, Strictness};
+use crate::command::{Base, Command, Names, Options, Strictness, Tracing};
 use crate::items::{Item, Items, are_distinct, names_in, read_items, value_in};
 use crate::table::{Key, Verb, verb_of};
 use crate::values::{
-    base_of, dumps_of, format_of, frames_of, seed_of, size_of, steps_of, strictness, switch_of,
-    turns_of,
+    base_of, breaks_of, dumps_of, format_of, frames_of, seed_of, size_of, steps_of, strictness,
+    switch_of, turns_of,
 };
 
 /// What the options of a run say, whose exit status may tell so much of its end.
@@ -84,6 +84,28 @@ fn console_of<'a>(files: Names<'a>, items: &[Item<'a>]) -> Option<Command<'a>>
     })
 }
 
+fn trace_of<'a>(files: Names<'a>, items: &[Item<'a>]) -> Option<Command<'a>>
+    requires files { names_of files.items ≡ names (items_of items.now) }
+    requires are { AreFiles (names_of files.items) }
+    ensures said { option_map said result ≡ trace_of (items_of items.now) }
+    ensures within { IfSome result (λ c. IsWithin (said c)) }
+{
+    let base = base_of(value_in(Key::Base, items))?;
+    let breaks = breaks_of(value_in(Key::Break, items))?;
+    let watches = dumps_of(value_in(Key::Watch, items))?;
+    let options = options_of(Strictness::Halt, items)?;
+    if !is_session(base, &options) {
+        return None;
+    }
+    let tracing = Tracing { breaks, watches };
+    Some(Command::Trace {
+        files,
+        base,
+        tracing,
+        options,
+    })
+}
+
 fn work_of<'a>(items: &[Item<'a>]) -> Option<Command<'a>>
     ensures said { option_map said result ≡ work_of (items_of items.now) }
     ensures within { IfSome result (λ c. IsWithin (said c)) }
@@ -124,6 +146,7 @@ fn said_of<'a>(verb: Verb, files: Names<'a>, items: &[Item<'a>]) -> Option<Comma
             base: base_of(value_in(Key::Base, items))?,
         }),
         Verb::Console => console_of(files, items),
+        Verb::Trace => trace_of(files, items),
         Verb::Work => work_of(items),
     }
 }

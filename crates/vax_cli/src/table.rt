@@ -11,6 +11,7 @@ pub(crate) enum Verb {
     List,
     Listing,
     Console,
+    Trace,
     Work,
 }
 
@@ -31,16 +32,19 @@ pub(crate) enum Key {
     Seed,
     Size,
     Strict,
+    Break,
+    Watch,
 }
 
 /// The commands.
-pub(crate) const VERBS: [Verb; 7] = [
+pub(crate) const VERBS: [Verb; 8] = [
     Verb::Bare,
     Verb::Run,
     Verb::Build,
     Verb::List,
     Verb::Listing,
     Verb::Console,
+    Verb::Trace,
     Verb::Work,
 ];
 
@@ -56,6 +60,7 @@ impl Verb {
             Verb::List => "list",
             Verb::Listing => "listing",
             Verb::Console => "console",
+            Verb::Trace => "trace",
             Verb::Work => "work",
         }
     }
@@ -98,6 +103,18 @@ impl Verb {
                 Key::Steps,
                 Key::Turns,
             ],
+            Verb::Trace => &[
+                Key::Base,
+                Key::Input,
+                Key::System,
+                Key::Schedule,
+                Key::Frames,
+                Key::Steps,
+                Key::Turns,
+                Key::Dump,
+                Key::Break,
+                Key::Watch,
+            ],
             Verb::Work => &[
                 Key::Seed,
                 Key::Size,
@@ -118,9 +135,13 @@ impl Verb {
     {
         match self {
             Verb::Work => count == 0,
-            Verb::Bare | Verb::Run | Verb::Build | Verb::List | Verb::Listing | Verb::Console => 1
-                <= count
-                && count <= 8,
+            Verb::Bare
+            | Verb::Run
+            | Verb::Build
+            | Verb::List
+            | Verb::Listing
+            | Verb::Console
+            | Verb::Trace => 1 <= count && count <= 8,
         }
     }
 }
@@ -145,6 +166,8 @@ impl Key {
             Key::Seed => "--seed",
             Key::Size => "--size",
             Key::Strict => "--strict",
+            Key::Break => "--break",
+            Key::Watch => "--watch",
         }
     }
 

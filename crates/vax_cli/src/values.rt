@@ -3,9 +3,10 @@ ghost use Rattle.std.specs.Prelude.{◌≡◌, ◌<◌, ◌≤◌, ◌^◌, ◌�
 ghost use Rattle.std.specs.List.{slice_split};
 ghost use Rattle.std.specs.Option.{option_copied, option_map};
 ghost use Rattle.vax_cli.specs.Values.{address_of, base_of, dump_item, dump_items, dumps_of, format_of, frames_of, is_comma, parts_behind, seed_of, size_of, steps_of, strictness, switch_of, turns_of};
+ghost use Rattle.vax_cli.specs.Tracing.{breaks_of};
 ghost use Rattle.vax_cli.specs.Said.{IsDump};
 
-use crate::command::{Base, DumpItem, Dumps, Format, Strictness};
+use crate::command::{Base, Breaks, DumpItem, Dumps, Format, Strictness};
 use crate::number::{decimal_from, digits, number_of};
 use arrayvec::ArrayVec;
 
@@ -151,5 +152,30 @@ pub(crate) fn dumps_of(word: Option<&str>) -> Option<Dumps>
     match word {
         None => Some(ArrayVec::new()),
         Some(list) => dump_items(list),
+    }
+}
+
+/// Addresses with commas between them, at most sixteen.
+#[tactic(auto, using(crate::proofs::Prefixes::few, crate::proofs::Prefixes::too_many, crate::proofs::Prefixes::cut_off))]
+fn break_list(list: &str) -> Option<Breaks>
+    ensures { option_map (λ v. v.items) result ≡ breaks_of (Some list.now) }
+{
+    let mut breaks = ArrayVec::new();
+    let mut rest = Some(list);
+    while let Some(text) = rest {
+        let (word, behind) = first_part(text);
+        breaks.try_push(address_of(word)?).ok()?;
+        rest = behind;
+    }
+    Some(breaks)
+}
+
+/// The addresses before which a traced run stops, none where no word says it.
+pub(crate) fn breaks_of(word: Option<&str>) -> Option<Breaks>
+    ensures { option_map (λ v. v.items) result ≡ breaks_of (option_copied word.entry) }
+{
+    match word {
+        None => Some(ArrayVec::new()),
+        Some(list) => break_list(list),
     }
 }

@@ -2,3 +2,4 @@ pub mod RunLaws
 pub mod RoomLaws
 pub mod LoadLaws
 pub mod SessionLaws
+pub mod TraceLaws

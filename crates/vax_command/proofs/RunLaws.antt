@@ -85,7 +85,7 @@ reported_at m file place steps why dumps s means i =
     let units : units_of m.cpu.latch ≡ units_done place = ap units_of means.processor.open_one ∙ open_units place in
     report ((k i).core) why (s i) (units i) ((k i).taken) dumps
 
-reported : (m : Engine) (file : Option BlockFile) (s : Stage) (why : Last) (dumps : List Dump) → m.steps ≡ s.steps → Means m file s.place → machine_report m why dumps ≡ run_report s why dumps
+pub reported : (m : Engine) (file : Option BlockFile) (s : Stage) (why : Last) (dumps : List Dump) → m.steps ≡ s.steps → Means m file s.place → machine_report m why dumps ≡ run_report s why dumps
 unfolding run_report
 reported m file s why dumps steps means = reported_at m file s.place s.steps why dumps steps means
 
@@ -93,7 +93,7 @@ outputs : (s : Stage) (lines : Text) (why : Last) (dumps : List Dump) (grown : C
 unfolding run_output
 outputs s lines why dumps grown e = ap (append (both (machine_at s.place).output lines)) e
 
-as_shown : (s : Stage) (items : List DumpItem) (dumps : List Dump) → dumps ≡ map (shown (machine_at s.place).memory) items → dumps ≡ dumps_at s items
+pub as_shown : (s : Stage) (items : List DumpItem) (dumps : List Dump) → dumps ≡ map (shown (machine_at s.place).memory) items → dumps ≡ dumps_at s items
 unfolding dumps_at
 as_shown s items dumps e = e
 
@@ -176,7 +176,7 @@ pub record Starts (setup : Setup) (m : Engine) : Type 0 where
   pub low : setup.limits.turns < 2 ^ 64 - 1
 
 module _ (setup : Setup) (m : Engine) (f : Starts setup m) where
-  proper : BlockFile → IsProper (run_of setup)
+  pub proper : BlockFile → IsProper (run_of setup)
   proper file = record {
     space = subst IsSpace f.areas f.is_fresh.space;
     memory = (f.is_fresh.means file).memory.areas ∙ ap layout f.areas;
@@ -190,8 +190,8 @@ module _ (setup : Setup) (m : Engine) (f : Starts setup m) where
       (did (At setup.start) (f.is_fresh.means file) (none_pinned m setup.frames setup.start f.is_fresh))
 
   -- it stopped by itself
-  abbrev stop_of : (file : BlockFile) (count : ℕ) (why : Why) → Runs setup.limits setup.areas setup.rules (before_turns setup) count → stops setup.limits.steps setup.limits.turns (after_turns setup count) ≡ Some why → Stop setup
-  stop_of file count why goes stopped =
+  abbrev pub stop_when : (file : BlockFile) (count : ℕ) (why : Why) → Runs setup.limits setup.areas setup.rules (before_turns setup) count → stops setup.limits.steps setup.limits.turns (after_turns setup count) ≡ Some why → Stop setup
+  stop_when file count why goes stopped =
       let g : GoesOnFor setup.limits (run_of setup) count = record { going = goes.going } in
       let comes = run_comes setup.limits (run_of setup) count g in
       record {
@@ -225,7 +225,7 @@ module _ (outside : Outside) (setup : Setup) (m n : Engine) (f : Starts setup m)
   wrote_out told p w = subst (λ (c : Channels). Grew outside.sink.before.told mid.told c) (all_of_it setup.limits.listed b p w.more silent_start w.is) w.grew
 
   -- the report behind what the run wrote
-  behind : (s : Stage) (lines : Text) (why : Last) (dumps : List Dump) (status : Status) (grown : Channels) → Grew outside.sink.before.told mid.told (both (machine_at s.place).output lines) → mid.faults.count ≡ outside.sink.before.faults.count → grown ≡ only Report (run_report s why dumps) → EndsFrom mid outside.sink.after status grown result → Ends outside.sink status (run_output s lines why dumps) result
+  pub behind : (s : Stage) (lines : Text) (why : Last) (dumps : List Dump) (status : Status) (grown : Channels) → Grew outside.sink.before.told mid.told (both (machine_at s.place).output lines) → mid.faults.count ≡ outside.sink.before.faults.count → grown ≡ only Report (run_report s why dumps) → EndsFrom mid outside.sink.after status grown result → Ends outside.sink status (run_output s lines why dumps) result
   behind s lines why dumps status grown wrote quiet is ends =
       subst (λ (g : Channels). Ends outside.sink status g result) (outputs s lines why dumps grown is) (ends_after outside.sink.before mid outside.sink.after status (both (machine_at s.place).output lines) grown result wrote quiet ends)
 
@@ -246,7 +246,7 @@ module _ (outside : Outside) (setup : Setup) (m n : Engine) (f : Starts setup m)
         record {
           meant = status;
           grown = run_output s (recorded setup p) (last_of why) (dumps_at s setup.items);
-          so = inl (record { stop = stop_of setup m f file w.count why w.goes (w.stopped ∙ is); answer = r.0 ∙ ap (λ (k : Core). status_of setup.strict k why) (core_at n read.before.told p.place w.tracks.means); wrote = refl; blocks = inl (ran_and_read setup w.count file read.before.told outside.pages.after.told w.few w.moved reads unread) });
+          so = inl (record { stop = stop_when setup m f file w.count why w.goes (w.stopped ∙ is); answer = r.0 ∙ ap (λ (k : Core). status_of setup.strict k why) (core_at n read.before.told p.place w.tracks.means); wrote = refl; blocks = inl (ran_and_read setup w.count file read.before.told outside.pages.after.told w.few w.moved reads unread) });
           ends = behind s (recorded setup p) (last_of why) (dumps_at s setup.items) status grown (wrote_out (Some file) p w.wrote) quiet text ends;
         }
     whole_by file w (inr r) =
@@ -256,7 +256,7 @@ module _ (outside : Outside) (setup : Setup) (m n : Engine) (f : Starts setup m)
         record {
           meant = status;
           grown = run_output s (recorded setup p) lasts.PageFault [];
-          so = inr (up r.0, inl (record { stop = stop_of setup m f file w.count why w.goes (w.stopped ∙ is); answer = r.1; wrote = refl; blocks = ran_and_read setup w.count file read.before.told outside.pages.after.told w.few w.moved reads unread }));
+          so = inr (up r.0, inl (record { stop = stop_when setup m f file w.count why w.goes (w.stopped ∙ is); answer = r.1; wrote = refl; blocks = ran_and_read setup w.count file read.before.told outside.pages.after.told w.few w.moved reads unread }));
           ends = behind s (recorded setup p) lasts.PageFault [] status grown (wrote_out (Some file) p w.wrote) quiet text ends;
         }
 
@@ -335,7 +335,7 @@ module _ (outside : Outside) (setup : Setup) (m n : Engine) (f : Starts setup m)
       record {
         meant = status_of setup.strict (machine_at s.place).core w.why;
         grown = run_output s (recorded setup p) (last_of w.why) (dumps_at s setup.items);
-        so = inl (record { stop = stop_of setup m f file w.count w.why w.goes w.stopped; answer = refl; wrote = refl; blocks = inr (rose, w.moved) });
+        so = inl (record { stop = stop_when setup m f file w.count w.why w.goes w.stopped; answer = refl; wrote = refl; blocks = inr (rose, w.moved) });
         ends = inr (record { answer = refl; prefix = lost_prefix (Some file) p (last_of w.why) (dumps_at s setup.items) w.wrote; cause = rose });
       }
 

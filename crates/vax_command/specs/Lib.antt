@@ -13,3 +13,5 @@ pub mod Fresh
 pub mod Running
 pub mod SessionWent
 pub mod Holding
+pub mod Tracing
+pub mod TracingEnds

@@ -11,6 +11,7 @@ mod refusal;
 mod run;
 mod session;
 mod status;
+mod trace;
 
 pub use load::{Given, load_files, load_options, load_run};
 pub use name::Name;
@@ -19,3 +20,4 @@ pub use refusal::refuse;
 pub use run::{prepare, report, run_programs};
 pub use session::hold_session;
 pub use status::Status;
+pub use trace::trace_programs;

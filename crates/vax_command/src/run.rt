@@ -59,7 +59,7 @@ pub fn report<K: Sink>(
 }
 
 /// Reads the memory for which there is room, and writes the report on a machine that stopped.
-fn report_all<K: Sink, F: PageFile>(
+pub(crate) fn report_all<K: Sink, F: PageFile>(
     machine: Machine,
     last: Last,
     room: Room,
@@ -182,7 +182,7 @@ pub fn prepare(
 }
 
 /// The same, and room for the memory that the report is to show.
-fn prepare_run(
+pub(crate) fn prepare_run(
     alloc: Global,
     programs: &Programs,
     input: Vec<u8>,

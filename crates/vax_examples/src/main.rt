@@ -16,7 +16,7 @@ use vax_top::vax_main;
 const CALLS: &str = "calls.txt";
 
 /// The files of rows.
-const ROWS: [&str; 11] = [
+const ROWS: [&str; 12] = [
     "rows/pages.txt",
     "rows/instructions.txt",
     "rows/modes.txt",
@@ -26,6 +26,7 @@ const ROWS: [&str; 11] = [
     "rows/images.txt",
     "rows/executive.txt",
     "rows/console.txt",
+    "rows/traces.txt",
     "rows/refusals.txt",
     "rows/failures.txt",
 ];

@@ -1,2 +1,3 @@
 pub mod SourceLaws
 pub mod TopLaws
+pub mod TracingLaws

@@ -10,9 +10,9 @@ use Rattle.vax_space.specs.declared.Area.{Area}
 use Rattle.vax_image.specs.declared.Image.{Image}
 use Rattle.vax_asm_listing.specs.Listed as listed
 use Rattle.vax_flat.specs.Parts.{machine_at}
-use Rattle.vax_machine.specs.Paged.{Why}
+use Rattle.vax_machine.specs.Paged.{Why, ByEnding, BySteps, ByTurns}
 use Rattle.vax_program.specs.Program.{Refusal, Source, Link as FromLinker, InImage}
-use Rattle.vax_cli.specs.Words.{Text, Options, Said, bare, run, build, list, listing, console, work, about, command_of}
+use Rattle.vax_cli.specs.Words.{Text, Options, Said, bare, run, build, list, listing, console, trace, work, about, command_of}
 use Rattle.vax_cli.specs.declared.command.Base as words_base
 use Rattle.vax_cli.specs.declared.command.Format.{Format}
 use Rattle.vax_cli.specs.declared.command.Strictness.{Strictness}
@@ -25,8 +25,11 @@ use Rattle.vax_command.specs.Running.{IsFaulty, IsRunning, LacksMemory, Ran, Run
 use Rattle.vax_top.specs.Loaded.{IsRefused, image_from, refused_as, sources_image}
 use Rattle.vax_command.specs.Reading.{HasTexts, ReadEnds, Reads, Texts, of_options, texts_of}
 use Rattle.vax_command.specs.Status.{refusal, refusal_growth}
-use Rattle.vax_top.specs.Top.{Carries, Comes, CommandComes, Does, ImageDoes, IsAbout, IsFile, IsListing, IsSourceListing, IsRunOf, IsSessionOf, IsWriting, RanOf, RunDoes, SessionDoes, base_for, reads, reads_of, run_of, session_of, session_programs}
+use Rattle.vax_top.specs.Top.{Carries, Comes, CommandComes, Does, ImageDoes, IsAbout, IsFile, IsListing, IsSourceListing, IsRunOf, IsSessionOf, IsWriting, RanOf, RunDoes, SessionDoes, TraceDoes, base_for, reads, reads_of, run_of, session_of, session_programs}
 use Rattle.vax_command.specs.Setup.{Setup}
+use Rattle.vax_command.specs.Tracing.{Traced, TracesSo, answer_of}
+use Rattle.vax_command.specs.Tracing as traced_run
+use Rattle.vax_cli.specs.Tracing.{Tracing}
 use Rattle.vax_command.specs.Went.{IsCut, IsRunAnswer, IsUnread, WentFrom}
 use Rattle.vax_command.specs.declared.status.Status.{Status}
 use Rattle.vax_command.specs.declared.status.Status.TheVariants.{Done, Usage, Missing, Large, Refused, Link, Schedule, Image as BadImage, Turns, PageFault, ReadFault, WriteFault, NoMemory, NotHalted, Unsuccessful}
@@ -69,7 +72,7 @@ module _ (outside : Outside) (loaded : Result Loaded Refusal) (texts : Texts) (o
   session_held program is r = record { meant = r.meant; grown = r.grown; so = as_held program r.meant r.grown is r.so; ends = r.ends }
 
 module _ (seen : Around) where
-  no_memory : (said : Said) (status : Status) (grown : Channels) → LacksMemory seen.pages status grown → CommandComes seen said status grown
+  pub no_memory : (said : Said) (status : Status) (grown : Channels) → LacksMemory seen.pages status grown → CommandComes seen said status grown
   no_memory said status grown e = let is : status ≡ NoMemory = e.0 in rw is (inl (tt, e.1, e.2))
 
   run_comes : (said : Said) (names : List Text) (options : Options) (script : Option Text) (loaded : Texts → Result Loaded Refusal) (texts : Texts) (status : Status) (grown : Channels) → reads_of said ≡ names ++ of_options options script
@@ -270,6 +273,29 @@ module _ (seen : Around) (names : List Text) (grown : Channels) where
   console_allowed loaded texts options status (inl r) = refused_allowed loaded status r.refused r.wrote
   console_allowed loaded texts options status (inr d) = held_allowed d.0 texts options status d.2
 
+  answer_allowed : (why : Why) → Allowed seen names grown (answer_of why)
+  answer_allowed (ByEnding ending) = tt
+  answer_allowed BySteps = tt
+  answer_allowed ByTurns = tt
+
+  traced_cut_allowed : (s : Traced) (status : Status) → HasFailed seen.pages → traced_run.IsUnread s status grown ⊎ traced_run.IsCut s status grown → Allowed seen names grown status
+  traced_cut_allowed s status r (inl u) = subst (Allowed seen names grown) (sym u.answer) r
+  traced_cut_allowed s status r (inr u) = subst (Allowed seen names grown) (sym u.answer) r
+
+  traced_allowed : (told : Option BlockFile) (s : Traced) (status : Status) → traced_run.WentFrom told (outside_of seen) s status grown → Allowed seen names grown status
+  traced_allowed None s status h = run_allowed Off status h
+  traced_allowed (Some file) s status (inl w) = subst (Allowed seen names grown) (sym w.answer) (answer_allowed w.stop.why)
+  traced_allowed (Some file) s status (inr (inl w)) = traced_cut_allowed s status w.0 w.1
+  traced_allowed (Some file) s status (inr (inr w)) = subst (Allowed seen names grown) (sym w.1.answer) tt
+
+  traces_allowed : (program : Loaded) (texts : Texts) (tracing : Tracing) (options : Options) (status : Status) → TracesSo (outside_of seen) program texts.input texts.schedule tracing options status grown → Allowed seen names grown status
+  traces_allowed program texts tracing options status (inl m) = planned_allowed _ texts.schedule status m.fault m.wrote
+  traces_allowed program texts tracing options status (inr r) = traced_allowed seen.pages.before.told _ status r.went
+
+  trace_allowed : (loaded : Result Loaded Refusal) (texts : Texts) (tracing : Tracing) (options : Options) (status : Status) → TraceDoes (outside_of seen) loaded texts tracing options status grown → Allowed seen names grown status
+  trace_allowed loaded texts tracing options status (inl r) = refused_allowed loaded status r.refused r.wrote
+  trace_allowed loaded texts tracing options status (inr d) = traces_allowed d.0 texts tracing options status d.2
+
   image_allowed : (built : Result Image Refusal) (Writes : Image → Text → Type 0) (status : Status) → ImageDoes seen.pages built Writes status grown → Allowed seen names grown status
   image_allowed built Writes status (inl r) = refused_allowed built status r.refused r.wrote
   image_allowed built Writes status (inr b) = subst (Allowed seen names grown) (sym b.0.answer) tt
@@ -283,6 +309,8 @@ module _ (seen : Around) (grown : Channels) where
   carried_allowed (listing names linked) files status d = image_allowed seen names grown _ (IsSourceListing (base_for linked) files) status d
   carried_allowed (console names linked script options) files status d =
       let texts = texts_of (length names) options (Some script) files in console_allowed seen (reads_of (console names linked script options)) grown (session_programs linked texts) texts options status d
+  carried_allowed (trace names linked tracing options) files status d =
+      let texts = texts_of (length names) options None files in trace_allowed seen (reads_of (trace names linked tracing options)) grown (session_programs linked texts) texts tracing options status d
   carried_allowed (work seed size options) files status d = does_allowed seen (of_options options None) grown _ _ _ options status d
   carried_allowed about files status d = subst (Allowed seen [] grown) (sym d.1) tt
 

@@ -4,7 +4,8 @@ use Rattle.std.specs.Option.{option_map_or}
 use Rattle.vax_outside.specs.Channels.{Channels, only}
 use Rattle.vax_outside.specs.Blocks.{BlockFile}
 use Rattle.vax_outside.specs.declared.traits.Chan.TheVariants as channel
-use Rattle.vax_cli.specs.Words.{Text, Options, Said, bare, run, build, list, listing as source_listing, console, work, about, command_of}
+use Rattle.vax_cli.specs.Words.{Text, Options, Said, bare, run, build, list, listing as source_listing, console, trace, work, about, command_of}
+use Rattle.vax_cli.specs.Tracing.{Tracing}
 use Rattle.vax_cli.specs.declared.command.Base as words_base
 use Rattle.vax_cli.specs.declared.command.Base.TheVariants as words_bases
 use Rattle.vax_cli.specs.declared.command.Format.{Format}
@@ -25,6 +26,7 @@ use Rattle.vax_command.specs.Reading.{ReadEnds, Reads, Texts, of_options, texts_
 use Rattle.vax_command.specs.Loaded.{Loaded}
 use Rattle.vax_command.specs.Running.{LacksMemory, RunsSo}
 use Rattle.vax_command.specs.Holding.{HeldSo}
+use Rattle.vax_command.specs.Tracing.{TracesSo}
 use Rattle.vax_command.specs.Status.{refusal_growth}
 use Rattle.vax_command.specs.declared.status.Status.{Status}
 use Rattle.vax_command.specs.declared.status.Status.TheVariants.{Done, NoMemory, Usage}
@@ -37,6 +39,7 @@ reads_of (build names linked format) = names
 reads_of (list names linked) = names
 reads_of (source_listing names linked) = names
 reads_of (console names linked script options) = names ++ of_options options (Some script)
+reads_of (trace names linked tracing options) = names ++ of_options options None
 reads_of (work seed size options) = of_options options None
 reads_of about = []
 
@@ -61,6 +64,12 @@ abbrev pub SessionDoes : Outside → Result Loaded Refusal → Texts → Options
 SessionDoes outside loaded texts options status grown =
     IsTurnedAway outside.pages loaded status grown
     ⊎ ((program : Loaded) × (loaded ≡ Ok program) × HeldSo outside program texts.input texts.schedule texts.script options status grown)
+
+-- a traced run: any other program is run and its steps are listed, unless its schedule has a fault
+abbrev pub TraceDoes : Outside → Result Loaded Refusal → Texts → Tracing → Options → Status → Channels → Type 0
+TraceDoes outside loaded texts tracing options status grown =
+    IsTurnedAway outside.pages loaded status grown
+    ⊎ ((program : Loaded) × (loaded ≡ Ok program) × TracesSo outside program texts.input texts.schedule tracing options status grown)
 
 -- the bytes of an image in a version of the format
 abbrev pub IsFile : Format → Image → Text → Type 0
@@ -107,6 +116,11 @@ abbrev pub IsSessionOf : Outside → Result Loaded Refusal → Texts → Options
 IsSessionOf outside loaded texts options status grown =
     LacksMemory outside.pages status grown ⊎ SessionDoes outside loaded texts options status grown
 
+-- a traced run went so, or memory was refused before it
+abbrev pub IsTraceOf : Outside → Result Loaded Refusal → Texts → Tracing → Options → Status → Channels → Type 0
+IsTraceOf outside loaded texts tracing options status grown =
+    LacksMemory outside.pages status grown ⊎ TraceDoes outside loaded texts tracing options status grown
+
 -- an image was written so, or memory was refused before
 abbrev pub IsWriting : Change BlockFile → Result Image Refusal → (Image → Text → Type 0) → Status → Channels → Type 0
 IsWriting pages built Writes status grown = LacksMemory pages status grown ⊎ ImageDoes pages built Writes status grown
@@ -136,6 +150,10 @@ work_programs seed size texts = user_loaded (workload seed size ∷ []) executiv
 abbrev pub session_of : Outside → (Texts → Result Loaded Refusal) → Texts → Options → Status → Channels → Type 0
 session_of outside loaded texts options status grown = SessionDoes outside (loaded texts) texts options status grown
 
+-- the texts of a traced run come to these programs, and it went so
+abbrev pub trace_of : Outside → (Texts → Result Loaded Refusal) → Texts → Tracing → Options → Status → Channels → Type 0
+trace_of outside loaded texts tracing options status grown = TraceDoes outside (loaded texts) texts tracing options status grown
+
 -- the base of a word
 abbrev pub base_for : words_base.Base → Base
 base_for words_bases.User = bases.User
@@ -157,6 +175,8 @@ Does outside (source_listing names linked) files status grown =
     ImageDoes outside.pages (sources_image (base_for linked) files) (IsSourceListing (base_for linked) files) status grown
 Does outside (console names linked script options) files status grown =
     session_of outside (session_programs linked) (texts_of (length names) options (Some script) files) options status grown
+Does outside (trace names linked tracing options) files status grown =
+    trace_of outside (session_programs linked) (texts_of (length names) options None files) tracing options status grown
 Does outside about files status grown =
     (text : Text) × (status ≡ Done) × (grown ≡ only channel.Out text) × outside.pages.same
 

@@ -31,7 +31,7 @@ fn load_under(alloc: Global, texts: &[Vec<u8>], system: Option<Vec<u8>>) -> Resu
 }
 
 /// The programs of a session: one in user mode under a system, or one for the bare machine.
-fn load_session(
+pub(crate) fn load_session(
     alloc: Global,
     base: Base,
     texts: &[Vec<u8>],

@@ -7,6 +7,7 @@ mod laws;
 mod programs;
 mod sources;
 mod top;
+mod tracing;
 
 pub use laws::sources_are_listed_as_they_are_built;
 pub use top::vax_main;

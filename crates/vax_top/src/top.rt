@@ -14,6 +14,7 @@ ghost use Rattle.vax_top.specs.Top.{Carries, Comes, IsAbout, reads};
 
 use crate::commands::{build, list, list_sources, run_bare, run_user, run_work, show};
 use crate::console::run_console;
+use crate::tracing::run_trace;
 use std::alloc::Global;
 use vax_cli::{Command, WordsError, command_of};
 use vax_command::{Status, refuse};
@@ -81,6 +82,21 @@ fn carry_out<S: Files, K: Sink, F: PageFile>(
             names.as_slice(),
             base,
             script,
+            &options,
+            files,
+            sink,
+            pages,
+        ),
+        Command::Trace {
+            files: names,
+            base,
+            tracing,
+            options,
+        } => run_trace(
+            alloc,
+            names.as_slice(),
+            base,
+            &tracing,
             &options,
             files,
             sink,

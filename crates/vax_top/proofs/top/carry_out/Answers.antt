@@ -1,6 +1,6 @@
 use Rattle.std.proofs.Common.{ap, subst, sym, ◌∙◌}
-use Rattle.vax_cli.specs.Said.{names_of, options as said_options, said}
-use Rattle.vax_cli.specs.Words.{Said, bare, console, run}
+use Rattle.vax_cli.specs.Said.{names_of, options as said_options, said, tracing as said_tracing}
+use Rattle.vax_cli.specs.Words.{Said, bare, console, run, trace}
 use Rattle.vax_command.specs.Around.{around, change}
 use Rattle.vax_top.specs.Top.{Carries}
 use Rattle.vax_top.proofs.top.carry_out.Goals as goal
@@ -22,3 +22,9 @@ returns-in-Console-clause-carries g c =
     let seen = around (change g.S.Files.faults g.S.Files.contents c.args.files.now c.run_console.new.files) (change g.K.Sink.faults g.K.Sink.contents c.args.sink.now c.run_console.new.sink) (change g.F.PageFile.faults g.F.PageFile.contents c.args.pages.now c.run_console.new.pages) in
     let same = ap (λ names. console (names_of names) c.in-Console.base c.in-Console.script.now (said_options c.in-Console.options)) c.as_slice-in-Console.ensures.value ∙ ap said (sym c.in-Console.is) in
     subst (λ (s : Said). Carries seen s c.run_console.result) same c.run_console.ensures.carries
+
+pub returns-in-Trace-clause-carries : goal.returns-in-Trace-clause-carries
+returns-in-Trace-clause-carries g c =
+    let seen = around (change g.S.Files.faults g.S.Files.contents c.args.files.now c.run_trace.new.files) (change g.K.Sink.faults g.K.Sink.contents c.args.sink.now c.run_trace.new.sink) (change g.F.PageFile.faults g.F.PageFile.contents c.args.pages.now c.run_trace.new.pages) in
+    let same = ap (λ names. trace (names_of names) c.in-Trace.base (said_tracing c.in-Trace.tracing) (said_options c.in-Trace.options)) c.as_slice-in-Trace.ensures.value ∙ ap said (sym c.in-Trace.is) in
+    subst (λ (s : Said). Carries seen s c.run_trace.result) same c.run_trace.ensures.carries
