@@ -74,7 +74,7 @@ impl Jobs {
     {
         match turn {
             Turn::Go(job) => self.pool.go(job, file),
-            Turn::Out(job, page) => self.pool.out(job, page, file),
+            Turn::Out(job, page) => self.pool.evict(job, page, file),
             Turn::Clean(job) => self.pool.clean(job, file),
         }
     }

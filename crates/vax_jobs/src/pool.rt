@@ -214,7 +214,7 @@ impl Pool {
     }
 
     /// A page of a process is made absent.
-    pub(crate) fn out<F: PageFile>(&mut self, job: u8, page: u32, file: &mut F) -> Turned
+    pub(crate) fn evict<F: PageFile>(&mut self, job: u8, page: u32, file: &mut F) -> Turned
         requires sound { IsPool self.old }
         requires there { job < length self.old.machines.items }
         ensures sound { IsPool self.new }
