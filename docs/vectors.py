@@ -1,7 +1,8 @@
 """Reads test vectors, one JSON object a line, from standard input. Checks of each that it agrees with itself, and counts by
-instruction what the vectors reach: endings, condition codes, and vectors of the system control block."""
+instruction what the vectors reach: endings, forms of operands, condition codes, and vectors of the system control block."""
 import collections
 import json
+import re
 import sys
 
 SCB = 0x80000000
@@ -46,7 +47,42 @@ def check(vector):
         assert next(page for page in vector["touched"] if page in first["absent"]) == ends[1]
 
 
+FORMS = [
+    ("literal", r"S\^#"),
+    ("immediate", r"I\^#"),
+    ("absolute", r"@#"),
+    ("decrement", r"-\("),
+    ("byte displacement deferred", r"@B\^"),
+    ("word displacement deferred", r"@W\^"),
+    ("longword displacement deferred", r"@L\^"),
+    ("increment deferred", r"@\(.*\)\+"),
+    ("byte displacement", r"B\^"),
+    ("word displacement", r"W\^"),
+    ("longword displacement", r"L\^"),
+    ("increment", r"\(.*\)\+"),
+    ("register deferred", r"\("),
+    ("branch", r"\^X"),
+    ("register", r""),
+]
+
+
+def forms(name):
+    """The forms of an instruction's operands, by its text; an index is a form of its own."""
+    words = name.split(None, 1)
+    if len(words) < 2:
+        return set()
+    if words[1] == "reserved":
+        return {"reserved"}
+    found = set()
+    for operand in words[1].split(","):
+        if operand.endswith("]"):
+            found.add("index")
+        found.add(next(form for form, pattern in FORMS if re.match(pattern, operand)))
+    return found
+
+
 def main():
+    reached = collections.defaultdict(set)
     kinds = collections.defaultdict(collections.Counter)
     codes = collections.defaultdict(set)
     causes = collections.defaultdict(set)
@@ -57,6 +93,7 @@ def main():
         count += 1
         name = vector["name"].split()[0]
         kinds[name][vector["ends"][0]] += 1
+        reached[name] |= forms(vector["name"])
         if vector["ends"][0] == "step":
             taken = {a - SCB for way, a, n, _ in vector["accesses"] if way == "r" and n == 4 and SCB <= a < SCB + 512}
             causes[name] |= taken
@@ -65,7 +102,7 @@ def main():
     print(count, "vectors agree with themselves")
     for name in sorted(kinds):
         ends = " ".join(f"{kind} {n}" for kind, n in sorted(kinds[name].items()))
-        print(f"{name}: {ends}; codes {len(codes[name])}; vectors {' '.join(f'{c:02X}' for c in sorted(causes[name]))}")
+        print(f"{name}: {ends}; forms {len(reached[name])}; codes {len(codes[name])}; vectors {' '.join(f'{c:02X}' for c in sorted(causes[name]))}")
 
 
 main()

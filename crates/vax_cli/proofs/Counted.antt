@@ -37,6 +37,7 @@ given items =
     + present (value key.Steps items) + present (value key.Turns items) + present (value key.Dump items) + present (value key.Record items)
     + present (value key.Base items) + present (value key.Format items) + present (value key.Script items) + present (value key.Seed items)
     + present (value key.Size items) + present (value key.Strict items) + present (value key.Break items) + present (value key.Watch items)
+    + present (value key.Opcode items) + present (value key.Count items) + present (value key.Absent items) + present (value key.Mode items)
 
 -- an option that wasn't there
 one_more : (k : Key) (word : Text) (items : List Item) → is_none (value k items) ≡ true → given (setting k word ∷ items) ≡ given items + 1
@@ -56,6 +57,10 @@ one_more key.Size word items e = omega (arith, present-some word, present-none (
 one_more key.Strict word items e = omega (arith, present-some word, present-none (value key.Strict items) e)
 one_more key.Break word items e = omega (arith, present-some word, present-none (value key.Break items) e)
 one_more key.Watch word items e = omega (arith, present-some word, present-none (value key.Watch items) e)
+one_more key.Opcode word items e = omega (arith, present-some word, present-none (value key.Opcode items) e)
+one_more key.Count word items e = omega (arith, present-some word, present-none (value key.Count items) e)
+one_more key.Absent word items e = omega (arith, present-some word, present-none (value key.Absent items) e)
+one_more key.Mode word items e = omega (arith, present-some word, present-none (value key.Mode items) e)
 
 few_given : (items : List Item) → given items ≤ 24
 few_given items =
@@ -77,6 +82,10 @@ few_given items =
       present-one (value key.Strict items),
       present-one (value key.Break items),
       present-one (value key.Watch items),
+      present-one (value key.Opcode items),
+      present-one (value key.Count items),
+      present-one (value key.Absent items),
+      present-one (value key.Mode items),
     )
 
 both : (a b : Bool) → (a && b) ≡ true → (a ≡ true) × (b ≡ true)
@@ -99,6 +108,7 @@ few_names verb.Listing count e = grind (arith, nat_tests)
 few_names verb.Console count e = grind (arith, nat_tests)
 few_names verb.Trace count e = grind (arith, nat_tests)
 few_names verb.Work count e = grind (arith, nat_tests)
+few_names verb.Vectors count e = grind (arith, nat_tests)
 
 few_items : (v : Verb) (items : List Item) → (takes_files v (length (names items)) && are_distinct items) ≡ true → length items ≤ 32
 few_items v items e =

@@ -2,5 +2,6 @@ pub mod Table
 pub mod Values
 pub mod Items
 pub mod Tracing
+pub mod Vectors
 pub mod Words
 pub mod Said

@@ -5,7 +5,7 @@ use Rattle.std.specs.Global.{Global}
 use Rattle.std.specs.declared.string.String.{String}
 use Rattle.std.specs.Borrow.{Bor}
 use Rattle.vax_cli.specs.Words as words
-use Rattle.vax_cli.specs.Words.{Text, Said, bare, run, build, list, listing, console, trace, work, about}
+use Rattle.vax_cli.specs.Words.{Text, Said, bare, run, build, list, listing, console, trace, work, vectors, about}
 use Rattle.vax_cli.specs.Items as plain
 use Rattle.vax_cli.specs.declared.command.DumpItem.{DumpItem}
 use Rattle.vax_cli.specs.Tracing as tracing_words
@@ -60,6 +60,7 @@ said (command.Listing files base) = listing (names_of files.items) base
 said (command.Console files base script o) = console (names_of files.items) base script.now (options o)
 said (command.Trace files base t o) = trace (names_of files.items) base (tracing t) (options o)
 said (command.Work seed size o) = work seed size (options o)
+said (command.Vectors request) = vectors request
 said command.About = about
 
 -- it has 1 to 4,096 bytes
@@ -95,4 +96,5 @@ IsWithin (listing files linked) = AreFiles files
 IsWithin (console files linked script o) = AreFiles files × AreWithin o
 IsWithin (trace files linked t o) = AreFiles files × IsTracing t × AreWithin o
 IsWithin (work seed size o) = (1 ≤ size) × (size ≤ 5000) × AreWithin o
+IsWithin (vectors request) = Unit {0}
 IsWithin about = Unit {0}

@@ -11,7 +11,7 @@ Text = List ℕ
 
 -- the commands
 abbrev pub verbs : List Verb
-verbs = verb.Bare ∷ verb.Run ∷ verb.Build ∷ verb.List ∷ verb.Listing ∷ verb.Console ∷ verb.Trace ∷ verb.Work ∷ []
+verbs = verb.Bare ∷ verb.Run ∷ verb.Build ∷ verb.List ∷ verb.Listing ∷ verb.Console ∷ verb.Trace ∷ verb.Work ∷ verb.Vectors ∷ []
 
 abbrev pub verb_name : Verb → Text
 verb_name verb.Bare = codes "bare"
@@ -22,6 +22,7 @@ verb_name verb.Listing = codes "listing"
 verb_name verb.Console = codes "console"
 verb_name verb.Trace = codes "trace"
 verb_name verb.Work = codes "work"
+verb_name verb.Vectors = codes "vectors"
 
 -- the options
 abbrev pub key_name : Key → Text
@@ -41,6 +42,10 @@ key_name key.Size = codes "--size"
 key_name key.Strict = codes "--strict"
 key_name key.Break = codes "--break"
 key_name key.Watch = codes "--watch"
+key_name key.Opcode = codes "--opcode"
+key_name key.Count = codes "--count"
+key_name key.Absent = codes "--absent"
+key_name key.Mode = codes "--mode"
 
 -- the options that a command takes
 abbrev pub keys_of : Verb → List Key
@@ -52,10 +57,12 @@ keys_of verb.Listing = key.Base ∷ []
 keys_of verb.Console = key.Script ∷ key.Base ∷ key.Input ∷ key.System ∷ key.Schedule ∷ key.Frames ∷ key.Steps ∷ key.Turns ∷ []
 keys_of verb.Trace = key.Base ∷ key.Input ∷ key.System ∷ key.Schedule ∷ key.Frames ∷ key.Steps ∷ key.Turns ∷ key.Dump ∷ key.Break ∷ key.Watch ∷ []
 keys_of verb.Work = key.Seed ∷ key.Size ∷ key.Schedule ∷ key.Frames ∷ key.Steps ∷ key.Turns ∷ key.Dump ∷ key.Record ∷ key.Strict ∷ []
+keys_of verb.Vectors = key.Opcode ∷ key.Count ∷ key.Seed ∷ key.Absent ∷ key.Mode ∷ []
 
--- it takes so many files: one to eight, and `work` none
+-- it takes so many files: one to eight, and `work` and `vectors` none
 abbrev pub takes_files : Verb → ℕ → Bool
 takes_files verb.Work count = count == 0
+takes_files verb.Vectors count = count == 0
 takes_files _ count = nat_le 1 count && nat_le count 8
 
 -- the command of this name
@@ -84,6 +91,10 @@ place key.Size = 12
 place key.Strict = 13
 place key.Break = 14
 place key.Watch = 15
+place key.Opcode = 16
+place key.Count = 17
+place key.Absent = 18
+place key.Mode = 19
 
 abbrev pub is_same : Key → Key → Bool
 is_same a b = place a == place b

@@ -13,6 +13,8 @@ use Rattle.vax_cli.specs.declared.command.Format.{Format}
 use Rattle.vax_cli.specs.declared.command.Strictness.{Strictness}
 use Rattle.vax_cli.specs.declared.command.Strictness.TheVariants.{Halt, Success}
 use Rattle.vax_cli.specs.declared.table.Verb.{Verb}
+use Rattle.vax_cli.specs.Vectors.{request_of}
+use Rattle.vax_cli.specs.declared.vectors.VectorRequest.{VectorRequest}
 use Rattle.vax_cli.specs.declared.table.Verb.TheVariants as verb
 use Rattle.vax_cli.specs.declared.table.Key.TheVariants as key
 
@@ -42,6 +44,7 @@ pub data Said : Type 0 where
   console : List Text → Base → Text → Options → Said
   trace : List Text → Base → Tracing → Options → Said
   work : ℕ → ℕ → Options → Said
+  vectors : VectorRequest → Said
   about : Said
 
 -- what the options of a run say, whose exit status may tell so much of its end
@@ -98,6 +101,11 @@ work_of items =
     option_map (λ options. work seed size options)
     (options_of Halt items)) (size_of (value key.Size items))) (seed_of (value key.Seed items))
 
+abbrev pub vectors_of : List Item → Option Said
+vectors_of items =
+    option_map vectors
+    (request_of (value key.Opcode items) (value key.Count items) (value key.Seed items) (value key.Absent items) (value key.Mode items))
+
 -- what a command's names and options say
 abbrev pub said_of : Verb → List Item → Option Said
 said_of verb.Bare items = option_map (λ options. bare (names items) options) (options_of Halt items)
@@ -108,6 +116,7 @@ said_of verb.Listing items = option_map (λ base. listing (names items) base) (b
 said_of verb.Console items = console_of items
 said_of verb.Trace items = trace_of items
 said_of verb.Work items = work_of items
+said_of verb.Vectors items = vectors_of items
 
 -- a command takes so many files as it is given, and each option at most once
 abbrev pub checked : Verb → List Item → Option Said

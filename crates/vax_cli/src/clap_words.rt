@@ -82,6 +82,14 @@ fn summary_of<'a>(verb: Verb) -> Summary<'a> {
                 vax work --seed 7 --size 5000 --frames 64\n\n\
                 Reports, exit statuses and kinds of faults: docs/MESSAGES.md",
         },
+        Verb::Vectors => Summary {
+            name: "vax vectors",
+            about: "Write test vectors for other emulators to standard output, a JSON object for each step",
+            example: "Example: 20 vectors of MOVL in user mode, each with pages absent too\n  \
+                vax vectors --opcode MOVL --count 20 --mode user --absent on\n\n\
+                Vectors, and loaders for them: docs/VECTORS.md\n\
+                Exit statuses: docs/MESSAGES.md",
+        },
     }
 }
 
@@ -135,7 +143,7 @@ fn value_and_help<'a>(key: Key) -> (&'a str, &'a str) {
         ),
         Key::Seed => (
             "N",
-            "The number that the program is made from, 0 to 4294967295; 1 where it isn't given",
+            "The number that the program or the vectors are made from, 0 to 4294967295; 1 where it isn't given",
         ),
         Key::Size => (
             "N",
@@ -154,6 +162,16 @@ fn value_and_help<'a>(key: Key) -> (&'a str, &'a str) {
         Key::Watch => (
             "LIST",
             "Memory whose changes are listed: 1 to 16 items AAAAAAAA:N as for --dump",
+        ),
+        Key::Opcode => ("NAME|all", "The instruction, or all of them"),
+        Key::Count => ("N", "How many vectors for each instruction, 1 to 1000000"),
+        Key::Absent => (
+            "on|off",
+            "Write behind each vector the same with one and two of its pages absent; off where it isn't given",
+        ),
+        Key::Mode => (
+            "MODE",
+            "The access mode: kernel, executive, supervisor or user; kernel where it isn't given",
         ),
     }
 }
@@ -174,7 +192,7 @@ fn option<'a>(alloc: Global, key: Key) -> Arg<'a> {
     Arg::new(alloc, name)
         .long(long)
         .value_name(value)
-        .required(key == Key::Script)
+        .required(matches!(key, Key::Script | Key::Opcode | Key::Count))
         .help(help)
 }
 

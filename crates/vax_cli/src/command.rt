@@ -1,4 +1,5 @@
 //! What the words ask for.
+use crate::vectors::VectorRequest;
 use arrayvec::ArrayVec;
 
 /// The names of a command's files, in order: 1 to 8.
@@ -62,6 +63,8 @@ pub enum Command<'a> {
         size: u32,
         options: Options<'a>,
     },
+    /// `vectors`: write test vectors for other emulators.
+    Vectors(VectorRequest),
     /// `--help`, `--help` behind a command, or `--version`: a text about the program.
     About,
 }

@@ -13,8 +13,10 @@ mod plain;
 mod read;
 mod table;
 mod values;
+mod vectors;
 
 pub use command::{
     Base, Breaks, Command, DumpItem, Dumps, Format, Names, Options, Strictness, Tracing,
 };
 pub use read::{WordsError, about, command_of};
+pub use vectors::{Opcodes, VectorRequest};

@@ -3,7 +3,7 @@ ghost use Rattle.std.specs.Prelude.{◌≡◌, IfSome, None, length, true};
 ghost use Rattle.std.specs.Option.{option_and_then, option_map};
 ghost use Rattle.vax_cli.specs.Table.{keys_of, takes_files};
 ghost use Rattle.vax_cli.specs.Items.{items_from, names};
-ghost use Rattle.vax_cli.specs.Words.{asks_about, asks_help, behind, build_of, checked, command_of, console_of, is_session, options_of, said_of, trace_of, work_of};
+ghost use Rattle.vax_cli.specs.Words.{asks_about, asks_help, behind, build_of, checked, command_of, console_of, is_session, options_of, said_of, trace_of, vectors_of, work_of};
 ghost use Rattle.vax_cli.specs.declared.command.Command.TheVariants.{About};
 ghost use Rattle.vax_cli.specs.Said.{AreFiles, AreWithin, IsWithin, items_of, names_of, options, said, texts};
 
@@ -14,6 +14,7 @@ use crate::values::{
     base_of, breaks_of, dumps_of, format_of, frames_of, seed_of, size_of, steps_of, strictness,
     switch_of, turns_of,
 };
+use crate::vectors::{VectorWords, request_of};
 
 /// What the options of a run say, whose exit status may tell so much of its end.
 fn options_of<'a>(most: Strictness, items: &[Item<'a>]) -> Option<Options<'a>>
@@ -120,6 +121,20 @@ fn work_of<'a>(items: &[Item<'a>]) -> Option<Command<'a>>
     })
 }
 
+fn vectors_of<'a>(items: &[Item<'a>]) -> Option<Command<'a>>
+    ensures said { option_map said result ≡ vectors_of (items_of items.now) }
+    ensures within { IfSome result (λ c. IsWithin (said c)) }
+{
+    let words = VectorWords {
+        opcodes: value_in(Key::Opcode, items),
+        count: value_in(Key::Count, items),
+        seed: value_in(Key::Seed, items),
+        absent: value_in(Key::Absent, items),
+        mode: value_in(Key::Mode, items),
+    };
+    Some(Command::Vectors(request_of(words)?))
+}
+
 /// What a command's files and options say.
 fn said_of<'a>(verb: Verb, files: Names<'a>, items: &[Item<'a>]) -> Option<Command<'a>>
     requires files { names_of files.items ≡ names (items_of items.now) }
@@ -148,6 +163,7 @@ fn said_of<'a>(verb: Verb, files: Names<'a>, items: &[Item<'a>]) -> Option<Comma
         Verb::Console => console_of(files, items),
         Verb::Trace => trace_of(files, items),
         Verb::Work => work_of(items),
+        Verb::Vectors => vectors_of(items),
     }
 }
 

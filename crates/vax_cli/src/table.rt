@@ -13,6 +13,7 @@ pub(crate) enum Verb {
     Console,
     Trace,
     Work,
+    Vectors,
 }
 
 /// An option.
@@ -34,10 +35,14 @@ pub(crate) enum Key {
     Strict,
     Break,
     Watch,
+    Opcode,
+    Count,
+    Absent,
+    Mode,
 }
 
 /// The commands.
-pub(crate) const VERBS: [Verb; 8] = [
+pub(crate) const VERBS: [Verb; 9] = [
     Verb::Bare,
     Verb::Run,
     Verb::Build,
@@ -46,6 +51,7 @@ pub(crate) const VERBS: [Verb; 8] = [
     Verb::Console,
     Verb::Trace,
     Verb::Work,
+    Verb::Vectors,
 ];
 
 impl Verb {
@@ -62,6 +68,7 @@ impl Verb {
             Verb::Console => "console",
             Verb::Trace => "trace",
             Verb::Work => "work",
+            Verb::Vectors => "vectors",
         }
     }
 
@@ -126,6 +133,7 @@ impl Verb {
                 Key::Record,
                 Key::Strict,
             ],
+            Verb::Vectors => &[Key::Opcode, Key::Count, Key::Seed, Key::Absent, Key::Mode],
         }
     }
 
@@ -134,7 +142,7 @@ impl Verb {
         ensures { result ≡ takes_files self count }
     {
         match self {
-            Verb::Work => count == 0,
+            Verb::Work | Verb::Vectors => count == 0,
             Verb::Bare
             | Verb::Run
             | Verb::Build
@@ -168,6 +176,10 @@ impl Key {
             Key::Strict => "--strict",
             Key::Break => "--break",
             Key::Watch => "--watch",
+            Key::Opcode => "--opcode",
+            Key::Count => "--count",
+            Key::Absent => "--absent",
+            Key::Mode => "--mode",
         }
     }
 

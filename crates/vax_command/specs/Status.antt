@@ -4,7 +4,7 @@ use Rattle.vax_outside.specs.Hex.{hex}
 use Rattle.vax_outside.specs.Channels.{Channels, nothing, only}
 use Rattle.vax_outside.specs.declared.traits.Chan.TheVariants.{Report}
 use Rattle.vax_command.specs.declared.status.Status.{Status}
-use Rattle.vax_command.specs.declared.status.Status.TheVariants.{Done, Usage, Missing, Large, Refused, Link, Schedule, Image, Turns, PageFault, ReadFault, WriteFault, NoMemory, NotHalted, Unsuccessful}
+use Rattle.vax_command.specs.declared.status.Status.TheVariants.{Done, Usage, Missing, Large, Refused, Link, Schedule, Image, Turns, PageFault, ReadFault, WriteFault, NoMemory, NotHalted, Unsuccessful, Unfinished}
 
 -- the exit status of the process
 abbrev pub code : Status → ℕ
@@ -23,6 +23,7 @@ code WriteFault = 11
 code NoMemory = 12
 code NotHalted = 15
 code Unsuccessful = 16
+code Unfinished = 17
 
 -- a label and a name, which end with a line feed
 abbrev pub named : List ℕ → List ℕ → List ℕ
@@ -69,6 +70,7 @@ refusal WriteFault = None
 refusal NoMemory = Some (codes "vax: memory\n")
 refusal NotHalted = None
 refusal Unsuccessful = None
+refusal Unfinished = None
 
 -- what the channels grow by at a refusal
 abbrev pub growth_of : Option (List ℕ) → Channels

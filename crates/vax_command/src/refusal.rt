@@ -156,7 +156,8 @@ fn put_refusal<K: Sink>(status: &Status, sink: &mut K) -> Result<(), Failed>
         | Status::PageFault
         | Status::WriteFault
         | Status::NotHalted
-        | Status::Unsuccessful => Ok(()),
+        | Status::Unsuccessful
+        | Status::Unfinished => Ok(()),
     }
 }
 

@@ -37,6 +37,8 @@ pub enum Status {
     NotHalted,
     /// The program halted with neither 0 nor 1 in R0, and `--strict on` asks for that.
     Unsuccessful,
+    /// Memory was refused behind some of the vectors that were asked for.
+    Unfinished,
 }
 
 impl Status {
@@ -62,6 +64,7 @@ impl Status {
             Status::NoMemory => 12,
             Status::NotHalted => 15,
             Status::Unsuccessful => 16,
+            Status::Unfinished => 17,
         }
     }
 }

@@ -1,3 +1,4 @@
 pub mod SourceLaws
+pub mod VectorLaws
 pub mod TopLaws
 pub mod TracingLaws

@@ -12,7 +12,7 @@ use Rattle.vax_asm_listing.specs.Listed as listed
 use Rattle.vax_flat.specs.Parts.{machine_at}
 use Rattle.vax_machine.specs.Paged.{Why, ByEnding, BySteps, ByTurns}
 use Rattle.vax_program.specs.Program.{Refusal, Source, Link as FromLinker, InImage}
-use Rattle.vax_cli.specs.Words.{Text, Options, Said, bare, run, build, list, listing, console, trace, work, about, command_of}
+use Rattle.vax_cli.specs.Words.{Text, Options, Said, bare, run, build, list, listing, console, trace, work, vectors, about, command_of}
 use Rattle.vax_cli.specs.declared.command.Base as words_base
 use Rattle.vax_cli.specs.declared.command.Format.{Format}
 use Rattle.vax_cli.specs.declared.command.Strictness.{Strictness}
@@ -26,13 +26,16 @@ use Rattle.vax_top.specs.Loaded.{IsRefused, image_from, refused_as, sources_imag
 use Rattle.vax_command.specs.Reading.{HasTexts, ReadEnds, Reads, Texts, of_options, texts_of}
 use Rattle.vax_command.specs.Status.{refusal, refusal_growth}
 use Rattle.vax_top.specs.Top.{Carries, Comes, CommandComes, Does, ImageDoes, IsAbout, IsFile, IsListing, IsSourceListing, IsRunOf, IsSessionOf, IsWriting, RanOf, RunDoes, SessionDoes, TraceDoes, base_for, reads, reads_of, run_of, session_of, session_programs}
+use Rattle.vax_top.specs.Vectors.{VectorsDo}
+use Rattle.vax_top.proofs.VectorLaws.{vectors_kept}
+use Rattle.vax_cli.specs.declared.vectors.VectorRequest.{VectorRequest}
 use Rattle.vax_command.specs.Setup.{Setup}
 use Rattle.vax_command.specs.Tracing.{Traced, TracesSo, answer_of}
 use Rattle.vax_command.specs.Tracing as traced_run
 use Rattle.vax_cli.specs.Tracing.{Tracing}
 use Rattle.vax_command.specs.Went.{IsCut, IsRunAnswer, IsUnread, WentFrom}
 use Rattle.vax_command.specs.declared.status.Status.{Status}
-use Rattle.vax_command.specs.declared.status.Status.TheVariants.{Done, Usage, Missing, Large, Refused, Link, Schedule, Image as BadImage, Turns, PageFault, ReadFault, WriteFault, NoMemory, NotHalted, Unsuccessful}
+use Rattle.vax_command.specs.declared.status.Status.TheVariants.{Done, Usage, Missing, Large, Refused, Link, Schedule, Image as BadImage, Turns, PageFault, ReadFault, WriteFault, NoMemory, NotHalted, Unsuccessful, Unfinished}
 use Rattle.vax_command.proofs.LoadLaws.{reads_none}
 use Rattle.vax_command.proofs.RunLaws.{answers}
 use Rattle.vax_word.specs.declared.Core.{Core}
@@ -146,6 +149,13 @@ module _ (seen : Around) where
     pub about_carries : EndsSo seen.sink IsAbout result → seen.pages.same → Carries seen about result
     about_carries t k = record { meant = t.meant; grown = t.grown; comes = about_comes t.meant t.grown t.so k; ends = t.ends }
 
+    -- vectors were written
+    vectors_comes : (request : VectorRequest) (status : Status) (grown : Channels) → VectorsDo untouched request status grown → seen.pages.same → CommandComes seen (vectors request) status grown
+    vectors_comes request status grown d k = inr ([], reads_none seen.files.before.told, vectors_kept seen.pages request status grown k d)
+
+    pub vectors_carries : (request : VectorRequest) → EndsSo seen.sink (VectorsDo untouched request) result → seen.pages.same → Carries seen (vectors request) result
+    vectors_carries request t k = record { meant = t.meant; grown = t.grown; comes = vectors_comes request t.meant t.grown t.so k; ends = t.ends }
+
 -- what `build`, `list` and `listing` come to, beside a page file that they leave alone
 
 does_beside : (pages : Change BlockFile) (built : Result Image Refusal) (Writes : Image → Text → Type 0) (status : Status) (grown : Channels) → pages.same → ImageDoes untouched built Writes status grown → ImageDoes pages built Writes status grown
@@ -191,6 +201,7 @@ Allowed seen names grown WriteFault = ⊥
 Allowed seen names grown NoMemory = grown ≡ refusal_growth NoMemory
 Allowed seen names grown NotHalted = Unit {0}
 Allowed seen names grown Unsuccessful = Unit {0}
+Allowed seen names grown Unfinished = Unit {0}
 
 module _ (seen : Around) (names : List Text) (grown : Channels) where
   read_allowed : (status : Status) → ReadEnds seen.files names status → grown ≡ refusal_growth status → Allowed seen names grown status
@@ -209,6 +220,11 @@ module _ (seen : Around) (names : List Text) (grown : Channels) where
   read_allowed NoMemory e g = g
   read_allowed NotHalted e g = absurd e
   read_allowed Unsuccessful e g = absurd e
+  read_allowed Unfinished e g = absurd e
+
+  vectors_allowed : (request : VectorRequest) (status : Status) → VectorsDo seen.pages request status grown → Allowed seen names grown status
+  vectors_allowed request status (inl d) = subst (Allowed seen names grown) (sym d.answers) tt
+  vectors_allowed request status (inr d) = subst (Allowed seen names grown) (sym d.answers) tt
 
   refusal_allowed : (why : Refusal) → grown ≡ refusal_growth (refused_as why) → Allowed seen names grown (refused_as why)
   refusal_allowed (Source file line kind) g = g
@@ -234,6 +250,7 @@ module _ (seen : Around) (names : List Text) (grown : Channels) where
   run_allowed strict NoMemory h = absurd h
   run_allowed strict NotHalted h = tt
   run_allowed strict Unsuccessful h = tt
+  run_allowed strict Unfinished h = absurd h
 
   why_allowed : (strict : Strictness) (core : Core) (why : Why) → Allowed seen names grown (status_of strict core why)
   why_allowed strict core why = run_allowed strict (status_of strict core why) (answers (HasFailed seen.pages) strict core why)
@@ -312,6 +329,7 @@ module _ (seen : Around) (grown : Channels) where
   carried_allowed (trace names linked tracing options) files status d =
       let texts = texts_of (length names) options None files in trace_allowed seen (reads_of (trace names linked tracing options)) grown (session_programs linked texts) texts tracing options status d
   carried_allowed (work seed size options) files status d = does_allowed seen (of_options options None) grown _ _ _ options status d
+  carried_allowed (vectors request) files status d = vectors_allowed seen [] grown request status d
   carried_allowed about files status d = subst (Allowed seen [] grown) (sym d.1) tt
 
   allowed : (said : Said) (status : Status) → CommandComes seen said status grown → Allowed seen (reads_of said) grown status
@@ -367,6 +385,7 @@ module _ (seen : Around) (grown : Channels) where
   lines names NoMemory h = h
   lines names NotHalted h = tt
   lines names Unsuccessful h = tt
+  lines names Unfinished h = tt
 
   line_by : (o : Option Said) (status : Status) → AllowedBy o status → IfSome (refusal status) (λ text. grown ≡ only channel.Report text)
   line_by None status h = rw h.0 h.1

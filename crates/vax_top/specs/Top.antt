@@ -4,7 +4,7 @@ use Rattle.std.specs.Option.{option_map_or}
 use Rattle.vax_outside.specs.Channels.{Channels, only}
 use Rattle.vax_outside.specs.Blocks.{BlockFile}
 use Rattle.vax_outside.specs.declared.traits.Chan.TheVariants as channel
-use Rattle.vax_cli.specs.Words.{Text, Options, Said, bare, run, build, list, listing as source_listing, console, trace, work, about, command_of}
+use Rattle.vax_cli.specs.Words.{Text, Options, Said, bare, run, build, list, listing as source_listing, console, trace, work, vectors, about, command_of}
 use Rattle.vax_cli.specs.Tracing.{Tracing}
 use Rattle.vax_cli.specs.declared.command.Base as words_base
 use Rattle.vax_cli.specs.declared.command.Base.TheVariants as words_bases
@@ -21,6 +21,7 @@ use Rattle.vax_listing.specs.Listing.{listing}
 use Rattle.vax_asm_listing.specs.Listed as listed
 use Rattle.vax_command.specs.Around.{Around, Change, Outside, outside_of}
 use Rattle.vax_command.specs.Ends.{Ends, EndsSo}
+use Rattle.vax_top.specs.Vectors.{VectorsDo}
 use Rattle.vax_top.specs.Loaded.{IsRefused, bare_loaded, image_from, sources_image, system_text, user_loaded}
 use Rattle.vax_command.specs.Reading.{ReadEnds, Reads, Texts, of_options, texts_of}
 use Rattle.vax_command.specs.Loaded.{Loaded}
@@ -41,6 +42,7 @@ reads_of (source_listing names linked) = names
 reads_of (console names linked script options) = names ++ of_options options (Some script)
 reads_of (trace names linked tracing options) = names ++ of_options options None
 reads_of (work seed size options) = of_options options None
+reads_of (vectors request) = []
 reads_of about = []
 
 -- the files that the words have read, in order
@@ -177,6 +179,7 @@ Does outside (console names linked script options) files status grown =
     session_of outside (session_programs linked) (texts_of (length names) options (Some script) files) options status grown
 Does outside (trace names linked tracing options) files status grown =
     trace_of outside (session_programs linked) (texts_of (length names) options None files) tracing options status grown
+Does outside (vectors request) files status grown = VectorsDo outside.pages request status grown
 Does outside about files status grown =
     (text : Text) × (status ≡ Done) × (grown ≡ only channel.Out text) × outside.pages.same
 

@@ -8,6 +8,7 @@ mod programs;
 mod sources;
 mod top;
 mod tracing;
+mod vectors;
 
 pub use laws::sources_are_listed_as_they_are_built;
 pub use top::vax_main;

@@ -15,6 +15,7 @@ ghost use Rattle.vax_top.specs.Top.{Carries, Comes, IsAbout, reads};
 use crate::commands::{build, list, list_sources, run_bare, run_user, run_work, show};
 use crate::console::run_console;
 use crate::tracing::run_trace;
+use crate::vectors::write_vectors;
 use std::alloc::Global;
 use vax_cli::{Command, WordsError, command_of};
 use vax_command::{Status, refuse};
@@ -67,6 +68,7 @@ fn carry_out<S: Files, K: Sink, F: PageFile>(
             size,
             options,
         } => run_work(alloc, seed, size, &options, files, sink, pages),
+        Command::Vectors(request) => write_vectors(alloc, request, sink),
         Command::About => tell(alloc, words, sink),
         Command::List { files: names, base } => list(alloc, names.as_slice(), base, files, sink),
         Command::Listing { files: names, base } => {

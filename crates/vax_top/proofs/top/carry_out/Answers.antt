@@ -1,8 +1,9 @@
-use Rattle.std.proofs.Common.{ap, subst, sym, ◌∙◌}
+use Rattle.std.proofs.Common.{ap, refl, subst, sym, ◌∙◌}
 use Rattle.vax_cli.specs.Said.{names_of, options as said_options, said, tracing as said_tracing}
 use Rattle.vax_cli.specs.Words.{Said, bare, console, run, trace}
 use Rattle.vax_command.specs.Around.{around, change}
 use Rattle.vax_top.specs.Top.{Carries}
+use Rattle.vax_top.proofs.TopLaws.{vectors_carries}
 use Rattle.vax_top.proofs.top.carry_out.Goals as goal
 
 pub returns-in-Bare-clause-carries : goal.returns-in-Bare-clause-carries
@@ -28,3 +29,8 @@ returns-in-Trace-clause-carries g c =
     let seen = around (change g.S.Files.faults g.S.Files.contents c.args.files.now c.run_trace.new.files) (change g.K.Sink.faults g.K.Sink.contents c.args.sink.now c.run_trace.new.sink) (change g.F.PageFile.faults g.F.PageFile.contents c.args.pages.now c.run_trace.new.pages) in
     let same = ap (λ names. trace (names_of names) c.in-Trace.base (said_tracing c.in-Trace.tracing) (said_options c.in-Trace.options)) c.as_slice-in-Trace.ensures.value ∙ ap said (sym c.in-Trace.is) in
     subst (λ (s : Said). Carries seen s c.run_trace.result) same c.run_trace.ensures.carries
+
+pub returns-in-Vectors-clause-carries : goal.returns-in-Vectors-clause-carries
+returns-in-Vectors-clause-carries g c =
+    let seen = around (change g.S.Files.faults g.S.Files.contents c.args.files.now c.args.files.now) (change g.K.Sink.faults g.K.Sink.contents c.args.sink.now c.write_vectors.new.sink) (change g.F.PageFile.faults g.F.PageFile.contents c.args.pages.now c.args.pages.now) in
+    subst (λ (s : Said). Carries seen s c.write_vectors.result) (ap said (sym c.in-Vectors.is)) (vectors_carries seen c.write_vectors.result c.in-Vectors.request c.write_vectors.ensures refl)

@@ -1,4 +1,7 @@
 //! The vectors of cases.
+ghost use Rattle.std.specs.Prelude.{IfOk};
+ghost use Rattle.vax_vectors.specs.Truth.{IsTold};
+
 use std::alloc::Global;
 use vax_disasm::decode;
 use vax_isa::by_code;
@@ -61,7 +64,9 @@ fn told_alone(alloc: Global, ram: Vec<Cell>, left: &[Cell]) -> Result<Vec<Cell>,
 
 /// The vector of a case with these pages absent. Where the step is completed with none absent, memory has at the start the bytes
 /// alone that it reads or writes.
-pub(crate) fn told(alloc: Global, case: Case, absent: &[u32]) -> Result<Vector, NoVector> {
+pub(crate) fn told(alloc: Global, case: Case, absent: &[u32]) -> Result<Vector, NoVector>
+    ensures { IfOk result IsTold }
+{
     let start = start_of(alloc, case)?;
     let name = name_of(alloc, case.opcode, &start)?;
     let Vector { start, end, .. } = vector_of(alloc, Vec::new(alloc), start)?;
