@@ -3,3 +3,4 @@ pub mod RoomLaws
 pub mod LoadLaws
 pub mod SessionLaws
 pub mod TraceLaws
+pub mod Admitting

@@ -33,6 +33,11 @@ pub record EndsSo (sink : Change Channels) (So : Status → Channels → Type 0)
   pub so : So meant grown
   pub ends : Ends sink meant grown result
 
--- A failed call isn't hidden: where the count of faults has changed, the answer is this fault or that of a write.
+-- A failed call isn't hidden, nor made again: where the count of faults has changed, one call failed, the last that was made, and the answer is this
+-- fault or that of a write.
+pub record IsAdmitted (before after : Failures) (fault result : Status) : Type 0 where
+  pub once : Rose before after
+  pub answer : (result ≡ fault) ⊎ (result ≡ WriteFault)
+
 abbrev pub Admits : (before after : Failures) → (fault result : Status) → Type 0
-Admits before after fault result = after.count ≢ before.count → (result ≡ fault) ⊎ (result ≡ WriteFault)
+Admits before after fault result = after.count ≢ before.count → IsAdmitted before after fault result

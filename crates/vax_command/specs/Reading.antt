@@ -67,6 +67,7 @@ pub record ReadsOnly {T : Type 0} (files : Change Directory) (result : Result T 
   pub later : files.before.faults.count ≤ files.after.faults.count
   pub quiet : OnOk result (files.after.faults.count ≡ files.before.faults.count)
   pub failed : files.after.faults.count ≢ files.before.faults.count → IsErrOf result ReadFault
+  pub once : files.after.faults.count ≢ files.before.faults.count → HasFailed files
 
 -- the bytes of an option's file, if it is given
 abbrev pub option_of : Option Text → List Text → Option Text

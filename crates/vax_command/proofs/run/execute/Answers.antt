@@ -1,4 +1,4 @@
-use Rattle.std.proofs.Common.{refl, ap, subst, ◌∙◌, arith}
+use Rattle.std.proofs.Common.{inr, refl, ap, subst, ◌∙◌, arith}
 use Rattle.vax_machine.specs.Machine.{keeping}
 use Rattle.vax_machine.specs.Meaning.{engine}
 use Rattle.vax_machine.specs.Paged.{ByEnding, BySteps, ByTurns}
@@ -12,6 +12,7 @@ use Rattle.vax_command.specs.declared.status.Status.{Status}
 use Rattle.vax_command.specs.Around.{change, outside, seen_of}
 use Rattle.vax_command.specs.Room.{items_of}
 use Rattle.vax_command.specs.Setup.{Setup}
+use Rattle.vax_command.proofs.Admitting.{admits_then, fault_admits}
 use Rattle.vax_command.proofs.RunLaws.{Starts, went_cut, went_lost, went_whole}
 use Rattle.vax_command.proofs.run.execute.Goals as goal
 
@@ -71,3 +72,18 @@ returns-in-WriteFault-clause-went g c = λ frames m f.
     let seen = outside (change g.K.Sink.faults g.K.Sink.contents c.args.sink.now c.run.new.sink) (change g.F.PageFile.faults g.F.PageFile.contents c.args.pages.now c.run.new.file) in
     went_lost seen setup (engine c.args.machine) (engine c.run.new.self) starts
     c.in-WriteFault.ensures.ends c.run.ensures.only (c.in-WriteFault.ensures.cause refl)
+
+pub returns-in-Ended-clause-failed : goal.returns-in-Ended-clause-failed
+returns-in-Ended-clause-failed g c = admits_then _ _ _ _ _ (c.in-Ended.ensures.unfailed (λ x. cc) (λ x. cc)) c.report_all.ensures.failed
+
+pub returns-in-Steps-clause-failed : goal.returns-in-Steps-clause-failed
+returns-in-Steps-clause-failed g c = admits_then _ _ _ _ _ (c.in-Steps.ensures.unfailed (λ x. cc) (λ x. cc)) c.report_all-in-Steps.ensures.failed
+
+pub returns-in-Turns-clause-failed : goal.returns-in-Turns-clause-failed
+returns-in-Turns-clause-failed g c = admits_then _ _ _ _ _ (c.in-Turns.ensures.unfailed (λ x. cc) (λ x. cc)) c.report_all-in-Turns.ensures.failed
+
+pub returns-in-PageFault-clause-failed : goal.returns-in-PageFault-clause-failed
+returns-in-PageFault-clause-failed g c = fault_admits _ _ _ _ _ _ _ (c.in-PageFault.ensures.fault refl) c.report.ensures
+
+pub returns-in-WriteFault-clause-failed : goal.returns-in-WriteFault-clause-failed
+returns-in-WriteFault-clause-failed g c = λ n. record { once = c.in-WriteFault.ensures.failed n; answer = inr refl }

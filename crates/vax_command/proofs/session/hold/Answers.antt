@@ -1,7 +1,8 @@
-use Rattle.std.proofs.Common.{refl}
+use Rattle.std.proofs.Common.{inr, refl}
 use Rattle.vax_machine.specs.Meaning.{engine}
 use Rattle.vax_script.specs.Requests.{readings}
 use Rattle.vax_command.specs.Around.{change, outside, seen_of}
+use Rattle.vax_command.proofs.Admitting.{fault_admits, none_admits}
 use Rattle.vax_command.proofs.SessionLaws.{cut_off, lost, read_out, timed_out}
 use Rattle.vax_command.proofs.session.hold.Goals as goal
 
@@ -30,3 +31,15 @@ returns-clause-went g c = λ frames m f.
     let seen = outside (change g.K.Sink.faults g.K.Sink.contents c.args.sink.now c.session.new.sink) (change g.F.PageFile.faults g.F.PageFile.contents c.args.pages.now c.session.new.file) in
     lost seen c.args.limits.now c.args.schedule.now (readings c.args.script.now) (engine c.args.machine) (engine c.session.new.machine) frames m f
     (g.F.PageFile.contents c.args.pages.now) c.in-WriteFault.ensures.ends c.in-WriteFault.ensures.turns c.session.ensures.only (c.in-WriteFault.ensures.cause refl)
+
+pub returns-in-Read-clause-failed : goal.returns-in-Read-clause-failed
+returns-in-Read-clause-failed g c = none_admits _ _ _ _ (c.in-Read.ensures.unfailed (λ x. cc) (λ x. cc))
+
+pub returns-in-Turns-clause-failed : goal.returns-in-Turns-clause-failed
+returns-in-Turns-clause-failed g c = none_admits _ _ _ _ (c.in-Turns.ensures.unfailed (λ x. cc) (λ x. cc))
+
+pub returns-in-PageFault-clause-failed : goal.returns-in-PageFault-clause-failed
+returns-in-PageFault-clause-failed g c = fault_admits _ _ _ _ _ _ _ (c.in-PageFault.ensures.fault refl) c.report-in-PageFault.ensures
+
+pub returns-clause-failed : goal.returns-clause-failed
+returns-clause-failed g c = λ n. record { once = c.session.ensures.failed n; answer = inr refl }
