@@ -1,5 +1,5 @@
 //! The lines of one case.
-ghost use Rattle.std.specs.Prelude.{◌≡◌, IfOk, OnOk};
+ghost use Rattle.std.specs.Prelude.{IfOk, OnOk};
 ghost use Rattle.vax_vector_lines.specs.Lines.{AreVectors, IsMore};
 
 use crate::told::told;

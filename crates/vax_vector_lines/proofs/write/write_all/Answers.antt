@@ -1,4 +1,4 @@
-use Rattle.std.proofs.Common.{◌≡◌, ℕ, ◌+◌, ◌*◌, refl, sym, ◌∙◌, subst, arith}
+use Rattle.std.proofs.Common.{ℕ, ◌+◌, ◌*◌, refl, sym, ◌∙◌, subst, arith}
 use Rattle.vax_outside.proofs.Growth.{on_err}
 use Rattle.vax_vector_lines.specs.Lines.{Wrote, instruction_at, instructions_below, least_of}
 use Rattle.vax_vector_lines.specs.declared.write.Extent.{Extent}
