@@ -4,7 +4,6 @@ use Rattle.std.specs.Option.{option_map}
 use Rattle.vax_isa.specs.Rows.{Plain, plain, row_of, with_name}
 use Rattle.vax_isa.specs.declared.Row.{Row}
 use Rattle.vax_isa.specs.Instructions.{Instruction}
-use Rattle.vax_cli.specs.declared.vectors.Opcodes.{Opcodes}
 use Rattle.vax_cli.specs.declared.vectors.Opcodes.TheVariants.{One}
 use Rattle.vax_cli.specs.Vectors.{one_of}
 

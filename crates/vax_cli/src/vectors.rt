@@ -1,5 +1,5 @@
 //! What the words of `vectors` say.
-ghost use Rattle.std.specs.Prelude.{◌≡◌, ◌≤◌, IfSome};
+ghost use Rattle.std.specs.Prelude.{◌≡◌};
 ghost use Rattle.std.specs.Option.{option_copied};
 ghost use Rattle.vax_cli.specs.Vectors.{count_of, mode_of, one_of, opcodes_of, request_of};
 

@@ -1,6 +1,6 @@
-use Rattle.std.proofs.Common.{◌≡◌, Option, Some, ap, sym, ◌∙◌, rules}
+use Rattle.std.proofs.Common.{◌≡◌, Option, Some, ap, ◌∙◌, rules}
 use Rattle.std.specs.Option.{option_map}
-use Rattle.vax_cli.specs.Words.{Said, vectors}
+use Rattle.vax_cli.specs.Words.{vectors}
 use Rattle.vax_cli.specs.declared.vectors.VectorRequest.{VectorRequest}
 use Rattle.vax_cli.proofs.plain.vectors_of.Goals as goal
 
