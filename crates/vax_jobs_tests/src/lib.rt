@@ -1,0 +1,7 @@
+//! Tests of orders and parts of a page file.
+#![tactic(auto)]
+
+#[cfg(test)]
+mod orders;
+#[cfg(test)]
+mod windows;
