@@ -107,6 +107,8 @@ few_names verb.List count e = grind (arith, nat_tests)
 few_names verb.Listing count e = grind (arith, nat_tests)
 few_names verb.Console count e = grind (arith, nat_tests)
 few_names verb.Trace count e = grind (arith, nat_tests)
+few_names verb.Save count e = grind (arith, nat_tests)
+few_names verb.Resume count e = grind (arith, nat_tests)
 few_names verb.Work count e = grind (arith, nat_tests)
 few_names verb.Vectors count e = grind (arith, nat_tests)
 

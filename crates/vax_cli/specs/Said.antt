@@ -5,7 +5,7 @@ use Rattle.std.specs.Global.{Global}
 use Rattle.std.specs.declared.string.String.{String}
 use Rattle.std.specs.Borrow.{Bor}
 use Rattle.vax_cli.specs.Words as words
-use Rattle.vax_cli.specs.Words.{Text, Said, bare, run, build, list, listing, console, trace, work, vectors, about}
+use Rattle.vax_cli.specs.Words.{Text, Said, bare, run, build, list, listing, console, trace, save, resume, work, vectors, about}
 use Rattle.vax_cli.specs.Items as plain
 use Rattle.vax_cli.specs.declared.command.DumpItem.{DumpItem}
 use Rattle.vax_cli.specs.Tracing as tracing_words
@@ -59,6 +59,8 @@ said (command.List files base) = list (names_of files.items) base
 said (command.Listing files base) = listing (names_of files.items) base
 said (command.Console files base script o) = console (names_of files.items) base script.now (options o)
 said (command.Trace files base t o) = trace (names_of files.items) base (tracing t) (options o)
+said (command.Save files base o) = save (names_of files.items) base (options o)
+said (command.Resume name o) = resume name.now (options o)
 said (command.Work seed size o) = work seed size (options o)
 said (command.Vectors request) = vectors request
 said command.About = about
@@ -95,6 +97,8 @@ IsWithin (list files linked) = AreFiles files
 IsWithin (listing files linked) = AreFiles files
 IsWithin (console files linked script o) = AreFiles files × AreWithin o
 IsWithin (trace files linked t o) = AreFiles files × IsTracing t × AreWithin o
+IsWithin (save files linked o) = AreFiles files × AreWithin o
+IsWithin (resume name o) = AreWithin o
 IsWithin (work seed size o) = (1 ≤ size) × (size ≤ 5000) × AreWithin o
 IsWithin (vectors request) = Unit {0}
 IsWithin about = Unit {0}

@@ -11,7 +11,7 @@ Text = List ℕ
 
 -- the commands
 abbrev pub verbs : List Verb
-verbs = verb.Bare ∷ verb.Run ∷ verb.Build ∷ verb.List ∷ verb.Listing ∷ verb.Console ∷ verb.Trace ∷ verb.Work ∷ verb.Vectors ∷ []
+verbs = verb.Bare ∷ verb.Run ∷ verb.Build ∷ verb.List ∷ verb.Listing ∷ verb.Console ∷ verb.Trace ∷ verb.Save ∷ verb.Resume ∷ verb.Work ∷ verb.Vectors ∷ []
 
 abbrev pub verb_name : Verb → Text
 verb_name verb.Bare = codes "bare"
@@ -21,6 +21,8 @@ verb_name verb.List = codes "list"
 verb_name verb.Listing = codes "listing"
 verb_name verb.Console = codes "console"
 verb_name verb.Trace = codes "trace"
+verb_name verb.Save = codes "save"
+verb_name verb.Resume = codes "resume"
 verb_name verb.Work = codes "work"
 verb_name verb.Vectors = codes "vectors"
 
@@ -56,13 +58,16 @@ keys_of verb.List = key.Base ∷ []
 keys_of verb.Listing = key.Base ∷ []
 keys_of verb.Console = key.Script ∷ key.Base ∷ key.Input ∷ key.System ∷ key.Schedule ∷ key.Frames ∷ key.Steps ∷ key.Turns ∷ []
 keys_of verb.Trace = key.Base ∷ key.Input ∷ key.System ∷ key.Schedule ∷ key.Frames ∷ key.Steps ∷ key.Turns ∷ key.Dump ∷ key.Break ∷ key.Watch ∷ []
+keys_of verb.Save = key.Base ∷ key.Input ∷ key.System ∷ key.Schedule ∷ key.Frames ∷ key.Steps ∷ key.Turns ∷ []
+keys_of verb.Resume = key.Schedule ∷ key.Frames ∷ key.Steps ∷ key.Turns ∷ key.Dump ∷ []
 keys_of verb.Work = key.Seed ∷ key.Size ∷ key.Schedule ∷ key.Frames ∷ key.Steps ∷ key.Turns ∷ key.Dump ∷ key.Record ∷ key.Strict ∷ []
 keys_of verb.Vectors = key.Opcode ∷ key.Count ∷ key.Seed ∷ key.Absent ∷ key.Mode ∷ []
 
--- it takes so many files: one to eight, and `work` and `vectors` none
+-- it takes so many files: one to eight, `resume` one and `work` and `vectors` none
 abbrev pub takes_files : Verb → ℕ → Bool
 takes_files verb.Work count = count == 0
 takes_files verb.Vectors count = count == 0
+takes_files verb.Resume count = count == 1
 takes_files _ count = nat_le 1 count && nat_le count 8
 
 -- the command of this name

@@ -43,6 +43,8 @@ pub data Said : Type 0 where
   listing : List Text → Base → Said
   console : List Text → Base → Text → Options → Said
   trace : List Text → Base → Tracing → Options → Said
+  save : List Text → Base → Options → Said
+  resume : Text → Options → Said
   work : ℕ → ℕ → Options → Said
   vectors : VectorRequest → Said
   about : Said
@@ -94,6 +96,18 @@ trace_of items =
     option_and_then (λ options. if is_session base options then Some (trace (names items) base (record { breaks = breaks; watches = watches }) options) else None)
     (options_of Halt items)) (dumps_of (value key.Watch items))) (breaks_of (value key.Break items))) (base_of (value key.Base items))
 
+-- a run that is saved has no other system on the bare machine
+abbrev pub save_of : List Item → Option Said
+save_of items =
+    option_and_then (λ base.
+    option_and_then (λ options. if is_session base options then Some (save (names items) base options) else None)
+    (options_of Halt items)) (base_of (value key.Base items))
+
+-- one file
+abbrev pub resume_of : List Text → Option Options → Option Said
+resume_of (name ∷ []) options = option_map (λ o. resume name o) options
+resume_of files options = None
+
 abbrev pub work_of : List Item → Option Said
 work_of items =
     option_and_then (λ seed.
@@ -115,6 +129,8 @@ said_of verb.List items = option_map (λ base. list (names items) base) (base_of
 said_of verb.Listing items = option_map (λ base. listing (names items) base) (base_of (value key.Base items))
 said_of verb.Console items = console_of items
 said_of verb.Trace items = trace_of items
+said_of verb.Save items = save_of items
+said_of verb.Resume items = resume_of (names items) (options_of Halt items)
 said_of verb.Work items = work_of items
 said_of verb.Vectors items = vectors_of items
 

@@ -75,6 +75,23 @@ fn summary_of<'a>(verb: Verb) -> Summary<'a> {
                 Listings of steps: docs/MACHINE.md\n\
                 Reports, exit statuses and kinds of faults: docs/MESSAGES.md",
         },
+        Verb::Save => Summary {
+            name: "vax save",
+            about: "Run a program, and save its state in the file vax.rec where a limit stops it",
+            example: "Example: stop after 1000 steps, and go on later\n  \
+                vax save COUNT.MAR --base bare --steps 1000\n  vax resume vax.rec\n\n\
+                Sources: docs/ASSEMBLER.md\n\
+                Saved states: docs/MACHINE.md\n\
+                Reports, exit statuses and kinds of faults: docs/MESSAGES.md",
+        },
+        Verb::Resume => Summary {
+            name: "vax resume",
+            about: "Go on from a saved state and report the registers on standard error",
+            example: "Example: at most 5000 steps more, then 16 bytes of memory in the report\n  \
+                vax resume vax.rec --steps 5000 --dump 80000200:16\n\n\
+                Saved states: docs/MACHINE.md\n\
+                Reports, exit statuses and kinds of faults: docs/MESSAGES.md",
+        },
         Verb::Work => Summary {
             name: "vax work",
             about: "Make a program from a number, run it, and report the registers on standard error",
@@ -200,7 +217,16 @@ fn option<'a>(alloc: Global, key: Key) -> Arg<'a> {
 fn files_help<'a>(verb: Verb) -> &'a str {
     match verb {
         Verb::Listing => "1 to 8 sources, which are linked in this order",
+        Verb::Resume => "The file of a saved state",
         _ => "1 to 8 sources, which are linked in this order, or one image",
+    }
+}
+
+/// The most files of a command that takes some.
+fn most_files(verb: Verb) -> usize {
+    match verb {
+        Verb::Resume => 1,
+        _ => 8,
     }
 }
 
@@ -208,7 +234,7 @@ fn files_help<'a>(verb: Verb) -> &'a str {
 fn files<'a>(alloc: Global, verb: Verb) -> Arg<'a> {
     Arg::new(alloc, FILES)
         .required(true)
-        .num_args(1..=8)
+        .num_args(1..=most_files(verb))
         .action(ArgAction::Append)
         .help(files_help(verb))
 }

@@ -55,6 +55,18 @@ pub enum Command<'a> {
         tracing: Tracing,
         options: Options<'a>,
     },
+    /// `save FILE..`: run a program, and save the state at which a limit stops it.
+    Save {
+        files: Names<'a>,
+        base: Base,
+        options: Options<'a>,
+    },
+    /// `resume FILE`: go on from a saved state.
+    Resume {
+        /// The file of the saved state.
+        name: &'a str,
+        options: Options<'a>,
+    },
     /// `work`: run a workload that is made from a number.
     Work {
         /// `--seed N`: the number; 1 where no word says it.

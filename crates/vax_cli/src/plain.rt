@@ -3,8 +3,9 @@ ghost use Rattle.std.specs.Prelude.{◌≡◌, IfSome, None, length, true};
 ghost use Rattle.std.specs.Option.{option_and_then, option_map};
 ghost use Rattle.vax_cli.specs.Table.{keys_of, takes_files};
 ghost use Rattle.vax_cli.specs.Items.{items_from, names};
-ghost use Rattle.vax_cli.specs.Words.{asks_about, asks_help, behind, build_of, checked, command_of, console_of, is_session, options_of, said_of, trace_of, vectors_of, work_of};
+ghost use Rattle.vax_cli.specs.Words.{asks_about, asks_help, behind, build_of, checked, command_of, console_of, is_session, options_of, resume_of, said_of, save_of, trace_of, vectors_of, work_of};
 ghost use Rattle.vax_cli.specs.declared.command.Command.TheVariants.{About};
+ghost use Rattle.vax_cli.specs.declared.command.Strictness.TheVariants.{Halt};
 ghost use Rattle.vax_cli.specs.Said.{AreFiles, AreWithin, IsWithin, items_of, names_of, options, said, texts};
 
 use crate::command::{Base, Command, Names, Options, Strictness, Tracing};
@@ -107,6 +108,38 @@ fn trace_of<'a>(files: Names<'a>, items: &[Item<'a>]) -> Option<Command<'a>>
     })
 }
 
+fn save_of<'a>(files: Names<'a>, items: &[Item<'a>]) -> Option<Command<'a>>
+    requires files { names_of files.items ≡ names (items_of items.now) }
+    requires are { AreFiles (names_of files.items) }
+    ensures said { option_map said result ≡ save_of (items_of items.now) }
+    ensures within { IfSome result (λ c. IsWithin (said c)) }
+{
+    let base = base_of(value_in(Key::Base, items))?;
+    let options = options_of(Strictness::Halt, items)?;
+    if !is_session(base, &options) {
+        return None;
+    }
+    Some(Command::Save {
+        files,
+        base,
+        options,
+    })
+}
+
+fn resume_of<'a>(files: &[&'a str], items: &[Item<'a>]) -> Option<Command<'a>>
+    ensures said { option_map said result
+        ≡ resume_of (names_of files.now) (options_of Halt (items_of items.now)) }
+    ensures within { IfSome result (λ c. IsWithin (said c)) }
+{
+    match files {
+        [name] => Some(Command::Resume {
+            name: *name,
+            options: options_of(Strictness::Halt, items)?,
+        }),
+        _ => None,
+    }
+}
+
 fn work_of<'a>(items: &[Item<'a>]) -> Option<Command<'a>>
     ensures said { option_map said result ≡ work_of (items_of items.now) }
     ensures within { IfSome result (λ c. IsWithin (said c)) }
@@ -162,6 +195,8 @@ fn said_of<'a>(verb: Verb, files: Names<'a>, items: &[Item<'a>]) -> Option<Comma
         }),
         Verb::Console => console_of(files, items),
         Verb::Trace => trace_of(files, items),
+        Verb::Save => save_of(files, items),
+        Verb::Resume => resume_of(files.as_slice(), items),
         Verb::Work => work_of(items),
         Verb::Vectors => vectors_of(items),
     }

@@ -12,6 +12,8 @@ pub(crate) enum Verb {
     Listing,
     Console,
     Trace,
+    Save,
+    Resume,
     Work,
     Vectors,
 }
@@ -50,6 +52,8 @@ pub(crate) const VERBS: [Verb; 9] = [
     Verb::Listing,
     Verb::Console,
     Verb::Trace,
+    Verb::Save,
+    Verb::Resume,
     Verb::Work,
     Verb::Vectors,
 ];
@@ -67,6 +71,8 @@ impl Verb {
             Verb::Listing => "listing",
             Verb::Console => "console",
             Verb::Trace => "trace",
+            Verb::Save => "save",
+            Verb::Resume => "resume",
             Verb::Work => "work",
             Verb::Vectors => "vectors",
         }
@@ -122,6 +128,22 @@ impl Verb {
                 Key::Break,
                 Key::Watch,
             ],
+            Verb::Save => &[
+                Key::Base,
+                Key::Input,
+                Key::System,
+                Key::Schedule,
+                Key::Frames,
+                Key::Steps,
+                Key::Turns,
+            ],
+            Verb::Resume => &[
+                Key::Schedule,
+                Key::Frames,
+                Key::Steps,
+                Key::Turns,
+                Key::Dump,
+            ],
             Verb::Work => &[
                 Key::Seed,
                 Key::Size,
@@ -143,13 +165,15 @@ impl Verb {
     {
         match self {
             Verb::Work | Verb::Vectors => count == 0,
+            Verb::Resume => count == 1,
             Verb::Bare
             | Verb::Run
             | Verb::Build
             | Verb::List
             | Verb::Listing
             | Verb::Console
-            | Verb::Trace => 1 <= count && count <= 8,
+            | Verb::Trace
+            | Verb::Save => 1 <= count && count <= 8,
         }
     }
 }

@@ -4,3 +4,6 @@ pub mod LoadLaws
 pub mod SessionLaws
 pub mod TraceLaws
 pub mod Admitting
+pub mod OnwardLaws
+pub mod ResumeLaws
+pub mod SaveLaws

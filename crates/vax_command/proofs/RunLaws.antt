@@ -50,16 +50,17 @@ use Rattle.vax_cli.specs.declared.command.DumpItem.{DumpItem}
 use Rattle.vax_cli.specs.declared.command.Strictness.{Strictness}
 use Rattle.vax_cli.specs.declared.command.Strictness.TheVariants as strictly
 use Rattle.vax_command.specs.Answer.{is_success, halted, status_of, unhalted}
+use Rattle.vax_command.specs.Course.{Course, Halt, HasTurned, IsBroken, IsReady, IsUnseen, TurnsOrLoses, WentOn, WentOnFrom, course_of, lines_in, turned}
 use Rattle.vax_command.specs.Around.{Change, HasFailed, Outside, Seen}
 use Rattle.vax_command.specs.Ends.{Ends, EndsFrom, EndsSo}
 use Rattle.vax_command.specs.Fresh.{IsFresh, IsPrepared, IsReported, machine_report}
 use Rattle.vax_command.specs.Status.{refusal_growth}
 use Rattle.vax_command.specs.Loaded.{Loaded}
-use Rattle.vax_command.specs.Pages.{HasRun}
+use Rattle.vax_command.specs.Pages.{HasRun, RunsOrLoses}
 use Rattle.vax_command.specs.Running.{IsFaulty, Ran, setup_for}
 use Rattle.vax_command.specs.Room.{ReadsFor}
-use Rattle.vax_command.specs.Setup.{Setup, after_turns, before_turns, run_of}
-use Rattle.vax_command.specs.Went.{IsRunAnswer, IsUntold, Stop, Went, WentFrom, dumps_at, last_of, recorded, run_output, run_report, shown}
+use Rattle.vax_command.specs.Setup.{Setup, after_turns, run_of}
+use Rattle.vax_command.specs.Went.{IsCut, IsRunAnswer, Stop, Went, WentFrom, dumps_at, last_of, run_output, run_report, shown}
 use Rattle.vax_command.specs.declared.status.Status.{Status}
 use Rattle.vax_command.specs.declared.status.Status.TheVariants.{Done, NoMemory, PageFault, WriteFault, NotHalted, Unsuccessful}
 
@@ -107,13 +108,6 @@ nothing_yet false b none e = λ i. record { out = none i; report = []; recorded 
 all_of_it : (listed : Bool) (b p : Paged) (more : Channels) → output_of listed b ≡ nothing → output_of listed p ≡ append (output_of listed b) more → more ≡ output_of listed p
 all_of_it listed b p more none e = sym (e ∙ ap (λ (c : Channels). append c more) none)
 
--- no page is pinned at the start
-pub none_pinned : (m : Engine) (frames : ℕ) (start : Flat) → IsFresh m frames start → PinsTouched (residence m) (At start)
-unfolding is_listed
-none_pinned m frames start f =
-    let e : (residence m).pinned ≡ [] = ap (λ (p : Paged). p.residence.pinned) f.begins in
-    record { touched = λ page h. let no : false ≡ true = sym (ap (is_listed page) e) ∙ h in cc }
-
 answers_succeeded : (failed : Type 0) (b : Bool) → IsRunAnswer strictly.Success failed (if b then Done else Unsuccessful)
 answers_succeeded failed true = tt
 answers_succeeded failed false = refl
@@ -143,7 +137,7 @@ core_at m file place means =
     let k = means.processor.machine in
     λ i. (k i).core
 
-as_whole : (limits : Limits) (areas : List Area) (rules : List Rule) (b : Paged) (before : Option BlockFile) (end : RunEnd) (why : Why) (m : Engine) (file : Option BlockFile) (old now : Option Channels) → why_of end ≡ Some why → machine.Ends limits areas rules b before end m file old now → IsWhole limits areas rules b end before m file old now
+pub as_whole : (limits : Limits) (areas : List Area) (rules : List Rule) (b : Paged) (before : Option BlockFile) (end : RunEnd) (why : Why) (m : Engine) (file : Option BlockFile) (old now : Option Channels) → why_of end ≡ Some why → machine.Ends limits areas rules b before end m file old now → IsWhole limits areas rules b end before m file old now
 as_whole limits areas rules b before (run_end.Ended e) why m file old now is h = h
 as_whole limits areas rules b before run_end.Steps why m file old now is h = h
 as_whole limits areas rules b before run_end.Turns why m file old now is h = h
@@ -155,19 +149,168 @@ unlisted : (a b : Channels) → a.recorded ≡ [] → b.recorded ≡ [] → (app
 unlisted a b x y = ap (λ (xs : List ℕ). xs ++ b.recorded) x ∙ y
 
 -- how a run went, and how its call ends
-abbrev pub Told : Outside → Setup → Status → Type 0
-Told outside setup result = EndsSo outside.sink (Went outside setup) result
+abbrev pub Told : Outside → Course → Status → Type 0
+Told outside c result = EndsSo outside.sink (WentOn outside c) result
 
 -- memory may have been read behind a run
-ran_and_read : (setup : Setup) (count : ℕ) (file : BlockFile) (middle last : Option BlockFile) → FewTurns (before_turns setup) (after_turns setup count) → Moved setup.areas (before_turns setup) (after_turns setup count) (Some file) middle → ReadsFor setup.items middle last → (setup.items ≡ [] → last ≡ middle) → HasRun setup count file last
-ran_and_read setup count file middle last few moved reads unread =
+ran_and_read : (c : Course) (count : ℕ) (file : BlockFile) (middle last : Option BlockFile) → FewTurns c.begins (turned c count) → Moved c.areas c.begins (turned c count) (Some file) middle → ReadsFor c.items middle last → (c.items ≡ [] → last ≡ middle) → HasTurned c count file last
+ran_and_read c count file middle last few moved reads unread =
     let m = moved file refl in
-    record { few = few; between = m.0; moved = m.2; needed = λ turn low absent page small clean. writes_suffice (run_of setup) turn absent page small clean; told = subst (λ (z : Option BlockFile). ReadsFor setup.items z last) m.1 reads; unread = λ none. unread none ∙ m.1 }
+    record { few = few; between = m.0; moved = m.2; told = subst (λ (z : Option BlockFile). ReadsFor c.items z last) m.1 reads; unread = λ none. unread none ∙ m.1 }
 
 -- what the machine did with whatever its page file told
-abbrev pub Did : Setup → Engine → Option BlockFile → RunEnd → Engine → Option BlockFile → (old between : Option Channels) → Type 0
-Did setup m told end n after old between =
-    (place : Place) → Means m told place → PinsTouched (residence m) place → machine.Ends setup.limits setup.areas setup.rules (begun m place) told end n after old between
+abbrev pub Did : Course → Engine → Option BlockFile → RunEnd → Engine → Option BlockFile → (old between : Option Channels) → Type 0
+Did c m told end n after old between =
+    (place : Place) → Means m told place → PinsTouched (residence m) place → machine.Ends c.limits c.areas c.rules (begun m place) told end n after old between
+
+-- no page is pinned where it begins
+pub none_pinned : (m : Engine) (b : Paged) (place : Place) → IsReady m b → PinsTouched (residence m) place
+pub unfolding is_listed
+none_pinned m b place f =
+    let e : (residence m).pinned ≡ [] = ap (λ (p : Paged). p.residence.pinned) f.begins ∙ f.unpinned in
+pub stop_whenstop_when    record { touched = λ page h. let no : false ≡ true = sym (ap (is_listed page) e) ∙ h in cc }
+
+-- the run is that from where it begins
+pub from_begin : (c : Course) (m : Engine) → IsReady m c.begins → (file : BlockFile) (end : RunEnd) (n : Engine) (after : Option BlockFile) (old between : Option Channels) → Did c m (Some file) end n after old between
+    → machine.Ends c.limits c.areas c.rules c.begins (Some file) end n after old between
+from_begin c m f file end n after old between did =
+    subst (λ (z : Paged). machine.Ends c.limits c.areas c.rules z (Some file) end n after old between) f.begins
+    (did c.begins.place (f.means file) (none_pinned m c.begins c.begins.place f))
+
+-- What is known of a run of a machine that is ready for it: what it sees of the outside, the machine it leaves, the sink behind it, and the answer.
+module _ (outside : Outside) (c : Course) (m n : Engine) (f : IsReady m c.begins) (mid : Seen Channels) (result : Status) where
+  -- what is told of it, whatever the page file told before
+  abbrev By : Option BlockFile → Type 0
+  By told = EndsSo outside.sink (WentOnFrom told outside c) result
+
+  silent_start : output_of c.limits.listed c.begins ≡ nothing
+  silent_start = nothing_yet c.limits.listed c.begins f.silent (ap (λ (p : Paged). p.evictions) (sym f.begins))
+
+  pub wrote_out : (told : Option BlockFile) (p : Paged) → Wrote (machine.origin c.limits c.areas c.begins told outside.sink.before.told) p mid.told → Grew outside.sink.before.told mid.told (output_of c.limits.listed p)
+  wrote_out told p w = subst (λ (g : Channels). Grew outside.sink.before.told mid.told g) (all_of_it c.limits.listed c.begins p w.more silent_start w.is) w.grew
+
+  -- the report behind what the run wrote
+  pub behind : (s : Stage) (lines : Text) (why : Last) (dumps : List Dump) (status : Status) (grown : Channels) → Grew outside.sink.before.told mid.told (both (machine_at s.place).output lines) → mid.faults.count ≡ outside.sink.before.faults.count → grown ≡ only Report (run_report s why dumps) → EndsFrom mid outside.sink.after status grown result → Ends outside.sink status (run_output s lines why dumps) result
+  behind s lines why dumps status grown wrote quiet is ends =
+      subst (λ (g : Channels). Ends outside.sink status g result) (outputs s lines why dumps grown is) (ends_after outside.sink.before mid outside.sink.after status (both (machine_at s.place).output lines) grown result wrote quiet ends)
+
+  -- it stopped by itself, and the report was written: `read` is the page file before and after the memory for the report was read
+  module _ (read : Change BlockFile) (up : HasFailed read → HasFailed outside.pages) (reads : ReadsFor c.items read.before.told outside.pages.after.told) (unread : c.items ≡ [] → outside.pages.after.told ≡ read.before.told) (end : RunEnd) (why : Why) (is : why_of end ≡ Some why) (status : Status) (grown : Channels) (out : OnlyWrote c.limits.listed outside.sink.before.told mid.told) (quiet : mid.faults.count ≡ outside.sink.before.faults.count) (ends : EndsFrom mid outside.sink.after status grown result) where
+    answer_is : IsReported read n (last_of why) (status_of c.strict n.cpu.core why) c.items status grown → IsUnseen c outside status (append out.more grown)
+    answer_is (inl r) = record { answer = subst (IsRunAnswer c.strict (HasFailed outside.pages)) (sym r.0) (answers (HasFailed outside.pages) c.strict n.cpu.core why); unlisted = λ off. unlisted out.more grown (out.unlisted off) (let d = r.1 in ap (λ (g : Channels). g.recorded) d.2) }
+    answer_is (inr r) = record { answer = subst (IsRunAnswer c.strict (HasFailed outside.pages)) (sym r.1) (up r.0); unlisted = λ off. unlisted out.more grown (out.unlisted off) (ap (λ (g : Channels). g.recorded) r.2) }
+
+    whole_by : (file : BlockFile) → IsWhole c.limits c.areas c.rules c.begins end (Some file) n read.before.told outside.sink.before.told mid.told → IsReported read n (last_of why) (status_of c.strict n.cpu.core why) c.items status grown → By (Some file)
+    whole_by file w (inl r) =
+        let p = turned c w.count in
+        let s = stage_of p in
+        let d = r.1 in
+        let shows : d.0 ≡ dumps_at s c.items = as_shown s c.items d.0 (d.1 p.place w.tracks.means) in
+        let text : grown ≡ only Report (run_report s (last_of why) (dumps_at s c.items)) =
+        d.2 ∙ (ap (only Report) (reported n read.before.told s (last_of why) d.0 w.tracks.steps w.tracks.means) ∙ ap (λ dumps. only Report (run_report s (last_of why) dumps)) shows) in
+        record {
+          meant = status;
+          grown = run_output s (lines_in c p) (last_of why) (dumps_at s c.items);
+          so = inl (record { halt = stop_whenrecord { count = w.count; why = why; goes = w.goes; stopped = w.stopped ∙ is }; answer = r.0 ∙ ap (λ (k : Core). status_of c.strict k why) (core_at n read.before.told p.place w.tracks.means); wrote = refl; blocks = inl (ran_and_read c w.count file read.before.told outside.pages.after.told w.few w.moved reads unread) });
+          ends = behind s (lines_in c p) (last_of why) (dumps_at s c.items) status grown (wrote_out (Some file) p w.wrote) quiet text ends;
+        }
+    whole_by file w (inr r) =
+        let p = turned c w.count in
+        let s = stage_of p in
+        let text : grown ≡ only Report (run_report s lasts.PageFault []) = r.2 ∙ ap (only Report) (reported n read.before.told s lasts.PageFault [] w.tracks.steps w.tracks.means) in
+        record {
+          meant = status;
+          grown = run_output s (lines_in c p) lasts.PageFault [];
+          so = inr (up r.0, inl (record { halt = stop_whenrecord { count = w.count; why = why; goes = w.goes; stopped = w.stopped ∙ is }; answer = r.1; wrote = refl; blocks = ran_and_read c w.count file read.before.told outside.pages.after.told w.few w.moved reads unread }));
+          ends = behind s (lines_in c p) lasts.PageFault [] status grown (wrote_out (Some file) p w.wrote) quiet text ends;
+        }
+
+    stopped_by : (told : Option BlockFile) → Did c m told end n read.before.told outside.sink.before.told mid.told → IsReported read n (last_of why) (status_of c.strict n.cpu.core why) c.items status grown → By told
+    stopped_by None did r = record { meant = status; grown = append out.more grown; so = answer_is r; ends = ends_after outside.sink.before mid outside.sink.after status out.more grown result out.grew quiet ends }
+    stopped_by (Some file) did r =
+        whole_by file (as_whole c.limits c.areas c.rules c.begins (Some file) end why n read.before.told outside.sink.before.told mid.told is (from_begin c m f file end n read.before.told outside.sink.before.told mid.told did)) r
+
+  pub went_whole : (read : Change BlockFile) → (HasFailed read → HasFailed outside.pages) → ReadsFor c.items read.before.told outside.pages.after.told → (c.items ≡ [] → outside.pages.after.told ≡ read.before.told) → (end : RunEnd) (why : Why) → why_of end ≡ Some why
+      → Did c m outside.pages.before.told end n read.before.told outside.sink.before.told mid.told → OnlyWrote c.limits.listed outside.sink.before.told mid.told → mid.faults.count ≡ outside.sink.before.faults.count
+      → (status : Status) (grown : Channels) → IsReported read n (last_of why) (status_of c.strict n.cpu.core why) c.items status grown → EndsFrom mid outside.sink.after status grown result → Told outside c result
+  went_whole read up reads unread end why is did out quiet status grown r ends = stopped_by read up reads unread end why is status grown out quiet ends outside.pages.before.told did r
+
+  -- a call of the page file failed in the turn behind so many
+  pub broken_by : (file : BlockFile) → Did c m (Some file) run_end.PageFault n outside.pages.after.told outside.sink.before.told mid.told → mid.faults.count ≡ outside.sink.before.faults.count → EndsFrom mid outside.sink.after PageFault (only Report (machine_report n lasts.PageFault [])) result → EndsSo outside.sink (IsBroken c file outside) result
+  broken_by file did quiet ends =
+      let w = from_begin c m f file run_end.PageFault n outside.pages.after.told outside.sink.before.told mid.told did in
+      let q = turned c w.count in
+      let s = stage_of q in
+      let p = all_evicted w.front q in
+      let wrote : Grew outside.sink.before.told mid.told (both (machine_at s.place).output (lines_in c p)) =
+      subst (λ (z : Place). Grew outside.sink.before.told mid.told (both (machine_at z).output (lines_in c p))) (many_evicted w.front q).place (wrote_out (Some file) p w.wrote) in
+      let text = ap (only Report) (reported n outside.pages.after.told s lasts.PageFault [] w.steps w.means) in
+      record {
+        meant = PageFault;
+        grown = run_output s (lines_in c p) lasts.PageFault [];
+        so = record {
+          count = w.count;
+          goes = w.goes;
+          front = w.front;
+          rest = w.rest;
+          splits = w.splits;
+          asks = asking_of n;
+          fails = w.fails;
+          answer = refl;
+          wrote = refl;
+        };
+        ends = behind s (lines_in c p) lasts.PageFault [] PageFault (only Report (machine_report n lasts.PageFault [])) wrote quiet text ends;
+      }
+
+  cut_by : (told : Option BlockFile) → HasFailed outside.pages → Did c m told run_end.PageFault n outside.pages.after.told outside.sink.before.told mid.told → OnlyWrote c.limits.listed outside.sink.before.told mid.told → mid.faults.count ≡ outside.sink.before.faults.count → EndsFrom mid outside.sink.after PageFault (only Report (machine_report n lasts.PageFault [])) result → By told
+  cut_by None rose did out quiet ends =
+      let text = only Report (machine_report n lasts.PageFault []) in
+      record { meant = PageFault; grown = append out.more text; so = record { answer = rose; unlisted = λ off. unlisted out.more text (out.unlisted off) refl }; ends = ends_after outside.sink.before mid outside.sink.after PageFault out.more text result out.grew quiet ends }
+  cut_by (Some file) rose did out quiet ends =
+      let b = broken_by file did quiet ends in
+      record { meant = b.meant; grown = b.grown; so = inr (rose, inr b.so); ends = b.ends }
+
+  pub went_cut : HasFailed outside.pages → Did c m outside.pages.before.told run_end.PageFault n outside.pages.after.told outside.sink.before.told mid.told → OnlyWrote c.limits.listed outside.sink.before.told mid.told → mid.faults.count ≡ outside.sink.before.faults.count
+      → EndsFrom mid outside.sink.after PageFault (only Report (machine_report n lasts.PageFault [])) result → Told outside c result
+  went_cut rose did out quiet ends = cut_by outside.pages.before.told rose did out quiet ends
+
+module _ (outside : Outside) (c : Course) (m n : Engine) (f : IsReady m c.begins) where
+  -- a prefix of what the run writes was written, and of whatever is to come behind
+  pub lost_before : (told : Option BlockFile) (p : Paged) (text : Channels) → WrotePart (machine.origin c.limits c.areas c.begins told outside.sink.before.told) p outside.sink.after.told → GrewByPrefix outside.sink.before.told outside.sink.after.told (append (output_of c.limits.listed p) text)
+  lost_before told p text w =
+      let listed = c.limits.listed in
+      let e = all_of_it listed c.begins p w.more (nothing_yet listed c.begins f.silent (ap (λ (b : Paged). b.evictions) (sym f.begins))) w.is in
+      prefix_in outside.sink.before.told outside.sink.before.told outside.sink.after.told nothing w.more text (append (output_of listed p) text) (ap (λ (g : Channels). append g text) e) (grew_nothing outside.sink.before.told) w.grew
+
+  lost_prefix : (told : Option BlockFile) (p : Paged) (why : Last) (dumps : List Dump) → WrotePart (machine.origin c.limits c.areas c.begins told outside.sink.before.told) p outside.sink.after.told → GrewByPrefix outside.sink.before.told outside.sink.after.told (run_output (stage_of p) (lines_in c p) why dumps)
+  unfolding run_output
+  lost_prefix told p why dumps w = lost_before told p (only Report (run_report (stage_of p) why dumps)) w
+
+  lost_by : (told : Option BlockFile) → Did c m told run_end.WriteFault n outside.pages.after.told outside.sink.before.told outside.sink.after.told → OnlyWrote c.limits.listed outside.sink.before.told outside.sink.after.told → HasFailed outside.sink → EndsSo outside.sink (WentOnFrom told outside c) WriteFault
+  lost_by None did out rose = record {
+    meant = Done;
+    grown = out.more;
+    so = record { answer = tt; unlisted = out.unlisted };
+    ends = inr (record { answer = refl; prefix = record { prefix = out.more; rest = nothing; splits = append-nothing out.more; grew = out.grew }; cause = rose });
+  }
+  lost_by (Some file) did out rose =
+      let w = from_begin c m f file run_end.WriteFault n outside.pages.after.told outside.sink.before.told outside.sink.after.told did in
+      let p = turned c w.count in
+      let s = stage_of p in
+      record {
+        meant = status_of c.strict (machine_at s.place).core w.why;
+        grown = run_output s (lines_in c p) (last_of w.why) (dumps_at s c.items);
+        so = inl (record { halt = stop_whenrecord { count = w.count; why = w.why; goes = w.goes; stopped = w.stopped }; answer = refl; wrote = refl; blocks = inr (rose, w.moved) });
+        ends = inr (record { answer = refl; prefix = lost_prefix (Some file) p (last_of w.why) (dumps_at s c.items) w.wrote; cause = rose });
+      }
+
+  pub went_lost : Did c m outside.pages.before.told run_end.WriteFault n outside.pages.after.told outside.sink.before.told outside.sink.after.told → OnlyWrote c.limits.listed outside.sink.before.told outside.sink.after.told → HasFailed outside.sink → Told outside c WriteFault
+  went_lost did out rose = lost_by outside.pages.before.told did out rose
+
+-- a run from a start: it goes by the flat machine's run from there, and the limit of turns stops it only where it is too low
+
+pub ready : (m : Engine) (frames : ℕ) (start : Flat) → IsFresh m frames start → IsReady m (fresh frames start)
+ready m frames start f = record { means = f.means; begins = f.begins; silent = f.silent; unpinned = refl }
 
 -- a machine starts such a run
 pub record Starts (setup : Setup) (m : Engine) : Type 0 where
@@ -182,165 +325,63 @@ module _ (setup : Setup) (m : Engine) (f : Starts setup m) where
     memory = (f.is_fresh.means file).memory.areas ∙ ap layout f.areas;
   }
 
-  -- the run is that from the start
-  from_start : (file : BlockFile) (end : RunEnd) (n : Engine) (after : Option BlockFile) (old between : Option Channels) → Did setup m (Some file) end n after old between
-      → machine.Ends setup.limits setup.areas setup.rules (before_turns setup) (Some file) end n after old between
-  from_start file end n after old between did =
-      subst (λ (z : Paged). machine.Ends setup.limits setup.areas setup.rules z (Some file) end n after old between) f.is_fresh.begins
-      (did (At setup.start) (f.is_fresh.means file) (none_pinned m setup.frames setup.start f.is_fresh))
-
   -- it stopped by itself
-  abbrev pub stop_when : (file : BlockFile) (count : ℕ) (why : Why) → Runs setup.limits setup.areas setup.rules (before_turns setup) count → stops setup.limits.steps setup.limits.turns (after_turns setup count) ≡ Some why → Stop setup
-  stop_when file count why goes stopped =
-      let g : GoesOnFor setup.limits (run_of setup) count = record { going = goes.going } in
-      let comes = run_comes setup.limits (run_of setup) count g in
+  abbrev pub stop_of : BlockFile → Halt (course_of setup) → Stop setup
+  stop_of file h =
+      let g : GoesOnFor setup.limits (run_of setup) h.count = record { going = h.goes.going } in
+      let comes = run_comes setup.limits (run_of setup) h.count g in
       record {
-        at = stage_of (after_turns setup count);
-        why = why;
+        at = stage_of (after_turns setup h.count);
+        why = h.why;
         reaches = comes.reaches;
-        whole = stops_there why setup.limits setup.start (after_turns setup count) stopped comes;
-        count = count;
+        whole = stops_there h.why setup.limits setup.start (after_turns setup h.count) h.stopped comes;
+        count = h.count;
         leads = refl;
         goes = g;
-        stopped = stopped;
+        stopped = h.stopped;
         short = λ e. record {
-          few = λ parts over. turns_suffice setup.limits (run_of setup) count parts (proper file) f.low g (stopped ∙ ap (λ (w : Why). Some w) e) over;
-          spoiled = due_spoiled setup.limits (run_of setup) count g;
+          few = λ parts over. turns_suffice setup.limits (run_of setup) h.count parts (proper file) f.low g (h.stopped ∙ ap (λ (w : Why). Some w) e) over;
+          spoiled = due_spoiled setup.limits (run_of setup) h.count g;
         };
       }
 
--- What is known of a run of a machine that starts so: what it sees of the outside, the machine it leaves, the sink behind it, and the answer.
-module _ (outside : Outside) (setup : Setup) (m n : Engine) (f : Starts setup m) (mid : Seen Channels) (result : Status) where
-  abbrev b : Paged
-  b = before_turns setup
+  module _ (outside : Outside) (status : Status) (grown : Channels) where
+    as_run : (count : ℕ) (file : BlockFile) (after : Option BlockFile) → HasTurned (course_of setup) count file after → HasRun setup count file after
+    as_run count file after t = record { few = t.few; between = t.between; moved = t.moved; needed = λ turn low absent page small clean. writes_suffice (run_of setup) turn absent page small clean; told = t.told; unread = t.unread }
 
-  -- what is told of it, whatever the page file told before
-  abbrev By : Option BlockFile → Type 0
-  By told = EndsSo outside.sink (WentFrom told outside setup) result
+    as_runs : (count : ℕ) (file : BlockFile) → TurnsOrLoses (course_of setup) count file outside → RunsOrLoses setup count file outside
+    as_runs count file (inl t) = inl (as_run count file outside.pages.after.told t)
+    as_runs count file (inr l) = inr l
 
-  silent_start : output_of setup.limits.listed b ≡ nothing
-  silent_start = nothing_yet setup.limits.listed b f.is_fresh.silent refl
-
-  wrote_out : (told : Option BlockFile) (p : Paged) → Wrote (machine.origin setup.limits setup.areas b told outside.sink.before.told) p mid.told → Grew outside.sink.before.told mid.told (output_of setup.limits.listed p)
-  wrote_out told p w = subst (λ (c : Channels). Grew outside.sink.before.told mid.told c) (all_of_it setup.limits.listed b p w.more silent_start w.is) w.grew
-
-  -- the report behind what the run wrote
-  pub behind : (s : Stage) (lines : Text) (why : Last) (dumps : List Dump) (status : Status) (grown : Channels) → Grew outside.sink.before.told mid.told (both (machine_at s.place).output lines) → mid.faults.count ≡ outside.sink.before.faults.count → grown ≡ only Report (run_report s why dumps) → EndsFrom mid outside.sink.after status grown result → Ends outside.sink status (run_output s lines why dumps) result
-  behind s lines why dumps status grown wrote quiet is ends =
-      subst (λ (g : Channels). Ends outside.sink status g result) (outputs s lines why dumps grown is) (ends_after outside.sink.before mid outside.sink.after status (both (machine_at s.place).output lines) grown result wrote quiet ends)
-
-  -- it stopped by itself, and the report was written: `read` is the page file before and after the memory for the report was read
-  module _ (read : Change BlockFile) (up : HasFailed read → HasFailed outside.pages) (reads : ReadsFor setup.items read.before.told outside.pages.after.told) (unread : setup.items ≡ [] → outside.pages.after.told ≡ read.before.told) (end : RunEnd) (why : Why) (is : why_of end ≡ Some why) (status : Status) (grown : Channels) (out : OnlyWrote setup.limits.listed outside.sink.before.told mid.told) (quiet : mid.faults.count ≡ outside.sink.before.faults.count) (ends : EndsFrom mid outside.sink.after status grown result) where
-    answer_is : IsReported read n (last_of why) (status_of setup.strict n.cpu.core why) setup.items status grown → IsUntold setup outside status (append out.more grown)
-    answer_is (inl r) = record { answer = subst (IsRunAnswer setup.strict (HasFailed outside.pages)) (sym r.0) (answers (HasFailed outside.pages) setup.strict n.cpu.core why); unlisted = λ off. unlisted out.more grown (out.unlisted off) (let d = r.1 in ap (λ (c : Channels). c.recorded) d.2) }
-    answer_is (inr r) = record { answer = subst (IsRunAnswer setup.strict (HasFailed outside.pages)) (sym r.1) (up r.0); unlisted = λ off. unlisted out.more grown (out.unlisted off) (ap (λ (c : Channels). c.recorded) r.2) }
-
-    whole_by : (file : BlockFile) → IsWhole setup.limits setup.areas setup.rules b end (Some file) n read.before.told outside.sink.before.told mid.told → IsReported read n (last_of why) (status_of setup.strict n.cpu.core why) setup.items status grown → By (Some file)
-    whole_by file w (inl r) =
-        let p = after_turns setup w.count in
-        let s = stage_of p in
-        let d = r.1 in
-        let shows : d.0 ≡ dumps_at s setup.items = as_shown s setup.items d.0 (d.1 p.place w.tracks.means) in
-        let text : grown ≡ only Report (run_report s (last_of why) (dumps_at s setup.items)) =
-        d.2 ∙ (ap (only Report) (reported n read.before.told s (last_of why) d.0 w.tracks.steps w.tracks.means) ∙ ap (λ dumps. only Report (run_report s (last_of why) dumps)) shows) in
+    pub as_cut : (file : BlockFile) → IsBroken (course_of setup) file outside status grown → IsCut setup file outside status grown
+    as_cut file w =
+        let q = after_turns setup w.count in
+        let g : GoesOnFor setup.limits (run_of setup) (suc w.count) = record { going = w.goes.going } in
+        let going = going_on setup.limits q (g.going w.count (omega arith)) in
         record {
-          meant = status;
-          grown = run_output s (recorded setup p) (last_of why) (dumps_at s setup.items);
-          so = inl (record { stop = stop_when setup m f file w.count why w.goes (w.stopped ∙ is); answer = r.0 ∙ ap (λ (k : Core). status_of setup.strict k why) (core_at n read.before.told p.place w.tracks.means); wrote = refl; blocks = inl (ran_and_read setup w.count file read.before.told outside.pages.after.told w.few w.moved reads unread) });
-          ends = behind s (recorded setup p) (last_of why) (dumps_at s setup.items) status grown (wrote_out (Some file) p w.wrote) quiet text ends;
-        }
-    whole_by file w (inr r) =
-        let p = after_turns setup w.count in
-        let s = stage_of p in
-        let text : grown ≡ only Report (run_report s lasts.PageFault []) = r.2 ∙ ap (only Report) (reported n read.before.told s lasts.PageFault [] w.tracks.steps w.tracks.means) in
-        record {
-          meant = status;
-          grown = run_output s (recorded setup p) lasts.PageFault [];
-          so = inr (up r.0, inl (record { stop = stop_when setup m f file w.count why w.goes (w.stopped ∙ is); answer = r.1; wrote = refl; blocks = ran_and_read setup w.count file read.before.told outside.pages.after.told w.few w.moved reads unread }));
-          ends = behind s (recorded setup p) lasts.PageFault [] status grown (wrote_out (Some file) p w.wrote) quiet text ends;
+          at = stage_of q;
+          reaches = (run_comes setup.limits (run_of setup) w.count (shorter setup.limits (run_of setup) w.count g)).reaches;
+          unfinished = record { ending = going.ending; left = going.steps };
+          count = w.count;
+          leads = refl;
+          goes = g;
+          front = w.front;
+          rest = w.rest;
+          splits = w.splits;
+          turns = w.turns;
+          fails = w.fails;
+          answer = w.answer;
+          wrote = w.wrote;
         }
 
-    stopped_by : (told : Option BlockFile) → Did setup m told end n read.before.told outside.sink.before.told mid.told → IsReported read n (last_of why) (status_of setup.strict n.cpu.core why) setup.items status grown → By told
-    stopped_by None did r = record { meant = status; grown = append out.more grown; so = answer_is r; ends = ends_after outside.sink.before mid outside.sink.after status out.more grown result out.grew quiet ends }
-    stopped_by (Some file) did r =
-        whole_by file (as_whole setup.limits setup.areas setup.rules b (Some file) end why n read.before.told outside.sink.before.told mid.told is (from_start setup m f file end n read.before.told outside.sink.before.told mid.told did)) r
+    went_from : (told : Option BlockFile) → WentOnFrom told outside (course_of setup) status grown → WentFrom told outside setup status grown
+    went_from None w = record { answer = w.answer; unlisted = w.unlisted }
+    went_from (Some file) (inl w) = inl (record { stop = stop_of file w.halt; answer = w.answer; wrote = w.wrote; blocks = as_runs w.halt.count file w.blocks })
+    went_from (Some file) (inr (rose, inl w)) = inr (rose, inl (record { stop = stop_of file w.halt; answer = w.answer; wrote = w.wrote; blocks = as_run w.halt.count file outside.pages.after.told w.blocks }))
+    went_from (Some file) (inr (rose, inr w)) = inr (rose, inr (as_cut file w))
 
-  pub went_whole : (read : Change BlockFile) → (HasFailed read → HasFailed outside.pages) → ReadsFor setup.items read.before.told outside.pages.after.told → (setup.items ≡ [] → outside.pages.after.told ≡ read.before.told) → (end : RunEnd) (why : Why) → why_of end ≡ Some why
-      → Did setup m outside.pages.before.told end n read.before.told outside.sink.before.told mid.told → OnlyWrote setup.limits.listed outside.sink.before.told mid.told → mid.faults.count ≡ outside.sink.before.faults.count
-      → (status : Status) (grown : Channels) → IsReported read n (last_of why) (status_of setup.strict n.cpu.core why) setup.items status grown → EndsFrom mid outside.sink.after status grown result → Told outside setup result
-  went_whole read up reads unread end why is did out quiet status grown r ends = stopped_by read up reads unread end why is status grown out quiet ends outside.pages.before.told did r
-
-  cut_by : (told : Option BlockFile) → HasFailed outside.pages → Did setup m told run_end.PageFault n outside.pages.after.told outside.sink.before.told mid.told → OnlyWrote setup.limits.listed outside.sink.before.told mid.told → mid.faults.count ≡ outside.sink.before.faults.count → EndsFrom mid outside.sink.after PageFault (only Report (machine_report n lasts.PageFault [])) result → By told
-  cut_by None rose did out quiet ends =
-      let text = only Report (machine_report n lasts.PageFault []) in
-      record { meant = PageFault; grown = append out.more text; so = record { answer = rose; unlisted = λ off. unlisted out.more text (out.unlisted off) refl }; ends = ends_after outside.sink.before mid outside.sink.after PageFault out.more text result out.grew quiet ends }
-  cut_by (Some file) rose did out quiet ends =
-      let w = from_start setup m f file run_end.PageFault n outside.pages.after.told outside.sink.before.told mid.told did in
-      let q = after_turns setup w.count in
-      let s = stage_of q in
-      let p = all_evicted w.front q in
-      let g : GoesOnFor setup.limits (run_of setup) (suc w.count) = record { going = w.goes.going } in
-      let going = going_on setup.limits q (g.going w.count (omega arith)) in
-      let wrote : Grew outside.sink.before.told mid.told (both (machine_at s.place).output (recorded setup p)) =
-      subst (λ (z : Place). Grew outside.sink.before.told mid.told (both (machine_at z).output (recorded setup p))) (many_evicted w.front q).place (wrote_out (Some file) p w.wrote) in
-      let text = ap (only Report) (reported n outside.pages.after.told s lasts.PageFault [] w.steps w.means) in
-      record {
-        meant = PageFault;
-        grown = run_output s (recorded setup p) lasts.PageFault [];
-        so = inr (
-          rose,
-          inr (record {
-            at = s;
-            reaches = (run_comes setup.limits (run_of setup) w.count (shorter setup.limits (run_of setup) w.count g)).reaches;
-            unfinished = record { ending = going.ending; left = going.steps };
-            count = w.count;
-            leads = refl;
-            goes = g;
-            front = w.front;
-            rest = w.rest;
-            splits = w.splits;
-            asks = asking_of n;
-            fails = w.fails;
-            answer = refl;
-            wrote = refl;
-          }),
-        );
-        ends = behind s (recorded setup p) lasts.PageFault [] PageFault (only Report (machine_report n lasts.PageFault [])) wrote quiet text ends;
-      }
-
-  pub went_cut : HasFailed outside.pages → Did setup m outside.pages.before.told run_end.PageFault n outside.pages.after.told outside.sink.before.told mid.told → OnlyWrote setup.limits.listed outside.sink.before.told mid.told → mid.faults.count ≡ outside.sink.before.faults.count
-      → EndsFrom mid outside.sink.after PageFault (only Report (machine_report n lasts.PageFault [])) result → Told outside setup result
-  went_cut rose did out quiet ends = cut_by outside.pages.before.told rose did out quiet ends
-
-module _ (outside : Outside) (setup : Setup) (m n : Engine) (f : Starts setup m) where
-  lost_prefix : (told : Option BlockFile) (p : Paged) (why : Last) (dumps : List Dump) → WrotePart (machine.origin setup.limits setup.areas (before_turns setup) told outside.sink.before.told) p outside.sink.after.told → GrewByPrefix outside.sink.before.told outside.sink.after.told (run_output (stage_of p) (recorded setup p) why dumps)
-  unfolding run_output
-  lost_prefix told p why dumps w =
-      let listed = setup.limits.listed in
-      let e = all_of_it listed (before_turns setup) p w.more (nothing_yet listed (before_turns setup) f.is_fresh.silent refl) w.is in
-      let text = only Report (run_report (stage_of p) why dumps) in
-      prefix_in outside.sink.before.told outside.sink.before.told outside.sink.after.told nothing w.more text (append (output_of listed p) text) (ap (λ (c : Channels). append c text) e) (grew_nothing outside.sink.before.told) w.grew
-
-  lost_by : (told : Option BlockFile) → Did setup m told run_end.WriteFault n outside.pages.after.told outside.sink.before.told outside.sink.after.told → OnlyWrote setup.limits.listed outside.sink.before.told outside.sink.after.told → HasFailed outside.sink → EndsSo outside.sink (WentFrom told outside setup) WriteFault
-  lost_by None did out rose = record {
-    meant = Done;
-    grown = out.more;
-    so = record { answer = tt; unlisted = out.unlisted };
-    ends = inr (record { answer = refl; prefix = record { prefix = out.more; rest = nothing; splits = append-nothing out.more; grew = out.grew }; cause = rose });
-  }
-  lost_by (Some file) did out rose =
-      let w = from_start setup m f file run_end.WriteFault n outside.pages.after.told outside.sink.before.told outside.sink.after.told did in
-      let p = after_turns setup w.count in
-      let s = stage_of p in
-      record {
-        meant = status_of setup.strict (machine_at s.place).core w.why;
-        grown = run_output s (recorded setup p) (last_of w.why) (dumps_at s setup.items);
-        so = inl (record { stop = stop_when setup m f file w.count w.why w.goes w.stopped; answer = refl; wrote = refl; blocks = inr (rose, w.moved) });
-        ends = inr (record { answer = refl; prefix = lost_prefix (Some file) p (last_of w.why) (dumps_at s setup.items) w.wrote; cause = rose });
-      }
-
-  pub went_lost : Did setup m outside.pages.before.told run_end.WriteFault n outside.pages.after.told outside.sink.before.told outside.sink.after.told → OnlyWrote setup.limits.listed outside.sink.before.told outside.sink.after.told → HasFailed outside.sink → Told outside setup WriteFault
-  went_lost did out rose = lost_by outside.pages.before.told did out rose
+  pub went_from_start : (outside : Outside) (result : Status) → Told outside (course_of setup) result → EndsSo outside.sink (Went outside setup) result
+  went_from_start outside result h = record { meant = h.meant; grown = h.grown; so = went_from outside h.meant h.grown outside.pages.before.told h.so; ends = h.ends }
 
 -- a call of the page file that failed isn't hidden
 pub cut_answers : (before after : Seen Channels) (grown : Channels) (result : Status) → EndsFrom before after PageFault grown result → (result ≡ PageFault) ⊎ (result ≡ WriteFault)
@@ -371,5 +412,5 @@ module _ (outside : Outside) (program : Loaded) (input schedule : Text) (options
   run_misplanned status (inl r) k ends = record { meant = status; grown = refusal_growth status; so = inr (inl (record { fault = r; wrote = refl; keeps = k })); ends = ends }
   run_misplanned status (inr e) k ends = record { meant = status; grown = refusal_growth status; so = inl (e, ap refusal_growth e, k); ends = ends }
 
-  pub run_went : (rules : List Rule) → Denotes (start_areas program.system program.user) schedule rules → Told outside (setup_for program input rules options) result → Ran outside program input schedule options result
+  pub run_went : (rules : List Rule) → Denotes (start_areas program.system program.user) schedule rules → EndsSo outside.sink (Went outside (setup_for program input rules options)) result → Ran outside program input schedule options result
   run_went rules planned h = record { meant = h.meant; grown = h.grown; so = inr (inr (record { rules = rules; planned = planned; went = h.so })); ends = h.ends }

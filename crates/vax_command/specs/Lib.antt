@@ -15,3 +15,8 @@ pub mod SessionWent
 pub mod Holding
 pub mod Tracing
 pub mod TracingEnds
+pub mod Wanting
+pub mod Course
+pub mod Onward
+pub mod Resuming
+pub mod Saving

@@ -6,7 +6,7 @@ use Rattle.vax_outside.specs.declared.traits.FilesFault.TheVariants as faults
 use Rattle.vax_cli.specs.Words.{Options, Text}
 use Rattle.vax_command.specs.Around.{Change, HasFailed}
 use Rattle.vax_command.specs.declared.status.Status.{Status}
-use Rattle.vax_command.specs.declared.status.Status.TheVariants.{Done, Usage, Missing, Large, Refused, Link, Schedule, Image, Turns, PageFault, ReadFault, WriteFault, NoMemory, NotHalted, Unsuccessful, Unfinished}
+use Rattle.vax_command.specs.declared.status.Status.TheVariants.{Done, Usage, Missing, Large, Refused, Link, Schedule, Image, Turns, PageFault, ReadFault, WriteFault, NoMemory, Saved, NotHalted, Unsuccessful, Unfinished}
 
 -- the most bytes of a file
 abbrev pub file_limit : ℕ
@@ -50,6 +50,7 @@ EndsBy rose fails PageFault = ⊥
 EndsBy rose fails ReadFault = rose
 EndsBy rose fails WriteFault = ⊥
 EndsBy rose fails NoMemory = ⊤
+EndsBy rose fails (Saved place kind) = ⊥
 EndsBy rose fails NotHalted = ⊥
 EndsBy rose fails Unsuccessful = ⊥
 EndsBy rose fails Unfinished = ⊥

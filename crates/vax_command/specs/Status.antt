@@ -4,7 +4,7 @@ use Rattle.vax_outside.specs.Hex.{hex}
 use Rattle.vax_outside.specs.Channels.{Channels, nothing, only}
 use Rattle.vax_outside.specs.declared.traits.Chan.TheVariants.{Report}
 use Rattle.vax_command.specs.declared.status.Status.{Status}
-use Rattle.vax_command.specs.declared.status.Status.TheVariants.{Done, Usage, Missing, Large, Refused, Link, Schedule, Image, Turns, PageFault, ReadFault, WriteFault, NoMemory, NotHalted, Unsuccessful, Unfinished}
+use Rattle.vax_command.specs.declared.status.Status.TheVariants.{Done, Usage, Missing, Large, Refused, Link, Schedule, Image, Turns, PageFault, ReadFault, WriteFault, NoMemory, Saved, NotHalted, Unsuccessful, Unfinished}
 
 -- the exit status of the process
 abbrev pub code : Status → ℕ
@@ -21,6 +21,7 @@ code PageFault = 9
 code ReadFault = 10
 code WriteFault = 11
 code NoMemory = 12
+code (Saved place kind) = 14
 code NotHalted = 15
 code Unsuccessful = 16
 code Unfinished = 17
@@ -53,6 +54,10 @@ link_fault kind name place = codes "vax: link fault " ++ decimal kind ++ link_de
 unfoldable pub image_fault : ℕ → ℕ → List ℕ
 image_fault place kind = codes "vax: image place " ++ decimal place ++ codes " fault " ++ decimal kind ++ codes "\n"
 
+-- the place of a fault in the file of a saved state
+unfoldable pub saved_fault : ℕ → ℕ → List ℕ
+saved_fault place kind = codes "vax: saved place " ++ decimal place ++ codes " fault " ++ decimal kind ++ codes "\n"
+
 -- the line that an answer before the run writes to Report, if it is a refusal
 abbrev pub refusal : Status → Option (List ℕ)
 refusal Done = None
@@ -68,6 +73,7 @@ refusal PageFault = None
 refusal ReadFault = Some (codes "vax: read\n")
 refusal WriteFault = None
 refusal NoMemory = Some (codes "vax: memory\n")
+refusal (Saved place kind) = Some (saved_fault place kind)
 refusal NotHalted = None
 refusal Unsuccessful = None
 refusal Unfinished = None

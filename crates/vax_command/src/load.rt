@@ -5,6 +5,7 @@ ghost use Rattle.vax_cli.specs.Said.{names_of, options as said_options};
 ghost use Rattle.vax_command.specs.Around.{change};
 ghost use Rattle.vax_command.specs.Reading.{HasTexts, Reads, ReadEnds, ReadsOnly, file_limit, given, of_options};
 ghost use Rattle.vax_command.specs.ReadingView.{bytes_of, given_seen, texts};
+ghost use Rattle.vax_command.specs.Wanting.{OneEnds, ReadsOne};
 
 use crate::name::Name;
 use crate::status::Status;
@@ -45,6 +46,29 @@ fn large(alloc: Global, name: &str) -> Status
     }
 }
 
+/// Reads a file of at most so many bytes.
+pub(crate) fn load_within<S: Files>(
+    alloc: Global,
+    name: &str,
+    limit: u32,
+    files: &mut S,
+) -> Result<Vec<u8>, Status>
+    ensures only { ReadsOnly (change S.faults S.contents files.old files.new) result }
+    ensures bound { IfOk result (λ v. length v.items ≤ limit) }
+    ensures ok { IfOk result (λ v.
+        ReadsOne (S.contents files.old) name.now limit (Ok (v.items ∷ []))) }
+    ensures ends { IfErr result (λ status. OneEnds (change S.faults S.contents files.old files.new)
+        name.now limit status) }
+{
+    match files.read(alloc, name, limit) {
+        Ok(bytes) => Ok(bytes),
+        Err(FilesFault::Missing) => Err(missing(alloc, name)),
+        Err(FilesFault::Large) => Err(large(alloc, name)),
+        Err(FilesFault::Failed) => Err(Status::ReadFault),
+        Err(FilesFault::NoMemory) => Err(Status::NoMemory),
+    }
+}
+
 /// Reads a file.
 fn load<S: Files>(alloc: Global, name: &str, files: &mut S) -> Result<Vec<u8>, Status>
     ensures only { ReadsOnly (change S.faults S.contents files.old files.new) result }
@@ -54,13 +78,7 @@ fn load<S: Files>(alloc: Global, name: &str, files: &mut S) -> Result<Vec<u8>, S
     ensures ends { IfErr result (λ status. ReadEnds (change S.faults S.contents files.old files.new)
         (name.now ∷ []) status) }
 {
-    match files.read(alloc, name, FILE_LIMIT) {
-        Ok(bytes) => Ok(bytes),
-        Err(FilesFault::Missing) => Err(missing(alloc, name)),
-        Err(FilesFault::Large) => Err(large(alloc, name)),
-        Err(FilesFault::Failed) => Err(Status::ReadFault),
-        Err(FilesFault::NoMemory) => Err(Status::NoMemory),
-    }
+    load_within(alloc, name, FILE_LIMIT, files)
 }
 
 /// Reads files in order, up to the first that can't be read.

@@ -2,7 +2,7 @@
 ghost use Rattle.std.specs.Prelude.{◌≡◌, OnErr, OnOk, true, false, is_err};
 ghost use Rattle.vax_outside.specs.Channels.{Grew, GrewByPrefix, only};
 ghost use Rattle.vax_outside.specs.Faults.{CountsFailure};
-ghost use Rattle.vax_command.specs.Status.{image_fault, is_named, link_fault, named, refusal_growth, schedule_fault, source_fault};
+ghost use Rattle.vax_command.specs.Status.{image_fault, is_named, link_fault, named, refusal_growth, saved_fault, schedule_fault, source_fault};
 ghost use Rattle.vax_command.specs.Around.{change};
 ghost use Rattle.vax_command.specs.Ends.{Ends};
 
@@ -133,6 +133,24 @@ fn put_image_fault<K: Sink>(place: u32, kind: u8, sink: &mut K) -> Result<(), Fa
     put_all(sink, Chan::Report, text.as_slice())
 }
 
+/// Writes the place of a fault in the file of a saved state.
+#[tactic(auto, unfolding(crate::specs::Status::saved_fault))]
+fn put_saved_fault<K: Sink>(place: u32, kind: u8, sink: &mut K) -> Result<(), Failed>
+    ensures ok { OnOk result (Grew (K.contents sink.old) (K.contents sink.new)
+        (only Chan.Report (saved_fault place kind))) }
+    ensures prefix { OnErr result (GrewByPrefix (K.contents sink.old) (K.contents sink.new)
+        (only Chan.Report (saved_fault place kind))) }
+    ensures counts { CountsFailure (is_err result) (K.faults sink.old) (K.faults sink.new) }
+{
+    let mut text = Text::new();
+    text.push(b"vax: saved place ");
+    text.push_decimal(place as u64);
+    text.push(b" fault ");
+    text.push_decimal(kind as u64);
+    text.push(b"\n");
+    put_all(sink, Chan::Report, text.as_slice())
+}
+
 /// Writes the line of a refusal; other answers have none.
 fn put_refusal<K: Sink>(status: &Status, sink: &mut K) -> Result<(), Failed>
     ensures ok { OnOk result (Grew (K.contents sink.old) (K.contents sink.new)
@@ -149,6 +167,7 @@ fn put_refusal<K: Sink>(status: &Status, sink: &mut K) -> Result<(), Failed>
         Status::Link { kind, name, place } => put_link_fault(*kind, name.as_slice(), *place, sink),
         Status::Schedule { line, kind } => put_schedule_fault(*line, *kind, sink),
         Status::Image { place, kind } => put_image_fault(*place, *kind, sink),
+        Status::Saved { place, kind } => put_saved_fault(*place, *kind, sink),
         Status::ReadFault => put_all(sink, Chan::Report, b"vax: read\n"),
         Status::NoMemory => put_all(sink, Chan::Report, b"vax: memory\n"),
         Status::Done

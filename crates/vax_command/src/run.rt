@@ -1,21 +1,22 @@
 //! Runs a program: makes a machine and its schedule, runs it, and reports.
-ghost use Rattle.std.specs.Prelude.{◌≡◌, ◌⊎◌, ◌≤◌, ◌<◌, ◌^◌, ◌-◌, ℕ, [], Result, Ok, IfOk, IfErr, length};
+ghost use Rattle.std.specs.Prelude.{◌≡◌, ◌⊎◌, ◌≤◌, ◌<◌, ◌^◌, ◌-◌, [], Result, Ok, IfOk, IfErr, length};
 ghost use Rattle.vax_outside.specs.Channels.{only};
 ghost use Rattle.vax_outside.specs.declared.traits.Chan.TheVariants.{Report};
-ghost use Rattle.vax_flat.specs.Step.{Flat};
 ghost use Rattle.vax_image.specs.Start.{Start, start_areas};
 ghost use Rattle.vax_machine.specs.Meaning.{engine};
 ghost use Rattle.vax_machine.specs.Machine.{keeping};
+ghost use Rattle.vax_machine.specs.Paged.{Paged};
 ghost use Rattle.vax_sched.specs.Faults.{Denotes};
 ghost use Rattle.vax_cli.specs.Said.{AreWithin, options as said_options};
 ghost use Rattle.vax_command.specs.Around.{change, outside};
 ghost use Rattle.vax_command.specs.Ends.{Admits, Ends, EndsSo};
-ghost use Rattle.vax_command.specs.Fresh.{IsFresh, IsPrepared, IsReported, machine_report};
+ghost use Rattle.vax_command.specs.Course.{IsReady, WentOn};
+ghost use Rattle.vax_command.specs.Fresh.{IsPrepared, IsReported, machine_report};
 ghost use Rattle.vax_command.specs.Loaded.{AreSound, loaded_seen};
 ghost use Rattle.vax_command.specs.Reading.{file_limit};
 ghost use Rattle.vax_command.specs.Running.{IsFaulty, Ran};
 ghost use Rattle.vax_command.specs.Room.{ReadsFor, items_of};
-ghost use Rattle.vax_command.specs.Went.{Went, limits_of};
+ghost use Rattle.vax_command.specs.Went.{limits_of};
 
 use crate::answer::{answer_ended, answer_unhalted};
 use crate::dump::{Room, fill, reserve};
@@ -85,13 +86,13 @@ pub(crate) fn report_all<K: Sink, F: PageFile>(
 
 /// What is asked for beside a run: the memory for its report, and what its answer tells of its end.
 #[derive(Drop)]
-struct Telling {
-    room: Room,
-    strict: Strictness,
+pub(crate) struct Telling {
+    pub(crate) room: Room,
+    pub(crate) strict: Strictness,
 }
 
-/// Runs a machine under a schedule, and writes the report.
-fn execute<K: Sink, F: PageFile>(
+/// Runs a machine under a schedule from whatever place it stands for, and writes the report.
+pub(crate) fn execute<K: Sink, F: PageFile>(
     machine: Machine,
     limits: &Limits,
     schedule: &Schedule,
@@ -101,16 +102,15 @@ fn execute<K: Sink, F: PageFile>(
 ) -> Status
     requires few_steps { limits.now.steps < 2 ^ 64 }
     requires few_turns { limits.now.turns < 2 ^ 64 - 2 }
-    ensures went { (frames : ℕ) → (m : Flat) → IsFresh (engine machine) frames m →
+    ensures went { (b : Paged) → IsReady (engine machine) b →
         EndsSo (change K.faults K.contents sink.old sink.new)
-        (Went (outside (change K.faults K.contents sink.old sink.new)
+        (WentOn (outside (change K.faults K.contents sink.old sink.new)
         (change F.faults F.contents pages.old pages.new))
         (record {
           limits = limits.now;
           areas = (keeping (engine machine)).areas;
           rules = schedule.now;
-          frames = frames;
-          start = m;
+          begins = b;
           items = items_of telling.room.blanks.items;
           strict = telling.strict;
         }))
@@ -135,7 +135,7 @@ fn execute<K: Sink, F: PageFile>(
 }
 
 /// The schedule of a text, or the answer to its first fault.
-fn plan(alloc: Global, text: &[u8], space: &Space) -> Result<Schedule, Status>
+pub(crate) fn plan(alloc: Global, text: &[u8], space: &Space) -> Result<Schedule, Status>
     requires { length text.now ≤ file_limit }
     ensures planned { IfOk result (λ schedule. Denotes space.now text.now schedule) }
     ensures fault { IfErr result (λ status.

@@ -33,6 +33,8 @@ pub enum Status {
     WriteFault,
     /// Memory was refused before the run.
     NoMemory,
+    /// The first fault of a saved state's file: the offset of its field, and its kind.
+    Saved { place: u32, kind: u8 },
     /// The run came to its end or its limit of steps otherwise than by HALT, and `--strict on` asks for that.
     NotHalted,
     /// The program halted with neither 0 nor 1 in R0, and `--strict on` asks for that.
@@ -62,6 +64,7 @@ impl Status {
             Status::ReadFault => 10,
             Status::WriteFault => 11,
             Status::NoMemory => 12,
+            Status::Saved { .. } => 14,
             Status::NotHalted => 15,
             Status::Unsuccessful => 16,
             Status::Unfinished => 17,

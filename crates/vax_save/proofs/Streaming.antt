@@ -1,9 +1,9 @@
 -- Bytes on their way to Record.
 use Rattle.std.proofs.Common.{◌≡◌, ℕ, List, [], ◌++◌, append_assoc, append-nil, Option, refl, sym, ap, subst, ◌∙◌}
-use Rattle.vax_outside.specs.Channels.{Channels, Grew, GrewByPrefix, only}
+use Rattle.vax_outside.specs.Channels.{Channels, Grew, GrewByPrefix, nothing, only}
 use Rattle.vax_outside.specs.declared.traits.Chan.TheVariants.{Record}
-use Rattle.vax_outside.proofs.Growth.{grew_nothing, prefix_stays, prefix_within, record_grew}
-use Rattle.vax_save.specs.Stream.{Cuts, IsBetween, Leaves, Puts, Stream, stream}
+use Rattle.vax_outside.proofs.Growth.{append-nothing, grew_nothing, prefix_stays, prefix_within, record_grew}
+use Rattle.vax_save.specs.Stream.{Cuts, HasCut, HasPut, IsBetween, Leaves, Puts, Records, Stream, stream}
 
 -- nothing was written, and all is still to come
 pub begun : (whole : List ℕ) (old : Option Channels) → IsBetween whole old (stream old []) (whole ++ [])
@@ -96,3 +96,25 @@ whole_put whole held old now s none p g = finished whole old s.channels now s.he
 
 pub whole_lost : (whole held : List ℕ) (old now : Option Channels) (s : Stream) → held ≡ [] → Puts whole (stream old held) s → GrewByPrefix s.channels now (only Record s.held) → GrewByPrefix old now (only Record whole)
 whole_lost whole held old now s none p g = cut_short whole old s.channels now s.held (p whole [] old (start_of whole held old none)) g
+
+-- some bytes, whatever they are
+
+pub none_put : (s : Stream) → HasPut s s
+none_put s = ([], leaves_same [] s)
+
+pub put_more : (s t u : Stream) → HasPut s t → HasPut t u → HasPut s u
+put_more s t u a b = (a.0 ++ b.0, puts_then a.0 b.0 s t u a.1 b.1)
+
+pub cut_more : (s t : Stream) (now : Option Channels) → HasPut s t → HasCut t now → HasCut s now
+cut_more s t now a b = (a.0 ++ b.0, cuts_then a.0 b.0 s t now a.1 b.1)
+
+pub records_cut : (held : List ℕ) (old now : Option Channels) → held ≡ [] → HasCut (stream old held) now → Records old now
+records_cut held old now none h = (h.0, whole_cut h.0 held old now none h.1)
+
+pub records_lost : (held : List ℕ) (old now : Option Channels) (s : Stream) → held ≡ [] → HasPut (stream old held) s → GrewByPrefix s.channels now (only Record s.held) → Records old now
+records_lost held old now s none h g = (h.0, whole_lost h.0 held old now s none h.1 g)
+
+pub records_put : (held : List ℕ) (old now : Option Channels) (s : Stream) → held ≡ [] → HasPut (stream old held) s → Grew s.channels now (only Record s.held) → Records old now
+records_put held old now s none h g =
+    let whole = only Record h.0 in
+    (h.0, record { prefix = whole; rest = nothing; splits = append-nothing whole; grew = whole_put h.0 held old now s none h.1 g })

@@ -30,3 +30,15 @@ Puts bytes old new = Leaves bytes [] old new
 abbrev pub Cuts : List ℕ → Stream → Option Channels → Type 0
 Cuts bytes old now =
     (whole rest : List ℕ) → (first : Option Channels) → IsBetween whole first old (bytes ++ rest) → GrewByPrefix first now (only Record whole)
+
+-- some bytes were put, whatever they are
+abbrev pub HasPut : Stream → Stream → Type 0
+HasPut old new = (bytes : List ℕ) × Puts bytes old new
+
+-- a prefix of a whole was written, whatever bytes were put last
+abbrev pub HasCut : Stream → Option Channels → Type 0
+HasCut old now = (bytes : List ℕ) × Cuts bytes old now
+
+-- Record grew by some bytes, and no other channel did
+abbrev pub Records : Option Channels → Option Channels → Type 0
+Records old now = (whole : List ℕ) × GrewByPrefix old now (only Record whole)

@@ -56,6 +56,7 @@ pub(crate) fn contents_at<'a>(alloc: Global, bytes: &'a [u8]) -> Result<Contents
     requires { length bytes.now ≤ 67108864 }
     ensures gives { Gives view.contents result
         (spec.contents_at (record { place = 0; rest = bytes.entry.now })) }
+    ensures few { IfOk result (λ x. x.steps ≤ 10 ^ 18) }
     ensures within { IfOk result (λ x. x.taken ≤ length x.input.now) }
     ensures short { IfOk result (λ x. length x.input.now < 2 ^ 32) }
 {

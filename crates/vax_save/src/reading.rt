@@ -1,5 +1,5 @@
 //! The fields of a saved state, read one after the other.
-ghost use Rattle.std.specs.Prelude.{◌≡◌, length, IfOk};
+ghost use Rattle.std.specs.Prelude.{◌≡◌, ◌≤◌, ◌^◌, length, IfOk};
 ghost use Rattle.vax_save.specs.Restoring as spec;
 ghost use Rattle.vax_save.specs.Restoring.{Gives};
 ghost use Rattle.vax_save.specs.Views.{cursor};
@@ -92,6 +92,7 @@ fn version_at<'a>(value: u16, from: Cursor<'a>) -> Result<Cursor<'a>, SaveError>
 #[tactic(auto, unfolding(crate::specs::Restoring::steps_at))]
 pub(crate) fn steps_at<'a>(from: Cursor<'a>) -> Result<(u64, Cursor<'a>), SaveError>
     ensures gives { Gives (λ x. (x.0, cursor x.1)) result (spec.steps_at (cursor from.entry)) }
+    ensures few { IfOk result (λ x. x.0 ≤ 10 ^ 18) }
 {
     let rest = version_at(1, from)?;
     let rest = version_at(0, rest)?;

@@ -1,5 +1,5 @@
 //! Makes the machine of a saved state.
-ghost use Rattle.std.specs.Prelude.{◌≡◌, ◌≤◌, None, length, IfErr, IfOk};
+ghost use Rattle.std.specs.Prelude.{◌≡◌, ◌≤◌, ◌^◌, None, length, IfErr, IfOk};
 ghost use Rattle.vax_machine.specs.Meaning.{engine};
 ghost use Rattle.vax_save.specs.Restored.{HasRestored, state};
 ghost use Rattle.vax_save.specs.Restoring.{Fails, Gives, restored};
@@ -32,6 +32,7 @@ fn state_at(alloc: Global, bytes: &[u8]) -> Result<State, SaveError>
     requires { length bytes.now ≤ 67108864 }
     ensures gives { Gives state result (restored bytes.now) }
     ensures unsent { IfOk result (λ s. s.term.out ≡ None) }
+    ensures few { IfOk result (λ s. s.steps ≤ 10 ^ 18) }
 {
     let contents = contents_at(alloc, bytes)?;
     if !contents.end.rest.is_empty() {
@@ -68,6 +69,7 @@ pub fn restore(alloc: Global, bytes: &[u8], frames: u32) -> Result<Machine, Save
     requires few { frames ≤ 32768 }
     requires short { length bytes.now ≤ 67108864 }
     ensures restored { IfOk result (λ m. HasRestored bytes.now frames (engine m)) }
+    ensures few { IfOk result (λ m. (engine m).steps ≤ 10 ^ 18) }
     ensures fault { IfErr result (λ e. Fails e (restored bytes.now)) }
 {
     let state = state_at(alloc, bytes)?;

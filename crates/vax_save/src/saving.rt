@@ -10,7 +10,7 @@ ghost use Rattle.vax_machine.specs.Machine.{Means, keeping};
 ghost use Rattle.vax_machine.specs.Meaning.{engine};
 ghost use Rattle.vax_save.specs.Saved.{area_field, areas_field, content_field, longword, page_field, pages_field, registers_field, saved};
 ghost use Rattle.vax_save.specs.Saving.{IsKept, first_fields, front_fields, has_page_fault, has_write_fault, is_page_fault, is_write_fault};
-ghost use Rattle.vax_save.specs.Stream.{Cuts, Puts, stream};
+ghost use Rattle.vax_save.specs.Stream.{Cuts, HasCut, HasPut, Puts, Records, stream};
 
 use crate::fault::Fault;
 use crate::fields::{Fields, push, push_area, push_core, push_longword, push_quadword, push_word};
@@ -151,6 +151,10 @@ fn put_page<F: PageFile, K: Sink>(
         → Means (engine machine.old) (F.contents file.old) place
         → Cuts (page_field (machine_at place).memory page)
         (stream (K.contents sink.old) held.old.items) (K.contents sink.new)) }
+    ensures some { OnOk result (HasPut (stream (K.contents sink.old) held.old.items)
+        (stream (K.contents sink.new) held.new.items)) }
+    ensures some_cut { OnErr result (HasCut (stream (K.contents sink.old) held.old.items)
+        (K.contents sink.new)) }
     ensures file { CountsFailure (is_page_fault result) (F.faults file.old) (F.faults file.new) }
     ensures sink { CountsFailure (is_write_fault result) (K.faults sink.old) (K.faults sink.new) }
 {
@@ -208,6 +212,10 @@ fn put_extent<F: PageFile, K: Sink>(
         → Cuts (flat_map (page_field (machine_at place).memory)
         (range_with_len extent.first extent.pages))
         (stream (K.contents sink.old) held.old.items) (K.contents sink.new)) }
+    ensures some { OnOk result (HasPut (stream (K.contents sink.old) held.old.items)
+        (stream (K.contents sink.new) held.new.items)) }
+    ensures some_cut { OnErr result (HasCut (stream (K.contents sink.old) held.old.items)
+        (K.contents sink.new)) }
     ensures file { CountsFailure (is_page_fault result) (F.faults file.old) (F.faults file.new) }
     ensures sink { CountsFailure (is_write_fault result) (K.faults sink.old) (K.faults sink.new) }
 {
@@ -235,6 +243,10 @@ fn put_pages<F: PageFile, K: Sink>(
         → Means (engine machine.old) (F.contents file.old) place
         → Cuts (pages_field (machine_at place).memory (keeping (engine machine.old)).areas)
         (stream (K.contents sink.old) held.old.items) (K.contents sink.new)) }
+    ensures some { OnOk result (HasPut (stream (K.contents sink.old) held.old.items)
+        (stream (K.contents sink.new) held.new.items)) }
+    ensures some_cut { OnErr result (HasCut (stream (K.contents sink.old) held.old.items)
+        (K.contents sink.new)) }
     ensures file { CountsFailure (is_page_fault result) (F.faults file.old) (F.faults file.new) }
     ensures sink { CountsFailure (is_write_fault result) (K.faults sink.old) (K.faults sink.new) }
 {
@@ -276,6 +288,7 @@ fn write_state<F: PageFile, K: Sink>(
         → Means (engine machine.old) (F.contents file.old) place
         → GrewByPrefix (K.contents sink.old) (K.contents sink.new)
         (only Chan.Record (saved place (engine machine.old).steps))) }
+    ensures records { Records (K.contents sink.old) (K.contents sink.new) }
     ensures file { CountsFailure (is_page_fault result) (F.faults file.old) (F.faults file.new) }
     ensures sink { CountsFailure (is_write_fault result) (K.faults sink.old) (K.faults sink.new) }
 {
@@ -299,6 +312,7 @@ pub fn save<F: PageFile, K: Sink>(machine: &mut Machine, file: &mut F, sink: &mu
     ensures part { (place : Place) → Means (engine machine.old) (F.contents file.old) place
         → GrewByPrefix (K.contents sink.old) (K.contents sink.new)
         (only Chan.Record (saved place (engine machine.old).steps)) }
+    ensures records { Records (K.contents sink.old) (K.contents sink.new) }
     ensures file { CountsFailure (has_page_fault result) (F.faults file.old) (F.faults file.new) }
     ensures sink { CountsFailure (has_write_fault result) (K.faults sink.old) (K.faults sink.new) }
 {

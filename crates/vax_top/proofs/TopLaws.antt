@@ -1,5 +1,5 @@
 -- What a command comes to, from what its parts did, and which answers that allows.
-use Rattle.std.proofs.Common.{◌≡◌, ◌⊎◌, ◌++◌, inl, inr, true, List, [], length, Option, None, Some, is_some, IfSome, MatchOption, Result, Ok, Err, refl, sym, ap, subst, ◌∙◌}
+use Rattle.std.proofs.Common.{◌≡◌, ◌⊎◌, ◌++◌, inl, inr, true, List, [], ◌∷◌, length, Option, None, Some, is_some, IfSome, MatchOption, Result, Ok, Err, refl, sym, ap, subst, ◌∙◌}
 use Rattle.std.specs.Option.{option_map_or}
 use Rattle.vax_outside.specs.Blocks.{BlockFile}
 use Rattle.vax_outside.specs.Channels.{Channels, Grew, only}
@@ -12,7 +12,7 @@ use Rattle.vax_asm_listing.specs.Listed as listed
 use Rattle.vax_flat.specs.Parts.{machine_at}
 use Rattle.vax_machine.specs.Paged.{Why, ByEnding, BySteps, ByTurns}
 use Rattle.vax_program.specs.Program.{Refusal, Source, Link as FromLinker, InImage}
-use Rattle.vax_cli.specs.Words.{Text, Options, Said, bare, run, build, list, listing, console, trace, work, vectors, about, command_of}
+use Rattle.vax_cli.specs.Words.{Text, Options, Said, bare, run, build, list, listing, console, trace, save, resume, work, vectors, about, command_of}
 use Rattle.vax_cli.specs.declared.command.Base as words_base
 use Rattle.vax_cli.specs.declared.command.Format.{Format}
 use Rattle.vax_cli.specs.declared.command.Strictness.{Strictness}
@@ -23,9 +23,14 @@ use Rattle.vax_command.specs.Ends.{Ends, EndsSo}
 use Rattle.vax_command.specs.Loaded.{Loaded}
 use Rattle.vax_command.specs.Running.{IsFaulty, IsRunning, LacksMemory, Ran, RunsSo}
 use Rattle.vax_top.specs.Loaded.{IsRefused, image_from, refused_as, sources_image}
-use Rattle.vax_command.specs.Reading.{HasTexts, ReadEnds, Reads, Texts, of_options, texts_of}
+use Rattle.vax_command.specs.Course.{Course, WentOnFrom}
+use Rattle.vax_command.specs.Reading.{HasTexts, Reads, Texts, of_options, texts_of}
+use Rattle.vax_command.specs.Resuming.{HasResumed, IsResuming, IsUnfit, ResumesSo}
+use Rattle.vax_command.specs.Saving.{HasSavedRun, IsSaving, SaveWentFrom, SavesSo}
+use Rattle.vax_command.specs.Wanting.{HasSaved, ReadsWanted, Wanted, WantedEnds, plain}
 use Rattle.vax_command.specs.Status.{refusal, refusal_growth}
-use Rattle.vax_top.specs.Top.{Carries, Comes, CommandComes, Does, ImageDoes, IsAbout, IsFile, IsListing, IsSourceListing, IsRunOf, IsSessionOf, IsWriting, RanOf, RunDoes, SessionDoes, TraceDoes, base_for, reads, reads_of, run_of, session_of, session_programs}
+use Rattle.vax_top.specs.Resumed.{ResumeDoes}
+use Rattle.vax_top.specs.Top.{Carries, Comes, CommandComes, Does, ImageDoes, IsAbout, IsFile, IsListing, IsSourceListing, IsRunOf, IsSessionOf, IsWriting, IsSavedOf, RanOf, RunDoes, SaveDoes, SessionDoes, TraceDoes, base_for, reads, reads_of, run_of, saved_of, session_of, session_programs, wanted_of}
 use Rattle.vax_top.specs.Vectors.{VectorsDo}
 use Rattle.vax_top.proofs.VectorLaws.{vectors_kept}
 use Rattle.vax_cli.specs.declared.vectors.VectorRequest.{VectorRequest}
@@ -35,7 +40,7 @@ use Rattle.vax_command.specs.Tracing as traced_run
 use Rattle.vax_cli.specs.Tracing.{Tracing}
 use Rattle.vax_command.specs.Went.{IsCut, IsRunAnswer, IsUnread, WentFrom}
 use Rattle.vax_command.specs.declared.status.Status.{Status}
-use Rattle.vax_command.specs.declared.status.Status.TheVariants.{Done, Usage, Missing, Large, Refused, Link, Schedule, Image as BadImage, Turns, PageFault, ReadFault, WriteFault, NoMemory, NotHalted, Unsuccessful, Unfinished}
+use Rattle.vax_command.specs.declared.status.Status.TheVariants.{Done, Usage, Missing, Large, Refused, Link, Schedule, Image as BadImage, Turns, PageFault, ReadFault, WriteFault, NoMemory, Saved, NotHalted, Unsuccessful, Unfinished}
 use Rattle.vax_command.proofs.LoadLaws.{reads_none}
 use Rattle.vax_command.proofs.RunLaws.{answers}
 use Rattle.vax_word.specs.declared.Core.{Core}
@@ -74,23 +79,40 @@ module _ (outside : Outside) (loaded : Result Loaded Refusal) (texts : Texts) (o
   pub session_held : (program : Loaded) → loaded ≡ Ok program → Held outside program texts.input texts.schedule texts.script options result → HeldOf outside loaded texts options result
   session_held program is r = record { meant = r.meant; grown = r.grown; so = as_held program r.meant r.grown is r.so; ends = r.ends }
 
+-- what a run that is saved came to
+
+abbrev pub SavedOf : Outside → Result Loaded Refusal → Texts → Options → Status → Type 0
+SavedOf outside loaded texts options result = EndsSo outside.sink (IsSavedOf outside loaded texts options) result
+
+module _ (outside : Outside) (loaded : Result Loaded Refusal) (texts : Texts) (options : Options) (result : Status) where
+  pub save_refused : (status : Status) → IsRefused loaded status ⊎ (status ≡ NoMemory) → outside.pages.same → Ends outside.sink status (refusal_growth status) result → SavedOf outside loaded texts options result
+  save_refused status (inl r) k ends = record { meant = status; grown = refusal_growth status; so = inr (inl (record { refused = r; wrote = refl; keeps = k })); ends = ends }
+  save_refused status (inr e) k ends = record { meant = status; grown = refusal_growth status; so = inl (e, ap refusal_growth e, k); ends = ends }
+
+  as_saved : (program : Loaded) (status : Status) (grown : Channels) → loaded ≡ Ok program → IsSaving outside program texts.input texts.schedule options status grown → IsSavedOf outside loaded texts options status grown
+  as_saved program status grown is (inl e) = inl e
+  as_saved program status grown is (inr r) = inr (inr (program, is, r))
+
+  pub run_saved : (program : Loaded) → loaded ≡ Ok program → HasSavedRun outside program texts.input texts.schedule options result → SavedOf outside loaded texts options result
+  run_saved program is r = record { meant = r.meant; grown = r.grown; so = as_saved program r.meant r.grown is r.so; ends = r.ends }
+
 module _ (seen : Around) where
   pub no_memory : (said : Said) (status : Status) (grown : Channels) → LacksMemory seen.pages status grown → CommandComes seen said status grown
   no_memory said status grown e = let is : status ≡ NoMemory = e.0 in rw is (inl (tt, e.1, e.2))
 
-  run_comes : (said : Said) (names : List Text) (options : Options) (script : Option Text) (loaded : Texts → Result Loaded Refusal) (texts : Texts) (status : Status) (grown : Channels) → reads_of said ≡ names ++ of_options options script
+  run_comes : (said : Said) (names : List Text) (options : Options) (script : Option Text) (loaded : Texts → Result Loaded Refusal) (texts : Texts) (status : Status) (grown : Channels) → wanted_of said ≡ plain (names ++ of_options options script)
       → ((files : List Text) → run_of (outside_of seen) loaded (texts_of (length names) options script files) options status grown → Does (outside_of seen) said files status grown)
       → HasTexts seen.files.before.told names options script texts → IsRunOf (outside_of seen) (loaded texts) texts.input texts.schedule options status grown → CommandComes seen said status grown
   run_comes said names options script loaded texts status grown is does h (inl e) = no_memory said status grown e
-  run_comes said names options script loaded texts status grown is does h (inr d) = inr (h.files, rw is h.read, does h.files (subst (λ (t : Texts). run_of (outside_of seen) loaded t options status grown) (sym h.are) d))
+  run_comes said names options script loaded texts status grown is does h (inr d) = inr (h.files, subst (λ (w : Wanted). ReadsWanted seen.files.before.told w (Ok h.files)) (sym is) h.read, does h.files (subst (λ (t : Texts). run_of (outside_of seen) loaded t options status grown) (sym h.are) d))
 
   module _ (result : Status) where
     -- reading the files ended the call
-    pub unread : (said : Said) (status : Status) → ReadEnds seen.files (reads_of said) status → seen.pages.same → Ends seen.sink status (refusal_growth status) result → Carries seen said result
+    pub unread : (said : Said) (status : Status) → WantedEnds seen.files (wanted_of said) status → seen.pages.same → Ends seen.sink status (refusal_growth status) result → Carries seen said result
     unread said status e k ends = record { meant = status; grown = refusal_growth status; comes = inl (e, refl, k); ends = ends }
 
     -- a program was run, or refused
-    pub run_carries : (said : Said) (names : List Text) (options : Options) (script : Option Text) (loaded : Texts → Result Loaded Refusal) (texts : Texts) → reads_of said ≡ names ++ of_options options script
+    pub run_carries : (said : Said) (names : List Text) (options : Options) (script : Option Text) (loaded : Texts → Result Loaded Refusal) (texts : Texts) → wanted_of said ≡ plain (names ++ of_options options script)
         → ((files : List Text) (status : Status) (grown : Channels) → run_of (outside_of seen) loaded (texts_of (length names) options script files) options status grown → Does (outside_of seen) said files status grown)
         → HasTexts seen.files.before.told names options script texts → RanOf (outside_of seen) (loaded texts) texts.input texts.schedule options result → Carries seen said result
     run_carries said names options script loaded texts is does h r = record {
@@ -110,25 +132,60 @@ module _ (seen : Around) where
         → Carries seen (console names linked script options) result
     session_carries names linked script options texts h r = record { meant = r.meant; grown = r.grown; comes = session_comes names linked script options texts r.meant r.grown h r.so; ends = r.ends }
 
+    -- a run was saved, or refused
+    save_comes : (names : List Text) (linked : words_base.Base) (options : Options) (texts : Texts) (status : Status) (grown : Channels) → HasTexts seen.files.before.told names options None texts → IsSavedOf (outside_of seen) (session_programs linked texts) texts options status grown
+        → CommandComes seen (save names linked options) status grown
+    save_comes names linked options texts status grown h (inl e) = no_memory (save names linked options) status grown e
+    save_comes names linked options texts status grown h (inr d) = inr (h.files, h.read, subst (λ (t : Texts). SaveDoes (outside_of seen) (session_programs linked t) t options status grown) (sym h.are) d)
+
+    pub save_carries : (names : List Text) (linked : words_base.Base) (options : Options) (texts : Texts) → HasTexts seen.files.before.told names options None texts → SavedOf (outside_of seen) (session_programs linked texts) texts options result
+        → Carries seen (save names linked options) result
+    save_carries names linked options texts h r = record { meant = r.meant; grown = r.grown; comes = save_comes names linked options texts r.meant r.grown h r.so; ends = r.ends }
+
+    -- a run went on from a saved state, or was refused
+    resume_comes : (name : Text) (options : Options) (bytes : Text) (texts : Texts) (status : Status) (grown : Channels) → HasSaved seen.files.before.told name options bytes texts → IsResuming (outside_of seen) bytes texts.schedule options status grown
+        → CommandComes seen (resume name options) status grown
+    resume_comes name options bytes texts status grown h (inl e) = no_memory (resume name options) status grown e
+    resume_comes name options bytes texts status grown h (inr d) = inr (bytes ∷ h.files, h.read, subst (λ (t : Texts). ResumesSo (outside_of seen) bytes t.schedule options status grown) (sym h.are) d)
+
+    pub resume_carries : (name : Text) (options : Options) (bytes : Text) (texts : Texts) → HasSaved seen.files.before.told name options bytes texts → HasResumed (outside_of seen) bytes texts.schedule options result → Carries seen (resume name options) result
+    resume_carries name options bytes texts h r = record { meant = r.meant; grown = r.grown; comes = resume_comes name options bytes texts r.meant r.grown h r.so; ends = r.ends }
+
     -- an image was written, or refused
     abbrev pub Written : Result Image Refusal → (Image → Text → Type 0) → Type 0
     Written built Writes = EndsSo seen.sink (IsWriting seen.pages built Writes) result
 
-    image_comes : (said : Said) (files : List Text) (built : Result Image Refusal) (Writes : Image → Text → Type 0) (status : Status) (grown : Channels) → (ImageDoes seen.pages built Writes status grown → Does (outside_of seen) said files status grown) → Reads seen.files.before.told (reads_of said) (Ok files) → IsWriting seen.pages built Writes status grown
+    image_comes : (said : Said) (files : List Text) (built : Result Image Refusal) (Writes : Image → Text → Type 0) (status : Status) (grown : Channels) → (ImageDoes seen.pages built Writes status grown → Does (outside_of seen) said files status grown) → saved_of said ≡ None → Reads seen.files.before.told (reads_of said) (Ok files) → IsWriting seen.pages built Writes status grown
         → CommandComes seen said status grown
-    image_comes said files built Writes status grown does h (inl e) = no_memory said status grown e
-    image_comes said files built Writes status grown does h (inr d) = inr (files, h, does d)
+    image_comes said files built Writes status grown does none h (inl e) = no_memory said status grown e
+    image_comes said files built Writes status grown does none h (inr d) = inr (files, subst (λ (o : Option Text). ReadsWanted seen.files.before.told (record { saved = o; names = reads_of said }) (Ok files)) (sym none) h, does d)
 
-    pub image_carries : (said : Said) (files : List Text) (built : Result Image Refusal) (Writes : Image → Text → Type 0) → ((status : Status) (grown : Channels) → ImageDoes seen.pages built Writes status grown → Does (outside_of seen) said files status grown) → Reads seen.files.before.told (reads_of said) (Ok files) → Written built Writes
+    pub image_carries : (said : Said) (files : List Text) (built : Result Image Refusal) (Writes : Image → Text → Type 0) → ((status : Status) (grown : Channels) → ImageDoes seen.pages built Writes status grown → Does (outside_of seen) said files status grown) → saved_of said ≡ None → Reads seen.files.before.told (reads_of said) (Ok files) → Written built Writes
         → Carries seen said result
-    image_carries said files built Writes does h b = record { meant = b.meant; grown = b.grown; comes = image_comes said files built Writes b.meant b.grown (does b.meant b.grown) h b.so; ends = b.ends }
+    image_carries said files built Writes does none h b = record { meant = b.meant; grown = b.grown; comes = image_comes said files built Writes b.meant b.grown (does b.meant b.grown) none h b.so; ends = b.ends }
 
     pub image_refused : (built : Result Image Refusal) (Writes : Image → Text → Type 0) (status : Status) → IsRefused built status ⊎ (status ≡ NoMemory) → seen.pages.same → Ends seen.sink status (refusal_growth status) result → Written built Writes
     image_refused built Writes status (inl r) k ends = record { meant = status; grown = refusal_growth status; so = inr (inl (record { refused = r; wrote = refl; keeps = k })); ends = ends }
     image_refused built Writes status (inr e) k ends = record { meant = status; grown = refusal_growth status; so = inl (e, ap refusal_growth e, k); ends = ends }
 
-    -- the listing of sources was written, or they were refused
+    -- an image, its instructions, or the listing of sources was written, or these were refused
     module _ (names : List Text) (linked : words_base.Base) (files : List Text) (h : Reads seen.files.before.told names (Ok files)) (k : seen.pages.same) where
+      pub image_built : (format : Format) (image : Image) (bytes : Text) → image_from (base_for linked) files ≡ Ok image → IsFile format image bytes → Ends seen.sink Done (only channel.Out bytes) result → Carries seen (build names linked format) result
+      image_built format image bytes is writes ends = record {
+        meant = Done;
+        grown = only channel.Out bytes;
+        comes = inr (files, h, inr (record { image = image; is_built = is; text = bytes; writes = writes; answer = refl; wrote = refl }, k));
+        ends = ends;
+      }
+
+      pub image_listed : (image : Image) (text : Text) → image_from (base_for linked) files ≡ Ok image → IsListing image text → Ends seen.sink Done (only channel.Out text) result → Carries seen (list names linked) result
+      image_listed image text is writes ends = record {
+        meant = Done;
+        grown = only channel.Out text;
+        comes = inr (files, h, inr (record { image = image; is_built = is; text = text; writes = writes; answer = refl; wrote = refl }, k));
+        ends = ends;
+      }
+
       pub sources_listed : (text : Text) → listed.IsListing (base_for linked) files text → Ends seen.sink Done (only channel.Out text) result → Carries seen (listing names linked) result
       sources_listed text l ends = record {
         meant = Done;
@@ -185,11 +242,11 @@ module _ (files : Change Directory) (sink : Change Channels) (pages : Change Blo
   listing_kept k c = record { meant = c.meant; grown = c.grown; comes = listing_beside c.meant c.grown k c.comes; ends = c.ends }
 
 -- Which answers a command may give that reads these names, and what it writes where it refuses.
-abbrev Allowed : Around → List Text → Channels → Status → Type 0
+abbrev Allowed : Around → Wanted → Channels → Status → Type 0
 Allowed seen names grown Done = Unit {0}
 Allowed seen names grown Usage = ⊥
-Allowed seen names grown (Missing name) = Reads seen.files.before.told names (Err (name, faults.Missing)) × (grown ≡ refusal_growth (Missing name))
-Allowed seen names grown (Large name) = Reads seen.files.before.told names (Err (name, faults.Large)) × (grown ≡ refusal_growth (Large name))
+Allowed seen names grown (Missing name) = ReadsWanted seen.files.before.told names (Err (name, faults.Missing)) × (grown ≡ refusal_growth (Missing name))
+Allowed seen names grown (Large name) = ReadsWanted seen.files.before.told names (Err (name, faults.Large)) × (grown ≡ refusal_growth (Large name))
 Allowed seen names grown (Refused file line kind) = grown ≡ refusal_growth (Refused file line kind)
 Allowed seen names grown (Link kind name place) = grown ≡ refusal_growth (Link kind name place)
 Allowed seen names grown (Schedule line kind) = grown ≡ refusal_growth (Schedule line kind)
@@ -199,12 +256,13 @@ Allowed seen names grown PageFault = HasFailed seen.pages
 Allowed seen names grown ReadFault = HasFailed seen.files × (grown ≡ refusal_growth ReadFault)
 Allowed seen names grown WriteFault = ⊥
 Allowed seen names grown NoMemory = grown ≡ refusal_growth NoMemory
+Allowed seen names grown (Saved place kind) = grown ≡ refusal_growth (Saved place kind)
 Allowed seen names grown NotHalted = Unit {0}
 Allowed seen names grown Unsuccessful = Unit {0}
 Allowed seen names grown Unfinished = Unit {0}
 
-module _ (seen : Around) (names : List Text) (grown : Channels) where
-  read_allowed : (status : Status) → ReadEnds seen.files names status → grown ≡ refusal_growth status → Allowed seen names grown status
+module _ (seen : Around) (names : Wanted) (grown : Channels) where
+  read_allowed : (status : Status) → WantedEnds seen.files names status → grown ≡ refusal_growth status → Allowed seen names grown status
   read_allowed Done e g = absurd e
   read_allowed Usage e g = absurd e
   read_allowed (Missing name) e g = (e, g)
@@ -218,6 +276,7 @@ module _ (seen : Around) (names : List Text) (grown : Channels) where
   read_allowed ReadFault e g = (e, g)
   read_allowed WriteFault e g = absurd e
   read_allowed NoMemory e g = g
+  read_allowed (Saved place kind) e g = absurd e
   read_allowed NotHalted e g = absurd e
   read_allowed Unsuccessful e g = absurd e
   read_allowed Unfinished e g = absurd e
@@ -248,6 +307,7 @@ module _ (seen : Around) (names : List Text) (grown : Channels) where
   run_allowed strict ReadFault h = absurd h
   run_allowed strict WriteFault h = absurd h
   run_allowed strict NoMemory h = absurd h
+  run_allowed strict (Saved place kind) h = absurd h
   run_allowed strict NotHalted h = tt
   run_allowed strict Unsuccessful h = tt
   run_allowed strict Unfinished h = absurd h
@@ -313,33 +373,68 @@ module _ (seen : Around) (names : List Text) (grown : Channels) where
   trace_allowed loaded texts tracing options status (inl r) = refused_allowed loaded status r.refused r.wrote
   trace_allowed loaded texts tracing options status (inr d) = traces_allowed d.0 texts tracing options status d.2
 
+  save_from_allowed : (told : Option BlockFile) (setup : Setup) (status : Status) → SaveWentFrom told (outside_of seen) setup status grown → Allowed seen names grown status
+  save_from_allowed None setup status h = run_allowed setup.strict status h
+  save_from_allowed (Some file) setup status (inl s) = subst (Allowed seen names grown) (sym s.answer) (why_allowed setup.strict (machine_at s.stop.at.place).core s.stop.why)
+  save_from_allowed (Some file) setup status (inr (r, inl u)) = subst (Allowed seen names grown) (sym u.answer) r
+  save_from_allowed (Some file) setup status (inr (r, inr u)) = subst (Allowed seen names grown) (sym u.answer) r
+
+  saves_allowed : (program : Loaded) (input schedule : Text) (options : Options) (status : Status) → SavesSo (outside_of seen) program input schedule options status grown → Allowed seen names grown status
+  saves_allowed program input schedule options status (inl m) = planned_allowed _ schedule status m.fault m.wrote
+  saves_allowed program input schedule options status (inr r) = save_from_allowed seen.pages.before.told _ status r.went
+
+  save_allowed : (loaded : Result Loaded Refusal) (texts : Texts) (options : Options) (status : Status) → SaveDoes (outside_of seen) loaded texts options status grown → Allowed seen names grown status
+  save_allowed loaded texts options status (inl r) = refused_allowed loaded status r.refused r.wrote
+  save_allowed loaded texts options status (inr d) = saves_allowed d.0 texts.input texts.schedule options status d.2
+
+  went_on_allowed : (told : Option BlockFile) (c : Course) (status : Status) → WentOnFrom told (outside_of seen) c status grown → Allowed seen names grown status
+  went_on_allowed None c status h = run_allowed c.strict status h.answer
+  went_on_allowed (Some file) c status (inl s) = subst (Allowed seen names grown) (sym s.answer) (why_allowed c.strict _ s.halt.why)
+  went_on_allowed (Some file) c status (inr (r, inl u)) = subst (Allowed seen names grown) (sym u.answer) r
+  went_on_allowed (Some file) c status (inr (r, inr u)) = subst (Allowed seen names grown) (sym u.answer) r
+
+  unfit_allowed : (bytes schedule : Text) (status : Status) → IsUnfit bytes schedule status → grown ≡ refusal_growth status → Allowed seen names grown status
+  unfit_allowed bytes schedule status (inl u) g = let h : grown ≡ refusal_growth (Saved u.0 u.1) = g ∙ ap refusal_growth u.2 in subst (Allowed seen names grown) (sym u.2) h
+  unfit_allowed bytes schedule status (inr m) g = planned_allowed m.areas schedule status m.fault g
+
+  resumes_allowed : (bytes schedule : Text) (options : Options) (status : Status) → ResumesSo (outside_of seen) bytes schedule options status grown → Allowed seen names grown status
+  resumes_allowed bytes schedule options status (inl n) = unfit_allowed bytes schedule status n.cause n.wrote
+  resumes_allowed bytes schedule options status (inr r) = went_on_allowed seen.pages.before.told _ status r.went
+
+  resume_allowed : (files : List Text) (options : Options) (status : Status) → ResumeDoes (outside_of seen) files options status grown → Allowed seen names grown status
+  resume_allowed [] options status d = absurd d
+  resume_allowed (bytes ∷ files) options status d = resumes_allowed bytes _ options status d
+
   image_allowed : (built : Result Image Refusal) (Writes : Image → Text → Type 0) (status : Status) → ImageDoes seen.pages built Writes status grown → Allowed seen names grown status
   image_allowed built Writes status (inl r) = refused_allowed built status r.refused r.wrote
   image_allowed built Writes status (inr b) = subst (Allowed seen names grown) (sym b.0.answer) tt
 
 module _ (seen : Around) (grown : Channels) where
-  carried_allowed : (said : Said) (files : List Text) (status : Status) → Does (outside_of seen) said files status grown → Allowed seen (reads_of said) grown status
-  carried_allowed (bare names options) files status d = does_allowed seen (reads_of (bare names options)) grown _ _ _ options status d
-  carried_allowed (run names options) files status d = does_allowed seen (reads_of (run names options)) grown _ _ _ options status d
-  carried_allowed (build names linked format) files status d = image_allowed seen names grown _ (IsFile format) status d
-  carried_allowed (list names linked) files status d = image_allowed seen names grown _ IsListing status d
-  carried_allowed (listing names linked) files status d = image_allowed seen names grown _ (IsSourceListing (base_for linked) files) status d
+  carried_allowed : (said : Said) (files : List Text) (status : Status) → Does (outside_of seen) said files status grown → Allowed seen (wanted_of said) grown status
+  carried_allowed (bare names options) files status d = does_allowed seen (wanted_of (bare names options)) grown _ _ _ options status d
+  carried_allowed (run names options) files status d = does_allowed seen (wanted_of (run names options)) grown _ _ _ options status d
+  carried_allowed (build names linked format) files status d = image_allowed seen (plain names) grown _ (IsFile format) status d
+  carried_allowed (list names linked) files status d = image_allowed seen (plain names) grown _ IsListing status d
+  carried_allowed (listing names linked) files status d = image_allowed seen (plain names) grown _ (IsSourceListing (base_for linked) files) status d
   carried_allowed (console names linked script options) files status d =
-      let texts = texts_of (length names) options (Some script) files in console_allowed seen (reads_of (console names linked script options)) grown (session_programs linked texts) texts options status d
+      let texts = texts_of (length names) options (Some script) files in console_allowed seen (wanted_of (console names linked script options)) grown (session_programs linked texts) texts options status d
   carried_allowed (trace names linked tracing options) files status d =
       let texts = texts_of (length names) options None files in trace_allowed seen (reads_of (trace names linked tracing options)) grown (session_programs linked texts) texts tracing options status d
-  carried_allowed (work seed size options) files status d = does_allowed seen (of_options options None) grown _ _ _ options status d
+  carried_allowed (work seed size options) files status d = does_allowed seen (plain (of_options options None)) grown _ _ _ options status d
+  carried_allowed (save names linked options) files status d =
+      let texts = texts_of (length names) options None files in save_allowed seen (wanted_of (save names linked options)) grown (session_programs linked texts) texts options status d
+  carried_allowed (resume name options) files status d = resume_allowed seen (wanted_of (resume name options)) grown files options status d
   carried_allowed (vectors request) files status d = vectors_allowed seen [] grown request status d
-  carried_allowed about files status d = subst (Allowed seen [] grown) (sym d.1) tt
+  carried_allowed about files status d = subst (Allowed seen (plain []) grown) (sym d.1) tt
 
-  allowed : (said : Said) (status : Status) → CommandComes seen said status grown → Allowed seen (reads_of said) grown status
-  allowed said status (inl e) = read_allowed seen (reads_of said) grown status e.0 e.1
+  allowed : (said : Said) (status : Status) → CommandComes seen said status grown → Allowed seen (wanted_of said) grown status
+  allowed said status (inl e) = read_allowed seen (wanted_of said) grown status e.0 e.1
   allowed said status (inr d) = carried_allowed said d.0 status d.2
 
   -- what the words ask for allows
   abbrev AllowedBy : Option Said → Status → Type 0
   AllowedBy None status = (status ≡ Usage) × (grown ≡ refusal_growth Usage)
-  AllowedBy (Some said) status = Allowed seen (reads_of said) grown status
+  AllowedBy (Some said) status = Allowed seen (wanted_of said) grown status
 
   asked_allowed : (o : Option Said) (status : Status) → MatchOption o ((status ≡ Usage) × (grown ≡ refusal_growth Usage) × seen.pages.same) (λ said. CommandComes seen said status grown) → AllowedBy o status
   asked_allowed None status h = (h.0, h.1)
@@ -349,11 +444,11 @@ module _ (seen : Around) (grown : Channels) where
   no_usage None h = refl
   no_usage (Some said) h = absurd h
 
-  is_missing : (o : Option Said) (name : Text) → AllowedBy o (Missing name) → Reads seen.files.before.told (option_map_or reads_of o []) (Err (name, faults.Missing))
+  is_missing : (o : Option Said) (name : Text) → AllowedBy o (Missing name) → ReadsWanted seen.files.before.told (option_map_or wanted_of o (plain [])) (Err (name, faults.Missing))
   is_missing None name h = let e : Missing name ≡ Usage = h.0 in absurd (cc e)
   is_missing (Some said) name h = h.0
 
-  is_large : (o : Option Said) (name : Text) → AllowedBy o (Large name) → Reads seen.files.before.told (option_map_or reads_of o []) (Err (name, faults.Large))
+  is_large : (o : Option Said) (name : Text) → AllowedBy o (Large name) → ReadsWanted seen.files.before.told (option_map_or wanted_of o (plain [])) (Err (name, faults.Large))
   is_large None name h = let e : Large name ≡ Usage = h.0 in absurd (cc e)
   is_large (Some said) name h = h.0
 
@@ -369,7 +464,7 @@ module _ (seen : Around) (grown : Channels) where
   never_write None h = let e : WriteFault ≡ Usage = h.0 in cc e
   never_write (Some said) h = h
 
-  lines : (names : List Text) (status : Status) → Allowed seen names grown status → IfSome (refusal status) (λ text. grown ≡ only channel.Report text)
+  lines : (names : Wanted) (status : Status) → Allowed seen names grown status → IfSome (refusal status) (λ text. grown ≡ only channel.Report text)
   lines names Done h = tt
   lines names Usage h = absurd h
   lines names (Missing name) h = h.1
@@ -383,13 +478,14 @@ module _ (seen : Around) (grown : Channels) where
   lines names ReadFault h = h.1
   lines names WriteFault h = tt
   lines names NoMemory h = h
+  lines names (Saved place kind) h = h
   lines names NotHalted h = tt
   lines names Unsuccessful h = tt
   lines names Unfinished h = tt
 
   line_by : (o : Option Said) (status : Status) → AllowedBy o status → IfSome (refusal status) (λ text. grown ≡ only channel.Report text)
   line_by None status h = rw h.0 h.1
-  line_by (Some said) status h = lines (reads_of said) status h
+  line_by (Some said) status h = lines (wanted_of said) status h
 
 grown_line : (text : Option Text) (old new : Option Channels) (grown : Channels) → IfSome text (λ t. grown ≡ only channel.Report t) → Grew old new grown → IfSome text (λ t. Grew old new (only channel.Report t))
 grown_line None old new grown e w = tt
@@ -432,10 +528,10 @@ module _ (seen : Around) (words : List Text) (result : Status) (h : Comes seen w
   pub usage : result ≡ Usage → command_of words ≡ None
   usage e = no_usage seen h.grown (command_of words) (by_answer Usage e (λ w. cc w))
 
-  pub missing : (name : Text) → result ≡ Missing name → Reads seen.files.before.told (reads words) (Err (name, faults.Missing))
+  pub missing : (name : Text) → result ≡ Missing name → ReadsWanted seen.files.before.told (reads words) (Err (name, faults.Missing))
   missing name e = is_missing seen h.grown (command_of words) name (by_answer (Missing name) e (λ w. cc w))
 
-  pub large : (name : Text) → result ≡ Large name → Reads seen.files.before.told (reads words) (Err (name, faults.Large))
+  pub large : (name : Text) → result ≡ Large name → ReadsWanted seen.files.before.told (reads words) (Err (name, faults.Large))
   large name e = is_large seen h.grown (command_of words) name (by_answer (Large name) e (λ w. cc w))
 
   pub read_fault : result ≡ ReadFault → HasFailed seen.files

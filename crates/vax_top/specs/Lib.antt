@@ -1,4 +1,5 @@
 pub mod Loaded
 pub mod LoadedView
 pub mod Vectors
+pub mod Resumed
 pub mod Top

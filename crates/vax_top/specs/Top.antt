@@ -4,7 +4,7 @@ use Rattle.std.specs.Option.{option_map_or}
 use Rattle.vax_outside.specs.Channels.{Channels, only}
 use Rattle.vax_outside.specs.Blocks.{BlockFile}
 use Rattle.vax_outside.specs.declared.traits.Chan.TheVariants as channel
-use Rattle.vax_cli.specs.Words.{Text, Options, Said, bare, run, build, list, listing as source_listing, console, trace, work, vectors, about, command_of}
+use Rattle.vax_cli.specs.Words.{Text, Options, Said, bare, run, build, list, listing as source_listing, console, trace, save, resume, work, vectors, about, command_of}
 use Rattle.vax_cli.specs.Tracing.{Tracing}
 use Rattle.vax_cli.specs.declared.command.Base as words_base
 use Rattle.vax_cli.specs.declared.command.Base.TheVariants as words_bases
@@ -23,16 +23,19 @@ use Rattle.vax_command.specs.Around.{Around, Change, Outside, outside_of}
 use Rattle.vax_command.specs.Ends.{Ends, EndsSo}
 use Rattle.vax_top.specs.Vectors.{VectorsDo}
 use Rattle.vax_top.specs.Loaded.{IsRefused, bare_loaded, image_from, sources_image, system_text, user_loaded}
-use Rattle.vax_command.specs.Reading.{ReadEnds, Reads, Texts, of_options, texts_of}
+use Rattle.vax_command.specs.Reading.{Texts, of_options, texts_of}
 use Rattle.vax_command.specs.Loaded.{Loaded}
 use Rattle.vax_command.specs.Running.{LacksMemory, RunsSo}
+use Rattle.vax_command.specs.Saving.{SavesSo}
+use Rattle.vax_command.specs.Wanting.{ReadsWanted, Wanted, WantedEnds, plain}
+use Rattle.vax_top.specs.Resumed.{ResumeDoes}
 use Rattle.vax_command.specs.Holding.{HeldSo}
 use Rattle.vax_command.specs.Tracing.{TracesSo}
 use Rattle.vax_command.specs.Status.{refusal_growth}
 use Rattle.vax_command.specs.declared.status.Status.{Status}
 use Rattle.vax_command.specs.declared.status.Status.TheVariants.{Done, NoMemory, Usage}
 
--- the files that a command reads, in order
+-- the files that a command reads, in order, but for that of a saved state
 abbrev pub reads_of : Said → List Text
 reads_of (bare names options) = names ++ of_options options None
 reads_of (run names options) = names ++ of_options options None
@@ -41,13 +44,24 @@ reads_of (list names linked) = names
 reads_of (source_listing names linked) = names
 reads_of (console names linked script options) = names ++ of_options options (Some script)
 reads_of (trace names linked tracing options) = names ++ of_options options None
+reads_of (save names linked options) = names ++ of_options options None
+reads_of (resume name options) = of_options options None
 reads_of (work seed size options) = of_options options None
 reads_of (vectors request) = []
 reads_of about = []
 
+-- the saved state that a command goes on from, which is read first
+abbrev pub saved_of : Said → Option Text
+saved_of (resume name options) = Some name
+saved_of said = None
+
+-- all files that a command reads
+abbrev pub wanted_of : Said → Wanted
+wanted_of said = record { saved = saved_of said; names = reads_of said }
+
 -- the files that the words have read, in order
-abbrev pub reads : List Text → List Text
-reads words = option_map_or reads_of (command_of words) []
+abbrev pub reads : List Text → Wanted
+reads words = option_map_or wanted_of (command_of words) (plain [])
 
 -- files with a fault are refused before any call of the page file
 pub record IsTurnedAway {X : Type 0} (pages : Change BlockFile) (loaded : Result X Refusal) (status : Status) (grown : Channels) : Type 0 where
@@ -72,6 +86,12 @@ abbrev pub TraceDoes : Outside → Result Loaded Refusal → Texts → Tracing �
 TraceDoes outside loaded texts tracing options status grown =
     IsTurnedAway outside.pages loaded status grown
     ⊎ ((program : Loaded) × (loaded ≡ Ok program) × TracesSo outside program texts.input texts.schedule tracing options status grown)
+
+-- a run that is saved: so is that of any other program, unless its schedule has a fault
+abbrev pub SaveDoes : Outside → Result Loaded Refusal → Texts → Options → Status → Channels → Type 0
+SaveDoes outside loaded texts options status grown =
+    IsTurnedAway outside.pages loaded status grown
+    ⊎ ((program : Loaded) × (loaded ≡ Ok program) × SavesSo outside program texts.input texts.schedule options status grown)
 
 -- the bytes of an image in a version of the format
 abbrev pub IsFile : Format → Image → Text → Type 0
@@ -122,6 +142,11 @@ IsSessionOf outside loaded texts options status grown =
 abbrev pub IsTraceOf : Outside → Result Loaded Refusal → Texts → Tracing → Options → Status → Channels → Type 0
 IsTraceOf outside loaded texts tracing options status grown =
     LacksMemory outside.pages status grown ⊎ TraceDoes outside loaded texts tracing options status grown
+
+-- a run that is saved went so, or memory was refused before it
+abbrev pub IsSavedOf : Outside → Result Loaded Refusal → Texts → Options → Status → Channels → Type 0
+IsSavedOf outside loaded texts options status grown =
+    LacksMemory outside.pages status grown ⊎ SaveDoes outside loaded texts options status grown
 
 -- an image was written so, or memory was refused before
 abbrev pub IsWriting : Change BlockFile → Result Image Refusal → (Image → Text → Type 0) → Status → Channels → Type 0
@@ -180,14 +205,17 @@ Does outside (console names linked script options) files status grown =
 Does outside (trace names linked tracing options) files status grown =
     trace_of outside (session_programs linked) (texts_of (length names) options None files) tracing options status grown
 Does outside (vectors request) files status grown = VectorsDo outside.pages request status grown
+Does outside (save names linked options) files status grown =
+    let texts = texts_of (length names) options None files in SaveDoes outside (session_programs linked texts) texts options status grown
+Does outside (resume name options) files status grown = ResumeDoes outside files options status grown
 Does outside about files status grown =
     (text : Text) × (status ≡ Done) × (grown ≡ only channel.Out text) × outside.pages.same
 
 -- The answer that a command is to give, and what it is to write: a read ended it, or it has done its work with what was read.
 abbrev pub CommandComes : Around → Said → Status → Channels → Type 0
 CommandComes seen said status grown =
-    (ReadEnds seen.files (reads_of said) status × (grown ≡ refusal_growth status) × seen.pages.same)
-    ⊎ ((files : List Text) × Reads seen.files.before.told (reads_of said) (Ok files) × Does (outside_of seen) said files status grown)
+    (WantedEnds seen.files (wanted_of said) status × (grown ≡ refusal_growth status) × seen.pages.same)
+    ⊎ ((files : List Text) × ReadsWanted seen.files.before.told (wanted_of said) (Ok files) × Does (outside_of seen) said files status grown)
 
 -- the same for any words: those that aren't plain are refused
 abbrev pub WordsCome : Around → (words : List Text) → Status → Channels → Type 0

@@ -5,6 +5,7 @@ mod commands;
 mod console;
 mod laws;
 mod programs;
+mod saving;
 mod sources;
 mod top;
 mod tracing;

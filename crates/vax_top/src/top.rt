@@ -8,14 +8,15 @@ ghost use Rattle.vax_cli.specs.Said.{IsWithin, said, texts};
 ghost use Rattle.vax_cli.specs.Words.{command_of};
 ghost use Rattle.vax_command.specs.Around.{around, change};
 ghost use Rattle.vax_command.specs.Ends.{Admits, EndsSo};
-ghost use Rattle.vax_command.specs.Reading.{Reads};
 ghost use Rattle.vax_command.specs.Status.{refusal};
+ghost use Rattle.vax_command.specs.Wanting.{ReadsWanted};
 ghost use Rattle.vax_top.specs.Top.{Carries, Comes, IsAbout, reads};
 
 use crate::commands::{build, list, list_sources, run_bare, run_user, run_work, show};
 use crate::console::run_console;
 use crate::tracing::run_trace;
 use crate::vectors::write_vectors;
+use crate::saving::{run_resume, run_save};
 use std::alloc::Global;
 use vax_cli::{Command, WordsError, command_of};
 use vax_command::{Status, refuse};
@@ -104,6 +105,14 @@ fn carry_out<S: Files, K: Sink, F: PageFile>(
             sink,
             pages,
         ),
+        Command::Save {
+            files: names,
+            base,
+            options,
+        } => run_save(alloc, names.as_slice(), base, &options, files, sink, pages),
+        Command::Resume { name, options } => {
+            run_resume(alloc, name, &options, files, sink, pages)
+        }
     }
 }
 
@@ -147,9 +156,11 @@ pub fn vax_main<S: Files, K: Sink, F: PageFile>(
     ensures not_plain { command_of (texts words.now) ≡ None →
         (result ≡ Status.Usage) ⊎ (result ≡ Status.WriteFault) }
     ensures missing { (name : List ℕ) → result ≡ Status.Missing name →
-        Reads (S.contents files.old) (reads (texts words.now)) (Err (name, files_fault.Missing)) }
+        ReadsWanted (S.contents files.old) (reads (texts words.now))
+        (Err (name, files_fault.Missing)) }
     ensures large { (name : List ℕ) → result ≡ Status.Large name →
-        Reads (S.contents files.old) (reads (texts words.now)) (Err (name, files_fault.Large)) }
+        ReadsWanted (S.contents files.old) (reads (texts words.now))
+        (Err (name, files_fault.Large)) }
     ensures read { result ≡ Status.ReadFault → Rose (S.faults files.old) (S.faults files.new) }
     ensures page_fault { result ≡ Status.PageFault →
         Rose (F.faults pages.old) (F.faults pages.new) }

@@ -1,4 +1,4 @@
-use Rattle.std.proofs.Common.{inr, refl, ap, subst, ◌∙◌, arith}
+use Rattle.std.proofs.Common.{inr, refl, ap, subst, ◌∙◌}
 use Rattle.vax_machine.specs.Machine.{keeping}
 use Rattle.vax_machine.specs.Meaning.{engine}
 use Rattle.vax_machine.specs.Paged.{ByEnding, BySteps, ByTurns}
@@ -11,66 +11,61 @@ use Rattle.vax_command.specs.Went.{last_of}
 use Rattle.vax_command.specs.declared.status.Status.{Status}
 use Rattle.vax_command.specs.Around.{change, outside, seen_of}
 use Rattle.vax_command.specs.Room.{items_of}
-use Rattle.vax_command.specs.Setup.{Setup}
-use Rattle.vax_command.proofs.Admitting.{admits_then, fault_admits}
-use Rattle.vax_command.proofs.RunLaws.{Starts, went_cut, went_lost, went_whole}
+use Rattle.vax_command.specs.Course.{}
+use Rattle.vax_command.proofs.Admitting.{admits_then, fault_admitsCourse}
+use Rattle.vax_command.proofs.RunLaws.{went_cut, went_lost, went_whole}
 use Rattle.vax_command.proofs.run.execute.Goals as goal
 
 pub returns-in-Ended-clause-went : goal.returns-in-Ended-clause-went
-returns-in-Ended-clause-went g c = λ frames m f.
-    let setup : Setup = record { limits = c.args.limits.now; areas = (keeping (engine c.args.machine)).areas; rules = c.args.schedule.now; frames = frames; start = m; items = items_of c.args.telling.room.blanks.items; strict = c.args.telling.strict } in
-    let starts : Starts setup (engine c.args.machine) = let t = c.requires.few_turns in record { is_fresh = f; areas = refl; low = omega (arith, t) } in
+returns-in-Ended-clause-went g c = λ b f.
+    let course : Course = record { limits = c.args.limits.now; areas = (keeping (engine c.args.machine)).areas; rules = c.args.schedule.now; begins = b; items = items_of c.args.telling.room.blanks.items; strict = c.args.telling.strict } in
     let seen = outside (change g.K.Sink.faults g.K.Sink.contents c.args.sink.now c.report_all.new.sink) (change g.F.PageFile.faults g.F.PageFile.contents c.args.pages.now c.report_all.new.pages) in
     let read = change g.F.PageFile.faults g.F.PageFile.contents c.run.new.file c.report_all.new.pages in
     let ran = c.report_all.ensures.reported in
     let why = ByEnding c.in-Ended.ending in
     let meant = c.answer_ended-meant.ensures ∙ ap (λ (k : Core). status_of c.args.telling.strict k why) c.core.ensures in
     let so = subst (λ (z : Status). IsReported read (engine c.run.new.self) (last_of why) z (items_of c.args.telling.room.blanks.items) ran.meant ran.grown) meant ran.so in
-    went_whole seen setup (engine c.args.machine) (engine c.run.new.self) starts
+    went_whole seen course (engine c.args.machine) (engine c.run.new.self) f
     (seen_of g.K.Sink.faults g.K.Sink.contents c.run.new.sink) c.report_all.result
     read (λ r. rose_from _ _ _ (c.in-Ended.ensures.unfailed (λ x. cc) (λ x. cc)) r) c.report_all.ensures.reads c.report_all.ensures.unread (run_end.Ended c.in-Ended.ending) (ByEnding c.in-Ended.ending) refl
     c.in-Ended.ensures.ends c.run.ensures.only (c.in-Ended.ensures.written (λ x. cc)) ran.meant ran.grown so ran.ends
 
 pub returns-in-Steps-clause-went : goal.returns-in-Steps-clause-went
-returns-in-Steps-clause-went g c = λ frames m f.
-    let setup : Setup = record { limits = c.args.limits.now; areas = (keeping (engine c.args.machine)).areas; rules = c.args.schedule.now; frames = frames; start = m; items = items_of c.args.telling.room.blanks.items; strict = c.args.telling.strict } in
-    let starts : Starts setup (engine c.args.machine) = let t = c.requires.few_turns in record { is_fresh = f; areas = refl; low = omega (arith, t) } in
+returns-in-Steps-clause-went g c = λ b f.
+    let course : Course = record { limits = c.args.limits.now; areas = (keeping (engine c.args.machine)).areas; rules = c.args.schedule.now; begins = b; items = items_of c.args.telling.room.blanks.items; strict = c.args.telling.strict } in
     let seen = outside (change g.K.Sink.faults g.K.Sink.contents c.args.sink.now c.report_all-in-Steps.new.sink) (change g.F.PageFile.faults g.F.PageFile.contents c.args.pages.now c.report_all-in-Steps.new.pages) in
     let read = change g.F.PageFile.faults g.F.PageFile.contents c.run.new.file c.report_all-in-Steps.new.pages in
     let ran = c.report_all-in-Steps.ensures.reported in
     let so = subst (λ (z : Status). IsReported read (engine c.run.new.self) (last_of BySteps) z (items_of c.args.telling.room.blanks.items) ran.meant ran.grown) c.answer_unhalted-meant.ensures ran.so in
-    went_whole seen setup (engine c.args.machine) (engine c.run.new.self) starts
+    went_whole seen course (engine c.args.machine) (engine c.run.new.self) f
     (seen_of g.K.Sink.faults g.K.Sink.contents c.run.new.sink) c.report_all-in-Steps.result
     read (λ r. rose_from _ _ _ (c.in-Steps.ensures.unfailed (λ x. cc) (λ x. cc)) r) c.report_all-in-Steps.ensures.reads c.report_all-in-Steps.ensures.unread run_end.Steps BySteps refl
     c.in-Steps.ensures.ends c.run.ensures.only (c.in-Steps.ensures.written (λ x. cc)) ran.meant ran.grown so ran.ends
 
 pub returns-in-Turns-clause-went : goal.returns-in-Turns-clause-went
-returns-in-Turns-clause-went g c = λ frames m f.
-    let setup : Setup = record { limits = c.args.limits.now; areas = (keeping (engine c.args.machine)).areas; rules = c.args.schedule.now; frames = frames; start = m; items = items_of c.args.telling.room.blanks.items; strict = c.args.telling.strict } in
-    let starts : Starts setup (engine c.args.machine) = let t = c.requires.few_turns in record { is_fresh = f; areas = refl; low = omega (arith, t) } in
+returns-in-Turns-clause-went g c = λ b f.
+    let course : Course = record { limits = c.args.limits.now; areas = (keeping (engine c.args.machine)).areas; rules = c.args.schedule.now; begins = b; items = items_of c.args.telling.room.blanks.items; strict = c.args.telling.strict } in
     let seen = outside (change g.K.Sink.faults g.K.Sink.contents c.args.sink.now c.report_all-in-Turns.new.sink) (change g.F.PageFile.faults g.F.PageFile.contents c.args.pages.now c.report_all-in-Turns.new.pages) in
     let read = change g.F.PageFile.faults g.F.PageFile.contents c.run.new.file c.report_all-in-Turns.new.pages in
     let ran = c.report_all-in-Turns.ensures.reported in
-    went_whole seen setup (engine c.args.machine) (engine c.run.new.self) starts
+    went_whole seen course (engine c.args.machine) (engine c.run.new.self) f
     (seen_of g.K.Sink.faults g.K.Sink.contents c.run.new.sink) c.report_all-in-Turns.result
     read (λ r. rose_from _ _ _ (c.in-Turns.ensures.unfailed (λ x. cc) (λ x. cc)) r) c.report_all-in-Turns.ensures.reads c.report_all-in-Turns.ensures.unread run_end.Turns ByTurns refl
     c.in-Turns.ensures.ends c.run.ensures.only (c.in-Turns.ensures.written (λ x. cc)) ran.meant ran.grown ran.so ran.ends
 
 pub returns-in-PageFault-clause-went : goal.returns-in-PageFault-clause-went
-returns-in-PageFault-clause-went g c = λ frames m f.
-    let setup : Setup = record { limits = c.args.limits.now; areas = (keeping (engine c.args.machine)).areas; rules = c.args.schedule.now; frames = frames; start = m; items = items_of c.args.telling.room.blanks.items; strict = c.args.telling.strict } in
-    let starts : Starts setup (engine c.args.machine) = let t = c.requires.few_turns in record { is_fresh = f; areas = refl; low = omega (arith, t) } in
+returns-in-PageFault-clause-went g c = λ b f.
+    let course : Course = record { limits = c.args.limits.now; areas = (keeping (engine c.args.machine)).areas; rules = c.args.schedule.now; begins = b; items = items_of c.args.telling.room.blanks.items; strict = c.args.telling.strict } in
     let seen = outside (change g.K.Sink.faults g.K.Sink.contents c.args.sink.now c.report.new.sink) (change g.F.PageFile.faults g.F.PageFile.contents c.args.pages.now c.run.new.file) in
-    went_cut seen setup (engine c.args.machine) (engine c.run.new.self) starts
+    went_cut seen course (engine c.args.machine) (engine c.run.new.self) f
     (seen_of g.K.Sink.faults g.K.Sink.contents c.run.new.sink) c.report.result
     (c.in-PageFault.ensures.fault refl) c.in-PageFault.ensures.ends c.run.ensures.only (c.in-PageFault.ensures.written (λ x. cc)) c.report.ensures
 
 pub returns-in-WriteFault-clause-went : goal.returns-in-WriteFault-clause-went
-returns-in-WriteFault-clause-went g c = λ frames m f.
-    let setup : Setup = record { limits = c.args.limits.now; areas = (keeping (engine c.args.machine)).areas; rules = c.args.schedule.now; frames = frames; start = m; items = items_of c.args.telling.room.blanks.items; strict = c.args.telling.strict } in
-    let starts : Starts setup (engine c.args.machine) = let t = c.requires.few_turns in record { is_fresh = f; areas = refl; low = omega (arith, t) } in
+returns-in-WriteFault-clause-went g c = λ b f.
+    let course : Course = record { limits = c.args.limits.now; areas = (keeping (engine c.args.machine)).areas; rules = c.args.schedule.now; begins = b; items = items_of c.args.telling.room.blanks.items; strict = c.args.telling.strict } in
     let seen = outside (change g.K.Sink.faults g.K.Sink.contents c.args.sink.now c.run.new.sink) (change g.F.PageFile.faults g.F.PageFile.contents c.args.pages.now c.run.new.file) in
-    went_lost seen setup (engine c.args.machine) (engine c.run.new.self) starts
+    went_lost seen course (engine c.args.machine) (engine c.run.new.self) f
     c.in-WriteFault.ensures.ends c.run.ensures.only (c.in-WriteFault.ensures.cause refl)
 
 pub returns-in-Ended-clause-failed : goal.returns-in-Ended-clause-failed

@@ -6,7 +6,7 @@ use Rattle.vax_machine.specs.Machine.{Means, keeping}
 use Rattle.vax_machine.specs.Meaning.{engine}
 use Rattle.vax_save.specs.Saved.{page_field, pages_field}
 use Rattle.vax_save.specs.Saving.{IsKept}
-use Rattle.vax_save.specs.Stream.{Leaves, stream}
+use Rattle.vax_save.specs.Stream.{HasPut, Leaves, stream}
 use Rattle.vax_save.proofs.saving.put_pages.Given as goal
 
 -- the pages of the areas so far were put
@@ -18,6 +18,7 @@ invariant-loop-i g l = record {
       (flat_map (page_field (machine_at place).memory) (flat_map pages_of (drop l.i (keeping (engine l.fn.machine)).areas)))
       (stream (g.K.Sink.contents l.fn.sink) l.fn.held.items) (stream (g.K.Sink.contents l.sink) l.held.items);
   total : l.count ≡ length (keeping (engine l.fn.machine)).areas;
+  some : HasPut (stream (g.K.Sink.contents l.fn.sink) l.fn.held.items) (stream (g.K.Sink.contents l.sink) l.held.items);
   unread : (g.F.PageFile.faults l.file).count ≡ (g.F.PageFile.faults l.fn.file).count;
   quiet : (g.K.Sink.faults l.sink).count ≡ (g.K.Sink.faults l.fn.sink).count;
 }

@@ -1,6 +1,6 @@
 use Rattle.std.proofs.Common.{ap, refl, subst, sym, ◌∙◌}
 use Rattle.vax_cli.specs.Said.{names_of, options as said_options, said, tracing as said_tracing}
-use Rattle.vax_cli.specs.Words.{Said, bare, console, run, trace}
+use Rattle.vax_cli.specs.Words.{Said, bare, console, save, run, trace}
 use Rattle.vax_command.specs.Around.{around, change}
 use Rattle.vax_top.specs.Top.{Carries}
 use Rattle.vax_top.proofs.TopLaws.{vectors_carries}
@@ -34,3 +34,9 @@ pub returns-in-Vectors-clause-carries : goal.returns-in-Vectors-clause-carries
 returns-in-Vectors-clause-carries g c =
     let seen = around (change g.S.Files.faults g.S.Files.contents c.args.files.now c.args.files.now) (change g.K.Sink.faults g.K.Sink.contents c.args.sink.now c.write_vectors.new.sink) (change g.F.PageFile.faults g.F.PageFile.contents c.args.pages.now c.args.pages.now) in
     subst (λ (s : Said). Carries seen s c.write_vectors.result) (ap said (sym c.in-Vectors.is)) (vectors_carries seen c.write_vectors.result c.in-Vectors.request c.write_vectors.ensures refl)
+
+pub returns-in-Save-clause-carries : goal.returns-in-Save-clause-carries
+returns-in-Save-clause-carries g c =
+    let seen = around (change g.S.Files.faults g.S.Files.contents c.args.files.now c.run_save.new.files) (change g.K.Sink.faults g.K.Sink.contents c.args.sink.now c.run_save.new.sink) (change g.F.PageFile.faults g.F.PageFile.contents c.args.pages.now c.run_save.new.pages) in
+    let same = ap (λ names. save (names_of names) c.in-Save.base (said_options c.in-Save.options)) c.as_slice-in-Save.ensures.value ∙ ap said (sym c.in-Save.is) in
+    subst (λ (s : Said). Carries seen s c.run_save.result) same c.run_save.ensures.carries

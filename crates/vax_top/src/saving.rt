@@ -1,0 +1,74 @@
+//! The commands `save` and `resume`.
+ghost use Rattle.std.specs.Prelude.{◌≤◌, length};
+ghost use Rattle.vax_cli.specs.Words.{resume, save};
+ghost use Rattle.vax_cli.specs.Said.{AreWithin, names_of, options as said_options};
+ghost use Rattle.vax_command.specs.Around.{around, change};
+ghost use Rattle.vax_command.specs.Ends.{Admits};
+ghost use Rattle.vax_top.specs.Top.{Carries};
+
+use crate::console::load_session;
+use std::alloc::Global;
+use vax_cli::{Base, Options};
+use vax_command::{Given, Status, load_run, load_saved, refuse, resume_run, save_run};
+use vax_outside::{Files, PageFile, Sink};
+
+/// `save`: runs a program, and saves its state where a limit stops it.
+pub(crate) fn run_save<S: Files, K: Sink, F: PageFile>(
+    alloc: Global,
+    names: &[&str],
+    base: Base,
+    options: &Options<'_>,
+    files: &mut S,
+    sink: &mut K,
+    pages: &mut F,
+) -> Status
+    requires some { 1 ≤ length names.now }
+    requires few { length names.now ≤ 8 }
+    requires within { AreWithin (said_options options.now) }
+    ensures carries { Carries (around
+        (change S.faults S.contents files.old files.new)
+        (change K.faults K.contents sink.old sink.new)
+        (change F.faults F.contents pages.old pages.new))
+        (save (names_of names.now) base (said_options options.now)) result }
+    ensures read_failed { Admits (S.faults files.old) (S.faults files.new) Status.ReadFault result }
+    ensures page_failed { Admits (F.faults pages.old) (F.faults pages.new) Status.PageFault result }
+{
+    let (texts, given) = match load_run(alloc, names, options, None, files) {
+        Ok(loaded) => loaded,
+        Err(status) => return refuse(status, sink),
+    };
+    let Given {
+        system,
+        input,
+        schedule,
+        ..
+    } = given;
+    match load_session(alloc, base, &texts, system) {
+        Ok(programs) => save_run(alloc, &programs, input, &schedule, options, sink, pages),
+        Err(status) => refuse(status, sink),
+    }
+}
+
+/// `resume`: goes on from a saved state.
+pub(crate) fn run_resume<S: Files, K: Sink, F: PageFile>(
+    alloc: Global,
+    name: &str,
+    options: &Options<'_>,
+    files: &mut S,
+    sink: &mut K,
+    pages: &mut F,
+) -> Status
+    requires within { AreWithin (said_options options.now) }
+    ensures carries { Carries (around
+        (change S.faults S.contents files.old files.new)
+        (change K.faults K.contents sink.old sink.new)
+        (change F.faults F.contents pages.old pages.new))
+        (resume name.now (said_options options.now)) result }
+    ensures read_failed { Admits (S.faults files.old) (S.faults files.new) Status.ReadFault result }
+    ensures page_failed { Admits (F.faults pages.old) (F.faults pages.new) Status.PageFault result }
+{
+    match load_saved(alloc, name, options, files) {
+        Ok((saved, given)) => { resume_run(alloc, &saved, &given.schedule, options, sink, pages) }
+        Err(status) => refuse(status, sink),
+    }
+}
