@@ -1,5 +1,5 @@
 -- Where a count of failed calls has changed: one call failed, the last that was made, and the answer tells it.
-use Rattle.std.proofs.Common.{◌≡◌, ◌∙◌, inl, inr, refl}
+use Rattle.std.proofs.Common.{◌≡◌, ◌∙◌, inl, inr}
 use Rattle.std.specs.Prelude.{◌⊎◌}
 use Rattle.vax_outside.specs.Channels.{Channels}
 use Rattle.vax_outside.specs.Faults.{Rose}

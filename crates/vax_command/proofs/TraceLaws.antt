@@ -1,16 +1,14 @@
 -- What a traced run comes to, from what the machine did.
-use Rattle.std.proofs.Common.{◌≡◌, ◌⊎◌, ◌++◌, ◌+◌, ◌<◌, ◌≤◌, ◌^◌, ◌-◌, ℕ, Bool, true, false, List, [], length, map, Option, Some, None, refl, sym, ap, subst, ◌∙◌, inl, inr, arith}
+use Rattle.std.proofs.Common.{◌≡◌, ◌⊎◌, ◌++◌, ◌+◌, ◌<◌, ◌≤◌, ◌-◌, ℕ, Bool, true, false, List, [], length, Option, Some, None, refl, sym, ap, subst, ◌∙◌, inl, inr, arith}
 use Rattle.std.specs.Bool.{OnFalse, OnTrue}
-use Rattle.std.specs.Prelude.{if◌then◌else◌, nat_lt}
+use Rattle.std.specs.Prelude.{nat_lt}
 use Rattle.std.proofs.lemmas.Bool.Decides.{nat_tests}
-use Rattle.vax_space.specs.declared.Area.{Area}
 use Rattle.vax_outside.specs.Blocks.{BlockFile}
 use Rattle.vax_outside.specs.Faults.{Rose}
 use Rattle.vax_outside.specs.declared.faults.Failures.{Failures}
 use Rattle.vax_outside.specs.Channels.{Channels, Grew, GrewByPrefix, append, nothing, only}
 use Rattle.vax_outside.specs.declared.traits.Chan.TheVariants.{Report}
 use Rattle.vax_outside.proofs.Growth.{append-nothing}
-use Rattle.vax_flat.specs.declared.Ending.{Ending}
 use Rattle.vax_flat.specs.Parts.{At, machine_at}
 use Rattle.vax_flat.specs.Step.{Flat}
 use Rattle.vax_report.specs.declared.Last.{Last}
@@ -19,17 +17,16 @@ use Rattle.vax_image.specs.Start.{start_areas}
 use Rattle.vax_sched.specs.Faults.{Denotes}
 use Rattle.vax_sched.specs.declared.rule.Rule.{Rule}
 use Rattle.vax_machine.specs.Machine.{Means, keeping}
-use Rattle.vax_machine.specs.Paged.{Paged, Why, ByEnding, BySteps, ByTurns, fresh}
-use Rattle.vax_machine.specs.Run.{System, Tracks, begun, why_of}
+use Rattle.vax_machine.specs.Paged.{Paged, Why, ByEnding, BySteps, ByTurns}
+use Rattle.vax_machine.specs.Run.{System, begun, why_of}
 use Rattle.vax_machine.specs.Writing.{OnlyWrote, both}
 use Rattle.vax_machine.specs.declared.engine.Engine.{Engine}
-use Rattle.vax_machine_laws.specs.FlatRun.{GoesOnFor, Stage, stage_of}
+use Rattle.vax_machine_laws.specs.FlatRun.{GoesOnFor, stage_of}
 use Rattle.vax_machine_laws.proofs.Reaching.{run_comes}
 use Rattle.vax_watch.specs.Listing.{listing}
 use Rattle.vax_watch.specs.Traced.{CountsTrace, IsCutTrace, IsLostTrace, IsTraced, IsUnseen, NamesStop, Trace, as_run, by_page, turns_of}
 use Rattle.vax_watch.specs.Traced as watch
 use Rattle.vax_watch.proofs.Counted.{fine_write}
-use Rattle.vax_watch.specs.declared.watch.Watch.{Watch}
 use Rattle.vax_watch.specs.declared.steps.TraceEnd.{TraceEnd}
 use Rattle.vax_watch.specs.declared.steps.TraceEnd.TheVariants as end
 use Rattle.vax_cli.specs.Tracing.{Tracing}
@@ -37,10 +34,10 @@ use Rattle.vax_cli.specs.Words.{Options, Text}
 use Rattle.vax_cli.specs.declared.command.Strictness.TheVariants.{Off}
 use Rattle.vax_command.specs.Around.{Change, HasFailed, Outside, Seen}
 use Rattle.vax_command.specs.Ends.{Ends, EndsFrom, EndsSo}
-use Rattle.vax_command.specs.Fresh.{IsFresh, IsReported, machine_report}
+use Rattle.vax_command.specs.Fresh.{IsReported, machine_report}
 use Rattle.vax_command.specs.Loaded.{Loaded}
 use Rattle.vax_command.specs.Running.{IsFaulty}
-use Rattle.vax_command.specs.Setup.{Setup, before_turns, run_of}
+use Rattle.vax_command.specs.Setup.{before_turns, run_of}
 use Rattle.vax_command.specs.Status.{refusal_growth}
 use Rattle.vax_command.specs.Tracing.{Comes, Traced, Traces, Went, WentFrom, answer_of, last_of, lines_of, stop_of, traced_for, up_to_stop}
 use Rattle.vax_command.specs.TracingEnds.{last_to, status_to}

@@ -1,5 +1,5 @@
 -- What a traced run comes to, and what it writes.
-use Rattle.std.specs.Prelude.{◌≡◌, ◌≤◌, ◌<◌, ◌⊎◌, ◌+◌, ℕ, nat_lt, if◌then◌else◌, false, List, [], length, map, Option, None, Some}
+use Rattle.std.specs.Prelude.{◌≡◌, ◌≤◌, ◌⊎◌, ◌+◌, ℕ, nat_lt, if◌then◌else◌, false, List, [], length, map, Option, None, Some}
 use Rattle.vax_outside.specs.Blocks.{BlockFile}
 use Rattle.vax_outside.specs.Channels.{Channels}
 use Rattle.vax_flat.specs.Parts.{machine_at}

@@ -1,5 +1,5 @@
 -- What writing vectors comes to.
-use Rattle.std.proofs.Common.{◌≡◌, ◌⊎◌, inl, inr, ℕ, true, false, refl}
+use Rattle.std.proofs.Common.{inl, inr, ℕ, true, false, refl}
 use Rattle.vax_outside.specs.Blocks.{BlockFile}
 use Rattle.vax_outside.specs.Channels.{Channels, only}
 use Rattle.vax_outside.specs.Faults.{CountsFailure}

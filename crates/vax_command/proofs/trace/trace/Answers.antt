@@ -1,4 +1,4 @@
-use Rattle.std.proofs.Common.{refl, ap, subst, sym, inr, ◌∙◌, arith}
+use Rattle.std.proofs.Common.{refl, subst, ◌∙◌, arith}
 use Rattle.vax_machine.specs.Machine.{keeping}
 use Rattle.vax_machine.specs.Meaning.{engine}
 use Rattle.vax_report.specs.declared.Last.{Last}
@@ -11,7 +11,7 @@ use Rattle.vax_command.specs.Tracing.{Traced}
 use Rattle.vax_command.specs.TracingEnds.{last_to}
 use Rattle.vax_command.specs.declared.status.Status.{Status}
 use Rattle.vax_command.proofs.LoadLaws.{rose_from}
-use Rattle.vax_command.proofs.RunLaws.{Starts, cut_answers}
+use Rattle.vax_command.proofs.RunLaws.{Starts}
 use Rattle.vax_command.proofs.TraceLaws.{page_quiet, page_rose, sink_quiet, traced_cut, traced_lost, traced_whole}
 use Rattle.vax_command.proofs.trace.trace.Goals as goal
 

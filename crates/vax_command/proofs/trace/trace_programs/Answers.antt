@@ -1,8 +1,6 @@
 use Rattle.std.proofs.Common.{List, ℕ, false, subst}
 use Rattle.vax_space.specs.declared.Area.{Area}
 use Rattle.vax_image.specs.Start.{Start, start_areas}
-use Rattle.vax_machine.specs.Machine.{keeping}
-use Rattle.vax_machine.specs.Meaning.{engine}
 use Rattle.vax_machine.specs.declared.event.Limits.{Limits}
 use Rattle.vax_watch.specs.Plans.{breaks_of, watches_of}
 use Rattle.vax_watch.specs.declared.watch.Watch.{Watch}
