@@ -4,7 +4,7 @@ use Rattle.std.specs.Bool.{OnFalse, OnTrue}
 use Rattle.std.specs.Prelude.{nat_lt}
 use Rattle.std.proofs.lemmas.Bool.Decides.{nat_tests}
 use Rattle.vax_outside.specs.Blocks.{BlockFile}
-use Rattle.vax_outside.specs.Faults.{Rose}
+use Rattle.vax_outside.specs.Faults.{CountsFailure, Rose}
 use Rattle.vax_outside.specs.declared.faults.Failures.{Failures}
 use Rattle.vax_outside.specs.Channels.{Channels, Grew, GrewByPrefix, append, nothing, only}
 use Rattle.vax_outside.specs.declared.traits.Chan.TheVariants.{Report}
@@ -292,3 +292,8 @@ page_rose a b x y k = subst (λ (failed : Bool). OnTrue failed (Rose a b)) (k.to
 
 pub sink_quiet : (result : TraceEnd) (a b x y : Failures) → (result ≡ end.WriteFault → ⊥) → CountsTrace result a b x y → y.count ≡ x.count
 sink_quiet result a b x y w k = subst (λ (failed : Bool). OnFalse failed (y.count ≡ x.count)) (fine_write result w) k.sink.quiet
+
+-- where the count has changed, one call failed
+pub changed_rose : (failed : Bool) (a b : Failures) → CountsFailure failed a b → (b.count ≡ a.count → ⊥) → Rose a b
+changed_rose true a b k n = k.cause
+changed_rose false a b k n = absurd (n k.quiet)

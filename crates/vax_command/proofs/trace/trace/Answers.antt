@@ -1,4 +1,4 @@
-use Rattle.std.proofs.Common.{refl, subst, ◌∙◌, arith}
+use Rattle.std.proofs.Common.{inr, refl, subst, arith}
 use Rattle.vax_machine.specs.Machine.{keeping}
 use Rattle.vax_machine.specs.Meaning.{engine}
 use Rattle.vax_report.specs.declared.Last.{Last}
@@ -10,9 +10,10 @@ use Rattle.vax_command.specs.Room.{items_of}
 use Rattle.vax_command.specs.Tracing.{Traced}
 use Rattle.vax_command.specs.TracingEnds.{last_to}
 use Rattle.vax_command.specs.declared.status.Status.{Status}
+use Rattle.vax_command.proofs.Admitting.{admits_then, fault_admits}
 use Rattle.vax_command.proofs.LoadLaws.{rose_from}
 use Rattle.vax_command.proofs.RunLaws.{Starts}
-use Rattle.vax_command.proofs.TraceLaws.{page_quiet, page_rose, sink_quiet, traced_cut, traced_lost, traced_whole}
+use Rattle.vax_command.proofs.TraceLaws.{changed_rose, page_quiet, page_rose, sink_quiet, traced_cut, traced_lost, traced_whole}
 use Rattle.vax_command.proofs.trace.trace.Goals as goal
 
 pub returns-in-PageFault-clause-went : goal.returns-in-PageFault-clause-went
@@ -49,6 +50,10 @@ returns-in_default-clause-went g c = λ frames m f.
     c.traced.ensures.traces c.traced.ensures.only (sink_quiet _ _ _ _ _ b c.traced.ensures.counts) ran.meant ran.grown so ran.ends
 
 pub returns-in_default-clause-failed : goal.returns-in_default-clause-failed
-returns-in_default-clause-failed g c = λ changed.
-    let quiet = page_quiet _ _ _ _ _ c.in_default.not-PageFault c.in_default.not-WriteFault c.traced.ensures.counts in
-    c.report_all.ensures.failed (λ same. changed (same ∙ quiet))
+returns-in_default-clause-failed g c = admits_then _ _ _ _ _ (page_quiet _ _ _ _ _ c.in_default.not-PageFault c.in_default.not-WriteFault c.traced.ensures.counts) c.report_all.ensures.failed
+
+pub returns-in-PageFault-clause-failed : goal.returns-in-PageFault-clause-failed
+returns-in-PageFault-clause-failed g c = fault_admits _ _ _ _ _ _ _ (page_rose _ _ _ _ c.in-PageFault.ensures.counts) c.report.ensures
+
+pub returns-in-WriteFault-clause-failed : goal.returns-in-WriteFault-clause-failed
+returns-in-WriteFault-clause-failed g c = λ n. record { once = changed_rose _ _ _ c.in-WriteFault.ensures.counts.file n; answer = inr refl }
