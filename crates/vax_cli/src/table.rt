@@ -44,7 +44,7 @@ pub(crate) enum Key {
 }
 
 /// The commands.
-pub(crate) const VERBS: [Verb; 9] = [
+pub(crate) const VERBS: [Verb; 11] = [
     Verb::Bare,
     Verb::Run,
     Verb::Build,

@@ -59,10 +59,10 @@ use Rattle.vax_command.specs.Loaded.{Loaded}
 use Rattle.vax_command.specs.Pages.{HasRun, RunsOrLoses}
 use Rattle.vax_command.specs.Running.{IsFaulty, Ran, setup_for}
 use Rattle.vax_command.specs.Room.{ReadsFor}
-use Rattle.vax_command.specs.Setup.{Setup, after_turns, run_of}
+use Rattle.vax_command.specs.Setup.{Setup, after_turns, before_turns, run_of}
 use Rattle.vax_command.specs.Went.{IsCut, IsRunAnswer, Stop, Went, WentFrom, dumps_at, last_of, run_output, run_report, shown}
 use Rattle.vax_command.specs.declared.status.Status.{Status}
-use Rattle.vax_command.specs.declared.status.Status.TheVariants.{Done, NoMemory, PageFault, WriteFault, Unsuccessful}
+use Rattle.vax_command.specs.declared.status.Status.TheVariants.{Done, NoMemory, PageFault, WriteFault, NotHalted, Unsuccessful}
 
 -- what is written after some growth
 pub ends_after : (before mid after : Seen Channels) (meant : Status) (a b : Channels) (result : Status) → Grew before.told mid.told a → mid.faults.count ≡ before.faults.count → EndsFrom mid after meant b result → EndsFrom before after meant (append a b) result
@@ -165,10 +165,10 @@ Did c m told end n after old between =
 
 -- no page is pinned where it begins
 pub none_pinned : (m : Engine) (b : Paged) (place : Place) → IsReady m b → PinsTouched (residence m) place
-pub unfolding is_listed
+unfolding is_listed
 none_pinned m b place f =
     let e : (residence m).pinned ≡ [] = ap (λ (p : Paged). p.residence.pinned) f.begins ∙ f.unpinned in
-pub stop_whenstop_when    record { touched = λ page h. let no : false ≡ true = sym (ap (is_listed page) e) ∙ h in cc }
+    record { touched = λ page h. let no : false ≡ true = sym (ap (is_listed page) e) ∙ h in cc }
 
 -- the run is that from where it begins
 pub from_begin : (c : Course) (m : Engine) → IsReady m c.begins → (file : BlockFile) (end : RunEnd) (n : Engine) (after : Option BlockFile) (old between : Option Channels) → Did c m (Some file) end n after old between
@@ -211,7 +211,7 @@ module _ (outside : Outside) (c : Course) (m n : Engine) (f : IsReady m c.begins
         record {
           meant = status;
           grown = run_output s (lines_in c p) (last_of why) (dumps_at s c.items);
-          so = inl (record { halt = stop_whenrecord { count = w.count; why = why; goes = w.goes; stopped = w.stopped ∙ is }; answer = r.0 ∙ ap (λ (k : Core). status_of c.strict k why) (core_at n read.before.told p.place w.tracks.means); wrote = refl; blocks = inl (ran_and_read c w.count file read.before.told outside.pages.after.told w.few w.moved reads unread) });
+          so = inl (record { halt = record { count = w.count; why = why; goes = w.goes; stopped = w.stopped ∙ is }; answer = r.0 ∙ ap (λ (k : Core). status_of c.strict k why) (core_at n read.before.told p.place w.tracks.means); wrote = refl; blocks = inl (ran_and_read c w.count file read.before.told outside.pages.after.told w.few w.moved reads unread) });
           ends = behind s (lines_in c p) (last_of why) (dumps_at s c.items) status grown (wrote_out (Some file) p w.wrote) quiet text ends;
         }
     whole_by file w (inr r) =
@@ -221,7 +221,7 @@ module _ (outside : Outside) (c : Course) (m n : Engine) (f : IsReady m c.begins
         record {
           meant = status;
           grown = run_output s (lines_in c p) lasts.PageFault [];
-          so = inr (up r.0, inl (record { halt = stop_whenrecord { count = w.count; why = why; goes = w.goes; stopped = w.stopped ∙ is }; answer = r.1; wrote = refl; blocks = ran_and_read c w.count file read.before.told outside.pages.after.told w.few w.moved reads unread }));
+          so = inr (up r.0, inl (record { halt = record { count = w.count; why = why; goes = w.goes; stopped = w.stopped ∙ is }; answer = r.1; wrote = refl; blocks = ran_and_read c w.count file read.before.told outside.pages.after.told w.few w.moved reads unread }));
           ends = behind s (lines_in c p) lasts.PageFault [] status grown (wrote_out (Some file) p w.wrote) quiet text ends;
         }
 
@@ -300,7 +300,7 @@ module _ (outside : Outside) (c : Course) (m n : Engine) (f : IsReady m c.begins
       record {
         meant = status_of c.strict (machine_at s.place).core w.why;
         grown = run_output s (lines_in c p) (last_of w.why) (dumps_at s c.items);
-        so = inl (record { halt = stop_whenrecord { count = w.count; why = w.why; goes = w.goes; stopped = w.stopped }; answer = refl; wrote = refl; blocks = inr (rose, w.moved) });
+        so = inl (record { halt = record { count = w.count; why = w.why; goes = w.goes; stopped = w.stopped }; answer = refl; wrote = refl; blocks = inr (rose, w.moved) });
         ends = inr (record { answer = refl; prefix = lost_prefix (Some file) p (last_of w.why) (dumps_at s c.items) w.wrote; cause = rose });
       }
 
@@ -345,6 +345,10 @@ module _ (setup : Setup) (m : Engine) (f : Starts setup m) where
         };
       }
 
+  -- the same of a run that these parts tell of
+  abbrev pub stop_when : (file : BlockFile) (count : ℕ) (why : Why) → Runs setup.limits setup.areas setup.rules (before_turns setup) count → stops setup.limits.steps setup.limits.turns (after_turns setup count) ≡ Some why → Stop setup
+  stop_when file count why goes stopped = stop_of file (record { count = count; why = why; goes = goes; stopped = stopped })
+
   module _ (outside : Outside) (status : Status) (grown : Channels) where
     as_run : (count : ℕ) (file : BlockFile) (after : Option BlockFile) → HasTurned (course_of setup) count file after → HasRun setup count file after
     as_run count file after t = record { few = t.few; between = t.between; moved = t.moved; needed = λ turn low absent page small clean. writes_suffice (run_of setup) turn absent page small clean; told = t.told; unread = t.unread }
@@ -368,7 +372,7 @@ module _ (setup : Setup) (m : Engine) (f : Starts setup m) where
           front = w.front;
           rest = w.rest;
           splits = w.splits;
-          turns = w.turns;
+          asks = w.asks;
           fails = w.fails;
           answer = w.answer;
           wrote = w.wrote;

@@ -33,6 +33,7 @@ use Rattle.vax_cli.specs.Tracing.{Tracing}
 use Rattle.vax_cli.specs.Words.{Options, Text}
 use Rattle.vax_cli.specs.declared.command.Strictness.TheVariants.{Off}
 use Rattle.vax_command.specs.Around.{Change, HasFailed, Outside, Seen}
+use Rattle.vax_command.specs.Course.{course_of}
 use Rattle.vax_command.specs.Ends.{Ends, EndsFrom, EndsSo}
 use Rattle.vax_command.specs.Fresh.{IsReported, machine_report}
 use Rattle.vax_command.specs.Loaded.{Loaded}
@@ -44,7 +45,7 @@ use Rattle.vax_command.specs.TracingEnds.{last_to, status_to}
 use Rattle.vax_command.specs.Went.{IsRunAnswer, dumps_at, run_output, run_report}
 use Rattle.vax_command.specs.declared.status.Status.{Status}
 use Rattle.vax_command.specs.declared.status.Status.TheVariants.{Done, NoMemory, PageFault, WriteFault}
-use Rattle.vax_command.proofs.RunLaws.{Starts, as_shown, behind, ends_after, reported, stop_when}
+use Rattle.vax_command.proofs.RunLaws.{Starts, as_shown, behind, ends_after, ready, reported, stop_when}
 
 -- the trace from the start of such a run
 abbrev trace_at : Traced → Trace
@@ -186,7 +187,7 @@ module _ (outside : Outside) (s : Traced) (m n : Engine) (f : Starts s.run m) (m
           meant = status;
           grown = run_output at (lines_of s at.steps) (last_of s why) (dumps_at at s.run.items);
           so = inl (record { stop = stop_when (up_to_stop s) m (starts_stop s m f) file w.made why w.goes (w.stopped ∙ by_itself ending a b); answer = r.0 ∙ status_is ending a b; wrote = refl });
-          ends = behind outside (up_to_stop s) m n (starts_stop s m f) mid result at (lines_of s at.steps) (last_of s why) (dumps_at at s.run.items) status grown (wrote_lines w.made n.steps p.steps w.sent w.output w.tracks.steps w.wrote) quiet text ends;
+          ends = behind outside (course_of (up_to_stop s)) m n (ready m s.run.frames s.run.start f.is_fresh) mid result at (lines_of s at.steps) (last_of s why) (dumps_at at s.run.items) status grown (wrote_lines w.made n.steps p.steps w.sent w.output w.tracks.steps w.wrote) quiet text ends;
         }
     whole_by file w (inr r) =
         let p = turns_of t w.made in
@@ -197,7 +198,7 @@ module _ (outside : Outside) (s : Traced) (m n : Engine) (f : Starts s.run m) (m
           meant = status;
           grown = run_output at (lines_of s at.steps) lasts.PageFault [];
           so = inr (inl (up r.0, inl (record { stop = stop_when (up_to_stop s) m (starts_stop s m f) file w.made why w.goes (w.stopped ∙ by_itself ending a b); answer = r.1; wrote = refl })));
-          ends = behind outside (up_to_stop s) m n (starts_stop s m f) mid result at (lines_of s at.steps) lasts.PageFault [] status grown (wrote_lines w.made n.steps p.steps w.sent w.output w.tracks.steps w.wrote) quiet text ends;
+          ends = behind outside (course_of (up_to_stop s)) m n (ready m s.run.frames s.run.start f.is_fresh) mid result at (lines_of s at.steps) lasts.PageFault [] status grown (wrote_lines w.made n.steps p.steps w.sent w.output w.tracks.steps w.wrote) quiet text ends;
         }
 
     stopped_by : (told : Option BlockFile) → Did s m told ending outside.sink.before.told (system read.before.told) → IsReported read n (last_to ending) (status_to ending) s.run.items status grown → Told told
@@ -227,7 +228,7 @@ module _ (outside : Outside) (s : Traced) (m n : Engine) (f : Starts s.run m) (m
         meant = PageFault;
         grown = run_output at (lines_of s w.lines) lasts.PageFault [];
         so = inr (inl (rose, inr (record { at = at; count = w.made; comes = comes_to s m f w.made g; lines = w.lines; all_but = cut_lines w.made w.lines outside.pages.after.told p.steps w.steps w.all_but; answer = refl; wrote = refl })));
-        ends = behind outside (up_to_stop s) m n (starts_stop s m f) mid result at (lines_of s w.lines) lasts.PageFault [] PageFault (only Report (machine_report n lasts.PageFault [])) (wrote_lines w.made w.lines w.lines w.sent w.output refl w.wrote) quiet text ends;
+        ends = behind outside (course_of (up_to_stop s)) m n (ready m s.run.frames s.run.start f.is_fresh) mid result at (lines_of s w.lines) lasts.PageFault [] PageFault (only Report (machine_report n lasts.PageFault [])) (wrote_lines w.made w.lines w.lines w.sent w.output refl w.wrote) quiet text ends;
       }
 
   pub traced_cut : HasFailed outside.pages → Did s m outside.pages.before.told end.PageFault outside.sink.before.told (system outside.pages.after.told) → OnlyWrote true outside.sink.before.told mid.told → mid.faults.count ≡ outside.sink.before.faults.count

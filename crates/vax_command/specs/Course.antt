@@ -8,7 +8,7 @@ use Rattle.vax_sched.specs.Due.{due}
 use Rattle.vax_sched.specs.declared.rule.Rule.{Rule}
 use Rattle.vax_report.specs.declared.Last.TheVariants as last
 use Rattle.vax_machine.specs.Blocks.{HasMoved, MovedFirst}
-use Rattle.vax_machine.specs.Calling.{NextCallFails}
+use Rattle.vax_machine.specs.Calling.{Asking, NextCallFails}
 use Rattle.vax_machine.specs.Machine.{Means}
 use Rattle.vax_machine.specs.Paged.{Paged, Why, all_evicted, all_named, paged, stops}
 use Rattle.vax_machine.specs.Run.{FewTurns, Runs, begun}
@@ -104,8 +104,8 @@ pub record IsBroken (c : Course) (file : BlockFile) (outside : Outside) (status 
   pub front : List ℕ
   pub rest : List ℕ
   pub splits : all_named c.areas (due c.rules ((turned c count).turns + 1)) ≡ front ++ rest
-  pub turns : ℕ
-  pub fails : NextCallFails c.areas c.begins (all_evicted front (turned c count)) rest turns (Some file) outside.pages.after.told
+  pub asks : Asking
+  pub fails : NextCallFails c.areas c.begins (all_evicted front (turned c count)) rest asks (Some file) outside.pages.after.told
   pub answer : status ≡ PageFault
   pub wrote : grown ≡ run_output (stage_of (turned c count)) (lines_in c (all_evicted front (turned c count))) last.PageFault []
 

@@ -419,12 +419,12 @@ module _ (seen : Around) (grown : Channels) where
   carried_allowed (console names linked script options) files status d =
       let texts = texts_of (length names) options (Some script) files in console_allowed seen (wanted_of (console names linked script options)) grown (session_programs linked texts) texts options status d
   carried_allowed (trace names linked tracing options) files status d =
-      let texts = texts_of (length names) options None files in trace_allowed seen (reads_of (trace names linked tracing options)) grown (session_programs linked texts) texts tracing options status d
+      let texts = texts_of (length names) options None files in trace_allowed seen (wanted_of (trace names linked tracing options)) grown (session_programs linked texts) texts tracing options status d
   carried_allowed (work seed size options) files status d = does_allowed seen (plain (of_options options None)) grown _ _ _ options status d
   carried_allowed (save names linked options) files status d =
       let texts = texts_of (length names) options None files in save_allowed seen (wanted_of (save names linked options)) grown (session_programs linked texts) texts options status d
   carried_allowed (resume name options) files status d = resume_allowed seen (wanted_of (resume name options)) grown files options status d
-  carried_allowed (vectors request) files status d = vectors_allowed seen [] grown request status d
+  carried_allowed (vectors request) files status d = vectors_allowed seen (plain []) grown request status d
   carried_allowed about files status d = subst (Allowed seen (plain []) grown) (sym d.1) tt
 
   allowed : (said : Said) (status : Status) → CommandComes seen said status grown → Allowed seen (wanted_of said) grown status

@@ -11,8 +11,8 @@ use Rattle.vax_command.specs.Went.{last_of}
 use Rattle.vax_command.specs.declared.status.Status.{Status}
 use Rattle.vax_command.specs.Around.{change, outside, seen_of}
 use Rattle.vax_command.specs.Room.{items_of}
-use Rattle.vax_command.specs.Course.{}
-use Rattle.vax_command.proofs.Admitting.{admits_then, fault_admitsCourse}
+use Rattle.vax_command.specs.Course.{Course}
+use Rattle.vax_command.proofs.Admitting.{admits_then, fault_admits}
 use Rattle.vax_command.proofs.RunLaws.{went_cut, went_lost, went_whole}
 use Rattle.vax_command.proofs.run.execute.Goals as goal
 

@@ -1,4 +1,4 @@
-use Rattle.std.proofs.Common.{[], refl, arith}
+use Rattle.std.proofs.Common.{[], inr, refl, arith}
 use Rattle.vax_machine.specs.Machine.{keeping}
 use Rattle.vax_machine.specs.Meaning.{engine}
 use Rattle.vax_machine.specs.Paged.{BySteps, ByTurns}
@@ -6,6 +6,7 @@ use Rattle.vax_machine.specs.declared.event.RunEnd.TheVariants as run_end
 use Rattle.vax_cli.specs.declared.command.Strictness.TheVariants.{Off}
 use Rattle.vax_command.specs.Around.{change, outside, seen_of}
 use Rattle.vax_command.specs.Setup.{Setup}
+use Rattle.vax_command.proofs.Admitting.{admits_then, fault_admits, none_admits}
 use Rattle.vax_command.proofs.LoadLaws.{rose_from}
 use Rattle.vax_command.proofs.RunLaws.{Starts}
 use Rattle.vax_command.proofs.SaveLaws.{run_cut, run_ended, run_limited, run_lost}
@@ -62,3 +63,18 @@ returns-in-WriteFault-clause-went g c = λ frames m f.
     let seen = outside (change g.K.Sink.faults g.K.Sink.contents c.args.sink.now c.run.new.sink) (change g.F.PageFile.faults g.F.PageFile.contents c.args.pages.now c.run.new.file) in
     run_lost seen setup (engine c.args.machine) (engine c.run.new.self) starts c.requires.unlisted refl
     c.in-WriteFault.ensures.ends c.run.ensures.only (c.in-WriteFault.ensures.cause refl)
+
+pub returns-in-Ended-clause-failed : goal.returns-in-Ended-clause-failed
+returns-in-Ended-clause-failed g c = none_admits _ _ _ _ (c.in-Ended.ensures.unfailed (λ x. cc) (λ x. cc))
+
+pub returns-in-Steps-clause-failed : goal.returns-in-Steps-clause-failed
+returns-in-Steps-clause-failed g c = admits_then _ _ _ _ _ (c.in-Steps.ensures.unfailed (λ x. cc) (λ x. cc)) c.save_and_report.ensures.failed
+
+pub returns-in-Turns-clause-failed : goal.returns-in-Turns-clause-failed
+returns-in-Turns-clause-failed g c = admits_then _ _ _ _ _ (c.in-Turns.ensures.unfailed (λ x. cc) (λ x. cc)) c.save_and_report-in-Turns.ensures.failed
+
+pub returns-in-PageFault-clause-failed : goal.returns-in-PageFault-clause-failed
+returns-in-PageFault-clause-failed g c = fault_admits _ _ _ _ _ _ _ (c.in-PageFault.ensures.fault refl) c.report-in-PageFault.ensures
+
+pub returns-in-WriteFault-clause-failed : goal.returns-in-WriteFault-clause-failed
+returns-in-WriteFault-clause-failed g c = λ n. record { once = c.in-WriteFault.ensures.failed n; answer = inr refl }

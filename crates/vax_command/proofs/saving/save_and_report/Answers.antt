@@ -3,6 +3,7 @@ use Rattle.vax_machine.specs.Meaning.{engine}
 use Rattle.vax_command.specs.Around.{change, seen_of}
 use Rattle.vax_report.specs.declared.Last.TheVariants as last
 use Rattle.vax_command.specs.declared.status.Status.TheVariants.{PageFault}
+use Rattle.vax_command.proofs.Admitting.{fault_admits, none_admits}
 use Rattle.vax_command.proofs.SaveLaws.{answer_lost, same_report, saved_answer, saved_lost, saved_part, saved_whole}
 use Rattle.vax_command.proofs.saving.save_and_report.Goals as goal
 
@@ -50,3 +51,12 @@ returns-in-WriteFault-clause-answers g c =
     let records = c.save.ensures.records in
     answer_lost (change g.K.Sink.faults g.K.Sink.contents c.args.sink.now c.save.new.sink) (change g.F.PageFile.faults g.F.PageFile.contents c.args.pages.now c.save.new.file) c.args.meant
     records.0 c.in-WriteFault.ensures.sink.cause records.1
+
+pub returns-in-Written-clause-failed : goal.returns-in-Written-clause-failed
+returns-in-Written-clause-failed g c = none_admits _ _ _ _ c.in-Written.ensures.file.quiet
+
+pub returns-in-PageFault-clause-failed : goal.returns-in-PageFault-clause-failed
+returns-in-PageFault-clause-failed g c = fault_admits _ _ _ _ _ _ _ c.in-PageFault.ensures.file.cause c.report-in-PageFault.ensures
+
+pub returns-in-WriteFault-clause-failed : goal.returns-in-WriteFault-clause-failed
+returns-in-WriteFault-clause-failed g c = none_admits _ _ _ _ c.in-WriteFault.ensures.file.quiet
