@@ -1,23 +1,23 @@
 -- Turns that begin within a step of a flat machine's run go by that run.
-use Rattle.std.proofs.Common.{ℕ, zero, suc, ◌≡◌, ◌+◌, ◌<◌, ◌≤◌, Bool, true, false, nat_le, List, refl, ap, sym, ◌∙◌, subst, arith, inl, inr, Option, Some, None}
+use Rattle.std.proofs.Common.{ℕ, zero, suc, ◌≡◌, ◌+◌, ◌<◌, ◌≤◌, Bool, nat_le, List, refl, ap, sym, ◌∙◌, subst, arith, inl, inr, Option, Some, None}
 use Rattle.std.proofs.lemmas.Bool.{cases_Bool, cases_lt}
 use Rattle.std.proofs.lemmas.Bool.Decides.{nat_tests}
 use Rattle.vax_space.specs.declared.Area.{Area}
 use Rattle.vax_flat.specs.declared.Ending.{Ending}
 use Rattle.vax_flat.specs.Outcome.{first_missing}
-use Rattle.vax_flat.specs.Parts.{GoesBy, Partway, Place, Within, Turn, Completes, Leaves, machine_at, touches_at, turn}
+use Rattle.vax_flat.specs.Parts.{GoesBy, Place, Turn, Completes, Leaves, machine_at, touches_at, turn}
 use Rattle.vax_flat.specs.Step.{Flat, run}
 use Rattle.vax_sched.specs.declared.rule.Target.{Target}
 use Rattle.vax_sched.specs.Due.{due}
 use Rattle.vax_machine.proofs.Following.{goes_ending}
 use Rattle.vax_machine.proofs.Halting.{going_on}
 use Rattle.vax_machine.proofs.Tracking.{many_evicted}
-use Rattle.vax_machine.specs.Paged.{Paged, Why, all_evicted, all_named, attempted, attempted_by, marked, next_turn, paged, place_after, steps_after, stop_by, stops, unless_ended}
+use Rattle.vax_machine.specs.Paged.{Paged, all_evicted, all_named, attempted, attempted_by, marked, next_turn, paged, place_after, steps_after, stop_by, stops, unless_ended}
 use Rattle.vax_machine.specs.Residence.{is_resident}
 use Rattle.vax_machine.specs.Run.{Runs}
 use Rattle.vax_machine.specs.declared.event.Limits.{Limits}
 use Rattle.vax_machine_laws.proofs.Reaching.{Comes, comes_further, same_stage, stops_there}
-use Rattle.vax_machine_laws.specs.FlatRun.{Reaches, Stage, StopsSo, stage_of}
+use Rattle.vax_machine_laws.specs.FlatRun.{Reaches, Stage, stage_of}
 use Rattle.vax_command.specs.Course.{Course, Halt, halted_at, turned}
 use Rattle.vax_command.specs.Onward.{GoesByFlat, ReachesOn, StopsOn}
 

@@ -1,30 +1,29 @@
 -- What resuming a saved state comes to, from what its parts did.
-use Rattle.std.proofs.Common.{◌≡◌, ◌⊎◌, ◌+◌, ◌<◌, ◌≤◌, ◌^◌, ℕ, List, [], ◌∷◌, ◌++◌, Option, None, Some, Result, Ok, Err, refl, sym, ap, subst, ◌∙◌, inl, inr, arith, IfErr}
-use Rattle.vax_space.specs.declared.Area.{Area}
+use Rattle.std.proofs.Common.{◌≡◌, ◌⊎◌, ℕ, List, [], ◌∷◌, Option, None, Some, Result, Ok, Err, refl, sym, ap, subst, ◌∙◌, inl, inr}
 use Rattle.vax_outside.specs.Blocks.{BlockFile, numbered}
 use Rattle.vax_outside.specs.Directory.{Directory, read_result}
 use Rattle.vax_outside.specs.declared.traits.FilesFault.{FilesFault}
-use Rattle.vax_flat.specs.Parts.{GoesBy, Place, machine_at}
+use Rattle.vax_flat.specs.Parts.{machine_at}
 use Rattle.vax_flat.specs.Port.{layout}
 use Rattle.vax_cpu.specs.declared.cpu.Open.{Open}
 use Rattle.vax_flat.specs.Step.{Flat}
 use Rattle.vax_machine.specs.Machine.{keeping}
 use Rattle.vax_machine.specs.Meaning.{resumed_at}
-use Rattle.vax_machine.specs.Paged.{Paged, begun_at}
+use Rattle.vax_machine.specs.Paged.{begun_at}
 use Rattle.vax_machine.specs.declared.engine.Engine.{Engine}
 use Rattle.vax_sched.specs.Faults.{Denotes}
 use Rattle.vax_sched.specs.declared.rule.Rule.{Rule}
 use Rattle.vax_save.specs.Restored.{HasRestored, IsRestored, restored_place}
-use Rattle.vax_save.specs.Restoring.{Restored, restored}
+use Rattle.vax_save.specs.Restoring.{Restored}
 use Rattle.vax_cli.specs.Words.{Options, Text}
 use Rattle.vax_command.specs.Around.{Outside}
-use Rattle.vax_command.specs.Course.{Course, IsReady, WentOn}
+use Rattle.vax_command.specs.Course.{IsReady, WentOn}
 use Rattle.vax_command.specs.Ends.{Ends, EndsSo}
 use Rattle.vax_command.specs.Reading.{EndsBy, HasTexts, Reads, Texts, joined_reads, of_options, read_files}
 use Rattle.vax_command.specs.Resuming.{AreAreas, HasResumed, IsUnfit, resumed_course}
 use Rattle.vax_command.specs.Running.{IsFaulty}
 use Rattle.vax_command.specs.Status.{refusal_growth}
-use Rattle.vax_command.specs.Wanting.{HasSaved, ReadsOne, ReadsWanted, Wanted, read_first, resumed_files, saved_limit}
+use Rattle.vax_command.specs.Wanting.{HasSaved, ReadsOne, ReadsWanted, saved_limit}
 use Rattle.vax_command.specs.declared.status.Status.{Status}
 use Rattle.vax_command.specs.declared.status.Status.TheVariants.{NoMemory}
 use Rattle.vax_command.proofs.LoadLaws.{ends_more}

@@ -62,7 +62,7 @@ use Rattle.vax_command.specs.Room.{ReadsFor}
 use Rattle.vax_command.specs.Setup.{Setup, after_turns, before_turns, run_of}
 use Rattle.vax_command.specs.Went.{IsCut, IsRunAnswer, Stop, Went, WentFrom, dumps_at, last_of, run_output, run_report, shown}
 use Rattle.vax_command.specs.declared.status.Status.{Status}
-use Rattle.vax_command.specs.declared.status.Status.TheVariants.{Done, NoMemory, PageFault, WriteFault, NotHalted, Unsuccessful}
+use Rattle.vax_command.specs.declared.status.Status.TheVariants.{Done, NoMemory, PageFault, WriteFault, Unsuccessful}
 
 -- what is written after some growth
 pub ends_after : (before mid after : Seen Channels) (meant : Status) (a b : Channels) (result : Status) → Grew before.told mid.told a → mid.faults.count ≡ before.faults.count → EndsFrom mid after meant b result → EndsFrom before after meant (append a b) result

@@ -1,6 +1,5 @@
 -- What saving a run where a limit stops it comes to, from what the machine did.
-use Rattle.std.proofs.Common.{◌≡◌, ◌⊎◌, ◌<◌, ◌-◌, ◌^◌, ℕ, suc, Bool, true, false, List, [], Option, Some, None, refl, sym, ap, subst, ◌∙◌, inl, inr, arith}
-use Rattle.vax_outside.proofs.Counting.{rose_then}
+use Rattle.std.proofs.Common.{◌≡◌, ◌⊎◌, ◌-◌, ℕ, Bool, false, List, [], Option, Some, None, refl, sym, ap, subst, ◌∙◌, inl, inr}
 use Rattle.vax_outside.specs.Blocks.{BlockFile}
 use Rattle.vax_outside.specs.Channels.{Channels, Grew, GrewByPrefix, append, nothing, only}
 use Rattle.vax_outside.specs.declared.traits.Chan.TheVariants.{Record, Report}
@@ -12,14 +11,14 @@ use Rattle.vax_pager.specs.Poking.{OnlyRead, without_reads}
 use Rattle.vax_report.specs.declared.Last.{Last}
 use Rattle.vax_report.specs.declared.Last.TheVariants as lasts
 use Rattle.vax_machine.specs.Blocks.{Moved}
-use Rattle.vax_machine.specs.Machine.{Keeping, Means, keeping}
+use Rattle.vax_machine.specs.Machine.{Keeping, Means}
 use Rattle.vax_machine.specs.Meaning.{units_of}
 use Rattle.vax_report.specs.Report.{report}
 use Rattle.vax_save.specs.Saving.{IsKept}
-use Rattle.vax_machine.specs.Paged.{Eviction, Paged, Why, ByEnding, BySteps, ByTurns, all_evicted, stops}
+use Rattle.vax_machine.specs.Paged.{Eviction, Paged, Why, ByEnding, BySteps, ByTurns, stops}
 use Rattle.vax_machine.specs.Run as machine
-use Rattle.vax_machine.specs.Run.{FewTurns, IsWhole, Runs, why_of}
-use Rattle.vax_machine.specs.Writing.{OnlyWrote, WrotePart, both, lines_of}
+use Rattle.vax_machine.specs.Run.{FewTurns, IsWhole, why_of}
+use Rattle.vax_machine.specs.Writing.{OnlyWrote, both, lines_of}
 use Rattle.vax_machine.proofs.Unwritten.{writes_suffice}
 use Rattle.vax_machine.specs.declared.engine.Engine.{Engine}
 use Rattle.vax_machine.specs.declared.event.RunEnd.{RunEnd}
@@ -41,7 +40,7 @@ use Rattle.vax_command.specs.Fresh.{machine_report}
 use Rattle.vax_command.specs.Loaded.{Loaded}
 use Rattle.vax_command.specs.Running.{IsFaulty}
 use Rattle.vax_command.specs.Saving.{AnswersSave, HasRunSaved, HasSavedRun, IsLimited, SaveWent, SaveWentFrom, SavesAt, saved_setup, saving_output, state_by}
-use Rattle.vax_command.specs.Setup.{Setup, after_turns, before_turns, run_of}
+use Rattle.vax_command.specs.Setup.{Setup, run_of}
 use Rattle.vax_command.specs.Status.{refusal_growth}
 use Rattle.vax_command.specs.Went.{IsRunAnswer, last_of, run_report}
 use Rattle.vax_command.specs.declared.status.Status.{Status}

@@ -1,6 +1,5 @@
 -- How far a run is that goes on within the flat machine's run, by the flat definitions alone.
-use Rattle.std.specs.Prelude.{◌≡◌, ◌+◌, ◌<◌, ℕ, Option, None}
-use Rattle.vax_flat.specs.Parts.{GoesBy}
+use Rattle.std.specs.Prelude.{◌≡◌, ◌+◌, ◌<◌, ℕ}
 use Rattle.vax_flat.specs.Step.{Flat}
 use Rattle.vax_machine.specs.Paged.{Why}
 use Rattle.vax_machine.specs.Run.{Runs}

@@ -21,7 +21,7 @@ use Rattle.vax_command.specs.Onward.{GoesByFlat}
 use Rattle.vax_command.specs.Running.{IsFaulty, LacksMemory}
 use Rattle.vax_command.specs.Status.{refusal_growth}
 use Rattle.vax_command.specs.declared.status.Status.{Status}
-use Rattle.vax_command.specs.declared.status.Status.TheVariants.{NoMemory, Saved}
+use Rattle.vax_command.specs.declared.status.Status.TheVariants.{Saved}
 
 -- the bytes are no saved state, and this is their first fault
 abbrev pub IsUnsound : Text → Status → Type 0

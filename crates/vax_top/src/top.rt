@@ -14,9 +14,9 @@ ghost use Rattle.vax_top.specs.Top.{Carries, Comes, IsAbout, reads};
 
 use crate::commands::{build, list, list_sources, run_bare, run_user, run_work, show};
 use crate::console::run_console;
+use crate::saving::{run_resume, run_save};
 use crate::tracing::run_trace;
 use crate::vectors::write_vectors;
-use crate::saving::{run_resume, run_save};
 use std::alloc::Global;
 use vax_cli::{Command, WordsError, command_of};
 use vax_command::{Status, refuse};

@@ -1,4 +1,4 @@
-use Rattle.std.proofs.Common.{◌≡◌, List, ℕ, Ok, subst, refl}
+use Rattle.std.proofs.Common.{◌≡◌, List, ℕ, Ok, subst}
 use Rattle.std.specs.Global.{Vec}
 use Rattle.vax_outside.specs.Channels.{only}
 use Rattle.vax_outside.specs.declared.traits.Chan.TheVariants.{Out}

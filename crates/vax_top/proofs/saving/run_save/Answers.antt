@@ -1,4 +1,4 @@
-use Rattle.std.proofs.Common.{None, ap, subst, sym, ◌∙◌}
+use Rattle.std.proofs.Common.{ap, subst, sym, ◌∙◌}
 use Rattle.vax_cli.specs.Said.{names_of, options as said_options}
 use Rattle.vax_cli.specs.Words.{Text}
 use Rattle.vax_command.specs.Around.{around, change, outside_of}
