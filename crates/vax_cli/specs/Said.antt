@@ -5,7 +5,7 @@ use Rattle.std.specs.Global.{Global}
 use Rattle.std.specs.declared.string.String.{String}
 use Rattle.std.specs.Borrow.{Bor}
 use Rattle.vax_cli.specs.Words as words
-use Rattle.vax_cli.specs.Words.{Text, Said, bare, run, build, list, listing, console, trace, save, resume, work, vectors, about}
+use Rattle.vax_cli.specs.Words.{Text, Said, bare, run, build, list, listing, check, console, trace, save, resume, work, vectors, about}
 use Rattle.vax_cli.specs.Items as plain
 use Rattle.vax_cli.specs.declared.command.DumpItem.{DumpItem}
 use Rattle.vax_cli.specs.Tracing as tracing_words
@@ -57,6 +57,7 @@ said (command.Run files o) = run (names_of files.items) (options o)
 said (command.Build files base format) = build (names_of files.items) base format
 said (command.List files base) = list (names_of files.items) base
 said (command.Listing files base) = listing (names_of files.items) base
+said (command.Check files base system) = check (names_of files.items) base (option_copied system)
 said (command.Console files base script o) = console (names_of files.items) base script.now (options o)
 said (command.Trace files base t o) = trace (names_of files.items) base (tracing t) (options o)
 said (command.Save files base o) = save (names_of files.items) base (options o)
@@ -95,6 +96,7 @@ IsWithin (run files o) = AreFiles files × AreWithin o
 IsWithin (build files linked format) = AreFiles files
 IsWithin (list files linked) = AreFiles files
 IsWithin (listing files linked) = AreFiles files
+IsWithin (check files linked system) = AreFiles files
 IsWithin (console files linked script o) = AreFiles files × AreWithin o
 IsWithin (trace files linked t o) = AreFiles files × IsTracing t × AreWithin o
 IsWithin (save files linked o) = AreFiles files × AreWithin o

@@ -11,7 +11,7 @@ Text = List ℕ
 
 -- the commands
 abbrev pub verbs : List Verb
-verbs = verb.Bare ∷ verb.Run ∷ verb.Build ∷ verb.List ∷ verb.Listing ∷ verb.Console ∷ verb.Trace ∷ verb.Save ∷ verb.Resume ∷ verb.Work ∷ verb.Vectors ∷ []
+verbs = verb.Bare ∷ verb.Run ∷ verb.Build ∷ verb.List ∷ verb.Listing ∷ verb.Check ∷ verb.Console ∷ verb.Trace ∷ verb.Save ∷ verb.Resume ∷ verb.Work ∷ verb.Vectors ∷ []
 
 abbrev pub verb_name : Verb → Text
 verb_name verb.Bare = codes "bare"
@@ -19,6 +19,7 @@ verb_name verb.Run = codes "run"
 verb_name verb.Build = codes "build"
 verb_name verb.List = codes "list"
 verb_name verb.Listing = codes "listing"
+verb_name verb.Check = codes "check"
 verb_name verb.Console = codes "console"
 verb_name verb.Trace = codes "trace"
 verb_name verb.Save = codes "save"
@@ -56,6 +57,7 @@ keys_of verb.Run = key.Input ∷ key.System ∷ key.Schedule ∷ key.Frames ∷ 
 keys_of verb.Build = key.Base ∷ key.Format ∷ []
 keys_of verb.List = key.Base ∷ []
 keys_of verb.Listing = key.Base ∷ []
+keys_of verb.Check = key.Base ∷ key.System ∷ []
 keys_of verb.Console = key.Script ∷ key.Base ∷ key.Input ∷ key.System ∷ key.Schedule ∷ key.Frames ∷ key.Steps ∷ key.Turns ∷ []
 keys_of verb.Trace = key.Base ∷ key.Input ∷ key.System ∷ key.Schedule ∷ key.Frames ∷ key.Steps ∷ key.Turns ∷ key.Dump ∷ key.Break ∷ key.Watch ∷ []
 keys_of verb.Save = key.Base ∷ key.Input ∷ key.System ∷ key.Schedule ∷ key.Frames ∷ key.Steps ∷ key.Turns ∷ []

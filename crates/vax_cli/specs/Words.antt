@@ -41,6 +41,7 @@ pub data Said : Type 0 where
   build : List Text → Base → Format → Said
   list : List Text → Base → Said
   listing : List Text → Base → Said
+  check : List Text → Base → Option Text → Said
   console : List Text → Base → Text → Options → Said
   trace : List Text → Base → Tracing → Options → Said
   save : List Text → Base → Options → Said
@@ -74,6 +75,17 @@ options_of most items =
 abbrev pub build_of : List Item → Option Said
 build_of items =
     option_and_then (λ base. option_map (λ format. build (names items) base format) (format_of (value key.Format items))) (base_of (value key.Base items))
+
+-- on the bare machine there is no system
+abbrev pub may_have_system : Base → Option Text → Bool
+may_have_system base.User system = true
+may_have_system base.Bare system = not (is_some system)
+
+abbrev pub check_of : List Item → Option Said
+check_of items =
+    option_and_then (λ base.
+    if may_have_system base (value key.System items) then Some (check (names items) base (value key.System items)) else None)
+    (base_of (value key.Base items))
 
 -- a session has a script, and no other system on the bare machine
 abbrev pub is_session : Base → Options → Bool
@@ -127,6 +139,7 @@ said_of verb.Run items = option_map (λ options. run (names items) options) (opt
 said_of verb.Build items = build_of items
 said_of verb.List items = option_map (λ base. list (names items) base) (base_of (value key.Base items))
 said_of verb.Listing items = option_map (λ base. listing (names items) base) (base_of (value key.Base items))
+said_of verb.Check items = check_of items
 said_of verb.Console items = console_of items
 said_of verb.Trace items = trace_of items
 said_of verb.Save items = save_of items

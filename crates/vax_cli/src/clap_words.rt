@@ -58,6 +58,14 @@ fn summary_of<'a>(verb: Verb) -> Summary<'a> {
                 Listings: docs/MACHINE.md\n\
                 Exit statuses and kinds of faults: docs/MESSAGES.md",
         },
+        Verb::Check => Summary {
+            name: "vax check",
+            about: "Tell all faults of a program's sources, and what keeps it from being linked, on standard output",
+            example: "Example: the faults of a source, which says nothing where it has none\n  \
+                vax check COUNT.MAR --base bare\n\n\
+                Sources: docs/ASSEMBLER.md\n\
+                Exit statuses and kinds of faults: docs/MESSAGES.md",
+        },
         Verb::Console => Summary {
             name: "vax console",
             about: "Run a program as the lines of a script say, and answer each on standard error",

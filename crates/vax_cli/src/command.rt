@@ -40,6 +40,13 @@ pub enum Command<'a> {
         files: Names<'a>,
         base: Base,
     },
+    /// `check FILE..`: tell all that keeps a program from being built.
+    Check {
+        files: Names<'a>,
+        base: Base,
+        /// `--system NAME`: the file of a system that is told of too.
+        system: Option<&'a str>,
+    },
     /// `console FILE..`: run a program as a script says.
     Console {
         files: Names<'a>,

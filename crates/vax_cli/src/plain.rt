@@ -1,9 +1,9 @@
 //! Which words are plain, and what they say.
 ghost use Rattle.std.specs.Prelude.{◌≡◌, IfSome, None, length, true};
-ghost use Rattle.std.specs.Option.{option_and_then, option_map};
+ghost use Rattle.std.specs.Option.{option_and_then, option_copied, option_map};
 ghost use Rattle.vax_cli.specs.Table.{keys_of, takes_files};
 ghost use Rattle.vax_cli.specs.Items.{items_from, names};
-ghost use Rattle.vax_cli.specs.Words.{asks_about, asks_help, behind, build_of, checked, command_of, console_of, is_session, options_of, resume_of, said_of, save_of, trace_of, vectors_of, work_of};
+ghost use Rattle.vax_cli.specs.Words.{asks_about, asks_help, behind, build_of, check_of, checked, command_of, console_of, is_session, may_have_system, options_of, resume_of, said_of, save_of, trace_of, vectors_of, work_of};
 ghost use Rattle.vax_cli.specs.declared.command.Command.TheVariants.{About};
 ghost use Rattle.vax_cli.specs.declared.command.Strictness.TheVariants.{Halt};
 ghost use Rattle.vax_cli.specs.Said.{AreFiles, AreWithin, IsWithin, items_of, names_of, options, said, texts};
@@ -63,6 +63,34 @@ fn build_of<'a>(files: Names<'a>, items: &[Item<'a>]) -> Option<Command<'a>>
         files,
         base,
         format,
+    })
+}
+
+/// On the bare machine there is no system.
+fn may_have_system(base: Base, system: Option<&str>) -> bool
+    ensures { result ≡ may_have_system base (option_copied system.entry) }
+{
+    match base {
+        Base::User => true,
+        Base::Bare => system.is_none(),
+    }
+}
+
+fn check_of<'a>(files: Names<'a>, items: &[Item<'a>]) -> Option<Command<'a>>
+    requires files { names_of files.items ≡ names (items_of items.now) }
+    requires are { AreFiles (names_of files.items) }
+    ensures said { option_map said result ≡ check_of (items_of items.now) }
+    ensures within { IfSome result (λ c. IsWithin (said c)) }
+{
+    let base = base_of(value_in(Key::Base, items))?;
+    let system = value_in(Key::System, items);
+    if !may_have_system(base, system) {
+        return None;
+    }
+    Some(Command::Check {
+        files,
+        base,
+        system,
     })
 }
 
@@ -193,6 +221,7 @@ fn said_of<'a>(verb: Verb, files: Names<'a>, items: &[Item<'a>]) -> Option<Comma
             files,
             base: base_of(value_in(Key::Base, items))?,
         }),
+        Verb::Check => check_of(files, items),
         Verb::Console => console_of(files, items),
         Verb::Trace => trace_of(files, items),
         Verb::Save => save_of(files, items),

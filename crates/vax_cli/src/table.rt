@@ -10,6 +10,7 @@ pub(crate) enum Verb {
     Build,
     List,
     Listing,
+    Check,
     Console,
     Trace,
     Save,
@@ -44,12 +45,13 @@ pub(crate) enum Key {
 }
 
 /// The commands.
-pub(crate) const VERBS: [Verb; 11] = [
+pub(crate) const VERBS: [Verb; 12] = [
     Verb::Bare,
     Verb::Run,
     Verb::Build,
     Verb::List,
     Verb::Listing,
+    Verb::Check,
     Verb::Console,
     Verb::Trace,
     Verb::Save,
@@ -69,6 +71,7 @@ impl Verb {
             Verb::Build => "build",
             Verb::List => "list",
             Verb::Listing => "listing",
+            Verb::Check => "check",
             Verb::Console => "console",
             Verb::Trace => "trace",
             Verb::Save => "save",
@@ -106,6 +109,7 @@ impl Verb {
             ],
             Verb::Build => &[Key::Base, Key::Format],
             Verb::List | Verb::Listing => &[Key::Base],
+            Verb::Check => &[Key::Base, Key::System],
             Verb::Console => &[
                 Key::Script,
                 Key::Base,
@@ -171,6 +175,7 @@ impl Verb {
             | Verb::Build
             | Verb::List
             | Verb::Listing
+            | Verb::Check
             | Verb::Console
             | Verb::Trace
             | Verb::Save => 1 <= count && count <= 8,

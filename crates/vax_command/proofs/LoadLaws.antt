@@ -14,7 +14,7 @@ use Rattle.vax_outside.specs.declared.faults.Failures.{Failures}
 use Rattle.vax_cli.specs.Words.{Options, Text}
 use Rattle.vax_command.specs.Reading.{EndsBy, HasTexts, Reads, ReadEndsFrom, Texts, behind, file_limit, first_of, given, joined_reads, of_options, option_of, read_files}
 use Rattle.vax_command.specs.declared.status.Status.{Status}
-use Rattle.vax_command.specs.declared.status.Status.TheVariants.{Done, Usage, Missing, Large, Refused, Link, Schedule, Image, Turns, PageFault, ReadFault, WriteFault, NoMemory, Saved, NotHalted, Unsuccessful, Unfinished}
+use Rattle.vax_command.specs.declared.status.Status.TheVariants.{Done, Usage, Missing, Large, Refused, Link, Schedule, Image, Turns, PageFault, ReadFault, WriteFault, NoMemory, Saved, NotHalted, Unsuccessful, Unfinished, Told}
 
 -- what reading some names gives, and then others
 abbrev joined : Result (List Text) (Text × FilesFault) → Result (List Text) (Text × FilesFault) → Result (List Text) (Text × FilesFault)
@@ -70,6 +70,7 @@ ends_more rose later P Q ReadFault up f e = up e
 ends_more rose later P Q WriteFault up f e = e
 ends_more rose later P Q NoMemory up f e = e
 ends_more rose later P Q (Saved place kind) up f e = e
+ends_more rose later P Q (Told which) up f e = e
 ends_more rose later P Q NotHalted up f e = e
 ends_more rose later P Q Unsuccessful up f e = e
 ends_more rose later P Q Unfinished up f e = e

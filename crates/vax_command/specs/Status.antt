@@ -3,8 +3,9 @@ use Rattle.std.specs.Prelude.{ℕ, Bool, ◌==◌, ◌||◌, if◌then◌else◌
 use Rattle.vax_outside.specs.Hex.{hex}
 use Rattle.vax_outside.specs.Channels.{Channels, nothing, only}
 use Rattle.vax_outside.specs.declared.traits.Chan.TheVariants.{Report}
+use Rattle.vax_command.specs.declared.status.Part.TheVariants as part
 use Rattle.vax_command.specs.declared.status.Status.{Status}
-use Rattle.vax_command.specs.declared.status.Status.TheVariants.{Done, Usage, Missing, Large, Refused, Link, Schedule, Image, Turns, PageFault, ReadFault, WriteFault, NoMemory, Saved, NotHalted, Unsuccessful, Unfinished}
+use Rattle.vax_command.specs.declared.status.Status.TheVariants.{Done, Usage, Missing, Large, Refused, Link, Schedule, Image, Turns, PageFault, ReadFault, WriteFault, NoMemory, Saved, NotHalted, Unsuccessful, Unfinished, Told}
 
 -- the exit status of the process
 abbrev pub code : Status → ℕ
@@ -22,6 +23,9 @@ code ReadFault = 10
 code WriteFault = 11
 code NoMemory = 12
 code (Saved place kind) = 14
+code (Told part.Source) = 4
+code (Told part.Link) = 5
+code (Told part.Image) = 7
 code NotHalted = 15
 code Unsuccessful = 16
 code Unfinished = 17
@@ -74,6 +78,7 @@ refusal ReadFault = Some (codes "vax: read\n")
 refusal WriteFault = None
 refusal NoMemory = Some (codes "vax: memory\n")
 refusal (Saved place kind) = Some (saved_fault place kind)
+refusal (Told which) = None
 refusal NotHalted = None
 refusal Unsuccessful = None
 refusal Unfinished = None

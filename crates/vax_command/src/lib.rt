@@ -23,5 +23,5 @@ pub use resume::{load_saved, resume_run};
 pub use run::{prepare, report, run_programs};
 pub use saving::save_run;
 pub use session::hold_session;
-pub use status::Status;
+pub use status::{Part, Status};
 pub use trace::trace_programs;

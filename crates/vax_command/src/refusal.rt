@@ -174,6 +174,7 @@ fn put_refusal<K: Sink>(status: &Status, sink: &mut K) -> Result<(), Failed>
         | Status::Turns
         | Status::PageFault
         | Status::WriteFault
+        | Status::Told(_)
         | Status::NotHalted
         | Status::Unsuccessful
         | Status::Unfinished => Ok(()),

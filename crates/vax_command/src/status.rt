@@ -4,6 +4,17 @@ ghost use Rattle.std.specs.Prelude.{◌≡◌};
 use crate::name::Name;
 use vax_space::Bytes;
 
+/// What of a program keeps it from being built.
+#[derive(Clone, Copy, PartialEq, Eq)]
+pub enum Part {
+    /// A source has faults.
+    Source,
+    /// The linker found something.
+    Link,
+    /// The file of an image or an executable has a fault.
+    Image,
+}
+
 /// The answer of the program.
 #[derive(Drop)]
 pub enum Status {
@@ -35,6 +46,8 @@ pub enum Status {
     NoMemory,
     /// The first fault of a saved state's file: the offset of its field, and its kind.
     Saved { place: u32, kind: u8 },
+    /// What keeps a program from being built was told on Out.
+    Told(Part),
     /// The run came to its end or its limit of steps otherwise than by HALT, and `--strict on` asks for that.
     NotHalted,
     /// The program halted with neither 0 nor 1 in R0, and `--strict on` asks for that.
@@ -65,6 +78,9 @@ impl Status {
             Status::WriteFault => 11,
             Status::NoMemory => 12,
             Status::Saved { .. } => 14,
+            Status::Told(Part::Source) => 4,
+            Status::Told(Part::Link) => 5,
+            Status::Told(Part::Image) => 7,
             Status::NotHalted => 15,
             Status::Unsuccessful => 16,
             Status::Unfinished => 17,

@@ -125,7 +125,7 @@ fn reads_options(rt: HostRuntime) -> Result<(), Fail> {
 /// Plain words of each command; clap reads them all.
 #[test]
 fn reads_commands(rt: HostRuntime) -> Result<(), Fail> {
-    let rows: [(&str, Command); 13] = [
+    let rows: [(&str, Command); 15] = [
         (
             "run A B C D E F G H",
             Command::Run {
@@ -171,6 +171,22 @@ fn reads_commands(rt: HostRuntime) -> Result<(), Fail> {
             Command::Listing {
                 files: names(&["A", "B"]),
                 base: Base::Bare,
+            },
+        ),
+        (
+            "check A B --base bare",
+            Command::Check {
+                files: names(&["A", "B"]),
+                base: Base::Bare,
+                system: None,
+            },
+        ),
+        (
+            "check A --system=S",
+            Command::Check {
+                files: names(&["A"]),
+                base: Base::User,
+                system: Some("S"),
             },
         ),
         (
@@ -249,7 +265,7 @@ fn reads_commands(rt: HostRuntime) -> Result<(), Fail> {
 
 #[test]
 fn refuses_other_words(rt: HostRuntime) -> Result<(), Fail> {
-    let rows: [&str; 51] = [
+    let rows: [&str; 54] = [
         "",
         "boot A",
         "bare",
@@ -296,6 +312,9 @@ fn refuses_other_words(rt: HostRuntime) -> Result<(), Fail> {
         "list A --format 1",
         "listing",
         "listing A --format 1",
+        "check",
+        "check A --format 1",
+        "check A --base bare --system S",
         "console A",
         "console A --script L --dump 00000200:4",
         "console A --script L --base bare --system S",
@@ -321,7 +340,7 @@ fn has_all(parts: &[&str], text: &str) -> bool {
 
 #[test]
 fn shows_help(rt: HostRuntime) -> Result<(), Fail> {
-    let rows: [(&str, &[&str]); 9] = [
+    let rows: [(&str, &[&str]); 10] = [
         (
             "--help",
             &[
@@ -348,6 +367,10 @@ fn shows_help(rt: HostRuntime) -> Result<(), Fail> {
         (
             "listing --help",
             &["--base <user|bare>", "vax listing COUNT.MAR"],
+        ),
+        (
+            "check --help",
+            &["--base <user|bare>", "vax check COUNT.MAR"],
         ),
         ("console --help", &["--script <FILE>", "CONTINUE and SHOW"]),
         (

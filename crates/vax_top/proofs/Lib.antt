@@ -1,3 +1,4 @@
+pub mod CheckLaws
 pub mod SourceLaws
 pub mod VectorLaws
 pub mod TopLaws

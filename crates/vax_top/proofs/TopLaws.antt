@@ -12,7 +12,7 @@ use Rattle.vax_asm_listing.specs.Listed as listed
 use Rattle.vax_flat.specs.Parts.{machine_at}
 use Rattle.vax_machine.specs.Paged.{Why, ByEnding, BySteps, ByTurns}
 use Rattle.vax_program.specs.Program.{Refusal, Source, Link as FromLinker, InImage}
-use Rattle.vax_cli.specs.Words.{Text, Options, Said, bare, run, build, list, listing, console, trace, save, resume, work, vectors, about, command_of}
+use Rattle.vax_cli.specs.Words.{Text, Options, Said, bare, run, build, list, listing, check, console, trace, save, resume, work, vectors, about, command_of}
 use Rattle.vax_cli.specs.declared.command.Base as words_base
 use Rattle.vax_cli.specs.declared.command.Format.{Format}
 use Rattle.vax_cli.specs.declared.command.Strictness.{Strictness}
@@ -22,6 +22,7 @@ use Rattle.vax_command.specs.Around.{Around, Change, HasFailed, Outside, around,
 use Rattle.vax_command.specs.Ends.{Ends, EndsSo}
 use Rattle.vax_command.specs.Loaded.{Loaded}
 use Rattle.vax_command.specs.Running.{IsFaulty, IsRunning, LacksMemory, Ran, RunsSo}
+use Rattle.vax_top.specs.Checked.{IsTold, checked_names, found_of}
 use Rattle.vax_top.specs.Loaded.{IsRefused, image_from, refused_as, sources_image}
 use Rattle.vax_command.specs.Course.{Course, WentOnFrom}
 use Rattle.vax_command.specs.Reading.{HasTexts, Reads, Texts, of_options, texts_of}
@@ -40,7 +41,7 @@ use Rattle.vax_command.specs.Tracing as traced_run
 use Rattle.vax_cli.specs.Tracing.{Tracing}
 use Rattle.vax_command.specs.Went.{IsCut, IsRunAnswer, IsUnread, WentFrom}
 use Rattle.vax_command.specs.declared.status.Status.{Status}
-use Rattle.vax_command.specs.declared.status.Status.TheVariants.{Done, Usage, Missing, Large, Refused, Link, Schedule, Image as BadImage, Turns, PageFault, ReadFault, WriteFault, NoMemory, Saved, NotHalted, Unsuccessful, Unfinished}
+use Rattle.vax_command.specs.declared.status.Status.TheVariants.{Done, Usage, Missing, Large, Refused, Link, Schedule, Image as BadImage, Turns, PageFault, ReadFault, WriteFault, NoMemory, Saved, NotHalted, Unsuccessful, Unfinished, Told}
 use Rattle.vax_command.proofs.LoadLaws.{reads_none}
 use Rattle.vax_command.proofs.RunLaws.{answers}
 use Rattle.vax_word.specs.declared.Core.{Core}
@@ -257,6 +258,7 @@ Allowed seen names grown ReadFault = HasFailed seen.files × (grown ≡ refusal_
 Allowed seen names grown WriteFault = ⊥
 Allowed seen names grown NoMemory = grown ≡ refusal_growth NoMemory
 Allowed seen names grown (Saved place kind) = grown ≡ refusal_growth (Saved place kind)
+Allowed seen names grown (Told which) = Unit {0}
 Allowed seen names grown NotHalted = Unit {0}
 Allowed seen names grown Unsuccessful = Unit {0}
 Allowed seen names grown Unfinished = Unit {0}
@@ -277,6 +279,7 @@ module _ (seen : Around) (names : Wanted) (grown : Channels) where
   read_allowed WriteFault e g = absurd e
   read_allowed NoMemory e g = g
   read_allowed (Saved place kind) e g = absurd e
+  read_allowed (Told which) e g = absurd e
   read_allowed NotHalted e g = absurd e
   read_allowed Unsuccessful e g = absurd e
   read_allowed Unfinished e g = absurd e
@@ -308,6 +311,7 @@ module _ (seen : Around) (names : Wanted) (grown : Channels) where
   run_allowed strict WriteFault h = absurd h
   run_allowed strict NoMemory h = absurd h
   run_allowed strict (Saved place kind) h = absurd h
+  run_allowed strict (Told which) h = absurd h
   run_allowed strict NotHalted h = tt
   run_allowed strict Unsuccessful h = tt
   run_allowed strict Unfinished h = absurd h
@@ -409,6 +413,10 @@ module _ (seen : Around) (names : Wanted) (grown : Channels) where
   image_allowed built Writes status (inl r) = refused_allowed built status r.refused r.wrote
   image_allowed built Writes status (inr b) = subst (Allowed seen names grown) (sym b.0.answer) tt
 
+  told_allowed : (found : Option Refusal) (checked files : List Text) (status : Status) → IsTold found checked files status grown → Allowed seen names grown status
+  told_allowed None checked files status t = subst (Allowed seen names grown) (sym t.answer) tt
+  told_allowed (Some refusal) checked files status t = subst (Allowed seen names grown) (sym t.answer) tt
+
 module _ (seen : Around) (grown : Channels) where
   carried_allowed : (said : Said) (files : List Text) (status : Status) → Does (outside_of seen) said files status grown → Allowed seen (wanted_of said) grown status
   carried_allowed (bare names options) files status d = does_allowed seen (wanted_of (bare names options)) grown _ _ _ options status d
@@ -416,6 +424,7 @@ module _ (seen : Around) (grown : Channels) where
   carried_allowed (build names linked format) files status d = image_allowed seen (plain names) grown _ (IsFile format) status d
   carried_allowed (list names linked) files status d = image_allowed seen (plain names) grown _ IsListing status d
   carried_allowed (listing names linked) files status d = image_allowed seen (plain names) grown _ (IsSourceListing (base_for linked) files) status d
+  carried_allowed (check names linked system) files status d = told_allowed seen (plain (checked_names names system)) grown (found_of (base_for linked) names files) (checked_names names system) files status d.0
   carried_allowed (console names linked script options) files status d =
       let texts = texts_of (length names) options (Some script) files in console_allowed seen (wanted_of (console names linked script options)) grown (session_programs linked texts) texts options status d
   carried_allowed (trace names linked tracing options) files status d =
@@ -479,6 +488,7 @@ module _ (seen : Around) (grown : Channels) where
   lines names WriteFault h = tt
   lines names NoMemory h = h
   lines names (Saved place kind) h = h
+  lines names (Told which) h = tt
   lines names NotHalted h = tt
   lines names Unsuccessful h = tt
   lines names Unfinished h = tt

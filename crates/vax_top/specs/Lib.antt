@@ -1,3 +1,4 @@
+pub mod Checked
 pub mod Loaded
 pub mod LoadedView
 pub mod Vectors

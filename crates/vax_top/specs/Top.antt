@@ -4,7 +4,7 @@ use Rattle.std.specs.Option.{option_map_or}
 use Rattle.vax_outside.specs.Channels.{Channels, only}
 use Rattle.vax_outside.specs.Blocks.{BlockFile}
 use Rattle.vax_outside.specs.declared.traits.Chan.TheVariants as channel
-use Rattle.vax_cli.specs.Words.{Text, Options, Said, bare, run, build, list, listing as source_listing, console, trace, save, resume, work, vectors, about, command_of}
+use Rattle.vax_cli.specs.Words.{Text, Options, Said, bare, run, build, list, listing as source_listing, check, console, trace, save, resume, work, vectors, about, command_of}
 use Rattle.vax_cli.specs.Tracing.{Tracing}
 use Rattle.vax_cli.specs.declared.command.Base as words_base
 use Rattle.vax_cli.specs.declared.command.Base.TheVariants as words_bases
@@ -22,6 +22,7 @@ use Rattle.vax_asm_listing.specs.Listed as listed
 use Rattle.vax_command.specs.Around.{Around, Change, Outside, outside_of}
 use Rattle.vax_command.specs.Ends.{Ends, EndsSo}
 use Rattle.vax_top.specs.Vectors.{VectorsDo}
+use Rattle.vax_top.specs.Checked.{CheckDoes, checked_names, found_of}
 use Rattle.vax_top.specs.Loaded.{IsRefused, bare_loaded, image_from, sources_image, system_text, user_loaded}
 use Rattle.vax_command.specs.Reading.{Texts, of_options, texts_of}
 use Rattle.vax_command.specs.Loaded.{Loaded}
@@ -42,6 +43,7 @@ reads_of (run names options) = names ++ of_options options None
 reads_of (build names linked format) = names
 reads_of (list names linked) = names
 reads_of (source_listing names linked) = names
+reads_of (check names linked system) = checked_names names system
 reads_of (console names linked script options) = names ++ of_options options (Some script)
 reads_of (trace names linked tracing options) = names ++ of_options options None
 reads_of (save names linked options) = names ++ of_options options None
@@ -200,6 +202,8 @@ Does outside (list names linked) files status grown =
     ImageDoes outside.pages (image_from (base_for linked) files) IsListing status grown
 Does outside (source_listing names linked) files status grown =
     ImageDoes outside.pages (sources_image (base_for linked) files) (IsSourceListing (base_for linked) files) status grown
+Does outside (check names linked system) files status grown =
+    CheckDoes outside.pages (found_of (base_for linked) names files) (checked_names names system) files status grown
 Does outside (console names linked script options) files status grown =
     session_of outside (session_programs linked) (texts_of (length names) options (Some script) files) options status grown
 Does outside (trace names linked tracing options) files status grown =

@@ -179,7 +179,7 @@ pub(crate) fn run_work<S: Files, K: Sink, F: PageFile>(
 }
 
 /// The base of a word.
-fn base_for(base: Base) -> vax_image::Base
+pub(crate) fn base_for(base: Base) -> vax_image::Base
     ensures { result ≡ base_for base }
 {
     match base {

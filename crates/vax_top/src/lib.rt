@@ -1,6 +1,7 @@
 //! The top call: what the program does with its words, over any files, output channels and page file.
 #![tactic(auto)]
 
+mod checking;
 mod commands;
 mod console;
 mod laws;

@@ -12,6 +12,7 @@ ghost use Rattle.vax_command.specs.Status.{refusal};
 ghost use Rattle.vax_command.specs.Wanting.{ReadsWanted};
 ghost use Rattle.vax_top.specs.Top.{Carries, Comes, IsAbout, reads};
 
+use crate::checking::check;
 use crate::commands::{build, list, list_sources, run_bare, run_user, run_work, show};
 use crate::console::run_console;
 use crate::saving::{run_resume, run_save};
@@ -75,6 +76,11 @@ fn carry_out<S: Files, K: Sink, F: PageFile>(
         Command::Listing { files: names, base } => {
             list_sources(alloc, names.as_slice(), base, files, sink)
         }
+        Command::Check {
+            files: names,
+            base,
+            system,
+        } => check(alloc, names.as_slice(), base, system, files, sink),
         Command::Console {
             files: names,
             base,

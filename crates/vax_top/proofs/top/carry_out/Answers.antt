@@ -1,8 +1,10 @@
 use Rattle.std.proofs.Common.{ap, refl, subst, sym, ◌∙◌}
+use Rattle.std.specs.Option.{option_copied}
 use Rattle.vax_cli.specs.Said.{names_of, options as said_options, said, tracing as said_tracing}
-use Rattle.vax_cli.specs.Words.{Said, bare, console, save, run, trace}
+use Rattle.vax_cli.specs.Words.{Said, bare, check, console, save, run, trace}
 use Rattle.vax_command.specs.Around.{around, change}
 use Rattle.vax_top.specs.Top.{Carries}
+use Rattle.vax_top.proofs.CheckLaws.{check_kept}
 use Rattle.vax_top.proofs.TopLaws.{vectors_carries}
 use Rattle.vax_top.proofs.top.carry_out.Goals as goal
 
@@ -17,6 +19,15 @@ returns-in-Run-clause-carries g c =
     let seen = around (change g.S.Files.faults g.S.Files.contents c.args.files.now c.run_user.new.files) (change g.K.Sink.faults g.K.Sink.contents c.args.sink.now c.run_user.new.sink) (change g.F.PageFile.faults g.F.PageFile.contents c.args.pages.now c.run_user.new.pages) in
     let same = ap (λ names. run (names_of names) (said_options c.in-Run.options)) c.as_slice-in-Run.ensures.value ∙ ap said (sym c.in-Run.is) in
     subst (λ (s : Said). Carries seen s c.run_user.result) same c.run_user.ensures.carries
+
+pub returns-in-Check-clause-carries : goal.returns-in-Check-clause-carries
+returns-in-Check-clause-carries g c =
+    let files = change g.S.Files.faults g.S.Files.contents c.args.files.now c.check.new.files in
+    let sink = change g.K.Sink.faults g.K.Sink.contents c.args.sink.now c.check.new.sink in
+    let pages = change g.F.PageFile.faults g.F.PageFile.contents c.args.pages.now c.args.pages.now in
+    let kept = check_kept files sink pages (names_of c.as_slice-in-Check.result.now) c.in-Check.base (option_copied c.in-Check.system) c.check.result refl c.check.ensures.carries in
+    let same = ap (λ names. check (names_of names) c.in-Check.base (option_copied c.in-Check.system)) c.as_slice-in-Check.ensures.value ∙ ap said (sym c.in-Check.is) in
+    subst (λ (s : Said). Carries (around files sink pages) s c.check.result) same kept
 
 pub returns-in-Console-clause-carries : goal.returns-in-Console-clause-carries
 returns-in-Console-clause-carries g c =

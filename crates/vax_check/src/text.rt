@@ -1,0 +1,88 @@
+// What is told of a program.
+
+ghost use Rattle.std.specs.Prelude.{IfOk};
+ghost use Rattle.std.specs.Option.{option_map};
+ghost use Rattle.vax_check.specs.Told.{AreErrorsOf, Tells};
+ghost use Rattle.vax_check.specs.View.{names_of};
+ghost use Rattle.vax_program.specs.View.{refusal_seen, texts};
+
+use crate::errors::errors_of;
+use crate::refusal::{image_text, link_text};
+use crate::remarks::push_each;
+use std::alloc::Global;
+use vax_asm_errors::Wanted;
+use vax_program::Refusal;
+use vax_space::NoMemory;
+
+/// The files of a program: their names and their bytes, one for each name; and whether it is one for the bare machine.
+#[derive(Clone, Copy)]
+pub struct Files<'a> {
+    pub names: &'a [&'a str],
+    pub texts: &'a [Vec<u8>],
+    pub bare: bool,
+}
+
+/// Why files give no program.
+fn errors_in(alloc: Global, files: Files<'_>, refusal: &Refusal) -> Result<Vec<u8>, NoMemory>
+    ensures { IfOk result (λ v. AreErrorsOf (names_of files.entry.names.now)
+        (texts files.entry.texts.now) (refusal_seen refusal.now) v.items) }
+{
+    match refusal {
+        Refusal::Source { .. } => errors_of(alloc, files.names, files.texts),
+        Refusal::Link {
+            kind,
+            name,
+            address,
+        } => link_text(alloc, *kind, name.as_slice(), *address),
+        Refusal::Image { place, kind } => image_text(alloc, *place, *kind),
+    }
+}
+
+/// Which remarks are wanted beside a refusal, or where there is none.
+fn wanted<'a>(bare: bool, refusal: Option<&'a Refusal>) -> Wanted<'a> {
+    match refusal {
+        None => Wanted {
+            bare,
+            unused: true,
+            name: &[],
+        },
+        Some(Refusal::Link { name, .. }) => Wanted {
+            bare,
+            unused: true,
+            name: name.as_slice(),
+        },
+        Some(_) => Wanted {
+            bare,
+            unused: false,
+            name: &[],
+        },
+    }
+}
+
+/// What is to be told of files that have this refusal, or none: where a source has a fault, all errors of all sources; else what the linker found, or the
+/// fault of an image's or an executable's file; and then remarks on the sources.
+///
+/// # Errors
+///
+/// [`NoMemory`] where memory is refused.
+pub fn text_of(
+    alloc: Global,
+    files: Files<'_>,
+    refusal: Option<&Refusal>,
+) -> Result<Vec<u8>, NoMemory>
+    ensures { IfOk result (λ v. Tells (names_of files.entry.names.now) (texts files.entry.texts.now)
+        (option_map (λ r. refusal_seen r.now) refusal.entry) v.items) }
+{
+    let mut out = match refusal {
+        Some(refusal) => errors_in(alloc, files, refusal)?,
+        None => Vec::new(alloc),
+    };
+    push_each(
+        alloc,
+        &mut out,
+        files.names,
+        files.texts,
+        wanted(files.bare, refusal),
+    )?;
+    Ok(out)
+}

@@ -1,0 +1,61 @@
+-- What `check` tells of a program.
+use Rattle.std.specs.Prelude.{◌≡◌, ◌⊎◌, List, [], ◌∷◌, ◌++◌, take, drop, length, Option, None, Some, Result, Ok, Err}
+use Rattle.vax_check.specs.Told.{Tells}
+use Rattle.vax_cli.specs.Words.{Text}
+use Rattle.vax_command.specs.Around.{Change}
+use Rattle.vax_command.specs.Reading.{given}
+use Rattle.vax_command.specs.Running.{LacksMemory}
+use Rattle.vax_command.specs.declared.status.Part.{Part}
+use Rattle.vax_command.specs.declared.status.Part.TheVariants as part
+use Rattle.vax_command.specs.declared.status.Status.{Status}
+use Rattle.vax_command.specs.declared.status.Status.TheVariants.{Done, Told}
+use Rattle.vax_image.specs.declared.Base.{Base}
+use Rattle.vax_outside.specs.Blocks.{BlockFile}
+use Rattle.vax_outside.specs.Channels.{Channels, only}
+use Rattle.vax_outside.specs.declared.traits.Chan.TheVariants.{Out}
+use Rattle.vax_program.specs.Program.{Refusal, Source, Link, InImage}
+use Rattle.vax_top.specs.Loaded.{image_from, user_loaded}
+
+-- why there is no program, if there is none
+abbrev pub refusal_of : {X : Type 0} → Result X Refusal → Option Refusal
+refusal_of (Ok x) = None
+refusal_of (Err refusal) = Some refusal
+
+-- Why files give no program, if they give none: no image for a base, or, where a system's file is given, none in user mode under this.
+abbrev pub found_in : Base → (files system : List Text) → Option Refusal
+found_in base files [] = refusal_of (image_from base files)
+found_in base files (system ∷ more) = refusal_of (user_loaded files system)
+
+-- the names of a program's files, and behind them that of a system's, if it is given
+abbrev pub checked_names : List Text → Option Text → List Text
+checked_names names system = names ++ given system
+
+-- the same of files, of which the first are the program's
+abbrev pub found_of : Base → List Text → (files : List Text) → Option Refusal
+found_of base names files = found_in base (take (length names) files) (drop (length names) files)
+
+-- what of a program keeps it from being built
+abbrev pub part_of : Refusal → Part
+part_of (Source file line kind) = part.Source
+part_of (Link kind name address) = part.Link
+part_of (InImage place kind) = part.Image
+
+-- the answer to that
+abbrev pub answer_of : Option Refusal → Status
+answer_of None = Done
+answer_of (Some refusal) = Told (part_of refusal)
+
+-- What was found was told on Out: no error of a program that is built, and of any other what keeps it from that.
+pub record IsTold (found : Option Refusal) (names files : List Text) (status : Status) (grown : Channels) : Type 0 where
+  pub text : Text
+  pub tells : Tells names files found text
+  pub answer : status ≡ answer_of found
+  pub wrote : grown ≡ only Out text
+
+-- what `check` does
+abbrev pub CheckDoes : Change BlockFile → Option Refusal → (names files : List Text) → Status → Channels → Type 0
+CheckDoes pages found names files status grown = IsTold found names files status grown × pages.same
+
+-- a program was checked so, or memory was refused before
+abbrev pub IsChecking : Change BlockFile → Option Refusal → (names files : List Text) → Status → Channels → Type 0
+IsChecking pages found names files status grown = LacksMemory pages status grown ⊎ CheckDoes pages found names files status grown
