@@ -166,8 +166,8 @@ fn tell<K: Sink>(
 ) -> Status
     requires some { 1 ≤ count }
     requires few { count ≤ 8 }
-    requires all { count ≤ length files.entry.texts.now }
-    requires one { length files.entry.texts.now ≤ count + 1 }
+    requires all { count ≤ length files.texts.now }
+    requires one { length files.texts.now ≤ count + 1 }
     ensures { let texts = texts_seen files.entry.texts.now in
         EndsSo (change K.faults K.contents sink.old sink.new)
         (IsChecking untouched (found_in base (take count texts) (drop count texts))
