@@ -56,10 +56,10 @@ not_refused meant x e = sym (ap refusal_of e)
 module _ (base : Base) (files : List Text) where
   pub found_alone : (system : List (Vec ℕ)) → (length system == 0) ≡ true → refusal_of (image_from base files) ≡ found_in base files (texts system)
   found_alone [] e = refl
-  found_alone (file ∷ more) e = absurd (cc e)
+  found_alone (file ∷ more) e = let no : false ≡ true = e in absurd (cc no)
 
   pub one_text : (system : List (Vec ℕ)) → (length system == 0) ≡ false → length system ≤ 1 → (text : Text) × (texts system ≡ text ∷ [])
-  one_text [] e few = absurd (cc e)
+  one_text [] e few = let no : true ≡ false = e in absurd (cc no)
   one_text (file ∷ []) e few = (file.items, refl)
   one_text (file ∷ other ∷ more) e few = let h : length (file ∷ other ∷ more) ≤ 1 = few in absurd (omega (arith, h))
 
