@@ -1,5 +1,7 @@
 -- What is told of a program, and what `check` comes to.
 use Rattle.std.proofs.Common.{◌≡◌, ◌≤◌, ◌+◌, ◌==◌, true, false, ℕ, inl, inr, List, [], ◌∷◌, ◌++◌, append-nil, drop, length, take, Option, None, Some, Result, Ok, Err, ap, arith, refl, subst, sym, ◌∙◌}
+use Rattle.std.specs.Prelude.{suc}
+use Rattle.std.proofs.lemmas.Bool.Decides.{nat_tests}
 use Rattle.std.proofs.lemmas.List.{drop-map, length-append, length-map, map-append, take-map}
 use Rattle.std.specs.Borrow.{Bor}
 use Rattle.std.specs.Global.{Vec}
@@ -52,11 +54,14 @@ refused_so meant refusal e = sym (ap refusal_of e)
 pub not_refused : {X : Type 0} (meant : Result X Refusal) (x : X) → meant ≡ Ok x → None ≡ refusal_of meant
 not_refused meant x e = sym (ap refusal_of e)
 
+not_zero : (n : ℕ) → (suc n == 0) ≡ false
+not_zero n = grind (arith, nat_tests)
+
 -- what is found without a system's file, and with one
 module _ (base : Base) (files : List Text) where
   pub found_alone : (system : List (Vec ℕ)) → (length system == 0) ≡ true → refusal_of (image_from base files) ≡ found_in base files (texts system)
   found_alone [] e = refl
-  found_alone (file ∷ more) e = let no : false ≡ true = e in absurd (cc no)
+  found_alone (file ∷ more) e = let no : false ≡ true = sym (not_zero (length more)) ∙ e in absurd (cc no)
 
   pub one_text : (system : List (Vec ℕ)) → (length system == 0) ≡ false → length system ≤ 1 → (text : Text) × (texts system ≡ text ∷ [])
   one_text [] e few = let no : true ≡ false = e in absurd (cc no)
