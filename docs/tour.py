@@ -1,5 +1,5 @@
 #!/usr/bin/env python3
-"""Runs the commands of README.md and docs/TOUR.md in a shell, and compares what they write with what stands below them.
+"""Runs the commands of README.md, docs/TOUR.md and docs/MESSAGES.md in a shell, and compares what they write with what stands below them.
 
 Use: docs/tour.py [--build] PROGRAM TOP [DOCUMENT ..]
 
@@ -16,7 +16,7 @@ import subprocess
 import sys
 import tempfile
 
-DOCUMENTS = ["README.md", "docs/TOUR.md"]
+DOCUMENTS = ["README.md", "docs/TOUR.md", "docs/MESSAGES.md"]
 SECONDS = 300
 SECONDS_TO_BUILD = 6 * 3600
 
