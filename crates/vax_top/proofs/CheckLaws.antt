@@ -104,7 +104,7 @@ module _ (sink : Change Channels) (names : List (Bor Text)) (linked : words_base
 
   pub all_told : (base : Base) (count : ℕ) (shown read : List Text) → base ≡ base_for linked → count ≡ length names → shown ≡ all → read ≡ files → Telling base count shown read
       → EndsSo sink (IsChecking untouched (found_of (base_for linked) (names_of names) files) all files) result
-  all_told base count shown read eb ec es er e =
+  all_told built count shown read eb ec es er e =
       subst (λ (n : ℕ). Telling (base_for linked) n all files) (ec ∙ sym (length-map names (λ (n : Bor Text). n.now)))
       (subst (λ (list : List Text). Telling (base_for linked) count all list) er
       (subst (λ (list : List Text). Telling (base_for linked) count list read) es

@@ -23,8 +23,8 @@ refusal_of (Err refusal) = Some refusal
 
 -- Why files give no program, if they give none: no image for a base, or, where a system's file is given, none in user mode under this.
 abbrev pub found_in : Base → (files system : List Text) → Option Refusal
-found_in base files [] = refusal_of (image_from base files)
-found_in base files (system ∷ more) = refusal_of (user_loaded files system)
+found_in linked files [] = refusal_of (image_from linked files)
+found_in linked files (system ∷ more) = refusal_of (user_loaded files system)
 
 -- the names of a program's files, and behind them that of a system's, if it is given
 abbrev pub checked_names : List Text → Option Text → List Text
@@ -32,7 +32,7 @@ checked_names names system = names ++ given system
 
 -- the same of files, of which the first are the program's
 abbrev pub found_of : Base → List Text → (files : List Text) → Option Refusal
-found_of base names files = found_in base (take (length names) files) (drop (length names) files)
+found_of linked names files = found_in linked (take (length names) files) (drop (length names) files)
 
 -- what of a program keeps it from being built
 abbrev pub part_of : Refusal → Part
