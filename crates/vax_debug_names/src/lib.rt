@@ -1,0 +1,95 @@
+//! The symbols of a program, while it is debugged: the address of a name, and the name of an address.
+#![tactic(auto)]
+
+ghost use Rattle.std.specs.Prelude.{◌≡◌};
+ghost use Rattle.vax_debug_names.specs.Names as spec;
+
+use vax_debug_words::longword;
+use vax_space::Bytes;
+
+/// A symbol of a program.
+#[derive(Drop)]
+pub struct Symbol {
+    /// Its name in capitals.
+    pub name: Bytes,
+    /// What it stands for.
+    pub value: u32,
+    /// Whether that is an address in the program, and no mere number.
+    pub is_place: bool,
+}
+
+/// An address as a symbol and a distance from it.
+#[derive(Clone, Copy, PartialEq, Eq)]
+pub struct Near {
+    /// The symbol, by its place in the list.
+    pub index: usize,
+    pub distance: u32,
+}
+
+/// The value of a name: that of the first symbol with this name.
+pub fn value_of(symbols: &[Symbol], name: &[u8]) -> Option<u32>
+    ensures { result ≡ spec.value_of symbols.now name.now }
+{
+    for symbol in symbols {
+        if symbol.name.as_slice() == name {
+            return Some(symbol.value);
+        }
+    }
+    None
+}
+
+/// What a word stands for: a symbol's value, or else, with no symbol of the name, a number of 1 to 8 hexadecimal digits.
+#[tactic(auto, unfolding(crate::specs::Names::number_of))]
+pub fn number_of(symbols: &[Symbol], word: &[u8]) -> Option<u32>
+    ensures { result ≡ spec.number_of symbols.now word.now }
+{
+    match value_of(symbols, word) {
+        Some(value) => Some(value),
+        None => longword(word),
+    }
+}
+
+/// Whether a symbol is an address in the program at or below this one.
+fn is_below(symbol: &Symbol, address: u32) -> bool
+    ensures { result ≡ spec.is_below address symbol.now }
+{
+    symbol.is_place && symbol.value <= address
+}
+
+/// Whether a distance is less than the one that was found, if one was.
+fn is_less(distance: u32, found: Option<Near>) -> bool
+    ensures { result ≡ spec.is_less distance found }
+{
+    match found {
+        None => true,
+        Some(near) => distance < near.distance,
+    }
+}
+
+/// Of what was found and a symbol the nearer: the symbol only where it is.
+#[tactic(auto, unfolding(crate::specs::Names::nearer))]
+fn nearer(index: usize, address: u32, symbol: &Symbol, found: Option<Near>) -> Option<Near>
+    ensures { result ≡ spec.nearer index address symbol.now found }
+{
+    if !is_below(symbol, address) {
+        return found;
+    }
+    let distance = address - symbol.value;
+    if is_less(distance, found) {
+        Some(Near { index, distance })
+    } else {
+        found
+    }
+}
+
+/// An address as a symbol and a distance: of the symbols that are addresses at or below it the highest, and of those of one address the first; none where
+/// there is no such symbol.
+pub fn nearest(symbols: &[Symbol], address: u32) -> Option<Near>
+    ensures { result ≡ spec.nearest symbols.now address }
+{
+    let mut found = None;
+    for (index, symbol) in symbols.iter().enumerate() {
+        found = nearer(index, address, symbol, found);
+    }
+    found
+}

@@ -1,0 +1,430 @@
+//! The operands of each command.
+ghost use Rattle.std.specs.Prelude.{◌≡◌, ◌<◌, ◌≤◌, IfSome, None, Some, length, option_map};
+ghost use Rattle.vax_lines.specs.Words.{words};
+ghost use Rattle.vax_debug_words.specs.Expressions.{IsExpression, expression};
+ghost use Rattle.vax_debug_words.specs.Commands.{meaning};
+ghost use Rattle.vax_debug_words.specs.declared.request.Request.TheVariants as request;
+ghost use Rattle.vax_debug_words.specs.declared.request.Value.TheVariants as value;
+ghost use Rattle.vax_debug_words.specs.Requests.{IsCount, IsProper, IsSpan, IsValue, alone, characters, cleared, count, count_or, deposited, disassembled, evicted, evicted_at, examined, form_or_long, help_on, helped, memory_put, memory_shown, one_expression, one_shown, put_at, quadword, shown, shown_at, span, spanned, stacked, stepped, value_of, watched};
+
+use crate::command::{Form, Meaning, begins, is_called, meaning_of};
+use crate::expression::{expression, longword, register};
+use crate::request::{Characters, Expression, Request, Size, Span, Value};
+use vax_lines::{next_word, number};
+
+/// The most values, longwords, bytes or instructions of one line.
+const MOST: u64 = 64;
+
+/// The most steps of a `STEP`.
+const MOST_STEPS: u64 = 1_000_000_000_000_000;
+
+/// How many instructions are shown where a line doesn't say.
+const INSTRUCTIONS: u8 = 10;
+
+/// How many longwords of the stack are shown where a line doesn't say.
+const LONGWORDS: u8 = 8;
+
+/// How many bytes are watched where a line doesn't say.
+const WATCHED: u8 = 4;
+
+/// A count of values, longwords, bytes or instructions.
+fn count(word: &[u8]) -> Option<u8>
+    ensures value { result ≡ count word.now }
+    ensures range { IfSome result IsCount }
+{
+    number(MOST, word).map(|n| n as u8)
+}
+
+/// One count, where it isn't left out.
+#[tactic(auto, unfolding(crate::specs::Requests::count_or))]
+fn count_or(default: u8, operands: &[u8]) -> Option<u8>
+    requires { IsCount default }
+    ensures value { result ≡ count_or default (words operands.now) }
+    ensures range { IfSome result IsCount }
+{
+    match next_word(operands) {
+        None => Some(default),
+        Some((many, rest)) => match next_word(rest) {
+            None => count(many),
+            Some(_) => None,
+        },
+    }
+}
+
+/// The only expression.
+#[tactic(auto, unfolding(crate::specs::Requests::one_expression))]
+fn one_expression(operands: &[u8]) -> Option<Expression>
+    ensures value { result ≡ one_expression (words operands.now) }
+    ensures proper { IfSome result IsExpression }
+{
+    let (at, rest) = next_word(operands)?;
+    match next_word(rest) {
+        None => expression(at),
+        Some(_) => None,
+    }
+}
+
+/// From here on, so many.
+fn span(from: &[u8], count: Option<u8>) -> Option<Span>
+    requires { IfSome count IsCount }
+    ensures value { result ≡ span (expression from.now) count }
+    ensures proper { IfSome result IsSpan }
+{
+    let from = expression(from)?;
+    let count = count?;
+    Some(Span { from, count })
+}
+
+/// From where on, and how many, where that isn't left out.
+#[tactic(auto, unfolding(crate::specs::Requests::spanned))]
+fn spanned(default: u8, operands: &[u8]) -> Option<Span>
+    requires { IsCount default }
+    ensures value { result ≡ spanned default (words operands.now) }
+    ensures proper { IfSome result IsSpan }
+{
+    let (from, rest) = next_word(operands)?;
+    match next_word(rest) {
+        None => span(from, Some(default)),
+        Some((many, rest)) => match next_word(rest) {
+            None => span(from, count(many)),
+            Some(_) => None,
+        },
+    }
+}
+
+/// One value of this form.
+#[tactic(auto, unfolding(crate::specs::Requests::IsProper))]
+fn one_shown(form: Form, what: &[u8]) -> Option<Request>
+    ensures request { result ≡ one_shown form what.now }
+    ensures proper { IfSome result IsProper }
+{
+    span(what, Some(1)).map(|at| Request::ExamineMemory(form, at))
+}
+
+/// A register, the status, or a longword.
+#[tactic(auto, unfolding(crate::specs::Requests::IsProper))]
+fn shown_plainly(what: &[u8]) -> Option<Request>
+    ensures request { result ≡ shown_at None what.now }
+    ensures proper { IfSome result IsProper }
+{
+    match register(what) {
+        Some(n) => Some(Request::ExamineRegister(n)),
+        None if is_called(what, b"PSL") => Some(Request::ExamineStatus),
+        None => one_shown(Form::Long, what),
+    }
+}
+
+/// A register, the status, or one value.
+fn shown_at(form: Option<Form>, what: &[u8]) -> Option<Request>
+    ensures request { result ≡ shown_at form what.now }
+    ensures proper { IfSome result IsProper }
+{
+    match form {
+        None => shown_plainly(what),
+        Some(form) => one_shown(form, what),
+    }
+}
+
+/// The form that is said, or longwords.
+fn form_or_long(form: Option<Form>) -> Form
+    ensures { result ≡ form_or_long form }
+{
+    form.unwrap_or(Form::Long)
+}
+
+/// Several values.
+#[tactic(auto, unfolding(crate::specs::Requests::IsProper))]
+fn several_shown(form: Option<Form>, operands: &[u8]) -> Option<Request>
+    ensures request { result ≡ memory_shown (form_or_long form) (spanned 1 (words operands.now)) }
+    ensures proper { IfSome result IsProper }
+{
+    let form = form_or_long(form);
+    spanned(1, operands).map(|at| Request::ExamineMemory(form, at))
+}
+
+/// What an `EXAMINE` with these operands asks for.
+#[tactic(auto, unfolding(crate::specs::Requests::examined, crate::specs::Requests::spanned))]
+pub(crate) fn examined(form: Option<Form>, operands: &[u8]) -> Option<Request>
+    ensures request { result ≡ examined form (words operands.now) }
+    ensures proper { IfSome result IsProper }
+{
+    let (what, rest) = next_word(operands)?;
+    match next_word(rest) {
+        None => shown_at(form, what),
+        Some(_) => several_shown(form, operands),
+    }
+}
+
+/// 1 to 16 hexadecimal digits.
+#[tactic(auto, unfolding(crate::specs::Requests::quadword))]
+fn quadword(word: &[u8]) -> Option<u64>
+    ensures { result ≡ quadword word.now }
+{
+    if word.len() <= 8 {
+        return longword(word).map(u64::from);
+    }
+    let (high, low) = word.split_at(word.len() - 8);
+    let high = longword(high)?;
+    let low = longword(low)?;
+    Some(u64::from(high) * 0x1_0000_0000 + u64::from(low))
+}
+
+/// 1 to 64 characters.
+#[tactic(auto, unfolding(crate::specs::Requests::characters))]
+fn characters(word: &[u8]) -> Option<Characters>
+    ensures value { result ≡ characters word.now }
+    ensures some { IfSome result (λ cs. 1 ≤ length cs) }
+    ensures few { IfSome result (λ cs. length cs ≤ 64) }
+{
+    if word.is_empty() || word.len() > 64 {
+        return None;
+    }
+    Some(Characters::new(word))
+}
+
+/// A number of so many bytes.
+fn sized(size: Size, word: &[u8]) -> Option<Value>
+    ensures value { result ≡ option_map (value.Number size) (expression word.now) }
+    ensures proper { IfSome result IsValue }
+{
+    expression(word).map(|e| Value::Number(size, e))
+}
+
+/// A value in its form.
+#[tactic(auto, unfolding(crate::specs::Requests::value_of))]
+fn value(form: Form, word: &[u8]) -> Option<Value>
+    ensures value { result ≡ value_of form word.now }
+    ensures proper { IfSome result IsValue }
+{
+    match form {
+        Form::Byte => sized(Size::Byte, word),
+        Form::Word => sized(Size::Word, word),
+        Form::Long => sized(Size::Long, word),
+        Form::Quad => quadword(word).map(Value::Quadword),
+        Form::Ascii => characters(word).map(Value::Text),
+        Form::Instruction => None,
+    }
+}
+
+/// A value into memory.
+#[tactic(auto, unfolding(crate::specs::Requests::IsProper))]
+fn memory_put(form: Form, what: &[u8], given: &[u8]) -> Option<Request>
+    ensures request { result ≡ memory_put (expression what.now) (value_of form given.now) }
+    ensures proper { IfSome result IsProper }
+{
+    let to = expression(what)?;
+    let value = value(form, given)?;
+    Some(Request::DepositMemory { to, value })
+}
+
+/// A number into a register.
+#[tactic(auto, unfolding(crate::specs::Requests::IsProper))]
+fn register_put(register: u8, given: &[u8]) -> Option<Request>
+    requires { register < 16 }
+    ensures request { result
+        ≡ option_map (request.DepositRegister register) (expression given.now) }
+    ensures proper { IfSome result IsProper }
+{
+    expression(given).map(|value| Request::DepositRegister { register, value })
+}
+
+/// Into a register, the status, or a longword.
+#[tactic(auto, unfolding(crate::specs::Requests::IsProper))]
+fn put_plainly(what: &[u8], given: &[u8]) -> Option<Request>
+    ensures request { result ≡ put_at None what.now given.now }
+    ensures proper { IfSome result IsProper }
+{
+    match register(what) {
+        Some(n) => register_put(n, given),
+        None if is_called(what, b"PSL") => expression(given).map(Request::DepositStatus),
+        None => memory_put(Form::Long, what, given),
+    }
+}
+
+/// Into a register, the status, or memory.
+fn put_at(form: Option<Form>, what: &[u8], given: &[u8]) -> Option<Request>
+    ensures request { result ≡ put_at form what.now given.now }
+    ensures proper { IfSome result IsProper }
+{
+    match form {
+        None => put_plainly(what, given),
+        Some(form) => memory_put(form, what, given),
+    }
+}
+
+/// What a `DEPOSIT` with these operands asks for.
+#[tactic(auto, unfolding(crate::specs::Requests::deposited))]
+pub(crate) fn deposited(form: Option<Form>, operands: &[u8]) -> Option<Request>
+    ensures request { result ≡ deposited form (words operands.now) }
+    ensures proper { IfSome result IsProper }
+{
+    let (what, rest) = next_word(operands)?;
+    let (given, rest) = next_word(rest)?;
+    match next_word(rest) {
+        None => put_at(form, what, given),
+        Some(_) => None,
+    }
+}
+
+/// What a `DISASSEMBLE` with these operands asks for.
+#[tactic(auto, unfolding(crate::specs::Requests::disassembled, crate::specs::Requests::IsProper))]
+pub(crate) fn disassembled(operands: &[u8]) -> Option<Request>
+    ensures request { result ≡ disassembled (words operands.now) }
+    ensures proper { IfSome result IsProper }
+{
+    match next_word(operands) {
+        None => Some(Request::Disassemble(None)),
+        Some(_) => spanned(INSTRUCTIONS, operands).map(|at| Request::Disassemble(Some(at))),
+    }
+}
+
+/// What a `STEP` with these operands asks for.
+#[tactic(auto, unfolding(crate::specs::Requests::stepped, crate::specs::Requests::IsProper))]
+pub(crate) fn stepped(operands: &[u8]) -> Option<Request>
+    ensures request { result ≡ stepped (words operands.now) }
+    ensures proper { IfSome result IsProper }
+{
+    match next_word(operands) {
+        None => Some(Request::Step(1)),
+        Some((many, rest)) => match next_word(rest) {
+            None => number(MOST_STEPS, many).map(Request::Step),
+            Some(_) => None,
+        },
+    }
+}
+
+/// What a `WATCH` with these operands asks for.
+#[tactic(auto, unfolding(crate::specs::Requests::IsProper))]
+pub(crate) fn watched(operands: &[u8]) -> Option<Request>
+    ensures request { result ≡ watched (words operands.now) }
+    ensures proper { IfSome result IsProper }
+{
+    spanned(WATCHED, operands).map(Request::Watch)
+}
+
+/// What a `CLEAR` with these operands asks for.
+#[tactic(auto, unfolding(crate::specs::Requests::cleared, crate::specs::Requests::IsProper))]
+pub(crate) fn cleared(operands: &[u8]) -> Option<Request>
+    ensures request { result ≡ cleared (words operands.now) }
+    ensures proper { IfSome result IsProper }
+{
+    match next_word(operands) {
+        None => Some(Request::Clear(None)),
+        Some(_) => one_expression(operands).map(|at| Request::Clear(Some(at))),
+    }
+}
+
+/// What a `SHOW` with these operands asks for.
+#[tactic(auto, unfolding(crate::specs::Requests::shown, crate::specs::Requests::IsProper))]
+pub(crate) fn shown(operands: &[u8]) -> Option<Request>
+    ensures request { result ≡ shown (words operands.now) }
+    ensures proper { IfSome result IsProper }
+{
+    match next_word(operands) {
+        None => Some(Request::Show),
+        Some((what, rest)) => match next_word(rest) {
+            None if begins(what, b"BREAKS") => Some(Request::Show),
+            _ => None,
+        },
+    }
+}
+
+/// What a `STACK` with these operands asks for.
+#[tactic(auto, unfolding(crate::specs::Requests::IsProper))]
+pub(crate) fn stacked(operands: &[u8]) -> Option<Request>
+    ensures request { result ≡ stacked (words operands.now) }
+    ensures proper { IfSome result IsProper }
+{
+    count_or(LONGWORDS, operands).map(Request::Stack)
+}
+
+/// All pages, or that of an address.
+#[tactic(auto, unfolding(crate::specs::Requests::IsProper))]
+fn evicted_at(what: &[u8]) -> Option<Request>
+    ensures request { result ≡ evicted_at what.now }
+    ensures proper { IfSome result IsProper }
+{
+    if is_called(what, b"ALL") {
+        return Some(Request::EvictAll);
+    }
+    expression(what).map(Request::Evict)
+}
+
+/// What an `EVICT` with these operands asks for.
+#[tactic(auto, unfolding(crate::specs::Requests::evicted))]
+pub(crate) fn evicted(operands: &[u8]) -> Option<Request>
+    ensures request { result ≡ evicted (words operands.now) }
+    ensures proper { IfSome result IsProper }
+{
+    let (what, rest) = next_word(operands)?;
+    match next_word(rest) {
+        None => evicted_at(what),
+        Some(_) => None,
+    }
+}
+
+/// How a command is used, if a word means only one.
+#[tactic(auto, unfolding(crate::specs::Requests::IsProper))]
+fn help_on(word: &[u8]) -> Option<Request>
+    ensures request { result ≡ help_on (meaning word.now) }
+    ensures proper { IfSome result IsProper }
+{
+    match meaning_of(word) {
+        Meaning::Only(command) => Some(Request::Help(Some(command))),
+        _ => None,
+    }
+}
+
+/// What a `HELP` with these operands asks for.
+#[tactic(auto, unfolding(crate::specs::Requests::helped, crate::specs::Requests::IsProper))]
+pub(crate) fn helped(operands: &[u8]) -> Option<Request>
+    ensures request { result ≡ helped (words operands.now) }
+    ensures proper { IfSome result IsProper }
+{
+    match next_word(operands) {
+        None => Some(Request::Help(None)),
+        Some((what, rest)) => match next_word(rest) {
+            None => help_on(what),
+            Some(_) => None,
+        },
+    }
+}
+
+/// A request whose line has no operands.
+pub(crate) fn alone(request: Request, operands: &[u8]) -> Option<Request>
+    requires { IsProper request }
+    ensures request { result ≡ alone request (words operands.now) }
+    ensures proper { IfSome result IsProper }
+{
+    match next_word(operands) {
+        None => Some(request),
+        Some(_) => None,
+    }
+}
+
+/// What an `UNTIL` with these operands asks for.
+#[tactic(auto, unfolding(crate::specs::Requests::IsProper))]
+pub(crate) fn until(operands: &[u8]) -> Option<Request>
+    ensures request { result ≡ option_map request.Until (one_expression (words operands.now)) }
+    ensures proper { IfSome result IsProper }
+{
+    one_expression(operands).map(Request::Until)
+}
+
+/// What a `BREAK` with these operands asks for.
+#[tactic(auto, unfolding(crate::specs::Requests::IsProper))]
+pub(crate) fn broken(operands: &[u8]) -> Option<Request>
+    ensures request { result ≡ option_map request.Break (one_expression (words operands.now)) }
+    ensures proper { IfSome result IsProper }
+{
+    one_expression(operands).map(Request::Break)
+}
+
+/// What a `QUEUE` with these operands asks for.
+#[tactic(auto, unfolding(crate::specs::Requests::IsProper))]
+pub(crate) fn queued(operands: &[u8]) -> Option<Request>
+    ensures request { result ≡ option_map request.Queue (one_expression (words operands.now)) }
+    ensures proper { IfSome result IsProper }
+{
+    one_expression(operands).map(Request::Queue)
+}
