@@ -1,7 +1,9 @@
-//! Tests of the debugger: its words and its names.
+//! Tests of the debugger: its words, its names and its steps.
 #![tactic(auto)]
 
 #[cfg(test)]
 mod names;
+#[cfg(test)]
+mod steps;
 #[cfg(test)]
 mod words;

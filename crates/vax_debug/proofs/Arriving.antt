@@ -1,0 +1,183 @@
+-- The machine's runs make the steps of a session that is debugged.
+use Rattle.std.proofs.Common.{◌≡◌, ◌<◌, ◌≤◌, ◌+◌, ◌-◌, ◌^◌, ℕ, min, Bool, true, false, List, [], ◌++◌, append-nil, append_assoc, Option, Result, Ok, Err, refl, sym, ap, subst, ◌∙◌, arith}
+use Rattle.vax_space.specs.declared.Area.{Area}
+use Rattle.vax_outside.specs.Blocks.{BlockFile}
+use Rattle.vax_outside.specs.Channels.{Channels, Grew, GrewByPrefix, append, nothing}
+use Rattle.vax_outside.specs.declared.faults.Failures.{Failures}
+use Rattle.vax_outside.proofs.Counting.{rose_then}
+use Rattle.vax_outside.proofs.Growth.{append-nothing, grew_more, prefix_in}
+use Rattle.vax_flat.specs.Parts.{Place, At, GoesBy}
+use Rattle.vax_flat.specs.Step.{Flat}
+use Rattle.vax_sched.specs.declared.rule.Rule.{Rule}
+use Rattle.vax_machine.specs.Console.{IsBetween, StopsBetween}
+use Rattle.vax_machine.specs.Run as run_spec
+use Rattle.vax_machine.specs.Run.{begun}
+use Rattle.vax_machine.specs.declared.engine.Engine.{Engine}
+use Rattle.vax_machine.specs.declared.event.Limits.{Limits}
+use Rattle.vax_machine.specs.declared.event.RunEnd.{RunEnd}
+use Rattle.vax_machine.specs.declared.event.RunEnd.TheVariants as run_end
+use Rattle.vax_console.specs.Transcript.{Session, advanced, stepped}
+use Rattle.vax_console.specs.Ends.{Advances, IsAt, IsOnTheWay, IsOutOfTurns, IsPartOf, IsWithin, Scene, session_on, writes}
+use Rattle.vax_console.proofs.Replying.{changes_once_then}
+use Rattle.vax_console.proofs.Requested.{same_core, same_ending}
+use Rattle.vax_console.proofs.Running.{advances_from, answer_of}
+use Rattle.vax_debug.specs.Sessions.{Arrives, Counts, IsHere, Origin}
+use Rattle.vax_debug.specs.declared.failure.Failure.{Failure}
+use Rattle.vax_debug.specs.declared.failure.Failure.TheVariants as failure
+use Rattle.vax_debug.proofs.Travelling.{advanced_behind, few_steps, none_advanced, one_advanced, only_one, travel_begins, travel_ends, travel_goes, travel_halts}
+use Rattle.vax_debug.specs.Travel.{Stops, halts, has_halted, travelled}
+
+-- what is sent behind what was sent and replied
+
+at_behind : (from : Flat) (s t : Session) (replies : List ℕ) (m1 m2 : Engine) (f1 f2 : Option BlockFile) (a b c : Option Channels) → IsAt from s replies m1 f1 a b → IsAt s.machine t [] m2 f2 b c → IsAt from t replies m2 f2 a c
+at_behind from s t replies m1 m2 f1 f2 a b c p q = record {
+  steps = q.steps;
+  means = q.means;
+  sent = p.sent ++ q.sent;
+  output = q.output ∙ (ap (λ (z : List ℕ). z ++ q.sent) p.output ∙ append_assoc from.output p.sent q.sent);
+  wrote = subst (λ (z : List ℕ). Grew a c (writes (p.sent ++ q.sent) z)) (append-nil replies) (grew_more a b c (writes p.sent replies) (writes q.sent []) p.wrote q.wrote);
+}
+
+within_behind : (from : Flat) (s : Session) (most : ℕ) (replies : List ℕ) (m1 m2 : Engine) (f1 f2 : Option BlockFile) (a b c : Option Channels) → IsAt from s replies m1 f1 a b → IsWithin s.machine s most [] m2 f2 b c → IsWithin from s most replies m2 f2 a c
+within_behind from s most replies m1 m2 f1 f2 a b c p q = record {
+  place = q.place;
+  goes = q.goes;
+  means = q.means;
+  sent = p.sent ++ q.sent;
+  output = q.output ∙ (ap (λ (z : List ℕ). z ++ q.sent) p.output ∙ append_assoc from.output p.sent q.sent);
+  wrote = subst (λ (z : List ℕ). Grew a c (writes (p.sent ++ q.sent) z)) (append-nil replies) (grew_more a b c (writes p.sent replies) (writes q.sent []) p.wrote q.wrote);
+}
+
+part_behind : (from : Flat) (s t : Session) (replies : List ℕ) (m : Engine) (f : Option BlockFile) (a b c : Option Channels) → IsAt from s replies m f a b → IsPartOf s.machine t [] b c → IsPartOf from t replies a c
+part_behind from s t replies m f a b c p q = record {
+  sent = p.sent ++ q.sent;
+  output = q.output ∙ (ap (λ (z : List ℕ). z ++ q.sent) p.output ∙ append_assoc from.output p.sent q.sent);
+  wrote = subst (λ (z : List ℕ). GrewByPrefix a c (writes (p.sent ++ q.sent) z)) (append-nil replies) (prefix_in a b c (writes p.sent replies) (writes q.sent []) nothing (writes (p.sent ++ q.sent) (replies ++ [])) (ap (append (writes p.sent replies)) (append-nothing (writes q.sent []))) p.wrote q.wrote);
+}
+
+-- one step
+
+-- what the end of a run of one step comes to
+abbrev pub outcome_of : RunEnd → Result (Unit {0}) Failure
+outcome_of (run_end.Ended e) = Ok tt
+outcome_of run_end.Steps = Ok tt
+outcome_of run_end.Turns = Err failure.Turns
+outcome_of run_end.PageFault = Err failure.PageFault
+outcome_of run_end.WriteFault = Err failure.WriteFault
+
+here_behind : (o : Origin) (s : Session) (replies : List ℕ) (v w : Scene) → IsHere o s replies v → IsBetween w.machine → IsAt s.machine (advanced 1 s) [] w.machine w.file v.sink w.sink → IsHere o (stepped s) replies w
+here_behind o s replies v w h between a = record {
+  at = subst (λ (t : Session). IsAt o.flat t replies w.machine w.file o.channels w.sink) (only_one s)
+      (at_behind o.flat s (advanced 1 s) replies v.machine w.machine v.file w.file o.channels v.sink w.sink h.at a);
+  between = between;
+}
+
+step_arrives : (end : RunEnd) (limits : Limits) (o : Origin) (s : Session) (replies : List ℕ) (v w : Scene) → IsHere o s replies v → (StopsBetween end → IsBetween w.machine) →
+    Advances (answer_of end) limits 1 s w.machine w.file v.sink w.sink → Arrives (outcome_of end) limits.turns 1 (stepped s) o s replies w
+step_arrives (run_end.Ended e) limits o s replies v w h between a = here_behind o s replies v w h (between tt) a.1
+step_arrives run_end.Steps limits o s replies v w h between a = here_behind o s replies v w h (between tt) a.1
+step_arrives run_end.Turns limits o s replies v w h between a =
+    (a.0, within_behind o.flat s 1 replies v.machine w.machine v.file w.file o.channels v.sink w.sink h.at a.1)
+step_arrives run_end.PageFault limits o s replies v w h between a =
+    within_behind o.flat s 1 replies v.machine w.machine v.file w.file o.channels v.sink w.sink h.at a
+step_arrives run_end.WriteFault limits o s replies v w h between a = record {
+  made = 1;
+  few = omega arith;
+  part = part_behind o.flat s (advanced 1 s) replies v.machine v.file o.channels v.sink w.sink h.at a;
+}
+
+-- the session that a machine makes
+session_is : (o : Origin) (s : Session) (replies : List ℕ) (v : Scene) → IsHere o s replies v → session_on v.machine s.machine ≡ s
+session_is o s replies v h = ap (λ (n : ℕ). record { machine = s.machine; steps = n }) h.at.steps
+
+-- a run of one step more
+pub run_arrives : (end : RunEnd) (limits : Limits) (most : ℕ) (areas : List Area) (rules : List Rule) (o : Origin) (s : Session) (replies : List ℕ) (v w : Scene) → IsHere o s replies v → (StopsBetween end → IsBetween w.machine) → most ≡ v.machine.steps + 1 →
+    run_spec.Ends (record { steps = most; turns = limits.turns; listed = false }) areas rules (begun v.machine (At s.machine)) v.file end w.machine w.file v.sink w.sink → Arrives (outcome_of end) limits.turns 1 (stepped s) o s replies w
+run_arrives end limits most areas rules o s replies v w h between is e =
+    let run = subst (λ (n : ℕ). run_spec.Ends (record { steps = n; turns = limits.turns; listed = false }) areas rules (begun v.machine (At s.machine)) v.file end w.machine w.file v.sink w.sink) is e in
+    let a = advances_from end limits 1 v.machine.steps areas rules s.machine v.machine w.machine v.file w.file v.sink w.sink refl between run in
+    step_arrives end limits o s replies v w h between (subst (λ (z : Session). Advances (answer_of end) limits 1 z w.machine w.file v.sink w.sink) (session_is o s replies v h) a)
+
+-- the limit of turns behind so many steps
+out_behind : (turns count i : ℕ) (s : Session) (m : Engine) → i + 1 ≤ count → IsOutOfTurns turns (advanced i s) 1 m → IsOutOfTurns turns s count m
+out_behind turns count i s m few o = record {
+  reached = o.reached;
+  going = o.going;
+  below = let here = o.below in let before = few_steps i s in omega (arith, here, before, few);
+}
+
+way_on : (count i : ℕ) (s : Session) (place : Place) (steps : ℕ) → i + 1 ≤ count → IsOnTheWay (advanced i s) 1 place steps → IsOnTheWay s count place steps
+way_on count i s place steps few w = record {
+  count = w.count + i;
+  few = let one = w.few in omega (arith, one, few);
+  steps = w.steps ∙ ap (λ (z : Session). z.steps) (advanced_behind w.count i s);
+  goes = subst (λ (z : Session). GoesBy z.machine place) (advanced_behind w.count i s) w.goes;
+}
+
+way_behind : (from : Flat) (count i : ℕ) (s : Session) (replies : List ℕ) (o : Option Channels) (w : Scene) → i + 1 ≤ count → IsWithin from (advanced i s) 1 replies w.machine w.file o w.sink → IsWithin from s count replies w.machine w.file o w.sink
+way_behind from count i s replies o w few q = record {
+  place = q.place;
+  goes = way_on count i s q.place w.machine.steps few q.goes;
+  means = q.means;
+  sent = q.sent;
+  output = q.output;
+  wrote = q.wrote;
+}
+
+-- a step that failed behind so many
+pub fails_behind : (e : Failure) (turns count i : ℕ) (t u : Session) (o : Origin) (s : Session) (replies : List ℕ) (w : Scene) → i + 1 ≤ count → Arrives (Err e) turns 1 t o (advanced i s) replies w → Arrives (Err e) turns count u o s replies w
+fails_behind failure.Turns turns count i t u o s replies w few a = (out_behind turns count i s w.machine few a.0, way_behind o.flat count i s replies o.channels w few a.1)
+fails_behind failure.PageFault turns count i t u o s replies w few a = way_behind o.flat count i s replies o.channels w few a
+fails_behind failure.WriteFault turns count i t u o s replies w few a = record {
+  made = a.made + i;
+  few = let one = a.few in omega (arith, few, one);
+  part = subst (λ (z : Session). IsPartOf o.flat z replies o.channels w.sink) (advanced_behind a.made i s) a.part;
+}
+
+-- so many steps were made, and the others are still to be made
+pub record HasCome (count i : ℕ) (stops : Stops) (o : Origin) (s : Session) (replies : List ℕ) (v : Scene) : Type 0 where
+  pub here : IsHere o (advanced i s) replies v
+  pub rest : travelled count stops s ≡ travelled (count - i) stops (advanced i s)
+
+pub comes_first : (count : ℕ) (stops : Stops) (o : Origin) (s : Session) (replies : List ℕ) (v : Scene) → IsHere o s replies v → HasCome count 0 stops o s replies v
+comes_first count stops o s replies v h = record {
+  here = subst (λ (t : Session). IsHere o t replies v) (none_advanced s) h;
+  rest = travel_begins count stops s;
+}
+
+-- there are numbers for the next step
+pub has_number : (count i : ℕ) (s : Session) → i < count → s.steps + count < 2 ^ 64 → (advanced i s).steps + 1 < 2 ^ 64
+has_number count i s below few = let before = few_steps i s in omega (arith, before, below, few)
+
+-- what the machine tells of whether it is to stop
+halted_is : (stops : Stops) (o : Origin) (t : Session) (replies : List ℕ) (v : Scene) (b : Bool) → IsHere o t replies v → b ≡ halts stops v.machine.ended v.machine.cpu.core → has_halted stops t ≡ b
+halted_is stops o t replies v b h told =
+    let core = same_core v.machine v.file t.machine h.at.means in
+    let ending = same_ending v.machine v.file t.machine h.at.means in
+    (λ k. halts stops (ending k) (core k)) ∙ sym told
+
+pub comes_on : (count i : ℕ) (stops : Stops) (o : Origin) (s : Session) (replies : List ℕ) (v w : Scene) (b : Bool) → i < count → HasCome count i stops o s replies v → IsHere o (stepped (advanced i s)) replies w →
+    b ≡ halts stops w.machine.ended w.machine.cpu.core → b ≡ false → HasCome count (i + 1) stops o s replies w
+comes_on count i stops o s replies v w b below k h told going = record {
+  here = subst (λ (t : Session). IsHere o t replies w) (one_advanced i s) h;
+  rest = travel_goes count i stops s below k.rest (halted_is stops o (stepped (advanced i s)) replies w b h told ∙ going);
+}
+
+pub comes_to_stop : (count i : ℕ) (stops : Stops) (o : Origin) (s : Session) (replies : List ℕ) (v w : Scene) (b : Bool) → i < count → HasCome count i stops o s replies v → IsHere o (stepped (advanced i s)) replies w →
+    b ≡ halts stops w.machine.ended w.machine.cpu.core → b ≡ true → IsHere o (travelled count stops s) replies w
+comes_to_stop count i stops o s replies v w b below k h told halted =
+    subst (λ (t : Session). IsHere o t replies w) (sym (travel_halts count i stops s below k.rest (halted_is stops o (stepped (advanced i s)) replies w b h told ∙ halted))) h
+
+pub comes_to_end : (count i : ℕ) (stops : Stops) (o : Origin) (s : Session) (replies : List ℕ) (v : Scene) → count ≤ i → HasCome count i stops o s replies v → IsHere o (travelled count stops s) replies v
+comes_to_end count i stops o s replies v all k = subst (λ (t : Session). IsHere o t replies v) (sym (travel_ends count i stops s all k.rest)) k.here
+
+-- the limit of a run of one step
+pub step_most : (o : Origin) (s : Session) (replies : List ℕ) (v : Scene) (steps most : ℕ) → IsHere o s replies v → s.steps + 1 < 2 ^ 64 → steps ≡ v.machine.steps → most ≡ min (steps + 1) (2 ^ 64 - 1) → most ≡ v.machine.steps + 1
+step_most o s replies v steps most h few told is = let here = h.at.steps in omega (arith, here, few, told, is)
+
+-- calls that failed behind calls of which none did
+pub counts_then : (r : Result (Unit {0}) Failure) (f g h x y z : Failures) → g.count ≡ f.count → y.count ≡ x.count → Counts r g h y z → Counts r f h x z
+counts_then (Ok v) f g h x y z a b c = (c.0 ∙ a, c.1 ∙ b)
+counts_then (Err failure.Turns) f g h x y z a b c = (c.0 ∙ a, c.1 ∙ b)
+counts_then (Err failure.PageFault) f g h x y z a b c = (let l = c.0 in omega (arith, a, l), rose_then a c.1, c.2 ∙ b)
+counts_then (Err failure.WriteFault) f g h x y z a b c = (let l = c.0 in omega (arith, a, l), let m = c.1 in omega (arith, b, m), rose_then b c.2, changes_once_then f g h a c.3)

@@ -1,0 +1,3 @@
+pub mod Travel
+pub mod Sessions
+pub mod Calls

@@ -1,0 +1,142 @@
+//! The calls that make steps.
+ghost use Rattle.std.specs.Prelude.{◌≡◌, ◌<◌, ◌^◌, ◌-◌, min};
+ghost use Rattle.vax_machine.specs.Meaning.{engine};
+ghost use Rattle.vax_console.specs.Ends.{scene};
+ghost use Rattle.vax_console.specs.Transcript.{Session, left};
+ghost use Rattle.vax_debug.specs.Calls.{goal_at, gone_on, gone_to, over_count, stepped_on, stepped_over};
+ghost use Rattle.vax_debug.specs.Sessions.{ArrivesFrom, Counts};
+
+use crate::breaks::{Breaks, Goal};
+use crate::failure::Failure;
+use crate::frames::call_goal;
+use crate::travel::{Course, travel};
+use vax_machine::{Limits, Machine};
+use vax_outside::{PageFile, Sink};
+use vax_sched::Schedule;
+
+/// How many steps are left up to the limit.
+fn steps_left(machine: &Machine, limits: &Limits) -> u64
+    ensures { result ≡ limits.now.steps - (engine machine.now).steps }
+{
+    limits.steps.saturating_sub(machine.steps())
+}
+
+/// Makes at most so many steps, but for the limit, up to a stop: behind at least one the machine has ended, or PC is one of the addresses. So steps that begin
+/// at one of them go on from there.
+pub fn step<F: PageFile, K: Sink>(
+    count: u64,
+    breaks: &Breaks,
+    machine: &mut Machine,
+    limits: &Limits,
+    schedule: &Schedule,
+    file: &mut F,
+    sink: &mut K,
+) -> Result<(), Failure>
+    requires few_turns { limits.now.turns < 2 ^ 64 - 2 }
+    ensures goes { ArrivesFrom
+        (scene (engine machine.old) (F.contents file.old) (K.contents sink.old))
+        (scene (engine machine.new) (F.contents file.new) (K.contents sink.new))
+        result limits.now.turns (λ (s : Session). min count (left limits.now.steps s))
+        (stepped_on limits.now.steps count breaks.now) }
+    ensures counts { Counts result (F.faults file.old) (F.faults file.new) (K.faults sink.old)
+        (K.faults sink.new) }
+{
+    let count = count.min(steps_left(machine, limits));
+    let course = Course { count, goal: None };
+    travel(course, breaks, machine, limits, schedule, file, sink)
+}
+
+/// Makes steps up to a stop or the limit.
+pub fn go<F: PageFile, K: Sink>(
+    breaks: &Breaks,
+    machine: &mut Machine,
+    limits: &Limits,
+    schedule: &Schedule,
+    file: &mut F,
+    sink: &mut K,
+) -> Result<(), Failure>
+    requires few_turns { limits.now.turns < 2 ^ 64 - 2 }
+    ensures goes { ArrivesFrom
+        (scene (engine machine.old) (F.contents file.old) (K.contents sink.old))
+        (scene (engine machine.new) (F.contents file.new) (K.contents sink.new))
+        result limits.now.turns (left limits.now.steps) (gone_on limits.now.steps breaks.now) }
+    ensures counts { Counts result (F.faults file.old) (F.faults file.new) (K.faults sink.old)
+        (K.faults sink.new) }
+{
+    let count = steps_left(machine, limits);
+    let course = Course { count, goal: None };
+    travel(course, breaks, machine, limits, schedule, file, sink)
+}
+
+/// Makes steps up to a goal, a stop or the limit.
+pub fn go_to<F: PageFile, K: Sink>(
+    goal: Goal,
+    breaks: &Breaks,
+    machine: &mut Machine,
+    limits: &Limits,
+    schedule: &Schedule,
+    file: &mut F,
+    sink: &mut K,
+) -> Result<(), Failure>
+    requires few_turns { limits.now.turns < 2 ^ 64 - 2 }
+    ensures goes { ArrivesFrom
+        (scene (engine machine.old) (F.contents file.old) (K.contents sink.old))
+        (scene (engine machine.new) (F.contents file.new) (K.contents sink.new))
+        result limits.now.turns (left limits.now.steps) (gone_to limits.now.steps goal breaks.now) }
+    ensures counts { Counts result (F.faults file.old) (F.faults file.new) (K.faults sink.old)
+        (K.faults sink.new) }
+{
+    let count = steps_left(machine, limits);
+    let goal = Some(goal);
+    let course = Course { count, goal };
+    travel(course, breaks, machine, limits, schedule, file, sink)
+}
+
+/// Makes steps up to an address, a stop or the limit.
+pub fn until<F: PageFile, K: Sink>(
+    address: u32,
+    breaks: &Breaks,
+    machine: &mut Machine,
+    limits: &Limits,
+    schedule: &Schedule,
+    file: &mut F,
+    sink: &mut K,
+) -> Result<(), Failure>
+    requires few_turns { limits.now.turns < 2 ^ 64 - 2 }
+    ensures goes { ArrivesFrom
+        (scene (engine machine.old) (F.contents file.old) (K.contents sink.old))
+        (scene (engine machine.new) (F.contents file.new) (K.contents sink.new))
+        result limits.now.turns (left limits.now.steps)
+        (gone_to limits.now.steps (goal_at address 0) breaks.now) }
+    ensures counts { Counts result (F.faults file.old) (F.faults file.new) (K.faults sink.old)
+        (K.faults sink.new) }
+{
+    let goal = Goal { address, least: 0 };
+    go_to(goal, breaks, machine, limits, schedule, file, sink)
+}
+
+/// Makes one step, or all of those of a call: where the instruction at PC is BSBB, BSBW, JSB, CALLG or CALLS, steps up to the instruction behind it,
+/// with no more on the stack than now. It stops before at a stop or the limit.
+pub fn over<F: PageFile, K: Sink>(
+    breaks: &Breaks,
+    machine: &mut Machine,
+    limits: &Limits,
+    schedule: &Schedule,
+    file: &mut F,
+    sink: &mut K,
+) -> Result<(), Failure>
+    requires few_turns { limits.now.turns < 2 ^ 64 - 2 }
+    ensures goes { ArrivesFrom
+        (scene (engine machine.old) (F.contents file.old) (K.contents sink.old))
+        (scene (engine machine.new) (F.contents file.new) (K.contents sink.new))
+        result limits.now.turns (over_count limits.now.steps)
+        (stepped_over limits.now.steps breaks.now) }
+    ensures counts { Counts result (F.faults file.old) (F.faults file.new) (K.faults sink.old)
+        (K.faults sink.new) }
+{
+    match call_goal(machine, file) {
+        Ok(None) => step(1, breaks, machine, limits, schedule, file, sink),
+        Ok(Some(goal)) => go_to(goal, breaks, machine, limits, schedule, file, sink),
+        Err(_) => Err(Failure::PageFault),
+    }
+}

@@ -1,0 +1,20 @@
+//! A debugger: steps up to stops, and looks at memory and changes it in between.
+//!
+//! Each call takes a session of the flat machine from one place to another, whatever pages are absent and were made absent in between (specs/Sessions).
+//! Nothing here takes memory.
+#![tactic(auto)]
+
+mod breaks;
+mod calls;
+mod failure;
+mod frames;
+mod laws;
+mod memory;
+mod travel;
+
+pub use crate::breaks::{Breaks, Goal};
+pub use crate::calls::{go, go_to, over, step, until};
+pub use crate::failure::Failure;
+pub use crate::frames::frame_goal;
+pub use crate::laws::travels_are_steps;
+pub use crate::memory::{deposit, deposit_register, evict, examine};
