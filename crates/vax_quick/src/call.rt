@@ -6,7 +6,8 @@ ghost use Rattle.vax_undo.specs.Transaction.{seen, state_of};
 ghost use Rattle.vax_quick.specs.Made.{IsSeen, Leaves, Makes};
 ghost use Rattle.vax_quick.specs.Frames.{Finds};
 
-use crate::access::{next_address, next_value};
+use crate::access::next_value;
+use crate::addresses::next_address;
 use crate::memory::read;
 use crate::stack::{push_below, push_frame, restore_frame};
 use crate::window::Window;

@@ -8,7 +8,8 @@ ghost use Rattle.vax_flat.specs.Operand.{IsPlace};
 ghost use Rattle.vax_undo.specs.Transaction.{seen, state_of};
 ghost use Rattle.vax_quick.specs.Made.{IsKept, IsSeen, Leaves, Makes, MakesOrStays};
 
-use crate::access::{next_address, next_modified, next_target, next_value, store};
+use crate::access::{next_modified, next_value, store};
+use crate::addresses::{next_address, next_target};
 use crate::memory::read;
 use crate::results::{is_quiet, push, set_codes, settle};
 use crate::window::Window;

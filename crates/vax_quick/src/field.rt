@@ -7,7 +7,8 @@ ghost use Rattle.vax_undo.specs.Transaction.{seen};
 ghost use Rattle.vax_x_field.specs.Fields.{IsHeld};
 ghost use Rattle.vax_quick.specs.Made.{Acts, IsKept, IsSeen, Leaves, Makes};
 
-use crate::access::{next_place, next_target, next_value};
+use crate::access::{next_place, next_value};
+use crate::addresses::next_target;
 use crate::bases::{bits_of_field, held, next_base, put};
 use crate::control::jump_if;
 use crate::integer::carry;

@@ -7,7 +7,8 @@ ghost use Rattle.vax_flat.specs.Rows.{carry_of, stored};
 ghost use Rattle.vax_undo.specs.Transaction.{seen, state_of};
 ghost use Rattle.vax_quick.specs.Made.{Acts, IsKept, IsSeen, Leaves, Makes};
 
-use crate::access::{next_address, next_modified, next_place, next_value, set_value};
+use crate::access::{next_modified, next_place, next_value, set_value};
+use crate::addresses::next_address;
 use crate::results::{answer, push, set_codes, settle};
 use crate::window::Window;
 use vax_isa::{Binary, Integer, Narrow, Unary};

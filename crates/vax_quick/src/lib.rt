@@ -5,6 +5,7 @@
 #![tactic(auto)]
 
 mod access;
+mod addresses;
 mod arms;
 mod bases;
 mod branches;

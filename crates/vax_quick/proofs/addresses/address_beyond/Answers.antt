@@ -4,7 +4,7 @@ use Rattle.vax_flat.specs.Rows.{address_of, address_in}
 use Rattle.vax_undo.specs.Transaction.{seen}
 use Rattle.vax_operand.specs.Addressed.{located}
 use Rattle.vax_quick.proofs.Trees.{gives_by, address_located}
-use Rattle.vax_quick.proofs.access.address_beyond.Goals as goal
+use Rattle.vax_quick.proofs.addresses.address_beyond.Goals as goal
 
 pub returns-clause-exact : goal.returns-clause-exact
 returns-clause-exact g c =
