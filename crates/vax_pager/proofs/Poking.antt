@@ -21,7 +21,7 @@ use Rattle.vax_flat.proofs.Memory.{byte_at-written_run}
 use Rattle.vax_flat.proofs.Standing.{stands_written_run}
 use Rattle.vax_undo.specs.Answers.{err_of}
 use Rattle.vax_undo.proofs.Accesses.{fine}
-use Rattle.vax_pager.specs.Calls.{Back, Empty, IsLeft, IsPaging, Nowhere, OfKept, OfVictim, Source, after_flush, begun, came, source}
+use Rattle.vax_pager.specs.Calls.{Back, Empty, IsLeft, IsPaging, Nowhere, OfKept, OfVictim, Source, after_flush, begun, came}
 use Rattle.vax_pager.specs.Listing.{is_listed}
 use Rattle.vax_pager.specs.Paging.{ComesFrom, Keeps, Paging, view_of}
 use Rattle.vax_pager.specs.Poking.{AllComeIn, Backed, BringsIn, ComesIn, ComesInBy, HasFailed, IsPage, IsServed, Pokes, SomeComeIn, StaysAlike, StaysOut, WritesThere}

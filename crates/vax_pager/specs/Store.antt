@@ -1,6 +1,8 @@
 -- The parts of a pager, and what they mean.
 use Rattle.std.specs.Prelude.{ℕ, ◌≡◌, ◌≢◌, ◌+◌, ◌<◌, ◌≤◌, Bool, true, false, if◌then◌else◌, Option, Some, None, is_some, List, [], ◌++◌, take, drop, ◌-◌, ◌%◌, slice_index, slice_index_or, length}
 use Rattle.vax_space.specs.Areas.{block_of, prot_of}
+use Rattle.vax_space.specs.declared.Access.{Access}
+use Rattle.vax_space.specs.declared.Access.TheVariants.{Write}
 use Rattle.vax_space.specs.Faults.{IsSpace}
 use Rattle.vax_space.specs.Reference.{page_of}
 use Rattle.vax_outside.specs.Faults.{raised}
@@ -10,10 +12,11 @@ use Rattle.vax_table.specs.Tables.{walked, kept}
 use Rattle.vax_tb.specs.Buffer.{Agrees}
 use Rattle.vax_tb.specs.Meaning.{buffered}
 use Rattle.vax_lists.specs.Lines.{frame_in, pages_of}
+use Rattle.vax_flat.specs.Port.{stop}
 use Rattle.vax_pager.specs.declared.store.Store.{Store}
-use Rattle.vax_pager.specs.Listing.{are_once}
+use Rattle.vax_pager.specs.Listing.{are_once, is_listed}
 use Rattle.vax_pager.specs.Marks.{has_mark}
-use Rattle.vax_pager.specs.Paging.{Paging}
+use Rattle.vax_pager.specs.Paging.{Paging, view_of}
 use Rattle.vax_pager.specs.Steps.{filled}
 use Rattle.vax_pager.specs.Frames.{held_by, dirty_frame}
 
@@ -82,6 +85,16 @@ with_bytes addr xs s = filled (page_of addr) (overwritten (addr % 512) xs (s.fra
 abbrev pub CountsHit : ℕ → ℕ → Store → Store → Type 0
 CountsHit addr n old new =
     addr % 512 + n ≤ 512 → is_some (buffered old.buffer (page_of addr)) ≡ true → new.buffer.hits ≡ raised old.buffer.hits
+
+-- a mode may make an access to a range at once, in this frame: the range lies within a resident page whose entry is in the buffer, and its
+-- page is modified where it is to be written
+pub record IsFrame (addr n mode : ℕ) (access : Access) (frame : ℕ) (old new : Store) : Type 0 where
+  pub held : held new (page_of addr) ≡ Some frame
+  pub one_page : addr % 512 + n ≤ 512
+  pub free : stop (view_of (paging old)) addr n mode access ≡ None
+  pub marked : access ≡ Write → is_listed (page_of addr) (paging old).modified ≡ true
+  pub resident : is_listed (page_of addr) (paging old).order ≡ true
+  pub entry : is_some (buffered new.buffer (page_of addr)) ≡ true
 
 -- all of it, with so many frames that no page has
 pub record IsSound (spare : ℕ) (s : Store) : Type 0 where

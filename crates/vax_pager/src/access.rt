@@ -37,7 +37,7 @@ impl Store {
     ghost use Rattle.vax_pager.specs.Listing.{is_listed};
     ghost use Rattle.vax_pager.specs.Paging.{loaded_allowed, stored_allowed, view_of};
     ghost use Rattle.vax_pager.specs.Steps.{OnlyWritten, touched, touched_page};
-    ghost use Rattle.vax_pager.specs.Store.{CountsHit, IsSound, held, paging, with_bytes};
+    ghost use Rattle.vax_pager.specs.Store.{CountsHit, IsFrame, IsSound, held, paging, with_bytes};
 
     /// The frame of a page, where it is resident. Its entry is in the buffer afterwards.
     #[inline]
@@ -62,17 +62,9 @@ impl Store {
         requires of_mode { mode ≤ 3 }
         ensures sound { IsSound 0 self.new }
         ensures paging { paging self.new ≡ paging self.old }
-        ensures held { IfSome result (λ frame. held self.new (page_of addr) ≡ Some frame) }
-        ensures one_page { is_some result ≡ true → addr % 512 + n ≤ 512 }
-        ensures free { is_some result ≡ true
-            → stop (view_of (paging self.old)) addr n mode access ≡ None }
-        ensures marked { is_some result ≡ true → access ≡ Access.Write
-            → is_listed (page_of addr) (paging self.old).modified ≡ true }
-        ensures resident { is_some result ≡ true
-            → is_listed (page_of addr) (paging self.old).order ≡ true }
+        ensures frame { IfSome result
+            (λ frame. IsFrame addr n mode access frame self.old self.new) }
         ensures entries { buffered self.new.buffer ≡ buffered self.old.buffer }
-        ensures entry { is_some result ≡ true
-            → is_some (buffered self.old.buffer (page_of addr)) ≡ true }
         ensures hits { self.new.buffer.hits ≡ raised_if (is_some result) self.old.buffer.hits }
     {
         if n > PAGE_BYTES - addr % PAGE_BYTES {
@@ -88,17 +80,9 @@ impl Store {
         requires of_mode { mode ≤ 3 }
         ensures sound { IsSound 0 self.new }
         ensures paging { paging self.new ≡ paging self.old }
-        ensures held { IfSome result (λ frame. held self.new (page_of addr) ≡ Some frame) }
-        ensures one_page { is_some result ≡ true → addr % 512 + n ≤ 512 }
-        ensures free { is_some result ≡ true
-            → stop (view_of (paging self.old)) addr n mode access ≡ None }
-        ensures marked { is_some result ≡ true → access ≡ Access.Write
-            → is_listed (page_of addr) (paging self.old).modified ≡ true }
-        ensures resident { is_some result ≡ true
-            → is_listed (page_of addr) (paging self.old).order ≡ true }
+        ensures frame { IfSome result
+            (λ frame. IsFrame addr n mode access frame self.old self.new) }
         ensures left { IfNone result (buffered self.new.buffer ≡ buffered self.old.buffer) }
-        ensures entry { is_some result ≡ true
-            → is_some (buffered self.new.buffer (page_of addr)) ≡ true }
         ensures missed { is_some result ≡ true
             → is_some (buffered self.old.buffer (page_of addr)) ≡ false }
         ensures hits { self.new.buffer.hits ≡ self.old.buffer.hits }

@@ -1,4 +1,3 @@
-use Rattle.std.proofs.Common.{refl}
 use Rattle.vax_pager.specs.Paging.{view_of}
 use Rattle.vax_pager.specs.Store.{paging}
 use Rattle.vax_pager.proofs.Views.{number_same, read_value}
@@ -6,4 +5,4 @@ use Rattle.vax_pager.proofs.store.Store.read.Goals as goal
 
 pub returns-in-Some-clause-answer : goal.returns-in-Some-clause-answer
 returns-in-Some-clause-answer c =
-    read_value (view_of (paging c.args.self.now)) c.args.addr c.args.n c.args.mode _ (c.in-Some.ensures.free refl) (number_same _ _ c.args.addr c.args.n _ c.in-Some.ensures.paging c.number_in.ensures)
+    read_value (view_of (paging c.args.self.now)) c.args.addr c.args.n c.args.mode _ c.in-Some.ensures.frame.free (number_same _ _ c.args.addr c.args.n _ c.in-Some.ensures.paging c.number_in.ensures)
