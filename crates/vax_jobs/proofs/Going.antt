@@ -11,6 +11,7 @@ use Rattle.vax_pager.specs.Listing.{is_listed}
 use Rattle.vax_machine.specs.Machine.{Goes, Keeping, Means, Tries, keeping, residence, tried}
 use Rattle.vax_machine.specs.Meaning.{engine}
 use Rattle.vax_machine.specs.Residence.{Residence, eased, is_resident}
+use Rattle.vax_machine.specs.Touched.{PinsTouched}
 use Rattle.vax_machine.specs.declared.engine.Engine.{Engine}
 use Rattle.vax_machine.specs.declared.event.Applied.{Applied}
 use Rattle.vax_machine.specs.declared.event.Applied.TheVariants as applied
@@ -240,3 +241,11 @@ absent_as job page resident mid after o is n place k h = as_absent o page reside
 
 pub failed_as : (job page : ℕ) (resident : ℕ → Bool) (mid after : Option BlockFile) (o : Option Ending) (is n : Engine) (place : Place) → (Means is mid place → Means n after place) → LedBy o (applied.Absent page) resident is mid place → LeadsUnless o Failed resident n after place
 failed_as job page resident mid after o is n place k h = as_failed o page resident is n mid after place k h
+
+-- an attempt that touches what is pinned drops no pins where it misses a page
+pub missed_pins : (job page : ℕ) (old new : List Machine) (before after : Option BlockFile) → (h : HasApplied job event.Attempt (applied.Absent page) old before new after) → (m : Machine) (place : Place) → slice_get old job ≡ Some m → Means (engine m) (its job before) place → PinsTouched (residence (engine m)) place → eased (residence (engine m)) ≡ residence (engine m)
+missed_pins job page old new before after h m place there means pins =
+    let same : m ≡ h.was = some_machine m h.was (sym there ∙ h.there) in
+    let kept = kept_absent (engine h.was).ended (engine h.was) (engine h.is) page h.applies.0 in
+    let stays = h.unsettled place (subst (λ (x : Machine). Means (engine x) (its job before) place) same means) (subst (λ (x : Machine). PinsTouched (residence (engine x)) place) same pins) page refl in
+    subst (λ (x : Machine). eased (residence (engine x)) ≡ residence (engine x)) (sym same) (sym (ap (λ (k : Keeping). k.residence) kept) ∙ stays)

@@ -9,3 +9,10 @@ pub mod Moving
 pub mod Searching
 pub mod Starting
 pub mod Applying
+pub mod Marks
+pub mod Trying
+pub mod Ordering
+pub mod Sends
+pub mod Rounds
+pub mod Alone
+pub mod Readying

@@ -2,6 +2,7 @@
 use Rattle.std.specs.Prelude.{ℕ, ◌≡◌, ◌≤◌, Option, Some, List, length, map, slice_get, slice_set}
 use Rattle.std.specs.VecDeque.{deque_capacity}
 use Rattle.vax_outside.specs.Blocks.{BlockFile}
+use Rattle.vax_machine.specs.Events.{KeepsPins}
 use Rattle.vax_machine.specs.Machine.{Applies, HasSpent, Keeping, KeepsPlace, keeping}
 use Rattle.vax_machine.specs.Meaning.{engine}
 use Rattle.vax_machine.specs.declared.event.Applied.{Applied}
@@ -40,4 +41,5 @@ pub record HasApplied (job : ℕ) (event : Event) (result : Applied) (old : List
   pub changed : new ≡ slice_set old job is
   pub applies : Applies event (engine was) (its job before) result (engine is) (its job after)
   pub spends : HasSpent result (keeping (engine was)) (keeping (engine is))
+  pub unsettled : KeepsPins (engine was) (its job before) result (engine is)
   pub others : (i : ℕ) → (i ≡ job → ⊥) → (m : Machine) → slice_get old i ≡ Some m → Keeps i m before m after

@@ -5,8 +5,10 @@ use Rattle.vax_outside.specs.Blocks.{BlockFile}
 use Rattle.vax_flat.specs.declared.Ending.{Ending}
 use Rattle.vax_flat.specs.Parts.{Place}
 use Rattle.vax_pager.specs.Listing.{first}
-use Rattle.vax_machine.specs.Machine.{Goes, KeepsPlace, Means, tried}
+use Rattle.vax_machine.specs.Machine.{Goes, KeepsPlace, Means, residence, tried}
 use Rattle.vax_machine.specs.Meaning.{engine, memory_of}
+use Rattle.vax_machine.specs.Residence.{eased}
+use Rattle.vax_machine.specs.Touched.{PinsTouched}
 use Rattle.vax_machine.specs.declared.engine.Engine.{Engine}
 use Rattle.vax_machine.specs.declared.event.Applied.{Applied}
 use Rattle.vax_machine.specs.declared.event.Applied.TheVariants as applied
@@ -92,3 +94,17 @@ pub record HasTurned (turn : Turn) (result : Turned) (p : Pooling) (old : List M
 abbrev pub has_failed : Turned → Bool
 has_failed Failed = true
 has_failed result = false
+
+-- an attempt missed a page
+abbrev pub has_missed : Turned → Bool
+has_missed (Absent page) = true
+has_missed Failed = true
+has_missed result = false
+
+-- an attempt that misses a page drops no pins, where it touches each page that its process has pinned
+abbrev pub DropsNoPins : Turn → Turned → List Machine → Option BlockFile → Type 0
+DropsNoPins (Go job) result old before =
+    (m : Machine) → (place : Place) → slice_get old job ≡ Some m → Means (engine m) (its job before) place → PinsTouched (residence (engine m)) place
+    → has_missed result ≡ true → eased (residence (engine m)) ≡ residence (engine m)
+DropsNoPins (Out job page) result old before = Unit {0}
+DropsNoPins (Clean job) result old before = Unit {0}

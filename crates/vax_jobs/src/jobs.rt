@@ -2,15 +2,18 @@
 ghost use Rattle.std.specs.Prelude.{◌≡◌, ◌<◌, ◌≤◌, Some, Err, IfOk, IsOk, length, slice_get};
 ghost use Rattle.std.specs.List.{All};
 ghost use Rattle.vax_outside.specs.Faults.{CountsFailure};
+ghost use Rattle.vax_order.specs.Orders.{IsOrder};
 ghost use Rattle.vax_jobs.specs.Pool.{IsPool};
 
+use crate::ends::JobsEnd;
 use crate::job::{Job, JobsError, machines_of};
 use crate::pool::Pool;
 use crate::turn::{Turn, Turned};
 use std::alloc::Global;
 use std::collections::VecDeque;
 use vax_machine::Machine;
-use vax_outside::PageFile;
+use vax_order::Order;
+use vax_outside::{PageFile, Sink};
 
 /// The most processes.
 const MOST_JOBS: usize = 8;
@@ -30,7 +33,8 @@ pub struct Jobs {
 
 impl Jobs {
     ghost use Rattle.vax_jobs.specs.Beginning.{Begins, IsCount, IsMost, machines, pooling};
-    ghost use Rattle.vax_jobs.specs.Turning.{HasTurned, IsTurned, has_failed, job_of};
+    ghost use Rattle.vax_jobs.specs.Running.{CountsEnd, RunsTo, setting_of, system_of};
+    ghost use Rattle.vax_jobs.specs.Turning.{DropsNoPins, HasTurned, IsTurned, has_failed, job_of};
 
     /// Processes at the start, with so many resident pages together, 64 for each to 32,768. An input has at most 4,194,304 bytes.
     ///
@@ -70,13 +74,42 @@ impl Jobs {
         ensures turned { IsTurned turn result (pooling self.old) (pooling self.new) }
         ensures goes { HasTurned turn result (pooling self.old) (machines self.old)
             (F.contents file.old) (machines self.new) (F.contents file.new) }
+        ensures unsettled { DropsNoPins turn result (machines self.old) (F.contents file.old) }
         ensures counts { CountsFailure (has_failed result) (F.faults file.old) (F.faults file.new) }
+        ensures since { (start : F) → F.since start file.old → F.since start file.new }
     {
         match turn {
             Turn::Go(job) => self.pool.go(job, file),
             Turn::Out(job, page) => self.pool.evict(job, page, file),
             Turn::Clean(job) => self.pool.clean(job, file),
         }
+    }
+
+    /// Makes attempts in an order of the processes that there are, up to where no process goes on or so many attempts were made. A process goes on that
+    /// hasn't ended and has completed fewer than `steps` steps. The bytes that the processes send go to Out in the order of the steps that send them.
+    ///
+    /// It makes turns `Go` alone, and takes no memory. From wherever the processes stand it follows the turns of the flat machines. After a failure of the
+    /// page file each process is where the turns before it left it; after one of the sink, a prefix of what the turns send was written.
+    pub fn run<F: PageFile, K: Sink>(
+        &mut self,
+        order: &Order,
+        steps: u64,
+        turns: u64,
+        file: &mut F,
+        sink: &mut K,
+    ) -> JobsEnd
+        requires { IsOrder (length (machines self.old)) order.now }
+        ensures count { length (machines self.new) ≡ length (machines self.old) }
+        ensures most { (pooling self.new).most ≡ (pooling self.old).most }
+        ensures runs { RunsTo result (setting_of order.now steps turns (pooling self.old))
+            (system_of (pooling self.old) (machines self.old) (F.contents file.old))
+            (K.contents sink.old)
+            (system_of (pooling self.new) (machines self.new) (F.contents file.new))
+            (K.contents sink.new) }
+        ensures counts { CountsEnd result (F.faults file.old) (F.faults file.new)
+            (K.faults sink.old) (K.faults sink.new) }
+    {
+        self.pool.run(order.lines(), steps, turns, file, sink)
     }
 
     /// How many processes there are, 1 to 8.

@@ -57,7 +57,7 @@ fn add(residents: &mut VecDeque<Pair>, pair: Pair)
 
 impl Pool {
     ghost use Rattle.vax_jobs.specs.Pool.{AllKeep, HasApplied, IsPool, pooling_of};
-    ghost use Rattle.vax_jobs.specs.Turning.{HasTurned, IsTurned, has_failed as has_not_turned};
+    ghost use Rattle.vax_jobs.specs.Turning.{DropsNoPins, HasTurned, IsTurned, has_failed as has_not_turned};
     ghost use Rattle.vax_jobs.specs.Pooling.{IsPlace, TakesOut, came, first_free, found_at, is_pinned, wanted_at, with_room};
 
     /// An event of a process, on its part of the file.
@@ -69,6 +69,7 @@ impl Pool {
         ensures applied { HasApplied job event result self.old.machines.items
             (F.contents file.old) self.new.machines.items (F.contents file.new) }
         ensures counts { CountsFailure (has_failed result) (F.faults file.old) (F.faults file.new) }
+        ensures since { (start : F) → F.since start file.old → F.since start file.new }
     {
         let mut window = Window::new(file, first_block(job));
         let applied = self.machines[job as usize].apply(event, &mut window);
@@ -119,6 +120,7 @@ impl Pool {
         ensures keeps { AllKeep self.old.machines.items (F.contents file.old)
             self.new.machines.items (F.contents file.new) }
         ensures counts { CountsFailure (is_err result) (F.faults file.old) (F.faults file.new) }
+        ensures since { (start : F) → F.since start file.old → F.since start file.new }
     {
         if self.used() < self.most {
             return Ok(());
@@ -139,6 +141,7 @@ impl Pool {
         ensures keeps { AllKeep self.old.machines.items (F.contents file.old)
             self.new.machines.items (F.contents file.new) }
         ensures counts { CountsFailure (is_err result) (F.faults file.old) (F.faults file.new) }
+        ensures since { (start : F) → F.since start file.old → F.since start file.new }
     {
         let pair = self.residents[place];
         match self.apply_to(pair.job, Event::Evict(pair.page), file) {
@@ -166,6 +169,7 @@ impl Pool {
         ensures keeps { AllKeep self.old.machines.items (F.contents file.old)
             self.new.machines.items (F.contents file.new) }
         ensures counts { CountsFailure (is_err result) (F.faults file.old) (F.faults file.new) }
+        ensures since { (start : F) → F.since start file.old → F.since start file.new }
     {
         self.make_room(file)?;
         match self.apply_to(job, Event::Serve, file) {
@@ -187,6 +191,9 @@ impl Pool {
             (F.contents file.old) self.new.machines.items (F.contents file.new) }
         ensures counts { CountsFailure (has_not_turned result) (F.faults file.old)
             (F.faults file.new) }
+        ensures unsettled { DropsNoPins (Turn.Go job) result self.old.machines.items
+            (F.contents file.old) }
+        ensures since { (start : F) → F.since start file.old → F.since start file.new }
     {
         match self.apply_to(job, Event::Attempt, file) {
             Applied::Stepped(sent) => Turned::Stepped(sent),
@@ -225,6 +232,7 @@ impl Pool {
             (F.contents file.new) }
         ensures counts { CountsFailure (has_not_turned result) (F.faults file.old)
             (F.faults file.new) }
+        ensures since { (start : F) → F.since start file.old → F.since start file.new }
     {
         let Some(place) = self.place_of(job, page) else {
             return Turned::Nothing;
@@ -247,6 +255,7 @@ impl Pool {
             (F.contents file.new) }
         ensures counts { CountsFailure (has_not_turned result) (F.faults file.old)
             (F.faults file.new) }
+        ensures since { (start : F) → F.since start file.old → F.since start file.new }
     {
         let Some(page) = self.machines[job as usize].next_flush() else {
             return Turned::Nothing;

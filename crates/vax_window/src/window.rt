@@ -33,7 +33,8 @@ impl<'a, F: PageFile> PageFile for Window<'a, F> {
     ghost faults = { λ w. F.faults w.file.now };
 
     ghost since = { λ start now. (now.file.ghost_name ≡ start.file.ghost_name)
-        × (now.first ≡ start.first) };
+        × (now.first ≡ start.first)
+        × ((begin : F) → F.since begin start.file.now → F.since begin now.file.now) };
 
     fn read_block(&mut self, n: u32, into: &mut [u8; 512]) -> Result<(), Failed> {
         self.file.read_block(self.first.wrapping_add(n), into)

@@ -55,6 +55,7 @@ returns-in_default g c =
       keeps = keep_then c.args.self.now.machines.items c.make_room.new.self.machines.items c.apply_to.new.self.machines.items (g.F.PageFile.contents c.args.file.now) (g.F.PageFile.contents c.make_room.new.file) (g.F.PageFile.contents c.apply_to.new.file) c.make_room.ensures.keeps
           (in_keeps c.args.job c.make_room.new.self.machines.items (g.F.PageFile.contents c.make_room.new.file) c.apply_to.new.self.machines.items (g.F.PageFile.contents c.apply_to.new.file) c.apply_to.result c.apply_to.ensures.applied);
       counts = counts_then refl c.in_ok-make_room.ensures.counts.quiet counts;
+      since = λ start h. c.apply_to.ensures.since start (c.make_room.ensures.since start h);
     }
 
 pub returns-in_err-make_room-clause-err : goal.returns-in_err-make_room-clause-err

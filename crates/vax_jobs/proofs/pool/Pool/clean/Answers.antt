@@ -41,4 +41,5 @@ returns-in_default-apply_to g c =
       turned = same;
       goes = clean_turned c.args.job c.in-Some.page c.apply_to.result Failed (pooling_of c.args.self.now) c.args.self.now.machines.items (g.F.PageFile.contents c.args.file.now) c.apply_to.new.self.machines.items (g.F.PageFile.contents c.apply_to.new.file) c.index.result.now c.apply_to.ensures.applied there found (inr refl);
       counts = subst (λ a. CountsFailure (has_failed a) (g.F.PageFile.faults c.args.file.now) (g.F.PageFile.faults c.apply_to.new.file)) failed c.apply_to.ensures.counts;
+      since = λ start h. c.apply_to.ensures.since start h;
     }

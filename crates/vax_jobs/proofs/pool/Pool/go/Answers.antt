@@ -4,7 +4,7 @@ use Rattle.std.specs.VecDeque.{deque_capacity}
 use Rattle.vax_machine.specs.declared.event.Applied.TheVariants as applied
 use Rattle.vax_jobs.specs.Pool.{keeps_of, pooling_of}
 use Rattle.vax_jobs.specs.declared.turn.Turned.TheVariants.{Stepped, Parted, Absent, Ended, Failed}
-use Rattle.vax_jobs.proofs.Going.{absent_as, as_ended, as_parted, as_stepped, attempt_pool, failed_as, gone_with, gone_without, misses, turned_alone, turned_ended, turned_missed, turned_parted, turned_stepped}
+use Rattle.vax_jobs.proofs.Going.{absent_as, as_ended, as_parted, as_stepped, attempt_pool, failed_as, gone_with, gone_without, missed_pins, misses, turned_alone, turned_ended, turned_missed, turned_parted, turned_stepped}
 use Rattle.vax_jobs.proofs.pool.Pool.go.Goals as goal
 
 pub apply_to-requires-clause-few : goal.apply_to-requires-clause-few
@@ -75,3 +75,11 @@ pub returns-in-Err-clause-goes : goal.returns-in-Err-clause-goes
 returns-in-Err-clause-goes g c =
     turned_missed c.args.job c.in-Absent.page Failed c.args.self.now.machines.items c.apply_to.new.self.machines.items c.bring.new.self.machines.items (g.F.PageFile.contents c.args.file.now) (g.F.PageFile.contents c.apply_to.new.file) (g.F.PageFile.contents c.bring.new.file) (pooling_of c.args.self.now) refl c.requires.sound.sound c.in-Absent.ensures.applied c.bring.ensures.keeps
     (λ o is n place k h. failed_as c.args.job c.in-Absent.page _ _ _ o is n place k h)
+
+pub returns-in-Ok-clause-unsettled : goal.returns-in-Ok-clause-unsettled
+returns-in-Ok-clause-unsettled g c = λ m place there means pins missed.
+    missed_pins c.args.job c.in-Absent.page c.args.self.now.machines.items c.apply_to.new.self.machines.items (g.F.PageFile.contents c.args.file.now) (g.F.PageFile.contents c.apply_to.new.file) c.in-Absent.ensures.applied m place there means pins
+
+pub returns-in-Err-clause-unsettled : goal.returns-in-Err-clause-unsettled
+returns-in-Err-clause-unsettled g c = λ m place there means pins missed.
+    missed_pins c.args.job c.in-Absent.page c.args.self.now.machines.items c.apply_to.new.self.machines.items (g.F.PageFile.contents c.args.file.now) (g.F.PageFile.contents c.apply_to.new.file) c.in-Absent.ensures.applied m place there means pins

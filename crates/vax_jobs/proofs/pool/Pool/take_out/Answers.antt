@@ -43,4 +43,5 @@ returns-in_default g c =
       err = failed.1;
       keeps = out_keeps pair.job c.args.self.now.machines.items (g.F.PageFile.contents c.args.file.now) c.apply_to.new.self.machines.items (g.F.PageFile.contents c.apply_to.new.file) pair.page c.apply_to.result c.apply_to.ensures.applied;
       counts = subst (λ a. CountsFailure (has_failed a) (g.F.PageFile.faults c.args.file.now) (g.F.PageFile.faults c.apply_to.new.file)) failed.0 c.apply_to.ensures.counts;
+      since = λ start h. c.apply_to.ensures.since start h;
     }

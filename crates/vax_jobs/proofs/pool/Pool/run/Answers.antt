@@ -1,0 +1,129 @@
+use Rattle.std.proofs.Common.{◌≡◌, ◌<◌, ◌≤◌, ◌+◌, ◌^◌, ℕ, [], Result, Err, ap, arith, length, refl, slice_index_or, subst, sym, ◌∙◌}
+use Rattle.std.specs.Option.{option_map_or}
+use Rattle.std.proofs.lemmas.List.{length-map}
+use Rattle.std.proofs.lemmas.Option.{slice_get-get_or}
+use Rattle.vax_outside.specs.Channels.{GrewByPrefix, only}
+use Rattle.vax_outside.specs.declared.traits.Chan.TheVariants.{Out}
+use Rattle.vax_order.specs.declared.line.Line.{Line}
+use Rattle.vax_jobs.proofs.Ordering.{job_is, some_line}
+use Rattle.vax_jobs.proofs.Rounds.{IsNext, ends_cut, ends_done, ends_lost, ends_turns, is_turning, may_go, turning, under_begun, under_more}
+use Rattle.vax_jobs.specs.Pool.{keeps_of, pooling_of}
+use Rattle.vax_jobs.specs.Running.{IsAt, MakesTurn, MayGo, setting_of, system_of}
+use Rattle.vax_jobs.specs.Shared.{bytes_sent, job_at, tried}
+use Rattle.vax_jobs.specs.declared.ends.Fault.{Fault}
+use Rattle.vax_jobs.specs.declared.ends.Fault.TheVariants.{Page, Write}
+use Rattle.vax_jobs.specs.declared.position.Position.{Position}
+use Rattle.vax_jobs.proofs.pool.Pool.run.Goals as goal
+
+pub bounds-order-0 : goal.bounds-order-0
+bounds-order-0 g c =
+    let some : 1 ≤ length c.args.self.now.machines.items = let a = length-map c.args.self.now.machines.items keeps_of in let b = c.requires.sound.sound.some in omega (arith, a, b) in
+    some_line (length c.args.self.now.machines.items) c.args.order.now some c.requires.order.named
+
+pub loop-next-init : goal.loop-next-init
+loop-next-init g c =
+    let some : 1 ≤ length c.args.self.now.machines.items = let a = length-map c.args.self.now.machines.items keeps_of in let b = c.requires.sound.sound.some in omega (arith, a, b) in
+    let within : 0 < length c.args.order.now = some_line (length c.args.self.now.machines.items) c.args.order.now some c.requires.order.named in
+    let none : c.new-held.result.items ≡ [] = c.new-held.ensures in
+    let first = slice_get-get_or c.args.order.now 0 (record { job = 0; count = 0 }) within in
+    record {
+      sound = c.requires.sound;
+      count = refl;
+      most = refl;
+      within = within;
+      room = let n = ap length none in omega (arith, n);
+      quiet = refl;
+      written = refl;
+      made = λ s r.
+          under_begun (setting_of c.args.order.now c.args.steps c.args.turns (pooling_of c.args.self.now)) s _ (system_of (pooling_of c.args.self.now) c.args.self.now.machines.items (g.F.PageFile.contents c.args.file.now)) c.new-held.result.items (g.K.Sink.contents c.args.sink.now)
+          (r.at ∙ ap (λ o. let p : Position = record { line = 0; left = option_map_or (λ (l : Line). l.count) o 0 } in p) first) none r;
+    }
+
+pub returns-in_default-clause-runs : goal.returns-in_default-clause-runs
+returns-in_default-clause-runs g c = λ s r.
+    ends_done c.finish.result (setting_of c.args.order.now c.args.steps c.args.turns (pooling_of c.args.self.now)) s c.loop-next.made (length c.args.self.now.machines.items) c.loop-next.at (system_of (pooling_of c.loop-next.self) c.loop-next.self.machines.items (g.F.PageFile.contents c.loop-next.file)) c.loop-next.held.items (g.K.Sink.contents c.args.sink.now) (g.K.Sink.contents c.loop-next.sink) (g.K.Sink.contents c.finish.new.sink) _ _
+    refl c.loop-next.invariant.count c.requires.order.named c.in_default.ensures.next (c.loop-next.invariant.made s r) c.finish.ensures
+
+pub returns-then-made-turns-clause-runs : goal.returns-then-made-turns-clause-runs
+returns-then-made-turns-clause-runs g c = λ s r.
+    let over : c.args.turns ≤ c.loop-next.made = let more = c.if-made-turns.true in omega (arith, more) in
+    ends_turns c.finish-then-made-turns.result (setting_of c.args.order.now c.args.steps c.args.turns (pooling_of c.args.self.now)) s c.loop-next.made c.loop-next.at c.in-Some.next (system_of (pooling_of c.loop-next.self) c.loop-next.self.machines.items (g.F.PageFile.contents c.loop-next.file)) c.loop-next.held.items (g.K.Sink.contents c.args.sink.now) (g.K.Sink.contents c.loop-next.sink) (g.K.Sink.contents c.finish-then-made-turns.new.sink) _ _
+    (record { position = c.in-Some.ensures.next; goes = c.in-Some.ensures.there.goes }) over (c.loop-next.invariant.made s r) c.finish-then-made-turns.ensures
+
+pub loop-next-preserved : goal.loop-next-preserved
+loop-next-preserved g c = record {
+  sound = c.one_turn.ensures.sound;
+  count = c.one_turn.ensures.count ∙ c.loop-next.invariant.count;
+  most = c.one_turn.ensures.most ∙ c.loop-next.invariant.most;
+  within = c.in-Some.ensures.there.line;
+  room = c.in-Ok.ensures.room;
+  quiet = c.in-Ok.ensures.file.quiet ∙ c.loop-next.invariant.quiet;
+  written = c.in-Ok.ensures.sink.quiet ∙ c.loop-next.invariant.written;
+  made = λ s r.
+      let x = setting_of c.args.order.now c.args.steps c.args.turns (pooling_of c.args.self.now) in
+      let y = system_of (pooling_of c.loop-next.self) c.loop-next.self.machines.items (g.F.PageFile.contents c.loop-next.file) in
+      let z = system_of (pooling_of c.one_turn.new.self) c.one_turn.new.self.machines.items (g.F.PageFile.contents c.one_turn.new.file) in
+      let first = g.K.Sink.contents c.args.sink.now in
+      let now = g.K.Sink.contents c.loop-next.sink in
+      let new = g.K.Sink.contents c.one_turn.new.sink in
+      let next = c.in-Some.next in
+      let u = c.loop-next.invariant.made s r in
+      let n : IsNext x s c.loop-next.at next y = record { position = c.in-Some.ensures.next; goes = c.in-Some.ensures.there.goes } in
+      let t = turning x c.loop-next.made s next in
+      let less : c.loop-next.made < c.args.turns = let more = c.if-made-turns.false in omega (arith, more) in
+      let few : c.args.steps < 2 ^ 64 = c.ranges.steps.fits in
+      let e = job_is c.args.order.now next.line _ (slice_get-get_or c.args.order.now next.line (record { job = 0; count = 0 }) c.in-Some.ensures.there.line) in
+      let most = c.one_turn.ensures.most ∙ c.loop-next.invariant.most in
+      let may = subst (λ (j : ℕ). MayGo c.args.steps j t) e (may_go x s c.loop-next.made c.loop-next.at next y c.loop-next.held.items first now few n u) in
+      let here = is_turning x s c.loop-next.made c.loop-next.at next y c.loop-next.held.items first now u in
+      let done = c.in-Ok.ensures.done first t c.args.steps may here in
+      under_more x s c.loop-next.made (c.loop-next.made + 1) c.loop-next.at next y z c.loop-next.held.items c.one_turn.new.held.items first now new refl less n u
+      (subst (λ (k : ℕ). IsAt first (tried k (job_at c.args.order.now next.line) t) z c.one_turn.new.held.items new) most
+      (subst (λ (j : ℕ). IsAt first (tried c.one_turn.new.self.most j t) z c.one_turn.new.held.items new) (sym e) done));
+}
+
+pub returns-in-Err-Page-clause-runs : goal.returns-in-Err-Page-clause-runs
+returns-in-Err-Page-clause-runs g c = λ s r.
+    let x = setting_of c.args.order.now c.args.steps c.args.turns (pooling_of c.args.self.now) in
+    let y = system_of (pooling_of c.loop-next.self) c.loop-next.self.machines.items (g.F.PageFile.contents c.loop-next.file) in
+    let z = system_of (pooling_of c.one_turn.new.self) c.one_turn.new.self.machines.items (g.F.PageFile.contents c.one_turn.new.file) in
+    let first = g.K.Sink.contents c.args.sink.now in
+    let now = g.K.Sink.contents c.loop-next.sink in
+    let new = g.K.Sink.contents c.one_turn.new.sink in
+    let next = c.in-Some.next in
+    let u = c.loop-next.invariant.made s r in
+    let n : IsNext x s c.loop-next.at next y = record { position = c.in-Some.ensures.next; goes = c.in-Some.ensures.there.goes } in
+    let t = turning x c.loop-next.made s next in
+    let less : c.loop-next.made < c.args.turns = let more = c.if-made-turns.false in omega (arith, more) in
+    let few : c.args.steps < 2 ^ 64 = c.ranges.steps.fits in
+    let e = job_is c.args.order.now next.line _ (slice_get-get_or c.args.order.now next.line (record { job = 0; count = 0 }) c.in-Some.ensures.there.line) in
+    let most = c.one_turn.ensures.most ∙ c.loop-next.invariant.most in
+    let may = subst (λ (j : ℕ). MayGo c.args.steps j t) e (may_go x s c.loop-next.made c.loop-next.at next y c.loop-next.held.items first now few n u) in
+    let here = is_turning x s c.loop-next.made c.loop-next.at next y c.loop-next.held.items first now u in
+    let is : c.one_turn.result ≡ Err Page = c.in-Err-Page.is ∙ ap (λ x. Err x) c.in-Err-Page.field-0-is in
+    let done = subst (λ (k : Result (Unit {0}) Fault). MakesTurn k (slice_index_or c.args.order.now next.line (record { job = 0; count = 0 })).job y c.loop-next.held.items now z c.one_turn.new.held.items new) is c.one_turn.ensures.done first t c.args.steps may here in
+    ends_cut c.finish-in-Err-Page.result x s c.loop-next.made c.loop-next.at next y z c.loop-next.held.items c.one_turn.new.held.items first now new (g.K.Sink.contents c.finish-in-Err-Page.new.sink) _ _ less n u done c.finish-in-Err-Page.ensures
+
+pub returns-in-Err-Write-clause-runs : goal.returns-in-Err-Write-clause-runs
+returns-in-Err-Write-clause-runs g c = λ s r.
+    let x = setting_of c.args.order.now c.args.steps c.args.turns (pooling_of c.args.self.now) in
+    let y = system_of (pooling_of c.loop-next.self) c.loop-next.self.machines.items (g.F.PageFile.contents c.loop-next.file) in
+    let z = system_of (pooling_of c.one_turn.new.self) c.one_turn.new.self.machines.items (g.F.PageFile.contents c.one_turn.new.file) in
+    let first = g.K.Sink.contents c.args.sink.now in
+    let now = g.K.Sink.contents c.loop-next.sink in
+    let new = g.K.Sink.contents c.one_turn.new.sink in
+    let next = c.in-Some.next in
+    let u = c.loop-next.invariant.made s r in
+    let n : IsNext x s c.loop-next.at next y = record { position = c.in-Some.ensures.next; goes = c.in-Some.ensures.there.goes } in
+    let t = turning x c.loop-next.made s next in
+    let less : c.loop-next.made < c.args.turns = let more = c.if-made-turns.false in omega (arith, more) in
+    let few : c.args.steps < 2 ^ 64 = c.ranges.steps.fits in
+    let e = job_is c.args.order.now next.line _ (slice_get-get_or c.args.order.now next.line (record { job = 0; count = 0 }) c.in-Some.ensures.there.line) in
+    let most = c.one_turn.ensures.most ∙ c.loop-next.invariant.most in
+    let may = subst (λ (j : ℕ). MayGo c.args.steps j t) e (may_go x s c.loop-next.made c.loop-next.at next y c.loop-next.held.items first now few n u) in
+    let here = is_turning x s c.loop-next.made c.loop-next.at next y c.loop-next.held.items first now u in
+    let is : c.one_turn.result ≡ Err Write = c.in-Err-Write.is ∙ ap (λ x. Err x) c.in-Err-Write.field-0-is in
+    let done = subst (λ (k : Result (Unit {0}) Fault). MakesTurn k (slice_index_or c.args.order.now next.line (record { job = 0; count = 0 })).job y c.loop-next.held.items now z c.one_turn.new.held.items new) is c.one_turn.ensures.done first t c.args.steps may here in
+    ends_lost x s c.loop-next.made c.loop-next.at next y c.loop-next.held.items first now new less n u
+    (subst (λ (k : ℕ). GrewByPrefix first new (only Out (bytes_sent (tried k (job_at c.args.order.now next.line) t)))) most
+    (subst (λ (j : ℕ). GrewByPrefix first new (only Out (bytes_sent (tried c.one_turn.new.self.most j t)))) (sym e) done))
