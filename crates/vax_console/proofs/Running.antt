@@ -1,10 +1,13 @@
 -- The requests that make steps, by how the machine's run ended.
-use Rattle.std.proofs.Common.{◌≡◌, ◌<◌, ◌≤◌, ◌+◌, ℕ, min, Bool, true, false, nat_le, nat_lt, is_some, List, [], ◌∷◌, ◌++◌, append_assoc, codes, Option, Some, None, Result, Ok, Err, refl, sym, ap, subst, ◌∙◌, arith}
+use Rattle.std.proofs.Common.{◌≡◌, ◌≢◌, ◌<◌, ◌≤◌, ◌+◌, ℕ, min, Bool, true, false, nat_le, nat_lt, is_some, List, [], ◌∷◌, ◌++◌, append_assoc, codes, Option, Some, None, Result, Ok, Err, refl, sym, ap, subst, ◌∙◌, arith}
+use Rattle.std.proofs.lemmas.Bool.{false≢true}
 use Rattle.std.proofs.lemmas.Bool.Decides.{nat_tests}
+use Rattle.std.specs.Prelude.{IsOk}
 use Rattle.std.specs.Result.{IsErrAnd}
 use Rattle.vax_space.specs.declared.Area.{Area}
 use Rattle.vax_outside.specs.Blocks.{BlockFile}
 use Rattle.vax_outside.specs.Channels.{Channels, Grew, GrewByPrefix, append}
+use Rattle.vax_outside.specs.Faults.{Rose}
 use Rattle.vax_outside.specs.declared.faults.Failures.{Failures}
 use Rattle.vax_flat.specs.declared.Ending.{Ending}
 use Rattle.vax_flat.specs.Parts.{Place, At, Within, GoesBy, machine_at}
@@ -29,7 +32,7 @@ use Rattle.vax_machine.proofs.Tracking.{many_evicted}
 use Rattle.vax_script.specs.declared.request.Request.TheVariants.{Next, Continue}
 use Rattle.vax_script.specs.declared.request.Line.TheVariants.{Request as Asks}
 use Rattle.vax_console.specs.Transcript.{Session, advanced, answered, left, next_line, reply, stop_line, unless_ended}
-use Rattle.vax_console.specs.Ends.{Advances, Goes, IsAt, IsOnTheWay, IsWithin, Replies, session_on, writes}
+use Rattle.vax_console.specs.Ends.{Advances, Causes, ChangesOnce, Goes, IsAt, IsOnTheWay, IsWithin, Replies, answer_of, session_on, writes}
 use Rattle.vax_console.specs.declared.stopped.Stopped.{Stopped}
 use Rattle.vax_console.specs.declared.stopped.Stopped.TheVariants as stopped
 use Rattle.vax_console.proofs.Advancing.{Makes, advanced_ended, advanced_stays, is_below, run_makes}
@@ -39,13 +42,6 @@ use Rattle.vax_console.proofs.Replying.{prefix_before, replied_goes, run_cut, ru
 -- the limits of a run of so many steps more
 abbrev pub limits_of : Limits → ℕ → ℕ → Limits
 limits_of limits first count = record { steps = first + count; turns = limits.turns; listed = false }
-
-abbrev pub answer_of : RunEnd → Result (Option Ending) Stopped
-answer_of (run_end.Ended e) = Ok (Some e)
-answer_of run_end.Steps = Ok None
-answer_of run_end.Turns = Err stopped.Turns
-answer_of run_end.PageFault = Err stopped.PageFault
-answer_of run_end.WriteFault = Err stopped.WriteFault
 
 -- no page is pinned
 pub pins_none : (m : Engine) (place : Place) → IsBetween m → PinsTouched (residence m) place
@@ -208,6 +204,31 @@ pub advances_from : (end : RunEnd) (limits : Limits) (count first : ℕ) (areas 
     run_spec.Ends (limits_of limits first count) areas rules (begun m1 (At flat)) f1 end m2 f2 old new → Advances (answer_of end) limits count (session_on m1 flat) m2 f2 old new
 advances_from end limits count first areas rules flat m1 m2 f1 f2 old new e between w =
     advances end limits count areas rules flat m1 m2 f1 f2 old new between (subst (λ (n : ℕ). run_spec.Ends (limits_of limits n count) areas rules (begun m1 (At flat)) f1 end m2 f2 old new) e w)
+
+-- all steps were made, or the machine ended, where a run stops between two steps
+pub between_ok : (end : RunEnd) → IsOk (answer_of end) → StopsBetween end
+between_ok (run_end.Ended e) ok = tt
+between_ok run_end.Steps ok = tt
+between_ok run_end.Turns ok = absurd (false≢true ok)
+between_ok run_end.PageFault ok = absurd (false≢true ok)
+between_ok run_end.WriteFault ok = absurd (false≢true ok)
+
+-- which calls failed, by how the run ended
+pub record HasCauses (end : RunEnd) (f f' k k' : Failures) : Type 0 where
+  pub later : f.count ≤ f'.count
+  pub sunk : k.count ≤ k'.count
+  pub fault : end ≡ run_end.PageFault → Rose f f'
+  pub cause : end ≡ run_end.WriteFault → Rose k k'
+  pub unfailed : end ≢ run_end.PageFault → end ≢ run_end.WriteFault → f'.count ≡ f.count
+  pub failed : ChangesOnce f f'
+  pub written : end ≢ run_end.WriteFault → k'.count ≡ k.count
+
+pub causes_of : (end : RunEnd) (f f' k k' : Failures) → HasCauses end f f' k k' → Causes (answer_of end) f f' k k'
+causes_of (run_end.Ended e) f f' k k' h = (h.unfailed (λ i. cc i) (λ i. cc i), h.written (λ i. cc i))
+causes_of run_end.Steps f f' k k' h = (h.unfailed (λ i. cc i) (λ i. cc i), h.written (λ i. cc i))
+causes_of run_end.Turns f f' k k' h = (h.unfailed (λ i. cc i) (λ i. cc i), h.written (λ i. cc i))
+causes_of run_end.PageFault f f' k k' h = (h.later, h.fault refl, h.written (λ i. cc i))
+causes_of run_end.WriteFault f f' k k' h = (h.later, h.sunk, h.cause refl, h.failed)
 
 -- requests of an ended machine
 

@@ -20,7 +20,7 @@ use Rattle.vax_machine.specs.declared.event.Limits.{Limits}
 use Rattle.vax_machine.specs.declared.event.RunEnd.{RunEnd}
 use Rattle.vax_machine.specs.declared.event.RunEnd.TheVariants as run_end
 use Rattle.vax_script.specs.declared.request.Line.{Line}
-use Rattle.vax_console.specs.Ends.{Replies, session_on, steps_in}
+use Rattle.vax_console.specs.Ends.{Replies, answer_of, session_on, steps_in}
 use Rattle.vax_console.specs.Parts.{FewAttempts, LeadsThrough, LeadsTo, LinesHaveParts, MakesNone, Spends, SpendsAll, SpendsFirst, SpendsInto, SpendsOpen, SpendsSome, SpendsSteps, StepHasParts, StepsHaveParts, StepsSpend}
 use Rattle.vax_console.specs.Transcript.{Session, advanced, after_line, session_after}
 use Rattle.vax_console.specs.declared.stopped.Stopped.{Stopped}
@@ -28,7 +28,7 @@ use Rattle.vax_console.specs.declared.stopped.Stopped.TheVariants as stopped
 use Rattle.vax_console.proofs.Advancing.{Makes, advanced_stays, is_below, run_makes}
 use Rattle.vax_console.proofs.Outputs.{goes_ending}
 use Rattle.vax_console.proofs.Parting.{Through, goes_by, run_through}
-use Rattle.vax_console.proofs.Running.{answer_of, by_ending, by_steps, by_turns, is_le, limits_of, place_between}
+use Rattle.vax_console.proofs.Running.{by_ending, by_steps, by_turns, is_le, limits_of, place_between}
 use Rattle.vax_console.proofs.Sessions.{after_append, splits_behind, splits_further, steps_append}
 use Rattle.vax_console.proofs.Spoiling.{cut_unspoiled, evicted_spoils, paged_spoils, paged_unspoiled, spoils_then}
 

@@ -28,13 +28,13 @@ use Rattle.vax_machine.specs.declared.event.RunEnd.{RunEnd}
 use Rattle.vax_machine.specs.declared.event.RunEnd.TheVariants as run_end
 use Rattle.vax_script.specs.declared.request.Request.TheVariants.{ExamineRegister, ExamineMemory, DepositRegister, DepositMemory, Next, Continue, Show}
 use Rattle.vax_script.specs.declared.request.Line.TheVariants.{Blank, Request as Asks, Malformed}
-use Rattle.vax_console.specs.Ends.{Replies, Scene, writes}
+use Rattle.vax_console.specs.Ends.{Replies, Scene, answer_of, writes}
 use Rattle.vax_console.specs.Transcript.{Session, advanced, done_line, last_of, left, may_deposit, next_line, reply, stop_line}
 use Rattle.vax_console.specs.Turns.{Fails, HasMadeSteps, Holds, IsThrough, MakesTurns, RunsThrough, RunsUnless, Sends, SetsBytesIf, Setting, Stand, Stays, StepsHold, after_turns, anew, limits_for, session_at, setting_of, stand_at, steps_of}
 use Rattle.vax_console.specs.declared.stopped.Stopped.{Stopped}
 use Rattle.vax_console.specs.declared.stopped.Stopped.TheVariants as stopped
 use Rattle.vax_console.proofs.Requested.{same_core, same_ending, same_taken}
-use Rattle.vax_console.proofs.Running.{answer_of, continue_said, limits_of, next_said, place_between}
+use Rattle.vax_console.proofs.Running.{continue_said, limits_of, next_said, place_between}
 use Rattle.vax_console.proofs.Turning.{line_held, line_short, ran_held, simple_held, stopped_held}
 
 -- where machines stand

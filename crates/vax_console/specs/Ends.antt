@@ -1,5 +1,5 @@
 -- How a session goes on and ends.
-use Rattle.std.specs.Prelude.{◌≡◌, ◌≢◌, ◌<◌, ◌≤◌, ◌+◌, ℕ, List, [], ◌∷◌, ◌++◌, Option, None, Result, Ok, Err, min}
+use Rattle.std.specs.Prelude.{◌≡◌, ◌≢◌, ◌<◌, ◌≤◌, ◌+◌, ℕ, List, [], ◌∷◌, ◌++◌, Option, Some, None, Result, Ok, Err, min}
 use Rattle.vax_outside.specs.Blocks.{BlockFile}
 use Rattle.vax_outside.specs.Channels.{Channels, Grew, GrewByPrefix, only}
 use Rattle.vax_outside.specs.Faults.{Rose}
@@ -14,6 +14,8 @@ use Rattle.vax_machine.specs.Machine.{Means}
 use Rattle.vax_machine.specs.Meaning.{units_of}
 use Rattle.vax_machine.specs.declared.engine.Engine.{Engine}
 use Rattle.vax_machine.specs.declared.event.Limits.{Limits}
+use Rattle.vax_machine.specs.declared.event.RunEnd.{RunEnd}
+use Rattle.vax_machine.specs.declared.event.RunEnd.TheVariants as run_end
 use Rattle.vax_script.specs.declared.request.Request.{Request}
 use Rattle.vax_script.specs.declared.request.Request.TheVariants.{ExamineRegister, ExamineMemory, DepositRegister, DepositMemory, Next, Continue, Show}
 use Rattle.vax_script.specs.declared.request.Line.{Line}
@@ -122,6 +124,14 @@ Advances (Ok end) limits count s m file old now = (end ≡ (advanced count s).ma
 Advances (Err stopped.Turns) limits count s m file old now = IsOutOfTurns limits.turns s count m × IsWithin s.machine s count [] m file old now
 Advances (Err stopped.PageFault) limits count s m file old now = IsWithin s.machine s count [] m file old now
 Advances (Err stopped.WriteFault) limits count s m file old now = IsPartOf s.machine (advanced count s) [] old now
+
+-- what the end of a run means for its steps
+abbrev pub answer_of : RunEnd → Result (Option Ending) Stopped
+answer_of (run_end.Ended e) = Ok (Some e)
+answer_of run_end.Steps = Ok None
+answer_of run_end.Turns = Err stopped.Turns
+answer_of run_end.PageFault = Err stopped.PageFault
+answer_of run_end.WriteFault = Err stopped.WriteFault
 
 -- lines were carried out
 abbrev pub Carries : Limits → Session → List Line → Engine → Option BlockFile → Option Channels → Option Channels → Type 0

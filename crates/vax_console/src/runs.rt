@@ -7,7 +7,7 @@ ghost use Rattle.vax_script.specs.declared.request.Request.TheVariants as reques
 ghost use Rattle.vax_script.specs.declared.request.Line.TheVariants as line;
 ghost use Rattle.vax_report.specs.Lines.{ending_line};
 ghost use Rattle.vax_console.specs.Transcript.{at_line, last_of, next_line};
-ghost use Rattle.vax_console.specs.Ends.{AdvancesFrom, Causes, GoesFrom, OnlyReplied, scene, session_on};
+ghost use Rattle.vax_console.specs.Ends.{AdvancesFrom, Causes, GoesFrom, OnlyReplied, answer_of, scene, session_on};
 ghost use Rattle.vax_console.specs.Parts.{SpendsFrom, StepsSpendFrom};
 ghost use Rattle.vax_console.specs.Turns.{HoldsFrom, StepsHoldFrom};
 
@@ -18,6 +18,19 @@ use vax_machine::{Limits, Machine, RunEnd};
 use vax_outside::{PageFile, Sink, Text};
 use vax_report::push_ending;
 use vax_sched::Schedule;
+
+/// What the end of a run means for its steps: how the machine ended, none where all were made, or what stopped them.
+fn answer_of(end: RunEnd) -> Result<Option<Ending>, Stopped>
+    ensures { result ≡ answer_of end }
+{
+    match end {
+        RunEnd::Ended(ending) => Ok(Some(ending)),
+        RunEnd::Steps => Ok(None),
+        RunEnd::Turns => Err(Stopped::Turns),
+        RunEnd::PageFault => Err(Stopped::PageFault),
+        RunEnd::WriteFault => Err(Stopped::WriteFault),
+    }
+}
 
 /// Makes so many steps, or fewer where the machine ends, and tells how it ended.
 fn advance<F: PageFile, K: Sink>(
@@ -53,13 +66,7 @@ fn advance<F: PageFile, K: Sink>(
         turns: limits.turns,
         listed: false,
     };
-    match machine.run(&limits, schedule, file, sink) {
-        RunEnd::Ended(ending) => Ok(Some(ending)),
-        RunEnd::Steps => Ok(None),
-        RunEnd::Turns => Err(Stopped::Turns),
-        RunEnd::PageFault => Err(Stopped::PageFault),
-        RunEnd::WriteFault => Err(Stopped::WriteFault),
-    }
+    answer_of(machine.run(&limits, schedule, file, sink))
 }
 
 /// How many steps are left up to the limit.
