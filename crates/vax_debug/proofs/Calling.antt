@@ -6,7 +6,7 @@ use Rattle.vax_flat.specs.Step.{Flat}
 use Rattle.vax_machine.specs.Console.{memory_from}
 use Rattle.vax_console.specs.Transcript.{Session, left}
 use Rattle.vax_console.specs.Ends.{IsWithin, Scene}
-use Rattle.vax_debug.specs.Calls.{behind_call, bytes_of, call_goal, frame_goal, longword_in, returned}
+use Rattle.vax_debug.specs.Calls.{behind_call, bytes_of, call_goal, frame_goal, longword_at, longword_in, returned}
 use Rattle.vax_debug.specs.Sessions.{IsHere, Origin}
 use Rattle.vax_debug.specs.Travel.{fp_of, pc_of}
 use Rattle.vax_debug.specs.declared.breaks.Goal.{Goal}
@@ -39,9 +39,14 @@ told_call m core cells bytes goal same shown is told =
     let here : goal ≡ behind_call core (bytes_of (memory_from m.memory (pc_of core) 16)) = told ∙ ap (behind_call core) (is ∙ ap bytes_of shown) in
     subst (λ (k : Core). goal ≡ behind_call k (bytes_of (memory_from m.memory (pc_of k) 16))) (sym same) here
 
+-- a longword, as memory tells it
+pub told_longword : (m : Flat) (addr : ℕ) (cells : List (Option ℕ)) (bytes : List ℕ) (value : Option ℕ) → cells ≡ memory_from m.memory addr 4 → bytes ≡ bytes_of cells → value ≡ longword_in bytes → value ≡ longword_at m addr
+unfolding longword_at
+told_longword m addr cells bytes value shown is told = told ∙ ap longword_in (is ∙ ap bytes_of shown)
+
 -- where a procedure comes back, likewise
-pub told_frame : (m : Flat) (core : Core) (cells : List (Option ℕ)) (bytes : List ℕ) (goal : Option Goal) → m.core ≡ core → cells ≡ memory_from m.memory ((fp_of core + 16) % 2 ^ 32) 4 → bytes ≡ bytes_of cells → goal ≡ option_map (returned core) (longword_in bytes) → goal ≡ frame_goal m
+pub told_frame : (m : Flat) (core : Core) (address : Option ℕ) (goal : Option Goal) → m.core ≡ core → address ≡ longword_at m ((fp_of core + 16) % 2 ^ 32) → goal ≡ option_map (returned core) address → goal ≡ frame_goal m
 unfolding frame_goal
-told_frame m core cells bytes goal same shown is told =
-    let here : goal ≡ option_map (returned core) (longword_in (bytes_of (memory_from m.memory ((fp_of core + 16) % 2 ^ 32) 4))) = told ∙ ap (λ (z : List ℕ). option_map (returned core) (longword_in z)) (is ∙ ap bytes_of shown) in
-    subst (λ (k : Core). goal ≡ option_map (returned k) (longword_in (bytes_of (memory_from m.memory ((fp_of k + 16) % 2 ^ 32) 4)))) (sym same) here
+told_frame m core address goal same is told =
+    let here : goal ≡ option_map (returned core) (longword_at m ((fp_of core + 16) % 2 ^ 32)) = told ∙ ap (option_map (returned core)) is in
+    subst (λ (k : Core). goal ≡ option_map (returned k) (longword_at m ((fp_of k + 16) % 2 ^ 32))) (sym same) here

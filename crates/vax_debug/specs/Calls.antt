@@ -58,13 +58,17 @@ abbrev pub longword_in : List ℕ → Option ℕ
 longword_in (a ∷ b ∷ c ∷ d ∷ []) = Some (from_le_bytes w32 (a ∷ b ∷ c ∷ d ∷ []))
 longword_in bytes = None
 
+-- the longword at an address, if memory has it whole
+unfoldable pub longword_at : Flat → (addr : ℕ) → Option ℕ
+longword_at m addr = longword_in (bytes_of (memory_from m.memory addr 4))
+
 -- behind the return of the frame at FP: the stack pointer is above that then
 abbrev pub returned : Core → ℕ → Goal
 returned core pc = goal_at pc ((fp_of core + 1) % 2 ^ 32)
 
 -- where the procedure comes back: a frame has its saved PC at 16
 unfoldable pub frame_goal : Flat → Option Goal
-frame_goal m = option_map (returned m.core) (longword_in (bytes_of (memory_from m.memory ((fp_of m.core + 16) % 2 ^ 32) 4)))
+frame_goal m = option_map (returned m.core) (longword_at m ((fp_of m.core + 16) % 2 ^ 32))
 
 abbrev pub over_count_to : (limit : ℕ) → Option Goal → Session → ℕ
 over_count_to limit None s = min 1 (left limit s)

@@ -2,9 +2,10 @@
 ghost use Rattle.std.specs.Prelude.{◌≡◌, ◌≤◌, IfOk, Option, is_err, length, option_map};
 ghost use Rattle.vax_outside.specs.Channels.{Channels};
 ghost use Rattle.vax_outside.specs.Faults.{CountsFailure};
+ghost use Rattle.vax_flat.specs.Step.{Flat};
 ghost use Rattle.vax_machine.specs.Meaning.{engine};
 ghost use Rattle.vax_console.specs.Ends.{scene};
-ghost use Rattle.vax_debug.specs.Calls.{TellsFrom, behind_call, bytes_of, call_goal, frame_goal, is_call, longword_in, returned};
+ghost use Rattle.vax_debug.specs.Calls.{TellsFrom, behind_call, bytes_of, call_goal, frame_goal, is_call, longword_at, longword_in, returned};
 ghost use Rattle.vax_debug.specs.Sessions.{StaysHere};
 
 use crate::breaks::Goal;
@@ -87,6 +88,27 @@ fn longword_in(bytes: &[u8]) -> Option<u32>
     }
 }
 
+/// The longword at an address, if memory has it whole.
+pub fn longword<F: PageFile>(
+    addr: u32,
+    machine: &mut Machine,
+    file: &mut F,
+) -> Result<Option<u32>, PageFault>
+    ensures tells { (sink : Option Channels) → IfOk result
+        (TellsFrom (scene (engine machine.old) (F.contents file.old) sink)
+        (λ (m : Flat). longword_at m addr)) }
+    ensures stays { (sink : Option Channels) →
+        StaysHere (scene (engine machine.old) (F.contents file.old) sink)
+        (scene (engine machine.new) (F.contents file.new) sink) }
+    ensures counts { CountsFailure (is_err result) (F.faults file.old) (F.faults file.new) }
+{
+    let mut cells = [None; 4];
+    match examine(addr, &mut cells, machine, file) {
+        Ok(()) => Ok(longword_in(&bytes_of(&cells))),
+        Err(_) => Err(PageFault),
+    }
+}
+
 /// Behind the return of the frame at FP, to this address.
 fn returned(core: &Core, address: u32) -> Goal
     ensures { result ≡ returned core.now address }
@@ -97,12 +119,14 @@ fn returned(core: &Core, address: u32) -> Goal
     }
 }
 
-/// Where the procedure comes back whose frame has these bytes for its saved PC.
-fn frame_at(core: &Core, bytes: &[u8]) -> Option<Goal>
-    ensures { result ≡ option_map (returned core.now) (longword_in bytes.now) }
+/// Where the procedure comes back whose frame has this saved PC.
+fn frame_at(core: &Core, address: Option<u32>) -> Option<Goal>
+    ensures { result ≡ option_map (returned core.now) address }
 {
-    let address = longword_in(bytes)?;
-    Some(returned(core, address))
+    match address {
+        Some(address) => Some(returned(core, address)),
+        None => None,
+    }
 }
 
 /// Where the procedure comes back whose frame FP points to, if memory has its saved PC. Steps up to there are those of the rest of the procedure.
@@ -118,9 +142,8 @@ pub fn frame_goal<F: PageFile>(
     ensures counts { CountsFailure (is_err result) (F.faults file.old) (F.faults file.new) }
 {
     let core = *machine.core();
-    let mut cells = [None; 4];
-    match examine(core.regs[13].wrapping_add(16), &mut cells, machine, file) {
-        Ok(()) => Ok(frame_at(&core, &bytes_of(&cells))),
+    match longword(core.regs[13].wrapping_add(16), machine, file) {
+        Ok(address) => Ok(frame_at(&core, address)),
         Err(_) => Err(PageFault),
     }
 }

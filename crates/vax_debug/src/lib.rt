@@ -15,6 +15,6 @@ mod travel;
 pub use crate::breaks::{Breaks, Goal};
 pub use crate::calls::{go, go_to, over, step, until};
 pub use crate::failure::Failure;
-pub use crate::frames::frame_goal;
+pub use crate::frames::{frame_goal, longword};
 pub use crate::laws::travels_are_steps;
 pub use crate::memory::{deposit, deposit_register, evict, examine};

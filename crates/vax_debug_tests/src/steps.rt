@@ -51,6 +51,7 @@ fn machine_with(alloc: Global, program: &[u8]) -> Result<Machine, Fail> {
 }
 
 /// What a session of calls goes with.
+#[derive(Drop)]
 struct Around {
     limits: Limits,
     schedule: Schedule,
@@ -59,7 +60,7 @@ struct Around {
 }
 
 /// A page file and a sink, and a limit of a hundred steps.
-fn around(alloc: Global) -> Result<Around, Fail> {
+fn surroundings(alloc: Global) -> Result<Around, Fail> {
     Ok(Around {
         limits: Limits {
             steps: 100,
@@ -89,7 +90,7 @@ fn goes<R: Abort>(rt: &R, breaks: &Breaks, machine: &mut Machine, a: &mut Around
 #[test]
 fn a_step_is_one_instruction(rt: HostRuntime) -> Result<(), Fail> {
     let mut machine = machine(rt.alloc())?;
-    let mut a = around(rt.alloc())?;
+    let mut a = surroundings(rt.alloc())?;
     assert!(rt; a.limits.turns <= 1_000);
     let none = Breaks::new();
     let end = step(
@@ -111,7 +112,7 @@ fn a_step_is_one_instruction(rt: HostRuntime) -> Result<(), Fail> {
 #[test]
 fn a_call_is_stepped_over(rt: HostRuntime) -> Result<(), Fail> {
     let mut machine = machine(rt.alloc())?;
-    let mut a = around(rt.alloc())?;
+    let mut a = surroundings(rt.alloc())?;
     assert!(rt; a.limits.turns <= 1_000);
     let none = Breaks::new();
     let end = over(
@@ -142,7 +143,7 @@ fn a_call_is_stepped_over(rt: HostRuntime) -> Result<(), Fail> {
 #[test]
 fn a_stop_is_taken_once(rt: HostRuntime) -> Result<(), Fail> {
     let mut machine = machine(rt.alloc())?;
-    let mut a = around(rt.alloc())?;
+    let mut a = surroundings(rt.alloc())?;
     let mut breaks = Breaks::new();
     breaks.add(SUBROUTINE);
     goes(&rt, &breaks, &mut machine, &mut a);
@@ -159,7 +160,7 @@ fn a_stop_is_taken_once(rt: HostRuntime) -> Result<(), Fail> {
 #[test]
 fn an_address_is_reached(rt: HostRuntime) -> Result<(), Fail> {
     let mut machine = machine(rt.alloc())?;
-    let mut a = around(rt.alloc())?;
+    let mut a = surroundings(rt.alloc())?;
     assert!(rt; a.limits.turns <= 1_000);
     let none = Breaks::new();
     let end = until(
@@ -179,7 +180,7 @@ fn an_address_is_reached(rt: HostRuntime) -> Result<(), Fail> {
 #[test]
 fn an_eviction_loses_no_byte(rt: HostRuntime) -> Result<(), Fail> {
     let mut machine = machine(rt.alloc())?;
-    let mut a = around(rt.alloc())?;
+    let mut a = surroundings(rt.alloc())?;
     // INCL R3 in place of INCL R2
     assert!(rt; deposit(SUBROUTINE, &[0xD6, 0x53], &mut machine, &mut a.file) == Ok(true));
     assert!(rt; evict(PAGE, &mut machine, &mut a.file).is_ok());
@@ -197,7 +198,7 @@ fn an_eviction_loses_no_byte(rt: HostRuntime) -> Result<(), Fail> {
 #[test]
 fn a_procedure_is_left(rt: HostRuntime) -> Result<(), Fail> {
     let mut machine = machine_with(rt.alloc(), &PROCEDURE)?;
-    let mut a = around(rt.alloc())?;
+    let mut a = surroundings(rt.alloc())?;
     assert!(rt; a.limits.turns <= 1_000);
     let none = Breaks::new();
     let end = step(
