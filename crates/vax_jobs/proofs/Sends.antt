@@ -1,9 +1,11 @@
 -- Bytes on their way to Out.
-use Rattle.std.proofs.Common.{◌≡◌, ℕ, List, [], ◌∷◌, ◌++◌, append_assoc, append-nil, Option, sym, ap, subst, ◌∙◌}
+use Rattle.std.proofs.Common.{◌≡◌, ℕ, List, [], ◌∷◌, ◌++◌, append_assoc, append-nil, Option, inl, inr, sym, ap, subst, ◌∙◌}
 use Rattle.vax_outside.specs.Channels.{Channels, Grew, GrewByPrefix, only}
 use Rattle.vax_outside.specs.declared.traits.Chan.TheVariants.{Out}
 use Rattle.vax_outside.proofs.Growth.{grew_nothing, out_grew, out_last}
-use Rattle.vax_jobs.specs.Sending.{Holds, Sends}
+use Rattle.vax_jobs.specs.Sending.{Finishes, HasSent, Holds, OnlySent, Sends}
+use Rattle.vax_jobs.specs.declared.ends.JobsEnd.{JobsEnd}
+use Rattle.vax_outside.specs.declared.faults.Failures.{Failures}
 
 pub nothing_sent : (first : Option Channels) (sent held : List ℕ) → sent ≡ [] → held ≡ [] → Sends first sent held first
 nothing_sent first sent held a b = record { written = []; is = a ∙ sym b; wrote = grew_nothing first }
@@ -39,3 +41,10 @@ pub sends_lost : (first before now : Option Channels) (sent held : List ℕ) (by
 sends_lost first before now sent held byte s g =
     subst (λ z. GrewByPrefix first now (only Out z)) (sym (ap (λ z. z ++ byte ∷ []) s.is ∙ append_assoc s.written held (byte ∷ [])))
     (out_last first before now s.written (held ++ byte ∷ []) s.wrote g)
+
+-- where a run ends, whatever was sent
+pub only_end : (end result : JobsEnd) (held : List ℕ) (first now new : Option Channels) (a b : Failures) → ((bytes : List ℕ) → Grew first new (only Out bytes) → OnlySent end first new) → HasSent first held now → Finishes end result held now new a b → OnlySent result first new
+only_end end result held first now new a b whole h (inl f) =
+    subst (λ (r : JobsEnd). OnlySent r first new) (sym f.answer) (whole h.0 (sends_all first now new h.0 held h.1 f.wrote))
+only_end end result held first now new a b whole h (inr f) =
+    subst (λ (r : JobsEnd). OnlySent r first new) (sym f.answer) (h.0, sends_part first now new h.0 held h.1 f.wrote)

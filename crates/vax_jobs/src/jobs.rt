@@ -34,6 +34,7 @@ pub struct Jobs {
 impl Jobs {
     ghost use Rattle.vax_jobs.specs.Beginning.{Begins, IsCount, IsMost, machines, pooling};
     ghost use Rattle.vax_jobs.specs.Running.{CountsEnd, RunsTo, setting_of, system_of};
+    ghost use Rattle.vax_jobs.specs.Sending.{OnlySent};
     ghost use Rattle.vax_jobs.specs.Turning.{DropsNoPins, HasTurned, IsTurned, has_failed, job_of};
 
     /// Processes at the start, with so many resident pages together, 64 for each to 32,768. An input has at most 4,194,304 bytes.
@@ -106,6 +107,7 @@ impl Jobs {
             (K.contents sink.old)
             (system_of (pooling self.new) (machines self.new) (F.contents file.new))
             (K.contents sink.new) }
+        ensures only { OnlySent result (K.contents sink.old) (K.contents sink.new) }
         ensures counts { CountsEnd result (F.faults file.old) (F.faults file.new)
             (K.faults sink.old) (K.faults sink.new) }
     {

@@ -5,6 +5,7 @@ ghost use Rattle.vax_outside.specs.Faults.{CountsFailure};
 ghost use Rattle.vax_order.specs.Orders.{IsOrder, is_line};
 ghost use Rattle.vax_jobs.specs.Pool.{IsPool, pooling_of};
 ghost use Rattle.vax_jobs.specs.Running.{CountsEnd, IsPosition, MakesTurn, RunsTo, byte_of, bytes_in, going, is_page_fault, is_write_fault, setting_of, system_of};
+ghost use Rattle.vax_jobs.specs.Sending.{OnlySent, WritesOn};
 ghost use Rattle.vax_jobs.specs.Shared.{first_going, next_position};
 
 use crate::ends::{Fault, JobsEnd};
@@ -94,6 +95,8 @@ impl Pool {
             held.old.items (K.contents sink.old)
             (system_of (pooling_of self.new) self.new.machines.items (F.contents file.new))
             held.new.items (K.contents sink.new) }
+        ensures writes { WritesOn result (K.contents sink.old) held.old.items (K.contents sink.new)
+            held.new.items }
         ensures file { CountsFailure (is_page_fault result) (F.faults file.old) (F.faults file.new) }
         ensures sink { CountsFailure (is_write_fault result) (K.faults sink.old)
             (K.faults sink.new) }
@@ -129,6 +132,7 @@ impl Pool {
             (K.contents sink.old)
             (system_of (pooling_of self.new) self.new.machines.items (F.contents file.new))
             (K.contents sink.new) }
+        ensures only { OnlySent result (K.contents sink.old) (K.contents sink.new) }
         ensures counts { CountsEnd result (F.faults file.old) (F.faults file.new)
             (K.faults sink.old) (K.faults sink.new) }
     {

@@ -1,4 +1,4 @@
-use Rattle.std.proofs.Common.{◌++◌, List, ap, refl, subst, sym, ◌∙◌, ℕ}
+use Rattle.std.proofs.Common.{◌++◌, ◌∷◌, [], List, ap, refl, subst, sym, ◌∙◌, ℕ}
 use Rattle.vax_outside.specs.Channels.{GrewByPrefix, only}
 use Rattle.vax_outside.specs.declared.traits.Chan.TheVariants.{Out}
 use Rattle.vax_jobs.proofs.Sends.{sends_lost, sends_more}
@@ -43,3 +43,11 @@ returns-in-Err-clause-done g c = λ first s limit may at.
     let lead = turn_leads c.args.job y z c.go.result refl refl c.go.ensures.turned c.go.ensures.goes c.go.ensures.unsettled s limit may at.tracks c.in_default.not-Failed in
     subst (λ (bytes : List ℕ). GrewByPrefix first (g.K.Sink.contents c.hold.new.sink) (only Out bytes)) (ap (λ xs. bytes_sent s ++ xs) c.in-Some.ensures ∙ sym lead.sent)
     (sends_lost first (g.K.Sink.contents c.args.sink.now) (g.K.Sink.contents c.hold.new.sink) (bytes_sent s) c.args.held.now.items c.in-Some.byte at.sends c.in-Err.ensures.cut)
+
+pub returns-in-Ok-clause-writes : goal.returns-in-Ok-clause-writes
+returns-in-Ok-clause-writes g c = λ first h.
+    (h.0 ++ c.in-Some.byte ∷ [], sends_more first (g.K.Sink.contents c.args.sink.now) (g.K.Sink.contents c.hold.new.sink) h.0 c.args.held.now.items c.hold.new.held.items c.in-Some.byte h.1 c.in-Ok.ensures.ok)
+
+pub returns-in-Err-clause-writes : goal.returns-in-Err-clause-writes
+returns-in-Err-clause-writes g c = λ first h.
+    (h.0 ++ c.in-Some.byte ∷ [], sends_lost first (g.K.Sink.contents c.args.sink.now) (g.K.Sink.contents c.hold.new.sink) h.0 c.args.held.now.items c.in-Some.byte h.1 c.in-Err.ensures.cut)

@@ -9,7 +9,10 @@ use Rattle.vax_jobs.proofs.Ordering.{job_is, some_line}
 use Rattle.vax_jobs.proofs.Rounds.{IsNext, ends_cut, ends_done, ends_lost, ends_turns, is_turning, may_go, turning, under_begun, under_more}
 use Rattle.vax_jobs.specs.Pool.{keeps_of, pooling_of}
 use Rattle.vax_jobs.specs.Running.{IsAt, MakesTurn, MayGo, setting_of, system_of}
+use Rattle.vax_jobs.proofs.Sends.{nothing_sent, only_end}
+use Rattle.vax_jobs.specs.Sending.{WritesOn}
 use Rattle.vax_jobs.specs.Shared.{bytes_sent, job_at, tried}
+use Rattle.vax_jobs.specs.declared.ends.JobsEnd.TheVariants.{Done, Turns, PageFault}
 use Rattle.vax_jobs.specs.declared.ends.Fault.{Fault}
 use Rattle.vax_jobs.specs.declared.ends.Fault.TheVariants.{Page, Write}
 use Rattle.vax_jobs.specs.declared.position.Position.{Position}
@@ -34,6 +37,7 @@ loop-next-init g c =
       room = let n = ap length none in omega (arith, n);
       quiet = refl;
       written = refl;
+      sends = ([], nothing_sent (g.K.Sink.contents c.args.sink.now) [] c.new-held.result.items refl none);
       made = λ s r.
           under_begun (setting_of c.args.order.now c.args.steps c.args.turns (pooling_of c.args.self.now)) s _ (system_of (pooling_of c.args.self.now) c.args.self.now.machines.items (g.F.PageFile.contents c.args.file.now)) c.new-held.result.items (g.K.Sink.contents c.args.sink.now)
           (r.at ∙ ap (λ o. let p : Position = record { line = 0; left = option_map_or (λ (l : Line). l.count) o 0 } in p) first) none r;
@@ -59,6 +63,7 @@ loop-next-preserved g c = record {
   room = c.in-Ok.ensures.room;
   quiet = c.in-Ok.ensures.file.quiet ∙ c.loop-next.invariant.quiet;
   written = c.in-Ok.ensures.sink.quiet ∙ c.loop-next.invariant.written;
+  sends = c.in-Ok.ensures.writes _ c.loop-next.invariant.sends;
   made = λ s r.
       let x = setting_of c.args.order.now c.args.steps c.args.turns (pooling_of c.args.self.now) in
       let y = system_of (pooling_of c.loop-next.self) c.loop-next.self.machines.items (g.F.PageFile.contents c.loop-next.file) in
@@ -127,3 +132,22 @@ returns-in-Err-Write-clause-runs g c = λ s r.
     ends_lost x s c.loop-next.made c.loop-next.at next y c.loop-next.held.items first now new less n u
     (subst (λ (k : ℕ). GrewByPrefix first new (only Out (bytes_sent (tried k (job_at c.args.order.now next.line) t)))) most
     (subst (λ (j : ℕ). GrewByPrefix first new (only Out (bytes_sent (tried c.one_turn.new.self.most j t)))) (sym e) done))
+
+pub returns-in_default-clause-only : goal.returns-in_default-clause-only
+returns-in_default-clause-only g c =
+    only_end Done c.finish.result c.loop-next.held.items (g.K.Sink.contents c.args.sink.now) (g.K.Sink.contents c.loop-next.sink) (g.K.Sink.contents c.finish.new.sink) _ _ (λ bytes grew. (bytes, grew)) c.loop-next.invariant.sends c.finish.ensures
+
+pub returns-then-made-turns-clause-only : goal.returns-then-made-turns-clause-only
+returns-then-made-turns-clause-only g c =
+    only_end Turns c.finish-then-made-turns.result c.loop-next.held.items (g.K.Sink.contents c.args.sink.now) (g.K.Sink.contents c.loop-next.sink) (g.K.Sink.contents c.finish-then-made-turns.new.sink) _ _ (λ bytes grew. (bytes, grew)) c.loop-next.invariant.sends c.finish-then-made-turns.ensures
+
+pub returns-in-Err-Page-clause-only : goal.returns-in-Err-Page-clause-only
+returns-in-Err-Page-clause-only g c =
+    let is : c.one_turn.result ≡ Err Page = c.in-Err-Page.is ∙ ap (λ x. Err x) c.in-Err-Page.field-0-is in
+    let sends = subst (λ (k : Result (Unit {0}) Fault). WritesOn k (g.K.Sink.contents c.loop-next.sink) c.loop-next.held.items (g.K.Sink.contents c.one_turn.new.sink) c.one_turn.new.held.items) is c.one_turn.ensures.writes _ c.loop-next.invariant.sends in
+    only_end PageFault c.finish-in-Err-Page.result c.one_turn.new.held.items (g.K.Sink.contents c.args.sink.now) (g.K.Sink.contents c.one_turn.new.sink) (g.K.Sink.contents c.finish-in-Err-Page.new.sink) _ _ (λ bytes grew. (bytes, grew)) sends c.finish-in-Err-Page.ensures
+
+pub returns-in-Err-Write-clause-only : goal.returns-in-Err-Write-clause-only
+returns-in-Err-Write-clause-only g c =
+    let is : c.one_turn.result ≡ Err Write = c.in-Err-Write.is ∙ ap (λ x. Err x) c.in-Err-Write.field-0-is in
+    subst (λ (k : Result (Unit {0}) Fault). WritesOn k (g.K.Sink.contents c.loop-next.sink) c.loop-next.held.items (g.K.Sink.contents c.one_turn.new.sink) c.one_turn.new.held.items) is c.one_turn.ensures.writes _ c.loop-next.invariant.sends

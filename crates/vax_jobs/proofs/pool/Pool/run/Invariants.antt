@@ -2,6 +2,7 @@ use Rattle.std.proofs.Common.{◌≡◌, ◌<◌, ◌-◌, length}
 use Rattle.vax_jobs.proofs.Rounds.{IsUnder}
 use Rattle.vax_jobs.specs.Pool.{IsPool, pooling_of}
 use Rattle.vax_jobs.specs.Running.{IsReady, setting_of, system_of}
+use Rattle.vax_jobs.specs.Sending.{HasSent}
 use Rattle.vax_jobs.specs.Shared.{Shared}
 use Rattle.vax_jobs.proofs.pool.Pool.run.Given as goal
 
@@ -15,6 +16,7 @@ invariant-loop-next g l = record {
   room : length l.held.items < 512;
   quiet : (g.F.PageFile.faults l.file).count ≡ (g.F.PageFile.faults l.fn.file).count;
   written : (g.K.Sink.faults l.sink).count ≡ (g.K.Sink.faults l.fn.sink).count;
+  sends : HasSent (g.K.Sink.contents l.fn.sink) l.held.items (g.K.Sink.contents l.sink);
   made : (s : Shared) → IsReady (setting_of l.order l.steps l.turns (pooling_of l.fn.self)) (system_of (pooling_of l.fn.self) l.fn.self.machines.items (g.F.PageFile.contents l.fn.file)) s →
       IsUnder (setting_of l.order l.steps l.turns (pooling_of l.fn.self)) s l.made l.at (system_of (pooling_of l.self) l.self.machines.items (g.F.PageFile.contents l.file)) l.held.items (g.K.Sink.contents l.fn.sink) (g.K.Sink.contents l.sink);
 }
