@@ -121,9 +121,9 @@ def cause(vector, found, mem, place, bad):
 
 def main():
     batch, passed = [], collections.Counter()
-    done, agree, differ = 0, 0, collections.defaultdict(list)
+    done, agree, marked, differ = 0, 0, 0, collections.defaultdict(list)
     def flush():
-        nonlocal done, agree
+        nonlocal done, agree, marked
         parts, frames = run(batch)
         for vector, part, place in zip(batch, parts, frames):
             found, mem = state(part)
@@ -144,8 +144,10 @@ def main():
                 if n != current and found.get(name) != last['stacks'][n]: bad.append(name)
             for addr, byte in last['ram']:
                 if addr & ~511 in place and mem.get(place[addr & ~511] + (addr & 511)) != byte: bad.append('byte %X' % addr)
-            if bad: differ[vector['name'].split()[0]].append((vector['name'], bad, found, cause(vector, found, mem, place, bad)))
-            else: agree += 1
+            if bad: differ[vector['name'].split()[0]].append((vector['name'], bad, found, cause(vector, found, mem, place, bad), vector['profile']))
+            else:
+                agree += 1
+                marked += vector['profile']
         batch.clear()
     for line in sys.stdin:
         vector = json.loads(line)
@@ -160,9 +162,9 @@ def main():
     if batch: flush()
     why = collections.Counter()
     for name, all_of in differ.items():
-        for text, bad, _, kind in all_of: why[kind] += 1
-    print('made', done, 'agree', agree, 'differ', done - agree, 'passed over', dict(passed))
-    for text, n in why.most_common(): print('   ', n, text)
+        for text, bad, _, kind, profile in all_of: why[kind, profile] += 1
+    print('made', done, 'agree', agree, 'of them by choice', marked, 'differ', done - agree, 'passed over', dict(passed))
+    for (text, profile), n in sorted(why.items(), key=lambda kind: -kind[1]): print('   ', n, text, '(by choice)' if profile else '(NOT marked as a choice)')
     for name in sorted(differ, key=lambda n: -len(differ[n])):
         print(name, len(differ[name]), differ[name][0][3], '|', *differ[name][0][1][:4], '|', differ[name][0][0])
 

@@ -6,4 +6,4 @@ mod dice;
 mod operands;
 mod start;
 
-pub use start::{Case, start_of};
+pub use start::{Case, PAGES, start_of};

@@ -1,4 +1,7 @@
 //! What steps begin with.
+ghost use Rattle.std.specs.Prelude.{◌≡◌, ◌/◌, ◌%◌, ◌^◌, IfOk};
+ghost use Rattle.vax_vectors.specs.Choices.{mode_of};
+
 use crate::dice::Dice;
 use crate::operands::Draft;
 use std::alloc::{AllocError, Global};
@@ -15,9 +18,9 @@ pub struct Case {
     pub mode: u8,
 }
 
-/// The pages: two with code, two that any mode may write, one that any mode may read, one for kernel mode, the stack's,
+/// The pages of all cases: two with code, two that any mode may write, one that any mode may read, one for kernel mode, the stack's,
 /// the system control block, the handlers, and the kernel and interrupt stacks.
-static PAGES: [Page; 11] = [
+pub static PAGES: [Page; 11] = [
     Page { number: 1, prot: 4 },
     Page { number: 2, prot: 4 },
     Page { number: 3, prot: 4 },
@@ -55,7 +58,9 @@ static VECTORS: [u8; 14] = [
 ];
 
 /// The status longword at the start.
-fn status(dice: &mut Dice, mode: u8) -> Psl {
+fn status(dice: &mut Dice, mode: u8) -> Psl
+    ensures { result.0 / 2 ^ 24 % 4 ≡ mode % 4 }
+{
     let codes = dice.below(16);
     let overflow = 0x20 * dice.below(2);
     let priority = if mode == 0 {
@@ -64,11 +69,13 @@ fn status(dice: &mut Dice, mode: u8) -> Psl {
         0
     };
     let modes = u32::from(mode % 4) * 0x0140_0000;
-    Psl(codes | overflow | priority | modes)
+    Psl(codes + overflow + priority + modes)
 }
 
 /// The registers at the start.
-fn core_of(draft: &mut Draft, mode: u8, begin: u32) -> Core {
+fn core_of(draft: &mut Draft, mode: u8, begin: u32) -> Core
+    ensures { result.psl.0 / 2 ^ 24 % 4 ≡ mode % 4 }
+{
     let psl = status(&mut draft.dice, mode);
     let mut regs = draft.regs;
     regs[13] = 0x7FFE_1F00 + 4 * draft.dice.below(16);
@@ -135,8 +142,10 @@ fn in_order(ram: Vec<Cell>) -> Result<Vec<Cell>, AllocError> {
     Ok(ram)
 }
 
-/// What a step begins with. It is the same for the same case. No page is absent.
-pub fn start_of(alloc: Global, case: Case) -> Result<Start, AllocError> {
+/// What a step begins with, in the access mode of a case. It is the same for the same case. No page is absent.
+pub fn start_of(alloc: Global, case: Case) -> Result<Start, AllocError>
+    ensures { IfOk result (λ start. mode_of start ≡ case.mode % 4) }
+{
     let mut dice = Dice::new(case.opcode, case.seed, case.number);
     let mut regs = [0; 16];
     for n in 0..13usize {

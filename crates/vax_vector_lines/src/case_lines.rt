@@ -1,55 +1,74 @@
 //! The lines of one case.
-ghost use Rattle.std.specs.Prelude.{IfOk, OnOk};
-ghost use Rattle.vax_vector_lines.specs.Lines.{AreVectors, IsMore};
+ghost use Rattle.std.specs.Prelude.{◌≡◌, ◌∷◌, ◌++◌, [], map, if◌then◌else◌, IfOk, OnOk};
+ghost use Rattle.vax_vectors.specs.Text.{json_text};
+ghost use Rattle.vax_vectors.specs.Truth.{IsTold};
+ghost use Rattle.vax_vector_lines.specs.Lines.{AreLinesWithout, IsGroup, IsMore, IsOf, choices, pairs};
 
-use crate::told::told;
+use crate::told::{whole, without};
 use std::alloc::Global;
 use vax_vector_cases::Case;
-use vax_vector_runs::NoVector;
+use vax_vector_runs::{NoVector, Workbench};
 use vax_vectors::{Vector, push_vector};
 
-/// Appends the line of a case's vector with these pages absent.
-#[tactic(auto, using(crate::proofs::More::one_line))]
-fn push_told(
-    alloc: Global,
-    out: &mut Vec<u8>,
-    case: Case,
-    absent: &[u32],
-) -> Result<Vector, NoVector>
-    ensures { OnOk result (IsMore 1 out.old.items out.new.items) }
+/// Appends the line of a vector.
+fn push_line(out: &mut Vec<u8>, vector: &Vector) -> Result<(), NoVector>
+    ensures { OnOk result (out.new.items ≡ out.old.items ++ json_text vector.now) }
 {
-    let vector = told(alloc, case, absent)?;
-    match push_vector(out, &vector) {
-        Ok(()) => Ok(vector),
+    match push_vector(out, vector) {
+        Ok(()) => Ok(()),
         Err(_) => Err(NoVector::NoMemory),
     }
 }
 
-/// Appends the lines of a case's vectors with a page absent, and with it each of some others.
+/// Appends the line of a vector with these pages absent.
+#[tactic(auto, using(crate::proofs::More::one_line))]
+fn push_without(
+    alloc: Global,
+    bench: &mut Workbench,
+    out: &mut Vec<u8>,
+    vector: &Vector,
+    absent: &[u32],
+) -> Result<(), NoVector>
+    ensures { OnOk result (IsMore (AreLinesWithout vector.now (absent.now ∷ []))
+        out.old.items out.new.items) }
+{
+    let other = without(alloc, bench, vector, absent)?;
+    push_line(out, &other)?;
+    Ok(())
+}
+
+/// Appends the lines of a vector with a page absent, and with it each of some others.
 fn push_pairs(
     alloc: Global,
+    bench: &mut Workbench,
     out: &mut Vec<u8>,
-    case: Case,
-    first: u32,
-    others: &[u32],
+    vector: &Vector,
+    pages: (u32, &[u32]),
 ) -> Result<(), NoVector>
-    ensures { OnOk result (IsMore 0 out.old.items out.new.items) }
+    ensures { OnOk result (IsMore (AreLinesWithout vector.now (pairs pages.entry.0 pages.entry.1.now))
+        out.old.items out.new.items) }
 {
-    push_told(alloc, out, case, &[first])?;
+    let (first, others) = pages;
+    push_without(alloc, bench, out, vector, &[first])?;
     for second in others {
-        push_told(alloc, out, case, &[first, *second])?;
+        push_without(alloc, bench, out, vector, &[first, *second])?;
     }
     Ok(())
 }
 
-/// Appends the lines of a case's vectors with one or two of these pages absent, for each choice of them.
-fn push_absent(alloc: Global, out: &mut Vec<u8>, case: Case, pages: &[u32]) -> Result<(), NoVector>
-    ensures { OnOk result (IsMore 0 out.old.items out.new.items) }
+/// Appends the lines of a vector with one or two of the pages absent that it touches, for each choice of them.
+fn push_absent(
+    alloc: Global,
+    bench: &mut Workbench,
+    out: &mut Vec<u8>,
+    vector: &Vector,
+) -> Result<(), NoVector>
+    ensures { OnOk result (IsMore (AreLinesWithout vector.now (choices vector.now.touched.items))
+        out.old.items out.new.items) }
 {
-    let mut rest = pages;
-    while let [first, behind @ ..] = rest {
-        push_pairs(alloc, out, case, *first, behind)?;
-        rest = behind;
+    let pages = vector.touched.as_slice();
+    for k in 0..pages.len() {
+        push_pairs(alloc, bench, out, vector, (pages[k], &pages[k + 1..]))?;
     }
     Ok(())
 }
@@ -57,25 +76,32 @@ fn push_absent(alloc: Global, out: &mut Vec<u8>, case: Case, pages: &[u32]) -> R
 /// Appends these lines where they are asked for.
 fn push_asked(
     alloc: Global,
+    bench: &mut Workbench,
     out: &mut Vec<u8>,
-    case: Case,
     absent: bool,
-    pages: &[u32],
+    vector: &Vector,
 ) -> Result<(), NoVector>
-    ensures { OnOk result (IsMore 0 out.old.items out.new.items) }
+    ensures { OnOk result (IsMore (AreLinesWithout vector.now
+        (if absent then choices vector.now.touched.items else [])) out.old.items out.new.items) }
 {
     if absent {
-        return push_absent(alloc, out, case, pages);
+        return push_absent(alloc, bench, out, vector);
     }
     Ok(())
 }
 
 /// The lines of a case: its vector, and where asked for the same with one or two of its pages absent.
-pub(crate) fn lines_of(alloc: Global, case: Case, absent: bool) -> Result<Vec<u8>, NoVector>
-    ensures { IfOk result (λ text. AreVectors 1 text.items) }
+pub(crate) fn lines_of(
+    alloc: Global,
+    bench: &mut Workbench,
+    case: Case,
+    absent: bool,
+) -> Result<Vec<u8>, NoVector>
+    ensures { IfOk result (λ text. IsGroup case.opcode case.mode absent text.items) }
 {
+    let vector = whole(alloc, bench, case)?;
     let mut text = Vec::new(alloc);
-    let whole = push_told(alloc, &mut text, case, &[])?;
-    push_asked(alloc, &mut text, case, absent, whole.touched.as_slice())?;
+    push_line(&mut text, &vector)?;
+    push_asked(alloc, bench, &mut text, absent, &vector)?;
     Ok(text)
 }

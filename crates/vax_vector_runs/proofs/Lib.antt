@@ -1,5 +1,4 @@
 pub mod Order
-pub mod Keeping
-pub mod Starting
+pub mod Same
 pub mod Settling
 pub mod Telling

@@ -22,14 +22,14 @@ use Rattle.vax_cpu.specs.Attempt.{Attempted, IsAsBefore, IsAt, LeavesMemory, fla
 use Rattle.vax_vectors.specs.declared.vector.Cell.{Cell}
 use Rattle.vax_vectors.specs.declared.vector.End.{End}
 use Rattle.vax_vectors.specs.declared.vector.Ends.TheVariants as told
-use Rattle.vax_vectors.specs.Truth.{AreInOrder, EndsBy, IsAsBefore as IsUnchanged, IsLeft, IsThere, bytes_after, first_out, is_among, page_missed}
-use Rattle.vax_vector_runs.specs.declared.recorder.Recorder.{Recorder}
+use Rattle.vax_vectors.specs.Truth.{AreInOrder, EndsBy, IsAsBefore as IsUnchanged, IsLeft, IsThere, bytes_after, first_out, is_among, page_missed, pages_after}
+use Rattle.vax_vector_memory.specs.declared.recorder.Recorder.{Recorder}
 use Rattle.vax_vector_runs.specs.declared.settle.Settled.{Settled}
 use Rattle.vax_vector_runs.specs.Attempts.{IsReady, IsRecord, IsSettled, IsSettling}
 use Rattle.vax_vector_runs.specs.Ends.{EndsWell, IsCell, IsStart}
-use Rattle.vax_vector_runs.specs.Record.{IsKept, Since, view_of}
-use Rattle.vax_vector_runs.specs.Settled.{seen}
-use Rattle.vax_vector_runs.proofs.Keeping.{since_refl}
+use Rattle.vax_vector_memory.specs.Record.{IsKept, Since, view_of}
+use Rattle.vax_vector_memory.specs.Seen.{seen}
+use Rattle.vax_vector_memory.proofs.Keeping.{since_refl}
 use Rattle.vax_vector_runs.proofs.Order.{IsBegun, among-push, begun_all, begun_more, begun_none}
 
 -- the step's first pages are found, and the processor is still at its start
@@ -148,14 +148,16 @@ all_there touched byte memory same cells all = every (IsCell touched byte) (IsTh
 
 -- the memory that a step or a part leaves
 left : {m : Flat} {space : List Area} {touched : List ℕ} {memory : Recorder} (end : End) (now : List Area) → LeavesMemory (seen space m.memory touched) (At m) now (view_of memory)
-    → IsRecord m memory → layout m.memory ≡ layout space → end.touches.items ≡ memory.touches.items → All (IsCell touched (view_of memory).byte) end.ram.items → IsLeft m touched end now
-left {m} {space} {touched} {memory} end now leaves record_of areas same cells =
+    → IsRecord m memory → layout m.memory ≡ layout space → end.touches.items ≡ memory.touches.items → pages_after [] end.touches.items ≡ touched
+    → All (IsCell touched (view_of memory).byte) end.ram.items → IsLeft m touched end now
+left {m} {space} {touched} {memory} end now leaves record_of areas same pages cells =
     let there : (addr : ℕ) → is_among touched (page_of addr) ≡ true → (view_of memory).byte addr ≡ byte_at now addr =
     λ addr here. leaves.stands.bytes addr (ap (λ (r : ℕ → Bool). r (page_of addr)) leaves.resident ∙ here) in record {
       areas = leaves.stands.areas ∙ (ap layout leaves.areas ∙ sym areas);
       inside = λ addr here. sym (there addr here) ∙ (ap (λ (f : ℕ → ℕ). f addr) record_of.bytes ∙ ap (λ ts. bytes_after (byte_at m.memory) ts addr) (sym same));
       outside = leaves.absent;
       accesses = subst (λ ts. AreInOrder (byte_at m.memory) ts) (sym same) record_of.order;
+      pages = pages;
       cells = all_there touched (view_of memory).byte now there end.ram.items cells;
     }
 
@@ -169,19 +171,20 @@ module _ {m : Flat} {space : List Area} {s : Settled} {cpu : Cpu} {memory : Reco
 
   -- a step that was completed
   pub step_ends : (end : End) (sent : Option ℕ) → s.attempt ≡ attempt.Step sent → end.core ≡ cpu.core → end.ends ≡ told.Step sent → IsTrue memory.complete × (end.touches.items ≡ memory.touches.items)
-      → All (IsCell s.touched.items (view_of memory).byte) end.ram.items → EndsWell m s.touched.items end
-  step_ends end sent is core_is ends kept cells =
+      → pages_after [] end.touches.items ≡ s.touched.items → All (IsCell s.touched.items (view_of memory).byte) end.ram.items → EndsWell m s.touched.items end
+  step_ends end sent is core_is ends kept pages cells =
       let a = subst (λ (x : Attempt). Attempted (seen space m.memory s.touched.items) (At m) x cpu (view_of memory)) is all.attempted in
       let goes = a.1.step m start.ending refl ∙ (same_flat a.1.memory (with_byte_sent m.output sent) ∙ ap (λ (c : Core). record m { core = c; memory = a.1.memory; output = with_byte_sent m.output sent }) (sym core_is)) in
       record {
         found = ap page_missed ends;
-        ends = subst (λ e. EndsBy m s.touched.items end e) (sym ends) (a.1.memory, goes, left end a.1.memory a.1.leaves (all.kept kept.0) all.areas kept.1 cells);
+        ends = subst (λ e. EndsBy m s.touched.items end e) (sym ends) (a.1.memory, goes, left end a.1.memory a.1.leaves (all.kept kept.0) all.areas kept.1 pages cells);
       }
 
   -- a part of a step
   pub part_ends : (end : End) (open_one : Open) → s.attempt ≡ attempt.Part → cpu.latch ≡ Some open_one → end.core ≡ cpu.core → end.ends ≡ told.Part open_one.opcode open_one.units
-      → IsTrue memory.complete × (end.touches.items ≡ memory.touches.items) → All (IsCell s.touched.items (view_of memory).byte) end.ram.items → EndsWell m s.touched.items end
-  part_ends end open_one is latch core_is ends kept cells =
+      → IsTrue memory.complete × (end.touches.items ≡ memory.touches.items) → pages_after [] end.touches.items ≡ s.touched.items
+      → All (IsCell s.touched.items (view_of memory).byte) end.ram.items → EndsWell m s.touched.items end
+  part_ends end open_one is latch core_is ends kept pages cells =
       let a = subst (λ (x : Attempt). Attempted (seen space m.memory s.touched.items) (At m) x cpu (view_of memory)) is all.attempted in
       let q = a.1.next in
       let held : Some open_one ≡ Some (record { opcode = q.opcode; start = q.start; units = q.units }) = sym latch ∙ a.1.at.open_one in
@@ -195,7 +198,7 @@ module _ {m : Flat} {space : List Area} {s : Settled} {cpu : Cpu} {memory : Reco
       ∙ ap (λ (o : Open). record { opcode = o.opcode; start = m.core; units = o.units; now = record m { core = end.core; memory = q.now.memory } }) (sym one)))) in
       record {
         found = ap page_missed ends;
-        ends = subst (λ e. EndsBy m s.touched.items end e) (sym ends) (q.now.memory, goes, left end q.now.memory a.1.leaves (all.kept kept.0) all.areas kept.1 cells);
+        ends = subst (λ e. EndsBy m s.touched.items end e) (sym ends) (q.now.memory, goes, left end q.now.memory a.1.leaves (all.kept kept.0) all.areas kept.1 pages cells);
       }
 
   -- a step that ends the run

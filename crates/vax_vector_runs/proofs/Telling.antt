@@ -2,8 +2,6 @@
 use Rattle.std.proofs.Common.{◌≡◌, ℕ, Some, None, List, [], map, refl, sym, ap, subst, ◌∙◌, arith}
 use Rattle.std.specs.Prelude.{All}
 use Rattle.vax_word.specs.declared.Core.{Core}
-use Rattle.vax_flat.specs.Memory.{IsWhole}
-use Rattle.vax_flat.specs.Port.{layout}
 use Rattle.vax_flat.specs.Step.{Flat}
 use Rattle.vax_cpu.specs.declared.cpu.Cpu.{Cpu}
 use Rattle.vax_cpu.specs.Attempt.{flat_of}
@@ -12,29 +10,30 @@ use Rattle.vax_vectors.specs.declared.vector.End.{End}
 use Rattle.vax_vectors.specs.declared.vector.Ends.TheVariants as told
 use Rattle.vax_vectors.specs.declared.vector.Page.{Page}
 use Rattle.vax_vectors.specs.declared.vector.Start.{Start}
-use Rattle.vax_vectors.specs.Truth.{AreTouchedInOrder, EndsBy, IsAsBefore, IsThere, TellsStep, area_of, first_out, machine_of, memory_of, page_missed, resident_of}
-use Rattle.vax_vector_runs.specs.declared.recorder.Recorder.{Recorder}
+use Rattle.vax_vectors.specs.Truth.{AreTouchedInOrder, EndsBy, IsAsBefore, IsThere, TellsStep, first_out, machine_of, memory_of, page_missed, resident_of}
+use Rattle.vax_vector_memory.specs.declared.recorder.Recorder.{Recorder}
 use Rattle.vax_vector_runs.specs.Attempts.{IsReady}
 use Rattle.vax_vector_runs.specs.Ends.{EndsWell, IsStart}
-use Rattle.vax_vector_runs.specs.Record.{view_of}
-use Rattle.vax_vector_runs.specs.Settled.{seen}
+use Rattle.vax_vector_memory.specs.Pages.{guarded}
+use Rattle.vax_vector_memory.specs.Record.{view_of}
+use Rattle.vax_vector_memory.specs.Seen.{seen}
+use Rattle.vax_vector_memory.proofs.Filling.{memory_areas, memory_whole}
 
 -- a new processor is where the machine is
 pub ready_first : (start : Start) (cpu : Cpu) (memory : Recorder) (pages : List Page) (ram : List Cell) → pages ≡ start.pages.items → ram ≡ start.ram.items
     → cpu.core ≡ start.core → cpu.term.input.items ≡ [] → cpu.term.place ≡ 0 → cpu.latch ≡ None
-    → view_of memory ≡ seen (map (area_of ram) pages) (memory_of pages ram) [] → layout (memory_of pages ram) ≡ layout (map (area_of ram) pages) → IsWhole (memory_of pages ram)
-    → IsReady (machine_of start) (map (area_of start.ram.items) start.pages.items) [] cpu memory
-ready_first start cpu memory pages ram same_pages same_ram core input place closed view areas whole = record {
+    → view_of memory ≡ seen (map guarded pages) (memory_of pages ram) []
+    → IsReady (machine_of start) (map guarded start.pages.items) [] cpu memory
+ready_first start cpu memory pages ram same_pages same_ram core input place closed view = record {
   machine =
       ap (λ (c : Core). record (flat_of cpu (machine_of start).memory []) { core = c }) core
       ∙ (ap (λ (i : List ℕ). record (machine_of start) { input = i; taken = cpu.term.place }) input
       ∙ ap (λ (t : ℕ). record (machine_of start) { taken = t }) place);
   closed = closed;
-  view = view ∙ (ap (λ (r : List Cell). seen (map (area_of r) pages) (memory_of pages r) []) same_ram
-      ∙ ap (λ (ps : List Page). seen (map (area_of start.ram.items) ps) (memory_of ps start.ram.items) []) same_pages);
-  areas = subst (λ (ps : List Page). layout (memory_of ps start.ram.items) ≡ layout (map (area_of start.ram.items) ps)) same_pages
-      (subst (λ (r : List Cell). layout (memory_of pages r) ≡ layout (map (area_of r) pages)) same_ram areas);
-  whole = subst (λ (ps : List Page). IsWhole (memory_of ps start.ram.items)) same_pages (subst (λ (r : List Cell). IsWhole (memory_of pages r)) same_ram whole);
+  view = view ∙ (ap (λ (r : List Cell). seen (map guarded pages) (memory_of pages r) []) same_ram
+      ∙ ap (λ (ps : List Page). seen (map guarded ps) (memory_of ps start.ram.items) []) same_pages);
+  areas = memory_areas start.pages.items start.ram.items;
+  whole = memory_whole start.pages.items start.ram.items;
 }
 
 pub start_of : (start : Start) → IsStart (machine_of start) start.core

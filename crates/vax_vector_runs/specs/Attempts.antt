@@ -10,10 +10,10 @@ use Rattle.vax_cpu.specs.declared.cpu.Attempt.TheVariants.{Step, Part, Absent, E
 use Rattle.vax_cpu.specs.declared.cpu.Cpu.{Cpu}
 use Rattle.vax_cpu.specs.Attempt.{Attempted, flat_of}
 use Rattle.vax_vectors.specs.Truth.{AreInOrder, AreTouchedInOrder, bytes_after}
-use Rattle.vax_vector_runs.specs.declared.recorder.Recorder.{Recorder}
+use Rattle.vax_vector_memory.specs.declared.recorder.Recorder.{Recorder}
 use Rattle.vax_vector_runs.specs.declared.settle.Settled.{Settled}
-use Rattle.vax_vector_runs.specs.Record.{view_of}
-use Rattle.vax_vector_runs.specs.Settled.{seen}
+use Rattle.vax_vector_memory.specs.Record.{view_of}
+use Rattle.vax_vector_memory.specs.Seen.{seen}
 
 -- these pages are resident, and no instruction is open
 pub record IsReady (m : Flat) (space : List Area) (touched : List ℕ) (cpu : Cpu) (memory : Recorder) : Type 0 where

@@ -1,4 +1,2 @@
-pub mod Record
-pub mod Settled
 pub mod Attempts
 pub mod Ends

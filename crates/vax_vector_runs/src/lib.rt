@@ -2,10 +2,9 @@
 //! written, again and again, until each page that it needs is resident.
 #![tactic(auto)]
 
-mod recorder;
 mod run;
 mod settle;
 mod start;
 
-pub use run::vector_of;
-pub use start::NoVector;
+pub use run::Workbench;
+pub use vax_vector_memory::NoVector;

@@ -1,21 +1,21 @@
 //! Vectors.
-ghost use Rattle.std.specs.Prelude.{◌≡◌, List, ℕ, IfOk, None, All, [], true, IsTrue};
+ghost use Rattle.std.specs.Prelude.{◌≡◌, List, ℕ, IfOk, OnOk, None, All, [], true, IsTrue};
 ghost use Rattle.vax_space.specs.declared.Area.{Area};
 ghost use Rattle.vax_space.specs.Reference.{page_of};
 ghost use Rattle.vax_flat.specs.Step.{Flat};
-ghost use Rattle.vax_vectors.specs.Truth.{EndsBy, IsTold, first_out, is_among, machine_of, page_missed, resident_of};
+ghost use Rattle.vax_vectors.specs.Truth.{EndsBy, IsTold, first_out, is_among, machine_of, page_missed, pages_after, resident_of, with_pages};
 ghost use Rattle.vax_vector_runs.specs.Attempts.{IsSettled};
 ghost use Rattle.vax_vector_runs.specs.Ends.{EndsWell, IsCell, IsStart};
-ghost use Rattle.vax_vector_runs.specs.Record.{view_of};
+ghost use Rattle.vax_vector_memory.specs.Record.{view_of};
 
-use crate::recorder::Recorder;
 use crate::settle::{Settled, settle};
-use crate::start::{NoVector, recorder_of};
+use crate::start::prepare;
 use std::alloc::Global;
 use vax_cpu::{Attempt, Cpu};
 use vax_space::{NoMemory, PAGE_BYTES};
 use vax_undo::Term;
-use vax_vectors::{Cell, End, Ends, Start, Touch, Vector};
+use vax_vector_memory::{NoVector, Recorder};
+use vax_vectors::{Cell, End, Ends, Page, Start, Touch, Vector};
 use vax_word::Core;
 
 /// Whether a page is one of these.
@@ -61,6 +61,34 @@ fn addresses_of(alloc: Global, touches: &[Touch]) -> Result<Vec<u32>, NoMemory> 
     Ok(addresses)
 }
 
+/// Appends the pages of a range that aren't there yet.
+#[tactic(auto, using(crate::proofs::Same::pages_step, crate::proofs::Same::pages_end))]
+fn add_pages(pages: &mut Vec<u32>, addr: u32, len: usize) -> Result<(), NoMemory>
+    ensures { OnOk result (pages.new.items ≡ with_pages pages.old.items addr len) }
+{
+    let mut at = addr;
+    for _ in 0..len {
+        let page = at / PAGE_BYTES;
+        if !is_among(pages, page) && pages.push(page).is_err() {
+            return Err(NoMemory);
+        }
+        at = at.wrapping_add(1);
+    }
+    Ok(())
+}
+
+/// The pages that are accessed, each once, in the order in which they first are.
+#[tactic(auto, unfolding(vax_vectors::specs::Truth::pages_after))]
+fn pages_of(alloc: Global, touches: &[Touch]) -> Result<Vec<u32>, NoMemory>
+    ensures { IfOk result (λ pages. pages.items ≡ pages_after [] touches.now) }
+{
+    let mut pages = Vec::new(alloc);
+    for touch in touches {
+        add_pages(&mut pages, touch.addr, touch.bytes.len())?;
+    }
+    Ok(pages)
+}
+
 /// The bytes at those of these addresses that lie in pages that a step touches.
 fn cells_of(
     alloc: Global,
@@ -99,24 +127,36 @@ fn unchanged(alloc: Global, core: Core, ends: Ends) -> End
     }
 }
 
-/// The end of a step that reads and writes.
+/// Whether two lists of numbers are the same.
+fn same_numbers(these: &[u32], those: &[u32]) -> bool
+    ensures { result ≡ true → these.now ≡ those.now }
+{
+    these == those
+}
+
+/// The end of a step that reads and writes, where it does so in the pages that it touches.
 fn changed(
     alloc: Global,
     core: Core,
-    memory: Recorder,
+    memory: &mut Recorder,
     touched: &[u32],
     ends: Ends,
 ) -> Result<End, NoVector>
     ensures core { IfOk result (λ end. end.core ≡ core) }
     ensures ends { IfOk result (λ end. end.ends ≡ ends) }
     ensures kept { IfOk result
-        (λ end. IsTrue memory.complete × (end.touches.items ≡ memory.touches.items)) }
+        (λ end. IsTrue memory.old.complete × (end.touches.items ≡ memory.old.touches.items)) }
+    ensures pages { IfOk result (λ end. pages_after [] end.touches.items ≡ touched.now) }
     ensures ram { IfOk result
-        (λ end. All (IsCell touched.now (view_of memory).byte) end.ram.items) }
+        (λ end. All (IsCell touched.now (view_of memory.old).byte) end.ram.items) }
 {
     let addresses = addresses_of(alloc, memory.touches())?;
-    let ram = cells_of(alloc, &addresses, &memory, touched)?;
-    match memory.into_touches() {
+    let ram = cells_of(alloc, &addresses, memory, touched)?;
+    let pages = pages_of(alloc, memory.touches())?;
+    if !same_numbers(&pages, touched) {
+        return Err(NoVector::Unsettled);
+    }
+    match memory.take_touches() {
         Some(touches) => Ok(End {
             core,
             ram,
@@ -132,11 +172,11 @@ fn end_of(
     alloc: Global,
     start: Core,
     cpu: &Cpu,
-    memory: Recorder,
+    memory: &mut Recorder,
     settled: &Settled,
 ) -> Result<End, NoVector>
     requires { cpu.now.term.input.items ≡ [] }
-    ensures { (m : Flat) → (space : List Area) → IsSettled m space settled.now cpu.now memory
+    ensures { (m : Flat) → (space : List Area) → IsSettled m space settled.now cpu.now memory.old
         → IsStart m start
         → IfOk result (EndsWell m settled.now.touched.items) }
 {
@@ -158,25 +198,42 @@ fn end_of(
     }
 }
 
-/// The vector of the first part of a step with this start, in a machine with no input. It fails where memory is
-/// refused, or where the pages are no space.
-pub fn vector_of(alloc: Global, name: Vec<u8>, start: Start) -> Result<Vector, NoVector>
-    ensures told { IfOk result IsTold }
-    ensures start { IfOk result (λ v. v.start ≡ start) }
-    ensures name { IfOk result (λ v. v.name ≡ name) }
-{
-    let mut memory = recorder_of(alloc, &start.pages, &start.ram)?;
-    let mut cpu = Cpu::new(start.core, Term::new(Vec::new(alloc)));
-    let most = start.pages.len() + 1;
-    let settled = settle(alloc, &mut cpu, &mut memory, most)?;
-    let end = match missed(&settled.touched, &start.absent) {
-        Some(page) => unchanged(alloc, start.core, Ends::Absent(page)),
-        None => end_of(alloc, start.core, &cpu, memory, &settled)?,
-    };
-    Ok(Vector {
-        name,
-        start,
-        touched: settled.touched,
-        end,
-    })
+/// Where vectors are made: a memory of pages, which is made once and filled anew for each vector.
+#[derive(Drop)]
+pub struct Workbench {
+    alloc: Global,
+    memory: Recorder,
+}
+
+impl Workbench {
+    /// A workbench for vectors with these pages. It fails where memory is refused, or where the pages are no space.
+    pub fn new(alloc: Global, pages: &[Page]) -> Result<Workbench, NoVector> {
+        let memory = Recorder::new(alloc, pages)?;
+        Ok(Workbench { alloc, memory })
+    }
+
+    /// The vector of the first part of a step with this start, in a machine with no input. It fails where memory is
+    /// refused, or where the pages are no space. It takes longer where the pages are others than the last vector's.
+    pub fn vector_of(&mut self, name: Vec<u8>, start: Start) -> Result<Vector, NoVector>
+        ensures told { IfOk result IsTold }
+        ensures start { IfOk result (λ v. v.start ≡ start) }
+        ensures name { IfOk result (λ v. v.name ≡ name) }
+    {
+        let alloc = self.alloc;
+        let memory = &mut self.memory;
+        prepare(alloc, memory, &start.pages, &start.ram)?;
+        let mut cpu = Cpu::new(start.core, Term::new(Vec::new(alloc)));
+        let most = start.pages.len() + 1;
+        let settled = settle(alloc, &mut cpu, memory, most)?;
+        let end = match missed(&settled.touched, &start.absent) {
+            Some(page) => unchanged(alloc, start.core, Ends::Absent(page)),
+            None => end_of(alloc, start.core, &cpu, memory, &settled)?,
+        };
+        Ok(Vector {
+            name,
+            start,
+            touched: settled.touched,
+            end,
+        })
+    }
 }

@@ -4,10 +4,9 @@ ghost use Rattle.vax_space.specs.declared.Area.{Area};
 ghost use Rattle.vax_flat.specs.Step.{Flat};
 ghost use Rattle.vax_vector_runs.specs.Attempts.{IsReady, IsSettled};
 
-use crate::recorder::Recorder;
-use crate::start::NoVector;
 use std::alloc::Global;
 use vax_cpu::{Attempt, Cpu};
+use vax_vector_memory::{NoVector, Recorder};
 
 /// The pages that a step touches, in order, and what the attempt with all of them resident came to.
 #[derive(Drop)]

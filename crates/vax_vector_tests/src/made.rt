@@ -1,15 +1,20 @@
 //! Steps that are chosen by opcode, seed and number.
 use std::alloc::Global;
 use std::test::Fail;
-use vax_vector_cases::{Case, start_of};
-use vax_vector_runs::vector_of;
+use vax_vector_cases::{Case, PAGES, start_of};
+use vax_vector_runs::Workbench;
 use vax_vectors::{Ends, Vector};
 
 /// The vector of a case.
-fn made(alloc: Global, case: Case, absent: Vec<u32>) -> Result<Vector, Fail> {
+fn made(
+    alloc: Global,
+    bench: &mut Workbench,
+    case: Case,
+    absent: Vec<u32>,
+) -> Result<Vector, Fail> {
     let mut start = start_of(alloc, case)?;
     start.absent = absent;
-    Ok(vector_of(alloc, Vec::new(alloc), start)?)
+    Ok(bench.vector_of(Vec::new(alloc), start)?)
 }
 
 /// The pages of what a step read and wrote, each once, in the order in which they come.
@@ -30,6 +35,7 @@ fn pages_of(alloc: Global, told: &Vector) -> Result<Vec<u32>, Fail> {
 #[test]
 fn what_is_kept_goes_through_the_pages_in_order(rt: HostRuntime) -> Result<(), Fail> {
     let alloc = rt.alloc();
+    let mut bench = Workbench::new(alloc, &PAGES)?;
     let mut completed = 0u32;
     for opcode in 0..=255 {
         let case = Case {
@@ -38,7 +44,7 @@ fn what_is_kept_goes_through_the_pages_in_order(rt: HostRuntime) -> Result<(), F
             number: u32::from(opcode / 3),
             mode: opcode % 4,
         };
-        let told = made(alloc, case, Vec::new(alloc))?;
+        let told = made(alloc, &mut bench, case, Vec::new(alloc))?;
         if let Ends::Step(_) | Ends::Part { .. } = told.end.ends {
             completed = completed.wrapping_add(1);
             assert_eq!(rt;
@@ -55,6 +61,7 @@ fn what_is_kept_goes_through_the_pages_in_order(rt: HostRuntime) -> Result<(), F
 #[test]
 fn each_touched_page_may_be_absent(rt: HostRuntime) -> Result<(), Fail> {
     let alloc = rt.alloc();
+    let mut bench = Workbench::new(alloc, &PAGES)?;
     for eighth in 0..32 {
         let case = Case {
             opcode: 8 * eighth + eighth % 8,
@@ -62,9 +69,9 @@ fn each_touched_page_may_be_absent(rt: HostRuntime) -> Result<(), Fail> {
             number: 3,
             mode: 0,
         };
-        let told = made(alloc, case, Vec::new(alloc))?;
+        let told = made(alloc, &mut bench, case, Vec::new(alloc))?;
         for page in &told.touched {
-            let without = made(alloc, case, Vec::from_array(alloc, [*page])?)?;
+            let without = made(alloc, &mut bench, case, Vec::from_array(alloc, [*page])?)?;
             assert!(rt;
                 without.end.ends == Ends::Absent(*page),
                 "opcode {} page {page}",

@@ -2,7 +2,7 @@
 use std::alloc::Global;
 use std::test::Fail;
 use vax_flat::Ending;
-use vax_vector_runs::vector_of;
+use vax_vector_runs::Workbench;
 use vax_vectors::{Cell, Ends, Page, Start, Vector, push_vector};
 use vax_word::{Core, Psl};
 
@@ -49,7 +49,8 @@ fn vector(alloc: Global, core: Core, ram: Vec<Cell>, absent: Vec<u32>) -> Result
         absent,
         ram,
     };
-    Ok(vector_of(alloc, b"name \"1\"".to_vec(alloc)?, start)?)
+    let mut bench = Workbench::new(alloc, &pages)?;
+    Ok(bench.vector_of(b"name \"1\"".to_vec(alloc)?, start)?)
 }
 
 /// MOVL (R1),(R2) over the end of its source's page.
@@ -74,7 +75,7 @@ fn a_move_is_told_whole(rt: HostRuntime) -> Result<(), Fail> {
 \"stacks\":[0,1,2,3,4],\"sisr\":0,\"iccs\":0,\"clock\":0,\
 \"ram\":[[512,208],[513,97],[514,98],[528,1],[529,2],[530,3],[531,132],[1534,1],[1535,2],[1536,3],[1537,132]]},\
 \"touched\":[512,1024,1536],\"accesses\":[[\"r\",512,1,[208]],[\"r\",513,1,[97]],[\"r\",1534,4,[1,2,3,132]],[\"r\",514,1,[98]],\
-[\"w\",528,4,[1,2,3,132]]],\"ends\":[\"step\"]}\n";
+[\"w\",528,4,[1,2,3,132]]],\"ends\":[\"step\"],\"profile\":false}\n";
     assert_eq!(rt; text.as_slice(), expected.as_slice());
     Ok(())
 }

@@ -1,6 +1,6 @@
 -- The text of a vector: one JSON object in a line. The number of its fields and their order are fixed, numbers are decimal, and no space is
 -- between its tokens.
-use Rattle.std.specs.Prelude.{ℕ, ◌*◌, suc, zero, nat_lt, ◌==◌, ◌||◌, if◌then◌else◌, List, [], ◌∷◌, ◌++◌, codes, decimal, None, Some, length}
+use Rattle.std.specs.Prelude.{ℕ, ◌*◌, suc, zero, nat_lt, ◌==◌, ◌||◌, if◌then◌else◌, List, [], ◌∷◌, ◌++◌, Bool, true, false, codes, decimal, None, Some, length}
 use Rattle.std.specs.List.{flat_map}
 use Rattle.vax_word.specs.declared.Core.{Core}
 use Rattle.vax_space.specs.declared.Access.{Access}
@@ -15,6 +15,7 @@ use Rattle.vax_vectors.specs.declared.vector.Ends.TheVariants.{Step, Part, Absen
 use Rattle.vax_vectors.specs.declared.vector.Start.{Start}
 use Rattle.vax_vectors.specs.declared.vector.End.{End}
 use Rattle.vax_vectors.specs.declared.vector.Vector.{Vector}
+use Rattle.vax_vectors.specs.Choices.{rests_on_choice}
 
 -- a comma before each item but the first
 unfoldable pub comma_before : ℕ → List ℕ
@@ -102,7 +103,13 @@ touched_text v =
 unfoldable pub states_text : Vector → List ℕ
 states_text v = codes "," ++ initial_text v.start ++ codes "," ++ final_text v.end ++ codes ","
 
+-- whether its outcome rests on this machine's choice
+abbrev pub truth : Bool → List ℕ
+truth true = codes "true"
+truth false = codes "false"
+
 -- the line of a vector
 unfoldable pub json_text : Vector → List ℕ
 json_text v =
-    codes "{\"name\":" ++ string v.name.items ++ states_text v ++ touched_text v ++ codes ",\"ends\":" ++ ends_text v.end.ends ++ codes "}\n"
+    codes "{\"name\":" ++ string v.name.items ++ states_text v ++ touched_text v ++ codes ",\"ends\":" ++ ends_text v.end.ends
+    ++ codes ",\"profile\":" ++ truth (rests_on_choice v) ++ codes "}\n"

@@ -1,12 +1,12 @@
 -- What a vector says, by the flat machine.
-use Rattle.std.specs.Prelude.{◌≡◌, ℕ, ◌+◌, ◌*◌, Bool, true, false, not, ◌==◌, if◌then◌else◌, Option, Some, None, List, [], ◌∷◌, map, length, All}
+use Rattle.std.specs.Prelude.{◌≡◌, ℕ, zero, suc, ◌+◌, ◌*◌, ◌++◌, Bool, true, false, not, ◌==◌, if◌then◌else◌, Option, Some, None, List, [], ◌∷◌, map, length, All}
 use Rattle.std.specs.List.{range_with_len}
 use Rattle.vax_word.specs.declared.Core.{Core}
 use Rattle.vax_space.specs.declared.Access.{Access}
 use Rattle.vax_space.specs.declared.Access.TheVariants.{Read, Write}
 use Rattle.vax_space.specs.declared.Area.{Area}
 use Rattle.vax_space.specs.Reference.{page_of}
-use Rattle.vax_flat.specs.Memory.{byte_at, bytes_from}
+use Rattle.vax_flat.specs.Memory.{after, byte_at, bytes_from}
 use Rattle.vax_flat.specs.Outcome.{first_missing}
 use Rattle.vax_flat.specs.Parts.{Leaves, At, touches_at, turn}
 use Rattle.vax_flat.specs.Port.{layout, put_run}
@@ -87,17 +87,29 @@ AreInOrder byte [] = Unit {0}
 AreInOrder byte (t ∷ ts) =
     GivesWhatIsThere t.access byte t.addr t.bytes.items × AreInOrder (after_access t.access byte t.addr t.bytes.items) ts
 
+-- these pages, and behind them those of a range that aren't among them, each once
+unfoldable pub with_pages : List ℕ → ℕ → ℕ → List ℕ
+with_pages pages addr zero = pages
+with_pages pages addr (suc len) =
+    with_pages (if is_among pages (page_of addr) then pages else pages ++ page_of addr ∷ []) (after addr) len
+
+-- these pages, and behind them those of these accesses that aren't among them, in the order in which they are first accessed
+unfoldable pub pages_after : List ℕ → List Touch → List ℕ
+pages_after pages [] = pages
+pages_after pages (t ∷ ts) = pages_after (with_pages pages t.addr (length t.bytes.items)) ts
+
 -- a byte that is told of a memory
 abbrev pub IsThere : List Area → Cell → Type 0
 IsThere memory cell = byte_at memory cell.addr ≡ cell.byte
 
 -- The memory that a step leaves: in the pages that it touches the bytes after its accesses, and in the others those at the start. The bytes that are
--- told of it are its bytes.
+-- told of it are its bytes. Its accesses come by the pages that it touches, in that order.
 pub record IsLeft (m : Flat) (touched : List ℕ) (end : End) (memory : List Area) : Type 0 where
   pub areas : layout memory ≡ layout m.memory
   pub inside : (addr : ℕ) → is_among touched (page_of addr) ≡ true → byte_at memory addr ≡ bytes_after (byte_at m.memory) end.touches.items addr
   pub outside : (addr : ℕ) → is_among touched (page_of addr) ≡ false → byte_at memory addr ≡ byte_at m.memory addr
   pub accesses : AreInOrder (byte_at m.memory) end.touches.items
+  pub pages : pages_after [] end.touches.items ≡ touched
   pub cells : All (IsThere memory) end.ram.items
 
 -- the machine with these registers and this memory

@@ -1,7 +1,8 @@
 //! The text of vectors.
 ghost use Rattle.std.specs.Prelude.{◌≡◌, ◌∷◌, [], ◌++◌, ◌*◌, ◌<◌, ◌^◌, ℕ, List, OnOk, decimal};
-ghost use Rattle.vax_vectors.specs.Text.{address_text, array, cell_text, character, comma_before, ending_text, ends_text, final_text, initial_text, json_text, letter, memory_text, page_text, registers, states_text, string, touch_text, touched_text};
+ghost use Rattle.vax_vectors.specs.Text.{address_text, array, cell_text, character, comma_before, ending_text, ends_text, final_text, initial_text, json_text, letter, memory_text, page_text, registers, states_text, string, touch_text, touched_text, truth};
 
+use crate::choices::rests_on_choice;
 use crate::vector::{Cell, End, Ends, Page, Start, Touch, Vector};
 use itoa::Buffer;
 use std::alloc::AllocError;
@@ -283,7 +284,16 @@ pub fn push_vector(out: &mut Vec<u8>, v: &Vector) -> Result<(), AllocError>
     push_touched(out, v)?;
     out.extend_from_slice(b",\"ends\":")?;
     push_ends(out, v.end.ends)?;
+    out.extend_from_slice(b",\"profile\":")?;
+    out.extend_from_slice(truth(rests_on_choice(v)))?;
     out.extend_from_slice(b"}\n")
+}
+
+/// The text of a truth.
+fn truth(is: bool) -> &'static [u8]
+    ensures { result.now ≡ truth is }
+{
+    if is { b"true" } else { b"false" }
 }
 
 /// Appends what a step begins with and what it leaves.

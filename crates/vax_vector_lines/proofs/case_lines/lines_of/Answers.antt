@@ -1,6 +1,7 @@
-use Rattle.std.proofs.Common.{arith}
-use Rattle.vax_vector_lines.proofs.More.{all_lines, more_then}
+use Rattle.vax_vector_lines.proofs.More.{one_group}
 use Rattle.vax_vector_lines.proofs.case_lines.lines_of.Goals as goal
 
 pub returns : goal.returns
-returns c = all_lines 1 _ _ c.new-text.ensures.items (more_then 1 0 1 _ _ _ (omega arith) c.in_ok-whole.ensures c.in_ok-push_asked.ensures)
+returns c =
+    one_group c.args.case.opcode c.args.case.mode c.args.absent c.in_ok-vector.vector c.new-text.result.items c.push_line.new.out.items c.push_asked.new.out.items
+    c.in_ok-vector.ensures.told c.in_ok-vector.ensures.of c.new-text.ensures.items c.in_ok-push_line.ensures c.in_ok-push_asked.ensures

@@ -3,7 +3,7 @@ use Rattle.vax_flat.specs.Parts.{At}
 use Rattle.vax_undo.proofs.PlainMemory.{pushed_on}
 use Rattle.vax_cpu.specs.declared.cpu.Attempt.TheVariants as attempt
 use Rattle.vax_vector_runs.specs.declared.settle.Settled.{Settled}
-use Rattle.vax_vector_runs.specs.Record.{view_of}
+use Rattle.vax_vector_memory.specs.Record.{view_of}
 use Rattle.vax_vector_runs.proofs.Settling.{at_start, going_first, going_on, is_settling, ready_again, settled, tried}
 use Rattle.vax_vector_runs.proofs.settle.settle.Goals as goal
 

@@ -1,0 +1,4 @@
+pub mod Keeping
+pub mod Guarding
+pub mod Filling
+pub mod Hiding

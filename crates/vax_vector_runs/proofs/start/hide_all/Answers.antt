@@ -1,9 +1,0 @@
-use Rattle.vax_vector_runs.specs.Record.{view_of}
-use Rattle.vax_vector_runs.proofs.Starting.{hidden_more, resident_alone}
-use Rattle.vax_vector_runs.proofs.start.hide_all.Goals as goal
-
-pub loop-page-preserved : goal.loop-page-preserved
-loop-page-preserved c = record {
-  left = hidden_more c.args.pages.now c.loop-page.page-index _ (view_of c.loop-page.memory) (view_of c.hide.new.self) c.loop-page-test.true c.loop-page.invariant.left c.hide.ensures;
-  same = resident_alone (view_of c.args.memory.now) (view_of c.loop-page.memory) (view_of c.hide.new.self) _ _ c.loop-page.invariant.same c.hide.ensures;
-}

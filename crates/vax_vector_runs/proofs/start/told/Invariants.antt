@@ -1,7 +1,0 @@
-use Rattle.std.proofs.Common.{◌≡◌, drop}
-use Rattle.vax_vectors.specs.Truth.{told}
-use Rattle.vax_vector_runs.proofs.start.told.Given as goal
-
--- what is told by the cells from here on is what is told by all
-abbrev pub invariant-loop-cell : goal.invariant-loop-cell
-invariant-loop-cell l = told (drop l.cell-index l.ram) l.addr ≡ told l.ram l.addr
