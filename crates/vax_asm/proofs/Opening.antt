@@ -1,5 +1,6 @@
 -- A walk by single steps is one by the statements that they open.
 use Rattle.std.proofs.Common.{◌≡◌, ℕ, zero, suc, List, [], Option, None, refl}
+use Rattle.vax_dialect.specs.declared.Dialect.{Dialect}
 use Rattle.vax_macro.specs.Expansion.{Stepped, Steps, Says, Faults, Ends, behind as opens_behind, opened, step}
 use Rattle.vax_macro.specs.Rest.{Rest, started, work}
 use Rattle.vax_asm_second.specs.declared.types.Fault.{Fault}
@@ -21,7 +22,7 @@ walked_opened zero rest a met = refl
 walked_opened (suc left) rest a met = by_step left a met (step (names_in a.standing) rest) (λ r. walked_opened left r a met)
 
 -- how a walk begins
-pub started_walk : (source : List ℕ) (rest : Rest) (s : Standing) (assignments : List Assignment) → rest ≡ started source → s ≡ at_start → assignments ≡ []
-    → walked (suc (work rest)) rest (record { standing = s; assignments = assignments }) None ≡ assembled source
+pub started_walk : (dialect : Dialect) (source : List ℕ) (rest : Rest) (s : Standing) (assignments : List Assignment) → rest ≡ started source → s ≡ at_start dialect → assignments ≡ []
+    → walked (suc (work rest)) rest (record { standing = s; assignments = assignments }) None ≡ assembled dialect source
 unfolding assembled
-started_walk source rest s assignments e f g = rw (e, f, g) refl
+started_walk dialect source rest s assignments e f g = rw (e, f, g) refl

@@ -66,4 +66,4 @@ of_tokens false false false p e = refl
 
 pub tokens_stated : (origin : Origin) (line : List ℕ) (pieces : List Piece) (p : Parsed) (s : Standing) → (not (list_any is_bad pieces) && not (list_any is_wide pieces)) ≡ true
     → placed_as origin line pieces p s ≡ stated origin line p s
-tokens_stated origin line pieces p s e = of_tokens (is_listing line p.what) (list_any is_bad pieces) (list_any is_wide pieces) (stated origin line p s) e
+tokens_stated origin line pieces p s e = of_tokens (is_listing s.dialect line p.what) (list_any is_bad pieces) (list_any is_wide pieces) (stated origin line p s) e

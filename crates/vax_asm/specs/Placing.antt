@@ -1,8 +1,9 @@
 -- What a statement does (VAX MACRO and Instruction Set Reference Manual, "VAX MACRO source statement format").
 use Rattle.std.specs.Prelude.{ℕ, ◌^◌, ◌-◌, Bool, true, false, nat_lt, if◌then◌else◌, List, map, Option, Some, None, Result, Ok, Err}
 use Rattle.std.specs.List.{list_all, list_any}
-use Rattle.vax_asm_data.specs.Data.{Plain, Counted_first, Zero_last, data_stated, addresses_stated, text_stated, space_stated, align_stated, even_stated}
+use Rattle.vax_asm_data.specs.Data.{Plain, Counted_first, Zero_last, data_stated, addresses_stated, text_stated, space_stated, align_stated, even_stated, odd_stated}
 use Rattle.vax_asm_instruction.specs.Stating.{instruction_stated}
+use Rattle.vax_dialect.specs.declared.Dialect.{Dialect}
 use Rattle.vax_isa.specs.Instructions.{Instruction}
 use Rattle.vax_isa.specs.Rows.{row_of, with_name}
 use Rattle.vax_lex.specs.Tokens.{pieces_of, token_text}
@@ -57,8 +58,8 @@ is_bad p = elim p.kind [
 abbrev pub in_ascii : List ℕ → Bool
 in_ascii name = list_all (λ b. nat_lt b 128) name
 
-abbrev pub directive_named : List ℕ → Option Directive
-directive_named name = if in_ascii name then directive_of name else None
+abbrev pub directive_named : Dialect → List ℕ → Option Directive
+directive_named dialect name = if in_ascii name then directive_of dialect name else None
 
 abbrev pub instruction_named : List ℕ → Option Instruction
 instruction_named name = if in_ascii name then with_name name else None
@@ -74,6 +75,7 @@ directed directive.ZeroText origin line tokens s = text_stated Zero_last origin 
 directed (directive.Space size) origin line tokens s = space_stated size origin line tokens s
 directed directive.Align origin line tokens s = align_stated origin line tokens s
 directed directive.Even origin line tokens s = even_stated tokens s
+directed directive.Odd origin line tokens s = odd_stated tokens s
 directed directive.Global origin line tokens s = names_stated true line tokens s
 directed directive.External origin line tokens s = names_stated false line tokens s
 directed directive.Listing origin line tokens s = Ok s
@@ -89,7 +91,7 @@ operated_by None origin line name tokens s = instructed (instruction_named name)
 
 -- An operator is a directive or an instruction.
 abbrev pub operation_stated : Origin → List ℕ → (name : List ℕ) → List Token → Standing → Result Standing FaultKind
-operation_stated origin line name tokens s = operated_by (directive_named name) origin line name tokens s
+operation_stated origin line name tokens s = operated_by (directive_named s.dialect name) origin line name tokens s
 
 -- What stands behind the label, and the assignment that it is, if that has no value yet.
 abbrev pub no_assignment : Result Standing FaultKind → Assigned
@@ -148,9 +150,9 @@ abbrev pub is_listing_by : Option Directive → Bool
 is_listing_by (Some directive.Listing) = true
 is_listing_by _ = false
 
-abbrev pub is_listing : List ℕ → What → Bool
-is_listing line (Operation name tokens) = is_listing_by (directive_named (token_text line name))
-is_listing line _ = false
+abbrev pub is_listing : Dialect → List ℕ → What → Bool
+is_listing dialect line (Operation name tokens) = is_listing_by (directive_named dialect (token_text line name))
+is_listing dialect line _ = false
 
 -- a number above 64 bits is out of range
 abbrev pub with_range : Placed → Placed
@@ -164,7 +166,7 @@ if_wide false p = p
 
 abbrev pub placed_as : Origin → List ℕ → List Piece → Parsed → Standing → Placed
 placed_as origin line pieces p s =
-    if is_listing line p.what then stated origin line p s
+    if is_listing s.dialect line p.what then stated origin line p s
     else (if list_any is_bad pieces then Faulty fault.Token None else if_wide (list_any is_wide pieces) (stated origin line p s))
 
 unfoldable pub placed : Origin → List ℕ → Standing → Placed

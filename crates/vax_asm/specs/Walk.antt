@@ -1,6 +1,7 @@
 -- What a source assembles to: its statements one after another, as its macros, repeats and conditions open (VAX MACRO and Instruction Set
 -- Reference Manual, "VAX MACRO assembler directives" and "Diagnostic messages").
 use Rattle.std.specs.Prelude.{ℕ, zero, suc, ◌==◌, if◌then◌else◌, List, [], Option, Some, None, Result, Err}
+use Rattle.vax_dialect.specs.declared.Dialect.{Dialect}
 use Rattle.vax_lex.specs.declared.value.Value.{Value}
 use Rattle.vax_macro.specs.Expansion.{Stepped, Steps, Says, Faults, Ends, Opened, Given, Faulty as Stops, AtEnd, Later, step}
 use Rattle.vax_macro.specs.Rest.{Opening, Rest, started, work}
@@ -33,8 +34,8 @@ pub record Assembly : Type 0 where
   pub standing : Standing
   pub assignments : List Assignment
 
-abbrev pub nothing : Assembly
-nothing = record { standing = at_start; assignments = [] }
+abbrev pub nothing : Dialect → Assembly
+nothing dialect = record { standing = at_start dialect; assignments = [] }
 
 -- A fault that ends the walk. Where an assignment makes its name come back to itself, it has no form, and goes before the faults of later lines;
 -- of one line the first in the order of the kinds counts.
@@ -96,6 +97,6 @@ resumed (Stops line place kind) a met = stopped a.assignments (least met (at lin
 resumed (AtEnd begin) a met = ended a met begin
 resumed Later a met = ended a met None
 
--- the module of a source, or its first fault
-unfoldable pub assembled : List ℕ → Result Module Fault
-assembled source = walked (suc (work (started source))) (started source) nothing None
+-- the module of a source in a dialect, or its first fault
+unfoldable pub assembled : Dialect → List ℕ → Result Module Fault
+assembled dialect source = walked (suc (work (started source))) (started source) (nothing dialect) None

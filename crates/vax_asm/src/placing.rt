@@ -16,10 +16,11 @@ ghost use Rattle.vax_asm_statement.specs.Reading.{body_seen, parsed, statement_s
 use crate::tokens::{are_tokens, directive, has_bad, has_wide, instruction, tokens_of};
 use std::alloc::Global;
 use std::rc::Rc;
-use vax_asm_data::{TextForm, addresses, align, data, even, space, text};
+use vax_asm_data::{TextForm, addresses, align, data, even, odd, space, text};
 use vax_asm_first::{Assignment, Origin, Refused, Standing, first_of};
 use vax_asm_labels::{assignment, end, entry, label, names, section};
 use vax_asm_statement::{Body, Directive, Statement, read_statement, text_of};
+use vax_dialect::Dialect;
 use vax_lex::{Piece, Token};
 use vax_macro::{FaultKind, Line};
 use vax_space::NoMemory;
@@ -65,6 +66,7 @@ fn direct(
         Directive::Space(size) => space(standing, alloc, origin, line, size, operands),
         Directive::Align => align(standing, alloc, origin, line, operands),
         Directive::Even => even(standing, operands),
+        Directive::Odd => odd(standing, operands),
         Directive::Global => names(standing, alloc, line, true, operands),
         Directive::External => names(standing, alloc, line, false, operands),
         Directive::Listing => Ok(()),
@@ -109,7 +111,7 @@ fn operate(
     ensures { States (operation_stated origin line.now.value.items name.now operands.now)
         result standing.old standing.new }
 {
-    match directive(name) {
+    match directive(standing.dialect, name) {
         Some(found) => direct(standing, alloc, origin, line, found, operands),
         None => instruct(standing, alloc, origin, line, name, operands),
     }
@@ -238,12 +240,12 @@ fn state(
 }
 
 /// Whether the rest of the line may hold anything.
-fn is_listing(line: &[u8], body: Body<'_>) -> bool
+fn is_listing(dialect: Dialect, line: &[u8], body: Body<'_>) -> bool
     requires within { WhatWithin line.now (body_seen body) }
-    ensures { result ≡ is_listing line.now (body_seen body.entry) }
+    ensures { result ≡ is_listing dialect line.now (body_seen body.entry) }
 {
     match body {
-        Body::Operation { name, .. } => match directive(text_of(line, name)) {
+        Body::Operation { name, .. } => match directive(dialect, text_of(line, name)) {
             Some(Directive::Listing) => true,
             _ => false,
         },
@@ -285,7 +287,7 @@ fn carry_out(
     if are_tokens(found) {
         return state(standing, assignments, alloc, origin, line, statement);
     }
-    if is_listing(line, statement.body) {
+    if is_listing(standing.dialect, line, statement.body) {
         return state(standing, assignments, alloc, origin, line, statement);
     }
     if has_bad(found) {

@@ -7,6 +7,7 @@ ghost use Rattle.vax_isa.specs.Rows.{IsFormed, plain, row_of};
 
 use std::alloc::Global;
 use vax_asm_statement::{Directive, directive_named};
+use vax_dialect::Dialect;
 use vax_isa::{Row, by_name};
 use vax_lex::{Piece, PieceKind, Token, TokenKind};
 use vax_space::NoMemory;
@@ -102,11 +103,11 @@ fn word(name: &[u8]) -> Option<&str>
     str::from_utf8(name).ok()
 }
 
-/// The directive with this name.
-pub(crate) fn directive(name: &[u8]) -> Option<Directive>
-    ensures { result ≡ named_directive name.now }
+/// The directive with this name in a dialect.
+pub(crate) fn directive(dialect: Dialect, name: &[u8]) -> Option<Directive>
+    ensures { result ≡ named_directive dialect name.now }
 {
-    directive_named(word(name)?)
+    directive_named(dialect, word(name)?)
 }
 
 /// The instruction with this name.

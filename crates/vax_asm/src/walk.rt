@@ -19,6 +19,7 @@ use std::alloc::Global;
 use vax_asm_first::{Assignment, Origin, Standing, first_circle};
 use vax_asm_scope::KnownNames;
 use vax_asm_second::{Fault, FillError, fill_in};
+use vax_dialect::Dialect;
 use vax_macro::{Begin, Expander, FaultKind, Line, MacroError};
 use vax_module::Module;
 use vax_space::NoMemory;
@@ -135,16 +136,16 @@ impl Walk {
     }
 }
 
-/// The module of a source, or its first fault.
+/// The module of a source in a dialect, or its first fault.
 #[tactic(auto, using(crate::proofs::Opening::walked_opened))]
-fn module_of(alloc: Global, source: &[u8]) -> Result<Module, FillError>
-    ensures module { Fills result (assembled source.now) }
+fn module_of(alloc: Global, dialect: Dialect, source: &[u8]) -> Result<Module, FillError>
+    ensures module { Fills result (assembled dialect source.now) }
     ensures formed { IfOk result Formed }
 {
     let Ok(mut expander) = Expander::new(alloc, source) else {
         return Err(FillError::NoMemory);
     };
-    let Ok(standing) = Standing::new(alloc) else {
+    let Ok(standing) = Standing::new(alloc, dialect) else {
         return Err(FillError::NoMemory);
     };
     let mut walk = Walk {
@@ -175,16 +176,16 @@ fn module_of(alloc: Global, source: &[u8]) -> Result<Module, FillError>
     }
 }
 
-/// The module of a source in MACRO-32, or its first fault.
+/// The module of a source in a dialect of MACRO-32, or its first fault.
 ///
 /// [`AsmError::Fault`] with the first line that has a fault, and its fault that goes before the others; [`AsmError::NoMemory`] where memory is
 /// refused.
-pub fn assemble(alloc: Global, source: &[u8]) -> Result<Module, AsmError>
-    ensures module { Answers result (assembled source.now) }
+pub fn assemble(alloc: Global, dialect: Dialect, source: &[u8]) -> Result<Module, AsmError>
+    ensures module { Answers result (assembled dialect source.now) }
     // The linker may join it to others.
     ensures formed { IfOk result Formed }
 {
-    match module_of(alloc, source) {
+    match module_of(alloc, dialect, source) {
         Ok(module) => Ok(module),
         Err(FillError::Fault(fault)) => Err(AsmError::Fault {
             line: fault.origin.line,

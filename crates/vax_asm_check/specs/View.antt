@@ -8,6 +8,7 @@ use Rattle.vax_asm_check.specs.declared.left.Stated.{Stated}
 use Rattle.vax_asm_check.specs.declared.survey.Survey.{Survey}
 use Rattle.vax_asm_faults.specs.Survey.{Onward, stated, with_faults}
 use Rattle.vax_asm_first.specs.declared.types.Origin.{Origin}
+use Rattle.vax_dialect.specs.declared.Dialect.TheVariants.{Vax}
 
 abbrev pub left_of : Left → Assembly
 left_of l = assembly_of l.standing l.assignments
@@ -17,7 +18,7 @@ said_of s = record { origin = s.origin; text = s.line.text.items }
 
 -- What stands is what the statements that stand leave.
 abbrev pub IsKept : Survey → Type 0
-IsKept s = restated (map said_of s.stood.items) nothing ≡ left_of s.left
+IsKept s = restated (map said_of s.stood.items) (nothing Vax) ≡ left_of s.left
 
 -- A statement adds its faults to those before, and leaves this, whatever comes behind it.
 abbrev pub GoesOn : Origin → (text : List ℕ) → (old new : Survey) → Type 0

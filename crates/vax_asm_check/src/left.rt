@@ -6,10 +6,12 @@ ghost use Rattle.vax_asm.specs.Walk.{nothing};
 ghost use Rattle.vax_asm_check.specs.Restating.{restated};
 ghost use Rattle.vax_asm_check.specs.View.{left_of, said_of};
 ghost use Rattle.vax_asm_faults.specs.Survey.{left_by};
+ghost use Rattle.vax_dialect.specs.declared.Dialect.TheVariants.{Vax};
 
 use std::alloc::Global;
 use vax_asm::{Placed, place};
 use vax_asm_first::{Assignment, Origin, Standing};
+use vax_dialect::Dialect;
 use vax_macro::Line;
 use vax_space::NoMemory;
 
@@ -43,9 +45,9 @@ pub(crate) fn copied(alloc: Global, line: &Line) -> Result<Line, NoMemory>
 
 impl Left {
     pub(crate) fn new(alloc: Global) -> Result<Left, NoMemory>
-        ensures { IfOk result (λ l. left_of l ≡ nothing) }
+        ensures { IfOk result (λ l. left_of l ≡ nothing Vax) }
     {
-        let standing = Standing::new(alloc)?;
+        let standing = Standing::new(alloc, Dialect::Vax)?;
         Ok(Left {
             standing,
             assignments: Vec::new(alloc),
@@ -77,7 +79,7 @@ impl Left {
 /// What statements leave that stand one behind another from the first.
 #[tactic(auto, using(crate::proofs::Restating::one_restated, crate::proofs::Restating::all_restated))]
 pub(crate) fn restated(alloc: Global, stood: &[Stated]) -> Result<Left, NoMemory>
-    ensures { IfOk result (λ l. left_of l ≡ restated (map said_of stood.now) nothing) }
+    ensures { IfOk result (λ l. left_of l ≡ restated (map said_of stood.now) (nothing Vax)) }
 {
     let mut left = Left::new(alloc)?;
     for stated in stood {

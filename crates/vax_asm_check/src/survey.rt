@@ -8,6 +8,7 @@ ghost use Rattle.vax_asm_check.specs.Restating.{resumed};
 ghost use Rattle.vax_asm_check.specs.View.{left_of, GoesOn, IsKept};
 ghost use Rattle.vax_asm_faults.specs.Refusal.{faults_in};
 ghost use Rattle.vax_asm_faults.specs.Survey.{is_ended, with_faults};
+ghost use Rattle.vax_dialect.specs.declared.Dialect.TheVariants.{Vax};
 ghost use Rattle.vax_macro.specs.Expanders.{FaultIs, read_of, unclosed_of};
 ghost use Rattle.vax_macro.specs.Expansion.{AtEnd, Opened};
 ghost use Rattle.vax_macro.specs.View.{opening_of};
@@ -62,7 +63,7 @@ fn keep(list: &mut Vec<Stated>, stated: Stated) -> Result<(), NoMemory>
 
 impl Survey {
     pub(crate) fn new(alloc: Global) -> Result<Survey, NoMemory>
-        ensures left { IfOk result (λ s. left_of s.left ≡ nothing) }
+        ensures left { IfOk result (λ s. left_of s.left ≡ nothing Vax) }
         ensures stood { IfOk result (λ s. s.stood.items ≡ []) }
         ensures faults { IfOk result (λ s. s.faults.items ≡ []) }
         ensures ended { IfOk result (λ s. s.ended ≡ None) }

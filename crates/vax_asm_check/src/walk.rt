@@ -3,6 +3,7 @@
 ghost use Rattle.std.specs.Prelude.{IfOk};
 ghost use Rattle.vax_asm_check.specs.Listed.{AreFirst, in_order};
 ghost use Rattle.vax_asm_faults.specs.Refusal.{faults_of};
+ghost use Rattle.vax_dialect.specs.declared.Dialect.TheVariants.{Vax};
 
 use crate::survey::Survey;
 use std::alloc::Global;
@@ -22,7 +23,7 @@ use vax_space::NoMemory;
 ///
 /// [`NoMemory`] where memory is refused.
 pub fn faults(alloc: Global, source: &[u8], most: usize) -> Result<Vec<Fault>, NoMemory>
-    ensures { IfOk result (λ v. AreFirst most v.items (in_order (faults_of source.now))) }
+    ensures { IfOk result (λ v. AreFirst most v.items (in_order (faults_of Vax source.now))) }
 {
     let mut expander = Expander::new(alloc, source)?;
     let mut survey = Survey::new(alloc)?;

@@ -43,6 +43,9 @@ room_too_large size s n h =
     ap (λ (r : Result (Sections Fixup) Refusal). with_sections s r)
     (too_long (bytes_of size * n) (Zeros (bytes_of size * n)) s.sections (omega (arith, h, at_least size n)))
 
+pub too_far : (n : ℕ) (s : Standing) → 16777216 < n → with_sections s (put n (Zeros n) s.sections) ≡ Err fault.Large
+too_far n s h = ap (λ (r : Result (Sections Fixup) Refusal). with_sections s r) (too_long n (Zeros n) s.sections h)
+
 product_fits : (size : Size) (n : ℕ) → n ≤ 16777216 → bytes_of size * n < 2 ^ 32
 product_fits B n h = omega (arith, h)
 product_fits W n h = omega (arith, h)

@@ -1,20 +1,22 @@
 -- The directives of data (VAX MACRO and Instruction Set Reference Manual, "VAX MACRO assembler directives": `.BYTE` to
--- `.QUAD`, `.SIGNED_BYTE`, `.SIGNED_WORD`, `.ADDRESS`, `.ASCII` to `.ASCIZ`, `.BLKB` to `.BLKQ`, `.ALIGN`, `.EVEN`).
-use Rattle.std.specs.Prelude.{ℕ, ◌+◌, ◌-◌, ◌*◌, Bool, true, false, nat_lt, nat_le, if◌then◌else◌, List, [], ◌∷◌, length, map, take, drop, Option, Some, None, Result, Ok, Err, codes}
+-- `.QUAD`, `.SIGNED_BYTE`, `.SIGNED_WORD`, `.ADDRESS`, `.ASCII` to `.ASCIZ`, `.BLKB` to `.BLKQ`, `.ALIGN`, `.EVEN`, `.ODD`).
+use Rattle.std.specs.Prelude.{ℕ, pos, ◌+◌, ◌-◌, ◌*◌, ◌%◌, Bool, true, false, ◌&&◌, nat_lt, nat_le, if◌then◌else◌, List, [], ◌∷◌, length, map, take, drop, Option, Some, None, Result, Ok, Err, codes}
 use Rattle.vax_asm_encode.specs.Operands.{item_size, item_field}
 use Rattle.vax_asm_encode.specs.declared.operand.DataKind.{DataKind}
 use Rattle.vax_asm_encode.specs.declared.operand.DataKind.TheVariants.{Number}
 use Rattle.vax_asm_sections.specs.Layout.{Zeros, Bytes, Field, current_of, put, aligned}
+use Rattle.vax_dialect.specs.Differences.{has_empty_items}
 use Rattle.vax_lex.specs.Characters.{spells}
 use Rattle.vax_lex.specs.Grammar.{symbols_of}
 use Rattle.vax_lex.specs.Tokens.{token_text}
 use Rattle.vax_lex.specs.declared.token.Token.{Token}
+use Rattle.vax_lex.specs.declared.value.Value.TheVariants as value
 use Rattle.vax_macro.specs.declared.error.FaultKind.{FaultKind}
 use Rattle.vax_macro.specs.declared.error.FaultKind.TheVariants as fault
 use Rattle.vax_asm_first.specs.Faults.{lowest, fault_of_value, unless_place, number_of}
-use Rattle.vax_asm_first.specs.Fixups.{Filling, filling_by}
+use Rattle.vax_asm_first.specs.Fixups.{Filling, Known, filling_by}
 use Rattle.vax_asm_first.specs.Progress.{Site, Progress, begun, joined, done, added, Counted, counted, site_of}
-use Rattle.vax_asm_first.specs.Standing.{Standing, told, with_scope, with_sections}
+use Rattle.vax_asm_first.specs.Standing.{Standing, Told, here_at, here_in, misplaces, told, with_scope, with_sections}
 use Rattle.vax_asm_first.specs.declared.types.Content.TheVariants.{Data}
 use Rattle.vax_asm_first.specs.declared.types.Origin.{Origin}
 use Rattle.vax_asm_scope.specs.Scope.{Scope}
@@ -35,12 +37,29 @@ placed_item kind site None (Ok n) filling s = fixed kind site n filling s
 placed_item kind site (Some f) (Ok n) filling s = record { fault = Some f; standing = s }
 placed_item kind site before (Err f) filling s = record { fault = lowest before (Some f); standing = s }
 
+-- an item's expression where the item stands
+abbrev pub item_told : Site → Item → Standing → Told
+item_told site item s = told (here_at s.dialect site.here (here_in s.sections)) (symbols_of site.line item.expression) s.scope
+
+abbrev pub expression_stated : DataKind → Site → Item → Standing → Progress
+expression_stated kind site item s =
+    let t = item_told site item s in
+    let c = counted site item.count t.scope in
+    placed_item kind site (unless_place (misplaces s.dialect (symbols_of site.line item.expression)) (fault_of_value (item_field kind) 0 0 t.settled)) c.number (filling_by t.value t.written) (with_scope c.scope s)
+
+-- an item without an expression
+abbrev pub is_nothing : List Token → Bool
+is_nothing [] = true
+is_nothing (t ∷ tokens) = false
+
+abbrev pub zero_stated : DataKind → Site → Item → Standing → Progress
+zero_stated kind site item s =
+    let c = counted site item.count s.scope in
+    placed_item kind site None c.number (Known (value.Absolute (pos 0))) (with_scope c.scope s)
+
 abbrev pub item_stated : DataKind → Site → Item → Standing → Progress
 item_stated kind site item s =
-    let symbols = symbols_of site.line item.expression in
-    let t = told site.here symbols s.scope in
-    let c = counted site item.count t.scope in
-    placed_item kind site (unless_place (uses_place symbols) (fault_of_value (item_field kind) 0 0 t.settled)) c.number (filling_by t.value t.written) (with_scope c.scope s)
+    if is_nothing item.expression && has_empty_items s.dialect then zero_stated kind site item s else expression_stated kind site item s
 
 abbrev pub items_stated : DataKind → Site → List Item → Progress → Progress
 items_stated kind site [] p = p
@@ -196,3 +215,17 @@ align_stated origin line tokens s = one_alone (parts tokens) (λ one. align_by (
 unfoldable pub even_stated : List Token → Standing → Result Standing FaultKind
 even_stated [] s = with_sections s (aligned 1 s.sections)
 even_stated (t ∷ tokens) s = Err fault.Count
+
+-- a place of the section at which it goes on: zero bytes up to it
+abbrev pub forward : ℕ → Standing → Result Standing FaultKind
+forward to s =
+    let size = (current_of s.sections).size in
+    if nat_lt to size then Err fault.Range else with_sections s (put (to - size) (Zeros (to - size)) s.sections)
+
+-- `.ODD`: a zero byte, where the next one would have an even place in its section; it has no operands
+abbrev pub to_odd : ℕ → ℕ
+to_odd size = 1 - size % 2
+
+unfoldable pub odd_stated : List Token → Standing → Result Standing FaultKind
+odd_stated [] s = with_sections s (put (to_odd (current_of s.sections).size) (Zeros (to_odd (current_of s.sections).size)) s.sections)
+odd_stated (t ∷ tokens) s = Err fault.Count

@@ -1,7 +1,7 @@
 // Room and boundaries.
 
 ghost use Rattle.std.specs.Prelude.{◌≡◌, ◌≤◌, ◌<◌, ◌^◌, All, IfOk, IfSome, OnOk, Ok, length};
-ghost use Rattle.vax_asm_data.specs.Data.{align_stated, boundary, boundary_named, boundary_of, even_stated, power, room, space_stated, unless_here};
+ghost use Rattle.vax_asm_data.specs.Data.{align_stated, boundary, boundary_named, boundary_of, even_stated, forward, odd_stated, power, room, space_stated, unless_here};
 ghost use Rattle.vax_lex.specs.Tokens.{IsTokenOf};
 ghost use Rattle.vax_asm_first.specs.View.{counted_of, site_seen, standing_of, Stands, ChangesScope, States};
 ghost use Rattle.vax_asm_scope.specs.Kept.{scope_of};
@@ -187,4 +187,39 @@ pub fn even(standing: &mut Standing, operands: &[Token]) -> Result<(), Refused>
         return Err(Refused::Fault(FaultKind::Count));
     }
     standing.align(1)
+}
+
+/// `.ODD`: a zero byte, where the next one would have an even place in its section. It has no operand.
+///
+/// [`Refused::Fault`]: `Count` where there is an operand, `Large` where the section or the module would be too long.
+/// [`Refused::NoMemory`] where memory is refused. Nothing of use is left then.
+#[tactic(auto, unfolding(crate::specs::Data::odd_stated))]
+pub fn odd(standing: &mut Standing, operands: &[Token]) -> Result<(), Refused>
+    ensures { States (odd_stated operands.now) result standing.old standing.new }
+{
+    if !operands.is_empty() {
+        return Err(Refused::Fault(FaultKind::Count));
+    }
+    let bytes = 1 - standing.section_size() % 2;
+    standing.put(bytes, Piece::Zeros(bytes))
+}
+
+/// Goes on at a place of the section, with zero bytes up to it.
+///
+/// [`Refused::Fault`]: `Range` where the next statement stands behind it, `Large` where the section or the module would be too
+/// long. [`Refused::NoMemory`] where memory is refused. Nothing of use is left then.
+#[tactic(auto, using(crate::proofs::Limits::too_far))]
+pub fn forward(standing: &mut Standing, to: u64) -> Result<(), Refused>
+    ensures { States (forward to) result standing.old standing.new }
+{
+    let size = u64::from(standing.section_size());
+    if to < size {
+        return Err(Refused::Fault(FaultKind::Range));
+    }
+    let more = to - size;
+    if more > MOST_BYTES {
+        return Err(Refused::Fault(FaultKind::Large));
+    }
+    let bytes = more as u32;
+    standing.put(bytes, Piece::Zeros(bytes))
 }

@@ -1,7 +1,7 @@
 // Items of data.
 
 ghost use Rattle.std.specs.Prelude.{◌≡◌, ◌<◌, ◌^◌, ℕ, List, All, IfOk, length, map};
-ghost use Rattle.vax_asm_data.specs.Data.{fixed, item_as, item_stated, items_stated, data_stated, addresses_stated};
+ghost use Rattle.vax_asm_data.specs.Data.{expression_stated, fixed, is_nothing, item_as, item_stated, zero_stated, items_stated, data_stated, addresses_stated};
 ghost use Rattle.vax_lex.specs.Tokens.{IsTokenOf};
 ghost use Rattle.vax_asm_first.specs.Progress.{begun, site_of};
 ghost use Rattle.vax_asm_first.specs.View.{filling_of, progress_of, site_seen, standing_of, Advances, States};
@@ -14,12 +14,11 @@ use std::rc::Rc;
 use vax_asm_encode::DataKind;
 use vax_asm_first::{
     Content, FaultKind, Filling, Fixup, Origin, Refused, Site, Standing, add, fault_of_value,
-    filling_of, known_count, lowest, site_of, unless_place,
+    filling_of, item_place, known_count, lowest, misplaces, site_of, unless_place,
 };
-use vax_asm_scope::uses_place;
 use vax_asm_sections::Piece;
 use vax_asm_statement::{Item, parts, read_item};
-use vax_lex::Token;
+use vax_lex::{Token, Value};
 use vax_space::NoMemory;
 use vax_word::Size;
 
@@ -51,7 +50,67 @@ fn fix(
     add(standing, kind.size().bytes() * count, Piece::Field(fixup))
 }
 
-/// One item: an expression that a field of this kind holds, so many times. Its fault, if it has one.
+/// An item without an expression: zeros, so many times. Its fault, if it has one.
+fn state_zero(
+    standing: &mut Standing,
+    alloc: Global,
+    site: Site<'_>,
+    kind: DataKind,
+    item: Item<'_>,
+) -> Result<Option<FaultKind>, NoMemory>
+    requires { ItemWithin site.line.now.value.items (item_seen item) }
+    ensures { Advances (zero_stated kind (site_seen site.entry) (item_seen item.entry))
+        result standing.old standing.new }
+{
+    match known_count(standing, alloc, site, item.count)? {
+        Ok(count) => fix(
+            standing,
+            site,
+            kind,
+            count,
+            Filling::Known(Value::Absolute(0)),
+        ),
+        Err(fault) => Ok(Some(fault)),
+    }
+}
+
+/// An expression that a field of this kind holds, so many times. Its fault, if it has one.
+fn state_expression(
+    standing: &mut Standing,
+    alloc: Global,
+    site: Site<'_>,
+    kind: DataKind,
+    item: Item<'_>,
+) -> Result<Option<FaultKind>, NoMemory>
+    requires { ItemWithin site.line.now.value.items (item_seen item) }
+    ensures { Advances (expression_stated kind (site_seen site.entry) (item_seen item.entry))
+        result standing.old standing.new }
+{
+    let misplaced = misplaces(standing.dialect, site.line, item.expression);
+    let here = item_place(standing, site)?;
+    let told = standing.tell(alloc, site.line, item.expression, here)?;
+    let fault = unless_place(misplaced, fault_of_value(kind.field(), 0, 0, told.settled));
+    let count = known_count(standing, alloc, site, item.count)?;
+    let count = match count {
+        Ok(count) => count,
+        Err(other) => return Ok(lowest(fault, Some(other))),
+    };
+    if fault.is_some() {
+        return Ok(fault);
+    }
+    fix(standing, site, kind, count, filling_of(told))
+}
+
+fn is_nothing(tokens: &[Token]) -> bool
+    ensures { result ≡ is_nothing tokens.now }
+{
+    match tokens {
+        [] => true,
+        [_, ..] => false,
+    }
+}
+
+/// One item. Its fault, if it has one.
 fn state_item(
     standing: &mut Standing,
     alloc: Global,
@@ -63,18 +122,11 @@ fn state_item(
     ensures { Advances (item_stated kind (site_seen site.entry) (item_seen item.entry))
         result standing.old standing.new }
 {
-    let here = uses_place(site.line, item.expression);
-    let told = standing.tell(alloc, site.line, item.expression, site.here)?;
-    let fault = unless_place(here, fault_of_value(kind.field(), 0, 0, told.settled));
-    let count = known_count(standing, alloc, site, item.count)?;
-    let count = match count {
-        Ok(count) => count,
-        Err(other) => return Ok(lowest(fault, Some(other))),
-    };
-    if fault.is_some() {
-        return Ok(fault);
+    if is_nothing(item.expression) && standing.dialect.has_empty_items() {
+        state_zero(standing, alloc, site, kind, item)
+    } else {
+        state_expression(standing, alloc, site, kind, item)
     }
-    fix(standing, site, kind, count, filling_of(told))
 }
 
 /// The item that an operand is: `e[n]` too, or `e` alone.
@@ -174,7 +226,7 @@ fn state(
 /// `.BYTE`, `.WORD`, `.LONG`, `.QUAD`, `.SIGNED_BYTE` and `.SIGNED_WORD`: items of this kind, `e` or `e[n]`.
 ///
 /// [`Refused::Fault`] with the fault that counts: `Count` where there are no items, `Form` where an item is no expression,
-/// uses `.` or is a relocatable one that isn't of a longword, or where a count is no number, `Undefined` where a count isn't
+/// uses a `.` that may not stand there or is a relocatable one that isn't of a longword, or where a count is no number, `Undefined` where a count isn't
 /// known, `Range` where a value doesn't fit or a count is negative, `Large` where the section or the module would be too long.
 /// [`Refused::NoMemory`] where memory is refused. Nothing of use is left then.
 #[tactic(auto, unfolding(crate::specs::Data::data_stated))]

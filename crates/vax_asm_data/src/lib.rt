@@ -2,14 +2,14 @@
 //! Reference Manual, "VAX MACRO assembler directives").
 //!
 //! Each call carries out one directive where it stands: [`data`] `.BYTE` to `.QUAD`, [`addresses`] `.ADDRESS`, [`text`]
-//! `.ASCII`, `.ASCIC` and `.ASCIZ`, [`space`] `.BLKB` to `.BLKQ`, [`align`] `.ALIGN` and [`even`] `.EVEN`. [`item`] is one item,
-//! as a part of a statement.
+//! `.ASCII`, `.ASCIC` and `.ASCIZ`, [`space`] `.BLKB` to `.BLKQ`, [`align`] `.ALIGN`, [`even`] `.EVEN` and [`odd`] `.ODD`.
+//! [`item`] is one item, as a part of a statement, and [`forward`] what `. = e` leaves.
 #![tactic(auto)]
 
 mod boundary;
 mod items;
 mod texts;
 
-pub use boundary::{align, even, space};
+pub use boundary::{align, even, forward, odd, space};
 pub use items::{addresses, data, item};
 pub use texts::{TextForm, text};

@@ -5,6 +5,7 @@ use Rattle.vax_asm_check.specs.Listed.{AreFirst, in_order}
 use Rattle.vax_asm_faults.specs.Refusal.{faults_of}
 use Rattle.vax_asm_causes.specs.Printed.{ArePrinted}
 use Rattle.vax_asm_errors.specs.declared.said.Said.{Said}
+use Rattle.vax_dialect.specs.declared.Dialect.TheVariants.{Vax}
 use Rattle.vax_lines.specs.Lines.{Text, lines}
 use Rattle.vax_macro.specs.Fault.{code_of}
 use Rattle.vax_macro.specs.declared.error.FaultKind.{FaultKind}
@@ -89,6 +90,6 @@ errors name source said = flat_map (error name source) said ++ ending name (leng
 -- The errors of a source were added: those of its first hundred faults, or of all. Each has a column and words on its cause.
 pub record IsErrors (name source before after : Text) : Type 0 where
   pub said : List Said
-  pub first : AreFirst 100 (map (λ s. s.fault) said) (in_order (faults_of source))
+  pub first : AreFirst 100 (map (λ s. s.fault) said) (in_order (faults_of Vax source))
   pub plain : All IsPlain said
   pub text : after ≡ before ++ errors name source said

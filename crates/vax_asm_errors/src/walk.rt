@@ -6,6 +6,7 @@ use vax_asm::{Placed, place};
 use vax_asm_first::{Origin, Standing};
 use vax_asm_scope::KnownNames;
 use vax_asm_second::Fault;
+use vax_dialect::Dialect;
 use vax_macro::{Expander, Line, MacroError};
 use vax_space::NoMemory;
 
@@ -45,7 +46,7 @@ pub(crate) fn texts_of(alloc: Global, source: &[u8], faults: &[Fault]) -> Result
         return Ok(texts);
     }
     let mut expander = Expander::new(alloc, source)?;
-    let mut standing = Standing::new(alloc)?;
+    let mut standing = Standing::new(alloc, Dialect::Vax)?;
     let mut assignments = Vec::new(alloc);
     for _ in 0..MOST_STATEMENTS {
         let here = standing.here()?;

@@ -4,6 +4,7 @@ use Rattle.std.specs.Prelude.{◌&&◌, ◌||◌, slice_index_or, ◌==◌, All,
 use Rattle.std.proofs.lemmas.Bool.{eqb-false, eqb-true, ltb-false, ltb-true}
 use Rattle.std.proofs.lemmas.List.Elements.{All-cons, All-nil}
 use Rattle.vax_asm.specs.Walk.{assembled}
+use Rattle.vax_dialect.specs.declared.Dialect.{Dialect}
 use Rattle.vax_asm_faults.proofs.Refusing.{refused_first}
 use Rattle.vax_asm_faults.specs.Least.{HasFault, IsFaultless, IsLeast, IsUpTo}
 use Rattle.vax_asm_faults.specs.Refusal.{Faults, earlier, faults_of, first_fault, first_line, module_behind, or_else}
@@ -131,18 +132,18 @@ unless_is : (o : Option Fault) (n m : Module) → unless_faulty o n ≡ Ok m →
 unless_is None n m e = (refl, cc)
 unless_is (Some f) n m e = absurd cc
 
-pub has_none : (source : List ℕ) (m : Module) → assembled source ≡ Ok m → IsFaultless source m
-has_none source m e =
-    let f : Faults = faults_of source in
-    let u = unless_is (first_fault f) (module_behind (survey_of source)) m (sym (refused_first source) ∙ e) in
+pub has_none : (dialect : Dialect) (source : List ℕ) (m : Module) → assembled dialect source ≡ Ok m → IsFaultless dialect source m
+has_none dialect source m e =
+    let f : Faults = faults_of dialect source in
+    let u = unless_is (first_fault f) (module_behind (survey_of dialect source)) m (sym (refused_first dialect source) ∙ e) in
     let n = none_both (first_line None f.lines) (least f.whole) u.0 in
     record { lines = none_first f.lines n.0; whole = none_least f.whole n.1; is = u.1 }
 
-pub assembles : (source : List ℕ) (m : Module) → IsFaultless source m → assembled source ≡ Ok m
-assembles source m h =
-    let f : Faults = faults_of source in
-    let n : Module = module_behind (survey_of source) in
-    refused_first source ∙ ap (λ (l : List Fault). unless_faulty (or_else (first_line None l) (least f.whole)) n) h.lines ∙ ap (λ (w : List Fault). unless_faulty (or_else None (least w)) n) h.whole ∙ ap (λ (x : Module). Ok x) h.is
+pub assembles : (dialect : Dialect) (source : List ℕ) (m : Module) → IsFaultless dialect source m → assembled dialect source ≡ Ok m
+assembles dialect source m h =
+    let f : Faults = faults_of dialect source in
+    let n : Module = module_behind (survey_of dialect source) in
+    refused_first dialect source ∙ ap (λ (l : List Fault). unless_faulty (or_else (first_line None l) (least f.whole)) n) h.lines ∙ ap (λ (w : List Fault). unless_faulty (or_else None (least w)) n) h.whole ∙ ap (λ (x : Module). Ok x) h.is
 
 -- ---- the first of those that the whole source decides
 

@@ -7,6 +7,7 @@ use Rattle.vax_asm.specs.Walk.{Assembly, assembled, at, behind, behind_circle, l
 use Rattle.vax_asm_circles.specs.Circles.{first_back}
 use Rattle.vax_asm_faults.proofs.Circling.{circle_more, or_origin}
 use Rattle.vax_macro_laws.proofs.Moving.{IsOf, Stays}
+use Rattle.vax_dialect.specs.declared.Dialect.{Dialect}
 use Rattle.vax_asm_faults.proofs.Ordering.{AllFrom, Comes, InOrder, circle_place, fault, first_joined, first_stays, from_less, told, told_circle, told_met, told_more}
 use Rattle.vax_asm_faults.proofs.Surveying.{Before, IsFirst, Known, Leading, Leads, answer, before_after, carried_from, ended_is, if_some, known_on, leading, leads_out, leads_to, past_line, survey_from, told_err}
 use Rattle.vax_asm_faults.proofs.Waiting.{ComesFrom, placed_from}
@@ -189,8 +190,8 @@ no_circle = refl
 start_known : (rest : Rest) → Known rest (first_circle []) None
 start_known rest = subst (λ (k : Option Origin). Known rest k None) (sym no_circle) (record { circle = tt; fault = tt; order = tt })
 
-pub refused_first : (source : List ℕ) → assembled source ≡ unless_faulty (first_fault (faults_of source)) (module_behind (survey_of source))
+pub refused_first : (dialect : Dialect) (source : List ℕ) → assembled dialect source ≡ unless_faulty (first_fault (faults_of dialect source)) (module_behind (survey_of dialect source))
 unfolding assembled
-refused_first source =
-    let s : Survey = survey_of source in
-    first_is (suc (work (started source))) (started source) nothing None (start_known (started source)) ∙ ap (λ (k : Option Origin). answer (first_line (told k None) s.faults) s) no_circle
+refused_first dialect source =
+    let s : Survey = survey_of dialect source in
+    first_is (suc (work (started source))) (started source) (nothing dialect) None (start_known (started source)) ∙ ap (λ (k : Option Origin). answer (first_line (told k None) s.faults) s) no_circle

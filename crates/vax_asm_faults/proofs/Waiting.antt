@@ -1,13 +1,14 @@
 -- The assignment that a statement is comes from this statement.
 use Rattle.std.proofs.Common.{◌≡◌, ℕ, Bool, true, false, cond, List, Option, Some, None, Result, Ok, Err, refl, map}
-use Rattle.std.specs.Prelude.{IfSome, if◌then◌else◌}
+use Rattle.std.specs.Prelude.{◌&&◌, not, IfSome, if◌then◌else◌}
 use Rattle.std.specs.List.{list_any}
 use Rattle.vax_asm.specs.Placing.{FaultyLabel, Faulty, Placed, Stands, also, behind_label, beside, body_stated, if_wide, is_bad, is_listing, is_wide, placed, placed_as, placed_by, stated, stated_by, token_of, waiting_in, with_range}
+use Rattle.vax_dialect.specs.Differences.{assigns_places}
 use Rattle.vax_asm_first.specs.Fixups.{Assignment as Waiting}
 use Rattle.vax_asm_first.specs.Progress.{Site, site_of}
 use Rattle.vax_asm_first.specs.Standing.{Standing, Told, told}
 use Rattle.vax_asm_first.specs.declared.types.Origin.{Origin}
-use Rattle.vax_asm_labels.specs.Naming.{Assigned, assignment_stated, is_place, label_stated, name_in, name_assigned, named_assignment, not_assigned, waiting, waiting_as, waiting_by}
+use Rattle.vax_asm_labels.specs.Naming.{Assigned, assignment_stated, is_place, label_stated, name_in, name_assigned, named_assignment, not_assigned, place_assigned, waiting, waiting_as, waiting_by, without_waiting}
 use Rattle.vax_asm_names.specs.declared.types.Duplicate.{Duplicate}
 use Rattle.vax_asm_scope.specs.Scope.{Scope, assigned, definition_of, entry, is_local}
 use Rattle.vax_asm_statement.specs.Reading.{Assignment, Malformed, Nothing, Operation, Parsed, What, parsed}
@@ -43,7 +44,7 @@ either_from false origin x y h k = k
 named_from : (site : Site) (global : Bool) (name : List ℕ) (tokens : List Token) (s : Standing) → ComesFrom site.origin (named_assignment site global name tokens s).waiting
 named_from site global name tokens s =
     let rest : Assigned = if is_local name then not_assigned fault.Form else name_assigned site global name tokens s in
-    either_from (is_place name) site.origin (not_assigned fault.UnknownOperator) rest tt
+    either_from (is_place name) site.origin (without_waiting (place_assigned (assigns_places s.dialect && not global) site tokens s)) rest tt
     (either_from (is_local name) site.origin (not_assigned fault.Form) (name_assigned site global name tokens s) tt (name_from site global name tokens s))
 
 assignment_from : (origin : Origin) (line : List ℕ) (name : Token) (global : Bool) (tokens : List Token) (s : Standing) → ComesFrom origin (assignment_stated origin line name global tokens s).waiting
@@ -100,7 +101,7 @@ as_placed_from : (origin : Origin) (line : List ℕ) (pieces : List Piece) (p : 
 as_placed_from origin line pieces p s =
     let whole : Placed = stated origin line p s in
     let here = stated_from origin line p s in
-    choice_from (is_listing line p.what) origin whole (if list_any is_bad pieces then Faulty fault.Token None else if_wide (list_any is_wide pieces) whole) here
+    choice_from (is_listing s.dialect line p.what) origin whole (if list_any is_bad pieces then Faulty fault.Token None else if_wide (list_any is_wide pieces) whole) here
     (choice_from (list_any is_bad pieces) origin (Faulty fault.Token None) (if_wide (list_any is_wide pieces) whole) tt (wide_from (list_any is_wide pieces) origin whole here))
 
 pub placed_from : (origin : Origin) (line : List ℕ) (s : Standing) → ComesFrom origin (waiting_in (placed origin line s))

@@ -3,6 +3,7 @@ use Rattle.std.specs.Prelude.{◌≡◌, ◌≤◌, ◌⊎◌, ℕ, List, [], �
 use Rattle.vax_asm_faults.specs.Refusal.{faults_of, module_behind}
 use Rattle.vax_asm_faults.specs.Survey.{survey_of}
 use Rattle.vax_asm_second.specs.declared.types.Fault.{Fault}
+use Rattle.vax_dialect.specs.declared.Dialect.{Dialect}
 use Rattle.vax_macro.specs.Fault.{code_of}
 use Rattle.vax_module.specs.declared.Module.{Module}
 
@@ -20,8 +21,8 @@ pub record IsLeast (faults : List Fault) (f : Fault) : Type 0 where
   pub one : HasFault faults f
   pub least : All (IsUpTo f) faults
 
--- A source has no fault, and this is the module of its statements.
-pub record IsFaultless (source : List ℕ) (m : Module) : Type 0 where
-  pub lines : (faults_of source).lines ≡ []
-  pub whole : (faults_of source).whole ≡ []
-  pub is : module_behind (survey_of source) ≡ m
+-- A source in a dialect has no fault, and this is the module of its statements.
+pub record IsFaultless (dialect : Dialect) (source : List ℕ) (m : Module) : Type 0 where
+  pub lines : (faults_of dialect source).lines ≡ []
+  pub whole : (faults_of dialect source).whole ≡ []
+  pub is : module_behind (survey_of dialect source) ≡ m

@@ -7,6 +7,7 @@ use Rattle.vax_asm_second.specs.Faults.{first_of as least}
 use Rattle.vax_asm_second.specs.Laid.{laid}
 use Rattle.vax_asm_second.specs.Modules.{faults, known_in, module_of}
 use Rattle.vax_asm_second.specs.declared.types.Fault.{Fault}
+use Rattle.vax_dialect.specs.declared.Dialect.{Dialect}
 use Rattle.vax_module.specs.declared.Module.{Module}
 
 -- Of two faults the one of the earlier line; of one line the lower kind.
@@ -39,8 +40,8 @@ whole_faults s = elim s.ends [
 abbrev pub faults_in : Survey → Faults
 faults_in s = record { lines = s.faults; whole = whole_faults s }
 
-abbrev pub faults_of : List ℕ → Faults
-faults_of source = faults_in (survey_of source)
+abbrev pub faults_of : Dialect → List ℕ → Faults
+faults_of dialect source = faults_in (survey_of dialect source)
 
 abbrev pub or_else : Option Fault → Option Fault → Option Fault
 or_else (Some f) other = Some f

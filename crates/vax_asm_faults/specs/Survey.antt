@@ -8,6 +8,7 @@ use Rattle.vax_asm_first.specs.Fixups.{Assignment}
 use Rattle.vax_asm_first.specs.declared.types.Origin.{Origin}
 use Rattle.vax_asm_labels.specs.Naming.{with_waiting}
 use Rattle.vax_asm_second.specs.declared.types.Fault.{Fault}
+use Rattle.vax_dialect.specs.declared.Dialect.{Dialect}
 use Rattle.vax_macro.specs.Expansion.{Stepped, Steps, Says, Faults, Ends, step}
 use Rattle.vax_macro.specs.Rest.{Opening, Rest, started, work}
 use Rattle.vax_macro.specs.declared.error.FaultKind.TheVariants as fault
@@ -79,5 +80,5 @@ unfoldable pub survey : ℕ → Rest → Assembly → Option ℕ → Survey
 survey zero rest a ended = record { faults = []; behind = a; ends = Some None }
 survey (suc left) rest a ended = onward (step (names_in a.standing) rest) a ended (survey left)
 
-abbrev pub survey_of : List ℕ → Survey
-survey_of source = survey (suc (work (started source))) (started source) nothing None
+abbrev pub survey_of : Dialect → List ℕ → Survey
+survey_of dialect source = survey (suc (work (started source))) (started source) (nothing dialect) None

@@ -9,13 +9,15 @@ ghost use Rattle.vax_asm_faults.specs.Survey.{survey_of};
 ghost use Rattle.vax_asm_second.specs.Faults.{first_of as least};
 ghost use Rattle.vax_asm_second.specs.Modules.{unless_faulty};
 ghost use Rattle.vax_asm_second.specs.declared.types.Fault.{Fault};
+ghost use Rattle.vax_dialect.specs.declared.Dialect.{Dialect};
 ghost use Rattle.vax_module.specs.declared.Module.{Module};
 
 /// A source without a fault is the module of its statements. Any other is refused for the first of its faults: that of the first line that has one by
 /// itself and the lines before it, with the lowest kind; where no line has, the first that the whole source decides.
 pub fn sources_are_refused_for_their_first_fault()
-    ensures { (source : List ℕ) → assembled source
-        ≡ unless_faulty (first_fault (faults_of source)) (module_behind (survey_of source)) }
+    ensures { (dialect : Dialect) → (source : List ℕ) → assembled dialect source
+        ≡ unless_faulty (first_fault (faults_of dialect source))
+        (module_behind (survey_of dialect source)) }
 {}
 
 /// The first fault is one of the list, the lines' or the whole source's. None stands on an earlier line, and none on the same line is of a lower kind.
@@ -27,8 +29,8 @@ pub fn first_faults_are_the_least()
 
 /// A source assembles exactly where it has no fault, and then to the module of its statements.
 pub fn sources_without_fault_assemble()
-    ensures only { (source : List ℕ) → (m : Module) → assembled source ≡ Ok m
-        → IsFaultless source m }
-    ensures every { (source : List ℕ) → (m : Module) → IsFaultless source m
-        → assembled source ≡ Ok m }
+    ensures only { (dialect : Dialect) → (source : List ℕ) → (m : Module)
+        → assembled dialect source ≡ Ok m → IsFaultless dialect source m }
+    ensures every { (dialect : Dialect) → (source : List ℕ) → (m : Module)
+        → IsFaultless dialect source m → assembled dialect source ≡ Ok m }
 {}

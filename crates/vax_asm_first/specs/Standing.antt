@@ -1,8 +1,10 @@
 -- What the statements so far leave, and what an expression is where it stands (VAX MACRO and Instruction Set Reference
 -- Manual, "Terms and expressions" and "Location counter").
-use Rattle.std.specs.Prelude.{pos, List, Option, Some, None, Result, Ok, Err}
+use Rattle.std.specs.Prelude.{pos, Bool, ◌&&◌, not, if◌then◌else◌, List, Option, Some, None, Result, Ok, Err}
 use Rattle.vax_asm_sections.specs.Layout.{Sections, current_of, at_first}
 use Rattle.vax_asm_sections.specs.declared.types.Refusal.{Refusal}
+use Rattle.vax_dialect.specs.Differences.{has_places_in_operands}
+use Rattle.vax_dialect.specs.declared.Dialect.{Dialect}
 use Rattle.vax_lex.specs.Grammar.{Symbol}
 use Rattle.vax_lex.specs.declared.value.Value.{Value}
 use Rattle.vax_lex.specs.declared.value.Value.TheVariants as value
@@ -12,21 +14,31 @@ use Rattle.vax_macro.specs.declared.error.FaultKind.{FaultKind}
 use Rattle.vax_macro.specs.declared.error.FaultKind.TheVariants as fault
 use Rattle.vax_asm_first.specs.Fixups.{Fixup, Transfer}
 use Rattle.vax_asm_scope.specs.Scope.{Scope, nothing, bound}
+use Rattle.vax_asm_scope.specs.Used.{uses_place}
 use Rattle.vax_asm_values.specs.Certain.{certain}
 use Rattle.vax_asm_values.specs.Values.{Written, worth, value_of}
 
--- The names and their definitions; the sections; and where the program begins, if `.END` has said so.
+-- The dialect of the source; the names and their definitions; the sections; and where the program begins, if `.END` has said so.
 pub record Standing : Type 0 where
+  pub dialect : Dialect
   pub scope : Scope
   pub sections : Sections Fixup
   pub transfer : Option Transfer
 
-abbrev pub at_start : Standing
-at_start = record { scope = nothing; sections = at_first; transfer = None }
+abbrev pub at_start : Dialect → Standing
+at_start dialect = record { dialect = dialect; scope = nothing; sections = at_first; transfer = None }
 
 -- where the next statement stands
 abbrev pub here_in : {F : Type 0} → Sections F → Value
 here_in s = value.Section s.current (pos (current_of s).size)
+
+-- What `.` is worth in an operand or an item: the place of that, where it may stand there, else the place of the statement.
+abbrev pub here_at : Dialect → (statement part : Value) → Value
+here_at dialect statement part = if has_places_in_operands dialect then part else statement
+
+-- whether an operand or an item uses `.`, and may not
+abbrev pub misplaces : Dialect → List Symbol → Bool
+misplaces dialect symbols = uses_place symbols && not (has_places_in_operands dialect)
 
 -- In place of a value that isn't known yet stands the fault that the expression has whatever comes later, if it has one.
 abbrev pub unless_certain : Option ExprError → Result Value ExprError → Result Value ExprError

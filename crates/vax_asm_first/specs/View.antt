@@ -50,6 +50,7 @@ transfer_of t = record { name = t.name.items; definition = t.definition }
 
 abbrev pub standing_of : Standing → standing.Standing
 standing_of s = record {
+  dialect = s.dialect;
   scope = scope_of s.scope;
   sections = sections_in s.layout;
   transfer = option_map transfer_of s.transfer;

@@ -13,6 +13,6 @@ mod types;
 
 pub use circles::first_circle;
 pub use faults::{fault_of_value, first_of, lowest, number_of, unless_place};
-pub use site::{Site, add, filling_of, known_count, site_of};
+pub use site::{Site, add, filling_of, item_place, known_count, misplaces, site_of};
 pub use types::{Assignment, Content, Filling, Fixup, Origin, Refused, Standing, Told, Transfer};
 pub use vax_macro::FaultKind;

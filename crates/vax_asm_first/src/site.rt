@@ -2,9 +2,11 @@
 
 ghost use Rattle.std.specs.Prelude.{◌≡◌, All, IfOk, IfSome, OnOk, option_map};
 ghost use Rattle.vax_asm_sections.specs.View.{part_of};
+ghost use Rattle.vax_lex.specs.Grammar.{symbols_of};
 ghost use Rattle.vax_lex.specs.Tokens.{IsTokenOf};
 ghost use Rattle.vax_asm_first.specs.Fixups.{filling_by};
 ghost use Rattle.vax_asm_first.specs.Progress.{added, counted, site_of};
+ghost use Rattle.vax_asm_first.specs.Standing.{here_at, here_in, misplaces};
 ghost use Rattle.vax_asm_first.specs.View.{counted_of, filling_of, part_seen, site_seen, standing_of, Advances, ChangesScope};
 ghost use Rattle.vax_asm_scope.specs.Kept.{scope_of};
 ghost use Rattle.vax_asm_values.specs.View.{written_of};
@@ -13,7 +15,9 @@ use crate::faults::number_of;
 use crate::types::{Filling, Fixup, Origin, Refused, Standing, Told};
 use std::alloc::Global;
 use std::rc::Rc;
+use vax_asm_scope::uses_place;
 use vax_asm_sections::Piece;
+use vax_dialect::Dialect;
 use vax_lex::{Token, Value};
 use vax_macro::FaultKind;
 use vax_space::NoMemory;
@@ -37,6 +41,26 @@ pub fn site_of<'a>(
 {
     let here = standing.here()?;
     Ok(Site { origin, line, here })
+}
+
+/// What `.` is worth in the item that comes next.
+pub fn item_place(standing: &Standing, site: Site<'_>) -> Result<Value, NoMemory>
+    ensures { IfOk result (λ v. v ≡ here_at (standing_of standing.now).dialect site.entry.here
+        (here_in (standing_of standing.now).sections)) }
+{
+    if standing.dialect.has_places_in_operands() {
+        standing.here()
+    } else {
+        Ok(site.here)
+    }
+}
+
+/// Whether an operand or an item uses `.`, and may not.
+pub fn misplaces(dialect: Dialect, line: &[u8], tokens: &[Token]) -> bool
+    requires { All (IsTokenOf line.now) tokens.now }
+    ensures { result ≡ misplaces dialect (symbols_of line.now tokens.now) }
+{
+    uses_place(line, tokens) && !dialect.has_places_in_operands()
 }
 
 /// What a field is filled with that holds an expression: its value where that is known, else the expression.

@@ -18,6 +18,7 @@ use std::rc::Rc;
 use vax_asm_scope::Scope;
 use vax_asm_sections::{Layout, Piece, Refusal};
 use vax_asm_values::Expression;
+use vax_dialect::Dialect;
 use vax_lex::{ExprError, Token, Value};
 use vax_macro::FaultKind;
 use vax_space::NoMemory;
@@ -41,12 +42,13 @@ fn settled(
 }
 
 impl Standing {
-    /// No names, and the section without a name alone.
-    pub fn new(alloc: Global) -> Result<Standing, NoMemory>
-        ensures { IfOk result (λ s. standing_of s ≡ at_start) }
+    /// No names, and the section without a name alone, for a source in this dialect.
+    pub fn new(alloc: Global, dialect: Dialect) -> Result<Standing, NoMemory>
+        ensures { IfOk result (λ s. standing_of s ≡ at_start dialect) }
     {
         let layout = Layout::new(alloc).map_err(|_| NoMemory)?;
         Ok(Standing {
+            dialect,
             scope: Scope::new(alloc),
             layout,
             transfer: None,

@@ -8,6 +8,7 @@ use vax_asm_encode::{DataKind, Operand};
 use vax_asm_scope::Scope;
 use vax_asm_sections::Layout;
 use vax_asm_values::Expression;
+use vax_dialect::Dialect;
 use vax_isa::OperandKind;
 use vax_lex::{ExprError, Value};
 use vax_macro::FaultKind;
@@ -70,6 +71,8 @@ pub struct Transfer {
 /// What the statements so far leave.
 #[derive(Drop)]
 pub struct Standing {
+    /// The dialect of the source.
+    pub dialect: Dialect,
     /// The names and their definitions.
     pub scope: Scope,
     /// The sections.

@@ -1,5 +1,6 @@
 -- Instructions as statements (VAX MACRO and Instruction Set Reference Manual, "VAX MACRO source statement format" and "Addressing modes").
 use Rattle.std.specs.Prelude.{ℕ, ◌+◌, pos, Bool, true, false, ◌==◌, if◌then◌else◌, List, [], ◌∷◌, length, Option, Some, None, Result, Ok, Err}
+use Rattle.vax_dialect.specs.declared.Dialect.{Dialect}
 use Rattle.vax_isa.specs.declared.OperandKind.{OperandKind}
 use Rattle.vax_isa.specs.Rows.{Plain}
 use Rattle.vax_lex.specs.Grammar.{symbols_of}
@@ -17,11 +18,10 @@ use Rattle.vax_macro.specs.declared.error.FaultKind.TheVariants as fault
 use Rattle.vax_asm_first.specs.Faults.{fault_of_value}
 use Rattle.vax_asm_first.specs.Fixups.{Fixup, Filling, Known, filling_by}
 use Rattle.vax_asm_first.specs.Progress.{Site, Progress, joined, added, done, site_of}
-use Rattle.vax_asm_first.specs.Standing.{Standing, Told, told, with_scope}
+use Rattle.vax_asm_first.specs.Standing.{Standing, Told, here_at, misplaces, told, with_scope}
 use Rattle.vax_asm_first.specs.declared.types.Content.TheVariants as content
 use Rattle.vax_asm_first.specs.declared.types.Origin.{Origin}
 use Rattle.vax_asm_scope.specs.Scope.{Scope}
-use Rattle.vax_asm_scope.specs.Used.{uses_place}
 use Rattle.vax_asm_statement.specs.Modes as modes
 use Rattle.vax_asm_statement.specs.Parts.{parts}
 use Rattle.vax_asm_instruction.specs.declared.placing.Addressed.{Addressed}
@@ -33,7 +33,7 @@ pub record Prepared : Type 0 where
   pub filling : Filling
   pub scope : Scope
 
--- `.` may not stand in an operand.
+-- `.` may not stand in an operand, unless the dialect allows it.
 abbrev pub unless_here : Bool → Result Value ExprError → Result Value ExprError
 unless_here true v = Err expr.Form
 unless_here false v = v
@@ -48,10 +48,10 @@ zero_value = value.Absolute (pos 0)
 abbrev pub without_expression : modes.Operand → Scope → Prepared
 without_expression o s = record { addressed = record { mode = o.mode; index = o.index; value = Ok zero_value }; filling = Known zero_value; scope = s }
 
-abbrev pub prepared : Site → modes.Operand → Scope → Prepared
-prepared site o s =
+abbrev pub prepared : Dialect → Site → modes.Operand → Scope → Prepared
+prepared dialect site o s =
     let symbols = symbols_of site.line o.expression in
-    if has_expression o.mode then with_told o (uses_place symbols) (told site.here symbols s) else without_expression o s
+    if has_expression o.mode then with_told o (misplaces dialect symbols) (told site.here symbols s) else without_expression o s
 
 -- The operands so far: where the next one begins, and what they leave.
 pub record Reached : Type 0 where
@@ -83,10 +83,14 @@ placed site kind p at s None = record { at = at; progress = refused_by s fault.F
 abbrev pub stands_at : Site → OperandKind → Prepared → (at : ℕ) → Standing → Reached
 stands_at site kind p at s = placed site kind p at s (operand_at kind p.addressed s.sections.current at)
 
+-- the statement, with what `.` is worth in the operand that begins at a place
+abbrev pub site_for : Standing → (at : ℕ) → Site → Site
+site_for s at site = record { origin = site.origin; line = site.line; here = here_at s.dialect site.here (value.Section s.sections.current (pos at)) }
+
 -- one operand
 abbrev pub operand_stated : Site → OperandKind → List Token → (at : ℕ) → Standing → Reached
 operand_stated site kind tokens at s =
-    let p = prepared site (operand_as kind site.line tokens) s.scope in
+    let p = prepared s.dialect (site_for s at site) (operand_as kind site.line tokens) s.scope in
     stands_at site kind p at (with_scope p.scope s)
 
 -- one more operand

@@ -3,7 +3,7 @@
 ghost use Rattle.std.specs.Prelude.{◌≡◌, ◌≤◌, ◌<◌, ◌+◌, ◌^◌, true, All, IfOk, OnOk, length, map};
 ghost use Rattle.vax_asm_encode.specs.Operands.{may_stand};
 ghost use Rattle.vax_asm_instruction.specs.Bytes.{HasInstruction};
-ghost use Rattle.vax_asm_instruction.specs.Stating.{fault_at, fault_in, fixed, instruction_stated, opcode_stated, operand_stated, operands_stated, prepared, stands_at, unless_here};
+ghost use Rattle.vax_asm_instruction.specs.Stating.{fault_at, fault_in, fixed, instruction_stated, opcode_stated, operand_stated, operands_stated, prepared, site_for, stands_at, unless_here};
 ghost use Rattle.vax_asm_instruction.specs.View.{prepared_seen, reached_seen, Reaches};
 ghost use Rattle.vax_isa.specs.Rows.{IsKind, IsFormed, plain};
 ghost use Rattle.vax_asm_sections.specs.Layout.{current_of};
@@ -20,9 +20,8 @@ use std::rc::Rc;
 use vax_asm_encode::{Field, Operand, field_of};
 use vax_asm_first::{
     Content, FaultKind, Filling, Fixup, Origin, Refused, Site, Standing, add, fault_of_value,
-    filling_of, lowest, site_of,
+    filling_of, lowest, misplaces, site_of,
 };
-use vax_asm_scope::uses_place;
 use vax_asm_sections::Piece;
 use vax_asm_statement::{Written, parts};
 use vax_isa::{OperandKind, Row};
@@ -43,7 +42,7 @@ struct Reached {
     fault: Option<FaultKind>,
 }
 
-/// `.` may not stand in an operand.
+/// `.` may not stand in an operand, unless the dialect allows it.
 fn unless_here(here: bool, value: Result<Value, ExprError>) -> Result<Value, ExprError>
     ensures { result ≡ unless_here here value }
 {
@@ -59,7 +58,8 @@ fn prepare(
 ) -> Result<Prepared, NoMemory>
     requires { All (IsTokenOf site.line.now.value.items) operand.expression.now }
     ensures prepared { IfOk result (λ p. prepared_seen p (scope_of standing.new.scope)
-        ≡ prepared (site_seen site.entry) (seen operand.entry) (scope_of standing.old.scope)) }
+        ≡ prepared (standing_of standing.old).dialect (site_seen site.entry)
+        (seen operand.entry) (scope_of standing.old.scope)) }
     ensures same { OnOk result (ChangesScope standing.old standing.new) }
 {
     let Written {
@@ -78,9 +78,9 @@ fn prepare(
             filling: Filling::Known(zero),
         });
     }
-    let here = uses_place(site.line, expression);
+    let misplaced = misplaces(standing.dialect, site.line, expression);
     let told = standing.tell(alloc, site.line, expression, site.here)?;
-    let value = unless_here(here, told.settled);
+    let value = unless_here(misplaced, told.settled);
     Ok(Prepared {
         addressed: Addressed { mode, index, value },
         filling: filling_of(told),
@@ -169,6 +169,28 @@ fn place(
     Ok(Reached { at: next, fault })
 }
 
+/// The statement, with what `.` is worth in the operand that begins at a place.
+fn site_for<'a>(standing: &Standing, site: Site<'a>, at: u32) -> Result<Site<'a>, NoMemory>
+    ensures site { IfOk result (λ s. site_seen s
+        ≡ site_for (standing_of standing.now) at (site_seen site.entry)) }
+    ensures line { IfOk result (λ s. s.line.now.value.items
+        ≡ site.entry.line.now.value.items) }
+{
+    if !standing.dialect.has_places_in_operands() {
+        return Ok(site);
+    }
+    let section = u32::try_from(standing.layout.number()).map_err(|_| NoMemory)?;
+    let here = Value::Section {
+        section,
+        offset: i64::from(at),
+    };
+    Ok(Site {
+        origin: site.origin,
+        line: site.line,
+        here,
+    })
+}
+
 /// One operand.
 fn state_operand(
     standing: &mut Standing,
@@ -186,7 +208,8 @@ fn state_operand(
     ensures near { IfOk result (λ r. r.at ≤ at + 9) }
 {
     let written = operand_as(kind, site.line, tokens);
-    let prepared = prepare(standing, alloc, site, written)?;
+    let here = site_for(standing, site, at)?;
+    let prepared = prepare(standing, alloc, here, written)?;
     place(standing, site, kind, prepared, at)
 }
 

@@ -1,17 +1,19 @@
 -- The statements that define names, choose sections and say where a program begins (VAX MACRO and Instruction Set Reference
 -- Manual, "Label field", "Direct assignment statement", `.PSECT`, `.ENTRY`, `.GLOBAL`, `.EXTERNAL` and `.END`).
-use Rattle.std.specs.Prelude.{ℕ, Bool, true, false, ◌==◌, not, if◌then◌else◌, List, [], ◌∷◌, ◌++◌, Option, Some, None, Result, Ok, Err, codes}
+use Rattle.std.specs.Prelude.{ℕ, ℤ, pos, negsuc, Bool, true, false, ◌&&◌, ◌==◌, not, if◌then◌else◌, List, [], ◌∷◌, ◌++◌, Option, Some, None, Result, Ok, Err, codes}
 use Rattle.std.specs.Str.{bytes_eq}
 use Rattle.vax_asm_encode.specs.declared.operand.DataKind.TheVariants.{Number}
-use Rattle.vax_asm_data.specs.Data.{item_stated, unless_none}
+use Rattle.vax_asm_data.specs.Data.{forward, item_stated, unless_none}
 use Rattle.vax_asm_sections.specs.Layout.{Sections, selected}
 use Rattle.vax_asm_sections.specs.declared.types.Attributes.{Attributes}
 use Rattle.vax_asm_sections.specs.declared.types.Refusal.{Refusal}
+use Rattle.vax_dialect.specs.Differences.{assigns_places, has_unnamed_psect}
 use Rattle.vax_lex.specs.Characters.{canonical_name}
 use Rattle.vax_lex.specs.Grammar.{symbols_of}
 use Rattle.vax_lex.specs.Tokens.{token_text}
 use Rattle.vax_lex.specs.declared.token.Token.{Token}
 use Rattle.vax_lex.specs.declared.value.Value.{Value}
+use Rattle.vax_lex.specs.declared.value.Value.TheVariants as value
 use Rattle.vax_lex.specs.declared.value.ExprError.{ExprError}
 use Rattle.vax_lex.specs.declared.value.ExprError.TheVariants as errors
 use Rattle.vax_macro.specs.declared.error.FaultKind.{FaultKind}
@@ -123,9 +125,39 @@ name_assigned site global name tokens s =
       waiting = waiting_by site.origin name t r;
     }
 
+-- The place that `.` is assigned: one of the current section.
+abbrev pub offset_of : ℤ → Result ℕ FaultKind
+offset_of (pos n) = Ok n
+offset_of (negsuc n) = Err fault.Range
+
+abbrev pub target : (current : ℕ) → Result Value ExprError → Result ℕ FaultKind
+target current (Ok (value.Section i offset)) = if i == current then offset_of offset else Err fault.Form
+target current (Ok (value.Absolute n)) = Err fault.Form
+target current (Ok (value.External i n)) = Err fault.Form
+target current (Err errors.Form) = Err fault.Form
+target current (Err errors.Unknown) = Err fault.Undefined
+target current (Err errors.Range) = Err fault.Range
+
+abbrev pub moved_to : Result ℕ FaultKind → Standing → Result Standing FaultKind
+moved_to (Ok n) s = forward n s
+moved_to (Err kind) s = Err kind
+
+abbrev pub place_moved : Site → List Token → Standing → Result Standing FaultKind
+place_moved site tokens s =
+    let t = told site.here (symbols_of site.line tokens) s.scope in
+    moved_to (target s.sections.current t.value) (with_scope t.scope s)
+
+-- `. = e`, where the dialect has that
+abbrev pub place_assigned : Bool → Site → List Token → Standing → Result Standing FaultKind
+place_assigned true site tokens s = place_moved site tokens s
+place_assigned false site tokens s = Err fault.UnknownOperator
+
+abbrev pub without_waiting : Result Standing FaultKind → Assigned
+without_waiting r = record { result = r; waiting = None }
+
 abbrev pub named_assignment : Site → Bool → List ℕ → List Token → Standing → Assigned
 named_assignment site global name tokens s =
-    if is_place name then not_assigned fault.UnknownOperator
+    if is_place name then without_waiting (place_assigned (assigns_places s.dialect && not global) site tokens s)
     else (if is_local name then not_assigned fault.Form else name_assigned site global name tokens s)
 
 -- `name = e` and, for other modules, `name == e`. Whether a name comes back to itself is told of all assignments together.
@@ -182,8 +214,13 @@ section_chosen (Some name) (Some attributes) s = chosen s (selected name attribu
 section_chosen (Some name) None s = Err fault.Form
 section_chosen None attributes s = Err fault.Form
 
+-- without a name the section that has none, where the dialect goes on in it
+abbrev pub unnamed_chosen : Bool → Standing → Result Standing FaultKind
+unnamed_chosen true s = section_chosen (Some []) (Some nothing_said) s
+unnamed_chosen false s = Err fault.Count
+
 abbrev pub section_by : List ℕ → List (List Token) → Standing → Result Standing FaultKind
-section_by line [] s = Err fault.Count
+section_by line [] s = unnamed_chosen (has_unnamed_psect s.dialect) s
 section_by line (name ∷ attributes) s = section_chosen (name_of line name) (attributes_from line attributes (Some nothing_said)) s
 
 -- `.PSECT`

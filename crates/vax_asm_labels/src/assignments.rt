@@ -1,13 +1,14 @@
 // Assignments.
 
-ghost use Rattle.std.specs.Prelude.{◌≡◌, All, IfOk, OnOk, length, map, option_map, true};
+ghost use Rattle.std.specs.Prelude.{◌≡◌, ◌&&◌, All, IfOk, OnOk, length, map, not, option_map, true};
 ghost use Rattle.vax_lex.specs.Tokens.{IsTokenOf};
-ghost use Rattle.vax_asm_labels.specs.Naming.{assigned_by, assignment_stated, fault_of, name_assigned, named_assignment, waiting, waiting_as, waiting_by, with_waiting};
+ghost use Rattle.vax_asm_labels.specs.Naming.{assigned_by, assignment_stated, fault_of, name_assigned, named_assignment, place_assigned, place_moved, target, waiting, waiting_as, waiting_by, with_waiting};
 ghost use Rattle.vax_asm_labels.specs.View.{Leaves};
 ghost use Rattle.vax_asm_first.specs.Progress.{done_by};
 ghost use Rattle.vax_asm_first.specs.View.{assignment_of, site_seen, standing_of, told_of, Stands, States};
 ghost use Rattle.vax_asm_scope.specs.Kept.{scope_of};
 ghost use Rattle.vax_asm_scope.specs.Scope.{assigned};
+ghost use Rattle.vax_dialect.specs.Differences.{assigns_places};
 ghost use Rattle.vax_asm_statement.specs.Tokens.{is_name_token};
 ghost use Rattle.vax_asm_values.specs.Values.{Means, Worked};
 ghost use Rattle.vax_asm_values.specs.View.{written_of};
@@ -16,6 +17,7 @@ use crate::labels::share;
 use crate::operands::{is_place, kept};
 use std::alloc::Global;
 use std::rc::Rc;
+use vax_asm_data::forward;
 use vax_asm_first::{
     Assignment, FaultKind, Origin, Refused, Site, Standing, Told, lowest, site_of,
 };
@@ -146,6 +148,64 @@ fn assign(
     }
 }
 
+/// The place that `.` is assigned, which is one of the current section.
+fn target(current: usize, value: Result<Value, ExprError>) -> Result<u64, FaultKind>
+    ensures { result ≡ target current value }
+{
+    match value {
+        Ok(Value::Section { section, offset }) => {
+            if section as usize == current {
+                u64::try_from(offset).map_err(|_| FaultKind::Range)
+            } else {
+                Err(FaultKind::Form)
+            }
+        }
+        Ok(_) => Err(FaultKind::Form),
+        Err(ExprError::Form) => Err(FaultKind::Form),
+        Err(ExprError::Unknown) => Err(FaultKind::Undefined),
+        Err(ExprError::Range) => Err(FaultKind::Range),
+    }
+}
+
+/// Goes on at the place that an expression is.
+fn move_place(
+    standing: &mut Standing,
+    alloc: Global,
+    site: Site<'_>,
+    tokens: &[Token],
+) -> Result<(), Refused>
+    requires { All (IsTokenOf site.line.now.value.items) tokens.now }
+    ensures { States (place_moved (site_seen site.entry) tokens.now)
+        result standing.old standing.new }
+{
+    let Ok(told) = standing.tell(alloc, site.line, tokens, site.here) else {
+        return Err(Refused::NoMemory);
+    };
+    match target(standing.layout.number(), told.value) {
+        Ok(to) => forward(standing, to),
+        Err(kind) => Err(Refused::Fault(kind)),
+    }
+}
+
+/// An assignment to `.`, where the dialect has that.
+fn assign_place(
+    standing: &mut Standing,
+    alloc: Global,
+    site: Site<'_>,
+    global: bool,
+    tokens: &[Token],
+) -> Result<(), Refused>
+    requires { All (IsTokenOf site.line.now.value.items) tokens.now }
+    ensures { States (λ s. place_assigned (assigns_places s.dialect && not global)
+        (site_seen site.entry) tokens.now s) result standing.old standing.new }
+{
+    if standing.dialect.assigns_places() && !global {
+        move_place(standing, alloc, site, tokens)
+    } else {
+        Err(Refused::Fault(FaultKind::UnknownOperator))
+    }
+}
+
 /// An assignment to a name.
 fn assign_named(
     standing: &mut Standing,
@@ -164,7 +224,7 @@ fn assign_named(
         (standing_of standing.old)).waiting result assignments.old assignments.new }
 {
     if is_place(name) {
-        return Err(Refused::Fault(FaultKind::UnknownOperator));
+        return assign_place(standing, alloc, site, global, tokens);
     }
     if is_local(name) {
         return Err(Refused::Fault(FaultKind::Form));
@@ -180,8 +240,12 @@ fn assign_named(
 /// rests on has one. In the expression the name means its definition before. Where it has no value yet, the assignment is
 /// added to `assignments`, from which [`vax_asm_first::first_circle`] tells whether a name comes back to itself.
 ///
-/// [`Refused::Fault`] with the fault that counts: `UnknownOperator` where the name is `.`, `Form` where it is a local label or
+/// `. = e` goes on at a place of the current section, where the dialect has that: zero bytes stand up to it.
+///
+/// [`Refused::Fault`] with the fault that counts: `UnknownOperator` where the name is `.` and the dialect doesn't have that, `Form` where it is a local label or
 /// the expression has no form, `Duplicate` where it is a label, `Range` where the expression divides by zero.
+/// Of `. = e`: `Form` where it is no place of the current section, `Undefined` where it isn't known, `Range` where it lies
+/// before the next statement, `Large` where the section or the module would be too long.
 /// [`Refused::NoMemory`] where memory is refused. Nothing of use is left then, but for the assignments.
 #[tactic(auto, unfolding(crate::specs::Naming::assignment_stated))]
 pub fn assignment(

@@ -3,9 +3,10 @@
 ghost use Rattle.std.specs.Prelude.{◌≡◌, ◌<◌, ◌^◌, All, IfSome, Some, length, map, option_map};
 ghost use Rattle.vax_lex.specs.KeptNames.{kept_name};
 ghost use Rattle.vax_lex.specs.Tokens.{IsTokenOf};
-ghost use Rattle.vax_asm_labels.specs.Naming.{attribute_at, attributes_from, nothing_said, section_chosen, section_stated, with_align, with_attribute, with_write};
+ghost use Rattle.vax_asm_labels.specs.Naming.{attribute_at, attributes_from, nothing_said, section_chosen, section_stated, unnamed_chosen, with_align, with_attribute, with_write};
 ghost use Rattle.vax_asm_labels.specs.Within.{Within};
 ghost use Rattle.vax_asm_first.specs.View.{States};
+ghost use Rattle.vax_dialect.specs.Differences.{has_unnamed_psect};
 ghost use Rattle.vax_asm_statement.specs.Directives.{attribute_of};
 ghost use Rattle.vax_asm_statement.specs.Parts.{parts};
 
@@ -120,10 +121,30 @@ fn choose(
     Ok(())
 }
 
+/// `.PSECT` alone: the section without a name, where the dialect goes on in it.
+fn choose_unnamed(standing: &mut Standing, alloc: Global) -> Result<(), Refused>
+    ensures { States (λ s. unnamed_chosen (has_unnamed_psect s.dialect) s)
+        result standing.old standing.new }
+{
+    if !standing.dialect.has_unnamed_psect() {
+        return Err(Refused::Fault(FaultKind::Count));
+    }
+    let attributes = Attributes {
+        align: None,
+        write: None,
+    };
+    choose(
+        standing,
+        alloc,
+        Some(CanonicalName::of(b"")),
+        Some(attributes),
+    )
+}
+
 /// `.PSECT name,attributes`: the section with this name is chosen, which begins if there is none. A block of local labels
 /// begins.
 ///
-/// [`Refused::Fault`]: `Count` where there are no operands, `Form` where the first is no name, another is no attribute, two
+/// [`Refused::Fault`]: `Count` where there are no operands, unless the dialect goes on in the section without a name, `Form` where the first is no name, another is no attribute, two
 /// say otherwise, or the section's first `.PSECT` said otherwise. [`Refused::NoMemory`] where memory is refused. Nothing of
 /// use is left then.
 #[tactic(auto, using(crate::proofs::Attributes::said_within), unfolding(crate::specs::Naming::section_stated))]
@@ -141,7 +162,7 @@ pub fn section(
         return Err(Refused::NoMemory);
     };
     let [name, attributes @ ..] = found.as_slice() else {
-        return Err(Refused::Fault(FaultKind::Count));
+        return choose_unnamed(standing, alloc);
     };
     let attributes = attributes_of(line, attributes);
     choose(standing, alloc, name_of(line, name), attributes)

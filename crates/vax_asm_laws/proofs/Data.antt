@@ -1,23 +1,26 @@
 -- Directives of data.
-use Rattle.std.proofs.Common.{◌≡◌, ◌*◌, ℕ, List, [], ◌∷◌, length, map, Option, Some, None, Result, Ok, Err, refl, ap, subst, ◌∙◌}
+use Rattle.std.proofs.Common.{◌≡◌, ◌*◌, ℕ, pos, Bool, true, false, cond, List, [], ◌∷◌, length, map, Option, Some, None, Result, Ok, Err, refl, ap, subst, ◌∙◌}
 use Rattle.std.proofs.Math.Nat.{mul_comm}
-use Rattle.vax_asm_data.specs.Data.{Ending, Plain, Counted_first, Zero_last, addresses_stated, align_by, align_stated, align_to, at_most_one, before_pieces, behind_pieces, boundary, boundary_named, characters_of, count_byte, count_stated, data_stated, even_stated, fixed, item_stated, items_stated, one_alone, piece_stated, pieces_length, pieces_stated, placed_item, room, room_by, space_stated, text_by, text_parts, text_stated, unless_none}
+use Rattle.vax_asm_data.specs.Data.{Ending, Plain, Counted_first, Zero_last, addresses_stated, align_by, align_stated, align_to, at_most_one, before_pieces, behind_pieces, boundary, boundary_named, characters_of, count_byte, count_stated, data_stated, even_stated, expression_stated, fixed, is_nothing, item_stated, item_told, items_stated, one_alone, piece_stated, pieces_length, pieces_stated, placed_item, room, room_by, space_stated, text_by, text_parts, text_stated, to_odd, odd_stated, forward, unless_none, zero_stated}
+use Rattle.std.specs.Prelude.{◌&&◌, ◌-◌, nat_lt, if◌then◌else◌}
+use Rattle.vax_dialect.specs.Differences.{has_empty_items}
 use Rattle.vax_asm_second.proofs.Fitting.{data_length}
 use Rattle.vax_asm_sections.specs.Layout.{Bytes, Field, Part, Sections, Zeros, aligned, current_of, put}
 use Rattle.vax_asm_sections.specs.declared.types.Refusal.{Refusal}
 use Rattle.vax_lex.specs.declared.token.Token.{Token}
 use Rattle.vax_lex.specs.Grammar.{symbols_of}
+use Rattle.vax_lex.specs.declared.value.Value.TheVariants as value
 use Rattle.vax_macro.specs.declared.error.FaultKind.{FaultKind}
+use Rattle.vax_macro.specs.declared.error.FaultKind.TheVariants as fault
 use Rattle.vax_asm_encode.specs.Operands.{item_field, item_size}
 use Rattle.vax_asm_encode.specs.declared.operand.DataKind.{DataKind}
 use Rattle.vax_asm_encode.specs.declared.operand.DataKind.TheVariants.{Number}
 use Rattle.vax_asm_first.specs.Faults.{fault_of_value, unless_place}
-use Rattle.vax_asm_first.specs.Fixups.{Filling, Fixup, filling_by}
+use Rattle.vax_asm_first.specs.Fixups.{Filling, Fixup, Known, filling_by}
 use Rattle.vax_asm_first.specs.Progress.{Progress, Site, added, after_change, begun, counted, done, done_by, joined, site_of}
-use Rattle.vax_asm_first.specs.Standing.{Standing, told, with_scope, with_sections}
+use Rattle.vax_asm_first.specs.Standing.{Standing, misplaces, with_scope, with_sections}
 use Rattle.vax_asm_first.specs.declared.types.Content.TheVariants.{Data}
 use Rattle.vax_asm_first.specs.declared.types.Origin.{Origin}
-use Rattle.vax_asm_scope.specs.Used.{uses_place}
 use Rattle.vax_asm_statement.specs.Items.{Item, Piece, Characters, Value as ByteValue, item_of, pieces_of, whole}
 use Rattle.vax_asm_statement.specs.Parts.{parts}
 use Rattle.vax_word.specs.Arithmetic.{bytes_of}
@@ -36,7 +39,7 @@ IsCounted s = AreCounted s.sections
 
 pub with_sections_goes : (s t : Standing) (r : Result (Sections Fixup) Refusal) → ((u : Sections Fixup) → r ≡ Ok u → Step s.sections u) → with_sections s r ≡ Ok t → Goes s t
 with_sections_goes s t (Ok u) h e =
-    let same : u ≡ t.sections = ap (λ (x : Standing). x.sections) (let all : record { scope = s.scope; sections = u; transfer = s.transfer } ≡ t = cc in all) in
+    let same : u ≡ t.sections = ap (λ (x : Standing). x.sections) (let all : record { dialect = s.dialect; scope = s.scope; sections = u; transfer = s.transfer } ≡ t = cc in all) in
     subst (λ (x : Sections Fixup). Step s.sections x) same (h u refl)
 with_sections_goes s t (Err refusal) h e = cc
 
@@ -69,12 +72,25 @@ placed_goes k site (Some kind) (Ok n) filling s c = step_same s.sections c
 placed_goes k site None (Err kind) filling s c = step_same s.sections c
 placed_goes k site (Some other) (Err kind) filling s c = step_same s.sections c
 
+zero_goes : (k : DataKind) (site : Site) (item : Item) (s : Standing) → IsCounted s → Goes s (zero_stated k site item s).standing
+zero_goes k site item s c =
+    let n = counted site item.count s.scope in
+    placed_goes k site None n.number (Known (value.Absolute (pos 0))) (with_scope n.scope s) c
+
+expression_goes : (k : DataKind) (site : Site) (item : Item) (s : Standing) → IsCounted s → Goes s (expression_stated k site item s).standing
+expression_goes k site item s c =
+    let t = item_told site item s in
+    let n = counted site item.count t.scope in
+    placed_goes k site (unless_place (misplaces s.dialect (symbols_of site.line item.expression)) (fault_of_value (item_field k) 0 0 t.settled)) n.number (filling_by t.value t.written) (with_scope n.scope s) c
+
+either_goes : (b : Bool) (s : Standing) (p q : Progress) → Goes s p.standing → Goes s q.standing → Goes s (cond b p q).standing
+either_goes true s p q h i = h
+either_goes false s p q h i = i
+
 pub item_goes : (k : DataKind) (site : Site) (item : Item) (s : Standing) → IsCounted s → Goes s (item_stated k site item s).standing
 item_goes k site item s c =
-    let symbols = symbols_of site.line item.expression in
-    let t = told site.here symbols s.scope in
-    let n = counted site item.count t.scope in
-    placed_goes k site (unless_place (uses_place symbols) (fault_of_value (item_field k) 0 0 t.settled)) n.number (filling_by t.value t.written) (with_scope n.scope s) c
+    either_goes (is_nothing item.expression && has_empty_items s.dialect) s (zero_stated k site item s) (expression_stated k site item s)
+    (zero_goes k site item s c) (expression_goes k site item s c)
 
 items_go : (k : DataKind) (site : Site) (items : List Item) (p : Progress) → IsCounted p.standing → Goes p.standing (items_stated k site items p).standing
 items_go k site [] p c = step_same p.standing.sections c
@@ -195,3 +211,19 @@ pub even_goes : (tokens : List Token) (s t : Standing) → IsCounted s → even_
 unfolding even_stated
 even_goes [] s t c e = with_sections_goes s t (aligned 1 s.sections) (λ u made. align_step 1 s.sections u c made) e
 even_goes (x ∷ tokens) s t c e = cc
+
+pub odd_goes : (tokens : List Token) (s t : Standing) → IsCounted s → odd_stated tokens s ≡ Ok t → Goes s t
+unfolding odd_stated
+odd_goes [] s t c e =
+    let n = to_odd (current_of s.sections).size in
+    with_sections_goes s t (put n (Zeros n) s.sections) (λ u made. put_step n (Zeros n) s.sections u c refl tt tt made) e
+odd_goes (x ∷ tokens) s t c e = cc
+
+further_goes : (b : Bool) (n : ℕ) (s t : Standing) → IsCounted s → (if b then Err fault.Range else with_sections s (put n (Zeros n) s.sections)) ≡ Ok t → Goes s t
+further_goes true n s t c e = cc
+further_goes false n s t c e = with_sections_goes s t (put n (Zeros n) s.sections) (λ u made. put_step n (Zeros n) s.sections u c refl tt tt made) e
+
+pub forward_goes : (to : ℕ) (s t : Standing) → IsCounted s → forward to s ≡ Ok t → Goes s t
+forward_goes to s t c e =
+    let size = (current_of s.sections).size in
+    further_goes (nat_lt to size) (to - size) s t c e

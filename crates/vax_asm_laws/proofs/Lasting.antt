@@ -1,30 +1,31 @@
 -- Definitions that are there stay.
-use Rattle.std.proofs.Common.{◌≡◌, ◌⊎◌, ◌+◌, ℕ, Bool, true, false, List, [], ◌∷◌, ◌++◌, length, Option, Some, None, Result, Ok, Err, inl, inr, refl, sym, ap, subst, ◌∙◌}
+use Rattle.std.proofs.Common.{◌≡◌, ◌⊎◌, ◌+◌, ℕ, Bool, true, false, cond, List, [], ◌∷◌, ◌++◌, length, Option, Some, None, Result, Ok, Err, inl, inr, refl, sym, ap, subst, ◌∙◌}
 use Rattle.std.proofs.lemmas.Bool.{cases_eq, cases_lt}
 use Rattle.std.proofs.lemmas.List.{get_or_append_left, get_or_past, get_or-set_other}
 use Rattle.std.specs.List.{list_any}
-use Rattle.std.specs.Prelude.{◌==◌, ◌&&◌, codes, if◌then◌else◌, map, nat_lt, slice_set}
+use Rattle.std.specs.Prelude.{◌==◌, ◌&&◌, not, codes, if◌then◌else◌, map, nat_lt, slice_set}
 use Rattle.std.specs.Str.{bytes_eq}
 use Rattle.vax_asm.specs.Placing.{FaultyLabel, Faulty, Placed, Stands, also, behind_label, beside, body_stated, directed, directive_named, if_wide, instructed, instruction_named, is_bad, is_listing, is_wide, operated_by, placed, placed_by, stated, stated_by, token_of, with_range}
 use Rattle.vax_asm.specs.Walk.{Assembly}
-use Rattle.vax_asm_data.specs.Data.{Ending, Plain, Counted_first, Zero_last, addresses_stated, align_by, align_stated, align_to, at_most_one, before_pieces, behind_pieces, boundary, boundary_named, count_byte, count_stated, data_stated, even_stated, item_stated, items_stated, one_alone, piece_stated, pieces_length, pieces_stated, placed_item, room, room_by, space_stated, text_by, text_stated, unless_none}
+use Rattle.vax_asm_data.specs.Data.{Ending, Plain, Counted_first, Zero_last, addresses_stated, align_by, align_stated, align_to, at_most_one, before_pieces, behind_pieces, boundary, boundary_named, count_byte, count_stated, data_stated, even_stated, expression_stated, is_nothing, item_stated, items_stated, odd_stated, one_alone, piece_stated, pieces_length, pieces_stated, placed_item, room, room_by, space_stated, text_by, text_stated, unless_none, zero_stated}
+use Rattle.vax_dialect.specs.Differences.{assigns_places, has_empty_items, has_unnamed_psect}
 use Rattle.vax_asm_encode.specs.declared.operand.DataKind.{DataKind}
 use Rattle.vax_asm_encode.specs.declared.operand.DataKind.TheVariants.{Number}
 use Rattle.vax_asm_encode.specs.declared.operand.Operand.{Operand}
 use Rattle.vax_asm_first.specs.Fixups.{Assignment as Waiting, Filling, Fixup}
 use Rattle.vax_asm_first.specs.Progress.{Progress, Site, added, after_change, begun, counted, done, done_by, joined, site_of}
-use Rattle.vax_asm_first.specs.Standing.{Standing, here_in, told, with_scope, with_sections}
+use Rattle.vax_asm_first.specs.Standing.{Standing, here_at, here_in, misplaces, told, with_scope, with_sections}
 use Rattle.vax_asm_first.specs.declared.types.Origin.{Origin}
 use Rattle.vax_asm_instruction.specs.Placing.{has_expression, operand_as, operand_at}
 use Rattle.vax_asm_instruction.specs.Stating as instruction
-use Rattle.vax_asm_instruction.specs.Stating.{Reached, fault_at, if_counted, instruction_stated, opcode_stated, operand_stated, operands_stated, prepared}
-use Rattle.vax_asm_labels.specs.Naming.{appears, assigned_by, assignment_stated, attributes_from, begins, begins_at, chosen, defined, end_by, end_stated, entry_named, entry_stated, is_place, label_stated, local_stated, name_assigned, name_in, name_of, named, names_from, names_stated, nothing_said, not_assigned, section_by, section_chosen, section_stated, shared, symbol_stated, two_alone, with_name}
+use Rattle.vax_asm_instruction.specs.Stating.{Reached, fault_at, if_counted, instruction_stated, opcode_stated, operand_stated, operands_stated, prepared, site_for}
+use Rattle.vax_asm_labels.specs.Naming.{appears, assigned_by, assignment_stated, attributes_from, begins, begins_at, chosen, defined, end_by, end_stated, entry_named, entry_stated, is_place, label_stated, local_stated, name_assigned, name_in, name_of, named, names_from, names_stated, nothing_said, not_assigned, section_by, section_chosen, section_stated, moved_to, place_assigned, place_moved, shared, target, unnamed_chosen, without_waiting, symbol_stated, two_alone, with_name}
 use Rattle.vax_asm_labels.specs.Naming as naming
 use Rattle.vax_asm_names.specs.Names as table
 use Rattle.vax_asm_names.specs.declared.types.Duplicate.{Duplicate}
 use Rattle.vax_asm_names.specs.declared.types.Local.{Local}
 use Rattle.vax_asm_scope.specs.Scope.{Bound, Entry, Scope, assign_to, assigned, bind_all, closed, entry, entry_by, is_local, is_undefined, labelled, labelled_locally, local_by, mean, mean_here, mean_local, mean_name, opened_if_fresh, renamed, with_externals, external_at}
-use Rattle.vax_asm_scope.specs.Used.{at_term, used, uses_place}
+use Rattle.vax_asm_scope.specs.Used.{at_term, used}
 use Rattle.vax_asm_sections.specs.Layout.{Part, Sections, Zeros, aligned, put, selected}
 use Rattle.vax_asm_sections.specs.declared.types.Attributes.{Attributes}
 use Rattle.vax_asm_sections.specs.declared.types.Refusal.{Refusal}
@@ -214,13 +215,28 @@ placed_lasts kind site (Some f) (Ok n) filling s = stay_same s.scope.sources
 placed_lasts kind site None (Err f) filling s = stay_same s.scope.sources
 placed_lasts kind site (Some e) (Err f) filling s = stay_same s.scope.sources
 
+zero_lasts : (kind : DataKind) (site : Site) (item : Item) (s : Standing) → Lasts s.scope (zero_stated kind site item s).standing.scope
+zero_lasts kind site item s =
+    let c = counted site item.count s.scope in
+    stay_then s.scope.sources c.scope.sources (zero_stated kind site item s).standing.scope.sources (counted_lasts site item.count s.scope) (placed_lasts kind site None c.number _ (with_scope c.scope s))
+
+expression_lasts : (kind : DataKind) (site : Site) (item : Item) (s : Standing) → Lasts s.scope (expression_stated kind site item s).standing.scope
+expression_lasts kind site item s =
+    let here : Value = here_at s.dialect site.here (here_in s.sections) in
+    let symbols = symbols_of site.line item.expression in
+    let t = told here symbols s.scope in
+    let c = counted site item.count t.scope in
+    stay_then s.scope.sources t.scope.sources (expression_stated kind site item s).standing.scope.sources (told_lasts here symbols s.scope)
+    (stay_then t.scope.sources c.scope.sources (expression_stated kind site item s).standing.scope.sources (counted_lasts site item.count t.scope) (placed_lasts kind site _ c.number _ (with_scope c.scope s)))
+
+either_lasts : (b : Bool) (s : Scope) (p q : Progress) → Lasts s p.standing.scope → Lasts s q.standing.scope → Lasts s (cond b p q).standing.scope
+either_lasts true s p q h i = h
+either_lasts false s p q h i = i
+
 item_lasts : (kind : DataKind) (site : Site) (item : Item) (s : Standing) → Lasts s.scope (item_stated kind site item s).standing.scope
 item_lasts kind site item s =
-    let symbols = symbols_of site.line item.expression in
-    let t = told site.here symbols s.scope in
-    let c = counted site item.count t.scope in
-    stay_then s.scope.sources t.scope.sources (item_stated kind site item s).standing.scope.sources (told_lasts site.here symbols s.scope)
-    (stay_then t.scope.sources c.scope.sources (item_stated kind site item s).standing.scope.sources (counted_lasts site item.count t.scope) (placed_lasts kind site _ c.number _ (with_scope c.scope s)))
+    either_lasts (is_nothing item.expression && has_empty_items s.dialect) s.scope (zero_stated kind site item s) (expression_stated kind site item s)
+    (zero_lasts kind site item s) (expression_lasts kind site item s)
 
 items_last : (kind : DataKind) (site : Site) (items : List Item) (p : Progress) → Lasts p.standing.scope (items_stated kind site items p).standing.scope
 items_last kind site [] p = stay_same p.standing.scope.sources
@@ -289,6 +305,11 @@ unfolding even_stated
 even_in [] s = sections_in s (aligned 1 s.sections)
 even_in (t ∷ tokens) s = tt
 
+odd_in : (tokens : List Token) (s : Standing) → StandIn s (odd_stated tokens s)
+unfolding odd_stated
+odd_in [] s = sections_in s _
+odd_in (t ∷ tokens) s = tt
+
 -- ---- sections, entries, names, the end
 
 chosen_in : (s : Standing) (r : Result (Sections Fixup) Refusal) → StandIn s (chosen s r)
@@ -301,8 +322,12 @@ section_in_by (Some name) None s = tt
 section_in_by None (Some a) s = tt
 section_in_by None None s = tt
 
+unnamed_in : (b : Bool) (s : Standing) → StandIn s (unnamed_chosen b s)
+unnamed_in true s = section_in_by (Some []) (Some nothing_said) s
+unnamed_in false s = tt
+
 section_in : (line : List ℕ) (found : List (List Token)) (s : Standing) → StandIn s (section_by line found s)
-section_in line [] s = tt
+section_in line [] s = unnamed_in (has_unnamed_psect s.dialect) s
 section_in line (name ∷ attributes) s = section_in_by (name_of line name) (attributes_from line attributes (Some nothing_said)) s
 
 symbol_in : (global : Bool) (name : List ℕ) (s : Standing) → StandIn s (symbol_stated global name s)
@@ -353,9 +378,9 @@ end_in line (name ∷ more ∷ others) s = tt
 
 -- ---- instructions
 
-prepared_by : (b : Bool) (site : Site) (o : modes.Operand) (s : Scope) → Lasts s (if b then instruction.with_told o (uses_place (symbols_of site.line o.expression)) (told site.here (symbols_of site.line o.expression) s) else instruction.without_expression o s).scope
-prepared_by true site o s = told_lasts site.here (symbols_of site.line o.expression) s
-prepared_by false site o s = stay_same s.sources
+prepared_by : (b misplaced : Bool) (site : Site) (o : modes.Operand) (s : Scope) → Lasts s (if b then instruction.with_told o misplaced (told site.here (symbols_of site.line o.expression) s) else instruction.without_expression o s).scope
+prepared_by true misplaced site o s = told_lasts site.here (symbols_of site.line o.expression) s
+prepared_by false misplaced site o s = stay_same s.sources
 
 fixed_lasts : (site : Site) (kind : OperandKind) (o : Operand) (filling : Filling) (at : ℕ) (s : Standing) (f : Option FaultKind) → Lasts s.scope (instruction.fixed site kind o filling at s f).standing.scope
 fixed_lasts site kind o filling at s None = added_lasts _ _ s
@@ -368,8 +393,9 @@ stands_last site kind p at s None = stay_same s.scope.sources
 operand_lasts : (site : Site) (kind : OperandKind) (tokens : List Token) (at : ℕ) (s : Standing) → Lasts s.scope (operand_stated site kind tokens at s).progress.standing.scope
 operand_lasts site kind tokens at s =
     let o : modes.Operand = operand_as kind site.line tokens in
-    let p = prepared site o s.scope in
-    stay_then s.scope.sources p.scope.sources (operand_stated site kind tokens at s).progress.standing.scope.sources (prepared_by (has_expression o.mode) site o s.scope)
+    let here : Site = site_for s at site in
+    let p = prepared s.dialect here o s.scope in
+    stay_then s.scope.sources p.scope.sources (operand_stated site kind tokens at s).progress.standing.scope.sources (prepared_by (has_expression o.mode) (misplaces s.dialect (symbols_of site.line o.expression)) here o s.scope)
     (stands_last site kind p at (with_scope p.scope s) (operand_at kind p.addressed s.sections.current at))
 
 operands_last : (site : Site) (os : List (List Token)) (kinds : List OperandKind) (r : Reached) → Lasts r.progress.standing.scope (operands_stated site os kinds r).progress.standing.scope
@@ -413,6 +439,7 @@ directed_in directive.Align origin line tokens s =
     (λ one. let c = boundary (site_of origin line s) one (boundary_named line one) s.scope in
     stand_then s (with_scope c.scope s) (align_to (with_scope c.scope s) c.number) (boundary_lasts (site_of origin line s) one (boundary_named line one) s.scope) (align_in (with_scope c.scope s) c.number))
 directed_in directive.Even origin line tokens s = even_in tokens s
+directed_in directive.Odd origin line tokens s = odd_in tokens s
 directed_in directive.Global origin line tokens s = none_in tokens s _ (named_in s (names_from true line (parts tokens) (Some s.scope)) (names_in true line (parts tokens) s.scope (Some s.scope) (stay_same s.scope.sources)))
 directed_in directive.External origin line tokens s = none_in tokens s _ (named_in s (names_from false line (parts tokens) (Some s.scope)) (names_in false line (parts tokens) s.scope (Some s.scope) (stay_same s.scope.sources)))
 directed_in directive.Listing origin line tokens s = stay_same s.scope.sources
@@ -439,9 +466,23 @@ name_in_result site global name tokens s =
     done_in s (joined (naming.fault_of t.settled) (after_change s (assigned_by global name s r)))
     (changed_lasts s (assigned_by global name s r) (assigned_by_in global name s t.scope r into (assigned_lasts name t.written t.scope)))
 
+forward_in : (b : Bool) (s : Standing) (r : Result (Sections Fixup) Refusal) → StandIn s (if b then Err fault.Range else with_sections s r)
+forward_in true s r = tt
+forward_in false s r = sections_in s r
+
+moved_in : (n : Result ℕ FaultKind) (s : Standing) → StandIn s (moved_to n s)
+moved_in (Ok n) s = forward_in _ s _
+moved_in (Err kind) s = tt
+
+place_in : (b : Bool) (site : Site) (tokens : List Token) (s : Standing) → StandIn s (place_assigned b site tokens s)
+place_in true site tokens s =
+    let w = told site.here (symbols_of site.line tokens) s.scope in
+    stand_then s (with_scope w.scope s) (place_moved site tokens s) (told_lasts site.here (symbols_of site.line tokens) s.scope) (moved_in (target s.sections.current w.value) (with_scope w.scope s))
+place_in false site tokens s = tt
+
 assignment_by : (place local : Bool) (site : Site) (global : Bool) (name : List ℕ) (tokens : List Token) (s : Standing)
-    → StandIn s (if place then not_assigned fault.UnknownOperator else (if local then not_assigned fault.Form else name_assigned site global name tokens s)).result
-assignment_by true local site global name tokens s = tt
+    → StandIn s (if place then without_waiting (place_assigned (assigns_places s.dialect && not global) site tokens s) else (if local then not_assigned fault.Form else name_assigned site global name tokens s)).result
+assignment_by true local site global name tokens s = place_in (assigns_places s.dialect && not global) site tokens s
 assignment_by false true site global name tokens s = tt
 assignment_by false false site global name tokens s = name_in_result site global name tokens s
 
@@ -449,7 +490,7 @@ body_in : (origin : Origin) (line : List ℕ) (what : What) (s : Standing) → S
 unfolding body_stated assignment_stated
 body_in origin line Nothing s = stay_same s.scope.sources
 body_in origin line (Assignment name global tokens) s = assignment_by (is_place (name_in line name)) (is_local (name_in line name)) (site_of origin line s) global (name_in line name) tokens s
-body_in origin line (Operation name tokens) s = operated_in (directive_named (token_text line name)) origin line (token_text line name) tokens s
+body_in origin line (Operation name tokens) s = operated_in (directive_named s.dialect (token_text line name)) origin line (token_text line name) tokens s
 body_in origin line Malformed s = tt
 
 local_in : (global : Bool) (name : List ℕ) (s : Standing) → StandIn s (local_stated global name s)
@@ -513,7 +554,7 @@ unfolding placed stated
 placed_in origin line s =
     let ps = pieces_of line in
     let p : Parsed = parsed (map token_of ps) in
-    listed_in (is_listing line p.what) (list_any is_bad ps) (list_any is_wide ps) s (stated origin line p s) (stated_in origin line p.label p.what s)
+    listed_in (is_listing s.dialect line p.what) (list_any is_bad ps) (list_any is_wide ps) s (stated origin line p s) (stated_in origin line p.label p.what s)
 
 -- ---- all statements
 

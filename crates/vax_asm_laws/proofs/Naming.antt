@@ -1,6 +1,7 @@
 -- Names, sections, entries and the end.
 use Rattle.std.proofs.Common.{◌≡◌, ℕ, Bool, true, false, List, [], ◌∷◌, Option, Some, None, Result, Ok, Err, refl, sym, ap, subst, ◌∙◌}
-use Rattle.std.specs.Prelude.{if◌then◌else◌}
+use Rattle.std.specs.Prelude.{◌&&◌, not, if◌then◌else◌}
+use Rattle.vax_dialect.specs.Differences.{assigns_places, has_unnamed_psect}
 use Rattle.vax_asm_sections.specs.Layout.{Sections, selected}
 use Rattle.vax_asm_sections.specs.declared.types.Attributes.{Attributes}
 use Rattle.vax_asm_sections.specs.declared.types.Refusal.{Refusal}
@@ -9,7 +10,7 @@ use Rattle.vax_lex.specs.declared.token.Token.{Token}
 use Rattle.vax_macro.specs.declared.error.FaultKind.{FaultKind}
 use Rattle.vax_macro.specs.declared.error.FaultKind.TheVariants as fault
 use Rattle.vax_asm_names.specs.declared.types.Duplicate.{Duplicate}
-use Rattle.vax_asm_labels.specs.Naming.{assigned_by, assignment_stated, attributes_from, begins, begins_at, chosen, defined, end_by, end_stated, entry_named, entry_stated, fault_of, is_place, label_stated, local_stated, name_assigned, name_in, name_of, named, names_from, names_stated, not_assigned, nothing_said, section_by, section_chosen, section_stated, shared, symbol_stated, two_alone}
+use Rattle.vax_asm_labels.specs.Naming.{moved_to, place_assigned, target, unnamed_chosen, without_waiting, assigned_by, assignment_stated, attributes_from, begins, begins_at, chosen, defined, end_by, end_stated, entry_named, entry_stated, fault_of, is_place, label_stated, local_stated, name_assigned, name_in, name_of, named, names_from, names_stated, not_assigned, nothing_said, section_by, section_chosen, section_stated, shared, symbol_stated, two_alone}
 use Rattle.vax_asm_first.specs.Fixups.{Fixup}
 use Rattle.vax_asm_first.specs.Progress.{Progress, Site, after_change, joined, site_of}
 use Rattle.vax_asm_first.specs.Standing.{Standing, Told, here_in, told, with_scope}
@@ -22,7 +23,7 @@ use Rattle.vax_word.specs.declared.Size.TheVariants as size
 use Rattle.vax_asm_encode.specs.declared.operand.DataKind.TheVariants.{Number}
 use Rattle.vax_asm_data.specs.Data.{item_stated}
 use Rattle.vax_asm_laws.proofs.Counting.{Step, select_step, step_same, step_then}
-use Rattle.vax_asm_laws.proofs.Data.{Goes, IsCounted, after_change_goes, done_goes, item_goes, unless_none_goes}
+use Rattle.vax_asm_laws.proofs.Data.{Goes, IsCounted, after_change_goes, done_goes, forward_goes, item_goes, unless_none_goes}
 
 -- the sections of what a statement leaves
 abbrev sections_in : Result Standing FaultKind → Standing → Sections Fixup
@@ -70,9 +71,20 @@ name_goes site global name tokens s t c e =
     done_goes s t (joined (fault_of w.settled) (after_change s r))
     (after_change_goes s r c (λ u made. assigned_goes global name s u (assigned name w.written w.scope) c made)) e
 
+moved_goes : (s t : Standing) (n : Result ℕ FaultKind) → IsCounted s → moved_to n s ≡ Ok t → Goes s t
+moved_goes s t (Ok n) c e = forward_goes n s t c e
+moved_goes s t (Err kind) c e = cc
+
+place_goes : (b : Bool) (site : Site) (tokens : List Token) (s t : Standing) → IsCounted s → place_assigned b site tokens s ≡ Ok t → Goes s t
+place_goes true site tokens s t c e =
+    let w : Told = told site.here (symbols_of site.line tokens) s.scope in
+    moved_goes (with_scope w.scope s) t (target s.sections.current w.value) c e
+place_goes false site tokens s t c e = cc
+
 assignment_by : (place local : Bool) (site : Site) (global : Bool) (name : List ℕ) (tokens : List Token) (s t : Standing) → IsCounted s
-    → (if place then not_assigned fault.UnknownOperator else (if local then not_assigned fault.Form else name_assigned site global name tokens s)).result ≡ Ok t → Goes s t
-assignment_by true local site global name tokens s t c e = cc
+    → (if place then without_waiting (place_assigned (assigns_places s.dialect && not global) site tokens s)
+    else (if local then not_assigned fault.Form else name_assigned site global name tokens s)).result ≡ Ok t → Goes s t
+assignment_by true local site global name tokens s t c e = place_goes (assigns_places s.dialect && not global) site tokens s t c e
 assignment_by false true site global name tokens s t c e = cc
 assignment_by false false site global name tokens s t c e = name_goes site global name tokens s t c e
 
@@ -86,7 +98,7 @@ assignment_goes origin line name global tokens s t c e =
 
 chosen_goes : (s t : Standing) (r : Result (Sections Fixup) Refusal) → ((u : Sections Fixup) → r ≡ Ok u → Step s.sections u) → chosen s r ≡ Ok t → Goes s t
 chosen_goes s t (Ok u) h e =
-    let made : record { scope = begun_block s.scope; sections = u; transfer = s.transfer } ≡ t = cc in
+    let made : record { dialect = s.dialect; scope = begun_block s.scope; sections = u; transfer = s.transfer } ≡ t = cc in
     subst (λ (x : Standing). Goes s x) made (h u refl)
 chosen_goes s t (Err refusal) h e = cc
 
@@ -96,8 +108,12 @@ section_goes_by (Some name) None s t c e = cc
 section_goes_by None (Some a) s t c e = cc
 section_goes_by None None s t c e = cc
 
+unnamed_goes : (b : Bool) (s t : Standing) → IsCounted s → unnamed_chosen b s ≡ Ok t → Goes s t
+unnamed_goes true s t c e = section_goes_by (Some []) (Some nothing_said) s t c e
+unnamed_goes false s t c e = cc
+
 sections_by : (line : List ℕ) (found : List (List Token)) (s t : Standing) → IsCounted s → section_by line found s ≡ Ok t → Goes s t
-sections_by line [] s t c e = cc
+sections_by line [] s t c e = unnamed_goes (has_unnamed_psect s.dialect) s t c e
 sections_by line (name ∷ attributes) s t c e = section_goes_by (name_of line name) (attributes_from line attributes (Some nothing_said)) s t c e
 
 pub section_goes : (line : List ℕ) (tokens : List Token) (s t : Standing) → IsCounted s → section_stated line tokens s ≡ Ok t → Goes s t

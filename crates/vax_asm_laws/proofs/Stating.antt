@@ -21,7 +21,7 @@ use Rattle.vax_asm_statement.specs.declared.directives.Directive.{Directive}
 use Rattle.vax_asm_statement.specs.declared.directives.Directive.TheVariants as directive
 use Rattle.vax_asm_statement.specs.declared.reading.Label.{Label}
 use Rattle.vax_asm_laws.proofs.Counting.{step_then}
-use Rattle.vax_asm_laws.proofs.Data.{Goes, IsCounted, addresses_go, align_goes, data_goes, even_goes, space_goes, text_goes}
+use Rattle.vax_asm_laws.proofs.Data.{Goes, IsCounted, addresses_go, align_goes, data_goes, even_goes, odd_goes, space_goes, text_goes}
 use Rattle.vax_asm_laws.proofs.Naming.{assignment_goes, end_goes, entry_goes, label_goes, names_go, same_goes, section_goes}
 use Rattle.vax_asm_laws.proofs.Operands.{instruction_goes}
 
@@ -36,6 +36,7 @@ directed_goes directive.ZeroText origin line tokens s t c e = text_goes Zero_las
 directed_goes (directive.Space size) origin line tokens s t c e = space_goes size origin line tokens s t c e
 directed_goes directive.Align origin line tokens s t c e = align_goes origin line tokens s t c e
 directed_goes directive.Even origin line tokens s t c e = even_goes tokens s t c e
+directed_goes directive.Odd origin line tokens s t c e = odd_goes tokens s t c e
 directed_goes directive.Global origin line tokens s t c e = names_go true line tokens s t c e
 directed_goes directive.External origin line tokens s t c e = names_go false line tokens s t c e
 directed_goes directive.Listing origin line tokens s t c e = same_goes s t s c refl e
@@ -57,7 +58,7 @@ body_goes : (origin : Origin) (line : List â„•) (what : What) (s t : Standing) â
 unfolding body_stated
 body_goes origin line Nothing s t c e = same_goes s t s c refl e
 body_goes origin line (Assignment name global tokens) s t c e = assignment_goes origin line name global tokens s t c e
-body_goes origin line (Operation name tokens) s t c e = operated_goes (directive_named (token_text line name)) origin line (token_text line name) tokens s t c e
+body_goes origin line (Operation name tokens) s t c e = operated_goes (directive_named s.dialect (token_text line name)) origin line (token_text line name) tokens s t c e
 body_goes origin line Malformed s t c e = cc
 
 -- a statement that stands
@@ -114,4 +115,4 @@ unfolding placed
 statement_goes origin line s t waiting c e =
     let pieces : List Piece = pieces_of line in
     let p : Parsed = parsed (map token_of pieces) in
-    stated_goes origin line p s t waiting c (listing_is (is_listing line p.what) (list_any is_bad pieces) (list_any is_wide pieces) (stated origin line p s) t waiting e)
+    stated_goes origin line p s t waiting c (listing_is (is_listing s.dialect line p.what) (list_any is_bad pieces) (list_any is_wide pieces) (stated origin line p s) t waiting e)

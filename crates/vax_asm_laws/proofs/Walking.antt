@@ -6,14 +6,15 @@ use Rattle.vax_asm.specs.Placing.{Placed, Stands, FaultyLabel, Faulty, placed}
 use Rattle.vax_asm.specs.Walk.{Assembly, Next, assembled, at, behind, ended, least, names_in, nothing, of_another, onward, said, unless_circle, unless_met, walked}
 use Rattle.vax_asm_second.specs.Modules.{filled_in, known_in}
 use Rattle.vax_asm_second.specs.declared.types.Fault.{Fault}
-use Rattle.vax_asm_sections.specs.Layout.{unnamed}
+use Rattle.vax_asm_sections.specs.Layout.{at_first, unnamed}
+use Rattle.vax_dialect.specs.declared.Dialect.{Dialect}
 use Rattle.vax_macro.specs.Expansion.{Stepped, Steps, Says, Faults, Ends, step}
 use Rattle.vax_macro.specs.Rest.{Opening, Rest, started, work}
 use Rattle.vax_module.specs.declared.Module.{Module}
 use Rattle.vax_module.specs.declared.Section.{Section}
 use Rattle.vax_asm_first.specs.Circles.{first_circle}
 use Rattle.vax_asm_first.specs.Fixups.{Assignment}
-use Rattle.vax_asm_first.specs.Standing.{Standing, at_start}
+use Rattle.vax_asm_first.specs.Standing.{Standing}
 use Rattle.vax_asm_first.specs.declared.types.Origin.{Origin}
 use Rattle.vax_asm_laws.specs.Counted.{AreCounted, IsCounted, section_at}
 use Rattle.vax_asm_laws.specs.Leading.{Halves, IsOf, IsStated, Leads, LiesBehind, Line, with_statement}
@@ -69,13 +70,13 @@ unfolding walked
 walked_path zero rest a met m e = ended_path a met None m e
 walked_path (suc left) rest a met m e = onward_path (step (names_in a.standing) rest) a met (walked left) m (λ r b now made. walked_path left r b now m made) e
 
-assembled_path : (source : List ℕ) (m : Module) → assembled source ≡ Ok m → Path nothing m
+assembled_path : (dialect : Dialect) (source : List ℕ) (m : Module) → assembled dialect source ≡ Ok m → Path (nothing dialect) m
 unfolding assembled
-assembled_path source m e = walked_path (suc (work (started source))) (started source) nothing None m e
+assembled_path dialect source m e = walked_path (suc (work (started source))) (started source) (nothing dialect) None m e
 
 -- ---- what is counted
 
-pub start_counted : AreCounted at_start.sections
+pub start_counted : AreCounted at_first
 start_counted = record { current = omega arith; sections = All-cons IsCounted unnamed [] (record { stand = tt; size = refl }) (All-nil IsCounted) }
 
 pub lead_on : (a b : Assembly) (lines : List Line) → AreCounted a.standing.sections → Leads a lines b → Step a.standing.sections b.standing.sections
@@ -85,34 +86,34 @@ lead_on a b (l ∷ lines) c h =
     let first : Step a.standing.sections t.sections = statement_goes l.origin l.text a.standing t h.1 c h.2 in
     step_then a.standing.sections t.sections b.standing.sections first (lead_on (with_statement t h.1 a) b lines first.counted h.3)
 
-pub is_stated : (source : List ℕ) (m : Module) → assembled source ≡ Ok m → IsStated m
-is_stated source m e =
-    let p : Path nothing m = assembled_path source m e in
+pub is_stated : (dialect : Dialect) (source : List ℕ) (m : Module) → assembled dialect source ≡ Ok m → IsStated dialect m
+is_stated dialect source m e =
+    let p : Path (nothing dialect) m = assembled_path dialect source m e in
     record {
       lines = p.lines;
       behind = p.last;
       begin = p.begin;
       leads = p.leads;
       filled = p.filled;
-      sizes = sizes_are p.last.standing p.last.assignments p.begin m (lead_on nothing p.last p.lines start_counted p.leads).counted p.filled;
+      sizes = sizes_are p.last.standing p.last.assignments p.begin m (lead_on (nothing dialect) p.last p.lines start_counted p.leads).counted p.filled;
     }
 
-pub label_lies : (first rest : List Line) (a b : Assembly) (begin : Option Opening) (m : Module) (i : ℕ) (section : Section) → Leads nothing first a → Leads a rest b → filled_in b.standing b.assignments begin ≡ Ok m
+pub label_lies : (dialect : Dialect) (first rest : List Line) (a b : Assembly) (begin : Option Opening) (m : Module) (i : ℕ) (section : Section) → Leads (nothing dialect) first a → Leads a rest b → filled_in b.standing b.assignments begin ≡ Ok m
     → i < length a.standing.sections.all → slice_get m.sections i ≡ Some section → LiesBehind i (section_at i a.standing.sections).size a.standing b.standing section
-label_lies first rest a b begin m i section before after e less found =
-    let c : AreCounted a.standing.sections = (lead_on nothing a first start_counted before).counted in
+label_lies dialect first rest a b begin m i section before after e less found =
+    let c : AreCounted a.standing.sections = (lead_on (nothing dialect) a first start_counted before).counted in
     lies_behind a.standing b.standing b.assignments begin m i section c (lead_on a b rest c after).keeps e less found
 
 -- ---- what may stand
 
-pub start_stands : MayAllStand at_start.sections
+pub start_stands : MayAllStand at_first
 start_stands = All-cons AllStand unnamed [] (All-nil MayStand) (All-nil AllStand)
 
 -- from the start to the end of a module's statements
-pub all_go : (h : Halves) (m : Module) → IsOf h m → Step at_start.sections h.end.standing.sections
+pub all_go : (h : Halves) (m : Module) → IsOf h m → Step at_first h.end.standing.sections
 all_go h m is =
-    let first : Step at_start.sections h.middle.standing.sections = lead_on nothing h.middle h.first start_counted is.before in
-    step_then at_start.sections h.middle.standing.sections h.end.standing.sections first (lead_on h.middle h.end h.rest first.counted is.behind)
+    let first : Step at_first h.middle.standing.sections = lead_on (nothing h.dialect) h.middle h.first start_counted is.before in
+    step_then at_first h.middle.standing.sections h.end.standing.sections first (lead_on h.middle h.end h.rest first.counted is.behind)
 
 pub part_stands : (h : Halves) (m : Module) (i : ℕ) (section : Section) (p : Held) → IsOf h m → i < length h.end.standing.sections.all → slice_get m.sections i ≡ Some section → IsIn i h.end.standing.sections p
     → StandsAt (known_in h.end.standing) i (place_of p) p.part section m.relocs

@@ -5,6 +5,7 @@ use Rattle.vax_asm.specs.Placing.{Stands, placed}
 use Rattle.vax_asm.specs.Walk.{Assembly, nothing}
 use Rattle.vax_asm_second.specs.Laid.{outputs}
 use Rattle.vax_asm_second.specs.Modules.{filled_in, known_in}
+use Rattle.vax_dialect.specs.declared.Dialect.{Dialect}
 use Rattle.vax_macro.specs.Rest.{Opening}
 use Rattle.vax_module.specs.declared.Module.{Module}
 use Rattle.vax_module.specs.declared.Section.{Section}
@@ -27,12 +28,12 @@ abbrev pub Leads : Assembly → List Line → Assembly → Type 0
 Leads a [] b = a ≡ b
 Leads a (l ∷ lines) b = (t : Standing) × (waiting : Option Assignment) × (placed l.origin l.text a.standing ≡ Stands t waiting) × Leads (with_statement t waiting a) lines b
 
--- Statements lead to the module. Each of its sections has as many bytes as they have counted.
-pub record IsStated (m : Module) : Type 0 where
+-- Statements of a source in a dialect lead to the module. Each of its sections has as many bytes as they have counted.
+pub record IsStated (dialect : Dialect) (m : Module) : Type 0 where
   pub lines : List Line
   pub behind : Assembly
   pub begin : Option Opening
-  pub leads : Leads nothing lines behind
+  pub leads : Leads (nothing dialect) lines behind
   pub filled : filled_in behind.standing behind.assignments begin ≡ Ok m
   pub sizes : map (λ (s : Section). length s.bytes) m.sections ≡ map (λ s. s.size) behind.standing.sections.all
 
@@ -48,8 +49,9 @@ pub record LeadsOn (line : Line) (before after : Standing) : Type 0 where
   pub waiting : Option Assignment
   pub placed : placed line.origin line.text before ≡ Stands after waiting
 
--- a row of statements in two halves, with what stands between them and behind them, and the first begin without its end
+-- a row of statements of one dialect in two halves, with what stands between them and behind them, and the first begin without its end
 pub record Halves : Type 0 where
+  pub dialect : Dialect
   pub first : List Line
   pub middle : Assembly
   pub rest : List Line
@@ -58,7 +60,7 @@ pub record Halves : Type 0 where
 
 -- the module is of these statements
 pub record IsOf (h : Halves) (m : Module) : Type 0 where
-  pub before : Leads nothing h.first h.middle
+  pub before : Leads (nothing h.dialect) h.first h.middle
   pub behind : Leads h.middle h.rest h.end
   pub filled : filled_in h.end.standing h.end.assignments h.begin ≡ Ok m
 

@@ -4,6 +4,7 @@
 
 ghost use Rattle.std.specs.Prelude.{◌≡◌, ◌<◌, ℕ, List, Ok, Option, Some, length, slice_get};
 ghost use Rattle.vax_asm.specs.Walk.{assembled};
+ghost use Rattle.vax_dialect.specs.declared.Dialect.{Dialect};
 ghost use Rattle.vax_module.specs.declared.Module.{Module};
 ghost use Rattle.vax_module.specs.declared.Section.{Section};
 ghost use Rattle.vax_asm_first.specs.Standing.{Standing, at_start};
@@ -18,7 +19,7 @@ ghost use Rattle.vax_lex.specs.declared.value.Value.{Value};
 /// A statement adds parts to sections one behind another, and counts their bytes: before it and behind it each section's size is the number
 /// of bytes of its parts, and each part that is filled in later knows where it begins, and may stand there. What was there before stays.
 pub fn statements_are_counted()
-    ensures start { AreCounted at_start.sections }
+    ensures start { (dialect : Dialect) → AreCounted (at_start dialect).sections }
     ensures counted { (line : Line) (s t : Standing) →
         AreCounted s.sections → LeadsOn line s t → AreCounted t.sections }
     ensures keeps { (line : Line) (s t : Standing) →
@@ -29,7 +30,8 @@ pub fn statements_are_counted()
 
 /// A source that assembles is a row of statements, and each section of its module has as many bytes as these have counted.
 pub fn modules_have_what_was_counted()
-    ensures { (source : List ℕ) → (m : Module) → assembled source ≡ Ok m → IsStated m }
+    ensures { (dialect : Dialect) → (source : List ℕ) → (m : Module) →
+        assembled dialect source ≡ Ok m → IsStated dialect m }
 {}
 
 /// Where a statement begins in a section, there the bytes begin in the module that it and those behind it put into the section. So a label,

@@ -7,6 +7,7 @@ use Rattle.vax_asm_first.specs.Standing.{Standing, at_start}
 use Rattle.vax_asm_first.specs.declared.types.Origin.{Origin}
 use Rattle.vax_asm_second.specs.Modules.{filled_in}
 use Rattle.vax_asm_second.specs.declared.types.Fault.{Fault}
+use Rattle.vax_dialect.specs.declared.Dialect.TheVariants.{Vax}
 use Rattle.vax_macro.specs.Rest.{Opening}
 use Rattle.vax_module.specs.declared.Module.{Module}
 use Rattle.vax_asm.specs.View.{Stood}
@@ -15,7 +16,7 @@ use Rattle.vax_asm_listing.specs.declared.types.Trace.{Trace}
 use Rattle.vax_asm_listing.specs.declared.types.Point.{Point}
 use Rattle.vax_asm_listing.specs.declared.types.Row.{Row}
 
-pub begun : (rows : List Row) (s : Standing) (assignments : List Assignment) → rows ≡ [] → s ≡ at_start → assignments ≡ [] → LeadAll nothing rows (record { standing = s; assignments = assignments })
+pub begun : (rows : List Row) (s : Standing) (assignments : List Assignment) → rows ≡ [] → s ≡ at_start Vax → assignments ≡ [] → LeadAll (nothing Vax) rows (record { standing = s; assignments = assignments })
 begun rows s assignments e f g = rw (e, f, g) refl
 
 pub lead_more : (a : Assembly) (rows : List Row) (b : Assembly) (row : Row) (c : Assembly) → LeadAll a rows b → Leads b row c → LeadAll a (rows ++ row ∷ []) c
@@ -35,7 +36,7 @@ pub ended_is : (a : Assembly) (met : Option Fault) (begin : Option Opening) (m :
 ended_is a None begin m e = record { quiet = refl; filled = no_circle (first_circle a.assignments) (filled_in a.standing a.assignments begin) m e }
 ended_is a (Some f) begin m e = absurd cc
 
-pub trace_ended : (a : Assembly) (met : Option Fault) (t : Trace) → (met ≡ None → LeadAll nothing t.notes.rows.items a) → t.notes.labels.items ≡ map (label_of a.standing.scope) a.standing.scope.names.all
+pub trace_ended : (a : Assembly) (met : Option Fault) (t : Trace) → (met ≡ None → LeadAll (nothing Vax) t.notes.rows.items a) → t.notes.labels.items ≡ map (label_of a.standing.scope) a.standing.scope.names.all
     → ended a met None ≡ Ok t.module → IsTrace t
 trace_ended a met t rows labels e =
     let h = ended_is a met None t.module e in

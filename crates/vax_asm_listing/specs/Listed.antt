@@ -2,6 +2,7 @@
 use Rattle.std.specs.Prelude.{◌≡◌, ℕ, ◌+◌, List, [], ◌∷◌, ◌++◌, length, map, Ok, Err}
 use Rattle.std.specs.Global.{Vec}
 use Rattle.vax_asm.specs.Walk.{assembled}
+use Rattle.vax_dialect.specs.declared.Dialect.TheVariants.{Vax}
 use Rattle.vax_image.specs.declared.Base.{Base}
 use Rattle.vax_image.specs.declared.Image.{Image}
 use Rattle.vax_link.specs.Layout.{addresses, pieces_of}
@@ -17,7 +18,7 @@ use Rattle.vax_asm_listing.specs.declared.types.Notes.{Notes}
 
 -- the module that a source is, and what its statements leave beside it
 pub record IsTraced (source : List ℕ) (m : Module) (n : Notes) : Type 0 where
-  pub assembles : assembled source ≡ Ok m
+  pub assembles : assembled Vax source ≡ Ok m
   pub trace : IsTrace (record { «module» = m; notes = n })
 
 abbrev pub AreTraced : List (List ℕ) → List Module → List Notes → Type 0
@@ -48,7 +49,7 @@ pub record IsListing (region : Base) (sources : List (List ℕ)) (text : List �
 -- why a source, which is this one of several, has no module; memory may be refused at any time
 abbrev pub FileRefuses : (source : List ℕ) → (number : ℕ) → ListingError → Type 0
 FileRefuses source number NoMemory = Unit {0}
-FileRefuses source number (Source file line kind) = (file ≡ number) × ((place : ℕ) × (assembled source ≡ Err (record { origin = record { line = line; place = place }; kind = kind })))
+FileRefuses source number (Source file line kind) = (file ≡ number) × ((place : ℕ) × (assembled Vax source ≡ Err (record { origin = record { line = line; place = place }; kind = kind })))
 FileRefuses source number (Link e) = ⊥
 
 -- the first of several sources that has a fault, by its number from 1 on, and that fault: those before it have modules

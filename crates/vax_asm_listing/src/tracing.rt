@@ -5,6 +5,7 @@ ghost use Rattle.vax_asm.specs.View.{assembly_of, Says};
 ghost use Rattle.vax_asm.specs.Walk.{assembled, ended, nothing, resumed};
 ghost use Rattle.vax_asm_first.specs.View.{standing_of};
 ghost use Rattle.vax_asm_second.specs.View as second;
+ghost use Rattle.vax_dialect.specs.declared.Dialect.TheVariants.{Vax};
 ghost use Rattle.vax_macro.specs.Expanders.{FaultIs, read_of, unclosed_of};
 ghost use Rattle.vax_macro.specs.Expansion.{Opened};
 ghost use Rattle.vax_module.specs.Formed.{Formed};
@@ -18,6 +19,7 @@ use vax_asm::{AsmError, Walk};
 use vax_asm_first::{Origin, Standing};
 use vax_asm_scope::KnownNames;
 use vax_asm_second::FillError;
+use vax_dialect::Dialect;
 use vax_macro::{Expander, FaultKind, Line, MacroError};
 use vax_module::Bytes;
 
@@ -66,9 +68,9 @@ fn say(
     ensures says { Says result origin said.text.items
         (assembly_of walk.old.standing walk.old.assignments)
         (assembly_of walk.new.standing walk.new.assignments) walk.old.met walk.new.met }
-    ensures rows { OnOk result ((walk.old.met ≡ None → LeadAll nothing rows.old.items
+    ensures rows { OnOk result ((walk.old.met ≡ None → LeadAll (nothing Vax) rows.old.items
         (assembly_of walk.old.standing walk.old.assignments)) → walk.new.met ≡ None →
-        LeadAll nothing rows.new.items (assembly_of walk.new.standing walk.new.assignments)) }
+        LeadAll (nothing Vax) rows.new.items (assembly_of walk.new.standing walk.new.assignments)) }
 {
     let before = point_of(&walk.standing);
     let Ok(copy) = copied(&said.text, alloc) else {
@@ -87,7 +89,7 @@ fn say(
 #[tactic(auto, using(crate::proofs::Rows::trace_ended))]
 fn end(walk: Walk, alloc: Global, rows: Vec<Row>) -> Result<Trace, FillError>
     requires { walk.met ≡ None
-        → LeadAll nothing rows.items (assembly_of walk.standing walk.assignments) }
+        → LeadAll (nothing Vax) rows.items (assembly_of walk.standing walk.assignments) }
     ensures module { Fills result
         (ended (assembly_of walk.standing walk.assignments) walk.met None) }
     ensures trace { IfOk result IsTrace }
@@ -117,14 +119,14 @@ fn stop(walk: Walk, alloc: Global, expander: &Expander, line: u32, kind: FaultKi
 
 #[tactic(auto, using(vax_asm::proofs::Opening::walked_opened))]
 fn traced(alloc: Global, source: &[u8]) -> Result<Trace, FillError>
-    ensures module { Fills result (assembled source.now) }
+    ensures module { Fills result (assembled Vax source.now) }
     ensures trace { IfOk result IsTrace }
     ensures formed { IfOk result (λ t. Formed t.module) }
 {
     let Ok(mut expander) = Expander::new(alloc, source) else {
         return Err(FillError::NoMemory);
     };
-    let Ok(standing) = Standing::new(alloc) else {
+    let Ok(standing) = Standing::new(alloc, Dialect::Vax) else {
         return Err(FillError::NoMemory);
     };
     let mut walk = Walk {
@@ -163,7 +165,7 @@ fn traced(alloc: Global, source: &[u8]) -> Result<Trace, FillError>
 /// [`AsmError`] as for `vax_asm`'s `assemble`.
 pub fn trace(alloc: Global, source: &[u8]) -> Result<Trace, AsmError>
     // The module is that of the assembler.
-    ensures module { Answers result (assembled source.now) }
+    ensures module { Answers result (assembled Vax source.now) }
     // The rows are those of its statements, from the first to the last.
     ensures trace { IfOk result IsTrace }
     ensures formed { IfOk result (λ t. Formed t.module) }

@@ -209,6 +209,7 @@ pub fn fill_in(
         scope,
         layout,
         transfer,
+        ..
     } = standing;
     let mut scope = scope;
     let Ok(externals) = scope.close(alloc) else {

@@ -6,14 +6,16 @@ use Rattle.vax_asm_statement.specs.declared.directives.Named.{Named}
 use Rattle.vax_asm_statement.specs.declared.directives.NamedAttribute.{NamedAttribute}
 use Rattle.vax_asm_statement.specs.declared.directives.Directive.{Directive}
 use Rattle.vax_asm_statement.specs.declared.directives.Attribute.{Attribute}
-use Rattle.vax_asm_statement.specs.Directives.{named_in, named, first_directive, directives, directive_of, named_attribute, first_attribute, attributes, attribute_of}
+use Rattle.vax_asm_statement.specs.Directives.{named_in, named, first_directive, directives, further_directives, named_attribute, first_attribute, attributes, attribute_of}
 
 directive_in : (all : List Named) (name : List ℕ) → first_directive all name ≡ named_in (map named all) name
 directive_in [] name = refl
 directive_in (n ∷ all) name = ap (λ (rest : Option Directive). cond (str_eq_ignore_ascii_case n.name.now name) (Some n.directive) rest) (directive_in all name)
 
-pub directive_found : (all : List Named) (name : List ℕ) → map named all ≡ directives → first_directive all name ≡ directive_of name
-unfolding directive_of
+pub further_found : (all : List Named) (name : List ℕ) → map named all ≡ further_directives → first_directive all name ≡ named_in further_directives name
+further_found all name e = directive_in all name ∙ ap (λ (table : List (List ℕ × Directive)). named_in table name) e
+
+pub directive_found : (all : List Named) (name : List ℕ) → map named all ≡ directives → first_directive all name ≡ named_in directives name
 directive_found all name e = directive_in all name ∙ ap (λ (table : List (List ℕ × Directive)). named_in table name) e
 
 attribute_in : (all : List NamedAttribute) (name : List ℕ) → first_attribute all name ≡ named_in (map named_attribute all) name

@@ -1,10 +1,12 @@
 -- The directives (VAX MACRO and Instruction Set Reference Manual, "VAX MACRO assembler directives").
-use Rattle.std.specs.Prelude.{ℕ, true, false, List, [], ◌∷◌, Option, Some, None, codes, if◌then◌else◌}
+use Rattle.std.specs.Prelude.{ℕ, Bool, true, false, List, [], ◌∷◌, Option, Some, None, codes, if◌then◌else◌}
 use Rattle.std.specs.Str.{str_eq_ignore_ascii_case}
+use Rattle.vax_dialect.specs.Differences.{has_further_directives}
+use Rattle.vax_dialect.specs.declared.Dialect.{Dialect}
 use Rattle.vax_word.specs.declared.Size.TheVariants as size
 use Rattle.vax_asm_encode.specs.declared.operand.DataKind.TheVariants.{Number, Signed}
 use Rattle.vax_asm_statement.specs.declared.directives.Directive.{Directive}
-use Rattle.vax_asm_statement.specs.declared.directives.Directive.TheVariants.{Section, Entry, Data, Address, Text, CountedText, ZeroText, Space, Align, Even, Global, External, Listing, End}
+use Rattle.vax_asm_statement.specs.declared.directives.Directive.TheVariants.{Section, Entry, Data, Address, Text, CountedText, ZeroText, Space, Align, Even, Odd, Global, External, Listing, End}
 use Rattle.vax_asm_statement.specs.declared.directives.Named.{Named}
 use Rattle.vax_asm_statement.specs.declared.directives.Attribute.{Attribute}
 use Rattle.vax_asm_statement.specs.declared.directives.Attribute.TheVariants.{Align as AlignTo, Write, Ignored}
@@ -47,13 +49,40 @@ directives =
     ∷ (codes ".END", End)
     ∷ []
 
+-- Those of one dialect alone. `.MCALL` and `.LIBRARY` name where macros are, which stand in the source here; `.LINK` names what is
+-- linked, and `.PRINT` and `.WARN` give messages.
+abbrev pub further_directives : List (List ℕ × Directive)
+further_directives =
+    (codes ".BLKF", Space size.L)
+    ∷ (codes ".BLKD", Space size.Q)
+    ∷ (codes ".BLKG", Space size.Q)
+    ∷ (codes ".ODD", Odd)
+    ∷ (codes ".WEAK", Global)
+    ∷ (codes ".CROSS", Listing)
+    ∷ (codes ".NOCROSS", Listing)
+    ∷ (codes ".DEBUG", Listing)
+    ∷ (codes ".LIBRARY", Listing)
+    ∷ (codes ".MCALL", Listing)
+    ∷ (codes ".LINK", Listing)
+    ∷ (codes ".PRINT", Listing)
+    ∷ (codes ".WARN", Listing)
+    ∷ []
+
 -- what stands with the first of these names that a name is, in letters of either case
 abbrev pub named_in : {X : Type 0} → List (List ℕ × X) → List ℕ → Option X
 named_in [] name = None
 named_in (entry ∷ entries) name = if str_eq_ignore_ascii_case entry.0 name then Some entry.1 else named_in entries name
 
-unfoldable pub directive_of : List ℕ → Option Directive
-directive_of name = named_in directives name
+abbrev pub further_named : Bool → List ℕ → Option Directive
+further_named true name = named_in further_directives name
+further_named false name = None
+
+abbrev pub or_else : Option Directive → Option Directive → Option Directive
+or_else (Some d) other = Some d
+or_else None other = other
+
+unfoldable pub directive_of : Dialect → List ℕ → Option Directive
+directive_of dialect name = or_else (named_in directives name) (further_named (has_further_directives dialect) name)
 
 -- the attributes of sections, by their names; those that say what a section may be used for are left out of account
 abbrev pub attributes : List (List ℕ × Attribute)

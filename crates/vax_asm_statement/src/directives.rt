@@ -2,9 +2,10 @@
 
 ghost use Rattle.std.specs.Prelude.{◌≡◌, map};
 ghost use Rattle.std.specs.Str.{str_eq_ignore_ascii_case};
-ghost use Rattle.vax_asm_statement.specs.Directives.{directives, directive_of, named, first_directive, attributes, attribute_of, named_attribute, first_attribute};
+ghost use Rattle.vax_asm_statement.specs.Directives.{directives, further_directives, directive_of, named, first_directive, named_in, attributes, attribute_of, named_attribute, first_attribute};
 
 use vax_asm_encode::DataKind;
+use vax_dialect::Dialect;
 use vax_word::Size;
 
 /// What a directive does (VAX MACRO and Instruction Set Reference Manual, "VAX MACRO assembler directives"). The directives of
@@ -25,17 +26,20 @@ pub enum Directive {
     CountedText,
     /// `.ASCIZ`: a zero byte last.
     ZeroText,
-    /// `.BLKB`, `.BLKW`, `.BLKL`, `.BLKA`, `.BLKQ`: room for so many of this size.
+    /// `.BLKB`, `.BLKW`, `.BLKL`, `.BLKA`, `.BLKQ`, `.BLKF`, `.BLKD`, `.BLKG`: room for so many of this size.
     Space(Size),
     /// `.ALIGN`: up to a multiple of a power of two.
     Align,
     /// `.EVEN`: up to a multiple of two.
     Even,
-    /// `.GLOBAL`, `.GLOBL`: names for other modules.
+    /// `.ODD`: up to what is no multiple of two.
+    Odd,
+    /// `.GLOBAL`, `.GLOBL`, `.WEAK`: names for other modules.
     Global,
     /// `.EXTERNAL`, `.EXTRN`: names of other modules.
     External,
-    /// `.TITLE`, `.SBTTL`, `.SUBTITLE`, `.IDENT`, `.PAGE`, `.LIST`, `.NLIST`, `.SHOW`, `.NOSHOW`: nothing in the module.
+    /// `.TITLE`, `.SBTTL`, `.SUBTITLE`, `.IDENT`, `.PAGE`, `.LIST`, `.NLIST`, `.SHOW`, `.NOSHOW`, `.CROSS`, `.NOCROSS`, `.DEBUG`,
+    /// `.LIBRARY`, `.MCALL`, `.LINK`, `.PRINT`, `.WARN`: nothing in the module.
     Listing,
     /// `.END`: where the program begins.
     End,
@@ -90,6 +94,30 @@ fn all_directives() -> &'static [Named; 33]
     &DIRECTIVES
 }
 
+/// Those of one dialect alone.
+#[rattlefmt::skip]
+static FURTHER_DIRECTIVES: [Named; 13] = [
+    Named { name: ".BLKF", directive: Directive::Space(Size::L) },
+    Named { name: ".BLKD", directive: Directive::Space(Size::Q) },
+    Named { name: ".BLKG", directive: Directive::Space(Size::Q) },
+    Named { name: ".ODD", directive: Directive::Odd },
+    Named { name: ".WEAK", directive: Directive::Global },
+    Named { name: ".CROSS", directive: Directive::Listing },
+    Named { name: ".NOCROSS", directive: Directive::Listing },
+    Named { name: ".DEBUG", directive: Directive::Listing },
+    Named { name: ".LIBRARY", directive: Directive::Listing },
+    Named { name: ".MCALL", directive: Directive::Listing },
+    Named { name: ".LINK", directive: Directive::Listing },
+    Named { name: ".PRINT", directive: Directive::Listing },
+    Named { name: ".WARN", directive: Directive::Listing },
+];
+
+fn all_further_directives() -> &'static [Named; 13]
+    ensures { map named result.now ≡ further_directives }
+{
+    &FURTHER_DIRECTIVES
+}
+
 fn is_called(word: &str, name: &str) -> bool
     ensures { result ≡ str_eq_ignore_ascii_case word.now name.now }
 {
@@ -107,12 +135,35 @@ fn found(all: &[Named], name: &str) -> Option<Directive>
     None
 }
 
-/// The directive with this name, in letters of either case.
-#[tactic(auto, using(crate::proofs::Tables::directive_found), unfolding(crate::specs::Directives::directive_of))]
-pub fn directive_named(name: &str) -> Option<Directive>
-    ensures { result ≡ directive_of name.now }
+#[tactic(auto, using(crate::proofs::Tables::directive_found))]
+fn common_directive(name: &str) -> Option<Directive>
+    ensures { result ≡ named_in directives name.now }
 {
     found(all_directives(), name)
+}
+
+#[tactic(auto, using(crate::proofs::Tables::further_found))]
+fn further_directive(name: &str) -> Option<Directive>
+    ensures { result ≡ named_in further_directives name.now }
+{
+    found(all_further_directives(), name)
+}
+
+/// The directive with this name in a dialect, in letters of either case.
+#[tactic(auto, unfolding(crate::specs::Directives::directive_of))]
+pub fn directive_named(dialect: Dialect, name: &str) -> Option<Directive>
+    ensures { result ≡ directive_of dialect name.now }
+{
+    match common_directive(name) {
+        Some(directive) => Some(directive),
+        None => {
+            if dialect.has_further_directives() {
+                further_directive(name)
+            } else {
+                None
+            }
+        }
+    }
 }
 
 /// What an attribute says of a section.

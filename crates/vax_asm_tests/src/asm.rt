@@ -2,6 +2,7 @@
 use std::alloc::Global;
 use std::test::Fail;
 use vax_asm::*;
+use vax_dialect::Dialect;
 use vax_module::{Module, RelocKind, Value};
 
 /// The bytes of a section.
@@ -27,7 +28,7 @@ START:: MOVL    #5,R1
 TABLE:  .LONG   1,2[2],START
         .END    START
 ";
-    let module = assemble(alloc, source)?;
+    let module = assemble(alloc, Dialect::Vax, source)?;
     let code: [u8; 23] = [
         0xD0, 0x05, 0x51, 0xC0, 0x41, 0xEF, 0, 0, 0, 0, 0x50, 0xF5, 0x51, 0xF5, 0x11, 0x06, 0x16,
         0xEF, 0, 0, 0, 0, 0x00,
@@ -72,7 +73,7 @@ TABLE:  .LONG   1,2[2],START
 
 /// The line and the kind of the first fault, by its number; zeros where there is none.
 fn fault_of(alloc: Global, source: &[u8]) -> (u32, u8) {
-    match assemble(alloc, source) {
+    match assemble(alloc, Dialect::Vax, source) {
         Err(AsmError::Fault { line, kind }) => (line, kind.code()),
         _ => (0, 0),
     }
@@ -81,7 +82,7 @@ fn fault_of(alloc: Global, source: &[u8]) -> (u32, u8) {
 #[test]
 fn writes_signed_items(rt: HostRuntime) -> Result<(), Fail> {
     let source = b".SIGNED_BYTE -1[3],X,127\n.SIGNED_WORD -32768,X\n.BLKA\n.BYTE 255\nX=-2\n";
-    let module = assemble(rt.alloc(), source)?;
+    let module = assemble(rt.alloc(), Dialect::Vax, source)?;
     let bytes = [
         0xFF, 0xFF, 0xFF, 0xFE, 0x7F, 0x00, 0x80, 0xFE, 0xFF, 0, 0, 0, 0, 0xFF,
     ];

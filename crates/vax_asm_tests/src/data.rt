@@ -8,6 +8,7 @@ use std::test::Fail;
 use vax_asm_data::*;
 use vax_asm_encode::DataKind;
 use vax_asm_first::{FaultKind, Origin, Refused, Standing};
+use vax_dialect::Dialect;
 use vax_lex::{Token, Value, scan};
 use vax_word::Size;
 
@@ -79,7 +80,7 @@ fn test_alone(
     rows: &[(Directive, &str, Result<u32, FaultKind>)],
 ) -> Result<(), Fail> {
     for row in rows {
-        let mut standing = Standing::new(alloc)?;
+        let mut standing = Standing::new(alloc, Dialect::Vax)?;
         test_behind(rt, alloc, &mut standing, &[*row])?;
     }
     Ok(())
@@ -159,7 +160,7 @@ fn lays_out_room_and_boundaries(rt: HostRuntime) -> Result<(), Fail> {
         (Directive::Even, ".EVEN 1", Err(FaultKind::Count)),
     ];
     test_alone(&rt, alloc, &rows)?;
-    let mut standing = Standing::new(alloc)?;
+    let mut standing = Standing::new(alloc, Dialect::Vax)?;
     let rows = [
         (BYTES, ".BYTE 7", Ok(1)),
         (Directive::Even, ".EVEN", Ok(2)),

@@ -3,6 +3,7 @@
 use std::alloc::Global;
 use std::test::Fail;
 use vax_asm::assemble;
+use vax_dialect::Dialect;
 use vax_disasm::decode;
 use vax_isa::{Letter, OperandKind, Row, by_code};
 use vax_module::{Module, Value};
@@ -128,7 +129,7 @@ fn comes_back(alloc: Global, bytes: &[u8], addr: u32) -> Result<bool, Fail> {
     let mut source = Vec::new(alloc);
     source.extend_from_slice(decoded.text.as_str().as_bytes())?;
     source.push(b'\n')?;
-    let module = assemble(alloc, source.as_slice())?;
+    let module = assemble(alloc, Dialect::Vax, source.as_slice())?;
     let out = bytes_at(alloc, &module, addr)?;
     match bytes.get(..decoded.length as usize) {
         Some(first) if first == out.as_slice() => Ok(true),

@@ -4,13 +4,14 @@ use std::test::Fail;
 use vax_asm_encode::{DataKind, Field};
 use vax_asm_first::*;
 use vax_asm_sections::Piece;
+use vax_dialect::Dialect;
 use vax_lex::{ExprError, Value, scan};
 use vax_word::Size;
 
 #[test]
 fn tells_expressions_where_they_stand(rt: HostRuntime) -> Result<(), Fail> {
     let alloc = rt.alloc();
-    let mut standing = Standing::new(alloc)?;
+    let mut standing = Standing::new(alloc, Dialect::Vax)?;
     standing.put(6, Piece::Zeros(6))?;
     standing.align(2)?;
     let here = standing.here()?;

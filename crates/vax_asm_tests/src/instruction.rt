@@ -9,6 +9,7 @@ use vax_asm_encode::{Field, Operand, field_of, fill, write_operand};
 use vax_asm_first::{Content, FaultKind, Filling, Fixup, Origin, Refused, Standing};
 use vax_asm_instruction::*;
 use vax_asm_sections::Piece;
+use vax_dialect::Dialect;
 use vax_isa::by_name;
 use vax_lex::{Value, scan};
 
@@ -124,7 +125,7 @@ fn state_all(
 #[test]
 fn instructions_are_as_in_the_manual(rt: HostRuntime) -> Result<(), Fail> {
     let alloc = rt.alloc();
-    let mut standing = Standing::new(alloc)?;
+    let mut standing = Standing::new(alloc, Dialect::Vax)?;
     let rows: [(&str, &[u8], &[u8]); 16] = [
         ("MOVL", b"MOVL #5,R1", b"\xD0\x05\x51"),
         ("MOVL", b"movl #64,(R7)", b"\xD0\x8F\x40\0\0\0\x67"),
@@ -172,7 +173,7 @@ fn state_behind(
     name: &str,
     text: &[u8],
 ) -> Result<Result<(), Refused>, Fail> {
-    let mut standing = Standing::new(alloc)?;
+    let mut standing = Standing::new(alloc, Dialect::Vax)?;
     standing.put(zeros, Piece::Zeros(zeros))?;
     standing.scope.label(alloc, b"BACK", place(0))?;
     standing.scope.label(alloc, b"NEAR", place(1_048_449))?;

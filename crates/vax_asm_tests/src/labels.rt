@@ -12,6 +12,7 @@ use vax_asm_first::{
 use vax_asm_labels::*;
 use vax_asm_sections::Piece;
 use vax_asm_statement::Label;
+use vax_dialect::Dialect;
 use vax_lex::{TokenKind, Value, scan};
 use vax_word::Size;
 
@@ -123,7 +124,7 @@ fn test_alone(
     rows: &[(Option<&str>, Kind, &str, Option<FaultKind>)],
 ) -> Result<(), Fail> {
     for (before, kind, text, fault) in rows {
-        let mut standing = Standing::new(alloc)?;
+        let mut standing = Standing::new(alloc, Dialect::Vax)?;
         if let Some(name) = before {
             test_stated(rt, alloc, &mut standing, &[(LABEL, *name, None)])?;
         }
@@ -157,7 +158,7 @@ fn first_is_global(standing: &Standing) -> bool {
 #[test]
 fn labels_have_the_value_of_their_place(rt: HostRuntime) -> Result<(), Fail> {
     let alloc = rt.alloc();
-    let mut standing = Standing::new(alloc)?;
+    let mut standing = Standing::new(alloc, Dialect::Vax)?;
     let here = standing.here()?;
     test_stated(&rt, alloc, &mut standing, &[(GLOBAL_LABEL, "first", None)])?;
     standing.put(3, Piece::Zeros(3))?;
@@ -191,7 +192,7 @@ fn tells_the_faults_of_labels(rt: HostRuntime) -> Result<(), Fail> {
 #[test]
 fn assignments_may_wait_for_later_ones(rt: HostRuntime) -> Result<(), Fail> {
     let alloc = rt.alloc();
-    let mut standing = Standing::new(alloc)?;
+    let mut standing = Standing::new(alloc, Dialect::Vax)?;
     let here = standing.here()?;
     let global = Kind::Assignment { global: true };
     let mut later = Vec::new(alloc);
@@ -242,7 +243,7 @@ fn tells_the_faults_of_assignments(rt: HostRuntime) -> Result<(), Fail> {
 #[test]
 fn a_circle_is_found_where_it_closes(rt: HostRuntime) -> Result<(), Fail> {
     let alloc = rt.alloc();
-    let mut standing = Standing::new(alloc)?;
+    let mut standing = Standing::new(alloc, Dialect::Vax)?;
     let mut later = Vec::new(alloc);
     let rows = [(ASSIGNMENT, "X = Y", None), (ASSIGNMENT, "Y = Z-Z", None)];
     test_behind(&rt, alloc, &mut standing, &mut later, &rows)?;
@@ -262,7 +263,7 @@ fn a_circle_is_found_where_it_closes(rt: HostRuntime) -> Result<(), Fail> {
 #[test]
 fn chooses_sections_with_their_attributes(rt: HostRuntime) -> Result<(), Fail> {
     let alloc = rt.alloc();
-    let mut standing = Standing::new(alloc)?;
+    let mut standing = Standing::new(alloc, Dialect::Vax)?;
     let code = [(Kind::Section, ".PSECT code,nowrt,PIC,LONG,NOWRT", None)];
     test_stated(&rt, alloc, &mut standing, &code)?;
     let section = standing.layout.current();
@@ -320,7 +321,7 @@ fn holds_word(pieces: &[Piece<Fixup>], value: Value) -> bool {
 #[test]
 fn entries_have_a_word_for_their_mask(rt: HostRuntime) -> Result<(), Fail> {
     let alloc = rt.alloc();
-    let mut standing = Standing::new(alloc)?;
+    let mut standing = Standing::new(alloc, Dialect::Vax)?;
     let here = standing.here()?;
     let rows = [
         (LABEL, "1$", None),
@@ -362,7 +363,7 @@ fn tells_the_faults_of_entries(rt: HostRuntime) -> Result<(), Fail> {
     ];
     test_alone(&rt, alloc, &rows)?;
     // Where the name is at fault the block of local labels is the one before.
-    let mut standing = Standing::new(alloc)?;
+    let mut standing = Standing::new(alloc, Dialect::Vax)?;
     let rows = [
         (LABEL, "X", None),
         (LABEL, "1$", None),
@@ -374,7 +375,7 @@ fn tells_the_faults_of_entries(rt: HostRuntime) -> Result<(), Fail> {
 #[test]
 fn names_appear_in_their_order(rt: HostRuntime) -> Result<(), Fail> {
     let alloc = rt.alloc();
-    let mut standing = Standing::new(alloc)?;
+    let mut standing = Standing::new(alloc, Dialect::Vax)?;
     let rows = [
         (GLOBALS, ".GLOBAL b,A", None),
         (EXTERNALS, ".EXTERNAL c, b", None),

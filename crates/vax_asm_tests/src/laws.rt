@@ -2,6 +2,7 @@
 use std::test::Fail;
 use vax_asm::assemble;
 use vax_asm_laws::*;
+use vax_dialect::Dialect;
 use vax_module::Value;
 
 #[test]
@@ -14,7 +15,7 @@ fn a_label_names_the_bytes_behind_it(rt: HostRuntime) -> Result<(), Fail> {
     values_solve_definitions();
     definitions_stay();
     let source = b".BYTE 1[3]\nMOVL #64,LATER\n.ALIGN LONG\nX:: .ASCII /here/\nLATER: .LONG E\n";
-    let module = assemble(alloc, source.as_slice())?;
+    let module = assemble(alloc, Dialect::Vax, source.as_slice())?;
     let globals = module.globals.as_slice();
     assert!(rt; globals.len() == 1);
     let place = Value::Section {

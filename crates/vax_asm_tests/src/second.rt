@@ -13,6 +13,7 @@ use vax_asm_encode::{Base, DataKind, Operand, may_stand};
 use vax_asm_first::{Assignment, Content, Fixup, Origin, Standing, Told, Transfer, filling_of};
 use vax_asm_second::*;
 use vax_asm_sections::{Attributes, Piece};
+use vax_dialect::Dialect;
 use vax_isa::{Letter, Narrow, OperandKind};
 use vax_lex::{Value, scan};
 use vax_macro::{Begin, FaultKind};
@@ -120,7 +121,7 @@ fn put_operand(
 
 /// `BRB M` over a NOP, and M.
 fn branch_to_m(alloc: Global) -> Result<Standing, Fail> {
-    let mut standing = Standing::new(alloc)?;
+    let mut standing = Standing::new(alloc, Dialect::Vax)?;
     standing.put(1, Piece::Bytes([0x11].to_vec(alloc)?))?;
     put_operand(&mut standing, alloc, 1, BRANCH, Operand::Branch, b"M")?;
     standing.put(1, Piece::Bytes([0x01].to_vec(alloc)?))?;
@@ -248,7 +249,7 @@ fn put_undefined(standing: &mut Standing, alloc: Global) -> Result<Assignment, F
 
 /// The fault of a source with these lines behind `.LONG X` on its second, and X a number.
 fn fault_of(alloc: Global, x: i64, unclosed: Option<Begin>) -> Result<Option<FillError>, Fail> {
-    let mut standing = Standing::new(alloc)?;
+    let mut standing = Standing::new(alloc, Dialect::Vax)?;
     put_longs(&mut standing, alloc, 2, 1, b"X")?;
     let undefined = put_undefined(&mut standing, alloc)?;
     standing.scope.label(alloc, b"X", Value::Absolute(x))?;

@@ -5,6 +5,7 @@ use std::alloc::Global;
 use std::test::Fail;
 use vax_asm_encode::{Base, DataKind, Operand};
 use vax_asm_statement::*;
+use vax_dialect::Dialect;
 use vax_isa::Narrow;
 use vax_lex::{ExprError, Token, Value, scan};
 use vax_word::Size;
@@ -178,7 +179,7 @@ fn reads_operands_of_directives(rt: HostRuntime) -> Result<(), Fail> {
         ("MOVL", None),
     ];
     for (name, directive) in directives {
-        assert!(rt; directive_named(name) == directive, "{name}");
+        assert!(rt; directive_named(Dialect::Vax, name) == directive, "{name}");
     }
     for (name, attribute) in [("nowrt", Some(Attribute::Write(false))), ("ABS", None)] {
         assert!(rt; attribute_named(name) == attribute, "{name}");

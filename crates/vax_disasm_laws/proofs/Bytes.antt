@@ -21,6 +21,7 @@ use Rattle.vax_asm_first.specs.Standing.{Standing}
 use Rattle.vax_asm_first.specs.declared.types.Content.TheVariants as content
 use Rattle.vax_asm_first.specs.declared.types.Origin.{Origin}
 use Rattle.vax_asm_sections.specs.Layout.{Part, Field as Kept, current_of}
+use Rattle.vax_dialect.specs.declared.Dialect.{Dialect}
 use Rattle.vax_asm_statement.specs.Directives.{directive_of}
 use Rattle.vax_asm_statement.specs.Items.{item_of}
 use Rattle.vax_asm_statement.specs.declared.directives.Directive.TheVariants as directive
@@ -82,18 +83,18 @@ byte_stated origin byte s h =
     let low : nat_lt byte 256 ≡ true = grind (arith, nat_tests) in
     rw (v.means (named (value_of s.scope.sources) []), low) refl
 
-directed_so : (origin : Origin) (line name : List ℕ) (tokens : List Token) (s : Standing) → directive_named name ≡ Some (directive.Data (data_kind.Number size.B)) → operation_stated origin line name tokens s ≡ data_stated (data_kind.Number size.B) origin line tokens s
+directed_so : (origin : Origin) (line name : List ℕ) (tokens : List Token) (s : Standing) → directive_named s.dialect name ≡ Some (directive.Data (data_kind.Number size.B)) → operation_stated origin line name tokens s ≡ data_stated (data_kind.Number size.B) origin line tokens s
 directed_so origin line name tokens s e = rw e refl
 
-byte_named : directive_named (codes ".BYTE") ≡ Some (directive.Data (data_kind.Number size.B))
+byte_named : (dialect : Dialect) → directive_named dialect (codes ".BYTE") ≡ Some (directive.Data (data_kind.Number size.B))
 unfolding directive_of
-byte_named = refl
+byte_named dialect = refl
 
 pub byte_placed : (origin : Origin) (byte : ℕ) (s : Standing) → byte < 256
     → placed origin (byte_text byte) s ≡ placed_by (done (adds (byte_part origin byte (current_of s.sections).size ∷ []) (begun_at s)).progress) None
 byte_placed origin byte s h =
     let name : Token = token_at 0 (word Name (codes ".BYTE")) in
     let tokens : List Token = token_at 6 (word (Number byte) (94 ∷ 88 ∷ hex 2 byte)) ∷ [] in
-    let named_so : directive_named (token_text (byte_text byte) name) ≡ Some (directive.Data (data_kind.Number size.B)) = byte_named in
+    let named_so : directive_named s.dialect (token_text (byte_text byte) name) ≡ Some (directive.Data (data_kind.Number size.B)) = byte_named s.dialect in
     placed_line origin (byte_text byte) (name ∷ tokens) (Operation name tokens) s (byte_scanned byte h) (byte_parsed byte) (ap is_listing_by named_so)
     ∙ body_made origin (byte_text byte) name tokens s (done (adds (byte_part origin byte (current_of s.sections).size ∷ []) (begun_at s)).progress) (directed_so origin (byte_text byte) (token_text (byte_text byte) name) tokens s named_so ∙ byte_stated origin byte s h)

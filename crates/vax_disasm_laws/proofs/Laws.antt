@@ -23,6 +23,7 @@ use Rattle.vax_link_laws.specs.Holding.{HasSection}
 use Rattle.vax_macro.specs.declared.error.FaultKind.{FaultKind}
 use Rattle.vax_module.specs.declared.Module.{Module}
 use Rattle.vax_module.specs.declared.Section.{Section}
+use Rattle.vax_dialect.specs.declared.Dialect.{Dialect}
 use Rattle.vax_asm_laws.proofs.Counting.{Step}
 use Rattle.vax_asm_laws.proofs.Laying.{sizes_are}
 use Rattle.vax_asm_laws.proofs.Walking.{lead_on, part_stands, start_counted}
@@ -88,7 +89,7 @@ whole : (p : Program) (owner : ℕ) (h : Halves) → IsPart p owner h → Whole 
 whole p owner h part =
     let m : Module = part.source in
     let i : ℕ = section_of h in
-    let middle : AreCounted h.middle.standing.sections = (lead_on nothing h.middle h.first start_counted part.made.before).counted in
+    let middle : AreCounted h.middle.standing.sections = (lead_on (nothing h.dialect) h.middle h.first start_counted part.made.before).counted in
     let to_end : Step h.middle.standing.sections h.end.standing.sections = lead_on h.middle h.end h.rest middle part.made.behind in
     let less : i < length h.end.standing.sections.all = omega (arith, middle.current, to_end.keeps.all) in
     let sizes : map (λ (x : Section). length x.bytes) m.sections ≡ map (λ (x : Building Fixup). x.size) h.end.standing.sections.all = sizes_are h.end.standing h.end.assignments h.begin m to_end.counted part.made.filled in
@@ -157,31 +158,31 @@ short_each : (these : List (List ℕ)) → All (λ (t : List ℕ). length t ≤ 
 short_each [] h = tt
 short_each (t ∷ these) h = (All-head (λ (x : List ℕ). length x ≤ 1024) t these h, short_each these (All-tail (λ (x : List ℕ). length x ≤ 1024) t these h))
 
-source_read : (source : List ℕ) (rows : List Row) (m : Module) → IsSourceOf source rows → AreOrdinary (row_texts rows) → assembled source ≡ Ok m → IsReadAs (row_texts rows) nothing m
+source_read : (dialect : Dialect) (source : List ℕ) (rows : List Row) (m : Module) → IsSourceOf source rows → AreOrdinary (row_texts rows) → assembled dialect source ≡ Ok m → IsReadAs (row_texts rows) (nothing dialect) m
 unfolding assembled
-source_read source rows m is ordinary e =
+source_read dialect source rows m is ordinary e =
     let steps : ℕ = suc (work (started source)) in
-    let same : walked steps (left_of 0 (row_texts rows) 0) nothing None ≡ Ok m = ap (λ (ts : List (List ℕ)). walked steps (left_of 0 ts 0) nothing None) (sym is.texts) ∙ e in
-    texts_read (row_texts rows) steps 0 0 nothing m ordinary (short_each (row_texts rows) is.short) (let few = is.few in omega arith) (let few = is.few in omega arith) same
+    let same : walked steps (left_of 0 (row_texts rows) 0) (nothing dialect) None ≡ Ok m = ap (λ (ts : List (List ℕ)). walked steps (left_of 0 ts 0) (nothing dialect) None) (sym is.texts) ∙ e in
+    texts_read (row_texts rows) steps 0 0 (nothing dialect) m ordinary (short_each (row_texts rows) is.short) (let few = is.few in omega arith) (let few = is.few in omega arith) same
 
-pub source_stands : (source bytes : List ℕ) (m : Module) (p : Program) (owner : ℕ) → AreBytes bytes → IsLinked p → slice_get p.modules owner ≡ Some m → assembled source ≡ Ok m
+pub source_stands : (dialect : Dialect) (source bytes : List ℕ) (m : Module) (p : Program) (owner : ℕ) → AreBytes bytes → IsLinked p → slice_get p.modules owner ≡ Some m → assembled dialect source ≡ Ok m
     → IsSourceOf source (rows_from 0 (section_address p.region p.modules owner 0) bytes) → section_address p.region p.modules owner 0 + length bytes ≤ 2 ^ 32 → Shows p.image (section_address p.region p.modules owner 0) bytes
-source_stands source bytes m p owner are linked there e is low =
+source_stands dialect source bytes m p owner are linked there e is low =
     let address : ℕ = section_address p.region p.modules owner 0 in
     let these : List (List ℕ) = row_texts (rows_from 0 address bytes) in
-    let r : IsReadAs these nothing m = source_read source (rows_from 0 address bytes) m is (rows_ordinary bytes 0 address are) e in
-    let h : Halves = record { first = []; middle = nothing; rest = r.lines; end = r.end; begin = None } in
+    let r : IsReadAs these (nothing dialect) m = source_read dialect source (rows_from 0 address bytes) m is (rows_ordinary bytes 0 address are) e in
+    let h : Halves = record { dialect = dialect; first = []; middle = nothing dialect; rest = r.lines; end = r.end; begin = None } in
     let start : address_of p owner h ≡ address = omega arith in
     let part : IsPart p owner h = record { source = m; made = record { before = refl; behind = r.leads; filled = r.filled }; there = there } in
     let begins : BeginsWith h (row_texts (rows_from 0 (address_of p owner h) bytes)) =
     record { lines = r.lines; more = []; spelled = sym (append-nil r.lines); are = r.are ∙ ap (λ (n : ℕ). row_texts (rows_from 0 n bytes)) (sym start) } in
     subst (λ (n : ℕ). Shows p.image n bytes) start (rows_stand bytes p owner h are linked part (omega (arith, start)) begins)
 
-pub source_accepted : (source bytes : List ℕ) (address : ℕ) → AreBytes bytes → length bytes ≤ section_limit → IsSourceOf source (rows_from 0 address bytes) → Assembles source
+pub source_accepted : (dialect : Dialect) (source bytes : List ℕ) (address : ℕ) → AreBytes bytes → length bytes ≤ section_limit → IsSourceOf source (rows_from 0 address bytes) → Assembles dialect source
 unfolding assembled
-source_accepted source bytes address are room is =
+source_accepted dialect source bytes address are room is =
     let these : List (List ℕ) = row_texts (rows_from 0 address bytes) in
     let steps : ℕ = suc (work (started source)) in
-    let start : Alone 0 nothing = record { section = unnamed; is = refl; size = refl; clear = nothing_clear; none = refl } in
-    let made = texts_accepted these steps 0 0 0 nothing (rows_ordinary bytes 0 address are) (short_each these is.short) (rows_fit bytes are 0 address 0 (omega arith) (omega arith)) (let few = is.few in omega arith) (let few = is.few in omega arith) start in
-    record { source_module = made.0; is = ap (λ (ts : List (List ℕ)). walked steps (left_of 0 ts 0) nothing None) is.texts ∙ made.1 }
+    let start : Alone 0 (nothing dialect) = record { section = unnamed; is = refl; size = refl; clear = nothing_clear; none = refl } in
+    let made = texts_accepted these steps 0 0 0 (nothing dialect) (rows_ordinary bytes 0 address are) (short_each these is.short) (rows_fit bytes are 0 address 0 (omega arith) (omega arith)) (let few = is.few in omega arith) (let few = is.few in omega arith) start in
+    record { source_module = made.0; is = ap (λ (ts : List (List ℕ)). walked steps (left_of 0 ts 0) (nothing dialect) None) is.texts ∙ made.1 }

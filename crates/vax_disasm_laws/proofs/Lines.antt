@@ -34,7 +34,9 @@ use Rattle.vax_asm_first.specs.Standing.{Standing, here_in}
 use Rattle.vax_asm_first.specs.declared.types.Origin.{Origin}
 use Rattle.vax_asm_instruction.specs.Stating.{Reached, behind as onward, if_counted, instruction_stated, opcode_stated, operand_stated, operands_stated}
 use Rattle.vax_asm_sections.specs.Layout.{Bytes, Part, current_of}
-use Rattle.vax_asm_statement.specs.Directives.{directive_of, directives, named_in}
+use Rattle.vax_dialect.specs.Differences.{has_further_directives}
+use Rattle.vax_dialect.specs.declared.Dialect.{Dialect}
+use Rattle.vax_asm_statement.specs.Directives.{directive_of, directives, further_directives, further_named, named_in}
 use Rattle.vax_asm_statement.specs.Parts.{parts}
 use Rattle.vax_asm_statement.specs.Reading.{Operation, What, parsed}
 use Rattle.vax_disasm.specs.Text.{operands_text, specifier_text, instruction_text}
@@ -326,7 +328,7 @@ are_plain [] tokens e = record { tokens_are = cc; no_bad = refl; no_wide = refl 
 are_plain (p ∷ pieces) tokens e = plain_first p.kind p.start p.end pieces tokens (λ more f. are_plain pieces more f) e
 
 -- the statement of a line without a label
-pub placed_line : (origin : Origin) (line : List ℕ) (tokens : List Token) (what : What) (s : Standing) → tokens_of line ≡ Ok tokens → parsed tokens ≡ record { label = None; what = what } → is_listing line what ≡ false
+pub placed_line : (origin : Origin) (line : List ℕ) (tokens : List Token) (what : What) (s : Standing) → tokens_of line ≡ Ok tokens → parsed tokens ≡ record { label = None; what = what } → is_listing s.dialect line what ≡ false
     → placed origin line s ≡ alone (body_stated origin line what s)
 unfolding placed stated
 placed_line origin line tokens what s e p listing =
@@ -365,10 +367,16 @@ undirected_in {X} (entry ∷ entries) text c h capital =
     rw (other_name entry.0 text c each.0 capital) (undirected_in entries text c each.1 capital)
 
 -- no directive has the name of an instruction
-undirected : (name : List ℕ) → IsName name → directive_named name ≡ None
+no_further : (further : Bool) (name : List ℕ) → named_in further_directives name ≡ None → further_named further name ≡ None
+no_further true name e = e
+no_further false name e = refl
+
+undirected : (dialect : Dialect) (name : List ℕ) → IsName name → directive_named dialect name ≡ None
 unfolding directive_of
-undirected [] is = absurd (let some = is.some in omega arith)
-undirected (c ∷ text) is = rw (all_ascii (c ∷ text) is.characters) (undirected_in directives text c refl is.letter)
+undirected dialect [] is = absurd (let some = is.some in omega arith)
+undirected dialect (c ∷ text) is =
+    rw (all_ascii (c ∷ text) is.characters, undirected_in directives text c refl is.letter)
+    (no_further (has_further_directives dialect) (c ∷ text) (undirected_in further_directives text c refl is.letter))
 
 instruction_found : (opcode : ℕ) (i : Instruction) → IsName i.name → with_opcode opcode ≡ Some i → instruction_named i.name ≡ Some i
 instruction_found opcode i is w = rw (all_ascii i.name is.characters) (named_back opcode i w)
@@ -398,7 +406,7 @@ instruction_made origin line tokens addr opcode pos bytes i q s are ks w e u spl
     ∙ ap (λ (r : Reached). done r.progress) all
     ∙ ap (λ (c : ℕ). done (adds (parts_of origin c addr (current_of s.sections).size q) (begun_at s)).progress) code
 
-operated : (origin : Origin) (line name : List ℕ) (tokens : List Token) (i : Instruction) (s : Standing) → directive_named name ≡ None → instruction_named name ≡ Some i → operation_stated origin line name tokens s ≡ instruction_stated (row_of i) origin line tokens s
+operated : (origin : Origin) (line name : List ℕ) (tokens : List Token) (i : Instruction) (s : Standing) → directive_named s.dialect name ≡ None → instruction_named name ≡ Some i → operation_stated origin line name tokens s ≡ instruction_stated (row_of i) origin line tokens s
 operated origin line name tokens i s none named = rw (none, named) refl
 
 pub body_made : (origin : Origin) (line : List ℕ) (name : Token) (tokens : List Token) (s : Standing) (r : Result Standing FaultKind) → operation_stated origin line (token_text line name) tokens s ≡ r → alone (body_stated origin line (Operation name tokens) s) ≡ placed_by r None
@@ -418,7 +426,7 @@ line_placed origin addr opcode bytes i q s are w e u =
     let name : Token = token_at 0 (word Name i.name) in
     let tokens : List Token = front_tokens (addr + 1) pos q in
     let text : token_text line name ≡ i.name = text_there line 0 (word Name i.name) (operands_text 32 (addr + 1) q) refl in
-    let none : directive_named (token_text line name) ≡ None = ap directive_named text ∙ undirected i.name f.name in
+    let none : directive_named s.dialect (token_text line name) ≡ None = ap (directive_named s.dialect) text ∙ undirected s.dialect i.name f.name in
     let found : instruction_named (token_text line name) ≡ Some i = ap instruction_named text ∙ instruction_found opcode i f.name w in
     placed_line origin line (name ∷ tokens) (Operation name tokens) s (line_scanned i.name (addr + 1) q operator fit) (parsed_operation i.name (addr + 1) pos q) (ap is_listing_by none)
     ∙ body_made origin line name tokens s _ (operated origin line (token_text line name) tokens i s none found

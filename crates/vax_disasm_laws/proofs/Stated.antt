@@ -2,6 +2,7 @@
 use Rattle.std.proofs.Common.{◌≡◌, ℕ, ◌+◌, ◌*◌, ◌<◌, true, false, ℤ, pos, List, [], ◌∷◌, ◌++◌, length, Option, Some, None, Result, Ok, Err, refl, sym, subst, arith}
 use Rattle.std.specs.Prelude.{if◌then◌else◌}
 use Rattle.vax_outside.specs.Hex.{hex}
+use Rattle.vax_dialect.specs.declared.Dialect.{Dialect}
 use Rattle.vax_isa.specs.declared.OperandKind.{OperandKind}
 use Rattle.vax_isa.specs.Rows.{IsKind}
 use Rattle.vax_lex.specs.declared.token.Token.{Token}
@@ -20,7 +21,7 @@ use Rattle.vax_asm_encode.specs.Bytes.{operand_bytes}
 use Rattle.vax_asm_first.specs.Faults.{fault_of_filled}
 use Rattle.vax_asm_first.specs.Fixups.{Fixup, Known}
 use Rattle.vax_asm_first.specs.Progress.{Site, added}
-use Rattle.vax_asm_first.specs.Standing.{Standing}
+use Rattle.vax_asm_first.specs.Standing.{Standing, here_at}
 use Rattle.vax_asm_first.specs.declared.types.Content.TheVariants as content
 use Rattle.vax_asm_first.specs.declared.types.Origin.{Origin}
 use Rattle.vax_asm_instruction.proofs.Back.{operand_is_long}
@@ -109,12 +110,12 @@ index_for (InMemory p) = None
 index_for (Indexed p x) = Some x
 index_for (BranchBy d) = None
 
-module _ (origin : Origin) (line : List ℕ) (here : Value) (scope : Scope) where
+module _ (dialect : Dialect) (origin : Origin) (line : List ℕ) (here : Value) (scope : Scope) where
   with_number : (m : Mode) (index : Option ℕ) (expression : List Token) (z : ℤ) → has_expression m ≡ true → HasValue line expression z
-      → prepared (site_at origin line here) (moded m expression index) scope ≡ with_value m index (value.Absolute z) scope
+      → prepared dialect (site_at origin line here) (moded m expression index) scope ≡ with_value m index (value.Absolute z) scope
   with_number m index expression z e h = rw (e, h.no_names, h.means (named (value_of scope.sources) [])) refl
 
-  place_prepared : (p : Place) (index : Option ℕ) (expression : List Token) → PlaceValue line expression p → prepared (site_at origin line here) (moded (place_mode p) expression index) scope ≡ with_value (place_mode p) index (place_value p) scope
+  place_prepared : (p : Place) (index : Option ℕ) (expression : List Token) → PlaceValue line expression p → prepared dialect (site_at origin line here) (moded (place_mode p) expression index) scope ≡ with_value (place_mode p) index (place_value p) scope
   place_prepared (Deferred n) index expression h = refl
   place_prepared (Decrement n) index expression h = refl
   place_prepared (Increment n) index expression h = refl
@@ -125,12 +126,12 @@ module _ (origin : Origin) (line : List ℕ) (here : Value) (scope : Scope) wher
 
   module _ (kind : OperandKind) (at : ℕ) (k : IsKind kind) where
     abbrev IsPrepared : (next : ℕ) → Specifier → List Token → Type 0
-    IsPrepared next s tokens = prepared (site_at origin line here) (operand_as kind line tokens) scope ≡ with_value (mode_for s) (index_for s) (value_for next s) scope
+    IsPrepared next s tokens = prepared dialect (site_at origin line here) (operand_as kind line tokens) scope ≡ with_value (mode_for s) (index_for s) (value_for next s) scope
 
-    as_written : (tokens : List Token) (o : modes.Operand) (p : Prepared) → takes_branch kind.letter ≡ false → operand_of line tokens ≡ o → prepared (site_at origin line here) o scope ≡ p → prepared (site_at origin line here) (operand_as kind line tokens) scope ≡ p
+    as_written : (tokens : List Token) (o : modes.Operand) (p : Prepared) → takes_branch kind.letter ≡ false → operand_of line tokens ≡ o → prepared dialect (site_at origin line here) o scope ≡ p → prepared dialect (site_at origin line here) (operand_as kind line tokens) scope ≡ p
     as_written tokens o p clear is e = rw (clear, is) e
 
-    as_branch : (tokens : List Token) (p : Prepared) → takes_branch kind.letter ≡ true → prepared (site_at origin line here) (destination tokens) scope ≡ p → prepared (site_at origin line here) (operand_as kind line tokens) scope ≡ p
+    as_branch : (tokens : List Token) (p : Prepared) → takes_branch kind.letter ≡ true → prepared dialect (site_at origin line here) (destination tokens) scope ≡ p → prepared dialect (site_at origin line here) (operand_as kind line tokens) scope ≡ p
     as_branch tokens p takes e = rw takes e
 
     memory_prepared : (next : ℕ) (p : Place) → May kind (InMemory p) → AreThere line at (place_words p []) → IsPrepared next (InMemory p) (tokens_at at (place_words p []))
@@ -217,4 +218,4 @@ pub specifier_stated : (origin : Origin) (line : List ℕ) (here : Value) (kind 
     → operand_stated (site_at origin line here) kind (tokens_at place (specifier_words kind next s)) at t ≡ left_by origin kind next at s t
 specifier_stated origin line here kind place at next s t k may there =
     let long : operand_length kind (operand_for s) ≡ length_for kind s = sym (operand_is_long kind (operand_for s) 0) in
-    rw (specifier_prepared origin line here t.scope kind place k s next may there, chosen kind next s t.sections.current at may, no_fault kind next s t.sections.current (field_at (operand_for s) at) k may, long) refl
+    rw (specifier_prepared t.dialect origin line (here_at t.dialect here (value.Section t.sections.current (pos at))) t.scope kind place k s next may there, chosen kind next s t.sections.current at may, no_fault kind next s t.sections.current (field_at (operand_for s) at) k may, long) refl

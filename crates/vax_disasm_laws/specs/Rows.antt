@@ -2,6 +2,7 @@
 use Rattle.std.specs.Prelude.{ℕ, zero, suc, ◌+◌, ◌-◌, ◌%◌, ◌^◌, List, [], ◌∷◌, Option, ◌≡◌, ◌≤◌, All, length, Ok}
 use Rattle.std.specs.Str.Lines.{lines}
 use Rattle.vax_asm.specs.Walk.{assembled}
+use Rattle.vax_dialect.specs.declared.Dialect.{Dialect}
 use Rattle.vax_module.specs.declared.Module.{Module}
 use Rattle.vax_disasm.specs.Listed.{Listing, listed}
 use Rattle.vax_listing.specs.Listing.{length_of, line, text_of}
@@ -33,7 +34,7 @@ pub record IsSourceOf (source : List ℕ) (rows : List Row) : Type 0 where
   pub short : All (λ text. length text ≤ 1024) (row_texts rows)
   pub few : length (row_texts rows) ≤ 100000
 
--- The source has no fault.
-pub record Assembles (source : List ℕ) : Type 0 where
+-- The source has no fault in a dialect.
+pub record Assembles (dialect : Dialect) (source : List ℕ) : Type 0 where
   pub source_module : Module
-  pub is : assembled source ≡ Ok source_module
+  pub is : assembled dialect source ≡ Ok source_module

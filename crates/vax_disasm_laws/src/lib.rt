@@ -17,6 +17,7 @@ ghost use Rattle.vax_disasm.specs.Listed.{Listing, listed, listing};
 ghost use Rattle.vax_disasm_laws.specs.Assembling.{AreBytes, BeginsWith, HasRoom, IsLinked, IsPart, IsStatement, Program, Shows, address_of};
 ghost use Rattle.vax_asm.specs.Walk.{assembled};
 ghost use Rattle.vax_link.specs.Values.{section_address};
+ghost use Rattle.vax_dialect.specs.declared.Dialect.{Dialect};
 ghost use Rattle.vax_module.specs.declared.Module.{Module};
 ghost use Rattle.vax_disasm_laws.specs.Rows.{Assembles, IsSourceOf, row_line, row_texts, rows_from};
 ghost use Rattle.vax_listing.specs.Listing.{lines_from};
@@ -57,8 +58,9 @@ pub fn listings_stand_for_their_bytes()
 /// The texts of a listing alone are a source: the module that it assembles to puts the listed bytes into the image, where its first section comes
 /// to stand at the address that was listed.
 pub fn sources_of_listings_give_their_bytes()
-    ensures { (source bytes : List ℕ) (m : Module) (p : Program) (owner : ℕ) →
-        AreBytes bytes → IsLinked p → slice_get p.modules owner ≡ Some m → assembled source ≡ Ok m →
+    ensures { (dialect : Dialect) (source bytes : List ℕ) (m : Module) (p : Program) (owner : ℕ) →
+        AreBytes bytes → IsLinked p → slice_get p.modules owner ≡ Some m →
+        assembled dialect source ≡ Ok m →
         IsSourceOf source (rows_from 0 (section_address p.region p.modules owner 0) bytes) →
         section_address p.region p.modules owner 0 + length bytes ≤ 2 ^ 32 →
         Shows p.image (section_address p.region p.modules owner 0) bytes }
@@ -66,9 +68,9 @@ pub fn sources_of_listings_give_their_bytes()
 
 /// Such a source assembles, where the bytes fit a section.
 pub fn listings_assemble()
-    ensures { (source bytes : List ℕ) (address : ℕ) →
+    ensures { (dialect : Dialect) (source bytes : List ℕ) (address : ℕ) →
         AreBytes bytes → length bytes ≤ section_limit →
-        IsSourceOf source (rows_from 0 address bytes) → Assembles source }
+        IsSourceOf source (rows_from 0 address bytes) → Assembles dialect source }
 {}
 
 /// Every instruction that is assembled is listed at each address, whatever numbers its fields come to hold.

@@ -4,6 +4,7 @@ use Rattle.std.specs.Prelude.{Vec, Result, Ok, Err, slice_index_or}
 use Rattle.std.specs.Global.{Global}
 use Rattle.vax_asm.specs.Walk.{assembled}
 use Rattle.vax_asm_second.specs.declared.types.Fault.{Fault}
+use Rattle.vax_dialect.specs.declared.Dialect.TheVariants.{Vax}
 use Rattle.vax_module.specs.declared.Module.{Module}
 use Rattle.vax_program.specs.Program.{Refusal, InImage, and_others, is_linked, modules_of}
 use Rattle.vax_program.specs.View.{Answers, refusal_seen, texts}
@@ -42,7 +43,7 @@ pub one_more : (file : ℕ) (modules : List Module) (m : Module) (all : Result (
     → ahead (modules ++ m ∷ []) (modules_of (file + 1) (texts (drop (i + 1) xs))) ≡ all
 one_more file modules m all xs i x h at is same =
     let rest = modules_of (suc file) (texts (drop (i + 1) xs)) in
-    let front : modules_of file (x.items ∷ texts (drop (i + 1) xs)) ≡ and_others file (Ok m) rest = taken (is_linked x.items) (assembled x.items) file m rest is in
+    let front : modules_of file (x.items ∷ texts (drop (i + 1) xs)) ≡ and_others file (Ok m) rest = taken (is_linked x.items) (assembled Vax x.items) file m rest is in
     rw add-one (moved modules file m rest)
     ∙ ap (ahead modules) (sym front)
     ∙ ap (λ (l : List (List ℕ)). ahead modules (modules_of file l)) (sym (split_at xs i x h at))
@@ -55,7 +56,7 @@ pub refused : (file : ℕ) (modules : List Module) (e : Refusal) (all : Result (
 refused file modules e all xs i x h at is same =
     sym same
     ∙ ap (λ (l : List (List ℕ)). ahead modules (modules_of file l)) (split_at xs i x h at)
-    ∙ ap (ahead modules) (not_taken (is_linked x.items) (assembled x.items) file e (modules_of (suc file) (texts (drop (i + 1) xs))) is)
+    ∙ ap (ahead modules) (not_taken (is_linked x.items) (assembled Vax x.items) file e (modules_of (suc file) (texts (drop (i + 1) xs))) is)
 
 pub ahead_nil : (front : List Module) (all : Result (List Module) Refusal) → front ≡ [] → ahead front all ≡ all
 ahead_nil front (Ok others) e = rw e refl

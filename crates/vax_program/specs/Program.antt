@@ -3,6 +3,7 @@ use Rattle.std.specs.Prelude.{ℕ, suc, List, [], ◌∷◌, Result, Ok, Err, Bo
 use Rattle.std.specs.Str.{bytes_eq}
 use Rattle.vax_asm.specs.Walk.{assembled}
 use Rattle.vax_asm_second.specs.declared.types.Fault.{Fault}
+use Rattle.vax_dialect.specs.declared.Dialect.TheVariants.{Vax}
 use Rattle.vax_elf.specs.Executable.{is_executable}
 use Rattle.vax_elf.specs.Faults.{code_of as elf_code_of}
 use Rattle.vax_elf.specs.Reading as elf
@@ -70,7 +71,7 @@ and_others file (Ok m) (Err refusal) = Err refusal
 abbrev pub modules_of : ℕ → List (List ℕ) → Result (List Module) Refusal
 modules_of file [] = Ok []
 modules_of file (text ∷ texts) =
-    if is_linked text then Err (InImage 0 11) else and_others file (assembled text) (modules_of (suc file) texts)
+    if is_linked text then Err (InImage 0 11) else and_others file (assembled Vax text) (modules_of (suc file) texts)
 
 abbrev pub as_parts : Base → Result (List Module) Refusal → Result Parts Refusal
 as_parts wanted (Ok modules) = Ok (Modules wanted modules)

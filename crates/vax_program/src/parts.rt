@@ -11,6 +11,7 @@ ghost use Rattle.vax_program.specs.View.{Answers, IsSound, base_of, parts_seen, 
 use crate::types::{Parts, ProgramError, Refusal};
 use std::alloc::Global;
 use vax_asm::{AsmError, assemble};
+use vax_dialect::Dialect;
 use vax_elf::{ElfError, is_executable};
 use vax_image::{BASE, Base, Image, ImageError, read};
 use vax_module::Module;
@@ -107,7 +108,7 @@ fn module_of(alloc: Global, file: u8, source: &[u8]) -> Result<Module, ProgramEr
             kind: NOT_ALONE,
         }));
     }
-    match assemble(alloc, source) {
+    match assemble(alloc, Dialect::Vax, source) {
         Ok(module) => Ok(module),
         Err(AsmError::Fault { line, kind }) => Err(ProgramError::Refused(Refusal::Source {
             file,

@@ -5,6 +5,7 @@ use Rattle.vax_asm_second.specs.declared.types.Fault.{Fault}
 use Rattle.vax_asm_listing.specs.Listed.{AreTraced, IsFaulty, IsListing}
 use Rattle.vax_asm_listing.specs.declared.program.ListingError.TheVariants as listing_error
 use Rattle.vax_asm_listing.specs.declared.types.Notes.{Notes}
+use Rattle.vax_dialect.specs.declared.Dialect.TheVariants.{Vax}
 use Rattle.vax_elf.specs.Executable.{is_executable}
 use Rattle.vax_elf.specs.Reading as elf
 use Rattle.vax_image.specs.Reading.{image_of}
@@ -41,7 +42,7 @@ traced_from file (s ∷ sources) (m ∷ modules) (n ∷ notes) (first, others) =
 
 -- sources of which one has a fault, and those before it have modules
 faulty_from : (number file : ℕ) (before : List (List ℕ)) (source : List ℕ) (rest : List (List ℕ)) (modules : List Module) (notes : List Notes) (fault : Fault)
-    → number ≡ file + length before → AreTraced before modules notes → assembled source ≡ Err fault → sources_from file (before ++ source ∷ rest) ≡ Err (Source number fault.origin.line (code_of fault.kind))
+    → number ≡ file + length before → AreTraced before modules notes → assembled Vax source ≡ Err fault → sources_from file (before ++ source ∷ rest) ≡ Err (Source number fault.origin.line (code_of fault.kind))
 faulty_from number file [] source rest [] [] fault e h is =
     let here : file ≡ number = omega (arith, e) in
     ap (λ (r : Result Module Fault). and_others file r (sources_from (suc file) rest)) is
@@ -100,8 +101,8 @@ second_is_no false b e = e
 same_modules : (file : ℕ) (sources : List (List ℕ)) → AreSources sources → sources_from file sources ≡ modules_of file sources
 same_modules file [] h = refl
 same_modules file (s ∷ sources) (one, others) =
-    ap (and_others file (assembled s)) (same_modules (suc file) sources others)
-    ∙ sym (chosen (is_linked s) (Err (InImage 0 11)) (and_others file (assembled s) (modules_of (suc file) sources)) one)
+    ap (and_others file (assembled Vax s)) (same_modules (suc file) sources others)
+    ∙ sym (chosen (is_linked s) (Err (InImage 0 11)) (and_others file (assembled Vax s) (modules_of (suc file) sources)) one)
 
 same_parts : (region : Base) (sources : List (List ℕ)) → AreSources sources → as_parts region (modules_of 1 sources) ≡ parts_of region 1 sources
 unfolding parts_of

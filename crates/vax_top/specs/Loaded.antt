@@ -1,6 +1,7 @@
 -- The programs of a command: what its files come to.
 use Rattle.std.specs.Prelude.{◌≡◌, ℕ, suc, false, List, [], ◌∷◌, Option, Some, None, Result, Ok, Err}
 use Rattle.vax_asm.specs.Walk.{assembled}
+use Rattle.vax_dialect.specs.declared.Dialect.TheVariants.{Vax}
 use Rattle.vax_guest.specs.Executive.{executive_source}
 use Rattle.vax_image.specs.declared.Base.{Base}
 use Rattle.vax_image.specs.declared.Base.TheVariants as base
@@ -27,7 +28,7 @@ image_from base texts = and_then (parts_of base 1 texts) linked_of
 -- The modules of sources, numbered from the first number on. A file that begins as an image or an executable is a source here like any other.
 abbrev pub sources_from : ℕ → List Text → Result (List Module) Refusal
 sources_from file [] = Ok []
-sources_from file (text ∷ texts) = and_others file (assembled text) (sources_from (suc file) texts)
+sources_from file (text ∷ texts) = and_others file (assembled Vax text) (sources_from (suc file) texts)
 
 -- The image that sources are linked to, which are numbered from 1.
 abbrev pub sources_image : Base → List Text → Result Image Refusal

@@ -7,4 +7,4 @@ use Rattle.vax_asm.proofs.walk.assemble.Goals as goal
 
 pub returns-in-Err-Fault-clause-module : goal.returns-in-Err-Fault-clause-module
 returns-in-Err-Fault-clause-module c =
-    (c.in-Err-Fault.fault.origin.place, subst (λ (e : FillError). Fills (Err e) (assembled c.args.source.now)) c.in-Err-Fault.field-0-is c.in-Err-Fault.ensures.module)
+    (c.in-Err-Fault.fault.origin.place, subst (λ (e : FillError). Fills (Err e) (assembled c.args.dialect c.args.source.now)) c.in-Err-Fault.field-0-is c.in-Err-Fault.ensures.module)

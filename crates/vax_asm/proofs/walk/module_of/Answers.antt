@@ -9,6 +9,6 @@ pub statements-init : goal.statements-init
 statements-init c =
     let rest = rest_of c.in-Ok.expander in
     record {
-      walks = (suc (work rest), omega arith, started_walk c.args.source.now rest (standing_of c.in-Ok-new.standing) (map assignment_of c.new-3.result.items) c.in-Ok.ensures.rest c.in-Ok-new.ensures (ap (map assignment_of) c.new-3.ensures.items));
+      walks = (suc (work rest), omega arith, started_walk c.args.dialect c.args.source.now rest (standing_of c.in-Ok-new.standing) (map assignment_of c.new-3.result.items) c.in-Ok.ensures.rest c.in-Ok-new.ensures (ap (map assignment_of) c.new-3.ensures.items));
       quiet = c.in-Ok.ensures.error;
     }

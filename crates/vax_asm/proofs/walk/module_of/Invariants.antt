@@ -7,7 +7,7 @@ use Rattle.vax_asm.proofs.walk.module_of.Given as goal
 
 abbrev pub invariant-statements : goal.invariant-statements
 invariant-statements l = record {
-  walks : (left : ℕ) × (work (rest_of l.expander) < left) × (walked left (rest_of l.expander) (assembly_of l.walk.standing l.walk.assignments) l.walk.met ≡ assembled l.source);
+  walks : (left : ℕ) × (work (rest_of l.expander) < left) × (walked left (rest_of l.expander) (assembly_of l.walk.standing l.walk.assignments) l.walk.met ≡ assembled l.fn.dialect l.source);
   quiet : error_of l.expander ≡ None;
 }
 

@@ -1,0 +1,93 @@
+//! Whole sources in each dialect: what the larger one gives, and the faults of both. Expected bytes are worked by the manual.
+use std::alloc::Global;
+use std::test::Fail;
+use vax_asm::{AsmError, assemble};
+use vax_dialect::Dialect;
+use vax_module::Module;
+
+/// The bytes of the section without a name.
+fn bytes_of(module: &Module) -> &[u8] {
+    match module.sections.as_slice().first() {
+        Some(found) => found.bytes.as_slice(),
+        None => &[],
+    }
+}
+
+/// The line and the kind of the first fault, by its number; zeros where there is none.
+fn fault_of(alloc: Global, dialect: Dialect, source: &str) -> (u32, u8) {
+    match assemble(alloc, dialect, source.as_bytes()) {
+        Err(AsmError::Fault { line, kind }) => (line, kind.code()),
+        _ => (0, 0),
+    }
+}
+
+#[test]
+fn gives_what_one_dialect_has(rt: HostRuntime) -> Result<(), Fail> {
+    let alloc = rt.alloc();
+    let rows: [(&str, &[u8], (u32, u8)); 14] = [
+        (".BYTE 1,,2\n", b"\x01\0\x02", (1, 4)),
+        (".WORD 1[2],[2],\n", b"\x01\0\x01\0\0\0\0\0\0\0", (1, 4)),
+        (
+            ".BYTE 7\n.ODD\n.ODD\n.BYTE 8\n.odd\n.BYTE 9\n",
+            b"\x07\x08\0\x09",
+            (2, 2),
+        ),
+        ("A: .BYTE 5,.-A,.-A\n", b"\x05\x01\x02", (1, 4)),
+        ("A: NOP\nMOVL #.-A,R0\n", b"\x01\xD0\x02\x50", (2, 4)),
+        ("BRB .\n", b"\x11\xFF", (1, 4)),
+        (".BYTE 1\n. = . + 3\n.BYTE 2\n", b"\x01\0\0\0\x02", (2, 2)),
+        ("A: .BYTE 1\n.=A+2\n.=.\n.BYTE 2\n", b"\x01\0\x02", (2, 2)),
+        (
+            ".BYTE 1\n.PSECT A\n.BYTE 2\n.PSECT\n.BYTE 3\n",
+            b"\x01\x03",
+            (4, 3),
+        ),
+        (".BLKF\n.BYTE 1\n", b"\0\0\0\0\x01", (1, 2)),
+        (".BLKD\n.BYTE 1\n", b"\0\0\0\0\0\0\0\0\x01", (1, 2)),
+        (".BLKG 0\n.BYTE 1\n", b"\x01", (1, 2)),
+        (".WEAK A\nA: .BYTE 1\n", b"\x01", (1, 2)),
+        (
+            ".CROSS A\n.NOCROSS\n.DEBUG A\n.LIBRARY 'A;B'\n.MCALL $A,$B\n.LINK \"A\"/B\n.PRINT 1 ;C\n.WARN\n.BYTE 3\n",
+            b"\x03",
+            (1, 2),
+        ),
+    ];
+    for (source, bytes, fault) in rows {
+        let module = assemble(alloc, Dialect::Vms, source.as_bytes())?;
+        assert!(rt; bytes_of(&module) == bytes, "{source}");
+        assert!(rt; fault_of(alloc, Dialect::Vax, source) == fault, "{source}");
+    }
+    Ok(())
+}
+
+#[test]
+fn tells_the_faults_of_the_larger_dialect(rt: HostRuntime) {
+    let alloc = rt.alloc();
+    let rows = [
+        (".ODD 1\n", (1, 3)),
+        (".BYTE 300,\n", (1, 7)),
+        (".BYTE 1,[X]\nX=1\n", (1, 5)),
+        (".BYTE .\n", (1, 4)),
+        (".ALIGN .\n", (1, 4)),
+        (". = 5\n", (1, 4)),
+        (".BYTE 1,2\n. = .-1\n", (2, 7)),
+        (".=X\nX: NOP\n", (1, 5)),
+        ("A: NOP\n.PSECT B\n.=A\n", (3, 4)),
+        (". == .+1\n", (1, 2)),
+        (". = .+1048577\n", (1, 11)),
+        (".PSECT ,LONG\n", (1, 4)),
+        (".BLKO 1\n", (1, 2)),
+        (".ERROR 1\n", (1, 2)),
+    ];
+    for (source, fault) in rows {
+        assert!(rt; fault_of(alloc, Dialect::Vms, source) == fault, "{source}");
+    }
+}
+
+#[test]
+fn shares_weak_names(rt: HostRuntime) -> Result<(), Fail> {
+    let module = assemble(rt.alloc(), Dialect::Vms, b".WEAK A,B\nA: .LONG B\n")?;
+    assert!(rt; module.globals.as_slice().len() == 1);
+    assert!(rt; module.externals.as_slice().len() == 1);
+    Ok(())
+}
