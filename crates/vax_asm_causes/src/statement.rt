@@ -1,7 +1,5 @@
 // A line as a statement: its label, its operator and its operands.
 
-ghost use Rattle.std.specs.Prelude.{◌≤◌, IfOk, length};
-
 use std::alloc::Global;
 use vax_lex::{Piece, PieceKind, TokenKind, pieces};
 use vax_space::NoMemory;

@@ -1,8 +1,6 @@
 //! Parts of a page file, so that several processes share one.
 #![tactic(auto)]
 
-ghost use Rattle.std.specs.Prelude.{◌≡◌};
-
 mod laws;
 mod window;
 
