@@ -3,8 +3,8 @@ ghost use Rattle.std.specs.Prelude.{IfOk, OnErr, is_err};
 ghost use Rattle.vax_outside.specs.Faults.{CountsFailure};
 ghost use Rattle.vax_command.specs.Around.{change, untouched};
 ghost use Rattle.vax_command.specs.Ends.{EndsSo};
-ghost use Rattle.vax_vector_lines.specs.Lines.{Wrote, WrotePrefix, least_of};
-ghost use Rattle.vax_top.specs.Vectors.{VectorsDo, number_of};
+ghost use Rattle.vax_vector_lines.specs.Lines.{Such, Wrote, WrotePrefix};
+ghost use Rattle.vax_top.specs.Vectors.{AreAsked, VectorsDo};
 
 use std::alloc::Global;
 use vax_cli::{Opcodes, VectorRequest};
@@ -20,7 +20,7 @@ fn write_asked<K: Sink>(
     sink: &mut K,
 ) -> Result<Extent, Failed>
     ensures wrote { IfOk result (λ extent.
-        Wrote (least_of extent (number_of request.opcodes request.count))
+        Wrote (Such extent (AreAsked request.opcodes request))
         (K.contents sink.old) (K.contents sink.new)) }
     ensures prefix { OnErr result (WrotePrefix (K.contents sink.old) (K.contents sink.new)) }
     ensures counts { CountsFailure (is_err result) (K.faults sink.old) (K.faults sink.new) }
