@@ -12,10 +12,11 @@ use Rattle.vax_pager.specs.Listing.{is_listed, leave_out}
 use Rattle.vax_pager.specs.declared.calls.PageFault.{PageFault}
 use Rattle.vax_pager.specs.Meaning.{pages}
 use Rattle.vax_machine.specs.Console.{Deposits, HasLetGo, with_bytes}
-use Rattle.vax_machine.specs.Machine.{Applies, Evicts, Keeping, KeepsPlace, Means, keeping}
+use Rattle.vax_machine.specs.Machine.{Applies, Evicts, Keeping, KeepsPlace, Means, keeping, residence}
 use Rattle.vax_machine.specs.Residence.{Residence, taken_out}
 use Rattle.vax_machine.specs.declared.engine.Engine.{Engine}
 use Rattle.vax_machine.specs.declared.event.Applied.{Applied}
+use Rattle.vax_machine.specs.declared.event.Applied.TheVariants.{Failed}
 use Rattle.vax_machine.specs.declared.event.Event.TheVariants as event
 use Rattle.vax_console.specs.Transcript.{Session, may_deposit, with_machine}
 use Rattle.vax_console.specs.Ends.{Scene, writes}
@@ -138,3 +139,17 @@ deposits_at addr bytes (Ok false) o s replies v w h silent answer d =
     let may : may_deposit s.machine.memory addr (length bytes) ≡ false = sym (same_right v.machine v.file s.machine addr (length bytes) h.at.means) ∙ sym answer in
     (sym may, refuses_at addr bytes o s replies v w h silent may d)
 deposits_at addr bytes (Err e) o s replies v w h silent answer d = fails_at addr bytes o s replies v w h silent d.0 d.1
+
+-- a page that isn't resident isn't taken out
+not_out : (page : ℕ) (r : Residence) → is_listed page r.order ≡ false → taken_out page r ≡ r
+unfolding taken_out
+not_out page r e = rw e refl
+
+goes_out : (page : ℕ) (b : Bool) (old new : Keeping) (result : Applied) → is_listed page old.residence.order ≡ b → (result ≡ Failed → ⊥) → Evicts page b old result new → new.residence ≡ taken_out page old.residence
+goes_out page false old new result e fine v = ap (λ (k : Keeping). k.residence) v.1 ∙ sym (not_out page old.residence e)
+goes_out page true old new result e fine (inl v) = absurd (fine v.0)
+goes_out page true old new result e fine (inr v) = ap (λ (k : Keeping). k.residence) v.1
+
+-- an eviction that succeeded
+pub evicts_out : (page : ℕ) (result : Applied) (old new : Engine) (before after : Option BlockFile) → (result ≡ Failed → ⊥) → Applies (event.Evict page) old before result new after → residence new ≡ taken_out page (residence old)
+evicts_out page result old new before after fine a = goes_out page (is_listed page (pages old.pager).order) (keeping old) (keeping new) result refl fine a.0

@@ -2,7 +2,9 @@
 ghost use Rattle.std.specs.Prelude.{◌≡◌, ◌<◌, ◌≤◌, ◌^◌, OnOk, Option, is_err, length};
 ghost use Rattle.vax_outside.specs.Channels.{Channels};
 ghost use Rattle.vax_outside.specs.Faults.{CountsFailure};
-ghost use Rattle.vax_machine.specs.Meaning.{engine};
+ghost use Rattle.vax_machine.specs.Machine.{keeping, residence};
+ghost use Rattle.vax_machine.specs.Meaning.{engine, memory_of};
+ghost use Rattle.vax_machine.specs.Residence.{taken_out};
 ghost use Rattle.vax_console.specs.Ends.{scene};
 ghost use Rattle.vax_debug.specs.Sessions.{DepositsFrom, SetsFrom, ShowsFrom, StaysHere};
 
@@ -25,6 +27,8 @@ pub fn examine<F: PageFile>(
     ensures stays { (sink : Option Channels) →
         StaysHere (scene (engine machine.old) (F.contents file.old) sink)
         (scene (engine machine.new) (F.contents file.new) sink) }
+    ensures keeps { keeping (engine machine.new) ≡ keeping (engine machine.old) }
+    ensures same { memory_of machine.new ≡ memory_of machine.old }
     ensures counts { CountsFailure (is_err result) (F.faults file.old) (F.faults file.new) }
 {
     machine.dump(addr, cells, file)
@@ -75,6 +79,8 @@ pub fn evict<F: PageFile>(page: u32, machine: &mut Machine, file: &mut F) -> Res
     ensures stays { (sink : Option Channels) →
         StaysHere (scene (engine machine.old) (F.contents file.old) sink)
         (scene (engine machine.new) (F.contents file.new) sink) }
+    ensures evicts { OnOk result
+        (residence (engine machine.new) ≡ taken_out page (residence (engine machine.old))) }
     ensures counts { CountsFailure (is_err result) (F.faults file.old) (F.faults file.new) }
 {
     match machine.apply(Event::Evict(page), file) {

@@ -1,4 +1,4 @@
-use Rattle.std.proofs.Common.{◌≡◌, ◌+◌, ◌<◌, ◌^◌, ◌∙◌, ℕ, min, ap, subst, sym}
+use Rattle.std.proofs.Common.{◌≡◌, ◌+◌, ◌<◌, ◌^◌, ℕ, min, subst, sym}
 use Rattle.std.specs.Prelude.{None}
 use Rattle.vax_machine.specs.Meaning.{engine}
 use Rattle.vax_console.specs.Ends.{scene}
@@ -13,6 +13,7 @@ returns-clause-goes g c = λ o s replies here few.
     let limit = c.args.limits.now.steps in
     let v = scene (engine c.args.machine.now) (g.F.PageFile.contents c.args.file.now) (g.K.Sink.contents c.args.sink.now) in
     let w = scene (engine c.travel.new.machine) (g.F.PageFile.contents c.travel.new.file) (g.K.Sink.contents c.travel.new.sink) in
-    let is : c.min-count.result ≡ min c.args.count (left limit s) = c.min-count.ensures ∙ ap (λ (n : ℕ). min c.args.count n) (left_is o s replies v limit c.steps_left.result here c.steps_left.ensures) in
+    let all : c.steps_left.result ≡ left limit s = left_is o s replies v limit c.steps_left.result here c.steps_left.ensures in
+    let is : c.min-count.result ≡ min c.args.count (left limit s) = subst (λ (n : ℕ). c.min-count.result ≡ min c.args.count n) all c.min-count.ensures in
     subst (λ (n : ℕ). Arrives c.travel.result c.args.limits.now.turns n (travelled n (stops_at c.args.breaks.now None) s) o s replies w) is
     (c.travel.ensures.goes o s replies here (subst (λ (n : ℕ). s.steps + n < 2 ^ 64) (sym is) few))
