@@ -7,6 +7,7 @@ use Rattle.vax_asm_check.specs.Listed.{AreFirst, in_order}
 use Rattle.vax_asm_errors.specs.Errors.{IsErrors, IsPlain, ending, error}
 use Rattle.vax_asm_errors.specs.declared.said.Said.{Said}
 use Rattle.vax_asm_faults.specs.Refusal.{faults_of}
+use Rattle.vax_dialect.specs.declared.Dialect.TheVariants.{Vax}
 use Rattle.vax_asm_second.specs.declared.types.Fault.{Fault}
 
 pub error_added : {X : Type 0} (told : X → List ℕ) (faults : List X) (i : ℕ) (f : X) (before after all : List ℕ) → i < length faults → f ≡ slice_index_or faults i f → after ≡ before ++ told f
@@ -21,11 +22,11 @@ error_added {X} told faults i f before after all h at more same =
 pub errors_added : {X : Type 0} (told : X → List ℕ) (faults : List X) (i : ℕ) (before all : List ℕ) → length faults ≤ i → before ++ flat_map told (drop i faults) ≡ all → before ≡ all
 errors_added {X} told faults i before all h same = sym (append-nil before) ∙ ap (λ (l : List X). before ++ flat_map told l) (sym (drop_all i faults h)) ∙ same
 
-pub all_added : {A E : Type 0} (r : Result A E) (name source : List ℕ) (faults : List Fault) (said : List Said) (count : ℕ) (before between after : List ℕ) → AreFirst 100 faults (in_order (faults_of source)) → map (λ s. s.fault) said ≡ faults → All IsPlain said
+pub all_added : {A E : Type 0} (r : Result A E) (name source : List ℕ) (faults : List Fault) (said : List Said) (count : ℕ) (before between after : List ℕ) → AreFirst 100 faults (in_order (faults_of Vax source)) → map (λ s. s.fault) said ≡ faults → All IsPlain said
     → between ≡ before ++ flat_map (error name source) said → count ≡ length said → OnOk r (after ≡ between ++ ending name count) → OnOk r (IsErrors name source before after)
 all_added (Ok x) name source faults said count before between after first are plain b e h = record {
   said = said;
-  first = subst (λ (l : List Fault). AreFirst 100 l (in_order (faults_of source))) (sym are) first;
+  first = subst (λ (l : List Fault). AreFirst 100 l (in_order (faults_of Vax source))) (sym are) first;
   plain = plain;
   text =
       h ∙ ap (λ (n : ℕ). between ++ ending name n) e ∙ ap (λ (l : List ℕ). l ++ ending name (length said)) b
