@@ -1,0 +1,126 @@
+-- What processes sent, and the reports behind it.
+use Rattle.std.proofs.Common.{◌≡◌, ℕ, List, Option, map, arith, refl, sym, ap, ◌∙◌, subst, inl, inr}
+use Rattle.vax_outside.proofs.Growth.{append-nothing, channels_assoc, grew_more, prefix_in}
+use Rattle.vax_outside.specs.Channels.{Channels, Grew, GrewByPrefix, append, nothing, only}
+use Rattle.vax_outside.specs.Faults.{Rose, raised}
+use Rattle.vax_outside.specs.declared.faults.Failures.{Failures}
+use Rattle.vax_outside.specs.declared.traits.Chan.TheVariants as channel
+use Rattle.vax_jobs.specs.Pool.{keeps_of}
+use Rattle.vax_jobs.specs.Running.{CountsEnd, IsCut, IsLost, IsWhole, System}
+use Rattle.vax_jobs.specs.Shared.{Setting, Shared, Why, bytes_sent, shared}
+use Rattle.vax_jobs.specs.declared.ends.JobsEnd.{JobsEnd}
+use Rattle.vax_jobs.specs.declared.ends.JobsEnd.TheVariants.{PageFault, WriteFault}
+use Rattle.vax_jobs_report.proofs.Reporting.{same_reports}
+use Rattle.vax_jobs_report.specs.Reports.{machine_reports, process_reports}
+use Rattle.vax_report.specs.declared.Last.TheVariants as last
+use Rattle.vax_together.specs.Together.{Answers, EndsBy, HasGrown, IsReported, IsUnwritten, OnlyReported}
+
+-- one behind the other, and a prefix of both
+both_grew : (a b c : Option Channels) (x y : Channels) → Grew a b x → GrewByPrefix b c y → GrewByPrefix a c (append x y)
+both_grew a b c x y g p = prefix_in a b c x y nothing (append x y) (ap (append x) (append-nothing y)) g p
+
+prefix_of : (a c : Option Channels) (x y : Channels) → GrewByPrefix a c x → GrewByPrefix a c (append x y)
+prefix_of a c x y p = record {
+  prefix = p.prefix;
+  rest = append p.rest y;
+  splits = sym (channels_assoc p.prefix p.rest y) ∙ ap (λ z. append z y) p.splits;
+  grew = p.grew;
+}
+
+-- the run stopped by itself, and the reports were written
+pub stopped_so : (end result : JobsEnd) (why : Why) (x : Setting) (s : Shared) (y : System) (old mid new : Option Channels) (a b : Failures) → ((r : JobsEnd) → r ≡ end → IsReported x s why old new → EndsBy r x s old new) → y.pooling.processes ≡ map keeps_of y.machines → IsWhole x s why y old mid → Answers end result (machine_reports x.steps last.Turns y.machines) mid new a b → EndsBy result x s old new
+stopped_so end result why x s y old mid new a b whole is w (inl h) =
+    whole result h.answer (record {
+      count = w.count;
+      runs = w.runs;
+      stopped = w.stopped;
+      wrote =
+          subst (λ text. Grew old new (append (only channel.Out (bytes_sent (shared x w.count s))) (only channel.Report text))) (same_reports x.steps last.Turns y (shared x w.count s).processes is w.tracks.stands)
+          (grew_more old mid new (only channel.Out (bytes_sent (shared x w.count s))) (only channel.Report (machine_reports x.steps last.Turns y.machines)) w.wrote h.wrote);
+    })
+stopped_so end result why x s y old mid new a b whole is w (inr h) =
+    subst (λ (r : JobsEnd). EndsBy r x s old new) (sym h.answer) (record {
+      count = w.count;
+      runs = w.runs;
+      other = last.Turns;
+      wrote =
+          subst (λ text. GrewByPrefix old new (append (only channel.Out (bytes_sent (shared x w.count s))) (only channel.Report text))) (same_reports x.steps last.Turns y (shared x w.count s).processes is w.tracks.stands)
+          (both_grew old mid new (only channel.Out (bytes_sent (shared x w.count s))) (only channel.Report (machine_reports x.steps last.Turns y.machines)) w.wrote h.wrote);
+    })
+
+-- a call of the page file failed
+pub cut_so : (result : JobsEnd) (x : Setting) (s : Shared) (y : System) (old mid new : Option Channels) (a b : Failures) → y.pooling.processes ≡ map keeps_of y.machines → IsCut x s y old mid → Answers PageFault result (machine_reports x.steps last.PageFault y.machines) mid new a b → EndsBy result x s old new
+cut_so result x s y old mid new a b is w (inl h) =
+    subst (λ (r : JobsEnd). EndsBy r x s old new) (sym h.answer) (record {
+      count = w.count;
+      runs = w.runs;
+      wrote =
+          subst (λ text. Grew old new (append (only channel.Out (bytes_sent (shared x w.count s))) (only channel.Report text))) (same_reports x.steps last.PageFault y (shared x w.count s).processes is w.stuck.stands)
+          (grew_more old mid new (only channel.Out (bytes_sent (shared x w.count s))) (only channel.Report (machine_reports x.steps last.PageFault y.machines)) w.wrote h.wrote);
+    })
+cut_so result x s y old mid new a b is w (inr h) =
+    subst (λ (r : JobsEnd). EndsBy r x s old new) (sym h.answer) (record {
+      count = w.count;
+      runs = record { going = λ i l. w.runs.going i (omega (arith, l)) };
+      other = last.PageFault;
+      wrote =
+          subst (λ text. GrewByPrefix old new (append (only channel.Out (bytes_sent (shared x w.count s))) (only channel.Report text))) (same_reports x.steps last.PageFault y (shared x w.count s).processes is w.stuck.stands)
+          (both_grew old mid new (only channel.Out (bytes_sent (shared x w.count s))) (only channel.Report (machine_reports x.steps last.PageFault y.machines)) w.wrote h.wrote);
+    })
+
+-- a write failed in the run
+pub lost_so : (x : Setting) (s : Shared) (old new : Option Channels) → IsLost x s old new → IsUnwritten x s old new
+lost_so x s old new w = record {
+  count = w.count;
+  runs = w.runs;
+  other = last.Turns;
+  wrote = prefix_of old new (only channel.Out (bytes_sent (shared x w.count s))) (only channel.Report (process_reports x.steps last.Turns (shared x w.count s).processes)) w.wrote;
+}
+
+-- whatever was sent
+
+pub only_so : (end result : JobsEnd) (text : List ℕ) (old mid new : Option Channels) (a b : Failures) → (HasGrown old new → OnlyReported end old new) → (bytes : List ℕ) → Grew old mid (only channel.Out bytes) → Answers end result text mid new a b → OnlyReported result old new
+only_so end result text old mid new a b whole bytes g (inl h) =
+    subst (λ (r : JobsEnd). OnlyReported r old new) (sym h.answer) (whole (record {
+      grown = append (only channel.Out bytes) (only channel.Report text);
+      unrecorded = refl;
+      grew = grew_more old mid new (only channel.Out bytes) (only channel.Report text) g h.wrote;
+    }))
+only_so end result text old mid new a b whole bytes g (inr h) =
+    subst (λ (r : JobsEnd). OnlyReported r old new) (sym h.answer) (record {
+      grown = append (only channel.Out bytes) (only channel.Report text);
+      unrecorded = refl;
+      grew = both_grew old mid new (only channel.Out bytes) (only channel.Report text) g h.wrote;
+    })
+
+-- the counts of failures
+
+rose_from : (a b c : Failures) → b.count ≡ a.count → Rose b c → Rose a c
+rose_from a b c e h = record { count = h.count ∙ ap raised e; last = h.last }
+
+pub counts_so : (end result : JobsEnd) (text : List ℕ) (mid new : Option Channels) (f h k m n : Failures) → (end ≡ WriteFault → ⊥) → CountsEnd end f h k m → Answers end result text mid new m n → CountsEnd result f h k n
+counts_so end result text mid new f h k m n other c (inl a) =
+    let same = a.quiet in
+    let sunk = c.sunk in
+    subst (λ (r : JobsEnd). CountsEnd r f h k n) (sym a.answer) (record {
+      later = c.later;
+      failed = c.failed;
+      fault = c.fault;
+      unfailed = c.unfailed;
+      sunk = omega (arith, sunk, same);
+      cause = λ e. absurd (other e);
+      written = λ w. same ∙ c.written w;
+    })
+counts_so end result text mid new f h k m n other c (inr a) =
+    let sunk = c.sunk in
+    let later = a.later in
+    let rose = rose_from k m n (c.written other) a.rose in
+    subst (λ (r : JobsEnd). CountsEnd r f h k n) (sym a.answer) (record {
+      later = c.later;
+      failed = c.failed;
+      fault = λ e. let no : WriteFault ≡ PageFault = e in cc;
+      unfailed = λ p w. absurd (w refl);
+      sunk = omega (arith, sunk, later);
+      cause = λ e. rose;
+      written = λ w. absurd (w refl);
+    })
