@@ -37,7 +37,7 @@ given items =
     + present (value key.Steps items) + present (value key.Turns items) + present (value key.Dump items) + present (value key.Record items)
     + present (value key.Base items) + present (value key.Format items) + present (value key.Script items) + present (value key.Seed items)
     + present (value key.Size items) + present (value key.Strict items) + present (value key.Break items) + present (value key.Watch items)
-    + present (value key.Opcode items) + present (value key.Count items) + present (value key.Absent items) + present (value key.Mode items)
+    + present (value key.Text items) + present (value key.Opcode items) + present (value key.Count items) + present (value key.Absent items) + present (value key.Mode items)
 
 -- an option that wasn't there
 one_more : (k : Key) (word : Text) (items : List Item) → is_none (value k items) ≡ true → given (setting k word ∷ items) ≡ given items + 1
@@ -57,6 +57,7 @@ one_more key.Size word items e = omega (arith, present-some word, present-none (
 one_more key.Strict word items e = omega (arith, present-some word, present-none (value key.Strict items) e)
 one_more key.Break word items e = omega (arith, present-some word, present-none (value key.Break items) e)
 one_more key.Watch word items e = omega (arith, present-some word, present-none (value key.Watch items) e)
+one_more key.Text word items e = omega (arith, present-some word, present-none (value key.Text items) e)
 one_more key.Opcode word items e = omega (arith, present-some word, present-none (value key.Opcode items) e)
 one_more key.Count word items e = omega (arith, present-some word, present-none (value key.Count items) e)
 one_more key.Absent word items e = omega (arith, present-some word, present-none (value key.Absent items) e)
@@ -82,6 +83,7 @@ few_given items =
       present-one (value key.Strict items),
       present-one (value key.Break items),
       present-one (value key.Watch items),
+      present-one (value key.Text items),
       present-one (value key.Opcode items),
       present-one (value key.Count items),
       present-one (value key.Absent items),

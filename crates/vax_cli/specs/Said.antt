@@ -49,7 +49,7 @@ options o = record {
 }
 
 abbrev pub tracing : Tracing → tracing_words.Tracing
-tracing t = record { breaks = t.breaks.items; watches = t.watches.items }
+tracing t = record { breaks = t.breaks.items; watches = t.watches.items; texts = t.texts }
 
 abbrev pub said : Command → Said
 said (command.Bare files o) = bare (names_of files.items) (options o)

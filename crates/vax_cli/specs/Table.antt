@@ -45,6 +45,7 @@ key_name key.Size = codes "--size"
 key_name key.Strict = codes "--strict"
 key_name key.Break = codes "--break"
 key_name key.Watch = codes "--watch"
+key_name key.Text = codes "--text"
 key_name key.Opcode = codes "--opcode"
 key_name key.Count = codes "--count"
 key_name key.Absent = codes "--absent"
@@ -59,7 +60,7 @@ keys_of verb.List = key.Base ∷ []
 keys_of verb.Listing = key.Base ∷ []
 keys_of verb.Check = key.Base ∷ key.System ∷ []
 keys_of verb.Console = key.Script ∷ key.Base ∷ key.Input ∷ key.System ∷ key.Schedule ∷ key.Frames ∷ key.Steps ∷ key.Turns ∷ []
-keys_of verb.Trace = key.Base ∷ key.Input ∷ key.System ∷ key.Schedule ∷ key.Frames ∷ key.Steps ∷ key.Turns ∷ key.Dump ∷ key.Break ∷ key.Watch ∷ []
+keys_of verb.Trace = key.Base ∷ key.Input ∷ key.System ∷ key.Schedule ∷ key.Frames ∷ key.Steps ∷ key.Turns ∷ key.Dump ∷ key.Break ∷ key.Watch ∷ key.Text ∷ []
 keys_of verb.Save = key.Base ∷ key.Input ∷ key.System ∷ key.Schedule ∷ key.Frames ∷ key.Steps ∷ key.Turns ∷ []
 keys_of verb.Resume = key.Schedule ∷ key.Frames ∷ key.Steps ∷ key.Turns ∷ key.Dump ∷ []
 keys_of verb.Work = key.Seed ∷ key.Size ∷ key.Schedule ∷ key.Frames ∷ key.Steps ∷ key.Turns ∷ key.Dump ∷ key.Record ∷ key.Strict ∷ []
@@ -98,10 +99,11 @@ place key.Size = 12
 place key.Strict = 13
 place key.Break = 14
 place key.Watch = 15
-place key.Opcode = 16
-place key.Count = 17
-place key.Absent = 18
-place key.Mode = 19
+place key.Text = 16
+place key.Opcode = 17
+place key.Count = 18
+place key.Absent = 19
+place key.Mode = 20
 
 abbrev pub is_same : Key → Key → Bool
 is_same a b = place a == place b

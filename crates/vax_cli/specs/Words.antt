@@ -105,8 +105,9 @@ trace_of items =
     option_and_then (λ base.
     option_and_then (λ breaks.
     option_and_then (λ watches.
-    option_and_then (λ options. if is_session base options then Some (trace (names items) base (record { breaks = breaks; watches = watches }) options) else None)
-    (options_of Halt items)) (dumps_of (value key.Watch items))) (breaks_of (value key.Break items))) (base_of (value key.Base items))
+    option_and_then (λ texts.
+    option_and_then (λ options. if is_session base options then Some (trace (names items) base (record { breaks = breaks; watches = watches; texts = texts }) options) else None)
+    (options_of Halt items)) (switch_of (value key.Text items))) (dumps_of (value key.Watch items))) (breaks_of (value key.Break items))) (base_of (value key.Base items))
 
 -- a run that is saved has no other system on the bare machine
 abbrev pub save_of : List Item → Option Said

@@ -188,6 +188,10 @@ fn value_and_help<'a>(key: Key) -> (&'a str, &'a str) {
             "LIST",
             "Memory whose changes are listed: 1 to 16 items AAAAAAAA:N as for --dump",
         ),
+        Key::Text => (
+            "on|off",
+            "Write each instruction behind its byte, as `vax list` does; off where it isn't given",
+        ),
         Key::Opcode => ("NAME|all", "The instruction, or all of them"),
         Key::Count => ("N", "How many vectors for each instruction, 1 to 1000000"),
         Key::Absent => (

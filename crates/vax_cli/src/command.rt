@@ -118,6 +118,8 @@ pub struct Tracing {
     pub breaks: Breaks,
     /// `--watch LIST`: the memory whose changes it lists.
     pub watches: Dumps,
+    /// `--text on` or `--text off`: whether the text of each instruction is listed; off where no word says it.
+    pub texts: bool,
 }
 
 /// What the exit status of a run tells of its end.

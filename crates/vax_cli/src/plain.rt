@@ -123,11 +123,16 @@ fn trace_of<'a>(files: Names<'a>, items: &[Item<'a>]) -> Option<Command<'a>>
     let base = base_of(value_in(Key::Base, items))?;
     let breaks = breaks_of(value_in(Key::Break, items))?;
     let watches = dumps_of(value_in(Key::Watch, items))?;
+    let texts = switch_of(value_in(Key::Text, items))?;
     let options = options_of(Strictness::Halt, items)?;
     if !is_session(base, &options) {
         return None;
     }
-    let tracing = Tracing { breaks, watches };
+    let tracing = Tracing {
+        breaks,
+        watches,
+        texts,
+    };
     Some(Command::Trace {
         files,
         base,

@@ -38,6 +38,7 @@ pub(crate) enum Key {
     Strict,
     Break,
     Watch,
+    Text,
     Opcode,
     Count,
     Absent,
@@ -131,6 +132,7 @@ impl Verb {
                 Key::Dump,
                 Key::Break,
                 Key::Watch,
+                Key::Text,
             ],
             Verb::Save => &[
                 Key::Base,
@@ -205,6 +207,7 @@ impl Key {
             Key::Strict => "--strict",
             Key::Break => "--break",
             Key::Watch => "--watch",
+            Key::Text => "--text",
             Key::Opcode => "--opcode",
             Key::Count => "--count",
             Key::Absent => "--absent",

@@ -5,5 +5,6 @@ pub mod SessionLaws
 pub mod TraceLaws
 pub mod Admitting
 pub mod OnwardLaws
+pub mod OnwardTurns
 pub mod ResumeLaws
 pub mod SaveLaws

@@ -57,7 +57,7 @@ module _ (limit first : ℕ) (start : Flat) where
       attempted_comes (all_evicted pages p) (ap (λ (z : Place). (machine_at z).ending) o.place ∙ going) (omega (arith, s, left))
       (subst (ComesOn limit first start) (sym (same_stage pages p)) c)
 
-shorter : (c : Course) (count : ℕ) → Runs c.limits c.areas c.rules c.begins (suc count) → Runs c.limits c.areas c.rules c.begins count
+pub shorter : (c : Course) (count : ℕ) → Runs c.limits c.areas c.rules c.begins (suc count) → Runs c.limits c.areas c.rules c.begins count
 shorter c count g = record { going = λ i low. g.going i (omega (arith, low)) }
 
 -- what is known of turns that begin within a step of this start, or at it

@@ -1,8 +1,9 @@
 -- What resuming a saved state comes to, from what its parts did.
-use Rattle.std.proofs.Common.{◌≡◌, ◌⊎◌, ℕ, List, [], ◌∷◌, Option, None, Some, Result, Ok, Err, refl, sym, ap, subst, ◌∙◌, inl, inr}
+use Rattle.std.proofs.Common.{◌≡◌, ◌⊎◌, ◌<◌, ◌-◌, ◌^◌, ℕ, List, [], ◌∷◌, Option, None, Some, Result, Ok, Err, refl, sym, ap, subst, ◌∙◌, inl, inr}
 use Rattle.vax_outside.specs.Blocks.{BlockFile, numbered}
 use Rattle.vax_outside.specs.Directory.{Directory, read_result}
 use Rattle.vax_outside.specs.declared.traits.FilesFault.{FilesFault}
+use Rattle.vax_space.specs.Faults.{IsSpace}
 use Rattle.vax_flat.specs.Parts.{machine_at}
 use Rattle.vax_flat.specs.Port.{layout}
 use Rattle.vax_cpu.specs.declared.cpu.Open.{Open}
@@ -28,6 +29,7 @@ use Rattle.vax_command.specs.declared.status.Status.{Status}
 use Rattle.vax_command.specs.declared.status.Status.TheVariants.{NoMemory}
 use Rattle.vax_command.proofs.LoadLaws.{ends_more}
 use Rattle.vax_command.proofs.OnwardLaws.{goes_by_flat}
+use Rattle.vax_command.proofs.OnwardTurns.{too_low}
 
 -- files
 
@@ -109,8 +111,8 @@ module _ (outside : Outside) (bytes schedule : Text) (options : Options) (result
   not_resumed status (inl cause) k ends = record { meant = status; grown = refusal_growth status; so = inr (inl (record { cause = cause; wrote = refl; keeps = k })); ends = ends }
   not_resumed status (inr e) k ends = record { meant = status; grown = refusal_growth status; so = inl (e, ap refusal_growth e, k); ends = ends }
 
-  pub has_resumed : (m : Engine) (h : HasRestored bytes options.frames m) (rules : List Rule) → Denotes (keeping m).areas schedule rules → EndsSo outside.sink (WentOn outside (resumed_course h.0 (keeping m).areas rules options)) result → HasResumed outside bytes schedule options result
-  has_resumed m h rules planned went = record {
+  pub has_resumed : (m : Engine) (h : HasRestored bytes options.frames m) (rules : List Rule) → IsSpace (keeping m).areas → options.turns < 2 ^ 64 - 1 → Denotes (keeping m).areas schedule rules → EndsSo outside.sink (WentOn outside (resumed_course h.0 (keeping m).areas rules options)) result → HasResumed outside bytes schedule options result
+  has_resumed m h rules space low planned went = record {
     meant = went.meant;
     grown = went.grown;
     so = inr (inr (record {
@@ -122,6 +124,7 @@ module _ (outside : Outside) (bytes schedule : Text) (options : Options) (result
       planned = planned;
       went = went.so;
       flat = λ start going goes. goes_by_flat (resumed_course h.0 (keeping m).areas rules options) h.0.steps options.steps start refl refl going goes;
+      short = λ halt why. too_low (resumed_course h.0 (keeping m).areas rules options) options.frames h.0.steps (restored_place h.0 []) refl space (ap layout (placed_memory (record h.0.machine { output = [] }) h.0.latch) ∙ sym (placed m options.frames h.0 h.2)) low halt why;
     }));
     ends = went.ends;
   }

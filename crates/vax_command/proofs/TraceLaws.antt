@@ -16,6 +16,8 @@ use Rattle.vax_report.specs.declared.Last.TheVariants as lasts
 use Rattle.vax_image.specs.Start.{start_areas}
 use Rattle.vax_sched.specs.Faults.{Denotes}
 use Rattle.vax_sched.specs.declared.rule.Rule.{Rule}
+use Rattle.vax_pager.specs.Poking.{OnlyRead}
+use Rattle.vax_machine.specs.Calling.{asking_of}
 use Rattle.vax_machine.specs.Machine.{Means, keeping}
 use Rattle.vax_machine.specs.Paged.{Paged, Why, ByEnding, BySteps, ByTurns}
 use Rattle.vax_machine.specs.Run.{System, begun, why_of}
@@ -24,9 +26,10 @@ use Rattle.vax_machine.specs.declared.engine.Engine.{Engine}
 use Rattle.vax_machine_laws.specs.FlatRun.{GoesOnFor, stage_of}
 use Rattle.vax_machine_laws.proofs.Reaching.{run_comes}
 use Rattle.vax_watch.specs.Listing.{listing}
-use Rattle.vax_watch.specs.Traced.{CountsTrace, IsCutTrace, IsLostTrace, IsTraced, IsUnseen, NamesStop, Trace, as_run, by_page, turns_of}
+use Rattle.vax_watch.specs.Traced.{CountsTrace, IsCutTrace, IsLostTrace, IsTraced, IsUnseen, NamesStop, Trace, WrittenIn, as_run, by_page, turns_of}
 use Rattle.vax_watch.specs.Traced as watch
 use Rattle.vax_watch.proofs.Counted.{fine_write}
+use Rattle.vax_watch.proofs.Written.{written_read}
 use Rattle.vax_watch.specs.declared.steps.TraceEnd.{TraceEnd}
 use Rattle.vax_watch.specs.declared.steps.TraceEnd.TheVariants as end
 use Rattle.vax_cli.specs.Tracing.{Tracing}
@@ -40,40 +43,30 @@ use Rattle.vax_command.specs.Loaded.{Loaded}
 use Rattle.vax_command.specs.Running.{IsFaulty}
 use Rattle.vax_command.specs.Setup.{before_turns, run_of}
 use Rattle.vax_command.specs.Status.{refusal_growth}
-use Rattle.vax_command.specs.Tracing.{Comes, Traced, Traces, Went, WentFrom, answer_of, last_of, lines_of, stop_of, traced_for, up_to_stop}
+use Rattle.vax_command.specs.Tracing.{Comes, Traced, Traces, Went, WentFrom, answer_of, last_of, lines_of, stop_of, trace_at, traced_for, up_to_stop}
 use Rattle.vax_command.specs.TracingEnds.{last_to, status_to}
 use Rattle.vax_command.specs.Went.{IsRunAnswer, dumps_at, run_output, run_report}
 use Rattle.vax_command.specs.declared.status.Status.{Status}
 use Rattle.vax_command.specs.declared.status.Status.TheVariants.{Done, NoMemory, PageFault, WriteFault}
 use Rattle.vax_command.proofs.RunLaws.{Starts, as_shown, behind, ends_after, ready, reported, stop_when}
 
--- the trace from the start of such a run
-abbrev trace_at : Traced → Trace
-trace_at s = record {
-  limits = s.run.limits;
-  rules = s.run.rules;
-  areas = s.run.areas;
-  start = s.run.start;
-  from = before_turns s.run;
-  breaks = s.breaks;
-  watches = s.watches;
-}
-
 -- the trace that a machine began
-abbrev pub begun_at : Traced → Engine → Trace
-begun_at s m = record {
+abbrev pub begun_at : Traced → Engine → Option BlockFile → Trace
+begun_at s m file = record {
   limits = s.run.limits;
   rules = s.run.rules;
   areas = (keeping m).areas;
   start = s.run.start;
   from = begun m (At s.run.start);
+  file = file;
   breaks = s.breaks;
   watches = s.watches;
+  texts = s.texts;
 }
 
 -- what the machine did with whatever its page file told
 abbrev pub Did : Traced → Engine → Option BlockFile → TraceEnd → Option Channels → System → Type 0
-Did s m told result old new = (start : Flat) → Means m told (At start) → m.steps ≡ 0 → watch.Traces (begun_at (record s { run = record s.run { start = start } }) m) result old new
+Did s m told result old new = (start : Flat) → Means m told (At start) → m.steps ≡ 0 → watch.Traces (begun_at (record s { run = record s.run { start = start } }) m told) result old new
 
 as_traced : (t : Trace) (result : TraceEnd) (old : Option Channels) (new : System) → (result ≡ end.PageFault → ⊥) → (result ≡ end.WriteFault → ⊥) → watch.Traces t result old new → IsTraced t result old new
 as_traced t (end.Ended e) old new a b h = h
@@ -135,18 +128,18 @@ module _ (s : Traced) (m : Engine) (f : Starts s.run m) where
   pub starts_stop : Starts (up_to_stop s) m
   starts_stop = record { is_fresh = f.is_fresh; areas = f.areas; low = f.low }
 
-  begun_is : begun_at s m ≡ trace_at s
-  begun_is =
+  begun_is : (file : Option BlockFile) → begun_at s m file ≡ trace_at s file
+  begun_is file =
       let a = f.areas in
       let b = f.is_fresh.begins in
-      λ i. record { limits = s.run.limits; rules = s.run.rules; areas = a i; start = s.run.start; from = b i; breaks = s.breaks; watches = s.watches }
+      λ i. record { limits = s.run.limits; rules = s.run.rules; areas = a i; start = s.run.start; from = b i; file = file; breaks = s.breaks; watches = s.watches; texts = s.texts }
 
-  from_start : (file : BlockFile) (result : TraceEnd) (old : Option Channels) (new : System) → Did s m (Some file) result old new → watch.Traces (trace_at s) result old new
+  from_start : (file : BlockFile) (result : TraceEnd) (old : Option Channels) (new : System) → Did s m (Some file) result old new → watch.Traces (trace_at s (Some file)) result old new
   from_start file result old new did =
-      subst (λ (t : Trace). watch.Traces t result old new) begun_is (did s.run.start (f.is_fresh.means file) (ap (λ (p : Paged). p.steps) f.is_fresh.begins))
+      subst (λ (t : Trace). watch.Traces t result old new) (begun_is (Some file)) (did s.run.start (f.is_fresh.means file) (ap (λ (p : Paged). p.steps) f.is_fresh.begins))
 
   -- where it came
-  comes_to : (count : ℕ) → GoesOnFor (up_to_stop s).limits (run_of (up_to_stop s)) count → Comes s (stage_of (turns_of (trace_at s) count)) count
+  comes_to : (count : ℕ) → GoesOnFor (up_to_stop s).limits (run_of (up_to_stop s)) count → Comes s (stage_of (turns_of (trace_at s None) count)) count
   comes_to count g = record { reaches = (run_comes (up_to_stop s).limits (run_of (up_to_stop s)) count g).reaches; goes = g; leads = refl }
 
 -- What is known of a traced run of a machine that starts so: what it sees of the outside, the machine it leaves, the sink behind it, and the answer.
@@ -158,21 +151,25 @@ module _ (outside : Outside) (s : Traced) (m n : Engine) (f : Starts s.run m) (m
   system file = record { machine = n; file = file; channels = mid.told }
 
   abbrev t : Trace
-  t = trace_at s
+  t = trace_at s None
 
   -- the lines behind what was sent
-  wrote_lines : (count lines steps : ℕ) (sent : List ℕ) → (machine_at (turns_of t count).place).output ≡ s.run.start.output ++ sent → lines ≡ steps → Grew outside.sink.before.told mid.told (both sent (listing lines s.run.start s.watches)) → Grew outside.sink.before.told mid.told (both (machine_at (turns_of t count).place).output (lines_of s steps))
+  wrote_lines : (count lines steps : ℕ) (sent : List ℕ) → (machine_at (turns_of t count).place).output ≡ s.run.start.output ++ sent → lines ≡ steps → Grew outside.sink.before.told mid.told (both sent (listing s.texts lines s.run.start s.watches)) → Grew outside.sink.before.told mid.told (both (machine_at (turns_of t count).place).output (lines_of s steps))
   wrote_lines count lines steps sent output same wrote =
       subst (λ (k : ℕ). Grew outside.sink.before.told mid.told (both (machine_at (turns_of t count).place).output (lines_of s k))) same
       (subst (λ (out : List ℕ). Grew outside.sink.before.told mid.told (both out (lines_of s lines))) (sent_all s.run.start.output (machine_at (turns_of t count).place).output sent f.is_fresh.silent output) wrote)
 
   -- it stopped by itself, and the report was written: `read` is the page file before and after the memory for the report was read
-  module _ (read : Change BlockFile) (up : HasFailed read → HasFailed outside.pages) (ending : TraceEnd) (a : ending ≡ end.PageFault → ⊥) (b : ending ≡ end.WriteFault → ⊥) (status : Status) (grown : Channels) (out : OnlyWrote true outside.sink.before.told mid.told) (quiet : mid.faults.count ≡ outside.sink.before.faults.count) (ends : EndsFrom mid outside.sink.after status grown result) where
+  module _ (read : Change BlockFile) (up : HasFailed read → HasFailed outside.pages) (reads : OnlyRead read.before.told outside.pages.after.told) (ending : TraceEnd) (a : ending ≡ end.PageFault → ⊥) (b : ending ≡ end.WriteFault → ⊥) (status : Status) (grown : Channels) (out : OnlyWrote true outside.sink.before.told mid.told) (quiet : mid.faults.count ≡ outside.sink.before.faults.count) (ends : EndsFrom mid outside.sink.after status grown result) where
     answer_is : IsReported read n (last_to ending) (status_to ending) s.run.items status grown → IsRunAnswer Off (HasFailed outside.pages) status
     answer_is (inl r) = subst (IsRunAnswer Off (HasFailed outside.pages)) (sym (r.0 ∙ status_is ending a b)) (answers (HasFailed outside.pages) (why_to ending))
     answer_is (inr r) = subst (IsRunAnswer Off (HasFailed outside.pages)) (sym r.1) (up r.0)
 
-    whole_by : (file : BlockFile) → IsTraced t ending outside.sink.before.told (system read.before.told) → IsReported read n (last_to ending) (status_to ending) s.run.items status grown → Told (Some file)
+    -- memory was read behind it at most
+    blocks_by : (file : BlockFile) (w : IsTraced (trace_at s (Some file)) ending outside.sink.before.told (system read.before.told)) → WrittenIn (trace_at s (Some file)) w.made outside.pages.after.told
+    blocks_by file w = written_read s.run.areas (before_turns s.run) (turns_of t w.made) (Some file) read.before.told outside.pages.after.told reads w.blocks
+
+    whole_by : (file : BlockFile) → IsTraced (trace_at s (Some file)) ending outside.sink.before.told (system read.before.told) → IsReported read n (last_to ending) (status_to ending) s.run.items status grown → Told (Some file)
     whole_by file w (inl r) =
         let p = turns_of t w.made in
         let at = stage_of p in
@@ -186,7 +183,7 @@ module _ (outside : Outside) (s : Traced) (m n : Engine) (f : Starts s.run m) (m
         record {
           meant = status;
           grown = run_output at (lines_of s at.steps) (last_of s why) (dumps_at at s.run.items);
-          so = inl (record { stop = stop_when (up_to_stop s) m (starts_stop s m f) file w.made why w.goes (w.stopped ∙ by_itself ending a b); answer = r.0 ∙ status_is ending a b; wrote = refl });
+          so = inl (record { stop = stop_when (up_to_stop s) m (starts_stop s m f) file w.made why w.goes (w.stopped ∙ by_itself ending a b); blocks = blocks_by file w; answer = r.0 ∙ status_is ending a b; wrote = refl });
           ends = behind outside (course_of (up_to_stop s)) m n (ready m s.run.frames s.run.start f.is_fresh) mid result at (lines_of s at.steps) (last_of s why) (dumps_at at s.run.items) status grown (wrote_lines w.made n.steps p.steps w.sent w.output w.tracks.steps w.wrote) quiet text ends;
         }
     whole_by file w (inr r) =
@@ -197,29 +194,29 @@ module _ (outside : Outside) (s : Traced) (m n : Engine) (f : Starts s.run m) (m
         record {
           meant = status;
           grown = run_output at (lines_of s at.steps) lasts.PageFault [];
-          so = inr (inl (up r.0, inl (record { stop = stop_when (up_to_stop s) m (starts_stop s m f) file w.made why w.goes (w.stopped ∙ by_itself ending a b); answer = r.1; wrote = refl })));
+          so = inr (inl (up r.0, inl (record { stop = stop_when (up_to_stop s) m (starts_stop s m f) file w.made why w.goes (w.stopped ∙ by_itself ending a b); blocks = blocks_by file w; answer = r.1; wrote = refl })));
           ends = behind outside (course_of (up_to_stop s)) m n (ready m s.run.frames s.run.start f.is_fresh) mid result at (lines_of s at.steps) lasts.PageFault [] status grown (wrote_lines w.made n.steps p.steps w.sent w.output w.tracks.steps w.wrote) quiet text ends;
         }
 
     stopped_by : (told : Option BlockFile) → Did s m told ending outside.sink.before.told (system read.before.told) → IsReported read n (last_to ending) (status_to ending) s.run.items status grown → Told told
     stopped_by None did r = record { meant = status; grown = append out.more grown; so = answer_is r; ends = ends_after outside.sink.before mid outside.sink.after status out.more grown result out.grew quiet ends }
-    stopped_by (Some file) did r = whole_by file (as_traced t ending outside.sink.before.told (system read.before.told) a b (from_start s m f file ending outside.sink.before.told (system read.before.told) did)) r
+    stopped_by (Some file) did r = whole_by file (as_traced (trace_at s (Some file)) ending outside.sink.before.told (system read.before.told) a b (from_start s m f file ending outside.sink.before.told (system read.before.told) did)) r
 
-  pub traced_whole : (read : Change BlockFile) → (HasFailed read → HasFailed outside.pages) → (ending : TraceEnd) → (ending ≡ end.PageFault → ⊥) → (ending ≡ end.WriteFault → ⊥) → Did s m outside.pages.before.told ending outside.sink.before.told (system read.before.told) → OnlyWrote true outside.sink.before.told mid.told → mid.faults.count ≡ outside.sink.before.faults.count
+  pub traced_whole : (read : Change BlockFile) → (HasFailed read → HasFailed outside.pages) → OnlyRead read.before.told outside.pages.after.told → (ending : TraceEnd) → (ending ≡ end.PageFault → ⊥) → (ending ≡ end.WriteFault → ⊥) → Did s m outside.pages.before.told ending outside.sink.before.told (system read.before.told) → OnlyWrote true outside.sink.before.told mid.told → mid.faults.count ≡ outside.sink.before.faults.count
       → (status : Status) (grown : Channels) → IsReported read n (last_to ending) (status_to ending) s.run.items status grown → EndsFrom mid outside.sink.after status grown result → Told outside.pages.before.told
-  traced_whole read up ending a b did out quiet status grown r ends = stopped_by read up ending a b status grown out quiet ends outside.pages.before.told did r
+  traced_whole read up reads ending a b did out quiet status grown r ends = stopped_by read up reads ending a b status grown out quiet ends outside.pages.before.told did r
 
   -- a call of the page file failed
-  cut_lines : (count lines : ℕ) (file : Option BlockFile) (steps : ℕ) → n.steps ≡ steps → (lines ≡ n.steps) ⊎ IsUnseen t count lines n file → (lines ≡ steps) ⊎ ((1 ≤ length s.watches) × (lines + 1 ≡ steps))
-  cut_lines count lines file steps is (inl e) = inl (e ∙ is)
-  cut_lines count lines file steps is (inr u) = inr (u.watched, u.but_one ∙ is)
+  cut_lines : (told : Option BlockFile) (count lines : ℕ) (file : Option BlockFile) (steps : ℕ) → n.steps ≡ steps → (lines ≡ n.steps) ⊎ IsUnseen (trace_at s told) count lines n file → (lines ≡ steps) ⊎ ((1 ≤ length s.watches) × (lines + 1 ≡ steps))
+  cut_lines told count lines file steps is (inl e) = inl (e ∙ is)
+  cut_lines told count lines file steps is (inr u) = inr (u.watched, u.but_one ∙ is)
 
   cut_by : (told : Option BlockFile) → HasFailed outside.pages → Did s m told end.PageFault outside.sink.before.told (system outside.pages.after.told) → OnlyWrote true outside.sink.before.told mid.told → mid.faults.count ≡ outside.sink.before.faults.count → EndsFrom mid outside.sink.after PageFault (only Report (machine_report n lasts.PageFault [])) result → Told told
   cut_by None rose did out quiet ends =
       let text = only Report (machine_report n lasts.PageFault []) in
       record { meant = PageFault; grown = append out.more text; so = rose; ends = ends_after outside.sink.before mid outside.sink.after PageFault out.more text result out.grew quiet ends }
   cut_by (Some file) rose did out quiet ends =
-      let w : IsCutTrace t outside.sink.before.told (system outside.pages.after.told) = from_start s m f file end.PageFault outside.sink.before.told (system outside.pages.after.told) did in
+      let w : IsCutTrace (trace_at s (Some file)) outside.sink.before.told (system outside.pages.after.told) = from_start s m f file end.PageFault outside.sink.before.told (system outside.pages.after.told) did in
       let p = turns_of t w.made in
       let at = stage_of p in
       let g : GoesOnFor (up_to_stop s).limits (run_of (up_to_stop s)) w.made = record { going = w.goes.going } in
@@ -227,7 +224,7 @@ module _ (outside : Outside) (s : Traced) (m n : Engine) (f : Starts s.run m) (m
       record {
         meant = PageFault;
         grown = run_output at (lines_of s w.lines) lasts.PageFault [];
-        so = inr (inl (rose, inr (record { at = at; count = w.made; comes = comes_to s m f w.made g; lines = w.lines; all_but = cut_lines w.made w.lines outside.pages.after.told p.steps w.steps w.all_but; answer = refl; wrote = refl })));
+        so = inr (inl (rose, inr (record { at = at; count = w.made; comes = comes_to s m f w.made g; asks = asking_of n; fails = w.fails; lines = w.lines; all_but = cut_lines (Some file) w.made w.lines outside.pages.after.told p.steps w.steps w.all_but; answer = refl; wrote = refl })));
         ends = behind outside (course_of (up_to_stop s)) m n (ready m s.run.frames s.run.start f.is_fresh) mid result at (lines_of s w.lines) lasts.PageFault [] PageFault (only Report (machine_report n lasts.PageFault [])) (wrote_lines w.made w.lines w.lines w.sent w.output refl w.wrote) quiet text ends;
       }
 
@@ -248,8 +245,8 @@ module _ (outside : Outside) (s : Traced) (m n : Engine) (f : Starts s.run m) wh
     ends = inr (record { answer = refl; prefix = record { prefix = out.more; rest = nothing; splits = append-nothing out.more; grew = out.grew }; cause = rose });
   }
   lost_by (Some file) did out rose =
-      let w : IsLostTrace (trace_at s) outside.sink.before.told outside.sink.after.told = from_start s m f file end.WriteFault outside.sink.before.told lost_system did in
-      let p = turns_of (trace_at s) w.made in
+      let w : IsLostTrace (trace_at s (Some file)) outside.sink.before.told outside.sink.after.told = from_start s m f file end.WriteFault outside.sink.before.told lost_system did in
+      let p = turns_of (trace_at s None) w.made in
       let at = stage_of p in
       let g : GoesOnFor (up_to_stop s).limits (run_of (up_to_stop s)) w.made = record { going = w.goes.going } in
       let prefix = subst (λ (o : List ℕ). GrewByPrefix outside.sink.before.told outside.sink.after.told (both o (lines_of s w.lines))) (sent_all s.run.start.output (machine_at p.place).output w.sent f.is_fresh.silent w.output) w.wrote in

@@ -6,7 +6,7 @@ use Rattle.vax_outside.specs.Channels.{Channels}
 use Rattle.vax_flat.specs.Parts.{GoesBy}
 use Rattle.vax_flat.specs.Port.{layout}
 use Rattle.vax_flat.specs.Step.{Flat}
-use Rattle.vax_machine.specs.Paged.{begun_at}
+use Rattle.vax_machine.specs.Paged.{ByTurns, begun_at}
 use Rattle.vax_sched.specs.Faults.{Denotes}
 use Rattle.vax_sched.specs.declared.rule.Rule.{Rule}
 use Rattle.vax_save.specs.Restored.{restored_place}
@@ -15,9 +15,9 @@ use Rattle.vax_save.specs.declared.SaveError.TheVariants.{Fault}
 use Rattle.vax_cli.specs.Words.{Options, Text}
 use Rattle.vax_cli.specs.declared.command.Strictness.TheVariants.{Off}
 use Rattle.vax_command.specs.Around.{Change, Outside}
-use Rattle.vax_command.specs.Course.{Course, WentOn}
+use Rattle.vax_command.specs.Course.{Course, Halt, WentOn}
 use Rattle.vax_command.specs.Ends.{EndsSo}
-use Rattle.vax_command.specs.Onward.{GoesByFlat}
+use Rattle.vax_command.specs.Onward.{GoesByFlat, IsTooLow}
 use Rattle.vax_command.specs.Running.{IsFaulty, LacksMemory}
 use Rattle.vax_command.specs.Status.{refusal_growth}
 use Rattle.vax_command.specs.declared.status.Status.{Status}
@@ -62,7 +62,7 @@ resumed_course r areas rules options = record {
 }
 
 -- A run went on from a saved state, under a schedule without fault for its areas. So it goes by the flat machine's run from each start whose step comes to the
--- place of the state, at once or after parts.
+-- place of the state, at once or after parts. The limit of turns stops it only where it is too low.
 pub record IsResumed (outside : Outside) (bytes schedule : Text) (options : Options) (status : Status) (grown : Channels) : Type 0 where
   pub state : Restored
   pub is : restored bytes ≡ Ok state
@@ -72,6 +72,7 @@ pub record IsResumed (outside : Outside) (bytes schedule : Text) (options : Opti
   pub planned : Denotes areas schedule rules
   pub went : WentOn outside (resumed_course state areas rules options) status grown
   pub flat : (start : Flat) → start.ending ≡ None → GoesBy start (restored_place state []) → GoesByFlat (resumed_course state areas rules options) state.steps options.steps start
+  pub short : (h : Halt (resumed_course state areas rules options)) → h.why ≡ ByTurns → IsTooLow (resumed_course state areas rules options) h.count
 
 abbrev pub ResumesSo : Outside → (bytes schedule : Text) → Options → Status → Channels → Type 0
 ResumesSo outside bytes schedule options status grown =

@@ -1,5 +1,6 @@
 //! Goes on with runs whose states were saved.
 ghost use Rattle.std.specs.Prelude.{◌≡◌, ◌⊎◌, ◌≤◌, ◌^◌, [], None, IfErr, IfOk, length};
+ghost use Rattle.vax_space.specs.Faults.{IsSpace};
 ghost use Rattle.vax_machine.specs.Machine.{keeping};
 ghost use Rattle.vax_machine.specs.Meaning.{engine};
 ghost use Rattle.vax_sched.specs.Faults.{Denotes};
@@ -63,6 +64,7 @@ fn revive(
     requires few { frames ≤ 32768 }
     ensures restored { IfOk result (λ r. HasRestored saved.now frames (engine r.0)) }
     ensures counted { IfOk result (λ r. (engine r.0).steps ≤ 10 ^ 18) }
+    ensures space { IfOk result (λ r. IsSpace (keeping (engine r.0)).areas) }
     ensures planned { IfOk result (λ r.
         Denotes (keeping (engine r.0)).areas schedule.now r.1) }
     ensures fault { IfErr result (λ status.
@@ -91,6 +93,7 @@ fn revive_run(
     requires within { AreWithin (said_options options.now) }
     ensures restored { IfOk result (λ r. HasRestored saved.now options.now.frames (engine r.0)) }
     ensures counted { IfOk result (λ r. (engine r.0).steps ≤ 10 ^ 18) }
+    ensures space { IfOk result (λ r. IsSpace (keeping (engine r.0)).areas) }
     ensures planned { IfOk result (λ r.
         Denotes (keeping (engine r.0)).areas schedule.now r.1) }
     ensures room { IfOk result (λ r. items_of r.2.blanks.items ≡ (said_options options.now).dumps) }

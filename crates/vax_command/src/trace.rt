@@ -83,6 +83,7 @@ fn trace<K: Sink, F: PageFile>(
           };
           breaks = breaks_of plan;
           watches = watches_of plan;
+          texts = plan.texts;
         }))
         result }
     ensures failed { Admits (F.faults pages.old) (F.faults pages.new) Status.PageFault result }
@@ -111,13 +112,15 @@ fn plan_of(alloc: Global, tracing: &Tracing) -> Result<Plan, PlanError>
     ensures breaks { IfOk result (λ p. breaks_of p ≡ (said_tracing tracing.now).breaks) }
     ensures watches { IfOk result
         (λ p. watches_of p ≡ map watch_of (said_tracing tracing.now).watches) }
+    ensures texts { IfOk result (λ p. p.texts ≡ (said_tracing tracing.now).texts) }
 {
     let breaks = Vec::from_slice(alloc, tracing.breaks.as_slice())?;
     let mut watches = Vec::with_capacity(alloc, tracing.watches.len())?;
     for item in tracing.watches.as_slice() {
         watches.push(watch_of(item))?;
     }
-    Plan::new(alloc, breaks, &watches)
+    let plan = Plan::new(alloc, breaks, &watches)?;
+    Ok(plan.with_texts(tracing.texts))
 }
 
 /// Runs programs with their input under a schedule, as far as the options let them go, and lists their steps.

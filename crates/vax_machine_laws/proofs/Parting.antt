@@ -60,7 +60,7 @@ over_more (suc more) parts limit start h =
     let s = stage start (more + parts) in
     subst (λ (n : ℕ). IsOver limit (stage start n)) (sym k) (over_next (machine_at s.place).ending limit s refl (over_more more parts limit start h))
 
-not_over : (limit : ℕ) (s : Stage) → IsUnfinished limit s → IsOver limit s → ⊥
+pub not_over : (limit : ℕ) (s : Stage) → IsUnfinished limit s → IsOver limit s → ⊥
 not_over limit s u (inl x) = let no : false ≡ true = subst (λ (o : Option Ending). IsSome o) u.ending x in cc
 not_over limit s u (inr most) = let l = u.left in absurd (omega (arith, most, l))
 

@@ -16,7 +16,7 @@ use Rattle.vax_machine.specs.Laws.{Run, state_at}
 use Rattle.vax_machine.specs.Paged.{Paged, Why, ByEnding, BySteps, ByTurns, all_evicted, all_named, attempted, attempted_by, fresh, marked, next_turn, paged, place_after, steps_after, stop_by, stops, unless_ended}
 use Rattle.vax_machine.specs.Residence.{is_resident}
 use Rattle.vax_machine.specs.declared.event.Limits.{Limits}
-use Rattle.vax_machine_laws.specs.FlatRun.{GoesOnFor, Reaches, Stage, StopsSo, stage_of}
+use Rattle.vax_machine_laws.specs.FlatRun.{GoesOnFor, IsUnfinished, Reaches, Stage, StopsSo, stage_of}
 
 -- where a run comes within a limit of steps: within a step only where steps are left
 
@@ -163,3 +163,10 @@ turns_out limits p is =
     let h = stopped_by ByTurns (machine_at p.place).ending (nat_le limits.steps p.steps) (nat_le limits.turns p.turns) is in
     let full = h.2 in
     grind (arith, nat_tests, full)
+
+pub unfinished_there : (limits : Limits) (p : Paged) → stops limits.steps limits.turns p ≡ Some ByTurns → IsUnfinished limits.steps (stage_of p)
+unfolding stops
+unfinished_there limits p is =
+    let h = stopped_by ByTurns (machine_at p.place).ending (nat_le limits.steps p.steps) (nat_le limits.turns p.turns) is in
+    let left = h.1 in
+    record { ending = h.0; left = grind (arith, nat_tests, left) }

@@ -41,7 +41,7 @@ out_one page (x ∷ xs) h = elim (cases_Bool (x == page)) [
 ]
 
 -- pins and evictions of pinned pages together, and these evictions alone
-record Spends (r q : Residence) (pages : ℕ) : Type 0 where
+pub record Spends (r q : Residence) (pages : ℕ) : Type 0 where
   pub together : length q.pinned + q.spoiled ≤ length r.pinned + r.spoiled
   pub alone : q.spoiled ≤ r.spoiled + pages
 
@@ -64,7 +64,7 @@ evicted_spends page p = elim (cases_Bool (is_listed page p.residence.order)) [
   | inr f ↦ rw f (record { together = omega arith; alone = omega arith })
 ]
 
-all_spend : (pages : List ℕ) (p : Paged) → Spends p.residence (all_evicted pages p).residence (length pages)
+pub all_spend : (pages : List ℕ) (p : Paged) → Spends p.residence (all_evicted pages p).residence (length pages)
 unfolding all_evicted
 all_spend [] p = record { together = omega arith; alone = omega arith }
 all_spend (page ∷ pages) p =
@@ -95,7 +95,7 @@ turned : (m : Option ℕ) (p : Paged) → (attempted_by m p).turns ≡ p.turns +
 turned None p = refl
 turned (Some page) p = refl
 
-record IsPaid (p q : Paged) : Type 0 where
+pub record IsPaid (p q : Paged) : Type 0 where
   pub together : length q.residence.pinned + q.residence.spoiled + p.turns ≤ length p.residence.pinned + p.residence.spoiled + q.turns
   pub alone : q.residence.spoiled ≡ p.residence.spoiled
 
@@ -110,7 +110,7 @@ unless_paid : (how : Option Ending) (p next : Paged) → IsPaid p next → IsPai
 unless_paid (Some e) p next h = record { together = omega arith; alone = refl }
 unless_paid None p next h = h
 
-attempted_paid : (p : Paged) → IsPaid p (attempted p)
+pub attempted_paid : (p : Paged) → IsPaid p (attempted p)
 unfolding attempted
 attempted_paid p =
     let h = by_attempt (first_missing (is_resident p.residence) (touches_at p.place)) (marked p) in

@@ -1,5 +1,7 @@
 //! Makes the machine of a saved state.
 ghost use Rattle.std.specs.Prelude.{◌≡◌, ◌≤◌, ◌^◌, None, length, IfErr, IfOk};
+ghost use Rattle.vax_space.specs.Faults.{IsSpace};
+ghost use Rattle.vax_machine.specs.Machine.{keeping};
 ghost use Rattle.vax_machine.specs.Meaning.{engine};
 ghost use Rattle.vax_save.specs.Restored.{HasRestored, state};
 ghost use Rattle.vax_save.specs.Restoring.{Fails, Gives, restored};
@@ -33,6 +35,7 @@ fn state_at(alloc: Global, bytes: &[u8]) -> Result<State, SaveError>
     ensures gives { Gives state result (restored bytes.now) }
     ensures unsent { IfOk result (λ s. s.term.out ≡ None) }
     ensures few { IfOk result (λ s. s.steps ≤ 10 ^ 18) }
+    ensures space { IfOk result (λ s. IsSpace s.space) }
 {
     let contents = contents_at(alloc, bytes)?;
     if !contents.end.rest.is_empty() {
@@ -70,6 +73,7 @@ pub fn restore(alloc: Global, bytes: &[u8], frames: u32) -> Result<Machine, Save
     requires short { length bytes.now ≤ 67108864 }
     ensures restored { IfOk result (λ m. HasRestored bytes.now frames (engine m)) }
     ensures few { IfOk result (λ m. (engine m).steps ≤ 10 ^ 18) }
+    ensures space { IfOk result (λ m. IsSpace (keeping (engine m)).areas) }
     ensures fault { IfErr result (λ e. Fails e (restored bytes.now)) }
 {
     let state = state_at(alloc, bytes)?;

@@ -118,27 +118,27 @@ module _ (t : Trace) (old : Option Channels) (steps : ℕ) (s : Stage) (p q : Pa
 
 -- all that is held back
 
-whole_held : (t : Trace) (old : Option Channels) (steps : ℕ) (s : Stage) (output : List ℕ) (h : Holds t old output steps s) → append (both h.out h.recorded) (append (held_in s.held) (only Record s.lines)) ≡ both (h.out ++ (held_in s.held).out) (listing steps t.start t.watches)
+whole_held : (t : Trace) (old : Option Channels) (steps : ℕ) (s : Stage) (output : List ℕ) (h : Holds t old output steps s) → append (both h.out h.recorded) (append (held_in s.held) (only Record s.lines)) ≡ both (h.out ++ (held_in s.held).out) (listing t.texts steps t.start t.watches)
 whole_held t old steps s output h =
     let held = s.held in
     ap (λ (c : Channels). append (both h.out h.recorded) (append c (only Record s.lines))) (unlisted_held held h.unlisted)
     ∙ (ap (λ (c : Channels). append (both h.out h.recorded) c) (both_recorded (held_in held).out [] s.lines)
     ∙ ap (λ (xs : List ℕ). both (h.out ++ (held_in held).out) xs) h.lines)
 
-pub all_written : (t : Trace) (old : Option Channels) (steps : ℕ) (s : Stage) (output : List ℕ) (h : Holds t old output steps s) (now : Option Channels) → Grew s.system.channels now (append (held_in s.held) (only Record s.lines)) → Grew old now (both (h.out ++ (held_in s.held).out) (listing steps t.start t.watches))
+pub all_written : (t : Trace) (old : Option Channels) (steps : ℕ) (s : Stage) (output : List ℕ) (h : Holds t old output steps s) (now : Option Channels) → Grew s.system.channels now (append (held_in s.held) (only Record s.lines)) → Grew old now (both (h.out ++ (held_in s.held).out) (listing t.texts steps t.start t.watches))
 all_written t old steps s output h now g =
     subst (λ (c : Channels). Grew old now c) (whole_held t old steps s output h) (grew_more old s.system.channels now (both h.out h.recorded) (append (held_in s.held) (only Record s.lines)) h.wrote g)
 
-pub part_written : (t : Trace) (old : Option Channels) (steps : ℕ) (s : Stage) (output : List ℕ) (h : Holds t old output steps s) (now : Option Channels) → GrewByPrefix s.system.channels now (append (held_in s.held) (only Record s.lines)) → GrewByPrefix old now (both (h.out ++ (held_in s.held).out) (listing steps t.start t.watches))
+pub part_written : (t : Trace) (old : Option Channels) (steps : ℕ) (s : Stage) (output : List ℕ) (h : Holds t old output steps s) (now : Option Channels) → GrewByPrefix s.system.channels now (append (held_in s.held) (only Record s.lines)) → GrewByPrefix old now (both (h.out ++ (held_in s.held).out) (listing t.texts steps t.start t.watches))
 part_written t old steps s output h now g =
-    prefix_in old s.system.channels now (both h.out h.recorded) (append (held_in s.held) (only Record s.lines)) nothing (both (h.out ++ (held_in s.held).out) (listing steps t.start t.watches))
+    prefix_in old s.system.channels now (both h.out h.recorded) (append (held_in s.held) (only Record s.lines)) nothing (both (h.out ++ (held_in s.held).out) (listing t.texts steps t.start t.watches))
     (ap (append (both h.out h.recorded)) (append-nothing (append (held_in s.held) (only Record s.lines))) ∙ whole_held t old steps s output h) h.wrote g
 
 -- the lines alone, or a prefix of them
-pub room_lost : (t : Trace) (old : Option Channels) (steps : ℕ) (s : Stage) (output : List ℕ) (h : Holds t old output steps s) (now : Option Channels) → GrewByPrefix s.system.channels now (only Record s.lines) → GrewByPrefix old now (both (h.out ++ (held_in s.held).out) (listing steps t.start t.watches))
+pub room_lost : (t : Trace) (old : Option Channels) (steps : ℕ) (s : Stage) (output : List ℕ) (h : Holds t old output steps s) (now : Option Channels) → GrewByPrefix s.system.channels now (only Record s.lines) → GrewByPrefix old now (both (h.out ++ (held_in s.held).out) (listing t.texts steps t.start t.watches))
 room_lost t old steps s output h now g =
     let held = (held_in s.held).out in
-    prefix_in old s.system.channels now (both h.out h.recorded) (only Record s.lines) (both held []) (both (h.out ++ held) (listing steps t.start t.watches))
+    prefix_in old s.system.channels now (both h.out h.recorded) (only Record s.lines) (both held []) (both (h.out ++ held) (listing t.texts steps t.start t.watches))
     (ap (append (both h.out h.recorded)) (ap (λ (xs : List ℕ). both held xs) (append-nil s.lines)) ∙ ap (λ (xs : List ℕ). both (h.out ++ held) xs) h.lines) h.wrote g
 
 -- what turns sent wasn't all written
@@ -166,7 +166,7 @@ lost_turns t old steps s p q h now w made is few goes =
       lines = steps;
       few = few;
       wrote =
-          prefix_in old s.system.channels now (both h.out h.recorded) w.more (only Record s.lines) (both (h.out ++ more) (listing steps t.start t.watches))
+          prefix_in old s.system.channels now (both h.out h.recorded) w.more (only Record s.lines) (both (h.out ++ more) (listing t.texts steps t.start t.watches))
           (ap (λ (c : Channels). append (both h.out h.recorded) (append c (only Record s.lines))) k.only_out
           ∙ (ap (append (both h.out h.recorded)) (both_recorded more [] s.lines) ∙ ap (λ (xs : List ℕ). both (h.out ++ more) xs) h.lines)) h.wrote w.grew;
     }

@@ -1,6 +1,9 @@
 pub mod Breaking
 pub mod Counted
 pub mod Watching
+pub mod Filled
+pub mod Begun
+pub mod Written
 pub mod Holding
 pub mod Stepping
 pub mod Making

@@ -23,7 +23,9 @@ use Rattle.vax_sched.specs.declared.rule.Rule.{Rule}
 use Rattle.vax_machine.specs.Console.{IsBetween, memory_at}
 use Rattle.vax_machine.specs.GoingOn.{GoneOn, HasStopped}
 use Rattle.vax_machine.specs.Machine.{Keeping, Means, keeping}
-use Rattle.vax_machine.specs.Paged.{Paged, all_evicted, paged, stops}
+use Rattle.vax_machine.specs.Blocks.{Moved}
+use Rattle.vax_machine.specs.Calling.{NextCallFails, asking_of}
+use Rattle.vax_machine.specs.Paged.{Paged, all_evicted, all_named, paged, stops}
 use Rattle.vax_machine.specs.Run.{Runs, Tracks}
 use Rattle.vax_machine.specs.Touched.{PinsTouched}
 use Rattle.vax_machine.specs.Turn.{AreCut, AreLost, Follows}
@@ -38,15 +40,16 @@ use Rattle.vax_machine.proofs.Running.{by_ending, by_turns, goes_on}
 use Rattle.vax_machine.proofs.Showing.{has_as}
 use Rattle.vax_machine.proofs.Tracking.{many_evicted}
 use Rattle.vax_watch.specs.Breaks.{is_break}
-use Rattle.vax_watch.specs.Listing.{core_line, listing, step_line, watch_lines}
+use Rattle.vax_watch.specs.Listing.{Beginning, beginning_at, core_line, listing, step_line, watch_lines}
 use Rattle.vax_watch.specs.Plans.{AreLookedAt, IsLookedAt, all_watched, changes_in, latest_in, watches_in}
-use Rattle.vax_watch.specs.Traced.{IsLostTrace, Trace, limits_of, stop_of, turns_of}
+use Rattle.vax_watch.specs.Traced.{FailsInTurn, IsLostTrace, Trace, Written, WrittenIn, limits_of, stop_of, turns_of}
 use Rattle.vax_watch.specs.Tracing.{Holds, IsBegun, IsCutShort, IsDue, IsUnlisted, Keeps, PassedOn, Stage, Stands, Stops}
 use Rattle.vax_watch.specs.declared.watch.Seen.{Seen}
 use Rattle.vax_watch.specs.declared.watch.Watch.{Watch}
 use Rattle.vax_watch.specs.declared.steps.TraceEnd.TheVariants.{Ended, Turns}
 use Rattle.vax_watch.proofs.Breaking.{stop_above, stop_below}
 use Rattle.vax_watch.proofs.Watching.{changed, latest_seen, watches_kept}
+use Rattle.vax_watch.proofs.Written.{fails_as, written_more, written_read}
 use Rattle.vax_watch.proofs.Holding.{follows_held, holds_as, holds_room, holds_turns, lost_turns, origin_at}
 
 -- no page is pinned between two steps
@@ -151,6 +154,7 @@ ready t old s h d now left passed m file l =
       keeps = record {
         goes = h.keeps.goes;
         tracks = tracks_looked s.system.machine m s.system.file file (turns_of t h.made) l h.keeps.tracks;
+        written = written_read t.areas t.from (turns_of t h.made) t.file s.system.file file l.reads h.keeps.written;
         holds = subst (λ (k : ℕ). Holds t old output k (record room { system = record room.system { machine = m; file = file } })) (sym steps) held;
       };
       areas = ap (λ (k : Keeping). k.areas) l.keeps ∙ h.areas;
@@ -218,10 +222,16 @@ module _ (t : Trace) (old : Option Channels) (s : Stage) (begun : IsBegun t) (r 
       pub tracks_then : Tracks m file (turns_of t made)
       tracks_then = subst (λ (q : Paged). Tracks m file q) (joined h.made) h.follows.tracks
 
+      written_then : WrittenIn t made file
+      written_then =
+          let moved = subst (λ (z : List Area). Moved z o.at (paged t.areas (due t.rules) h.made p) s.system.file file) r.areas h.follows.moved in
+          subst (λ (q : Paged). Written t.areas t.from q t.file file) (joined h.made) (written_more t.areas t.from p (paged t.areas (due t.rules) h.made p) o.at.place t.file s.system.file file r.keeps.written moved)
+
       pub keeps_then : Keeps t old made n then_at
       keeps_then = record {
         goes = goes_joined h.made h.goes;
         tracks = tracks_then;
+        written = written_then;
         holds = subst (λ (q : Paged). Holds t old (machine_at q.place).output n then_at) (joined h.made) (holds_joined m file now held (paged t.areas (due t.rules) h.made p) unlisted h.follows.sends);
       }
 
@@ -247,6 +257,26 @@ module _ (t : Trace) (old : Option Channels) (s : Stage) (begun : IsBegun t) (r 
             stopped = by_turns (limits_of t) m file (turns_of t made) going (let b = r.below in omega (arith, b, e)) high tracks_then;
           }
 
+    fails_then : (h : AreCut near o t.areas t.rules p m file now held) → FailsInTurn t (h.count + r.made) (asking_of m) file
+    fails_then h =
+        let k = h.cut in
+        let q = paged t.areas (due t.rules) h.count p in
+        let e = joined h.count in
+        let more : suc h.count + r.made ≡ suc (h.count + r.made) = omega arith in
+        let goes = goes_joined (suc h.count) (record { going = λ i less. h.going i (omega (arith, less)) }) in
+        let fails = fails_as t.areas p (all_evicted k.front q) o.at.place k.rest (asking_of m) s.system.file file (subst (λ (z : List Area). NextCallFails z o.at (all_evicted k.front q) k.rest (asking_of m) s.system.file file) r.areas k.fails) in
+        record {
+          goes = subst (λ (i : ℕ). Runs (limits_of t) t.areas t.rules t.from i) more goes;
+          first = r.made;
+          early = omega arith;
+          between = s.system.file;
+          written = r.keeps.written;
+          front = k.front;
+          rest = k.rest;
+          splits = subst (λ (z : Paged). all_named t.areas (due t.rules (z.turns + 1)) ≡ k.front ++ k.rest) e k.splits;
+          fails = subst (λ (z : Paged). NextCallFails t.areas p (all_evicted k.front z) k.rest (asking_of m) s.system.file file) e fails;
+        }
+
     -- a call of the page file failed
     pub cut_then : AreCut near o t.areas t.rules p m file now held → IsCutShort t old then_at
     cut_then h =
@@ -265,6 +295,7 @@ module _ (t : Trace) (old : Option Channels) (s : Stage) (begun : IsBegun t) (r 
           goes = goes_joined h.count (record { going = λ i less. h.going i (omega (arith, less)) });
           means = subst (λ (z : Paged). Means m file z.place) e k.means;
           steps = same ∙ here;
+          fails = inl (fails_then h);
           lines = n;
           all_but = inl is;
           holds = subst (λ (z : Paged). Holds t old (machine_at z.place).output n then_at) e (subst (λ (z : Place). Holds t old (machine_at z).output n then_at) place held_there);
@@ -296,7 +327,7 @@ byte_is s file memory addr (Some b) st there byte =
     let e : is_some (area_of memory (page_of addr)) ≡ true = has_as s file memory (page_of addr) st ∙ sym there in
     ap Some (byte memory st) ∙ sym (ap (λ (b : Bool). if b then Some (byte_at memory addr) else None) e)
 
-module _ (t : Trace) (old : Option Channels) (s : Stage) (begun : IsBegun t) (r : IsReady t old s) (byte : Option ℕ) (byte_here : byte ≡ memory_at (run s.system.machine.steps t.start).memory (slice_index s.system.machine.cpu.core.regs 15)) (m : Engine) (file : Option BlockFile) (now : Option Channels) (held : Held) (unlisted : held.listed ≡ false) (end : RunEnd) (h : HasStopped (near t old s begun r) (o t old s begun r) t.areas t.rules (p t old s begun r) end m file now held) (between : IsBetween m) (one : m.steps ≡ s.system.machine.steps + 1) where
+module _ (t : Trace) (old : Option Channels) (s : Stage) (begun : IsBegun t) (r : IsReady t old s) (begins : Beginning) (begins_here : begins ≡ beginning_at t.texts (run s.system.machine.steps t.start).memory (slice_index s.system.machine.cpu.core.regs 15)) (m : Engine) (file : Option BlockFile) (now : Option Channels) (held : Held) (unlisted : held.listed ≡ false) (end : RunEnd) (h : HasStopped (near t old s begun r) (o t old s begun r) t.areas t.rules (p t old s begun r) end m file now held) (between : IsBetween m) (one : m.steps ≡ s.system.machine.steps + 1) where
   abbrev before : Flat
   before = run s.system.machine.steps t.start
 
@@ -315,11 +346,11 @@ module _ (t : Trace) (old : Option Channels) (s : Stage) (begun : IsBegun t) (r 
   core_before : s.system.machine.cpu.core ≡ before.core
   core_before = core_of s.system.machine s.system.file before means_before
 
-  line_is : core_line m.steps s.system.machine.cpu.core byte m.cpu.core ≡ step_line (s.system.machine.steps + 1) before after
+  line_is : core_line m.steps s.system.machine.cpu.core begins m.cpu.core ≡ step_line t.texts (s.system.machine.steps + 1) before after
   line_is =
       let c = core_before in
       let d = core_of m file after means_after in
-      let e = byte_here ∙ ap (λ (z : Core). memory_at before.memory (slice_index z.regs 15)) c in
+      let e = begins_here ∙ ap (λ (z : Core). beginning_at t.texts before.memory (slice_index z.regs 15)) c in
       λ i. core_line (one i) (c i) (e i) (d i)
 
   module _ (seen : List Seen) (looked : AreLookedAt m file s.seen seen) where
@@ -328,14 +359,14 @@ module _ (t : Trace) (old : Option Channels) (s : Stage) (begun : IsBegun t) (r 
         changed m file s.seen seen looked before.memory (r.seen ∙ ap (λ (ws : List Watch). all_watched ws before.memory) (sym r.watches)) (At after) means_after
         ∙ ap (λ (ws : List Watch). watch_lines ws before.memory after.memory) r.watches
 
-    listed_is : listing s.system.machine.steps t.start t.watches ++ (core_line m.steps s.system.machine.cpu.core byte m.cpu.core ++ changes_in seen) ≡ listing m.steps t.start t.watches
+    listed_is : listing t.texts s.system.machine.steps t.start t.watches ++ (core_line m.steps s.system.machine.cpu.core begins m.cpu.core ++ changes_in seen) ≡ listing t.texts m.steps t.start t.watches
     unfolding listing
     listed_is =
         let a = line_is in
         let b = changes_are in
-        ap (λ (xs : List ℕ). listing s.system.machine.steps t.start t.watches ++ xs) (λ i. a i ++ b i) ∙ ap (λ (k : ℕ). listing k t.start t.watches) suc_is
+        ap (λ (xs : List ℕ). listing t.texts s.system.machine.steps t.start t.watches ++ xs) (λ i. a i ++ b i) ∙ ap (λ (k : ℕ). listing t.texts k t.start t.watches) suc_is
 
-    module _ (m4 : Engine) (file4 : Option BlockFile) (l : IsLookedAt m file m4 file4) (lines : List ℕ) (lines_are : lines ≡ s.lines ++ (core_line m.steps s.system.machine.cpu.core byte m.cpu.core ++ changes_in seen)) where
+    module _ (m4 : Engine) (file4 : Option BlockFile) (l : IsLookedAt m file m4 file4) (lines : List ℕ) (lines_are : lines ≡ s.lines ++ (core_line m.steps s.system.machine.cpu.core begins m.cpu.core ++ changes_in seen)) where
       abbrev next : Stage
       next = record { system = record { machine = m4; file = file4; channels = now }; held = held; lines = lines; seen = seen }
 
@@ -354,8 +385,8 @@ module _ (t : Trace) (old : Option Channels) (s : Stage) (begun : IsBegun t) (r 
             sent = k.sent;
             lines =
                 ap (λ (xs : List ℕ). k.recorded ++ xs) lines_are
-                ∙ (sym (append_assoc k.recorded s.lines (core_line m.steps s.system.machine.cpu.core byte m.cpu.core ++ changes_in seen))
-                ∙ (ap (λ (xs : List ℕ). xs ++ (core_line m.steps s.system.machine.cpu.core byte m.cpu.core ++ changes_in seen)) k.lines ∙ listed_is));
+                ∙ (sym (append_assoc k.recorded s.lines (core_line m.steps s.system.machine.cpu.core begins m.cpu.core ++ changes_in seen))
+                ∙ (ap (λ (xs : List ℕ). xs ++ (core_line m.steps s.system.machine.cpu.core begins m.cpu.core ++ changes_in seen)) k.lines ∙ listed_is));
             wrote = k.wrote;
             unlisted = k.unlisted;
           }
@@ -364,6 +395,7 @@ module _ (t : Trace) (old : Option Channels) (s : Stage) (begun : IsBegun t) (r 
       keeps_next = record {
         goes = (keeps_then t old s begun r m file now held unlisted end h).goes;
         tracks = tracks_looked m m4 file file4 (turns_of t turns_next) l (tracks_then t old s begun r m file now held unlisted end h);
+        written = written_read t.areas t.from (turns_of t turns_next) t.file file file4 l.reads (keeps_then t old s begun r m file now held unlisted end h).written;
         holds = subst (λ (k : ℕ). Holds t old (machine_at (turns_of t turns_next).place).output k next) (sym steps_next) holds_next;
       }
 
@@ -408,6 +440,7 @@ module _ (t : Trace) (old : Option Channels) (s : Stage) (begun : IsBegun t) (r 
         goes = k.goes;
         means = tracks.means;
         steps = tracks.steps;
+        fails = inr (written_read t.areas t.from (turns_of t turns_cut) t.file file file4 l.reads k.written);
         lines = s.system.machine.steps;
         all_but = inr (record {
           watched = let e = ap length r.watches in let n = length-map s.seen (λ w. w.watch) in let some = u.watched in omega (arith, e, n, some);

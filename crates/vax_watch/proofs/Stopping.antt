@@ -22,13 +22,14 @@ use Rattle.vax_machine.proofs.Running.{by_ending, by_steps}
 use Rattle.vax_watch.specs.Breaks.{is_break}
 use Rattle.vax_watch.specs.Listing.{listing, pc_of}
 use Rattle.vax_watch.specs.Plans.{AreLookedAt, IsLookedAt, all_watched, watches_in}
-use Rattle.vax_watch.specs.Traced.{IsCutTrace, IsLostTrace, IsTraced, Trace, Traces, limits_of, stop_of, turns_of}
+use Rattle.vax_watch.specs.Traced.{IsCutTrace, IsLostTrace, IsTraced, Trace, Traces, WrittenIn, limits_of, stop_of, turns_of}
 use Rattle.vax_watch.specs.Tracing.{Finishes, IsBegun, IsCutShort, IsDue, Keeps, Leaves, Stage, Stands, Starts, Stops, stopped_by}
 use Rattle.vax_watch.specs.declared.watch.Seen.{Seen}
 use Rattle.vax_watch.specs.declared.watch.Watch.{Watch}
 use Rattle.vax_watch.specs.declared.steps.TraceEnd.{TraceEnd}
 use Rattle.vax_watch.specs.declared.steps.TraceEnd.TheVariants.{Ended, Steps, Break, Turns, PageFault, WriteFault}
 use Rattle.vax_watch.proofs.Breaking.{stop_break, stop_limit}
+use Rattle.vax_watch.proofs.Written.{written_none, written_read}
 use Rattle.vax_watch.proofs.Holding.{all_written, part_written}
 use Rattle.vax_watch.proofs.Stepping.{between_looked, core_of, ending_of, goes_to, means_steps, tracks_looked}
 use Rattle.vax_watch.proofs.Watching.{latest_seen, watches_kept}
@@ -133,6 +134,9 @@ module _ (t : Trace) (old : Option Channels) (s : Stage) (begun : IsBegun t) (h 
   tracks_start : Tracks m file (turns_of t 0)
   tracks_start = tracks_looked s.system.machine m s.system.file file (turns_of t 0) l h.keeps.tracks
 
+  written_start : WrittenIn t 0 file
+  written_start = written_read t.areas t.from (turns_of t 0) t.file s.system.file file l.reads h.keeps.written
+
   pub stands_first : (seen : List Seen) → AreLookedAt s.system.machine s.system.file s.seen seen → Stands t old (record s { system = record s.system { machine = m; file = file }; seen = seen })
   stands_first seen looked =
       let means = means_steps t begun 0 s.system.machine s.system.file h.keeps.tracks h.between in
@@ -142,6 +146,7 @@ module _ (t : Trace) (old : Option Channels) (s : Stage) (begun : IsBegun t) (h 
         keeps = subst (λ (n : ℕ). Keeps t old 0 n (record s { system = record s.system { machine = m; file = file }; seen = seen })) (sym start_steps) (record {
           goes = h.keeps.goes;
           tracks = tracks_start;
+          written = written_start;
           holds = record { out = k.out; recorded = k.recorded; sent = k.sent; lines = k.lines; wrote = k.wrote; unlisted = k.unlisted };
         });
         areas = ap (λ (z : Keeping). z.areas) l.keeps ∙ h.areas;
@@ -163,6 +168,7 @@ module _ (t : Trace) (old : Option Channels) (s : Stage) (begun : IsBegun t) (h 
         goes = h.keeps.goes;
         means = tracks_start.means;
         steps = tracks_start.steps;
+        fails = inr written_start;
         lines = 0;
         all_but = inl (sym start_steps);
         holds = record { out = k.out; recorded = k.recorded; sent = k.sent; lines = k.lines; wrote = k.wrote; unlisted = k.unlisted };
@@ -184,6 +190,7 @@ module _ (t : Trace) (old : Option Channels) (s : Stage) (begun : IsBegun t) (no
     goes = h.keeps.goes;
     stopped = h.stopped;
     tracks = h.keeps.tracks;
+    blocks = h.keeps.written;
     sent = h.keeps.holds.out ++ (held_in s.held).out;
     output = h.keeps.holds.sent;
     wrote = all_written t old s.system.machine.steps s (machine_at (turns_of t h.made).place).output h.keeps.holds now g;
@@ -196,6 +203,7 @@ module _ (t : Trace) (old : Option Channels) (s : Stage) (begun : IsBegun t) (no
     means = h.means;
     steps = h.steps;
     follows = subst (λ (n : ℕ). GoesBy (run n t.start) (turns_of t h.made).place) (sym h.steps) (goes_to t begun h.made);
+    fails = h.fails;
     sent = h.holds.out ++ (held_in s.held).out;
     output = h.holds.sent;
     lines = h.lines;
@@ -253,12 +261,13 @@ finished_traces t old s begun now end result h other (inr f) =
 
 -- the start
 
-pub starts_here : (t : Trace) (old : Option Channels) (s : Stage) → Tracks s.system.machine s.system.file t.from → (machine_at t.from.place).output ≡ t.start.output → (pages s.system.machine.pager).areas ≡ t.areas → IsBetween s.system.machine → s.system.machine.steps ≡ 0 → watches_in s.seen ≡ t.watches → held_in s.held ≡ nothing → s.held.listed ≡ false → s.lines ≡ [] → s.system.channels ≡ old → Starts t old s
+pub starts_here : (t : Trace) (old : Option Channels) (s : Stage) → t.file ≡ s.system.file → Tracks s.system.machine s.system.file t.from → (machine_at t.from.place).output ≡ t.start.output → (pages s.system.machine.pager).areas ≡ t.areas → IsBetween s.system.machine → s.system.machine.steps ≡ 0 → watches_in s.seen ≡ t.watches → held_in s.held ≡ nothing → s.held.listed ≡ false → s.lines ≡ [] → s.system.channels ≡ old → Starts t old s
 unfolding paged listing
-starts_here t old s tracks output areas between steps watches held listed lines same = record {
+starts_here t old s told tracks output areas between steps watches held listed lines same = record {
   keeps = record {
     goes = record { going = λ i low. absurd (omega (arith, low)) };
     tracks = tracks;
+    written = written_none t.areas t.from t.file s.system.file told;
     holds = record {
       out = [];
       recorded = [];

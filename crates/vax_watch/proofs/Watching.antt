@@ -47,6 +47,7 @@ looked_then a b c x y z p q = record {
   keeps = q.keeps ∙ p.keeps;
   same = q.same ∙ p.same;
   means = λ place m. q.means place (p.means place m);
+  reads = q.reads ∙ p.reads;
 }
 
 pub looks_from : (a b : Engine) (x y : Option BlockFile) (old new : Seen) → IsLookedAt a x b y → LooksAgain b y old new → LooksAgain a x old new

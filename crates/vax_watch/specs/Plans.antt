@@ -4,6 +4,7 @@ use Rattle.std.specs.List.{flat_map}
 use Rattle.vax_space.specs.declared.Area.{Area}
 use Rattle.vax_outside.specs.Blocks.{BlockFile}
 use Rattle.vax_pager.specs.Meaning.{pages}
+use Rattle.vax_pager.specs.Poking.{OnlyRead}
 use Rattle.vax_machine.specs.Console.{ShowsMemory}
 use Rattle.vax_machine.specs.Machine.{KeepsPlace, keeping}
 use Rattle.vax_machine.specs.declared.engine.Engine.{Engine}
@@ -28,6 +29,14 @@ AreMany breaks watches = (16 < length breaks) ⊎ (16 < length watches)
 abbrev pub breaks_of : Plan → List ℕ
 breaks_of plan = plan.breaks.items
 
+-- what is asked of a traced run beside its watches: the addresses before which it stops, and whether the text of each instruction is listed
+pub record Asked : Type 0 where
+  pub breaks : List ℕ
+  pub texts : Bool
+
+abbrev pub asked_of : Plan → Asked
+asked_of plan = record { breaks = breaks_of plan; texts = plan.texts }
+
 abbrev pub watches_in : List Seen → List Watch
 watches_in seen = map (λ s. s.watch) seen
 
@@ -46,12 +55,13 @@ changes_in seen = flat_map (λ s. watch_line s.watch s.earlier.items s.latest.it
 abbrev pub all_watched : List Watch → List Area → List (List (Option ℕ))
 all_watched watches memory = map (watched memory) watches
 
--- memory was looked at alone
+-- memory was looked at alone, and blocks were read at most
 pub record IsLookedAt (old : Engine) (before : Option BlockFile) (new : Engine) (after : Option BlockFile) : Type 0 where
   pub cpu : new.cpu ≡ old.cpu
   pub keeps : keeping new ≡ keeping old
   pub same : pages new.pager ≡ pages old.pager
   pub means : KeepsPlace old before new after
+  pub reads : OnlyRead before after
 
 -- the bytes of a watch are seen again
 pub record LooksAgain (m : Engine) (file : Option BlockFile) (old new : Seen) : Type 0 where

@@ -1,5 +1,5 @@
 -- What a traced run comes to.
-use Rattle.std.specs.Prelude.{ℕ, ◌≡◌, ◌+◌, ◌<◌, ◌≤◌, ◌⊎◌, Bool, true, false, Option, List, ◌++◌, length}
+use Rattle.std.specs.Prelude.{ℕ, suc, Some, ◌≡◌, ◌+◌, ◌<◌, ◌≤◌, ◌⊎◌, Bool, true, false, Option, List, ◌++◌, length}
 use Rattle.vax_space.specs.declared.Area.{Area}
 use Rattle.vax_outside.specs.declared.faults.Failures.{Failures}
 use Rattle.vax_outside.specs.Blocks.{BlockFile}
@@ -10,7 +10,9 @@ use Rattle.vax_flat.specs.Step.{Flat, run}
 use Rattle.vax_sched.specs.Due.{due}
 use Rattle.vax_sched.specs.declared.rule.Rule.{Rule}
 use Rattle.vax_machine.specs.Machine.{Means, keeping}
-use Rattle.vax_machine.specs.Paged.{Paged, paged, stops}
+use Rattle.vax_machine.specs.Blocks.{writes_of}
+use Rattle.vax_machine.specs.Calling.{Asking, NextCallFails, asking_of}
+use Rattle.vax_machine.specs.Paged.{Eviction, Paged, all_evicted, all_named, paged, stops}
 use Rattle.vax_machine.specs.Run.{Runs, System, Tracks, begun, why_of}
 use Rattle.vax_machine.specs.Writing.{both}
 use Rattle.vax_machine.specs.declared.engine.Engine.{Engine}
@@ -25,27 +27,31 @@ use Rattle.vax_watch.specs.declared.watch.Watch.{Watch}
 use Rattle.vax_watch.specs.declared.steps.TraceEnd.{TraceEnd}
 use Rattle.vax_watch.specs.declared.steps.TraceEnd.TheVariants.{Ended, Steps, Break, Turns, PageFault, WriteFault}
 
--- a traced run: how far it may go, what is due at its turns, the areas, the flat machine and the paged run from which it begins, the addresses before which
--- it stops, and its watches
+-- a traced run: how far it may go, what is due at its turns, the areas, the flat machine and the paged run from which it begins, what the page file tells
+-- there, the addresses before which it stops, its watches, and whether the text of each instruction is listed
 pub record Trace : Type 0 where
   pub limits : Limits
   pub rules : List Rule
   pub areas : List Area
   pub start : Flat
   pub from : Paged
+  pub file : Option BlockFile
   pub breaks : List ℕ
   pub watches : List Watch
+  pub texts : Bool
 
 -- of a machine that stands for this flat machine
-abbrev pub trace_of : Limits → List Rule → Plan → Engine → Flat → Trace
-trace_of limits rules plan m start = record {
+abbrev pub trace_of : Limits → List Rule → Plan → Engine → Option BlockFile → Flat → Trace
+trace_of limits rules plan m file start = record {
   limits = limits;
   rules = rules;
   areas = (keeping m).areas;
   start = start;
   from = begun m (At start);
+  file = file;
   breaks = breaks_of plan;
   watches = watches_of plan;
+  texts = plan.texts;
 }
 
 abbrev pub stop_of : Trace → ℕ
@@ -77,6 +83,38 @@ NamesStop Turns stop limit = Unit {0}
 NamesStop PageFault stop limit = Unit {0}
 NamesStop WriteFault stop limit = Unit {0}
 
+-- From one paged run to a later one the pages that were made absent and to which an attempt had written were written to their blocks, in order. Blocks are read
+-- for services, and to see what lines show.
+pub record HasWritten (areas : List Area) (b p : Paged) (before after : BlockFile) : Type 0 where
+  pub made : List Eviction
+  pub is : p.evictions ≡ b.evictions ++ made
+  pub writes : after.writes ≡ before.writes ++ writes_of areas made
+
+-- where the file told its contents before, it does afterwards
+abbrev pub Written : List Area → Paged → Paged → Option BlockFile → Option BlockFile → Type 0
+Written areas b p before after = (f : BlockFile) → before ≡ Some f → (g : BlockFile) × (after ≡ Some g) × HasWritten areas b p f g
+
+-- behind so many turns it has written so
+abbrev pub WrittenIn : Trace → ℕ → Option BlockFile → Type 0
+WrittenIn t made file = Written t.areas t.from (turns_of t made) t.file file
+
+-- The call of the file that failed is the next that the turn behind so many makes, and each before it was made. The step of this turn began behind so many turns,
+-- where the file told this, and the first of what is due at the turn were made absent.
+pub record FailsInTurn (t : Trace) (made : ℕ) (asks : Asking) (file : Option BlockFile) : Type 0 where
+  pub goes : Runs (limits_of t) t.areas t.rules t.from (suc made)
+  pub first : ℕ
+  pub early : first ≤ made
+  pub between : Option BlockFile
+  pub written : WrittenIn t first between
+  pub front : List ℕ
+  pub rest : List ℕ
+  pub splits : all_named t.areas (due t.rules ((turns_of t made).turns + 1)) ≡ front ++ rest
+  pub fails : NextCallFails t.areas (turns_of t first) (all_evicted front (turns_of t made)) rest asks between file
+
+-- or it was to read what a line shows, between two turns
+abbrev pub CallFails : Trace → ℕ → Asking → Option BlockFile → Type 0
+CallFails t made asks file = FailsInTurn t made asks file ⊎ WrittenIn t made file
+
 -- It stopped as a run does whose limit of steps is where it is to stop. What the steps sent is on Out, and their lines are on Record.
 pub record IsTraced (t : Trace) (result : TraceEnd) (old : Option Channels) (new : System) : Type 0 where
   pub named : NamesStop result (stop_of t) t.limits.steps
@@ -84,9 +122,10 @@ pub record IsTraced (t : Trace) (result : TraceEnd) (old : Option Channels) (new
   pub goes : Runs (limits_of t) t.areas t.rules t.from made
   pub stopped : stops (stop_of t) t.limits.turns (turns_of t made) ≡ why_of (as_run result)
   pub tracks : Tracks new.machine new.file (turns_of t made)
+  pub blocks : WrittenIn t made new.file
   pub sent : List ℕ
   pub output : (machine_at (turns_of t made).place).output ≡ t.start.output ++ sent
-  pub wrote : Grew old new.channels (both sent (listing new.machine.steps t.start t.watches))
+  pub wrote : Grew old new.channels (both sent (listing t.texts new.machine.steps t.start t.watches))
 
 -- the last step that was made has no line: behind it, with its turns whole, the bytes of a watch couldn't be read
 pub record IsUnseen (t : Trace) (made lines : ℕ) (m : Engine) (file : Option BlockFile) : Type 0 where
@@ -102,11 +141,12 @@ pub record IsCutTrace (t : Trace) (old : Option Channels) (new : System) : Type 
   pub means : Means new.machine new.file (turns_of t made).place
   pub steps : new.machine.steps ≡ (turns_of t made).steps
   pub follows : GoesBy (run new.machine.steps t.start) (turns_of t made).place
+  pub fails : CallFails t made (asking_of new.machine) new.file
   pub sent : List ℕ
   pub output : (machine_at (turns_of t made).place).output ≡ t.start.output ++ sent
   pub lines : ℕ
   pub all_but : (lines ≡ new.machine.steps) ⊎ IsUnseen t made lines new.machine new.file
-  pub wrote : Grew old new.channels (both sent (listing lines t.start t.watches))
+  pub wrote : Grew old new.channels (both sent (listing t.texts lines t.start t.watches))
 
 -- a write failed: a prefix was written of what some turns of this run sent and of the lines of some of their steps
 pub record IsLostTrace (t : Trace) (old new : Option Channels) : Type 0 where
@@ -116,7 +156,7 @@ pub record IsLostTrace (t : Trace) (old new : Option Channels) : Type 0 where
   pub output : (machine_at (turns_of t made).place).output ≡ t.start.output ++ sent
   pub lines : ℕ
   pub few : lines ≤ (turns_of t made).steps
-  pub wrote : GrewByPrefix old new (both sent (listing lines t.start t.watches))
+  pub wrote : GrewByPrefix old new (both sent (listing t.texts lines t.start t.watches))
 
 abbrev pub Traces : Trace → TraceEnd → Option Channels → System → Type 0
 Traces t (Ended e) old new = IsTraced t (Ended e) old new

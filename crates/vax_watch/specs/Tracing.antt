@@ -9,6 +9,7 @@ use Rattle.vax_flat.specs.Parts.{At, machine_at}
 use Rattle.vax_flat.specs.Step.{run}
 use Rattle.vax_pager.specs.Meaning.{pages}
 use Rattle.vax_sched.specs.declared.rule.Rule.{Rule}
+use Rattle.vax_machine.specs.Calling.{asking_of}
 use Rattle.vax_machine.specs.Console.{IsBetween}
 use Rattle.vax_machine.specs.Machine.{Means}
 use Rattle.vax_machine.specs.Paged.{stops}
@@ -18,8 +19,8 @@ use Rattle.vax_machine.specs.declared.event.Limits.{Limits}
 use Rattle.vax_machine.specs.declared.held.Held.{Held}
 use Rattle.vax_watch.specs.Breaks.{is_break}
 use Rattle.vax_watch.specs.Listing.{listing}
-use Rattle.vax_watch.specs.Plans.{all_watched, latest_in, watches_in}
-use Rattle.vax_watch.specs.Traced.{IsLostTrace, IsUnseen, NamesStop, Trace, as_run, by_page, by_write, limits_of, stop_of, turns_of}
+use Rattle.vax_watch.specs.Plans.{Asked, all_watched, latest_in, watches_in}
+use Rattle.vax_watch.specs.Traced.{CallFails, IsLostTrace, IsUnseen, NamesStop, Trace, WrittenIn, as_run, by_page, by_write, limits_of, stop_of, turns_of}
 use Rattle.vax_watch.specs.declared.watch.Plan.{Plan}
 use Rattle.vax_watch.specs.declared.watch.Seen.{Seen}
 use Rattle.vax_watch.specs.declared.steps.Notes.{Notes}
@@ -59,7 +60,7 @@ pub record Holds (t : Trace) (old : Option Channels) (output : List ℕ) (steps 
   pub out : List ℕ
   pub recorded : List ℕ
   pub sent : output ≡ t.start.output ++ (out ++ (held_in s.held).out)
-  pub lines : recorded ++ s.lines ≡ listing steps t.start t.watches
+  pub lines : recorded ++ s.lines ≡ listing t.texts steps t.start t.watches
   pub wrote : Grew old s.system.channels (both out recorded)
   pub unlisted : s.held.listed ≡ false
 
@@ -67,6 +68,7 @@ pub record Holds (t : Trace) (old : Option Channels) (output : List ℕ) (steps 
 pub record Keeps (t : Trace) (old : Option Channels) (made steps : ℕ) (s : Stage) : Type 0 where
   pub goes : Runs (limits_of t) t.areas t.rules t.from made
   pub tracks : Tracks s.system.machine s.system.file (turns_of t made)
+  pub written : WrittenIn t made s.system.file
   pub holds : Holds t old (machine_at (turns_of t made).place).output steps s
 
 -- it stands between two steps, and none but the first and the one that comes began at one of the addresses
@@ -99,6 +101,7 @@ pub record IsCutShort (t : Trace) (old : Option Channels) (s : Stage) : Type 0 w
   pub goes : Runs (limits_of t) t.areas t.rules t.from made
   pub means : Means s.system.machine s.system.file (turns_of t made).place
   pub steps : s.system.machine.steps ≡ (turns_of t made).steps
+  pub fails : CallFails t made (asking_of s.system.machine) s.system.file
   pub lines : ℕ
   pub all_but : (lines ≡ s.system.machine.steps) ⊎ IsUnseen t made lines s.system.machine s.system.file
   pub holds : Holds t old (machine_at (turns_of t made).place).output lines s
@@ -123,21 +126,22 @@ pub record IsBegun (t : Trace) : Type 0 where
   pub steps : t.from.steps ≡ 0
 
 -- a traced run with these limits, of this plan
-pub record IsFor (t : Trace) (limits : Limits) (rules : List Rule) (breaks : List ℕ) : Type 0 where
+pub record IsFor (t : Trace) (limits : Limits) (rules : List Rule) (asked : Asked) : Type 0 where
   pub begun : IsBegun t
   pub same_limits : t.limits ≡ limits
   pub same_rules : t.rules ≡ rules
-  pub same_breaks : t.breaks ≡ breaks
+  pub same_breaks : t.breaks ≡ asked.breaks
+  pub same_texts : t.texts ≡ asked.texts
 
 -- a step more of each traced run that stands here
-abbrev pub MakesStep : Result (Unit {0}) TraceEnd → Limits → List Rule → List ℕ → Stage → Stage → Type 0
-MakesStep result limits rules breaks s u =
-    (t : Trace) → (old : Option Channels) → IsFor t limits rules breaks → Stands t old s → IsDue t s → Comes t result old u
+abbrev pub MakesStep : Result (Unit {0}) TraceEnd → Limits → List Rule → Asked → Stage → Stage → Type 0
+MakesStep result limits rules asked s u =
+    (t : Trace) → (old : Option Channels) → IsFor t limits rules asked → Stands t old s → IsDue t s → Comes t result old u
 
 -- all steps of it
-abbrev pub MakesSteps : TraceEnd → Limits → List Rule → List ℕ → Stage → Stage → Type 0
-MakesSteps end limits rules breaks s u =
-    (t : Trace) → (old : Option Channels) → IsFor t limits rules breaks → Stands t old s → Leaves t end old u
+abbrev pub MakesSteps : TraceEnd → Limits → List Rule → Asked → Stage → Stage → Type 0
+MakesSteps end limits rules asked s u =
+    (t : Trace) → (old : Option Channels) → IsFor t limits rules asked → Stands t old s → Leaves t end old u
 
 -- it is at the start, and its watched bytes weren't seen yet
 pub record Starts (t : Trace) (old : Option Channels) (s : Stage) : Type 0 where
@@ -147,9 +151,9 @@ pub record Starts (t : Trace) (old : Option Channels) (s : Stage) : Type 0 where
   pub steps : s.system.machine.steps ≡ 0
   pub watches : watches_in s.seen ≡ t.watches
 
-abbrev pub BeginsSteps : TraceEnd → Limits → List Rule → List ℕ → Stage → Stage → Type 0
-BeginsSteps end limits rules breaks s u =
-    (t : Trace) → (old : Option Channels) → IsFor t limits rules breaks → Starts t old s → Leaves t end old u
+abbrev pub BeginsSteps : TraceEnd → Limits → List Rule → Asked → Stage → Stage → Type 0
+BeginsSteps end limits rules asked s u =
+    (t : Trace) → (old : Option Channels) → IsFor t limits rules asked → Starts t old s → Leaves t end old u
 
 -- a call of the page file failed, or a write
 abbrev pub has_page_fault : Result (Unit {0}) TraceEnd → Bool

@@ -6,6 +6,8 @@
 
 ghost use Rattle.std.specs.Prelude.{◌≡◌};
 
+mod beginning;
+mod filling;
 mod laws;
 mod lines;
 mod plan;

@@ -1,12 +1,16 @@
 //! The lines of a traced run, on their way to Record.
-ghost use Rattle.std.specs.Prelude.{◌≡◌, ◌+◌, ◌<◌, ◌≤◌, ◌++◌, [], length, OnErr, OnOk, is_err};
+ghost use Rattle.std.specs.Prelude.{◌≡◌, ◌+◌, ◌<◌, ◌≤◌, ◌++◌, [], length, OnErr, OnOk, is_err, option_map};
 ghost use Rattle.vax_outside.specs.Channels.{GrewByPrefix, only};
 ghost use Rattle.vax_outside.specs.Faults.{CountsFailure};
-ghost use Rattle.vax_watch.specs.Listing.{core_line, register_change, register_changes, status_change, watch_head};
+ghost use Rattle.vax_disasm.specs.Seen.{decoded_seen};
+ghost use Rattle.vax_watch.specs.Beginning.{beginning};
+ghost use Rattle.vax_watch.specs.Listing.{core_line, instruction_text, line_head, line_tail, register_change, register_changes, status_change, watch_head};
 ghost use Rattle.vax_watch.specs.Tracing.{PassedOn};
 
+use crate::beginning::Beginning;
 use crate::watch::Watch;
 use arrayvec::ArrayVec;
+use vax_disasm::Decoded;
 use vax_outside::{Chan, Failed, Sink, Text, put_all};
 use vax_report::push_cell;
 use vax_word::Core;
@@ -14,8 +18,8 @@ use vax_word::Core;
 /// How many bytes of lines are held back.
 const HELD: usize = 4_096;
 
-/// The most bytes of the lines of one step: 511 of its own, and 36 for each of 16 watches.
-const STEP: usize = 1_087;
+/// The most bytes of the lines of one step: 673 of its own, and 36 for each of 16 watches.
+const STEP: usize = 1_249;
 
 /// Lines on their way to Record.
 pub type Lines = ArrayVec<u8, 4096>;
@@ -24,7 +28,7 @@ pub type Lines = ArrayVec<u8, 4096>;
 pub fn make_room<K: Sink>(lines: &mut Lines, sink: &mut K) -> Result<(), Failed>
     ensures ok { OnOk result (PassedOn (K.contents sink.old) (K.contents sink.new) lines.old.items
         lines.new.items) }
-    ensures room { OnOk result (length lines.new.items + 1087 ≤ 4096) }
+    ensures room { OnOk result (length lines.new.items + 1249 ≤ 4096) }
     ensures prefix { OnErr result (GrewByPrefix (K.contents sink.old) (K.contents sink.new)
         (only Chan.Record lines.old.items)) }
     ensures counts { CountsFailure (is_err result) (K.faults sink.old) (K.faults sink.new) }
@@ -78,32 +82,62 @@ fn push_status(text: &mut Text, before: &Core, after: &Core)
     }
 }
 
-/// Appends the line of a step: its number, the registers before it, the byte at its address, and the registers after it.
-#[tactic(auto, unfolding(crate::specs::Listing::core_line, vax_report::specs::Lines::spaced))]
-fn push_line(text: &mut Text, number: u64, before: &Core, byte: Option<u8>, after: &Core)
-    requires { text.old ≡ [] }
-    ensures exact { text.new ≡ core_line number before.now byte after.now }
-    ensures short { length text.new ≤ 511 }
+/// Appends the head of a step's line: its number, its address and the byte there.
+#[tactic(auto, unfolding(crate::specs::Listing::line_head, vax_report::specs::Lines::spaced))]
+fn push_head(lines: &mut Lines, number: u64, address: u32, byte: Option<u8>)
+    requires { length lines.old.items + 33 ≤ 4096 }
+    ensures exact { lines.new.items ≡ lines.old.items ++ line_head number address byte }
+    ensures short { length lines.new.items ≤ length lines.old.items + 33 }
 {
+    let mut text = Text::new();
     text.push_decimal(number);
     text.push(b" ");
-    text.push_hex8(before.regs[15]);
-    push_cell(text, byte);
-    push_registers(text, before, after);
-    push_status(text, before, after);
+    text.push_hex8(address);
+    push_cell(&mut text, byte);
+    lines.try_extend_from_slice(text.as_slice()).unwrap();
+}
+
+/// Appends an instruction behind a blank, if there is one.
+#[tactic(auto, unfolding(crate::specs::Listing::instruction_text))]
+fn push_instruction(lines: &mut Lines, instruction: &Option<Decoded>)
+    requires { length lines.old.items + 161 ≤ 4096 }
+    ensures exact { lines.new.items
+        ≡ lines.old.items ++ instruction_text (option_map decoded_seen instruction.now) }
+    ensures short { length lines.new.items ≤ length lines.old.items + 161 }
+{
+    if let Some(instruction) = instruction {
+        lines.try_extend_from_slice(b" ").unwrap();
+        lines
+            .try_extend_from_slice(instruction.text.as_bytes())
+            .unwrap();
+    }
+}
+
+/// Appends the tail of a step's line: the registers and the status that the step changed.
+#[tactic(auto, unfolding(crate::specs::Listing::line_tail))]
+fn push_tail(lines: &mut Lines, before: &Core, after: &Core)
+    requires { length lines.old.items + 479 ≤ 4096 }
+    ensures exact { lines.new.items ≡ lines.old.items ++ line_tail before.now after.now }
+    ensures short { length lines.new.items ≤ length lines.old.items + 479 }
+{
+    let mut text = Text::new();
+    push_registers(&mut text, before, after);
+    push_status(&mut text, before, after);
     text.push(b"\n");
+    lines.try_extend_from_slice(text.as_slice()).unwrap();
 }
 
 /// Appends the line of a step.
-pub fn push_step(lines: &mut Lines, number: u64, before: &Core, byte: Option<u8>, after: &Core)
-    requires { length lines.old.items + 511 ≤ 4096 }
+#[tactic(auto, unfolding(crate::specs::Listing::core_line))]
+pub fn push_step(lines: &mut Lines, number: u64, before: &Core, begins: &Beginning, after: &Core)
+    requires { length lines.old.items + 673 ≤ 4096 }
     ensures exact { lines.new.items
-        ≡ lines.old.items ++ core_line number before.now byte after.now }
-    ensures short { length lines.new.items ≤ length lines.old.items + 511 }
+        ≡ lines.old.items ++ core_line number before.now (beginning begins.now) after.now }
+    ensures short { length lines.new.items ≤ length lines.old.items + 673 }
 {
-    let mut text = Text::new();
-    push_line(&mut text, number, before, byte, after);
-    lines.try_extend_from_slice(text.as_slice()).unwrap();
+    push_head(lines, number, before.regs[15], begins.byte);
+    push_instruction(lines, &begins.instruction);
+    push_tail(lines, before, after);
 }
 
 /// Appends the line of a watch.

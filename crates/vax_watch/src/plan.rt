@@ -4,6 +4,7 @@ ghost use Rattle.std.specs.List.{list_all, list_any};
 ghost use Rattle.vax_outside.specs.Faults.{CountsFailure};
 ghost use Rattle.vax_watch.specs.Plans.{is_sized};
 
+use crate::filling::fill;
 use crate::lines::{Lines, push_watch};
 use crate::watch::{Plan, Seen, Watch};
 use std::alloc::{AllocError, AllocFailed, Global};
@@ -97,7 +98,7 @@ impl Seen {
         ensures counts { CountsFailure (is_err result) (F.faults file.old) (F.faults file.new) }
     {
         self.earlier.copy_from_slice(&self.latest);
-        machine.dump(self.watch.address, &mut self.latest, file)
+        fill(machine, self.watch.address, &mut self.latest, file)
     }
 
     /// Appends the line of the watch, where its bytes differ.
@@ -116,13 +117,14 @@ impl Seen {
 
 impl Plan {
     ghost use Rattle.vax_machine.specs.Meaning.{engine};
-    ghost use Rattle.vax_watch.specs.Plans.{AreFew, AreLookedAt, AreMany, IsLookedAt, breaks_of, changes_in, watches_of};
+    ghost use Rattle.vax_watch.specs.Plans.{AreFew, AreLookedAt, AreMany, IsLookedAt, asked_of, breaks_of, changes_in, watches_of};
     ghost use Rattle.vax_watch.specs.declared.plan.PlanError.TheVariants as error;
 
-    /// A plan: the addresses, and the watches of 1 to 4,096 bytes, at most 16 of each. Of several causes the first of `PlanError` is told.
+    /// A plan: the addresses, and the watches of 1 to 4,096 bytes, at most 16 of each, with no texts. Of several causes the first of `PlanError` is told.
     pub fn new(alloc: Global, breaks: Vec<u32>, watches: &[Watch]) -> Result<Plan, PlanError>
         ensures breaks { IfOk result (λ p. breaks_of p ≡ breaks.items) }
         ensures watches { IfOk result (λ p. watches_of p ≡ watches.now) }
+        ensures texts { IfOk result (λ p. p.texts ≡ false) }
         ensures few { OnOk result (AreFew breaks.items watches.now) }
         ensures sized { OnOk result (list_all is_sized watches.now ≡ true) }
         ensures count { result ≡ Err error.Count → AreMany breaks.items watches.now }
@@ -138,7 +140,24 @@ impl Plan {
         for watch in watches {
             seen.push(Seen::new(alloc, *watch)?)?;
         }
-        Ok(Plan { breaks, seen })
+        Ok(Plan {
+            breaks,
+            seen,
+            texts: false,
+        })
+    }
+
+    /// The same plan, of a run that lists the text of each instruction, or that doesn't.
+    pub fn with_texts(self, texts: bool) -> Plan
+        ensures breaks { breaks_of result ≡ breaks_of self }
+        ensures watches { watches_of result ≡ watches_of self }
+        ensures texts { result.texts ≡ texts }
+    {
+        Plan {
+            breaks: self.breaks,
+            seen: self.seen,
+            texts,
+        }
     }
 
     /// Whether this is one of the addresses.
@@ -154,7 +173,7 @@ impl Plan {
         machine: &mut Machine,
         file: &mut F,
     ) -> Result<(), PageFault>
-        ensures breaks { breaks_of self.new ≡ breaks_of self.old }
+        ensures asked { asked_of self.new ≡ asked_of self.old }
         ensures seen { OnOk result (AreLookedAt (engine machine.old) (F.contents file.old)
             self.old.seen.items self.new.seen.items) }
         ensures watched { OnErr result (1 ≤ length self.old.seen.items) }

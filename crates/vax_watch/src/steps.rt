@@ -10,11 +10,13 @@ ghost use Rattle.vax_machine.specs.Machine.{Means};
 ghost use Rattle.vax_machine.specs.Meaning.{engine};
 ghost use Rattle.vax_machine.specs.Run.{system_of};
 ghost use Rattle.vax_machine.specs.Writing.{OnlyWrote, held_in};
-ghost use Rattle.vax_watch.specs.Plans.{AreLookedAt, IsLookedAt, breaks_of, changes_in};
+ghost use Rattle.vax_watch.specs.Beginning.{beginning};
+ghost use Rattle.vax_watch.specs.Plans.{AreLookedAt, IsLookedAt, asked_of, breaks_of, changes_in};
 ghost use Rattle.vax_watch.specs.Listing.{core_line};
 ghost use Rattle.vax_watch.specs.Traced.{CountsTrace, Traces, by_write, trace_of};
 ghost use Rattle.vax_watch.specs.Tracing.{BeginsSteps, CountsEnd, CountsSteps, Finishes, IsUnlisted, MakesStep, MakesSteps, stage_of, stopped_by};
 
+use crate::beginning::{Beginning, look_at};
 use crate::lines::{Lines, make_room, push_step};
 use crate::watch::Plan;
 use arrayvec::ArrayVec;
@@ -96,18 +98,19 @@ fn list_step<F: PageFile>(
     machine: &mut Machine,
     plan: &mut Plan,
     before: &Core,
-    byte: Option<u8>,
+    begins: &Beginning,
     lines: &mut Lines,
     file: &mut F,
 ) -> Result<(), TraceEnd>
-    requires { length lines.old.items + 1087 ≤ 4096 }
-    ensures breaks { breaks_of plan.new ≡ breaks_of plan.old }
+    requires { length lines.old.items + 1249 ≤ 4096 }
+    ensures asked { asked_of plan.new ≡ asked_of plan.old }
     ensures seen { OnOk result (AreLookedAt (engine machine.old) (F.contents file.old)
         plan.old.seen.items plan.new.seen.items) }
     ensures looked { IsLookedAt (engine machine.old) (F.contents file.old) (engine machine.new)
         (F.contents file.new) }
     ensures lines { OnOk result (lines.new.items ≡ lines.old.items
-        ++ core_line (engine machine.old).steps before.now byte (engine machine.old).cpu.core
+        ++ core_line (engine machine.old).steps before.now (beginning begins.now)
+        (engine machine.old).cpu.core
         ++ changes_in plan.new.seen.items) }
     ensures unlisted { OnErr result
         (IsUnlisted lines.old.items lines.new.items plan.old.seen.items) }
@@ -115,7 +118,7 @@ fn list_step<F: PageFile>(
     ensures counts { CountsFailure (is_err result) (F.faults file.old) (F.faults file.new) }
 {
     plan.look(machine, file)?;
-    push_step(lines, machine.steps(), before, byte, machine.core());
+    push_step(lines, machine.steps(), before, begins, machine.core());
     plan.push_changes(lines);
     Ok(())
 }
@@ -132,9 +135,9 @@ fn trace_step<F: PageFile, K: Sink>(
 ) -> Result<(), TraceEnd>
     requires few_steps { (engine machine.old).steps < 2 ^ 64 - 1 }
     requires few_turns { limits.now.turns < 2 ^ 64 - 2 }
-    ensures breaks { breaks_of plan.new ≡ breaks_of plan.old }
+    ensures asked { asked_of plan.new ≡ asked_of plan.old }
     ensures steps { OnOk result ((engine machine.new).steps ≡ (engine machine.old).steps + 1) }
-    ensures makes { MakesStep result limits.now schedule.now (breaks_of plan.old)
+    ensures makes { MakesStep result limits.now schedule.now (asked_of plan.old)
         (stage_of (system_of (engine machine.old) (F.contents file.old) (K.contents sink.old))
         notes.old plan.old)
         (stage_of (system_of (engine machine.new) (F.contents file.new) (K.contents sink.new))
@@ -145,16 +148,16 @@ fn trace_step<F: PageFile, K: Sink>(
 {
     make_room(&mut notes.lines, sink)?;
     let before = *machine.core();
-    let byte = machine.peek(before.regs[15], file)?;
+    let begins = look_at(machine, plan.texts, before.regs[15], file)?;
     let next = Limits {
         steps: machine.steps() + 1,
         turns: limits.turns,
         listed: false,
     };
     match machine.go_on(&next, schedule, &mut notes.held, file, sink) {
-        RunEnd::Steps => list_step(machine, plan, &before, byte, &mut notes.lines, file),
+        RunEnd::Steps => list_step(machine, plan, &before, &begins, &mut notes.lines, file),
         RunEnd::Ended(ending) => {
-            list_step(machine, plan, &before, byte, &mut notes.lines, file)?;
+            list_step(machine, plan, &before, &begins, &mut notes.lines, file)?;
             Err(TraceEnd::Ended(ending))
         }
         RunEnd::Turns => Err(TraceEnd::Turns),
@@ -175,7 +178,7 @@ fn trace<F: PageFile, K: Sink>(
 ) -> TraceEnd
     requires few_steps { limits.now.steps < 2 ^ 64 }
     requires few_turns { limits.now.turns < 2 ^ 64 - 2 }
-    ensures makes { MakesSteps result limits.now schedule.now (breaks_of plan.old)
+    ensures makes { MakesSteps result limits.now schedule.now (asked_of plan.old)
         (stage_of (system_of (engine machine.old) (F.contents file.old) (K.contents sink.old))
         notes.old plan.old)
         (stage_of (system_of (engine machine.new) (F.contents file.new) (K.contents sink.new))
@@ -207,7 +210,7 @@ fn begin<F: PageFile, K: Sink>(
 ) -> TraceEnd
     requires few_steps { limits.now.steps < 2 ^ 64 }
     requires few_turns { limits.now.turns < 2 ^ 64 - 2 }
-    ensures begins { BeginsSteps result limits.now schedule.now (breaks_of plan.old)
+    ensures begins { BeginsSteps result limits.now schedule.now (asked_of plan.old)
         (stage_of (system_of (engine machine.old) (F.contents file.old) (K.contents sink.old))
         notes.old plan.old)
         (stage_of (system_of (engine machine.new) (F.contents file.new) (K.contents sink.new))
@@ -248,9 +251,9 @@ fn finish<K: Sink>(end: TraceEnd, notes: &Notes, sink: &mut K) -> TraceEnd
     }
 }
 
-/// Runs a machine that hasn't run, and lists its steps on Record: for each step that is completed its number, its address, the byte there, and the
-/// registers and the status that it changed, and behind it a line for each watch whose bytes it changed. The bytes that the program sends to its console
-/// go to Out.
+/// Runs a machine that hasn't run, and lists its steps on Record: for each step that is completed its number, its address, the byte there, the text of
+/// the instruction there where the plan asks for texts, and the registers and the status that it changed, and behind it a line for each watch whose bytes
+/// it changed. The bytes that the program sends to its console go to Out.
 ///
 /// The turns are those of a run whose limit of steps is where the trace is to stop: before the first step, other than the first of all, whose address
 /// the plan has, if that comes below the limit. A step that is undone or open has no line. Whether evictions are to be listed isn't asked.
@@ -270,7 +273,8 @@ pub fn traced<F: PageFile, K: Sink>(
     requires between { IsBetween (engine machine.old) }
     ensures traces { (start : Flat) → Means (engine machine.old) (F.contents file.old) (At start)
         → (engine machine.old).steps ≡ 0
-        → Traces (trace_of limits.now schedule.now plan.old (engine machine.old) start) result
+        → Traces (trace_of limits.now schedule.now plan.old (engine machine.old) (F.contents file.old)
+        start) result
         (K.contents sink.old)
         (system_of (engine machine.new) (F.contents file.new) (K.contents sink.new)) }
     ensures only { OnlyWrote true (K.contents sink.old) (K.contents sink.new) }

@@ -19,11 +19,12 @@ pub(crate) struct Seen {
     ghost latest_room: { length latest.items ≡ watch.count },
 }
 
-/// Where a traced run is to stop, and what it watches, with room for the watched bytes.
+/// Where a traced run is to stop, what it watches, with room for the watched bytes, and whether it lists the text of each instruction.
 #[derive(Drop)]
 pub struct Plan {
     pub(crate) breaks: Vec<u32>,
     pub(crate) seen: Vec<Seen>,
+    pub(crate) texts: bool,
     ghost few_breaks: { length breaks.items ≤ 16 },
     ghost few_watches: { length seen.items ≤ 16 },
 }

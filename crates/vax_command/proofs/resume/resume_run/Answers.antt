@@ -1,4 +1,4 @@
-use Rattle.std.proofs.Common.{[], ◌≡◌, ◌+◌, ◌∙◌, List, ℕ, false, ap, subst}
+use Rattle.std.proofs.Common.{arith, [], ◌≡◌, ◌+◌, ◌∙◌, List, ℕ, false, ap, subst}
 use Rattle.vax_machine.specs.Machine.{keeping}
 use Rattle.vax_machine.specs.Meaning.{engine}
 use Rattle.vax_machine.specs.Paged.{Paged, begun_at}
@@ -26,4 +26,4 @@ returns-in-Ok-clause-resumed g c =
     let went = c.execute.ensures.went b (restored_ready m options.frames h.0 h.2) in
     let limited = subst (λ (n : ℕ). Told seen (course n (items_of c.in-Ok.room.blanks.items)) c.execute.result) counted went in
     let all = subst (λ (z : List DumpItem). Told seen (course h.0.steps z) c.execute.result) c.in-Ok.ensures.room limited in
-    has_resumed seen c.args.saved.now c.args.schedule.now options c.execute.result m h c.in-Ok.schedule c.in-Ok.ensures.planned all
+    has_resumed seen c.args.saved.now c.args.schedule.now options c.execute.result m h c.in-Ok.schedule c.in-Ok.ensures.space (let t = c.requires.within.turns in omega (arith, t)) c.in-Ok.ensures.planned all

@@ -18,7 +18,7 @@ use Rattle.vax_command.proofs.trace.trace.Goals as goal
 
 pub returns-in-PageFault-clause-went : goal.returns-in-PageFault-clause-went
 returns-in-PageFault-clause-went g c = λ frames m f.
-    let s : Traced = record { run = record { limits = c.args.limits.now; areas = (keeping (engine c.args.machine)).areas; rules = c.args.schedule.now; frames = frames; start = m; items = items_of c.args.room.blanks.items; strict = Off }; breaks = breaks_of c.args.plan; watches = watches_of c.args.plan } in
+    let s : Traced = record { run = record { limits = c.args.limits.now; areas = (keeping (engine c.args.machine)).areas; rules = c.args.schedule.now; frames = frames; start = m; items = items_of c.args.room.blanks.items; strict = Off }; breaks = breaks_of c.args.plan; watches = watches_of c.args.plan; texts = c.args.plan.texts } in
     let starts : Starts s.run (engine c.args.machine) = let t = c.requires.few_turns in record { is_fresh = f; areas = refl; low = omega (arith, t) } in
     let seen = outside (change g.K.Sink.faults g.K.Sink.contents c.args.sink.now c.report.new.sink) (change g.F.PageFile.faults g.F.PageFile.contents c.args.pages.now c.traced.new.file) in
     traced_cut seen s (engine c.args.machine) (engine c.traced.new.machine) starts
@@ -27,7 +27,7 @@ returns-in-PageFault-clause-went g c = λ frames m f.
 
 pub returns-in-WriteFault-clause-went : goal.returns-in-WriteFault-clause-went
 returns-in-WriteFault-clause-went g c = λ frames m f.
-    let s : Traced = record { run = record { limits = c.args.limits.now; areas = (keeping (engine c.args.machine)).areas; rules = c.args.schedule.now; frames = frames; start = m; items = items_of c.args.room.blanks.items; strict = Off }; breaks = breaks_of c.args.plan; watches = watches_of c.args.plan } in
+    let s : Traced = record { run = record { limits = c.args.limits.now; areas = (keeping (engine c.args.machine)).areas; rules = c.args.schedule.now; frames = frames; start = m; items = items_of c.args.room.blanks.items; strict = Off }; breaks = breaks_of c.args.plan; watches = watches_of c.args.plan; texts = c.args.plan.texts } in
     let starts : Starts s.run (engine c.args.machine) = let t = c.requires.few_turns in record { is_fresh = f; areas = refl; low = omega (arith, t) } in
     let seen = outside (change g.K.Sink.faults g.K.Sink.contents c.args.sink.now c.traced.new.sink) (change g.F.PageFile.faults g.F.PageFile.contents c.args.pages.now c.traced.new.file) in
     traced_lost seen s (engine c.args.machine) (engine c.traced.new.machine) starts
@@ -35,7 +35,7 @@ returns-in-WriteFault-clause-went g c = λ frames m f.
 
 pub returns-in_default-clause-went : goal.returns-in_default-clause-went
 returns-in_default-clause-went g c = λ frames m f.
-    let s : Traced = record { run = record { limits = c.args.limits.now; areas = (keeping (engine c.args.machine)).areas; rules = c.args.schedule.now; frames = frames; start = m; items = items_of c.args.room.blanks.items; strict = Off }; breaks = breaks_of c.args.plan; watches = watches_of c.args.plan } in
+    let s : Traced = record { run = record { limits = c.args.limits.now; areas = (keeping (engine c.args.machine)).areas; rules = c.args.schedule.now; frames = frames; start = m; items = items_of c.args.room.blanks.items; strict = Off }; breaks = breaks_of c.args.plan; watches = watches_of c.args.plan; texts = c.args.plan.texts } in
     let starts : Starts s.run (engine c.args.machine) = let t = c.requires.few_turns in record { is_fresh = f; areas = refl; low = omega (arith, t) } in
     let seen = outside (change g.K.Sink.faults g.K.Sink.contents c.args.sink.now c.report_all.new.sink) (change g.F.PageFile.faults g.F.PageFile.contents c.args.pages.now c.report_all.new.pages) in
     let read = change g.F.PageFile.faults g.F.PageFile.contents c.traced.new.file c.report_all.new.pages in
@@ -46,7 +46,7 @@ returns-in_default-clause-went g c = λ frames m f.
     let so = subst (λ (z : Status). IsReported read (engine c.traced.new.machine) (last_to c.traced.result) z s.run.items ran.meant ran.grown) c.status_to.ensures told in
     traced_whole seen s (engine c.args.machine) (engine c.traced.new.machine) starts
     (seen_of g.K.Sink.faults g.K.Sink.contents c.traced.new.sink) c.report_all.result
-    read (λ r. rose_from _ _ _ (page_quiet _ _ _ _ _ a b c.traced.ensures.counts) r) c.traced.result a b
+    read (λ r. rose_from _ _ _ (page_quiet _ _ _ _ _ a b c.traced.ensures.counts) r) c.report_all.ensures.reads.only c.traced.result a b
     c.traced.ensures.traces c.traced.ensures.only (sink_quiet _ _ _ _ _ b c.traced.ensures.counts) ran.meant ran.grown so ran.ends
 
 pub returns-in_default-clause-failed : goal.returns-in_default-clause-failed

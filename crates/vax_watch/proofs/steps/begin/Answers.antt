@@ -1,8 +1,9 @@
-use Rattle.std.proofs.Common.{refl, ◌∙◌, sym, true}
+use Rattle.std.proofs.Common.{ap, refl, ◌∙◌, sym, true}
 use Rattle.vax_outside.proofs.Counting.{counts_still, counts_then}
 use Rattle.vax_machine.specs.Meaning.{engine}
 use Rattle.vax_machine.specs.Run.{system_of}
 use Rattle.vax_machine.proofs.Outputs.{wrote_nothing}
+use Rattle.vax_watch.specs.Plans.{Asked}
 use Rattle.vax_watch.specs.Tracing.{stage_of}
 use Rattle.vax_watch.proofs.Stopping.{stands_first, unseen}
 use Rattle.vax_watch.proofs.steps.begin.Goals as goal
@@ -10,7 +11,7 @@ use Rattle.vax_watch.proofs.steps.begin.Goals as goal
 pub returns-in-Ok-clause-begins : goal.returns-in-Ok-clause-begins
 returns-in-Ok-clause-begins g c = λ t old f h.
     let s = stage_of (system_of (engine c.args.machine.now) (g.F.PageFile.contents c.args.file.now) (g.K.Sink.contents c.args.sink.now)) c.args.notes.now c.args.plan.now in
-    c.trace.ensures.makes t old (record { begun = f.begun; same_limits = f.same_limits; same_rules = f.same_rules; same_breaks = f.same_breaks ∙ sym c.look.ensures.breaks })
+    c.trace.ensures.makes t old (record { begun = f.begun; same_limits = f.same_limits; same_rules = f.same_rules; same_breaks = f.same_breaks ∙ sym (ap (λ (z : Asked). z.breaks) c.look.ensures.asked); same_texts = f.same_texts ∙ sym (ap (λ (z : Asked). z.texts) c.look.ensures.asked) })
     (stands_first t old s f.begun h (engine c.look.new.machine) (g.F.PageFile.contents c.look.new.file) c.look.ensures.looked c.look.new.self.seen.items c.in-Ok.ensures.seen)
 
 pub returns-in-Ok-clause-counts : goal.returns-in-Ok-clause-counts

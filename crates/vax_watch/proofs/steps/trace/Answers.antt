@@ -1,24 +1,25 @@
-use Rattle.std.proofs.Common.{refl, sym, true, ◌∙◌}
+use Rattle.std.proofs.Common.{ap, refl, sym, true, ◌∙◌}
 use Rattle.std.specs.Prelude.{◌&&◌, ◌==◌, nat_le, nat_lt, slice_index}
 use Rattle.std.specs.List.{list_any}
 use Rattle.vax_outside.proofs.Counting.{counts_still, counts_then}
 use Rattle.vax_machine.specs.Meaning.{engine}
 use Rattle.vax_machine.specs.Run.{system_of}
 use Rattle.vax_machine.proofs.Outputs.{then_wrote, wrote_nothing}
+use Rattle.vax_watch.specs.Plans.{Asked}
 use Rattle.vax_watch.specs.Tracing.{stage_of, stopped_by}
 use Rattle.vax_watch.proofs.Counted.{fine_stop}
 use Rattle.vax_watch.proofs.Stopping.{is_due, stops_between}
 use Rattle.vax_watch.proofs.steps.trace.Goals as goal
 
 pub loop-end-init : goal.loop-end-init
-loop-end-init g c = record { breaks = refl; stands = λ t old f h. h; only = wrote_nothing true _; quiet = refl; written = refl }
+loop-end-init g c = record { asked = refl; stands = λ t old f h. h; only = wrote_nothing true _; quiet = refl; written = refl }
 
 pub returns-in-Some-clause-makes : goal.returns-in-Some-clause-makes
 returns-in-Some-clause-makes g c = λ t old f h.
     let v = c.loop-end.invariant in
     let m = engine c.loop-end.machine in
     let s = stage_of (system_of m (g.F.PageFile.contents c.loop-end.file) (g.K.Sink.contents c.loop-end.sink)) c.loop-end.notes c.loop-end.plan in
-    let breaks = f.same_breaks ∙ sym v.breaks in
+    let breaks = f.same_breaks ∙ sym (ap (λ (z : Asked). z.breaks) v.asked) in
     let limits = f.same_limits in
     stops_between t old s f.begun (v.stands t old f h) c.in-Some.end
     ((λ i. stopped_by m.ended (nat_le (limits i).steps m.steps) (nat_lt 0 m.steps && list_any (λ a. a == slice_index m.cpu.core.regs 15) (breaks i))) ∙ (sym c.stopped.ensures.why ∙ c.in-Some.is))
@@ -35,12 +36,12 @@ loop-end-preserved g c =
     let m = engine c.loop-end.machine in
     let s = stage_of (system_of m (g.F.PageFile.contents c.loop-end.file) (g.K.Sink.contents c.loop-end.sink)) c.loop-end.notes c.loop-end.plan in
     record {
-      breaks = c.trace_step.ensures.breaks ∙ v.breaks;
+      asked = c.trace_step.ensures.asked ∙ v.asked;
       stands = λ t old f h.
-          let breaks = f.same_breaks ∙ sym v.breaks in
+          let breaks = f.same_breaks ∙ sym (ap (λ (z : Asked). z.breaks) v.asked) in
           let limits = f.same_limits in
           let due = is_due t old s f.begun (v.stands t old f h) ((λ i. stopped_by m.ended (nat_le (limits i).steps m.steps) (nat_lt 0 m.steps && list_any (λ a. a == slice_index m.cpu.core.regs 15) (breaks i))) ∙ (sym c.stopped.ensures.why ∙ c.in_default.is)) in
-          c.in-Ok.ensures.makes t old (record { begun = f.begun; same_limits = limits; same_rules = f.same_rules; same_breaks = breaks }) (v.stands t old f h) due;
+          c.in-Ok.ensures.makes t old (record { begun = f.begun; same_limits = limits; same_rules = f.same_rules; same_breaks = breaks; same_texts = f.same_texts ∙ sym (ap (λ (z : Asked). z.texts) v.asked) }) (v.stands t old f h) due;
       only = then_wrote true _ _ _ v.only c.trace_step.ensures.only;
       quiet = c.in-Ok.ensures.counts.file.quiet ∙ v.quiet;
       written = c.in-Ok.ensures.counts.sink.quiet ∙ v.written;
@@ -51,10 +52,10 @@ returns-in-Err-clause-makes g c = λ t old f h.
     let v = c.loop-end.invariant in
     let m = engine c.loop-end.machine in
     let s = stage_of (system_of m (g.F.PageFile.contents c.loop-end.file) (g.K.Sink.contents c.loop-end.sink)) c.loop-end.notes c.loop-end.plan in
-    let breaks = f.same_breaks ∙ sym v.breaks in
+    let breaks = f.same_breaks ∙ sym (ap (λ (z : Asked). z.breaks) v.asked) in
     let limits = f.same_limits in
     let due = is_due t old s f.begun (v.stands t old f h) ((λ i. stopped_by m.ended (nat_le (limits i).steps m.steps) (nat_lt 0 m.steps && list_any (λ a. a == slice_index m.cpu.core.regs 15) (breaks i))) ∙ (sym c.stopped.ensures.why ∙ c.in_default.is)) in
-    c.in-Err.ensures.makes t old (record { begun = f.begun; same_limits = limits; same_rules = f.same_rules; same_breaks = breaks }) (v.stands t old f h) due
+    c.in-Err.ensures.makes t old (record { begun = f.begun; same_limits = limits; same_rules = f.same_rules; same_breaks = breaks; same_texts = f.same_texts ∙ sym (ap (λ (z : Asked). z.texts) v.asked) }) (v.stands t old f h) due
 
 pub returns-in-Err-clause-counts : goal.returns-in-Err-clause-counts
 returns-in-Err-clause-counts g c =

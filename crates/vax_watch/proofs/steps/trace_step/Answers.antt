@@ -6,10 +6,11 @@ use Rattle.vax_machine.specs.Meaning.{engine}
 use Rattle.vax_machine.specs.Run.{system_of}
 use Rattle.vax_machine.specs.declared.event.Limits.{Limits}
 use Rattle.vax_machine.specs.declared.event.RunEnd.TheVariants as run_end
+use Rattle.vax_watch.specs.Beginning.{beginning}
 use Rattle.vax_watch.specs.Tracing.{Stage, stage_of}
 use Rattle.vax_watch.specs.declared.steps.TraceEnd.TheVariants.{PageFault, WriteFault}
 use Rattle.vax_watch.proofs.Making.{comes, cut_as, ended_more, err_comes, peek_cut, room_cut}
-use Rattle.vax_watch.proofs.Stepped.{byte_peeked, core_peeked, gone_peeked, line_behind, peeked, peeked_by, ready_peeked}
+use Rattle.vax_watch.proofs.Stepped.{begins_peeked, core_peeked, gone_peeked, line_behind, peeked, peeked_by, ready_peeked}
 use Rattle.vax_watch.proofs.Stepping.{cut_then, lost_then, stops_ended, stops_turns, unlisted_next}
 use Rattle.vax_watch.proofs.Writing.{part_only, passed_only, step_only}
 use Rattle.vax_watch.proofs.steps.trace_step.Goals as goal
@@ -21,24 +22,24 @@ returns-in_err-make_room-clause-makes g c = λ t old f h d.
     let u : Stage = record s { system = record s.system { channels = now1 }; lines = c.make_room.new.lines.items } in
     err_comes t old u WriteFault c.from_residual.result c.from_residual.ensures.1 (room_cut t old s now1 h c.in_err-make_room.ensures.prefix)
 
-pub returns-in_err-byte-clause-makes : goal.returns-in_err-byte-clause-makes
-returns-in_err-byte-clause-makes g c = λ t old f h d.
+pub returns-in_err-begins-clause-makes : goal.returns-in_err-begins-clause-makes
+returns-in_err-begins-clause-makes g c = λ t old f h d.
     let s = stage_of (system_of (engine c.args.machine.now) (g.F.PageFile.contents c.args.file.now) (g.K.Sink.contents c.args.sink.now)) c.args.notes.now c.args.plan.now in
     let now1 = g.K.Sink.contents c.make_room.new.sink in
     let lines1 = c.make_room.new.lines.items in
-    let m2 = engine c.peek.new.self in
-    let f2 = g.F.PageFile.contents c.peek.new.file in
-    let k = peeked_by t old s f.begun h d now1 lines1 c.in_ok-make_room.ensures.ok m2 f2 c.peek.ensures.cpu c.peek.ensures.keeps c.peek.ensures.same c.peek.ensures.means in
-    err_comes t old (peeked s now1 lines1 m2 f2) PageFault c.from_residual-in_err-byte.result c.from_residual-in_err-byte.ensures.1 (peek_cut t old (peeked s now1 lines1 m2 f2) (ready_peeked t old s now1 lines1 m2 f2 k))
+    let m2 = engine c.look_at.new.machine in
+    let f2 = g.F.PageFile.contents c.look_at.new.file in
+    let k = peeked_by t old s f.begun h d now1 lines1 c.in_ok-make_room.ensures.ok m2 f2 c.look_at.ensures.looked in
+    err_comes t old (peeked s now1 lines1 m2 f2) PageFault c.from_residual-in_err-begins.result c.from_residual-in_err-begins.ensures.1 (peek_cut t old (peeked s now1 lines1 m2 f2) (ready_peeked t old s now1 lines1 m2 f2 k))
 
 pub returns-in-Steps-clause-makes : goal.returns-in-Steps-clause-makes
 returns-in-Steps-clause-makes g c = λ t old f h d.
     let s = stage_of (system_of (engine c.args.machine.now) (g.F.PageFile.contents c.args.file.now) (g.K.Sink.contents c.args.sink.now)) c.args.notes.now c.args.plan.now in
     let now1 = g.K.Sink.contents c.make_room.new.sink in
     let lines1 = c.make_room.new.lines.items in
-    let m2 = engine c.peek.new.self in
-    let f2 = g.F.PageFile.contents c.peek.new.file in
-    let k = peeked_by t old s f.begun h d now1 lines1 c.in_ok-make_room.ensures.ok m2 f2 c.peek.ensures.cpu c.peek.ensures.keeps c.peek.ensures.same c.peek.ensures.means in
+    let m2 = engine c.look_at.new.machine in
+    let f2 = g.F.PageFile.contents c.look_at.new.file in
+    let k = peeked_by t old s f.begun h d now1 lines1 c.in_ok-make_room.ensures.ok m2 f2 c.look_at.ensures.looked in
     let s2 = peeked s now1 lines1 m2 f2 in
     let r = ready_peeked t old s now1 lines1 m2 f2 k in
     let m3 = engine c.go_on.new.self in
@@ -51,23 +52,23 @@ returns-in-Steps-clause-makes g c = λ t old f h d.
     let high = c.in-Steps.ensures.steps tt (omega (arith, same)) in
     let low = c.in-Steps.ensures.reason in
     let between = c.in-Steps.ensures.between tt r.between in
-    let byte = c.in_ok-byte.byte in
+    let begins = beginning c.in_ok-begins.begins in
     let core = core_peeked t old s now1 lines1 m2 f2 k c.core.result.now c.core.ensures in
-    let here = byte_peeked t old s now1 lines1 m2 f2 k c.core.result.now c.core.ensures byte c.in_ok-byte.ensures.none c.in_ok-byte.ensures.byte in
+    let here = begins_peeked t old s now1 lines1 m2 f2 k c.core.result.now c.core.ensures c.args.plan.now.texts f.same_texts begins c.in_ok-begins.ensures.shows in
     let least = low.1 in
     let one : m3.steps ≡ m2.steps + 1 = omega (arith, high, least, same) in
     let seen = c.list_step.new.plan.seen.items in
-    comes t old s2 f.begun r byte here m3 f3 now3 held3 unlisted run_end.Steps gone between one (engine c.list_step.new.machine) (g.F.PageFile.contents c.list_step.new.file) c.list_step.ensures.looked c.list_step.new.lines.items seen c.list_step.result c.list_step.ensures.seen
-    (on_ok_weaker c.list_step.result (λ e. e ∙ line_behind lines1 m3.steps c.core.result.now m2.cpu.core byte m3.cpu.core seen core) c.list_step.ensures.lines) c.list_step.ensures.unlisted c.list_step.ensures.fault
+    comes t old s2 f.begun r begins here m3 f3 now3 held3 unlisted run_end.Steps gone between one (engine c.list_step.new.machine) (g.F.PageFile.contents c.list_step.new.file) c.list_step.ensures.looked c.list_step.new.lines.items seen c.list_step.result c.list_step.ensures.seen
+    (on_ok_weaker c.list_step.result (λ e. e ∙ line_behind lines1 m3.steps c.core.result.now m2.cpu.core begins m3.cpu.core seen core) c.list_step.ensures.lines) c.list_step.ensures.unlisted c.list_step.ensures.fault
 
 pub returns-in-Turns-clause-makes : goal.returns-in-Turns-clause-makes
 returns-in-Turns-clause-makes g c = λ t old f h d.
     let s = stage_of (system_of (engine c.args.machine.now) (g.F.PageFile.contents c.args.file.now) (g.K.Sink.contents c.args.sink.now)) c.args.notes.now c.args.plan.now in
     let now1 = g.K.Sink.contents c.make_room.new.sink in
     let lines1 = c.make_room.new.lines.items in
-    let m2 = engine c.peek.new.self in
-    let f2 = g.F.PageFile.contents c.peek.new.file in
-    let k = peeked_by t old s f.begun h d now1 lines1 c.in_ok-make_room.ensures.ok m2 f2 c.peek.ensures.cpu c.peek.ensures.keeps c.peek.ensures.same c.peek.ensures.means in
+    let m2 = engine c.look_at.new.machine in
+    let f2 = g.F.PageFile.contents c.look_at.new.file in
+    let k = peeked_by t old s f.begun h d now1 lines1 c.in_ok-make_room.ensures.ok m2 f2 c.look_at.ensures.looked in
     let s2 = peeked s now1 lines1 m2 f2 in
     let r = ready_peeked t old s now1 lines1 m2 f2 k in
     let m3 = engine c.go_on.new.self in
@@ -87,9 +88,9 @@ returns-in-PageFault-clause-makes g c = λ t old f h d.
     let s = stage_of (system_of (engine c.args.machine.now) (g.F.PageFile.contents c.args.file.now) (g.K.Sink.contents c.args.sink.now)) c.args.notes.now c.args.plan.now in
     let now1 = g.K.Sink.contents c.make_room.new.sink in
     let lines1 = c.make_room.new.lines.items in
-    let m2 = engine c.peek.new.self in
-    let f2 = g.F.PageFile.contents c.peek.new.file in
-    let k = peeked_by t old s f.begun h d now1 lines1 c.in_ok-make_room.ensures.ok m2 f2 c.peek.ensures.cpu c.peek.ensures.keeps c.peek.ensures.same c.peek.ensures.means in
+    let m2 = engine c.look_at.new.machine in
+    let f2 = g.F.PageFile.contents c.look_at.new.file in
+    let k = peeked_by t old s f.begun h d now1 lines1 c.in_ok-make_room.ensures.ok m2 f2 c.look_at.ensures.looked in
     let s2 = peeked s now1 lines1 m2 f2 in
     let r = ready_peeked t old s now1 lines1 m2 f2 k in
     let m3 = engine c.go_on.new.self in
@@ -106,9 +107,9 @@ returns-in-WriteFault-clause-makes g c = λ t old f h d.
     let s = stage_of (system_of (engine c.args.machine.now) (g.F.PageFile.contents c.args.file.now) (g.K.Sink.contents c.args.sink.now)) c.args.notes.now c.args.plan.now in
     let now1 = g.K.Sink.contents c.make_room.new.sink in
     let lines1 = c.make_room.new.lines.items in
-    let m2 = engine c.peek.new.self in
-    let f2 = g.F.PageFile.contents c.peek.new.file in
-    let k = peeked_by t old s f.begun h d now1 lines1 c.in_ok-make_room.ensures.ok m2 f2 c.peek.ensures.cpu c.peek.ensures.keeps c.peek.ensures.same c.peek.ensures.means in
+    let m2 = engine c.look_at.new.machine in
+    let f2 = g.F.PageFile.contents c.look_at.new.file in
+    let k = peeked_by t old s f.begun h d now1 lines1 c.in_ok-make_room.ensures.ok m2 f2 c.look_at.ensures.looked in
     let s2 = peeked s now1 lines1 m2 f2 in
     let r = ready_peeked t old s now1 lines1 m2 f2 k in
     let m3 = engine c.go_on.new.self in
@@ -125,9 +126,9 @@ returns-in_err-list_step-in-Ended-clause-makes g c = λ t old f h d.
     let s = stage_of (system_of (engine c.args.machine.now) (g.F.PageFile.contents c.args.file.now) (g.K.Sink.contents c.args.sink.now)) c.args.notes.now c.args.plan.now in
     let now1 = g.K.Sink.contents c.make_room.new.sink in
     let lines1 = c.make_room.new.lines.items in
-    let m2 = engine c.peek.new.self in
-    let f2 = g.F.PageFile.contents c.peek.new.file in
-    let k = peeked_by t old s f.begun h d now1 lines1 c.in_ok-make_room.ensures.ok m2 f2 c.peek.ensures.cpu c.peek.ensures.keeps c.peek.ensures.same c.peek.ensures.means in
+    let m2 = engine c.look_at.new.machine in
+    let f2 = g.F.PageFile.contents c.look_at.new.file in
+    let k = peeked_by t old s f.begun h d now1 lines1 c.in_ok-make_room.ensures.ok m2 f2 c.look_at.ensures.looked in
     let ending = run_end.Ended c.in-Ended.ending in
     let s2 = peeked s now1 lines1 m2 f2 in
     let r = ready_peeked t old s now1 lines1 m2 f2 k in
@@ -141,9 +142,9 @@ returns-in_err-list_step-in-Ended-clause-makes g c = λ t old f h d.
     let high = c.in-Ended.ensures.steps tt (omega (arith, same)) in
     let low = c.in-Ended.ensures.reason in
     let between = c.in-Ended.ensures.between tt r.between in
-    let byte = c.in_ok-byte.byte in
+    let begins = beginning c.in_ok-begins.begins in
     let core = core_peeked t old s now1 lines1 m2 f2 k c.core.result.now c.core.ensures in
-    let here = byte_peeked t old s now1 lines1 m2 f2 k c.core.result.now c.core.ensures byte c.in_ok-byte.ensures.none c.in_ok-byte.ensures.byte in
+    let here = begins_peeked t old s now1 lines1 m2 f2 k c.core.result.now c.core.ensures c.args.plan.now.texts f.same_texts begins c.in_ok-begins.ensures.shows in
     let one = ended_more t old s2 f.begun r m3 f3 now3 held3 unlisted ending gone between c.in-Ended.ending low (omega (arith, high, same)) in
     let call = c.list_step-in-Ended in
     let m4 = engine call.new.machine in
@@ -160,9 +161,9 @@ returns-in_ok-list_step-in-Ended-clause-makes g c = λ t old f h d.
     let s = stage_of (system_of (engine c.args.machine.now) (g.F.PageFile.contents c.args.file.now) (g.K.Sink.contents c.args.sink.now)) c.args.notes.now c.args.plan.now in
     let now1 = g.K.Sink.contents c.make_room.new.sink in
     let lines1 = c.make_room.new.lines.items in
-    let m2 = engine c.peek.new.self in
-    let f2 = g.F.PageFile.contents c.peek.new.file in
-    let k = peeked_by t old s f.begun h d now1 lines1 c.in_ok-make_room.ensures.ok m2 f2 c.peek.ensures.cpu c.peek.ensures.keeps c.peek.ensures.same c.peek.ensures.means in
+    let m2 = engine c.look_at.new.machine in
+    let f2 = g.F.PageFile.contents c.look_at.new.file in
+    let k = peeked_by t old s f.begun h d now1 lines1 c.in_ok-make_room.ensures.ok m2 f2 c.look_at.ensures.looked in
     let ending = run_end.Ended c.in-Ended.ending in
     let s2 = peeked s now1 lines1 m2 f2 in
     let r = ready_peeked t old s now1 lines1 m2 f2 k in
@@ -176,23 +177,23 @@ returns-in_ok-list_step-in-Ended-clause-makes g c = λ t old f h d.
     let high = c.in-Ended.ensures.steps tt (omega (arith, same)) in
     let low = c.in-Ended.ensures.reason in
     let between = c.in-Ended.ensures.between tt r.between in
-    let byte = c.in_ok-byte.byte in
+    let begins = beginning c.in_ok-begins.begins in
     let core = core_peeked t old s now1 lines1 m2 f2 k c.core.result.now c.core.ensures in
-    let here = byte_peeked t old s now1 lines1 m2 f2 k c.core.result.now c.core.ensures byte c.in_ok-byte.ensures.none c.in_ok-byte.ensures.byte in
+    let here = begins_peeked t old s now1 lines1 m2 f2 k c.core.result.now c.core.ensures c.args.plan.now.texts f.same_texts begins c.in_ok-begins.ensures.shows in
     let one = ended_more t old s2 f.begun r m3 f3 now3 held3 unlisted ending gone between c.in-Ended.ending low (omega (arith, high, same)) in
     let call = c.list_step-in-Ended in
     let m4 = engine call.new.machine in
     let f4 = g.F.PageFile.contents call.new.file in
     let lines = call.new.lines.items in
     let seen = call.new.plan.seen.items in
-    let all = c.in_ok-list_step-in-Ended.ensures.lines ∙ line_behind lines1 m3.steps c.core.result.now m2.cpu.core byte m3.cpu.core seen core in
-    stops_ended t old s2 f.begun r byte here m3 f3 now3 held3 unlisted ending gone between one seen c.in_ok-list_step-in-Ended.ensures.seen m4 f4 call.ensures.looked lines all c.in-Ended.ending low
+    let all = c.in_ok-list_step-in-Ended.ensures.lines ∙ line_behind lines1 m3.steps c.core.result.now m2.cpu.core begins m3.cpu.core seen core in
+    stops_ended t old s2 f.begun r begins here m3 f3 now3 held3 unlisted ending gone between one seen c.in_ok-list_step-in-Ended.ensures.seen m4 f4 call.ensures.looked lines all c.in-Ended.ending low
 
 pub returns-in_err-make_room-clause-only : goal.returns-in_err-make_room-clause-only
 returns-in_err-make_room-clause-only g c = part_only _ _ (only Record c.args.notes.now.lines.items) refl c.in_err-make_room.ensures.prefix
 
-pub returns-in_err-byte-clause-only : goal.returns-in_err-byte-clause-only
-returns-in_err-byte-clause-only g c = passed_only _ _ _ _ c.in_ok-make_room.ensures.ok
+pub returns-in_err-begins-clause-only : goal.returns-in_err-begins-clause-only
+returns-in_err-begins-clause-only g c = passed_only _ _ _ _ c.in_ok-make_room.ensures.ok
 
 pub returns-in-Steps-clause-only : goal.returns-in-Steps-clause-only
 returns-in-Steps-clause-only g c = step_only _ _ _ _ _ _ c.in_ok-make_room.ensures.ok c.go_on.ensures.writes.only

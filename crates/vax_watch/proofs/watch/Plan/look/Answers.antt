@@ -9,7 +9,7 @@ use Rattle.vax_watch.proofs.watch.Plan.look.Goals as goal
 
 pub loop-seen-init : goal.loop-seen-init
 unfolding AreLookedAt
-loop-seen-init g c = record { seen = tt; rest = c.deref_mut-seen-items.ensures.value; looked = record { cpu = refl; keeps = refl; same = refl; means = λ place m. m }; quiet = refl }
+loop-seen-init g c = record { seen = tt; rest = c.deref_mut-seen-items.ensures.value; looked = record { cpu = refl; keeps = refl; same = refl; means = λ place m. m; reads = refl }; quiet = refl }
 
 pub loop-seen-preserved : goal.loop-seen-preserved
 loop-seen-preserved g c =
