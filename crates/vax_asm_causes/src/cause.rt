@@ -4,6 +4,7 @@ ghost use Rattle.std.specs.Prelude.{◌≤◌, IfOk, length};
 ghost use Rattle.vax_asm_causes.specs.Printed.{ArePrinted};
 
 use crate::count::count_cause;
+use crate::facts::Facts;
 use crate::form::form_cause;
 use crate::names::{are_same, definition_of};
 use crate::range::range_cause;
@@ -14,12 +15,14 @@ use vax_lex::{Piece, PieceKind};
 use vax_macro::FaultKind;
 use vax_space::NoMemory;
 
-/// Where a fault stands: a source, the number of its line, and the text of a line, which may be one of an expansion.
+/// Where a fault stands: a source, the number of its line, and the text of a line, which may be one of an expansion; and what the
+/// assembler knows there.
 #[derive(Clone, Copy)]
 pub struct Place<'a> {
     pub source: &'a [u8],
     pub number: u32,
     pub line: &'a [u8],
+    pub facts: &'a Facts,
 }
 
 /// The column of a fault, counted from 0, and words on its cause, which begin with a colon or are none.
@@ -199,7 +202,7 @@ fn cause_in(
         FaultKind::Duplicate => duplicate_cause(alloc, place, label),
         FaultKind::Range => {
             let operands = operands_of(alloc, said.operands)?;
-            range_cause(alloc, place.line, operator, said.operands, &operands)
+            range_cause(alloc, place, operator, said.operands, &operands)
         }
         FaultKind::Nesting => nesting_cause(alloc, place, operator),
         FaultKind::Depth | FaultKind::Lines | FaultKind::Large => Ok(at(alloc, operator.start)),

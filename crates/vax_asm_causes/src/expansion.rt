@@ -3,9 +3,11 @@
 ghost use Rattle.std.specs.Prelude.{IfOk};
 ghost use Rattle.vax_asm_causes.specs.Printed.{ArePrinted};
 
+use crate::cause::Place;
 use crate::names::are_same;
 use crate::statement::{Statement, parts_of, pieces_of, text_of};
-use crate::words::{as_printed, say};
+use crate::templates::{BodyLine, is_repeat, line_in_macros, line_of_repeat};
+use crate::words::{as_printed, decimal, say};
 use std::alloc::Global;
 use vax_lex::Piece;
 use vax_space::NoMemory;
@@ -35,21 +37,51 @@ fn stands_in(line: &[u8], text: &[u8]) -> bool {
     text.is_empty()
 }
 
-/// Where a statement with this text doesn't stand on the line with that number itself, but in an expansion that the line begins: which, and the text.
-/// Nothing for any other.
+/// Which line of which macro or repeat a statement of an expansion comes from, in words.
+fn origin_words(
+    alloc: Global,
+    place: Place<'_>,
+    name: &[u8],
+    text: &[u8],
+) -> Result<Vec<u8>, NoMemory> {
+    if is_repeat(name) {
+        return match line_of_repeat(alloc, place.source, place.number, place.line, text)? {
+            Some(number) => {
+                let number = decimal(alloc, u64::from(number))?;
+                say(alloc, &[name, b", its line ", &number])
+            }
+            None => say(alloc, &[name]),
+        };
+    }
+    let found = match line_in_macros(alloc, place.source, Some(name), text)? {
+        Some(found) => Some(found),
+        None => line_in_macros(alloc, place.source, None, text)?,
+    };
+    match found {
+        Some(BodyLine { name, number }) => {
+            let number = decimal(alloc, u64::from(number))?;
+            say(alloc, &[b"macro ", name, b", its line ", &number])
+        }
+        None => say(alloc, &[b"macro ", name]),
+    }
+}
+
+/// Where a statement with this text doesn't stand on the place's line itself, but in an expansion that the line begins: of which macro or repeat, from
+/// which line of it, and the text. Nothing for any other.
 ///
 /// # Errors
 ///
 /// [`NoMemory`] where memory is refused.
-pub fn expansion_of(alloc: Global, line: &[u8], text: &[u8]) -> Result<Vec<u8>, NoMemory>
+pub fn expansion_of(alloc: Global, place: Place<'_>, text: &[u8]) -> Result<Vec<u8>, NoMemory>
     ensures { IfOk result (λ v. ArePrinted v.items) }
 {
-    let outer = pieces_of(alloc, line)?;
+    let outer = pieces_of(alloc, place.line)?;
     let inner = pieces_of(alloc, text)?;
-    let name = name_in(line, &outer);
-    if stands_in(line, text) || are_same(name, name_in(text, &inner)) {
+    let name = name_in(place.line, &outer);
+    if stands_in(place.line, text) || are_same(name, name_in(text, &inner)) {
         return as_printed(alloc, &[]);
     }
-    let words = say(alloc, &[b"in the expansion of ", name, b": ", text])?;
+    let origin = origin_words(alloc, place, name, text)?;
+    let words = say(alloc, &[b"in the expansion of ", &origin, b": ", text])?;
     as_printed(alloc, &words)
 }

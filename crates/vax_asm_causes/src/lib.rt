@@ -6,14 +6,18 @@
 mod cause;
 mod count;
 mod expansion;
+mod facts;
 mod form;
+mod limits;
 mod names;
 mod range;
 mod remarks;
 mod statement;
+mod templates;
 mod words;
 
 pub use cause::{Cause, Place, cause_of};
 pub use expansion::expansion_of;
+pub use facts::{Branch, Facts, NamedValue, branch_of, names_in};
 pub use names::{Spot, definition_of, first_use, is_definition};
 pub use remarks::{Remark, Tone, Wanted, remarks_of};

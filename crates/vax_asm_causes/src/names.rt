@@ -26,7 +26,7 @@ pub(crate) fn are_same(a: &[u8], b: &[u8]) -> bool {
 }
 
 /// How many bytes from the first on are blank.
-fn blanks(line: &[u8]) -> usize
+pub(crate) fn blanks(line: &[u8]) -> usize
     ensures { result ≤ length line.now }
 {
     for (i, byte) in line.iter().enumerate() {
@@ -38,7 +38,7 @@ fn blanks(line: &[u8]) -> usize
 }
 
 /// How many bytes from the first on belong to a name.
-fn name_length(line: &[u8]) -> usize
+pub(crate) fn name_length(line: &[u8]) -> usize
     ensures { result ≤ length line.now }
 {
     for (i, byte) in line.iter().enumerate() {

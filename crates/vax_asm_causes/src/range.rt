@@ -1,9 +1,11 @@
 // Numbers and distances out of range.
 
+use crate::cause::Place;
 use crate::count::instruction;
+use crate::limits::{counted_cause, prefix_cause};
 use crate::names::are_same;
-use crate::statement::{is_mark, number_of, text_of};
-use crate::words::{Found, at, cause_at, decimal};
+use crate::statement::{is_mark, is_name, number_of, text_of};
+use crate::words::{Found, at, cause_at, decimal, say};
 use std::alloc::Global;
 use vax_isa::{Letter, OperandKind};
 use vax_lex::{Piece, PieceKind};
@@ -11,23 +13,35 @@ use vax_space::NoMemory;
 
 /// A number with its sign.
 #[derive(Clone, Copy)]
-struct Signed {
-    negative: bool,
-    size: u64,
+pub(crate) struct Signed {
+    pub(crate) negative: bool,
+    pub(crate) size: u64,
 }
 
-/// The number that an operand is, behind `#` or not, if it is one and nothing else.
-fn number_in(operand: &[Piece]) -> Option<Signed> {
+/// A number of 64 bits, with its sign.
+fn as_signed(value: i64) -> Signed {
+    Signed {
+        negative: value < 0,
+        size: value.unsigned_abs(),
+    }
+}
+
+/// The number that an operand is, behind `#` or not, if it is one or a name whose value is known, and nothing else.
+pub(crate) fn number_in(place: Place<'_>, operand: &[Piece]) -> Option<Signed> {
     let (first, rest) = operand.split_first()?;
     if is_mark(*first, b'#') {
-        return number_in_rest(rest);
+        return number_in_rest(place, rest);
     }
-    number_in_rest(operand)
+    number_in_rest(place, operand)
 }
 
 /// The number that pieces are, with a sign or without.
-fn number_in_rest(pieces: &[Piece]) -> Option<Signed> {
+pub(crate) fn number_in_rest(place: Place<'_>, pieces: &[Piece]) -> Option<Signed> {
     match pieces {
+        [name] if is_name(*name) => {
+            let value = place.facts.value(text_of(place.line, *name))?;
+            Some(as_signed(value))
+        }
         [number] => Some(Signed {
             negative: false,
             size: number_of(*number)?,
@@ -42,11 +56,11 @@ fn number_in_rest(pieces: &[Piece]) -> Option<Signed> {
 
 /// What a field holds: from minus `below` on up to `above`.
 #[derive(Clone, Copy)]
-struct Field {
-    name: &'static [u8],
-    below: u64,
-    above: u64,
-    range: &'static [u8],
+pub(crate) struct Field {
+    pub(crate) name: &'static [u8],
+    pub(crate) below: u64,
+    pub(crate) above: u64,
+    pub(crate) range: &'static [u8],
 }
 
 /// The field of so many bytes.
@@ -74,7 +88,7 @@ fn field_of(width: u8) -> Option<Field> {
     }
 }
 
-fn fits(number: Signed, field: Field) -> bool {
+pub(crate) fn fits(number: Signed, field: Field) -> bool {
     if number.negative {
         number.size <= field.below
     } else {
@@ -101,7 +115,7 @@ fn sign_of(number: Signed) -> &'static [u8] {
 }
 
 /// The words on a number that doesn't fit its field.
-fn misfit_at(
+pub(crate) fn misfit_at(
     alloc: Global,
     column: u32,
     number: Signed,
@@ -126,8 +140,13 @@ fn misfit_at(
 }
 
 /// Why a number doesn't fit its field, if it is one that doesn't.
-fn misfit(alloc: Global, operand: &[Piece], width: u8) -> Result<Option<Found>, NoMemory> {
-    let Some(number) = number_in(operand) else {
+fn misfit(
+    alloc: Global,
+    place: Place<'_>,
+    operand: &[Piece],
+    width: u8,
+) -> Result<Option<Found>, NoMemory> {
+    let Some(number) = number_in(place, operand) else {
         return Ok(None);
     };
     let Some(field) = field_of(width) else {
@@ -164,36 +183,64 @@ fn zero_divisor(pieces: &[Piece]) -> Option<Piece> {
     None
 }
 
+/// How far a branch of a displacement of so many bytes reaches.
+fn reach_of(width: u8) -> Field {
+    if width == 1 {
+        Field {
+            name: b"a branch",
+            below: 128,
+            above: 127,
+            range: b"-128 to 127",
+        }
+    } else {
+        Field {
+            name: b"a branch",
+            below: 32_768,
+            above: 32_767,
+            range: b"-32768 to 32767",
+        }
+    }
+}
+
+/// Why a branch can't go so far, or, where that isn't known, how far it can go.
+fn reach_words(alloc: Global, distance: Option<Signed>, field: Field) -> Result<Vec<u8>, NoMemory> {
+    match distance {
+        Some(distance) if !fits(distance, field) => {
+            let size = decimal(alloc, distance.size)?;
+            say(
+                alloc,
+                &[
+                    b"the branch would have to reach ",
+                    sign_of(distance),
+                    &size,
+                    b" bytes from its end, and reaches ",
+                    field.range,
+                ],
+            )
+        }
+        _ => say(
+            alloc,
+            &[b"the branch reaches ", field.range, b" bytes from its end"],
+        ),
+    }
+}
+
 /// What is said of a branch's operand.
 fn reach(
     alloc: Global,
-    line: &[u8],
+    place: Place<'_>,
     operand: &[Piece],
     width: u8,
 ) -> Result<Option<Found>, NoMemory> {
     let Some(first) = operand.first() else {
         return Ok(None);
     };
-    let name = text_of(line, *first);
-    let (below, above) = if width == 1 {
-        (128, 127)
-    } else {
-        (32_768, 32_767)
-    };
-    let below = decimal(alloc, below)?;
-    let above = decimal(alloc, above)?;
+    let name = text_of(place.line, *first);
+    let words = reach_words(alloc, place.facts.reach.map(as_signed), reach_of(width))?;
     let cause = cause_at(
         alloc,
         first.start,
-        &[
-            b": `",
-            name,
-            b"` is too far, the branch reaches -",
-            &below,
-            b" to ",
-            &above,
-            b" bytes from its end",
-        ],
+        &[b": `", name, b"` is too far, ", &words],
     )?;
     Ok(Some(cause))
 }
@@ -201,23 +248,23 @@ fn reach(
 /// Why an operand of this kind is out of range, if it shows.
 fn operand_cause(
     alloc: Global,
-    line: &[u8],
+    place: Place<'_>,
     operand: &[Piece],
     kind: OperandKind,
 ) -> Result<Option<Found>, NoMemory> {
     if matches!(kind.letter, Letter::Branch) {
-        return reach(alloc, line, operand, kind.width);
+        return reach(alloc, place, operand, kind.width);
     }
     match operand.first() {
-        Some(first) if is_mark(*first, b'#') => misfit(alloc, operand, kind.width),
-        _ => Ok(None),
+        Some(first) if is_mark(*first, b'#') => misfit(alloc, place, operand, kind.width),
+        _ => prefix_cause(alloc, place, operand),
     }
 }
 
 /// Why an instruction's operands are out of range, if it shows.
 fn instruction_cause(
     alloc: Global,
-    line: &[u8],
+    place: Place<'_>,
     name: &[u8],
     operands: &[&[Piece]],
 ) -> Result<Option<Found>, NoMemory> {
@@ -225,7 +272,7 @@ fn instruction_cause(
         return Ok(None);
     };
     for (operand, kind) in operands.iter().zip(row.operands.iter()) {
-        if let Some(cause) = operand_cause(alloc, line, operand, *kind)? {
+        if let Some(cause) = operand_cause(alloc, place, operand, *kind)? {
             return Ok(Some(cause));
         }
     }
@@ -235,13 +282,13 @@ fn instruction_cause(
 /// Why a directive's items are out of range, if it shows.
 fn items_cause(
     alloc: Global,
-    line: &[u8],
+    place: Place<'_>,
     name: &[u8],
     operands: &[&[Piece]],
 ) -> Result<Option<Found>, NoMemory> {
     let width = width_of(name);
     for operand in operands {
-        if let Some(cause) = misfit(alloc, operand, width)? {
+        if let Some(cause) = misfit(alloc, place, operand, width)? {
             return Ok(Some(cause));
         }
     }
@@ -251,7 +298,7 @@ fn items_cause(
 /// Why a statement has a number or a distance out of range.
 pub(crate) fn range_cause(
     alloc: Global,
-    line: &[u8],
+    place: Place<'_>,
     operator: Piece,
     pieces: &[Piece],
     operands: &[&[Piece]],
@@ -262,11 +309,14 @@ pub(crate) fn range_cause(
     if let Some(piece) = zero_divisor(pieces) {
         return cause_at(alloc, piece.start, &[b": a division by 0"]);
     }
-    let name = text_of(line, operator);
-    if let Some(cause) = items_cause(alloc, line, name, operands)? {
+    let name = text_of(place.line, operator);
+    if let Some(cause) = items_cause(alloc, place, name, operands)? {
         return Ok(cause);
     }
-    match instruction_cause(alloc, line, name, operands)? {
+    if let Some(cause) = counted_cause(alloc, place, name, operands)? {
+        return Ok(cause);
+    }
+    match instruction_cause(alloc, place, name, operands)? {
         Some(cause) => Ok(cause),
         None => Ok(at(alloc, operator.start)),
     }

@@ -1,4 +1,7 @@
+pub mod Ascending
+pub mod Beginning
 pub mod Circling
 pub mod Going
+pub mod Ranking
 pub mod Restating
 pub mod Surveying

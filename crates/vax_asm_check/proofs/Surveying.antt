@@ -1,16 +1,20 @@
 -- A survey by single steps is one by the statements that they open.
-use Rattle.std.proofs.Common.{◌≡◌, ◌≤◌, ℕ, zero, suc, List, [], ◌++◌, length, Option, None, refl, sym, ap, ◌∙◌, append_assoc, append-nil, arith}
-use Rattle.std.specs.Prelude.{IfOk, Result, Ok, Err}
+use Rattle.std.proofs.Common.{◌≡◌, ◌≤◌, inl, inr, ℕ, zero, suc, List, [], ◌∷◌, ◌++◌, length, Option, None, refl, sym, ap, subst, ◌∙◌, append-nil, arith}
+use Rattle.std.specs.Prelude.{IfOk, Result, Ok, Err, if◌then◌else◌}
 use Rattle.vax_asm.specs.Walk.{Assembly, at, names_in, nothing}
-use Rattle.vax_asm_check.specs.Listed.{AreFirst, in_order}
+use Rattle.std.proofs.lemmas.List.Sorted.{IsPermutation-refl}
+use Rattle.vax_asm_check.specs.Listed.{AreAll, AreFirst, IsInOrder}
 use Rattle.vax_asm_check.specs.Restating.{resumed}
-use Rattle.vax_dialect.specs.declared.Dialect.TheVariants.{Vax}
 use Rattle.vax_asm_faults.specs.Refusal.{faults_in, faults_of, whole_faults}
-use Rattle.vax_asm_faults.specs.Survey.{Onward, Survey, onward, stated, survey, survey_of, with_faults}
+use Rattle.vax_asm_faults.specs.Survey.{Onward, Survey, is_ended, onward, stated, survey, survey_of, with_faults}
 use Rattle.vax_asm_second.specs.declared.types.Fault.{Fault}
+use Rattle.vax_dialect.specs.declared.Dialect.TheVariants.{Vax}
 use Rattle.vax_macro.specs.Directives.{Statement}
-use Rattle.vax_macro.specs.Expansion.{Ends, Faults, Given, Opened, Says, Stepped, Steps, behind as opens_behind, opened, step}
-use Rattle.vax_macro.specs.Rest.{Rest, started, work}
+use Rattle.std.specs.Global.{Vec}
+use Rattle.vax_macro.specs.Expanders.{FaultIs}
+use Rattle.vax_macro.specs.declared.error.FaultKind.{FaultKind}
+use Rattle.vax_macro.specs.Expansion.{Ends, Faults, Faulty, Given, Opened, Says, Stepped, Steps, behind as opens_behind, opened, step}
+use Rattle.vax_macro.specs.Rest.{Opening, Rest, started, work}
 
 by_step : (left : ℕ) (a : Assembly) (ended : Option ℕ) (p : Stepped)
     → ((rest : Rest) → survey left rest a ended ≡ resumed (opened left (names_in a.standing) rest) a ended)
@@ -46,17 +50,43 @@ if_ok (Ok x) h p = h x p
 if_ok (Err e) h p = tt
 
 -- what was found before the rest is read
-pub first_found : (source : List ℕ) (most : ℕ) (fs : List Fault) (s : Survey) → most ≤ length fs → with_faults fs s ≡ survey_of Vax source → AreFirst most fs (in_order (faults_of Vax source))
-first_found source most fs s many is = record {
-  more = s.faults ++ whole_faults (with_faults fs s);
-  joined = sym (append_assoc fs s.faults (whole_faults (with_faults fs s))) ∙ ap (λ (t : Survey). in_order (faults_in t)) is;
-  whole = λ few. absurd (omega arith);
-}
+pub first_found : (source : List ℕ) (most : ℕ) (fs : List Fault) (s : Survey) → most ≤ length fs → with_faults fs s ≡ survey_of Vax source → AreFirst most fs (faults_of Vax source)
+first_found source most fs s many is = inr (record {
+  more = s.faults;
+  joined = ap (λ (t : Survey). t.faults) is;
+  many = many;
+})
 
 -- all of them
-pub all_found : (source : List ℕ) (most : ℕ) (list : List Fault) (s : Survey) → list ≡ in_order (faults_in s) → s ≡ survey_of Vax source → AreFirst most list (in_order (faults_of Vax source))
-all_found source most list s e is = record {
-  more = [];
-  joined = append-nil list ∙ e ∙ ap (λ (t : Survey). in_order (faults_in t)) is;
-  whole = λ few. refl;
+pub all_found : (source : List ℕ) (most : ℕ) (list : List Fault) (s : Survey) → AreAll list (faults_in s) → s ≡ survey_of Vax source → AreFirst most list (faults_of Vax source)
+all_found source most list s all is = inl (subst (λ (t : Survey). AreAll list (faults_in t)) is all)
+
+-- those of the lines, and behind them those of the whole source in order
+pub ended_all : (fs found told list : List Fault) (s : Survey) → s.faults ≡ [] → whole_faults s ≡ found → IsInOrder found told → list ≡ fs ++ told → AreAll list (faults_in (with_faults fs s))
+ended_all fs found told list s none is order joined = record {
+  whole = told;
+  order = subst (λ (l : List Fault). IsInOrder l told) (sym is) order;
+  joined = joined ∙ ap (λ (l : List Fault). l ++ told) (sym (append-nil fs) ∙ ap (λ (l : List Fault). fs ++ l) (sym none));
 }
+
+none_in_order : IsInOrder [] []
+none_in_order = record { same = IsPermutation-refl []; by_line = λ i j d le less. absurd (omega arith); stable = λ f. refl }
+
+-- where the source isn't read to its end there are no others
+pub stopped_all : (fs list : List Fault) (number place : ℕ) (kind : FaultKind) (a : Assembly) (ended : Option ℕ) → list ≡ fs ++ (if is_ended ended place then [] else record { origin = at number place; kind = kind } ∷ [])
+    → AreAll list (faults_in (with_faults fs (resumed (Faulty number place kind) a ended)))
+stopped_all fs list number place kind a ended joined = record {
+  whole = [];
+  order = none_in_order;
+  joined = joined ∙ sym (append-nil (fs ++ (if is_ended ended place then [] else record { origin = at number place; kind = kind } ∷ [])));
+}
+
+stopped_on : (u : Option Opening) (read line place : ℕ) (kind : FaultKind) (o : Opened) → u ≡ None → place ≡ read → FaultIs u read line kind o → o ≡ Faulty line place kind
+stopped_on u read line place kind o none same is = subst (λ (v : Option Opening). FaultIs v read line kind o) none is ∙ ap (λ (n : ℕ). Faulty line n kind) (sym same)
+
+-- what was found, where the fault ends what was opened
+pub stopped_found : {E : Type 0} (r : Result (Vec Fault) E) (u : Option Opening) (fs : List Fault) (read line place : ℕ) (kind : FaultKind) (a : Assembly) (ended : Option ℕ) → u ≡ None → place ≡ read
+    → IfOk r (λ v. AreAll v.items (faults_in (with_faults fs (resumed (Faulty line place kind) a ended))))
+    → (o : Opened) → FaultIs u read line kind o → IfOk r (λ v. AreAll v.items (faults_in (with_faults fs (resumed o a ended))))
+stopped_found r u fs read line place kind a ended none same h o is =
+    subst (λ (p : Opened). IfOk r (λ v. AreAll v.items (faults_in (with_faults fs (resumed p a ended))))) (sym (stopped_on u read line place kind o none same is)) h

@@ -4,8 +4,11 @@
 #![tactic(auto)]
 
 mod circles;
+mod laws;
 mod left;
+mod sorting;
 mod survey;
 mod walk;
 
+pub use laws::{faults_begin_with_the_refusal, faults_of_lines_ascend};
 pub use walk::faults;

@@ -1,20 +1,21 @@
 // The faults of statements one after another.
 
-ghost use Rattle.std.specs.Prelude.{◌≡◌, ◌++◌, ◌∷◌, [], IfOk, OnOk, false, map, option_map};
+ghost use Rattle.std.specs.Prelude.{◌≡◌, ◌++◌, ◌∷◌, [], IfOk, OnOk, false, if◌then◌else◌, map, option_map};
 ghost use Rattle.std.specs.List.{cons_option};
 ghost use Rattle.vax_asm.specs.Walk.{nothing};
-ghost use Rattle.vax_asm_check.specs.Listed.{in_order};
+ghost use Rattle.vax_asm_check.specs.Listed.{AreAll};
 ghost use Rattle.vax_asm_check.specs.Restating.{resumed};
 ghost use Rattle.vax_asm_check.specs.View.{left_of, GoesOn, IsKept};
 ghost use Rattle.vax_asm_faults.specs.Refusal.{faults_in};
 ghost use Rattle.vax_asm_faults.specs.Survey.{is_ended, with_faults};
 ghost use Rattle.vax_dialect.specs.declared.Dialect.TheVariants.{Vax};
 ghost use Rattle.vax_macro.specs.Expanders.{FaultIs, read_of, unclosed_of};
-ghost use Rattle.vax_macro.specs.Expansion.{AtEnd, Opened};
+ghost use Rattle.vax_macro.specs.Expansion.{AtEnd, Faulty, Opened};
 ghost use Rattle.vax_macro.specs.View.{opening_of};
 
 use crate::circles::circle_fault;
 use crate::left::{Left, Stated, copied, restated};
+use crate::sorting::sort;
 use std::alloc::Global;
 use vax_asm::{FaultKind, Placed, place};
 use vax_asm_first::Origin;
@@ -51,6 +52,17 @@ fn add(list: &mut Vec<Fault>, fault: Option<Fault>) -> Result<(), NoMemory>
     };
     list.push(fault).map_err(|_| NoMemory)?;
     Ok(())
+}
+
+/// Adds a fault, unless its line has ended.
+fn add_unless(list: &mut Vec<Fault>, ended: Option<u32>, fault: Fault) -> Result<(), NoMemory>
+    ensures { OnOk result (list.new.items
+        ≡ list.old.items ++ (if is_ended ended fault.origin.place then [] else fault ∷ [])) }
+{
+    if is_ended(ended, fault.origin.place) {
+        return Ok(());
+    }
+    add(list, Some(fault))
 }
 
 /// Adds a statement that stands.
@@ -135,9 +147,10 @@ impl Survey {
         self.carry_out(alloc, origin, said)
     }
 
-    /// All faults, once the source is read to its end.
+    /// All faults, once the source is read to its end: those of the lines, and then those that the whole source decides, by
+    /// their lines.
     pub(crate) fn end(self, alloc: Global, begin: Option<Begin>) -> Result<Vec<Fault>, NoMemory>
-        ensures { IfOk result (λ v. v.items ≡ in_order (faults_in (with_faults self.faults.items
+        ensures { IfOk result (λ v. AreAll v.items (faults_in (with_faults self.faults.items
             (resumed (AtEnd (option_map opening_of begin)) (left_of self.left) self.ended)))) }
     {
         let Survey { left, faults, .. } = self;
@@ -146,7 +159,8 @@ impl Survey {
             assignments,
         } = left;
         let mut faults = faults;
-        let more = all_faults(alloc, standing, &assignments, begin)?;
+        let mut more = all_faults(alloc, standing, &assignments, begin)?;
+        sort(&mut more)?;
         faults.extend_from_slice(&more).map_err(|_| NoMemory)?;
         Ok(faults)
     }
@@ -161,18 +175,29 @@ impl Survey {
     ) -> Result<Vec<Fault>, NoMemory>
         ensures { (o : Opened) →
             FaultIs (unclosed_of expander.now) (read_of expander.now) line kind o →
-            IfOk result (λ v. v.items ≡ in_order (faults_in (with_faults self.faults.items
+            IfOk result (λ v. AreAll v.items (faults_in (with_faults self.faults.items
             (resumed o (left_of self.left) self.ended)))) }
     {
-        if let Some(begin) = expander.open_begin() {
-            return self.end(alloc, Some(begin));
+        match expander.open_begin() {
+            Some(begin) => self.end(alloc, Some(begin)),
+            None => self.stop_at(
+                Origin {
+                    line,
+                    place: expander.lines_read(),
+                },
+                kind,
+            ),
         }
-        let place = expander.lines_read();
-        let origin = Origin { line, place };
+    }
+
+    /// All faults, where the source ends with one here.
+    #[tactic(auto, using(crate::proofs::Surveying::stopped_all))]
+    fn stop_at(self, origin: Origin, kind: FaultKind) -> Result<Vec<Fault>, NoMemory>
+        ensures { IfOk result (λ v. AreAll v.items (faults_in (with_faults self.faults.items
+            (resumed (Faulty origin.line origin.place kind) (left_of self.left) self.ended)))) }
+    {
         let mut faults = self.faults;
-        if !is_ended(self.ended, place) {
-            add(&mut faults, Some(Fault { origin, kind }))?;
-        }
+        add_unless(&mut faults, self.ended, Fault { origin, kind })?;
         Ok(faults)
     }
 }

@@ -1,7 +1,7 @@
 // A source from its first statement to its last.
 
 ghost use Rattle.std.specs.Prelude.{IfOk};
-ghost use Rattle.vax_asm_check.specs.Listed.{AreFirst, in_order};
+ghost use Rattle.vax_asm_check.specs.Listed.{AreFirst};
 ghost use Rattle.vax_asm_faults.specs.Refusal.{faults_of};
 ghost use Rattle.vax_dialect.specs.declared.Dialect.TheVariants.{Vax};
 
@@ -13,8 +13,8 @@ use vax_asm_second::Fault;
 use vax_macro::{Expander, MacroError};
 use vax_space::NoMemory;
 
-/// The faults of a source in MACRO-32, line by line, and then those that the whole of it decides. Once so many were found
-/// the rest of it isn't read.
+/// The faults of a source in MACRO-32: those that lines have by themselves, line by line, and then those that the whole of it
+/// decides, by their lines. Once so many were found the rest of it isn't read.
 ///
 /// Behind each fault the statements before it are carried out once more. So it takes the time of an assembly for each
 /// fault, and with the square of the assignments that have no value where they stand.
@@ -23,7 +23,7 @@ use vax_space::NoMemory;
 ///
 /// [`NoMemory`] where memory is refused.
 pub fn faults(alloc: Global, source: &[u8], most: usize) -> Result<Vec<Fault>, NoMemory>
-    ensures { IfOk result (λ v. AreFirst most v.items (in_order (faults_of Vax source.now))) }
+    ensures { IfOk result (λ v. AreFirst most v.items (faults_of Vax source.now)) }
 {
     let mut expander = Expander::new(alloc, source)?;
     let mut survey = Survey::new(alloc)?;

@@ -1,3 +1,4 @@
+pub mod Beginning
 pub mod Lines
 pub mod Listing
 pub mod Saying

@@ -1,14 +1,14 @@
 -- Errors, one more at a time.
-use Rattle.std.proofs.Common.{◌≡◌, ◌<◌, ◌≤◌, ◌+◌, ℕ, suc, add-one, List, ◌∷◌, ◌++◌, length, drop, map, All, append-nil, append_assoc, sym, ap, subst, ◌∙◌, drop-cons}
+use Rattle.std.proofs.Common.{◌≡◌, ◌<◌, ◌≤◌, ◌+◌, ℕ, suc, add-one, List, ◌∷◌, ◌++◌, length, drop, take, map, All, append-nil, append_assoc, sym, ap, ◌∙◌, drop-cons}
 use Rattle.std.proofs.lemmas.List.{drop_all}
 use Rattle.std.specs.List.{flat_map}
 use Rattle.std.specs.Prelude.{OnOk, Result, Ok, Err, slice_index_or}
-use Rattle.vax_asm_check.specs.Listed.{AreFirst, in_order}
+use Rattle.vax_asm_check.specs.Listed.{AreFirst}
 use Rattle.vax_asm_errors.specs.Errors.{IsErrors, IsPlain, ending, error}
 use Rattle.vax_asm_errors.specs.declared.said.Said.{Said}
 use Rattle.vax_asm_faults.specs.Refusal.{faults_of}
-use Rattle.vax_dialect.specs.declared.Dialect.TheVariants.{Vax}
 use Rattle.vax_asm_second.specs.declared.types.Fault.{Fault}
+use Rattle.vax_dialect.specs.declared.Dialect.TheVariants.{Vax}
 
 pub error_added : {X : Type 0} (told : X → List ℕ) (faults : List X) (i : ℕ) (f : X) (before after all : List ℕ) → i < length faults → f ≡ slice_index_or faults i f → after ≡ before ++ told f
     → before ++ flat_map told (drop i faults) ≡ all → after ++ flat_map told (drop (i + 1) faults) ≡ all
@@ -22,14 +22,26 @@ error_added {X} told faults i f before after all h at more same =
 pub errors_added : {X : Type 0} (told : X → List ℕ) (faults : List X) (i : ℕ) (before all : List ℕ) → length faults ≤ i → before ++ flat_map told (drop i faults) ≡ all → before ≡ all
 errors_added {X} told faults i before all h same = sym (append-nil before) ∙ ap (λ (l : List X). before ++ flat_map told l) (sym (drop_all i faults h)) ∙ same
 
-pub all_added : {A E : Type 0} (r : Result A E) (name source : List ℕ) (faults : List Fault) (said : List Said) (count : ℕ) (before between after : List ℕ) → AreFirst 100 faults (in_order (faults_of Vax source)) → map (λ s. s.fault) said ≡ faults → All IsPlain said
-    → between ≡ before ++ flat_map (error name source) said → count ≡ length said → OnOk r (after ≡ between ++ ending name count) → OnOk r (IsErrors name source before after)
-all_added (Ok x) name source faults said count before between after first are plain b e h = record {
+pub all_added : {A E : Type 0} (r : Result A E) (name source : List ℕ) (found : List Fault) (said : List Said) (count : ℕ) (before between after : List ℕ) → AreFirst 300 found (faults_of Vax source) → map (λ s. s.fault) said ≡ take 100 found → All IsPlain said
+    → between ≡ before ++ flat_map (error name source) said → count ≡ length found → OnOk r (after ≡ between ++ ending name count) → OnOk r (IsErrors name source before after)
+all_added (Ok x) name source found said count before between after first told plain b e h = record {
+  found = found;
+  first = first;
   said = said;
-  first = subst (λ (l : List Fault). AreFirst 100 l (in_order (faults_of Vax source))) (sym are) first;
+  told = told;
   plain = plain;
   text =
-      h ∙ ap (λ (n : ℕ). between ++ ending name n) e ∙ ap (λ (l : List ℕ). l ++ ending name (length said)) b
-      ∙ append_assoc before (flat_map (error name source) said) (ending name (length said));
+      h ∙ ap (λ (n : ℕ). between ++ ending name n) e ∙ ap (λ (l : List ℕ). l ++ ending name (length found)) b
+      ∙ append_assoc before (flat_map (error name source) said) (ending name (length found));
 }
-all_added (Err x) name source faults said count before between after first are plain b e h = tt
+all_added (Err x) name source found said count before between after first told plain b e h = tt
+
+regroup_pushed : (out n a l d e : List ℕ) → out ++ n ++ a ++ l ++ d ++ e ≡ out ++ (n ++ a ++ l ++ d ++ e)
+regroup_pushed out n a l d e = simp append_assoc
+
+-- five texts, one behind the other
+pub pushed : {A E : Type 0} (r : Result A E) (out n a l d e one two three four five : List ℕ) → one ≡ out ++ n → two ≡ one ++ a → three ≡ two ++ l → four ≡ three ++ d → OnOk r (five ≡ four ++ e)
+    → OnOk r (five ≡ out ++ (n ++ a ++ l ++ d ++ e))
+pushed (Ok x) out n a l d e one two three four five p q s t u =
+    u ∙ ap (λ (x : List ℕ). x ++ e) (t ∙ ap (λ (x : List ℕ). x ++ d) (s ∙ ap (λ (x : List ℕ). x ++ l) (q ∙ ap (λ (x : List ℕ). x ++ a) p))) ∙ regroup_pushed out n a l d e
+pushed (Err x) out n a l d e one two three four five p q s t u = tt

@@ -1,10 +1,11 @@
 -- The errors of a source as text.
 use Rattle.std.specs.Prelude.{◌≡◌, All, ℕ, ◌+◌, ◌-◌, Bool, ◌==◌, ◌&&◌, ◌||◌, not, nat_le, nat_lt, if◌then◌else◌, List, [], ◌∷◌, ◌++◌, length, map, take, codes, decimal}
 use Rattle.std.specs.List.{flat_map, position_or_len}
-use Rattle.vax_asm_check.specs.Listed.{AreFirst, in_order}
+use Rattle.vax_asm_check.specs.Listed.{AreFirst}
 use Rattle.vax_asm_faults.specs.Refusal.{faults_of}
 use Rattle.vax_asm_causes.specs.Printed.{ArePrinted}
 use Rattle.vax_asm_errors.specs.declared.said.Said.{Said}
+use Rattle.vax_asm_second.specs.declared.types.Fault.{Fault}
 use Rattle.vax_dialect.specs.declared.Dialect.TheVariants.{Vax}
 use Rattle.vax_lines.specs.Lines.{Text, lines}
 use Rattle.vax_macro.specs.Fault.{code_of}
@@ -80,16 +81,25 @@ pub record IsPlain (s : Said) : Type 0 where
   pub cause : ArePrinted s.cause.items
   pub expansion : ArePrinted s.expansion.items
 
--- a hundred faults are told at most
-unfoldable pub ending : Text → ℕ → Text
-ending name count = if nat_lt count 100 then [] else name ++ codes ": error: the rest of this file isn't checked\n"
+unfoldable pub least_words : ℕ → Text
+least_words count = if nat_lt count 300 then [] else codes "at least "
 
-abbrev pub errors : (name source : Text) → List Said → Text
-errors name source said = flat_map (error name source) said ++ ending name (length said)
+-- how many more than a hundred there are
+unfoldable pub more_words : Text → ℕ → Text
+more_words name count = name ++ codes ": error: " ++ least_words count ++ decimal (count - 100) ++ codes " more in this file\n"
+
+-- A hundred faults are told at most, and then how many more there are. Of more than three hundred the rest isn't looked for.
+abbrev pub ending : Text → ℕ → Text
+ending name count = if nat_le count 100 then [] else more_words name count
+
+abbrev pub errors : (name source : Text) → List Said → (count : ℕ) → Text
+errors name source said count = flat_map (error name source) said ++ ending name count
 
 -- The errors of a source were added: those of its first hundred faults, or of all. Each has a column and words on its cause.
 pub record IsErrors (name source before after : Text) : Type 0 where
+  pub found : List Fault
+  pub first : AreFirst 300 found (faults_of Vax source)
   pub said : List Said
-  pub first : AreFirst 100 (map (λ s. s.fault) said) (in_order (faults_of Vax source))
+  pub told : map (λ s. s.fault) said ≡ take 100 found
   pub plain : All IsPlain said
-  pub text : after ≡ before ++ errors name source said
+  pub text : after ≡ before ++ errors name source said (length found)

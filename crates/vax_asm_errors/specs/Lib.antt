@@ -1,3 +1,4 @@
+pub mod Beginning
 pub mod Errors
 pub mod Sources
 pub mod Remarks

@@ -1,19 +1,23 @@
 // Errors of a source.
 
-ghost use Rattle.std.specs.Prelude.{◌≡◌, ◌++◌, ◌+◌, OnOk, decimal};
+ghost use Rattle.std.specs.Prelude.{◌≡◌, ◌≤◌, ◌++◌, ◌+◌, OnOk, decimal, take};
 ghost use Rattle.std.specs.List.{flat_map};
-ghost use Rattle.vax_asm_errors.specs.Errors.{IsErrors, ending, error, headline, mark, noted, place};
+ghost use Rattle.vax_asm_errors.specs.Errors.{IsErrors, ending, error, headline, least_words, mark, more_words, noted, place};
 
 use crate::line::{line_at, push_line, push_under};
 use crate::messages::message;
 use crate::said::{Said, said_of};
 use std::alloc::Global;
 use vax_asm_check::faults;
+use vax_asm_second::Fault;
 use vax_outside::Text;
 use vax_space::NoMemory;
 
 /// So many faults of a source are told at most.
 pub const MOST: usize = 100;
+
+/// Of a source with so many the rest isn't read.
+pub const COUNTED: usize = 300;
 
 /// A source, and the name of its file.
 #[derive(Clone, Copy)]
@@ -113,20 +117,56 @@ fn push_each(out: &mut Vec<u8>, source: Source<'_>, said: &[Said]) -> Result<(),
     Ok(())
 }
 
-/// Appends that more faults aren't looked for, where there are so many.
-#[tactic(auto, unfolding(crate::specs::Errors::ending))]
+/// Appends that there may be more, where so many were found that no more were looked for.
+#[tactic(auto, unfolding(crate::specs::Errors::least_words))]
+fn push_least(out: &mut Vec<u8>, count: usize) -> Result<(), NoMemory>
+    ensures { OnOk result (out.new.items ≡ out.old.items ++ least_words count) }
+{
+    if count < COUNTED {
+        return Ok(());
+    }
+    push(out, b"at least ")
+}
+
+/// Appends how many more faults there are than are told.
+#[tactic(auto, unfolding(crate::specs::Errors::more_words))]
+fn push_more(out: &mut Vec<u8>, name: &[u8], count: usize) -> Result<(), NoMemory>
+    requires { 100 ≤ count }
+    ensures { OnOk result (out.new.items ≡ out.old.items ++ more_words name.now count) }
+{
+    push(out, name)?;
+    push(out, b": error: ")?;
+    push_least(out, count)?;
+    push_number(out, (count - MOST) as u64)?;
+    push(out, b" more in this file\n")
+}
+
+/// Appends how many more faults there are, if there are more than are told.
 fn push_ending(out: &mut Vec<u8>, name: &[u8], count: usize) -> Result<(), NoMemory>
     ensures { OnOk result (out.new.items ≡ out.old.items ++ ending name.now count) }
 {
-    if count < MOST {
+    if count <= MOST {
         return Ok(());
     }
-    push(out, name)?;
-    push(out, b": error: the rest of this file isn't checked\n")
+    push_more(out, name, count)
 }
 
-/// Appends the errors of a source, those of its lines first and then those that the whole of it decides: each with its
-/// place, what is wrong, the line and a mark below it. Nothing where it has no fault.
+/// The first so many faults, or all.
+fn front(found: &[Fault], count: usize) -> &[Fault]
+    ensures { result.now ≡ take count found.now }
+{
+    found.split_at(count.min(found.len())).0
+}
+
+/// The faults that are told.
+fn told(found: &[Fault]) -> &[Fault]
+    ensures { result.now ≡ take 100 found.now }
+{
+    front(found, MOST)
+}
+
+/// Appends the errors of a source, those that lines have by themselves first and then those that the whole of it decides, both
+/// by their lines: each with its place, what is wrong, the line and a mark below it. Nothing where it has no fault.
 ///
 /// # Errors
 ///
@@ -135,8 +175,8 @@ pub fn push_errors(alloc: Global, out: &mut Vec<u8>, source: Source<'_>) -> Resu
     ensures { OnOk result
         (IsErrors source.entry.name.now source.entry.text.now out.old.items out.new.items) }
 {
-    let found = faults(alloc, source.text, MOST)?;
-    let said = said_of(alloc, source, &found)?;
+    let found = faults(alloc, source.text, COUNTED)?;
+    let said = said_of(alloc, source, told(&found))?;
     push_each(out, source, &said)?;
-    push_ending(out, source.name, said.len())
+    push_ending(out, source.name, found.len())
 }

@@ -6,9 +6,9 @@ ghost use Rattle.vax_asm_errors.specs.Errors.{IsPlain};
 
 use crate::errors::Source;
 use crate::line::{indent, line_at};
-use crate::walk::{Texts, texts_of};
+use crate::walk::{Seen, Statements, statements_of};
 use std::alloc::Global;
-use vax_asm_causes::{Cause, Place, cause_of, expansion_of};
+use vax_asm_causes::{Cause, Facts, Place, cause_of, expansion_of};
 use vax_asm_second::Fault;
 use vax_space::NoMemory;
 
@@ -27,12 +27,21 @@ fn as_column(column: usize) -> u32 {
     u32::try_from(column).unwrap_or(0)
 }
 
+/// Where a fault stands: the line with this text, and what is known there.
+fn place_of<'a>(source: Source<'a>, line: &'a [u8], facts: &'a Facts, fault: Fault) -> Place<'a> {
+    Place {
+        source: source.text,
+        number: fault.origin.line,
+        line,
+        facts,
+    }
+}
+
 /// A fault in an expansion, whose line has this text.
 fn said_inside(
     alloc: Global,
-    source: Source<'_>,
-    line: &[u8],
-    text: &[u8],
+    place: Place<'_>,
+    column: usize,
     expansion: Vec<u8>,
     fault: Fault,
 ) -> Result<Said, NoMemory>
@@ -40,35 +49,20 @@ fn said_inside(
     ensures fault { IfOk result (λ s. s.fault ≡ fault) }
     ensures plain { IfOk result IsPlain }
 {
-    let place = Place {
-        source: source.text,
-        number: fault.origin.line,
-        line: text,
-    };
     let Cause { words, .. } = cause_of(alloc, place, fault.kind)?;
     Ok(Said {
         fault,
-        column: as_column(indent(line)),
+        column: as_column(column),
         cause: words,
         expansion,
     })
 }
 
 /// A fault of a line.
-fn said_there(
-    alloc: Global,
-    source: Source<'_>,
-    line: &[u8],
-    fault: Fault,
-) -> Result<Said, NoMemory>
+fn said_there(alloc: Global, place: Place<'_>, fault: Fault) -> Result<Said, NoMemory>
     ensures fault { IfOk result (λ s. s.fault ≡ fault) }
     ensures plain { IfOk result IsPlain }
 {
-    let place = Place {
-        source: source.text,
-        number: fault.origin.line,
-        line,
-    };
     let Cause { column, words } = cause_of(alloc, place, fault.kind)?;
     Ok(Said {
         fault,
@@ -78,25 +72,42 @@ fn said_there(
     })
 }
 
-/// A fault as it is told.
-fn one_said(
+/// A fault of a statement that was seen.
+fn said_of_seen(
     alloc: Global,
     source: Source<'_>,
-    texts: &Texts,
+    seen: &Seen,
     fault: Fault,
 ) -> Result<Said, NoMemory>
     ensures fault { IfOk result (λ s. s.fault ≡ fault) }
     ensures plain { IfOk result IsPlain }
 {
     let line = line_at(source.text, fault.origin.line);
-    let Some(text) = texts.get(&fault.origin.place) else {
-        return said_there(alloc, source, line, fault);
-    };
-    let expansion = expansion_of(alloc, line, text)?;
+    let outer = place_of(source, line, &seen.facts, fault);
+    let expansion = expansion_of(alloc, outer, &seen.text)?;
     if expansion.is_empty() {
-        return said_there(alloc, source, line, fault);
+        return said_there(alloc, outer, fault);
     }
-    said_inside(alloc, source, line, text, expansion, fault)
+    let inner = place_of(source, &seen.text, &seen.facts, fault);
+    said_inside(alloc, inner, indent(line), expansion, fault)
+}
+
+/// A fault as it is told.
+fn one_said(
+    alloc: Global,
+    source: Source<'_>,
+    seen: &Statements,
+    fault: Fault,
+) -> Result<Said, NoMemory>
+    ensures fault { IfOk result (λ s. s.fault ≡ fault) }
+    ensures plain { IfOk result IsPlain }
+{
+    if let Some(seen) = seen.get(&fault.origin.place) {
+        return said_of_seen(alloc, source, seen, fault);
+    }
+    let facts = Facts::new(alloc);
+    let line = line_at(source.text, fault.origin.line);
+    said_there(alloc, place_of(source, line, &facts, fault), fault)
 }
 
 /// Faults as they are told.
@@ -109,10 +120,10 @@ pub(crate) fn said_of(
     ensures faults { IfOk result (λ v. map (λ s. s.fault) v.items ≡ faults.now) }
     ensures plain { IfOk result (λ v. All IsPlain v.items) }
 {
-    let texts = texts_of(alloc, source.text, faults)?;
+    let seen = statements_of(alloc, source.text, faults)?;
     let mut all = Vec::new(alloc);
     for fault in faults {
-        let one = one_said(alloc, source, &texts, *fault)?;
+        let one = one_said(alloc, source, &seen, *fault)?;
         all.push(one).map_err(|_| NoMemory)?;
     }
     Ok(all)

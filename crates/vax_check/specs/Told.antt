@@ -43,9 +43,51 @@ link_detail kind name address = if (kind == 1) || (kind == 2) then codes " " ++ 
 unfoldable pub link_text : ℕ → Text → ℕ → Text
 link_text kind name address = codes "error: link " ++ decimal kind ++ codes ": " ++ link_words kind ++ link_detail kind name address ++ codes "\n"
 
+-- the fault of a field of an executable, in words
+unfoldable pub executable_words : ℕ → Text
+executable_words kind =
+    if kind == 20 then codes "the executable isn't one of 32 bits"
+    else (if kind == 21 then codes "its numbers don't have their low bytes first"
+    else (if kind == 22 then codes "its version isn't 1"
+    else (if kind == 23 then codes "it is no executable with fixed addresses"
+    else (if kind == 24 then codes "it is for another machine than the VAX"
+    else (if kind == 25 then codes "its header hasn't 52 bytes, or a program header hasn't 32"
+    else (if kind == 26 then codes "it has no program headers, more than 64, or nothing that is loaded"
+    else (if kind == 27 then codes "the file ends inside a header or a segment's bytes"
+    else (if kind == 28 then codes "it wants an interpreter, as programs with shared libraries do"
+    else (if kind == 29 then codes "a segment has more bytes in the file than in memory"
+    else (if kind == 30 then codes "a segment's alignment is no power of two, or its address and its offset don't agree by it"
+    else (if kind == 31 then codes "a segment lies outside the part of memory in which the program begins"
+    else (if kind == 32 then codes "a segment begins on a page of the one before it, or before that"
+    else (if kind == 33 then codes "the program begins in no segment"
+    else (if kind == 34 then codes "it is for another base than the command needs"
+    else codes "the file isn't one that can be run here"))))))))))))))
+
+-- the fault of a field of an image, in words
+unfoldable pub image_words : ℕ → Text
+image_words kind =
+    if kind == 1 then codes "an image begins with `VAXI`"
+    else (if kind == 2 then codes "its version is neither 1 nor 2"
+    else (if kind == 3 then codes "it is for another base, or for none that there is"
+    else (if kind == 4 then codes "it has no areas, or more than 64 areas or texts"
+    else (if kind == 5 then codes "an area has no page, overlaps the one before it, or lies outside its part of memory"
+    else (if kind == 6 then codes "there is no such protection"
+    else (if kind == 7 then codes "it has more bytes than the area's pages hold, or a text that is empty or too long"
+    else (if kind == 8 then codes "the file ends inside the field"
+    else (if kind == 9 then codes "bytes stand behind the last area"
+    else (if kind == 10 then codes "the program begins in no area"
+    else (if kind == 11 then codes "an image or an executable can't be joined with other files"
+    else (if kind == 12 then codes "an area's text has another number than it must have, or no area uses a text"
+    else executable_words kind)))))))))))
+
+unfoldable pub image_head : ℕ → Text
+image_head kind = codes "error: image " ++ decimal kind ++ codes ": "
+
+unfoldable pub image_place : ℕ → Text
+image_place place = codes ", at its byte " ++ decimal place ++ codes "\n"
+
 unfoldable pub image_text : ℕ → ℕ → Text
-image_text place kind =
-    codes "error: image " ++ decimal kind ++ codes ": a file isn't one that can be run here, by its byte " ++ decimal place ++ codes "\n"
+image_text place kind = image_head kind ++ image_words kind ++ image_place place
 
 -- the faults of all sources, or what the linker found, or the fault of an image's or an executable's file
 abbrev pub AreErrorsOf : (names files : List Text) → Refusal → Text → Type 0

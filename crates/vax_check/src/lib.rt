@@ -3,8 +3,11 @@
 #![tactic(auto)]
 
 mod errors;
+mod image;
+mod laws;
 mod refusal;
 mod remarks;
 mod text;
 
+pub use laws::errors_begin_with_the_refusal;
 pub use text::{Files, text_of};

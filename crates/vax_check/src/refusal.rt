@@ -1,7 +1,7 @@
-// What the linker found, and the fault of an image's or an executable's file.
+// What the linker found.
 
 ghost use Rattle.std.specs.Prelude.{◌≡◌, ◌++◌, IfOk, OnOk};
-ghost use Rattle.vax_check.specs.Told.{image_text, link_detail, link_text, link_words};
+ghost use Rattle.vax_check.specs.Told.{link_detail, link_text, link_words};
 
 use std::alloc::Global;
 use vax_outside::Text;
@@ -23,13 +23,13 @@ fn link_words(kind: u8) -> &'static [u8]
 }
 
 /// Bytes of their own.
-fn copied(alloc: Global, bytes: &[u8]) -> Result<Vec<u8>, NoMemory>
+pub(crate) fn copied(alloc: Global, bytes: &[u8]) -> Result<Vec<u8>, NoMemory>
     ensures { IfOk result (λ v. v.items ≡ bytes.now) }
 {
     bytes.to_vec(alloc).map_err(|_| NoMemory)
 }
 
-fn push(out: &mut Vec<u8>, bytes: &[u8]) -> Result<(), NoMemory>
+pub(crate) fn push(out: &mut Vec<u8>, bytes: &[u8]) -> Result<(), NoMemory>
     ensures { OnOk result (out.new.items ≡ out.old.items ++ bytes.now) }
 {
     out.extend_from_slice(bytes).map_err(|_| NoMemory)
@@ -71,18 +71,4 @@ pub(crate) fn link_text(
     push_detail(&mut out, kind, name, address)?;
     push(&mut out, b"\n")?;
     Ok(out)
-}
-
-/// The error of an image's or an executable's file.
-#[tactic(auto, unfolding(crate::specs::Told::image_text))]
-pub(crate) fn image_text(alloc: Global, place: u32, kind: u8) -> Result<Vec<u8>, NoMemory>
-    ensures { IfOk result (λ v. v.items ≡ image_text place kind) }
-{
-    let mut text = Text::new();
-    text.push(b"error: image ");
-    text.push_decimal(u64::from(kind));
-    text.push(b": a file isn't one that can be run here, by its byte ");
-    text.push_decimal(u64::from(place));
-    text.push(b"\n");
-    copied(alloc, text.as_slice())
 }

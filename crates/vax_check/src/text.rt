@@ -7,7 +7,8 @@ ghost use Rattle.vax_check.specs.View.{names_of};
 ghost use Rattle.vax_program.specs.View.{refusal_seen, texts};
 
 use crate::errors::errors_of;
-use crate::refusal::{image_text, link_text};
+use crate::image::image_text;
+use crate::refusal::link_text;
 use crate::remarks::push_each;
 use std::alloc::Global;
 use vax_asm_errors::Wanted;

@@ -44,7 +44,7 @@ fn errors_have_columns_and_causes(rt: HostRuntime) -> Result<(), Fail> {
         },
         Row {
             source: " .MACRO M X\n MOVX X\n .ENDM\n  M R1\n",
-            told: "a.mar:4:3: error: 2: no instruction, directive or macro has this name, or `.` is assigned to: `MOVX`\n  M R1\n  ^\na.mar:4: in the expansion of M:  MOVX R1\n",
+            told: "a.mar:4:3: error: 2: no instruction, directive or macro has this name, or `.` is assigned to: `MOVX`\n  M R1\n  ^\na.mar:4: in the expansion of macro M, its line 1:  MOVX R1\n",
         },
     ];
     for row in rows {

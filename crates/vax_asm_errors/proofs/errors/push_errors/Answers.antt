@@ -1,7 +1,8 @@
-use Rattle.std.proofs.Common.{◌≡◌, ◌++◌, length, ap, rules, ◌∙◌}
+use Rattle.std.proofs.Common.{◌≡◌, ◌++◌, List, length, take, ap, rules, ◌∙◌}
 use Rattle.std.specs.List.{flat_map}
 use Rattle.vax_asm_errors.proofs.Listing.{all_added}
 use Rattle.vax_asm_errors.specs.Errors.{error}
+use Rattle.vax_asm_second.specs.declared.types.Fault.{Fault}
 use Rattle.vax_asm_errors.proofs.errors.push_errors.Goals as goal
 
 pub returns : goal.returns
@@ -11,7 +12,7 @@ returns c =
     let found = c.in_ok-found.found.items in
     let said = c.in_ok-said.said.items in
     let before = c.args.out.now.items in
-    let many : c.len.result ≡ length said = search rules in
-    all_added c.push_ending.result name source found said c.len.result before c.push_each.new.out.items c.push_ending.new.out.items c.in_ok-found.ensures
-    (c.in_ok-said.ensures.faults ∙ c.deref.ensures.value) c.in_ok-said.ensures.plain
+    let many : c.len.result ≡ length found = search rules in
+    let told = c.in_ok-said.ensures.faults ∙ c.told.ensures ∙ ap (λ (l : List Fault). take 100 l) c.deref.ensures.value in
+    all_added c.push_ending.result name source found said c.len.result before c.push_each.new.out.items c.push_ending.new.out.items c.in_ok-found.ensures told c.in_ok-said.ensures.plain
     (c.in_ok-push_each.ensures ∙ ap (λ l. before ++ flat_map (error name source) l) c.deref-2.ensures.value) many c.push_ending.ensures

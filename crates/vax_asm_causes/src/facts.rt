@@ -1,0 +1,154 @@
+// What the assembler knows where a fault stands.
+
+use crate::count::instruction;
+use crate::names::are_same;
+use crate::statement::{
+    Statement, is_mark, is_name, number_of, operands_of, parts_of, pieces_of, text_of,
+};
+use std::alloc::Global;
+use vax_isa::{Letter, OperandKind};
+use vax_lex::Piece;
+use vax_space::NoMemory;
+
+/// A name with its value.
+#[derive(Drop)]
+pub struct NamedValue {
+    pub name: Vec<u8>,
+    pub value: i64,
+}
+
+/// What is known of a statement: the values of names in it, and how far its branch would have to reach, counted from its end.
+#[derive(Drop)]
+pub struct Facts {
+    pub values: Vec<NamedValue>,
+    pub reach: Option<i64>,
+}
+
+impl Facts {
+    /// Nothing.
+    pub fn new(alloc: Global) -> Facts {
+        Facts {
+            values: Vec::new(alloc),
+            reach: None,
+        }
+    }
+
+    /// The value of a name.
+    pub(crate) fn value(&self, name: &[u8]) -> Option<i64> {
+        for known in self.values.as_slice() {
+            if are_same(&known.name, name) {
+                return Some(known.value);
+            }
+        }
+        None
+    }
+}
+
+/// Where a branch goes, and how many bytes it has.
+#[derive(Drop)]
+pub struct Branch {
+    pub target: Vec<u8>,
+    pub length: u32,
+}
+
+/// Whether these pieces are a register, or a place that a register points to.
+fn is_by_register(operand: &[Piece]) -> bool {
+    match operand {
+        [name] => is_name(*name),
+        [open, name, close] => is_mark(*open, b'(') && is_name(*name) && is_mark(*close, b')'),
+        [open, name, close, sign] if is_mark(*open, b'(') => {
+            is_name(*name) && is_mark(*close, b')') && is_mark(*sign, b'+')
+        }
+        [sign, open, name, close] => {
+            is_mark(*sign, b'-') && is_mark(*open, b'(') && is_name(*name) && is_mark(*close, b')')
+        }
+        _ => false,
+    }
+}
+
+/// Whether a name is that of a register.
+fn is_register(name: &[u8]) -> bool {
+    match name {
+        [b'R' | b'r', b'0'..=b'9'] | [b'R' | b'r', b'1', b'0'..=b'5'] => true,
+        _ => {
+            are_same(name, b"AP")
+                || are_same(name, b"FP")
+                || are_same(name, b"SP")
+                || are_same(name, b"PC")
+        }
+    }
+}
+
+/// How many bytes an operand has, where its text alone says so.
+fn length_of(line: &[u8], operand: &[Piece], kind: OperandKind) -> Option<u32> {
+    if let [sign, number] = operand {
+        if is_mark(*sign, b'#') {
+            let value = number_of(*number)?;
+            return Some(if value < 64 {
+                1
+            } else {
+                u32::from(kind.width) + 1
+            });
+        }
+    }
+    let all = operand.iter().all(|piece| !is_name(*piece) || is_register(text_of(line, *piece)));
+    if all && is_by_register(operand) {
+        return Some(1);
+    }
+    None
+}
+
+/// The branch that a statement's text is, if it goes to a name and its length shows.
+///
+/// # Errors
+///
+/// [`NoMemory`] where memory is refused.
+pub fn branch_of(alloc: Global, line: &[u8]) -> Result<Option<Branch>, NoMemory> {
+    let pieces = pieces_of(alloc, line)?;
+    let Statement {
+        operator,
+        operands,
+        ..
+    } = parts_of(&pieces);
+    let Some(operator) = operator else {
+        return Ok(None);
+    };
+    let Some(row) = instruction(text_of(line, operator)) else {
+        return Ok(None);
+    };
+    let operands = operands_of(alloc, operands)?;
+    let mut length: u32 = 1;
+    for (operand, kind) in operands.iter().zip(row.operands.iter()) {
+        if matches!(kind.letter, Letter::Branch) {
+            return match operand {
+                [name] if is_name(*name) => Ok(Some(Branch {
+                    target: text_of(line, *name).to_vec(alloc).map_err(|_| NoMemory)?,
+                    length: length.saturating_add(u32::from(kind.width)),
+                })),
+                _ => Ok(None),
+            };
+        }
+        let Some(more) = length_of(line, operand, *kind) else {
+            return Ok(None);
+        };
+        length = length.saturating_add(more);
+    }
+    Ok(None)
+}
+
+/// The names in a statement's text.
+///
+/// # Errors
+///
+/// [`NoMemory`] where memory is refused.
+pub fn names_in(alloc: Global, line: &[u8]) -> Result<Vec<Vec<u8>>, NoMemory> {
+    let pieces = pieces_of(alloc, line)?;
+    let mut all = Vec::new(alloc);
+    for piece in parts_of(&pieces).operands {
+        if is_name(*piece) {
+            let name = text_of(line, *piece).to_vec(alloc).map_err(|_| NoMemory)?;
+            all.push(name).map_err(|_| NoMemory)?;
+        }
+    }
+    Ok(all)
+}
