@@ -1,15 +1,7 @@
-//! Tests of the schedule, the machine, its console and its reports.
+//! Tests of the machine, and the texts of errors.
 #![tactic(auto)]
 
-#[cfg(test)]
-mod console;
 #[cfg(test)]
 mod errors;
 #[cfg(test)]
 mod machine;
-#[cfg(test)]
-mod report;
-#[cfg(test)]
-mod sched;
-#[cfg(test)]
-mod script;
