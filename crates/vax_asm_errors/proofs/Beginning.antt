@@ -42,7 +42,7 @@ ends_empty name = refl
 
 pub none_told : (name source before after : List ℕ) (m : Module) → IsErrors name source before after → assembled Vax source ≡ Ok m → after ≡ before
 none_told name source before after m e is =
-    let clean : IsFaultless source m = has_none source m is in
+    let clean : IsFaultless Vax source m = has_none Vax source m is in
     let found : e.found ≡ [] = none_found e.found (faults_of Vax source) clean.lines clean.whole e.first in
     let said : e.said ≡ [] = none_said e.said (e.told ∙ ap (λ (l : List Fault). take 100 l) found) in
     e.text ∙ ap (λ (l : List Said). before ++ errors name source l (length e.found)) said ∙ ap (λ (l : List Fault). before ++ ending name (length l)) found

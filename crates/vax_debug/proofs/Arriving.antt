@@ -17,10 +17,10 @@ use Rattle.vax_machine.specs.declared.event.Limits.{Limits}
 use Rattle.vax_machine.specs.declared.event.RunEnd.{RunEnd}
 use Rattle.vax_machine.specs.declared.event.RunEnd.TheVariants as run_end
 use Rattle.vax_console.specs.Transcript.{Session, advanced, stepped}
-use Rattle.vax_console.specs.Ends.{Advances, IsAt, IsOnTheWay, IsOutOfTurns, IsPartOf, IsWithin, Scene, session_on, writes}
+use Rattle.vax_console.specs.Ends.{Advances, IsAt, IsOnTheWay, IsOutOfTurns, IsPartOf, IsWithin, Scene, answer_of, session_on, writes}
 use Rattle.vax_console.proofs.Replying.{changes_once_then}
 use Rattle.vax_console.proofs.Requested.{same_core, same_ending}
-use Rattle.vax_console.proofs.Running.{advances_from, answer_of}
+use Rattle.vax_console.proofs.Running.{advances_from}
 use Rattle.vax_debug.specs.Sessions.{Arrives, Counts, IsHere, Origin}
 use Rattle.vax_debug.specs.declared.failure.Failure.{Failure}
 use Rattle.vax_debug.specs.declared.failure.Failure.TheVariants as failure

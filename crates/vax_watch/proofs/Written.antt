@@ -32,15 +32,18 @@ written_read areas b p first x y same w f told =
 pub written_more : (areas : List Area) (b p q : Paged) (place : Place) (first x y : Option BlockFile) → Written areas b p first x → Moved areas (record p { place = place }) q x y → Written areas b q first y
 written_more areas b p q place first x y w m f told =
     let k = w f told in
-    let n = m k.0 k.1 in
-    (n.0, n.1, record {
-      made = k.2.made ++ n.2.made;
-      is = n.2.is ∙ (ap (λ (xs : List Eviction). xs ++ n.2.made) k.2.is ∙ append_assoc b.evictions k.2.made n.2.made);
-      writes =
-          n.2.writes
-          ∙ (ap (λ (xs : List (ℕ × List ℕ)). xs ++ writes_of areas n.2.made) k.2.writes
-          ∙ (append_assoc f.writes (writes_of areas k.2.made) (writes_of areas n.2.made) ∙ ap (λ (xs : List (ℕ × List ℕ)). f.writes ++ xs) (sym (writes_more areas k.2.made n.2.made))));
-    })
+    let n = m k.0 k.1 in (
+      n.0,
+      n.1,
+      record {
+        made = k.2.made ++ n.2.made;
+        is = n.2.is ∙ (ap (λ (xs : List Eviction). xs ++ n.2.made) k.2.is ∙ append_assoc b.evictions k.2.made n.2.made);
+        writes =
+            n.2.writes
+            ∙ (ap (λ (xs : List (ℕ × List ℕ)). xs ++ writes_of areas n.2.made) k.2.writes
+            ∙ (append_assoc f.writes (writes_of areas k.2.made) (writes_of areas n.2.made) ∙ ap (λ (xs : List (ℕ × List ℕ)). f.writes ++ xs) (sym (writes_more areas k.2.made n.2.made))));
+      },
+    )
 
 -- the call that fails doesn't depend on what was sent before
 
