@@ -359,14 +359,14 @@ module _ (seen : Around) (names : Wanted) (grown : Channels) where
   answer_allowed BySteps = tt
   answer_allowed ByTurns = tt
 
-  traced_cut_allowed : (s : Traced) (status : Status) → HasFailed seen.pages → traced_run.IsUnread s status grown ⊎ traced_run.IsCut s status grown → Allowed seen names grown status
-  traced_cut_allowed s status r (inl u) = subst (Allowed seen names grown) (sym u.answer) r
-  traced_cut_allowed s status r (inr u) = subst (Allowed seen names grown) (sym u.answer) r
+  traced_cut_allowed : (file : BlockFile) (s : Traced) (status : Status) → HasFailed seen.pages → traced_run.IsUnread s file (outside_of seen) status grown ⊎ traced_run.IsCut s file (outside_of seen) status grown → Allowed seen names grown status
+  traced_cut_allowed file s status r (inl u) = subst (Allowed seen names grown) (sym u.answer) r
+  traced_cut_allowed file s status r (inr u) = subst (Allowed seen names grown) (sym u.answer) r
 
   traced_allowed : (told : Option BlockFile) (s : Traced) (status : Status) → traced_run.WentFrom told (outside_of seen) s status grown → Allowed seen names grown status
   traced_allowed None s status h = run_allowed Off status h
   traced_allowed (Some file) s status (inl w) = subst (Allowed seen names grown) (sym w.answer) (answer_allowed w.stop.why)
-  traced_allowed (Some file) s status (inr (inl w)) = traced_cut_allowed s status w.0 w.1
+  traced_allowed (Some file) s status (inr (inl w)) = traced_cut_allowed file s status w.0 w.1
   traced_allowed (Some file) s status (inr (inr w)) = subst (Allowed seen names grown) (sym w.1.answer) tt
 
   traces_allowed : (program : Loaded) (texts : Texts) (tracing : Tracing) (options : Options) (status : Status) → TracesSo (outside_of seen) program texts.input texts.schedule tracing options status grown → Allowed seen names grown status
