@@ -1,0 +1,96 @@
+//! Runs that are saved and go on. Expected values are those of the whole run, or worked by hand.
+use crate::calls::{call, call_failing, move_state};
+use std::process::Abort;
+use std::test::Fail;
+use vax_outside::Fail as Failing;
+
+/// Within the move: 512 of 1024 units are done, and 1024 bytes are to be moved from 80000600.
+const HALFWAY: &[u8] = b"ENDING TURNS\nSTEPS 0\nUNITS 512\n\
+    R0 0E000400 80000600 02000400 80000200\n\
+    R4 00000000 00000000 00000000 00000000\n\
+    R8 00000000 00000000 00000000 00000000\n\
+    R12 00000000 00000000 80102000 80000200\n\
+    PSL 081F0000\n\
+    STACKS 00000000 7FFE0800 7FFE8800 80000000 80110800\n\
+    INPUT 0\n";
+
+/// Behind the move and the HALT that it wrote.
+const MOVED: &[u8] = b"ENDING HALT\nSTEPS 2\nUNITS 0\n\
+    R0 00000000 80000A00 00000000 80000600\n\
+    R4 00000000 00000000 00000000 00000000\n\
+    R8 00000000 00000000 00000000 00000000\n\
+    R12 00000000 00000000 80102000 8000020E\n\
+    PSL 001F0004\n\
+    STACKS 00000000 7FFE0800 7FFE8800 80000000 80110800\n\
+    INPUT 0\n";
+
+#[test]
+fn goes_on_within_an_instruction(rt: HostRuntime) -> Result<(), Fail> {
+    let alloc = rt.alloc();
+    let saved = move_state(alloc)?;
+    assert!(rt; saved.code == 8 && saved.report() == HALFWAY && saved.out() == b"".as_slice());
+    assert!(rt; saved.state().len() == 1356);
+    assert!(rt; saved.state().starts_with(b"VAXS\x01\0\0\0\0\0\0\0\0\0\0\0"));
+    let resumed = call(alloc, "resume STATE", saved.state())?;
+    assert!(rt;
+        resumed.code == 0 && resumed.report() == MOVED && resumed.state() == b"".as_slice()
+    );
+    let evicted = call(
+        alloc,
+        "resume STATE --schedule EACH --frames 64",
+        saved.state(),
+    )?;
+    assert!(rt; evicted.code == 0 && evicted.report() == MOVED);
+    let nowhere = call(alloc, "resume STATE --steps 0", saved.state())?;
+    assert!(rt; nowhere.code == 0);
+    assert!(rt;
+        nowhere
+            .report()
+            .starts_with(b"ENDING STEPS\nSTEPS 0\nUNITS 512\n")
+    );
+    Ok(())
+}
+
+#[test]
+fn saves_nothing_at_an_ending(rt: HostRuntime) -> Result<(), Fail> {
+    let alloc = rt.alloc();
+    let saved = call(alloc, "save MOVE --base bare", b"")?;
+    assert!(rt; saved.code == 0 && saved.report() == MOVED && saved.state() == b"".as_slice());
+    Ok(())
+}
+
+/// Of the first 200 steps each seventh is tried.
+#[test]
+fn goes_on_behind_a_step(rt: HostRuntime) -> Result<(), Fail> {
+    let alloc = rt.alloc();
+    let whole = call(alloc, "run WORDS --input TEXT", b"")?;
+    assert!(rt; whole.code == 0 && whole.out() == b"6\n".as_slice());
+    for steps in (0..200u32).step_by(7) {
+        let line = format!(in alloc; "save WORDS --input TEXT --steps {steps}")?;
+        let saved = call(alloc, &line, b"")?;
+        assert!(rt; saved.code == 0 && saved.report().starts_with(b"ENDING STEPS\n"));
+        let resumed = call(alloc, "resume STATE", saved.state())?;
+        assert!(rt; resumed.code == 0 && resumed.report() == whole.report());
+        let mut out = saved.out().to_vec(alloc)?;
+        out.extend_from_slice(resumed.out())?;
+        assert!(rt; out.as_slice() == whole.out());
+    }
+    Ok(())
+}
+
+/// A page that is on file is read for the state, and that read fails.
+#[test]
+fn a_failed_read_cuts_the_state_short(rt: HostRuntime) -> Result<(), Fail> {
+    let alloc = rt.alloc();
+    let line = "save WIDE --base bare --frames 64 --steps 240";
+    let whole = call(alloc, line, b"")?;
+    assert!(rt; whole.code == 0 && whole.report().starts_with(b"ENDING STEPS\nSTEPS 240\n"));
+    let saved = call_failing(alloc, line, b"", Some(Failing::Read(1)))?;
+    assert!(rt; saved.code == 9);
+    assert!(rt; saved.report().starts_with(b"ENDING PAGEFAULT\nSTEPS 240\n"));
+    assert!(rt; whole.state().starts_with(saved.state()));
+    assert!(rt; saved.state().len() < whole.state().len());
+    let cut = call(alloc, "resume STATE", saved.state())?;
+    assert!(rt; cut.code == 14 && cut.report().ends_with(b" fault 8\n"));
+    Ok(())
+}

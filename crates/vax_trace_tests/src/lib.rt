@@ -1,0 +1,7 @@
+//! Tests of traced runs.
+#![tactic(auto)]
+
+#[cfg(test)]
+mod calls;
+#[cfg(test)]
+mod traced;
