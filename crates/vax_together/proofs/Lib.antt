@@ -1,2 +1,3 @@
+pub mod Sufficing
 pub mod Reporting
 pub mod Making

@@ -1,18 +1,21 @@
 -- What processes sent, and the reports behind it.
-use Rattle.std.proofs.Common.{◌≡◌, ℕ, List, Option, map, arith, refl, sym, ap, ◌∙◌, subst, inl, inr}
-use Rattle.vax_outside.proofs.Growth.{append-nothing, channels_assoc, grew_more, prefix_in}
+use Rattle.std.proofs.Common.{◌≡◌, ℕ, List, Option, length, map, arith, refl, sym, ap, ◌∙◌, subst, inl, inr}
+use Rattle.vax_outside.proofs.Growth.{append-nothing, channels_assoc, grew_more, out_first, prefix_in}
 use Rattle.vax_outside.specs.Channels.{Channels, Grew, GrewByPrefix, append, nothing, only}
 use Rattle.vax_outside.specs.Faults.{Rose, raised}
 use Rattle.vax_outside.specs.declared.faults.Failures.{Failures}
 use Rattle.vax_outside.specs.declared.traits.Chan.TheVariants as channel
+use Rattle.vax_order.specs.Orders.{IsOrder}
 use Rattle.vax_jobs.specs.Pool.{keeps_of}
-use Rattle.vax_jobs.specs.Running.{CountsEnd, IsCut, IsLost, IsWhole, System}
+use Rattle.vax_jobs.proofs.Marks.{count_is}
+use Rattle.vax_jobs.specs.Running.{CountsEnd, IsCut, IsLost, IsReady, IsWhole, System}
 use Rattle.vax_jobs.specs.Shared.{Setting, Shared, Why, bytes_sent, shared}
 use Rattle.vax_jobs.specs.declared.ends.JobsEnd.{JobsEnd}
 use Rattle.vax_jobs.specs.declared.ends.JobsEnd.TheVariants.{PageFault, WriteFault}
 use Rattle.vax_jobs_report.proofs.Reporting.{same_reports}
 use Rattle.vax_jobs_report.specs.Reports.{machine_reports, process_reports}
 use Rattle.vax_report.specs.declared.Last.TheVariants as last
+use Rattle.vax_together.proofs.Sufficing.{later}
 use Rattle.vax_together.specs.Together.{Answers, EndsBy, HasGrown, IsReported, IsUnwritten, OnlyReported}
 
 -- one behind the other, and a prefix of both
@@ -28,8 +31,8 @@ prefix_of a c x y p = record {
 }
 
 -- the run stopped by itself, and the reports were written
-pub stopped_so : (end result : JobsEnd) (why : Why) (x : Setting) (s : Shared) (y : System) (old mid new : Option Channels) (a b : Failures) → ((r : JobsEnd) → r ≡ end → IsReported x s why old new → EndsBy r x s old new) → y.pooling.processes ≡ map keeps_of y.machines → IsWhole x s why y old mid → Answers end result (machine_reports x.steps last.Turns y.machines) mid new a b → EndsBy result x s old new
-stopped_so end result why x s y old mid new a b whole is w (inl h) =
+pub stopped_so : (end result : JobsEnd) (why : Why) (failed : Type 0) (x : Setting) (s : Shared) (y : System) (old mid new : Option Channels) (a b : Failures) → ((r : JobsEnd) → r ≡ end → IsReported x s why old new → EndsBy r failed x s old new) → y.pooling.processes ≡ map keeps_of y.machines → IsWhole x s why y old mid → Answers end result (machine_reports x.steps last.Turns y.machines) mid new a b → EndsBy result failed x s old new
+stopped_so end result why failed x s y old mid new a b whole is w (inl h) =
     whole result h.answer (record {
       count = w.count;
       runs = w.runs;
@@ -38,44 +41,56 @@ stopped_so end result why x s y old mid new a b whole is w (inl h) =
           subst (λ text. Grew old new (append (only channel.Out (bytes_sent (shared x w.count s))) (only channel.Report text))) (same_reports x.steps last.Turns y (shared x w.count s).processes is w.tracks.stands)
           (grew_more old mid new (only channel.Out (bytes_sent (shared x w.count s))) (only channel.Report (machine_reports x.steps last.Turns y.machines)) w.wrote h.wrote);
     })
-stopped_so end result why x s y old mid new a b whole is w (inr h) =
-    subst (λ (r : JobsEnd). EndsBy r x s old new) (sym h.answer) (record {
+stopped_so end result why failed x s y old mid new a b whole is w (inr h) =
+    subst (λ (r : JobsEnd). EndsBy r failed x s old new) (sym h.answer) (inl (record {
       count = w.count;
+      why = why;
       runs = w.runs;
-      other = last.Turns;
+      stopped = w.stopped;
       wrote =
           subst (λ text. GrewByPrefix old new (append (only channel.Out (bytes_sent (shared x w.count s))) (only channel.Report text))) (same_reports x.steps last.Turns y (shared x w.count s).processes is w.tracks.stands)
           (both_grew old mid new (only channel.Out (bytes_sent (shared x w.count s))) (only channel.Report (machine_reports x.steps last.Turns y.machines)) w.wrote h.wrote);
-    })
+    }))
 
 -- a call of the page file failed
-pub cut_so : (result : JobsEnd) (x : Setting) (s : Shared) (y : System) (old mid new : Option Channels) (a b : Failures) → y.pooling.processes ≡ map keeps_of y.machines → IsCut x s y old mid → Answers PageFault result (machine_reports x.steps last.PageFault y.machines) mid new a b → EndsBy result x s old new
-cut_so result x s y old mid new a b is w (inl h) =
-    subst (λ (r : JobsEnd). EndsBy r x s old new) (sym h.answer) (record {
+pub cut_so : (result : JobsEnd) (failed : Type 0) (x : Setting) (s : Shared) (y : System) (old mid new : Option Channels) (a b : Failures) → failed → y.pooling.processes ≡ map keeps_of y.machines → IsCut x s y old mid → Answers PageFault result (machine_reports x.steps last.PageFault y.machines) mid new a b → EndsBy result failed x s old new
+cut_so result failed x s y old mid new a b rose is w (inl h) =
+    subst (λ (r : JobsEnd). EndsBy r failed x s old new) (sym h.answer) (record {
       count = w.count;
       runs = w.runs;
       wrote =
           subst (λ text. Grew old new (append (only channel.Out (bytes_sent (shared x w.count s))) (only channel.Report text))) (same_reports x.steps last.PageFault y (shared x w.count s).processes is w.stuck.stands)
           (grew_more old mid new (only channel.Out (bytes_sent (shared x w.count s))) (only channel.Report (machine_reports x.steps last.PageFault y.machines)) w.wrote h.wrote);
     })
-cut_so result x s y old mid new a b is w (inr h) =
-    subst (λ (r : JobsEnd). EndsBy r x s old new) (sym h.answer) (record {
-      count = w.count;
-      runs = record { going = λ i l. w.runs.going i (omega (arith, l)) };
-      other = last.PageFault;
-      wrote =
-          subst (λ text. GrewByPrefix old new (append (only channel.Out (bytes_sent (shared x w.count s))) (only channel.Report text))) (same_reports x.steps last.PageFault y (shared x w.count s).processes is w.stuck.stands)
-          (both_grew old mid new (only channel.Out (bytes_sent (shared x w.count s))) (only channel.Report (machine_reports x.steps last.PageFault y.machines)) w.wrote h.wrote);
-    })
+cut_so result failed x s y old mid new a b rose is w (inr h) =
+    subst (λ (r : JobsEnd). EndsBy r failed x s old new) (sym h.answer) (inr (
+      rose,
+      record {
+        count = w.count;
+        runs = w.runs;
+        wrote =
+            subst (λ text. GrewByPrefix old new (append (only channel.Out (bytes_sent (shared x w.count s))) (only channel.Report text))) (same_reports x.steps last.PageFault y (shared x w.count s).processes is w.stuck.stands)
+            (both_grew old mid new (only channel.Out (bytes_sent (shared x w.count s))) (only channel.Report (machine_reports x.steps last.PageFault y.machines)) w.wrote h.wrote);
+      },
+    ))
 
 -- a write failed in the run
-pub lost_so : (x : Setting) (s : Shared) (old new : Option Channels) → IsLost x s old new → IsUnwritten x s old new
-lost_so x s old new w = record {
-  count = w.count;
-  runs = w.runs;
-  other = last.Turns;
-  wrote = prefix_of old new (only channel.Out (bytes_sent (shared x w.count s))) (only channel.Report (process_reports x.steps last.Turns (shared x w.count s).processes)) w.wrote;
-}
+pub lost_so : (x : Setting) (s : Shared) (old new : Option Channels) → IsOrder (length s.processes) x.order → IsLost x s old new → IsUnwritten x s old new
+lost_so x s old new order w =
+    let l = later x.turns x s w.count order w.runs (omega arith) in
+    record {
+      count = l.count;
+      why = l.why;
+      runs = l.runs;
+      stopped = l.stopped;
+      wrote =
+          prefix_of old new (only channel.Out (bytes_sent (shared x l.count s))) (only channel.Report (process_reports x.steps last.Turns (shared x l.count s).processes))
+          (subst (λ bytes. GrewByPrefix old new (only channel.Out bytes)) (sym l.grows) (out_first old new (bytes_sent (shared x w.count s)) l.more w.wrote));
+    }
+
+-- an order of the machines is one of the processes
+pub order_same : (x : Setting) (y : System) (s : Shared) → y.pooling.processes ≡ map keeps_of y.machines → IsReady x y s → IsOrder (length y.machines) x.order → IsOrder (length s.processes) x.order
+order_same x y s is ready order = subst (λ (n : ℕ). IsOrder n x.order) (count_is y s.processes is ready.tracks.stands) order
 
 -- whatever was sent
 

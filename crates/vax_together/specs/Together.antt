@@ -45,22 +45,30 @@ pub record IsBroken (x : Setting) (s : Shared) (old new : Option Channels) : Typ
   pub runs : Runs x s (suc count)
   pub wrote : Grew old new (output_of x.steps last.PageFault (shared x count s))
 
--- a write failed: a prefix of what they send in so many turns, and of their reports, was written
+-- a write failed: a prefix was written of what is written where the turns stop by themselves
 pub record IsUnwritten (x : Setting) (s : Shared) (old new : Option Channels) : Type 0 where
   pub count : ℕ
+  pub why : Why
   pub runs : Runs x s count
-  pub other : Last
-  pub wrote : GrewByPrefix old new (output_of x.steps other (shared x count s))
+  pub stopped : stops x (shared x count s) ≡ Some why
+  pub wrote : GrewByPrefix old new (output_of x.steps last.Turns (shared x count s))
 
-abbrev pub EndsBy : JobsEnd → Setting → Shared → Option Channels → Option Channels → Type 0
-EndsBy Done x s old new = IsReported x s AllDone old new
-EndsBy Turns x s old new = IsReported x s ByTurns old new
-EndsBy PageFault x s old new = IsBroken x s old new
-EndsBy WriteFault x s old new = IsUnwritten x s old new
+-- or of what is written where a call of the page file failed in the turn behind so many
+pub record IsBrokenUnwritten (x : Setting) (s : Shared) (old new : Option Channels) : Type 0 where
+  pub count : ℕ
+  pub runs : Runs x s (suc count)
+  pub wrote : GrewByPrefix old new (output_of x.steps last.PageFault (shared x count s))
+
+-- the second argument says that a call of the page file failed
+abbrev pub EndsBy : JobsEnd → Type 0 → Setting → Shared → Option Channels → Option Channels → Type 0
+EndsBy Done failed x s old new = IsReported x s AllDone old new
+EndsBy Turns failed x s old new = IsReported x s ByTurns old new
+EndsBy PageFault failed x s old new = IsBroken x s old new
+EndsBy WriteFault failed x s old new = IsUnwritten x s old new ⊎ (failed × IsBrokenUnwritten x s old new)
 
 -- from wherever turns begin
-abbrev pub ReportsTo : JobsEnd → Setting → System → Option Channels → Option Channels → Type 0
-ReportsTo result x before old new = (s : Shared) → IsReady x before s → EndsBy result x s old new
+abbrev pub ReportsTo : JobsEnd → Type 0 → Setting → System → Option Channels → Option Channels → Type 0
+ReportsTo result failed x before old new = (s : Shared) → IsReady x before s → EndsBy result failed x s old new
 
 -- bytes and reports were written, whatever they are
 pub record HasGrown (old new : Option Channels) : Type 0 where

@@ -1,5 +1,6 @@
 //! Runs processes and reports on them.
 ghost use Rattle.std.specs.Prelude.{◌≡◌, length};
+ghost use Rattle.vax_outside.specs.Faults.{Rose};
 ghost use Rattle.vax_order.specs.Orders.{IsOrder};
 ghost use Rattle.vax_jobs.specs.Beginning.{machines, pooling};
 ghost use Rattle.vax_jobs.specs.Running.{CountsEnd, setting_of, system_of};
@@ -34,7 +35,8 @@ pub fn run_and_report<F: PageFile, K: Sink>(
     sink: &mut K,
 ) -> JobsEnd
     requires { IsOrder (length (machines jobs)) order.now }
-    ensures reports { ReportsTo result (setting_of order.now steps turns (pooling jobs))
+    ensures reports { ReportsTo result (Rose (F.faults file.old) (F.faults file.new))
+        (setting_of order.now steps turns (pooling jobs))
         (system_of (pooling jobs) (machines jobs) (F.contents file.old))
         (K.contents sink.old) (K.contents sink.new) }
     ensures only { OnlyReported result (K.contents sink.old) (K.contents sink.new) }
