@@ -151,7 +151,7 @@ pub fn read_parts(
 ) -> Result<Parts, ProgramError>
     requires some { 1 ≤ length files.now }
     requires few { length files.now ≤ 8 }
-    requires numbers { first ≤ 1 }
+    requires numbers { first + length files.now ≤ 255 }
     ensures parts { Answers parts_seen result (parts_of base first (texts files.now)) }
     ensures sound { IfOk result IsSound }
     ensures base { IfOk result (λ p. base_of p ≡ base) }
