@@ -1,5 +1,6 @@
 pub mod CheckLaws
 pub mod SourceLaws
+pub mod TogetherLaws
 pub mod VectorLaws
 pub mod TopLaws
 pub mod TracingLaws

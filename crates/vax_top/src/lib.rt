@@ -8,6 +8,7 @@ mod laws;
 mod programs;
 mod saving;
 mod sources;
+mod together;
 mod top;
 mod tracing;
 mod vectors;
