@@ -38,6 +38,7 @@ given items =
     + present (value key.Base items) + present (value key.Format items) + present (value key.Script items) + present (value key.Seed items)
     + present (value key.Size items) + present (value key.Strict items) + present (value key.Break items) + present (value key.Watch items)
     + present (value key.Text items) + present (value key.Opcode items) + present (value key.Count items) + present (value key.Absent items) + present (value key.Mode items)
+    + present (value key.Order items) + present (value key.Pool items)
 
 -- an option that wasn't there
 one_more : (k : Key) (word : Text) (items : List Item) → is_none (value k items) ≡ true → given (setting k word ∷ items) ≡ given items + 1
@@ -62,6 +63,8 @@ one_more key.Opcode word items e = omega (arith, present-some word, present-none
 one_more key.Count word items e = omega (arith, present-some word, present-none (value key.Count items) e)
 one_more key.Absent word items e = omega (arith, present-some word, present-none (value key.Absent items) e)
 one_more key.Mode word items e = omega (arith, present-some word, present-none (value key.Mode items) e)
+one_more key.Order word items e = omega (arith, present-some word, present-none (value key.Order items) e)
+one_more key.Pool word items e = omega (arith, present-some word, present-none (value key.Pool items) e)
 
 few_given : (items : List Item) → given items ≤ 24
 few_given items =
@@ -88,6 +91,8 @@ few_given items =
       present-one (value key.Count items),
       present-one (value key.Absent items),
       present-one (value key.Mode items),
+      present-one (value key.Order items),
+      present-one (value key.Pool items),
     )
 
 both : (a b : Bool) → (a && b) ≡ true → (a ≡ true) × (b ≡ true)
@@ -112,6 +117,7 @@ few_names verb.Console count e = grind (arith, nat_tests)
 few_names verb.Trace count e = grind (arith, nat_tests)
 few_names verb.Save count e = grind (arith, nat_tests)
 few_names verb.Resume count e = grind (arith, nat_tests)
+few_names verb.Jobs count e = grind (arith, nat_tests)
 few_names verb.Work count e = grind (arith, nat_tests)
 few_names verb.Vectors count e = grind (arith, nat_tests)
 

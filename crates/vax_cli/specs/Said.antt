@@ -1,14 +1,16 @@
 -- Words and commands, without where they lie in memory.
-use Rattle.std.specs.Prelude.{◌≤◌, ◌^◌, All, List, length, map, string_bytes}
+use Rattle.std.specs.Prelude.{ℕ, ◌≤◌, ◌*◌, ◌^◌, All, List, length, map, string_bytes}
 use Rattle.std.specs.Option.{option_copied}
 use Rattle.std.specs.Global.{Global}
 use Rattle.std.specs.declared.string.String.{String}
 use Rattle.std.specs.Borrow.{Bor}
 use Rattle.vax_cli.specs.Words as words
-use Rattle.vax_cli.specs.Words.{Text, Said, bare, run, build, list, listing, check, console, trace, save, resume, work, vectors, about}
+use Rattle.vax_cli.specs.Words.{Text, Said, bare, run, build, list, listing, check, console, trace, save, resume, jobs, work, vectors, about}
 use Rattle.vax_cli.specs.Items as plain
 use Rattle.vax_cli.specs.declared.command.DumpItem.{DumpItem}
 use Rattle.vax_cli.specs.Tracing as tracing_words
+use Rattle.vax_cli.specs.Jobs as jobs_words
+use Rattle.vax_cli.specs.declared.jobs.JobsOptions.{JobsOptions}
 use Rattle.vax_cli.specs.declared.command.Options.{Options}
 use Rattle.vax_cli.specs.declared.command.Tracing.{Tracing}
 use Rattle.vax_cli.specs.declared.command.Command.{Command}
@@ -51,6 +53,9 @@ options o = record {
 abbrev pub tracing : Tracing → tracing_words.Tracing
 tracing t = record { breaks = t.breaks.items; watches = t.watches.items; texts = t.texts }
 
+abbrev pub jobs_options : JobsOptions → jobs_words.JobsOptions
+jobs_options o = record { order = option_copied o.order; pool = o.pool; steps = o.steps; turns = o.turns; input = option_copied o.input }
+
 abbrev pub said : Command → Said
 said (command.Bare files o) = bare (names_of files.items) (options o)
 said (command.Run files o) = run (names_of files.items) (options o)
@@ -62,6 +67,7 @@ said (command.Console files base script o) = console (names_of files.items) base
 said (command.Trace files base t o) = trace (names_of files.items) base (tracing t) (options o)
 said (command.Save files base o) = save (names_of files.items) base (options o)
 said (command.Resume name o) = resume name.now (options o)
+said (command.Jobs files o) = jobs (names_of files.items) (jobs_options o)
 said (command.Work seed size o) = work seed size (options o)
 said (command.Vectors request) = vectors request
 said command.About = about
@@ -90,6 +96,13 @@ pub record AreFiles (files : List Text) : Type 0 where
   pub some : 1 ≤ length files
   pub few : length files ≤ 8
 
+-- how many pages of so many programs may be resident, and their limits, are within their bounds
+pub record AreShared (count : ℕ) (o : jobs_words.JobsOptions) : Type 0 where
+  pub least : 64 * count ≤ o.pool
+  pub most : o.pool ≤ 32768
+  pub steps : o.steps ≤ 10 ^ 15
+  pub turns : o.turns ≤ 10 ^ 15
+
 abbrev pub IsWithin : Said → Type 0
 IsWithin (bare files o) = AreFiles files × AreWithin o
 IsWithin (run files o) = AreFiles files × AreWithin o
@@ -101,6 +114,7 @@ IsWithin (console files linked script o) = AreFiles files × AreWithin o
 IsWithin (trace files linked t o) = AreFiles files × IsTracing t × AreWithin o
 IsWithin (save files linked o) = AreFiles files × AreWithin o
 IsWithin (resume name o) = AreWithin o
+IsWithin (jobs files o) = AreFiles files × AreShared (length files) o
 IsWithin (work seed size o) = (1 ≤ size) × (size ≤ 5000) × AreWithin o
 IsWithin (vectors request) = Unit {0}
 IsWithin about = Unit {0}

@@ -11,7 +11,7 @@ Text = List ℕ
 
 -- the commands
 abbrev pub verbs : List Verb
-verbs = verb.Bare ∷ verb.Run ∷ verb.Build ∷ verb.List ∷ verb.Listing ∷ verb.Check ∷ verb.Console ∷ verb.Trace ∷ verb.Save ∷ verb.Resume ∷ verb.Work ∷ verb.Vectors ∷ []
+verbs = verb.Bare ∷ verb.Run ∷ verb.Build ∷ verb.List ∷ verb.Listing ∷ verb.Check ∷ verb.Console ∷ verb.Trace ∷ verb.Save ∷ verb.Resume ∷ verb.Jobs ∷ verb.Work ∷ verb.Vectors ∷ []
 
 abbrev pub verb_name : Verb → Text
 verb_name verb.Bare = codes "bare"
@@ -24,6 +24,7 @@ verb_name verb.Console = codes "console"
 verb_name verb.Trace = codes "trace"
 verb_name verb.Save = codes "save"
 verb_name verb.Resume = codes "resume"
+verb_name verb.Jobs = codes "jobs"
 verb_name verb.Work = codes "work"
 verb_name verb.Vectors = codes "vectors"
 
@@ -50,6 +51,8 @@ key_name key.Opcode = codes "--opcode"
 key_name key.Count = codes "--count"
 key_name key.Absent = codes "--absent"
 key_name key.Mode = codes "--mode"
+key_name key.Order = codes "--order"
+key_name key.Pool = codes "--pool"
 
 -- the options that a command takes
 abbrev pub keys_of : Verb → List Key
@@ -63,6 +66,7 @@ keys_of verb.Console = key.Script ∷ key.Base ∷ key.Input ∷ key.System ∷ 
 keys_of verb.Trace = key.Base ∷ key.Input ∷ key.System ∷ key.Schedule ∷ key.Frames ∷ key.Steps ∷ key.Turns ∷ key.Dump ∷ key.Break ∷ key.Watch ∷ key.Text ∷ []
 keys_of verb.Save = key.Base ∷ key.Input ∷ key.System ∷ key.Schedule ∷ key.Frames ∷ key.Steps ∷ key.Turns ∷ []
 keys_of verb.Resume = key.Schedule ∷ key.Frames ∷ key.Steps ∷ key.Turns ∷ key.Dump ∷ []
+keys_of verb.Jobs = key.Order ∷ key.Pool ∷ key.Steps ∷ key.Turns ∷ key.Input ∷ []
 keys_of verb.Work = key.Seed ∷ key.Size ∷ key.Schedule ∷ key.Frames ∷ key.Steps ∷ key.Turns ∷ key.Dump ∷ key.Record ∷ key.Strict ∷ []
 keys_of verb.Vectors = key.Opcode ∷ key.Count ∷ key.Seed ∷ key.Absent ∷ key.Mode ∷ []
 
@@ -104,6 +108,8 @@ place key.Opcode = 17
 place key.Count = 18
 place key.Absent = 19
 place key.Mode = 20
+place key.Order = 21
+place key.Pool = 22
 
 abbrev pub is_same : Key → Key → Bool
 is_same a b = place a == place b

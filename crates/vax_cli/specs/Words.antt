@@ -3,6 +3,7 @@ use Rattle.std.specs.Prelude.{ℕ, Bool, true, false, not, ◌||◌, ◌&&◌, L
 use Rattle.std.specs.Option.{option_map, option_and_then}
 use Rattle.std.specs.Str.{bytes_eq}
 use Rattle.vax_cli.specs.Table.{Text as Word, keys_of, takes_files, verb_of}
+use Rattle.vax_cli.specs.Jobs.{JobsOptions, pool_of}
 use Rattle.vax_cli.specs.Items.{Item, are_distinct, items_from, names, value}
 use Rattle.vax_cli.specs.Tracing.{Tracing, breaks_of}
 use Rattle.vax_cli.specs.Values.{base_of, dumps_of, format_of, frames_of, seed_of, size_of, steps_of, strictness, switch_of, turns_of}
@@ -46,6 +47,7 @@ pub data Said : Type 0 where
   trace : List Text → Base → Tracing → Options → Said
   save : List Text → Base → Options → Said
   resume : Text → Options → Said
+  jobs : List Text → JobsOptions → Said
   work : ℕ → ℕ → Options → Said
   vectors : VectorRequest → Said
   about : Said
@@ -121,6 +123,13 @@ abbrev pub resume_of : List Text → Option Options → Option Said
 resume_of (name ∷ []) options = option_map (λ o. resume name o) options
 resume_of files options = None
 
+abbrev pub jobs_of : List Item → Option Said
+jobs_of items =
+    option_and_then (λ pool.
+    option_and_then (λ steps.
+    option_map (λ turns. jobs (names items) (record { order = value key.Order items; pool = pool; steps = steps; turns = turns; input = value key.Input items }))
+    (turns_of (value key.Turns items))) (steps_of (value key.Steps items))) (pool_of (length (names items)) (value key.Pool items))
+
 abbrev pub work_of : List Item → Option Said
 work_of items =
     option_and_then (λ seed.
@@ -145,6 +154,7 @@ said_of verb.Console items = console_of items
 said_of verb.Trace items = trace_of items
 said_of verb.Save items = save_of items
 said_of verb.Resume items = resume_of (names items) (options_of Halt items)
+said_of verb.Jobs items = jobs_of items
 said_of verb.Work items = work_of items
 said_of verb.Vectors items = vectors_of items
 

@@ -100,6 +100,15 @@ fn summary_of<'a>(verb: Verb) -> Summary<'a> {
                 Saved states: docs/MACHINE.md\n\
                 Reports, exit statuses and kinds of faults: docs/MESSAGES.md",
         },
+        Verb::Jobs => Summary {
+            name: "vax jobs",
+            about: "Run several programs in user mode together and report the registers of each on standard error",
+            example: "Example: two programs that take turns, with at most 128 resident pages together\n  \
+                vax jobs ONE.MAR TWO.MAR --pool 128\n\n\
+                Sources: docs/ASSEMBLER.md\n\
+                Orders: docs/MACHINE.md\n\
+                Reports, exit statuses and kinds of faults: docs/MESSAGES.md",
+        },
         Verb::Work => Summary {
             name: "vax work",
             about: "Make a program from a number, run it, and report the registers on standard error",
@@ -202,6 +211,14 @@ fn value_and_help<'a>(key: Key) -> (&'a str, &'a str) {
             "MODE",
             "The access mode: kernel, executive, supervisor or user; kernel where it isn't given",
         ),
+        Key::Order => (
+            "FILE",
+            "Which program makes how many attempts, line by line; one each in turn where it isn't given",
+        ),
+        Key::Pool => (
+            "N",
+            "So many pages of all programs may be resident, 64 for each to 32768; 1024 where it isn't given",
+        ),
     }
 }
 
@@ -230,6 +247,7 @@ fn files_help<'a>(verb: Verb) -> &'a str {
     match verb {
         Verb::Listing => "1 to 8 sources, which are linked in this order",
         Verb::Resume => "The file of a saved state",
+        Verb::Jobs => "1 to 8 programs, each a source or an image",
         _ => "1 to 8 sources, which are linked in this order, or one image",
     }
 }

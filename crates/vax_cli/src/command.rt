@@ -1,4 +1,5 @@
 //! What the words ask for.
+use crate::jobs::JobsOptions;
 use crate::vectors::VectorRequest;
 use arrayvec::ArrayVec;
 
@@ -73,6 +74,11 @@ pub enum Command<'a> {
         /// The file of the saved state.
         name: &'a str,
         options: Options<'a>,
+    },
+    /// `jobs FILE..`: run several programs in user mode, which take turns.
+    Jobs {
+        files: Names<'a>,
+        options: JobsOptions<'a>,
     },
     /// `work`: run a workload that is made from a number.
     Work {

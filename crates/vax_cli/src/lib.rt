@@ -8,6 +8,7 @@
 mod clap_words;
 mod command;
 mod items;
+mod jobs;
 mod number;
 mod plain;
 mod read;
@@ -18,5 +19,6 @@ mod vectors;
 pub use command::{
     Base, Breaks, Command, DumpItem, Dumps, Format, Names, Options, Strictness, Tracing,
 };
+pub use jobs::JobsOptions;
 pub use read::{WordsError, about, command_of};
 pub use vectors::{Opcodes, VectorRequest};

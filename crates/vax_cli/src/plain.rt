@@ -7,9 +7,11 @@ ghost use Rattle.vax_cli.specs.Words.{asks_about, asks_help, behind, build_of, c
 ghost use Rattle.vax_cli.specs.declared.command.Command.TheVariants.{About};
 ghost use Rattle.vax_cli.specs.declared.command.Strictness.TheVariants.{Halt};
 ghost use Rattle.vax_cli.specs.Said.{AreFiles, AreWithin, IsWithin, items_of, names_of, options, said, texts};
+ghost use Rattle.vax_cli.specs.Words.{jobs_of};
 
 use crate::command::{Base, Command, Names, Options, Strictness, Tracing};
 use crate::items::{Item, Items, are_distinct, names_in, read_items, value_in};
+use crate::jobs::{JobsOptions, pool_of};
 use crate::table::{Key, Verb, verb_of};
 use crate::values::{
     base_of, breaks_of, dumps_of, format_of, frames_of, seed_of, size_of, steps_of, strictness,
@@ -173,6 +175,27 @@ fn resume_of<'a>(files: &[&'a str], items: &[Item<'a>]) -> Option<Command<'a>>
     }
 }
 
+fn jobs_of<'a>(files: Names<'a>, items: &[Item<'a>]) -> Option<Command<'a>>
+    requires files { names_of files.items ≡ names (items_of items.now) }
+    requires are { AreFiles (names_of files.items) }
+    ensures said { option_map said result ≡ jobs_of (items_of items.now) }
+    ensures within { IfSome result (λ c. IsWithin (said c)) }
+{
+    let pool = pool_of(files.len(), value_in(Key::Pool, items))?;
+    let steps = steps_of(value_in(Key::Steps, items))?;
+    let turns = turns_of(value_in(Key::Turns, items))?;
+    Some(Command::Jobs {
+        files,
+        options: JobsOptions {
+            order: value_in(Key::Order, items),
+            pool,
+            steps,
+            turns,
+            input: value_in(Key::Input, items),
+        },
+    })
+}
+
 fn work_of<'a>(items: &[Item<'a>]) -> Option<Command<'a>>
     ensures said { option_map said result ≡ work_of (items_of items.now) }
     ensures within { IfSome result (λ c. IsWithin (said c)) }
@@ -231,6 +254,7 @@ fn said_of<'a>(verb: Verb, files: Names<'a>, items: &[Item<'a>]) -> Option<Comma
         Verb::Trace => trace_of(files, items),
         Verb::Save => save_of(files, items),
         Verb::Resume => resume_of(files.as_slice(), items),
+        Verb::Jobs => jobs_of(files, items),
         Verb::Work => work_of(items),
         Verb::Vectors => vectors_of(items),
     }

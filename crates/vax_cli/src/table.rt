@@ -15,6 +15,7 @@ pub(crate) enum Verb {
     Trace,
     Save,
     Resume,
+    Jobs,
     Work,
     Vectors,
 }
@@ -43,10 +44,12 @@ pub(crate) enum Key {
     Count,
     Absent,
     Mode,
+    Order,
+    Pool,
 }
 
 /// The commands.
-pub(crate) const VERBS: [Verb; 12] = [
+pub(crate) const VERBS: [Verb; 13] = [
     Verb::Bare,
     Verb::Run,
     Verb::Build,
@@ -57,6 +60,7 @@ pub(crate) const VERBS: [Verb; 12] = [
     Verb::Trace,
     Verb::Save,
     Verb::Resume,
+    Verb::Jobs,
     Verb::Work,
     Verb::Vectors,
 ];
@@ -77,6 +81,7 @@ impl Verb {
             Verb::Trace => "trace",
             Verb::Save => "save",
             Verb::Resume => "resume",
+            Verb::Jobs => "jobs",
             Verb::Work => "work",
             Verb::Vectors => "vectors",
         }
@@ -150,6 +155,7 @@ impl Verb {
                 Key::Turns,
                 Key::Dump,
             ],
+            Verb::Jobs => &[Key::Order, Key::Pool, Key::Steps, Key::Turns, Key::Input],
             Verb::Work => &[
                 Key::Seed,
                 Key::Size,
@@ -180,7 +186,8 @@ impl Verb {
             | Verb::Check
             | Verb::Console
             | Verb::Trace
-            | Verb::Save => 1 <= count && count <= 8,
+            | Verb::Save
+            | Verb::Jobs => 1 <= count && count <= 8,
         }
     }
 }
@@ -212,6 +219,8 @@ impl Key {
             Key::Count => "--count",
             Key::Absent => "--absent",
             Key::Mode => "--mode",
+            Key::Order => "--order",
+            Key::Pool => "--pool",
         }
     }
 

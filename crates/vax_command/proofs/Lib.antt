@@ -8,3 +8,4 @@ pub mod OnwardLaws
 pub mod OnwardTurns
 pub mod ResumeLaws
 pub mod SaveLaws
+pub mod JobsLaws

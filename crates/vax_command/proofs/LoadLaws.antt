@@ -14,7 +14,7 @@ use Rattle.vax_outside.specs.declared.faults.Failures.{Failures}
 use Rattle.vax_cli.specs.Words.{Options, Text}
 use Rattle.vax_command.specs.Reading.{EndsBy, HasTexts, Reads, ReadEndsFrom, Texts, behind, file_limit, first_of, given, joined_reads, of_options, option_of, read_files}
 use Rattle.vax_command.specs.declared.status.Status.{Status}
-use Rattle.vax_command.specs.declared.status.Status.TheVariants.{Done, Usage, Missing, Large, Refused, Link, Schedule, Image, Turns, PageFault, ReadFault, WriteFault, NoMemory, Saved, NotHalted, Unsuccessful, Unfinished, Told}
+use Rattle.vax_command.specs.declared.status.Status.TheVariants.{Done, Usage, Missing, Large, Refused, Link, Schedule, Image, Turns, PageFault, ReadFault, WriteFault, NoMemory, Saved, Order, NotHalted, Unsuccessful, Unfinished, Told}
 
 -- what reading some names gives, and then others
 abbrev joined : Result (List Text) (Text × FilesFault) → Result (List Text) (Text × FilesFault) → Result (List Text) (Text × FilesFault)
@@ -70,6 +70,7 @@ ends_more rose later P Q ReadFault up f e = up e
 ends_more rose later P Q WriteFault up f e = e
 ends_more rose later P Q NoMemory up f e = e
 ends_more rose later P Q (Saved place kind) up f e = e
+ends_more rose later P Q (Order line kind) up f e = e
 ends_more rose later P Q (Told which) up f e = e
 ends_more rose later P Q NotHalted up f e = e
 ends_more rose later P Q Unsuccessful up f e = e
@@ -94,19 +95,19 @@ err_has (Err x) e P is p = rw is p
 
 -- the file of an option among those of several
 
-option_of-given : (name file : Option Text) (rest : List Text) → is_some file ≡ is_some name → option_of name (given file ++ rest) ≡ file
+pub option_of-given : (name file : Option Text) (rest : List Text) → is_some file ≡ is_some name → option_of name (given file ++ rest) ≡ file
 option_of-given None None rest e = refl
 option_of-given (Some n) (Some f) rest e = refl
 option_of-given None (Some f) rest e = absurd (cc e)
 option_of-given (Some n) None rest e = absurd (cc e)
 
-first_of-given : (name file : Option Text) (rest : List Text) → is_some file ≡ is_some name → first_of name (given file ++ rest) ≡ unwrap_or file []
+pub first_of-given : (name file : Option Text) (rest : List Text) → is_some file ≡ is_some name → first_of name (given file ++ rest) ≡ unwrap_or file []
 first_of-given None None rest e = refl
 first_of-given (Some n) (Some f) rest e = refl
 first_of-given None (Some f) rest e = absurd (cc e)
 first_of-given (Some n) None rest e = absurd (cc e)
 
-behind-given : (name file : Option Text) (rest : List Text) → is_some file ≡ is_some name → behind name (given file ++ rest) ≡ rest
+pub behind-given : (name file : Option Text) (rest : List Text) → is_some file ≡ is_some name → behind name (given file ++ rest) ≡ rest
 behind-given None None rest e = refl
 behind-given (Some n) (Some f) rest e = refl
 behind-given None (Some f) rest e = absurd (cc e)
@@ -134,7 +135,7 @@ has_given c o name system input schedule script s i k t reads = record {
       ) refl;
 }
 
-drop-seam : (xs ys : List Text) → drop (length xs) (xs ++ ys) ≡ ys
+pub drop-seam : (xs ys : List Text) → drop (length xs) (xs ++ ys) ≡ ys
 drop-seam [] ys = refl
 drop-seam (x ∷ xs) ys = drop-seam xs ys
 

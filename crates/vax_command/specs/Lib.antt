@@ -20,3 +20,5 @@ pub mod Course
 pub mod Onward
 pub mod Resuming
 pub mod Saving
+pub mod Jobs
+pub mod JobsView

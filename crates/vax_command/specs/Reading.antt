@@ -6,7 +6,7 @@ use Rattle.vax_outside.specs.declared.traits.FilesFault.TheVariants as faults
 use Rattle.vax_cli.specs.Words.{Options, Text}
 use Rattle.vax_command.specs.Around.{Change, HasFailed}
 use Rattle.vax_command.specs.declared.status.Status.{Status}
-use Rattle.vax_command.specs.declared.status.Status.TheVariants.{Done, Usage, Missing, Large, Refused, Link, Schedule, Image, Turns, PageFault, ReadFault, WriteFault, NoMemory, Saved, NotHalted, Unsuccessful, Unfinished, Told}
+use Rattle.vax_command.specs.declared.status.Status.TheVariants.{Done, Usage, Missing, Large, Refused, Link, Schedule, Image, Turns, PageFault, ReadFault, WriteFault, NoMemory, Saved, Order, NotHalted, Unsuccessful, Unfinished, Told}
 
 -- the most bytes of a file
 abbrev pub file_limit : ℕ
@@ -51,6 +51,7 @@ EndsBy rose fails ReadFault = rose
 EndsBy rose fails WriteFault = ⊥
 EndsBy rose fails NoMemory = ⊤
 EndsBy rose fails (Saved place kind) = ⊥
+EndsBy rose fails (Order line kind) = ⊥
 EndsBy rose fails (Told which) = ⊥
 EndsBy rose fails NotHalted = ⊥
 EndsBy rose fails Unsuccessful = ⊥

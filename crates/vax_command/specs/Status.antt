@@ -5,7 +5,7 @@ use Rattle.vax_outside.specs.Channels.{Channels, nothing, only}
 use Rattle.vax_outside.specs.declared.traits.Chan.TheVariants.{Report}
 use Rattle.vax_command.specs.declared.status.Part.TheVariants as part
 use Rattle.vax_command.specs.declared.status.Status.{Status}
-use Rattle.vax_command.specs.declared.status.Status.TheVariants.{Done, Usage, Missing, Large, Refused, Link, Schedule, Image, Turns, PageFault, ReadFault, WriteFault, NoMemory, Saved, NotHalted, Unsuccessful, Unfinished, Told}
+use Rattle.vax_command.specs.declared.status.Status.TheVariants.{Done, Usage, Missing, Large, Refused, Link, Schedule, Image, Turns, PageFault, ReadFault, WriteFault, NoMemory, Saved, Order, NotHalted, Unsuccessful, Unfinished, Told}
 
 -- the exit status of the process
 abbrev pub code : Status → ℕ
@@ -22,6 +22,7 @@ code PageFault = 9
 code ReadFault = 10
 code WriteFault = 11
 code NoMemory = 12
+code (Order line kind) = 13
 code (Saved place kind) = 14
 code (Told part.Source) = 4
 code (Told part.Link) = 5
@@ -41,6 +42,10 @@ source_fault file line kind = codes "vax: source " ++ decimal file ++ codes " li
 -- the place of a fault in a schedule
 unfoldable pub schedule_fault : ℕ → ℕ → List ℕ
 schedule_fault line kind = codes "vax: schedule line " ++ decimal line ++ codes " fault " ++ decimal kind ++ codes "\n"
+
+-- the place of a fault in an order
+unfoldable pub order_fault : ℕ → ℕ → List ℕ
+order_fault line kind = codes "vax: order line " ++ decimal line ++ codes " fault " ++ decimal kind ++ codes "\n"
 
 -- kinds of what the linker finds that have a name
 abbrev pub is_named : ℕ → Bool
@@ -78,6 +83,7 @@ refusal ReadFault = Some (codes "vax: read\n")
 refusal WriteFault = None
 refusal NoMemory = Some (codes "vax: memory\n")
 refusal (Saved place kind) = Some (saved_fault place kind)
+refusal (Order line kind) = Some (order_fault line kind)
 refusal (Told which) = None
 refusal NotHalted = None
 refusal Unsuccessful = None

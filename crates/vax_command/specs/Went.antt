@@ -26,7 +26,7 @@ use Rattle.vax_command.specs.Around.{HasFailed, Outside}
 use Rattle.vax_command.specs.Pages.{HasRun, RunsOrLoses}
 use Rattle.vax_command.specs.Setup.{Setup, after_turns, before_turns, run_of}
 use Rattle.vax_command.specs.declared.status.Status.{Status}
-use Rattle.vax_command.specs.declared.status.Status.TheVariants.{Done, Usage, Missing, Large, Refused, Link, Schedule, Image, Turns, PageFault, ReadFault, WriteFault, NoMemory, Saved, NotHalted, Unsuccessful, Unfinished, Told}
+use Rattle.vax_command.specs.declared.status.Status.TheVariants.{Done, Usage, Missing, Large, Refused, Link, Schedule, Image, Turns, PageFault, ReadFault, WriteFault, NoMemory, Saved, Order, NotHalted, Unsuccessful, Unfinished, Told}
 
 abbrev pub limits_of : Options → Limits
 limits_of options = record { steps = options.steps; turns = options.turns; listed = options.recorded }
@@ -124,6 +124,7 @@ IsRunAnswer strict failed ReadFault = ⊥
 IsRunAnswer strict failed WriteFault = ⊥
 IsRunAnswer strict failed NoMemory = ⊥
 IsRunAnswer strict failed (Saved place kind) = ⊥
+IsRunAnswer strict failed (Order line kind) = ⊥
 IsRunAnswer strict failed (Told which) = ⊥
 IsRunAnswer strict failed NotHalted = strict ≡ Off → ⊥
 IsRunAnswer strict failed Unsuccessful = strict ≡ Success

@@ -4,6 +4,7 @@
 
 mod answer;
 mod dump;
+mod jobs;
 mod load;
 mod name;
 mod programs;
@@ -15,6 +16,7 @@ mod session;
 mod status;
 mod trace;
 
+pub use jobs::{JobsGiven, Together, load_jobs, run_jobs};
 pub use load::{Given, load_files, load_options, load_run};
 pub use name::Name;
 pub use programs::Programs;

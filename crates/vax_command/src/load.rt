@@ -125,7 +125,7 @@ fn load_option<S: Files>(
 }
 
 /// Reads the files of two options.
-fn load_both<S: Files>(
+pub(crate) fn load_both<S: Files>(
     alloc: Global,
     first: Option<&str>,
     second: Option<&str>,
@@ -148,7 +148,7 @@ fn load_both<S: Files>(
 }
 
 /// The bytes of a file, none where it isn't given.
-fn or_empty(alloc: Global, file: Option<Vec<u8>>) -> Vec<u8>
+pub(crate) fn or_empty(alloc: Global, file: Option<Vec<u8>>) -> Vec<u8>
     requires bound { IfSome file (λ v. length v.items ≤ file_limit) }
     ensures bytes { result.items ≡ unwrap_or (bytes_of file) [] }
     ensures bound { length result.items ≤ file_limit }

@@ -2,7 +2,7 @@
 ghost use Rattle.std.specs.Prelude.{◌≡◌, OnErr, OnOk, true, false, is_err};
 ghost use Rattle.vax_outside.specs.Channels.{Grew, GrewByPrefix, only};
 ghost use Rattle.vax_outside.specs.Faults.{CountsFailure};
-ghost use Rattle.vax_command.specs.Status.{image_fault, is_named, link_fault, named, refusal_growth, saved_fault, schedule_fault, source_fault};
+ghost use Rattle.vax_command.specs.Status.{image_fault, is_named, link_fault, named, order_fault, refusal_growth, saved_fault, schedule_fault, source_fault};
 ghost use Rattle.vax_command.specs.Around.{change};
 ghost use Rattle.vax_command.specs.Ends.{Ends};
 
@@ -55,6 +55,24 @@ fn put_schedule_fault<K: Sink>(line: u32, kind: u8, sink: &mut K) -> Result<(), 
 {
     let mut text = Text::new();
     text.push(b"vax: schedule line ");
+    text.push_decimal(line as u64);
+    text.push(b" fault ");
+    text.push_decimal(kind as u64);
+    text.push(b"\n");
+    put_all(sink, Chan::Report, text.as_slice())
+}
+
+/// Writes the place of a fault in an order.
+#[tactic(auto, unfolding(crate::specs::Status::order_fault))]
+fn put_order_fault<K: Sink>(line: u32, kind: u8, sink: &mut K) -> Result<(), Failed>
+    ensures ok { OnOk result (Grew (K.contents sink.old) (K.contents sink.new)
+        (only Chan.Report (order_fault line kind))) }
+    ensures prefix { OnErr result (GrewByPrefix (K.contents sink.old) (K.contents sink.new)
+        (only Chan.Report (order_fault line kind))) }
+    ensures counts { CountsFailure (is_err result) (K.faults sink.old) (K.faults sink.new) }
+{
+    let mut text = Text::new();
+    text.push(b"vax: order line ");
     text.push_decimal(line as u64);
     text.push(b" fault ");
     text.push_decimal(kind as u64);
@@ -166,6 +184,7 @@ fn put_refusal<K: Sink>(status: &Status, sink: &mut K) -> Result<(), Failed>
         Status::Refused { file, line, kind } => put_source_fault(*file, *line, *kind, sink),
         Status::Link { kind, name, place } => put_link_fault(*kind, name.as_slice(), *place, sink),
         Status::Schedule { line, kind } => put_schedule_fault(*line, *kind, sink),
+        Status::Order { line, kind } => put_order_fault(*line, *kind, sink),
         Status::Image { place, kind } => put_image_fault(*place, *kind, sink),
         Status::Saved { place, kind } => put_saved_fault(*place, *kind, sink),
         Status::ReadFault => put_all(sink, Chan::Report, b"vax: read\n"),

@@ -46,6 +46,8 @@ pub enum Status {
     NoMemory,
     /// The first fault of a saved state's file: the offset of its field, and its kind.
     Saved { place: u32, kind: u8 },
+    /// The first fault of the order in which several programs go.
+    Order { line: u32, kind: u8 },
     /// What keeps a program from being built was told on Out.
     Told(Part),
     /// The run came to its end or its limit of steps otherwise than by HALT, and `--strict on` asks for that.
@@ -77,6 +79,7 @@ impl Status {
             Status::ReadFault => 10,
             Status::WriteFault => 11,
             Status::NoMemory => 12,
+            Status::Order { .. } => 13,
             Status::Saved { .. } => 14,
             Status::Told(Part::Source) => 4,
             Status::Told(Part::Link) => 5,

@@ -4,4 +4,6 @@
 #[cfg(test)]
 mod orders;
 #[cfg(test)]
+mod processes;
+#[cfg(test)]
 mod windows;

@@ -4,3 +4,4 @@ pub mod TogetherLaws
 pub mod VectorLaws
 pub mod TopLaws
 pub mod TracingLaws
+pub mod JobsLaws

@@ -12,7 +12,7 @@ use Rattle.vax_asm_listing.specs.Listed as listed
 use Rattle.vax_flat.specs.Parts.{machine_at}
 use Rattle.vax_machine.specs.Paged.{Why, ByEnding, BySteps, ByTurns}
 use Rattle.vax_program.specs.Program.{Refusal, Source, Link as FromLinker, InImage}
-use Rattle.vax_cli.specs.Words.{Text, Options, Said, bare, run, build, list, listing, check, console, trace, save, resume, work, vectors, about, command_of}
+use Rattle.vax_cli.specs.Words.{Text, Options, Said, bare, run, build, list, listing, check, console, trace, save, resume, jobs, work, vectors, about, command_of}
 use Rattle.vax_cli.specs.declared.command.Base as words_base
 use Rattle.vax_cli.specs.declared.command.Format.{Format}
 use Rattle.vax_cli.specs.declared.command.Strictness.{Strictness}
@@ -31,7 +31,7 @@ use Rattle.vax_command.specs.Saving.{HasSavedRun, IsSaving, SaveWentFrom, SavesS
 use Rattle.vax_command.specs.Wanting.{HasSaved, ReadsWanted, Wanted, WantedEnds, plain}
 use Rattle.vax_command.specs.Status.{refusal, refusal_growth}
 use Rattle.vax_top.specs.Resumed.{ResumeDoes}
-use Rattle.vax_top.specs.Top.{Carries, Comes, CommandComes, Does, ImageDoes, IsAbout, IsFile, IsListing, IsSourceListing, IsRunOf, IsSessionOf, IsWriting, IsSavedOf, RanOf, RunDoes, SaveDoes, SessionDoes, TraceDoes, base_for, reads, reads_of, run_of, saved_of, session_of, session_programs, wanted_of}
+use Rattle.vax_top.specs.Top.{Carries, Comes, CommandComes, Does, ImageDoes, IsAbout, IsFile, IsListing, IsSourceListing, IsRunOf, IsSessionOf, IsWriting, IsSavedOf, RanOf, RunDoes, SaveDoes, SessionDoes, TogetherDo, TraceDoes, base_for, reads, reads_of, run_of, saved_of, session_of, session_programs, wanted_of}
 use Rattle.vax_top.specs.Vectors.{VectorsDo}
 use Rattle.vax_top.proofs.VectorLaws.{vectors_kept}
 use Rattle.vax_cli.specs.declared.vectors.VectorRequest.{VectorRequest}
@@ -41,7 +41,11 @@ use Rattle.vax_command.specs.Tracing as traced_run
 use Rattle.vax_cli.specs.Tracing.{Tracing}
 use Rattle.vax_command.specs.Went.{IsCut, IsRunAnswer, IsUnread, WentFrom}
 use Rattle.vax_command.specs.declared.status.Status.{Status}
-use Rattle.vax_command.specs.declared.status.Status.TheVariants.{Done, Usage, Missing, Large, Refused, Link, Schedule, Image as BadImage, Turns, PageFault, ReadFault, WriteFault, NoMemory, Saved, NotHalted, Unsuccessful, Unfinished, Told}
+use Rattle.vax_command.specs.declared.status.Status.TheVariants.{Done, Usage, Missing, Large, Refused, Link, Schedule, Image as BadImage, Turns, PageFault, ReadFault, WriteFault, NoMemory, Saved, Order, NotHalted, Unsuccessful, Unfinished, Told}
+use Rattle.vax_cli.specs.Jobs.{JobsOptions}
+use Rattle.vax_command.specs.Jobs.{IsJobsAnswer, JobsRunSo, JobsSetup, JobsTexts, JobsWent, Users, jobs_texts_of, order_text}
+use Rattle.vax_top.specs.Together.{together_loaded}
+use Rattle.vax_command.proofs.JobsLaws.{jobs_answers}
 use Rattle.vax_command.proofs.LoadLaws.{reads_none}
 use Rattle.vax_command.proofs.RunLaws.{answers}
 use Rattle.vax_word.specs.declared.Core.{Core}
@@ -257,6 +261,7 @@ Allowed seen names grown PageFault = HasFailed seen.pages
 Allowed seen names grown ReadFault = HasFailed seen.files × (grown ≡ refusal_growth ReadFault)
 Allowed seen names grown WriteFault = ⊥
 Allowed seen names grown NoMemory = grown ≡ refusal_growth NoMemory
+Allowed seen names grown (Order line kind) = grown ≡ refusal_growth (Order line kind)
 Allowed seen names grown (Saved place kind) = grown ≡ refusal_growth (Saved place kind)
 Allowed seen names grown (Told which) = Unit {0}
 Allowed seen names grown NotHalted = Unit {0}
@@ -279,6 +284,7 @@ module _ (seen : Around) (names : Wanted) (grown : Channels) where
   read_allowed WriteFault e g = absurd e
   read_allowed NoMemory e g = g
   read_allowed (Saved place kind) e g = absurd e
+  read_allowed (Order line kind) e g = absurd e
   read_allowed (Told which) e g = absurd e
   read_allowed NotHalted e g = absurd e
   read_allowed Unsuccessful e g = absurd e
@@ -311,6 +317,7 @@ module _ (seen : Around) (names : Wanted) (grown : Channels) where
   run_allowed strict WriteFault h = absurd h
   run_allowed strict NoMemory h = absurd h
   run_allowed strict (Saved place kind) h = absurd h
+  run_allowed strict (Order line kind) h = absurd h
   run_allowed strict (Told which) h = absurd h
   run_allowed strict NotHalted h = tt
   run_allowed strict Unsuccessful h = tt
@@ -409,6 +416,40 @@ module _ (seen : Around) (names : Wanted) (grown : Channels) where
   resume_allowed [] options status d = absurd d
   resume_allowed (bytes ∷ files) options status d = resumes_allowed bytes _ options status d
 
+  jobs_answer_allowed : (status : Status) → IsJobsAnswer (HasFailed seen.pages) status → Allowed seen names grown status
+  jobs_answer_allowed Done h = tt
+  jobs_answer_allowed Usage h = absurd h
+  jobs_answer_allowed (Missing name) h = absurd h
+  jobs_answer_allowed (Large name) h = absurd h
+  jobs_answer_allowed (Refused file line kind) h = absurd h
+  jobs_answer_allowed (Link kind name place) h = absurd h
+  jobs_answer_allowed (Schedule line kind) h = absurd h
+  jobs_answer_allowed (BadImage place kind) h = absurd h
+  jobs_answer_allowed Turns h = tt
+  jobs_answer_allowed PageFault h = h
+  jobs_answer_allowed ReadFault h = absurd h
+  jobs_answer_allowed WriteFault h = absurd h
+  jobs_answer_allowed NoMemory h = absurd h
+  jobs_answer_allowed (Saved place kind) h = absurd h
+  jobs_answer_allowed (Order line kind) h = absurd h
+  jobs_answer_allowed (Told which) h = absurd h
+  jobs_answer_allowed NotHalted h = absurd h
+  jobs_answer_allowed Unsuccessful h = absurd h
+  jobs_answer_allowed Unfinished h = absurd h
+
+  jobs_went_allowed : (told : Option BlockFile) (setup : JobsSetup) (status : Status) → JobsWent told (outside_of seen) setup status grown → Allowed seen names grown status
+  jobs_went_allowed None setup status h = jobs_answer_allowed status h.0
+  jobs_went_allowed (Some file) setup status (inl s) = subst (Allowed seen names grown) (sym s.answer) (jobs_answer_allowed _ (jobs_answers (HasFailed seen.pages) s.why))
+  jobs_went_allowed (Some file) setup status (inr (r, c)) = subst (Allowed seen names grown) (sym c.answer) r
+
+  jobs_so_allowed : (programs : Users) (input order : Text) (options : JobsOptions) (status : Status) → JobsRunSo (outside_of seen) programs input order options status grown → Allowed seen names grown status
+  jobs_so_allowed programs input order options status (inl m) = let h : grown ≡ refusal_growth (Order m.line m.kind) = m.wrote ∙ ap refusal_growth m.answer in subst (Allowed seen names grown) (sym m.answer) h
+  jobs_so_allowed programs input order options status (inr r) = jobs_went_allowed seen.pages.before.told _ status r.went
+
+  jobs_allowed : (loaded : Result Users Refusal) (texts : JobsTexts) (options : JobsOptions) (status : Status) → TogetherDo (outside_of seen) loaded texts options status grown → Allowed seen names grown status
+  jobs_allowed loaded texts options status (inl r) = refused_allowed loaded status r.refused r.wrote
+  jobs_allowed loaded texts options status (inr d) = jobs_so_allowed d.0 texts.input (order_text (length texts.programs) texts.order) options status d.2
+
   image_allowed : (built : Result Image Refusal) (Writes : Image → Text → Type 0) (status : Status) → ImageDoes seen.pages built Writes status grown → Allowed seen names grown status
   image_allowed built Writes status (inl r) = refused_allowed built status r.refused r.wrote
   image_allowed built Writes status (inr b) = subst (Allowed seen names grown) (sym b.0.answer) tt
@@ -433,6 +474,8 @@ module _ (seen : Around) (grown : Channels) where
   carried_allowed (save names linked options) files status d =
       let texts = texts_of (length names) options None files in save_allowed seen (wanted_of (save names linked options)) grown (session_programs linked texts) texts options status d
   carried_allowed (resume name options) files status d = resume_allowed seen (wanted_of (resume name options)) grown files options status d
+  carried_allowed (jobs names options) files status d =
+      let texts = jobs_texts_of (length names) options files in jobs_allowed seen (wanted_of (jobs names options)) grown (together_loaded texts.programs) texts options status d
   carried_allowed (vectors request) files status d = vectors_allowed seen (plain []) grown request status d
   carried_allowed about files status d = subst (Allowed seen (plain []) grown) (sym d.1) tt
 
@@ -488,6 +531,7 @@ module _ (seen : Around) (grown : Channels) where
   lines names WriteFault h = tt
   lines names NoMemory h = h
   lines names (Saved place kind) h = h
+  lines names (Order line kind) h = h
   lines names (Told which) h = tt
   lines names NotHalted h = tt
   lines names Unsuccessful h = tt

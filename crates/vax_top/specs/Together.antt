@@ -5,6 +5,7 @@ use Rattle.vax_image.specs.declared.Base.TheVariants as base
 use Rattle.vax_image.specs.declared.Image.{Image}
 use Rattle.vax_program.specs.Program.{Parts, Refusal, parts_of, linked_of}
 use Rattle.vax_cli.specs.Words.{Text}
+use Rattle.vax_command.specs.Jobs.{Users}
 use Rattle.vax_top.specs.Loaded.{and_then}
 
 -- what the first of several comes to, and then those behind it
@@ -22,11 +23,6 @@ all_parts file (text ∷ texts) = and_rest (parts_of base.User file (text ∷ []
 abbrev pub all_linked : List Parts → Result (List Image) Refusal
 all_linked [] = Ok []
 all_linked (parts ∷ others) = and_rest (linked_of parts) (all_linked others)
-
--- the programs in user mode, and the system under which each runs
-pub record Users : Type 0 where
-  pub system : Image
-  pub users : List Image
 
 abbrev pub linked_under : List Parts → Parts → Result Users Refusal
 linked_under users below =

@@ -4,7 +4,7 @@ use Rattle.std.specs.Option.{option_map_or}
 use Rattle.vax_outside.specs.Channels.{Channels, only}
 use Rattle.vax_outside.specs.Blocks.{BlockFile}
 use Rattle.vax_outside.specs.declared.traits.Chan.TheVariants as channel
-use Rattle.vax_cli.specs.Words.{Text, Options, Said, bare, run, build, list, listing as source_listing, check, console, trace, save, resume, work, vectors, about, command_of}
+use Rattle.vax_cli.specs.Words.{Text, Options, Said, bare, run, build, list, listing as source_listing, check, console, trace, save, resume, jobs, work, vectors, about, command_of}
 use Rattle.vax_cli.specs.Tracing.{Tracing}
 use Rattle.vax_cli.specs.declared.command.Base as words_base
 use Rattle.vax_cli.specs.declared.command.Base.TheVariants as words_bases
@@ -30,6 +30,9 @@ use Rattle.vax_command.specs.Running.{LacksMemory, RunsSo}
 use Rattle.vax_command.specs.Saving.{SavesSo}
 use Rattle.vax_command.specs.Wanting.{ReadsWanted, Wanted, WantedEnds, plain}
 use Rattle.vax_top.specs.Resumed.{ResumeDoes}
+use Rattle.vax_cli.specs.Jobs.{JobsOptions}
+use Rattle.vax_command.specs.Jobs.{JobsRunSo, JobsTexts, Users, jobs_files, jobs_texts_of, order_text}
+use Rattle.vax_top.specs.Together.{together_loaded}
 use Rattle.vax_command.specs.Holding.{HeldSo}
 use Rattle.vax_command.specs.Tracing.{TracesSo}
 use Rattle.vax_command.specs.Status.{refusal_growth}
@@ -48,6 +51,7 @@ reads_of (console names linked script options) = names ++ of_options options (So
 reads_of (trace names linked tracing options) = names ++ of_options options None
 reads_of (save names linked options) = names ++ of_options options None
 reads_of (resume name options) = of_options options None
+reads_of (jobs names options) = names ++ jobs_files options
 reads_of (work seed size options) = of_options options None
 reads_of (vectors request) = []
 reads_of about = []
@@ -94,6 +98,17 @@ abbrev pub SaveDoes : Outside → Result Loaded Refusal → Texts → Options �
 SaveDoes outside loaded texts options status grown =
     IsTurnedAway outside.pages loaded status grown
     ⊎ ((program : Loaded) × (loaded ≡ Ok program) × SavesSo outside program texts.input texts.schedule options status grown)
+
+-- several programs: any others are run together in their order, unless this has a fault
+abbrev pub TogetherDo : Outside → Result Users Refusal → JobsTexts → JobsOptions → Status → Channels → Type 0
+TogetherDo outside loaded texts options status grown =
+    IsTurnedAway outside.pages loaded status grown
+    ⊎ ((programs : Users) × (loaded ≡ Ok programs)
+    × JobsRunSo outside programs texts.input (order_text (length texts.programs) texts.order) options status grown)
+
+-- their texts come to these programs, and they ran so
+abbrev pub jobs_of : Outside → JobsTexts → JobsOptions → Status → Channels → Type 0
+jobs_of outside texts options status grown = TogetherDo outside (together_loaded texts.programs) texts options status grown
 
 -- the bytes of an image in a version of the format
 abbrev pub IsFile : Format → Image → Text → Type 0
@@ -212,6 +227,7 @@ Does outside (vectors request) files status grown = VectorsDo outside.pages requ
 Does outside (save names linked options) files status grown =
     let texts = texts_of (length names) options None files in SaveDoes outside (session_programs linked texts) texts options status grown
 Does outside (resume name options) files status grown = ResumeDoes outside files options status grown
+Does outside (jobs names options) files status grown = jobs_of outside (jobs_texts_of (length names) options files) options status grown
 Does outside about files status grown =
     (text : Text) × (status ≡ Done) × (grown ≡ only channel.Out text) × outside.pages.same
 

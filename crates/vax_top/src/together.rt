@@ -4,24 +4,19 @@ ghost use Rattle.std.specs.List.{All};
 ghost use Rattle.vax_image.specs.declared.Base.TheVariants as base;
 ghost use Rattle.vax_program.specs.Program.{linked_of, parts_of};
 ghost use Rattle.vax_program.specs.View.{IsSound, base_of, parts_seen};
+ghost use Rattle.vax_together.specs.Starting.{IsUser};
+ghost use Rattle.vax_command.specs.JobsView.{AreTogether, together_seen};
 ghost use Rattle.vax_command.specs.ReadingView.{texts as texts_seen};
 ghost use Rattle.vax_top.specs.LoadedView.{Loads};
 ghost use Rattle.vax_top.specs.Together.{all_linked, all_parts, linked_under, together_loaded};
-ghost use Rattle.vax_top.specs.TogetherView.{AreTogether, IsForUser, IsUser, together_seen};
+ghost use Rattle.vax_top.specs.TogetherView.{IsForUser};
 
 use crate::programs::{answer_to, system_files};
 use std::alloc::Global;
 use std::collections::VecDeque;
-use vax_command::Status;
+use vax_command::{Status, Together};
 use vax_image::{Base, Image};
 use vax_program::{Parts, link_parts, read_parts};
-
-/// Programs in user mode, and the system under which each of them runs.
-#[derive(Drop)]
-pub(crate) struct Together {
-    pub(crate) system: Image,
-    pub(crate) users: Vec<Image>,
-}
 
 /// The parts of one program, whose file has this number.
 fn read_one(alloc: Global, file: u8, text: &[Vec<u8>]) -> Result<Parts, Status>

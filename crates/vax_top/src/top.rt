@@ -15,6 +15,7 @@ ghost use Rattle.vax_top.specs.Top.{Carries, Comes, IsAbout, reads};
 use crate::checking::check;
 use crate::commands::{build, list, list_sources, run_bare, run_user, run_work, show};
 use crate::console::run_console;
+use crate::jobs::run_together;
 use crate::saving::{run_resume, run_save};
 use crate::tracing::run_trace;
 use crate::vectors::write_vectors;
@@ -119,6 +120,10 @@ fn carry_out<S: Files, K: Sink, F: PageFile>(
         Command::Resume { name, options } => {
             run_resume(alloc, name, &options, files, sink, pages)
         }
+        Command::Jobs {
+            files: names,
+            options,
+        } => run_together(alloc, names.as_slice(), &options, files, sink, pages),
     }
 }
 

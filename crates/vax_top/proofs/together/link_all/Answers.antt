@@ -7,7 +7,8 @@ use Rattle.vax_program.specs.Program.{linked_of}
 use Rattle.vax_program.specs.View.{parts_seen}
 use Rattle.vax_program.specs.declared.types.Parts.{Parts}
 use Rattle.vax_top.specs.Together.{all_linked}
-use Rattle.vax_top.specs.TogetherView.{IsForUser, IsUser}
+use Rattle.vax_together.specs.Starting.{IsUser}
+use Rattle.vax_top.specs.TogetherView.{IsForUser}
 use Rattle.vax_top.proofs.TogetherLaws.{ahead, ahead_nil, err_loads, one_more, one_refused}
 use Rattle.vax_top.proofs.together.link_all.Goals as goal
 

@@ -2,7 +2,8 @@ use Rattle.std.proofs.Common.{◌≡◌, ◌+◌, length, map}
 use Rattle.std.specs.List.{All}
 use Rattle.vax_program.specs.View.{parts_seen}
 use Rattle.vax_top.specs.Together.{all_linked}
-use Rattle.vax_top.specs.TogetherView.{IsForUser, IsUser}
+use Rattle.vax_together.specs.Starting.{IsUser}
+use Rattle.vax_top.specs.TogetherView.{IsForUser}
 use Rattle.vax_top.proofs.TogetherLaws.{ahead}
 use Rattle.vax_top.proofs.together.link_all.Given as goal
 

@@ -1,7 +1,9 @@
-use Rattle.std.proofs.Common.{ap, refl, subst, sym, ◌∙◌}
+use Rattle.std.proofs.Common.{◌≡◌, ℕ, ap, length, refl, subst, sym, ◌∙◌}
+use Rattle.std.proofs.lemmas.List.{length-map}
 use Rattle.std.specs.Option.{option_copied}
-use Rattle.vax_cli.specs.Said.{names_of, options as said_options, said, tracing as said_tracing}
-use Rattle.vax_cli.specs.Words.{Said, bare, check, console, save, run, trace}
+use Rattle.vax_cli.specs.declared.command.Command.{Command}
+use Rattle.vax_cli.specs.Said.{AreShared, IsWithin, jobs_options, names_of, options as said_options, said, tracing as said_tracing}
+use Rattle.vax_cli.specs.Words.{Said, bare, check, console, jobs, save, run, trace}
 use Rattle.vax_command.specs.Around.{around, change}
 use Rattle.vax_top.specs.Top.{Carries}
 use Rattle.vax_top.proofs.CheckLaws.{check_kept}
@@ -51,3 +53,15 @@ returns-in-Save-clause-carries g c =
     let seen = around (change g.S.Files.faults g.S.Files.contents c.args.files.now c.run_save.new.files) (change g.K.Sink.faults g.K.Sink.contents c.args.sink.now c.run_save.new.sink) (change g.F.PageFile.faults g.F.PageFile.contents c.args.pages.now c.run_save.new.pages) in
     let same = ap (λ names. save (names_of names) c.in-Save.base (said_options c.in-Save.options)) c.as_slice-in-Save.ensures.value ∙ ap said (sym c.in-Save.is) in
     subst (λ (s : Said). Carries seen s c.run_save.result) same c.run_save.ensures.carries
+
+pub returns-in-Jobs-clause-carries : goal.returns-in-Jobs-clause-carries
+returns-in-Jobs-clause-carries g c =
+    let seen = around (change g.S.Files.faults g.S.Files.contents c.args.files.now c.run_together.new.files) (change g.K.Sink.faults g.K.Sink.contents c.args.sink.now c.run_together.new.sink) (change g.F.PageFile.faults g.F.PageFile.contents c.args.pages.now c.run_together.new.pages) in
+    let same = ap (λ names. jobs (names_of names) (jobs_options c.in-Jobs.options)) c.as_slice-in-Jobs.ensures.value ∙ ap said (sym c.in-Jobs.is) in
+    subst (λ (s : Said). Carries seen s c.run_together.result) same c.run_together.ensures.carries
+
+pub run_together-requires-clause-within : goal.run_together-requires-clause-within
+run_together-requires-clause-within g c =
+    let within = subst (λ (k : Command). IsWithin (said k)) c.in-Jobs.is c.requires.within in
+    let count : length (names_of c.in-Jobs.names.items) ≡ length c.as_slice-in-Jobs.result.now = simp length-map (ap length (sym c.as_slice-in-Jobs.ensures.value)) in
+    subst (λ (n : ℕ). AreShared n (jobs_options c.in-Jobs.options)) count within.1
