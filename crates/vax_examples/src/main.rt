@@ -16,7 +16,7 @@ use vax_top::vax_main;
 const CALLS: &str = "calls.txt";
 
 /// The files of rows.
-const ROWS: [&str; 13] = [
+const ROWS: [&str; 14] = [
     "rows/pages.txt",
     "rows/instructions.txt",
     "rows/modes.txt",
@@ -27,6 +27,7 @@ const ROWS: [&str; 13] = [
     "rows/executive.txt",
     "rows/console.txt",
     "rows/traces.txt",
+    "rows/jobs.txt",
     "rows/check.txt",
     "rows/refusals.txt",
     "rows/failures.txt",
