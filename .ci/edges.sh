@@ -59,6 +59,7 @@ long=$(printf '%0300d' 0)
 expect 'a bare run' '0 ENDING HALT' "$(answer bare program.mar)"
 expect 'a run' '0 ENDING HALT' "$(answer run hello.mar)"
 expect 'a workload' '0 ENDING HALT' "$(answer work)"
+expect 'two programs' '0 JOB 1' "$(answer jobs hello.mar hello.mar)"
 expect 'an image' '0 ' "$(answer build program.mar --base bare)"
 mv out program.img
 expect 'a run of the image' '0 ENDING HALT' "$(answer bare program.img)"
@@ -87,6 +88,8 @@ expect 'a directory' '10 vax: read' "$(answer bare directory)"
 expect 'a name behind a file' '10 vax: read' "$(answer bare program.mar/x)"
 expect 'a name too long' '10 vax: read' "$(answer bare "$long")"
 expect 'a word that is no text' '10 ' "$(answer bare $'\xff')"
+expect 'an order' '13 vax: order line 1 fault 2' "$(answer jobs hello.mar --order <(echo '2 1'))"
+expect 'turns of several programs' '8 JOB 1' "$(answer jobs hello.mar hello.mar --turns 100)"
 expect 'memory' '12 vax: memory' "$(ulimit -v 16000; answer bare program.mar --frames 32768)"
 
 mkdir vax.pag vax.rec
