@@ -1,5 +1,5 @@
 //! Numbers that follow from a seed.
-ghost use Rattle.std.specs.Prelude.{◌<◌, ◌≤◌};
+ghost use Rattle.std.specs.Prelude.{◌<◌};
 
 /// Values at the edges of operands.
 static EDGES: [u32; 12] = [

@@ -1,5 +1,5 @@
 //! Operands.
-ghost use Rattle.std.specs.Prelude.{◌<◌, ◌≤◌};
+ghost use Rattle.std.specs.Prelude.{◌<◌};
 
 use crate::dice::Dice;
 use std::alloc::AllocError;

@@ -1,9 +1,8 @@
 //! Vectors.
-ghost use Rattle.std.specs.Prelude.{◌≡◌, List, ℕ, IfOk, OnOk, None, All, [], true, IsTrue};
+ghost use Rattle.std.specs.Prelude.{◌≡◌, List, IfOk, OnOk, None, All, [], true, IsTrue};
 ghost use Rattle.vax_space.specs.declared.Area.{Area};
-ghost use Rattle.vax_space.specs.Reference.{page_of};
 ghost use Rattle.vax_flat.specs.Step.{Flat};
-ghost use Rattle.vax_vectors.specs.Truth.{EndsBy, IsTold, first_out, is_among, machine_of, page_missed, pages_after, resident_of, with_pages};
+ghost use Rattle.vax_vectors.specs.Truth.{IsTold, first_out, is_among, pages_after, resident_of, with_pages};
 ghost use Rattle.vax_vector_runs.specs.Attempts.{IsSettled};
 ghost use Rattle.vax_vector_runs.specs.Ends.{EndsWell, IsCell, IsStart};
 ghost use Rattle.vax_vector_memory.specs.Record.{view_of};

@@ -1,5 +1,5 @@
 //! Attempts at a step, until each page that it needs is resident.
-ghost use Rattle.std.specs.Prelude.{◌≡◌, List, ℕ, IfOk, None, []};
+ghost use Rattle.std.specs.Prelude.{◌≡◌, List, IfOk, None, []};
 ghost use Rattle.vax_space.specs.declared.Area.{Area};
 ghost use Rattle.vax_flat.specs.Step.{Flat};
 ghost use Rattle.vax_vector_runs.specs.Attempts.{IsReady, IsSettled};

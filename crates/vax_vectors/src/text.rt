@@ -1,5 +1,5 @@
 //! The text of vectors.
-ghost use Rattle.std.specs.Prelude.{◌≡◌, ◌∷◌, [], ◌++◌, ◌*◌, ◌<◌, ◌^◌, ℕ, List, OnOk, decimal};
+ghost use Rattle.std.specs.Prelude.{◌≡◌, ◌∷◌, [], ◌++◌, ◌*◌, ◌<◌, ℕ, List, OnOk, decimal};
 ghost use Rattle.vax_vectors.specs.Text.{address_text, array, cell_text, character, comma_before, ending_text, ends_text, final_text, initial_text, json_text, letter, memory_text, page_text, registers, states_text, string, touch_text, touched_text, truth};
 
 use crate::choices::rests_on_choice;

@@ -4,7 +4,7 @@ use Rattle.vax_outside.specs.Channels.{Channels, GrewByPrefix, append, only}
 use Rattle.vax_outside.specs.declared.traits.Chan.TheVariants.{Record}
 use Rattle.vax_machine.specs.Writing.{OnlyWrote, held_in}
 use Rattle.vax_machine.specs.declared.held.Held.{Held}
-use Rattle.vax_machine.proofs.Outputs.{then_wrote, wrote_nothing}
+use Rattle.vax_machine.proofs.Outputs.{then_wrote}
 use Rattle.vax_watch.specs.Tracing.{Finishes, PassedOn}
 use Rattle.vax_watch.proofs.Holding.{none_first}
 use Rattle.vax_watch.specs.declared.steps.TraceEnd.{TraceEnd}

@@ -1,5 +1,5 @@
 //! Memory that is read by whole pages.
-ghost use Rattle.std.specs.Prelude.{◌≡◌, ◌≢◌, ◌%◌, ◌<◌, ◌⊎◌, ◌^◌, is_err, length, OnOk, true, false};
+ghost use Rattle.std.specs.Prelude.{◌≡◌, ◌≢◌, ◌%◌, ◌<◌, ◌^◌, is_err, length, OnOk, false};
 ghost use Rattle.vax_outside.specs.Faults.{CountsFailure};
 ghost use Rattle.vax_machine.specs.Console.{ShowsMemory, cell_in};
 ghost use Rattle.vax_machine.specs.Meaning.{engine};

@@ -1,5 +1,5 @@
 //! The lines of a traced run, on their way to Record.
-ghost use Rattle.std.specs.Prelude.{◌≡◌, ◌+◌, ◌<◌, ◌≤◌, ◌++◌, [], length, OnErr, OnOk, is_err, option_map};
+ghost use Rattle.std.specs.Prelude.{◌≡◌, ◌+◌, ◌<◌, ◌≤◌, ◌++◌, length, OnErr, OnOk, is_err, option_map};
 ghost use Rattle.vax_outside.specs.Channels.{GrewByPrefix, only};
 ghost use Rattle.vax_outside.specs.Faults.{CountsFailure};
 ghost use Rattle.vax_disasm.specs.Seen.{decoded_seen};

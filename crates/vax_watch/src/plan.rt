@@ -70,7 +70,6 @@ fn are_sized(watches: &[Watch]) -> bool
 }
 
 impl Seen {
-    ghost use Rattle.vax_machine.specs.Console.{ShowsMemory};
     ghost use Rattle.vax_machine.specs.Meaning.{engine};
     ghost use Rattle.vax_watch.specs.Listing.{watch_line};
     ghost use Rattle.vax_watch.specs.Plans.{IsLookedAt, LooksAgain};
