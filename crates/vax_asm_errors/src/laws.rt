@@ -10,12 +10,13 @@ ghost use Rattle.vax_module.specs.declared.Module.{Module};
 
 /// Of a source that assembles nothing is told.
 pub fn sources_that_assemble_have_no_errors()
-    ensures { (name source before after : List ℕ) → (m : Module) → IsErrors name source before after →
-        assembled Vax source ≡ Ok m → after ≡ before }
+    ensures { (name source before after : List ℕ) → (m : Module)
+        → IsErrors name source before after → assembled Vax source ≡ Ok m → after ≡ before }
 {}
 
 /// The first error of any other stands on the line that it is refused for.
 pub fn errors_begin_with_the_refusal()
-    ensures { (name source before after : List ℕ) → (f : Fault) → IsErrors name source before after →
-        assembled Vax source ≡ Err f → BeginsAt name f before after }
+    ensures { (name source before after : List ℕ) → (f : Fault)
+        → IsErrors name source before after → assembled Vax source ≡ Err f
+        → BeginsAt name f before after }
 {}

@@ -45,7 +45,8 @@ fn push_pairs(
     vector: &Vector,
     pages: (u32, &[u32]),
 ) -> Result<(), NoVector>
-    ensures { OnOk result (IsMore (AreLinesWithout vector.now (pairs pages.entry.0 pages.entry.1.now))
+    ensures { OnOk result
+        (IsMore (AreLinesWithout vector.now (pairs pages.entry.0 pages.entry.1.now))
         out.old.items out.new.items) }
 {
     let (first, others) = pages;

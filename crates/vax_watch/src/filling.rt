@@ -21,8 +21,8 @@ fn turn_page<F: PageFile>(
     address: u32,
     file: &mut F,
 ) -> Result<(), PageFault>
-    ensures turns { OnOk result (TurnsPage (engine machine.old) (F.contents file.old) is_other address
-        page.old page.new) }
+    ensures turns { OnOk result
+        (TurnsPage (engine machine.old) (F.contents file.old) is_other address page.old page.new) }
     ensures looked { IsLookedAt (engine machine.old) (F.contents file.old) (engine machine.new)
         (F.contents file.new) }
     ensures counts { CountsFailure (is_err result) (F.faults file.old) (F.faults file.new) }
