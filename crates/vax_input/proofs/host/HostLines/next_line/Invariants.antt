@@ -1,0 +1,6 @@
+use Rattle.std.proofs.Common.{◌≡◌}
+use Rattle.vax_input.proofs.host.HostLines.next_line.Given as goal
+
+-- no failure is counted
+abbrev pub invariant-loop : goal.invariant-loop
+invariant-loop g l = l.self.failed ≡ l.fn.self.failed
