@@ -17,13 +17,13 @@ use Rattle.vax_jobs.specs.Alone.{after_turns}
 use Rattle.vax_jobs.specs.Shared.{AllDone, ByTurns, Process, Setting, Shared, begun, completed, goes_on, stops}
 use Rattle.vax_jobs_laws.specs.Whole.{AreWhole, EndWhole, ReachTheirRuns, stage_in}
 
-abbrev Came : ℕ → Flat → Process → Type 0
+abbrev pub Came : ℕ → Flat → Process → Type 0
 Came limit start p = Comes limit start (stage_in p)
 
 came_further : (limit : ℕ) (start : Flat) (p : Process) → (machine_at p.place).ending ≡ None → p.steps < limit → Came limit start p → Came limit start (completed p)
 came_further limit start p going left c = comes_further (turn p.place) limit start (stage_in p) refl going left c
 
-all_came : (x : Setting) (starts : List Flat) (count : ℕ) → AllHave (Came x.steps) x.steps (came_further x.steps) (λ start p page c. c) starts (after_turns x starts count).processes
+pub all_came : (x : Setting) (starts : List Flat) (count : ℕ) → AllHave (Came x.steps) x.steps (came_further x.steps) (λ start p page c. c) starts (after_turns x starts count).processes
 all_came x starts count =
     have_all (Came x.steps) x.steps (came_further x.steps) (λ start p page c. c) starts x (begun x.order starts) count refl
     (record { each = λ job start p a b. starting_at (Came x.steps) starts job start p (λ m. comes_at_start x.steps 64 m) a b })
@@ -33,21 +33,21 @@ reach_all x starts count = record { each = λ job start p a b. ((all_came x star
 
 -- one that doesn't go on
 
-abbrev run_limits : ℕ → Limits
+abbrev pub run_limits : ℕ → Limits
 run_limits limit = record { steps = limit; turns = 0; listed = false }
 
-abbrev run_at : Process → Paged
+abbrev pub run_at : Process → Paged
 run_at p = begun_at 64 p.steps p.place
 
-stops_ended : (limit : ℕ) (p : Process) (e : Ending) → (machine_at p.place).ending ≡ Some e → run_stops limit 0 (run_at p) ≡ Some (ByEnding e)
+pub stops_ended : (limit : ℕ) (p : Process) (e : Ending) → (machine_at p.place).ending ≡ Some e → run_stops limit 0 (run_at p) ≡ Some (ByEnding e)
 unfolding run_stops
 stops_ended limit p e is = rw is refl
 
-stops_full : (limit : ℕ) (p : Process) → (machine_at p.place).ending ≡ None → nat_le limit p.steps ≡ true → run_stops limit 0 (run_at p) ≡ Some BySteps
+pub stops_full : (limit : ℕ) (p : Process) → (machine_at p.place).ending ≡ None → nat_le limit p.steps ≡ true → run_stops limit 0 (run_at p) ≡ Some BySteps
 unfolding run_stops
 stops_full limit p is full = rw (is, full) refl
 
-is_full : (a b : ℕ) → nat_lt a b ≡ false → nat_le b a ≡ true
+pub is_full : (a b : ℕ) → nat_lt a b ≡ false → nat_le b a ≡ true
 is_full a b h = grind (arith, nat_tests)
 
 ended_by : (limit : ℕ) (start : Flat) (p : Process) (how : Option Ending) → (machine_at p.place).ending ≡ how → Came limit start p → (is_none how && nat_lt p.steps limit) ≡ false → IsWholeRun limit start (stage_in p)
@@ -62,7 +62,7 @@ end_whole x starts count = record { each = λ job start p a b h. whole_by x.step
 
 -- where none goes on
 
-none_of : (f : Process → Bool) (ps : List Process) (n : ℕ) (p : Process) → list_any f ps ≡ false → slice_get ps n ≡ Some p → f p ≡ false
+pub none_of : (f : Process → Bool) (ps : List Process) (n : ℕ) (p : Process) → list_any f ps ≡ false → slice_get ps n ≡ Some p → f p ≡ false
 none_of f [] n p h e = absurd (none-some p e)
 none_of f (q ∷ ps) zero p h e = elim (cases_Bool (f q)) [
   | inl t ↦ let no : true ≡ false = rw t at h in cc
@@ -73,7 +73,7 @@ none_of f (q ∷ ps) (suc k) p h e = elim (cases_Bool (f q)) [
   | inr n ↦ none_of f ps k p (rw n at h) e
 ]
 
-none_goes : (x : Setting) (s : Shared) → stops x s ≡ Some AllDone → list_any (goes_on x.steps) s.processes ≡ false
+pub none_goes : (x : Setting) (s : Shared) → stops x s ≡ Some AllDone → list_any (goes_on x.steps) s.processes ≡ false
 unfolding stops
 none_goes x s h = elim (cases_Bool (list_any (goes_on x.steps) s.processes)) [
   | inl t ↦ elim (cases_Bool (nat_lt s.turns x.turns)) [
