@@ -26,6 +26,7 @@ use Rattle.vax_command.specs.Reading.{Reads, file_limit, first_of, given, option
 use Rattle.vax_command.specs.Status.{refusal_growth}
 use Rattle.vax_command.specs.declared.status.Status.{Status}
 use Rattle.vax_command.specs.declared.status.Status.TheVariants.{Done, Turns, PageFault, NoMemory}
+use Rattle.vax_command.proofs.JobsAlone.{AreSilent, all_alone, are_silent}
 use Rattle.vax_command.proofs.LoadLaws.{behind-given, drop-seam, first_of-given, option_of-given, reads_both}
 
 -- the programs, and behind them the input and the order
@@ -85,7 +86,7 @@ untold outside setup jobs_end.Turns g c = record { meant = Turns; grown = g.grow
 untold outside setup jobs_end.PageFault g c = record { meant = PageFault; grown = g.grown; went = (c.fault refl, g.unrecorded); ends = inl (record { answer = refl; grew = g.grew; quiet = c.written (λ e. cc) }) }
 untold outside setup jobs_end.WriteFault g c = record { meant = Done; grown = g.grown; went = (tt, g.unrecorded); ends = inr (record { answer = refl; prefix = g.grew; cause = c.cause refl }) }
 
-module _ (outside : Outside) (setup : JobsSetup) (file : BlockFile) where
+module _ (outside : Outside) (setup : JobsSetup) (file : BlockFile) (silent : AreSilent setup.starts) where
   abbrev x : Setting
   x = setup.setting
 
@@ -97,13 +98,13 @@ module _ (outside : Outside) (setup : JobsSetup) (file : BlockFile) where
   told jobs_end.Done r c = record {
     meant = Done;
     grown = output_of x.steps last.Turns (shared x r.count (begun x.order setup.starts));
-    went = inl (record { count = r.count; why = AllDone; runs = r.runs; stopped = r.stopped; answer = refl; wrote = refl });
+    went = inl (record { count = r.count; why = AllDone; runs = r.runs; stopped = r.stopped; answer = refl; wrote = refl; alone = λ e. all_alone x setup.starts r.count silent AllDone r.stopped e });
     ends = inl (record { answer = refl; grew = r.wrote; quiet = c.written (λ e. cc) });
   }
   told jobs_end.Turns r c = record {
     meant = Turns;
     grown = output_of x.steps last.Turns (shared x r.count (begun x.order setup.starts));
-    went = inl (record { count = r.count; why = ByTurns; runs = r.runs; stopped = r.stopped; answer = refl; wrote = refl });
+    went = inl (record { count = r.count; why = ByTurns; runs = r.runs; stopped = r.stopped; answer = refl; wrote = refl; alone = λ e. all_alone x setup.starts r.count silent ByTurns r.stopped e });
     ends = inl (record { answer = refl; grew = r.wrote; quiet = c.written (λ e. cc) });
   }
   told jobs_end.PageFault r c = record {
@@ -115,7 +116,7 @@ module _ (outside : Outside) (setup : JobsSetup) (file : BlockFile) where
   told jobs_end.WriteFault (inl r) c = record {
     meant = jobs_answer r.why;
     grown = output_of x.steps last.Turns (shared x r.count (begun x.order setup.starts));
-    went = inl (record { count = r.count; why = r.why; runs = r.runs; stopped = r.stopped; answer = refl; wrote = refl });
+    went = inl (record { count = r.count; why = r.why; runs = r.runs; stopped = r.stopped; answer = refl; wrote = refl; alone = λ e. all_alone x setup.starts r.count silent r.why r.stopped e });
     ends = inr (record { answer = refl; prefix = r.wrote; cause = c.cause refl });
   }
   told jobs_end.WriteFault (inr (rose, r)) c = record {
@@ -137,7 +138,7 @@ module _ (outside : Outside) (programs : Users) (input order : Text) (options : 
       let at : ℕ → Setting = λ most. record { order = lines; steps = options.steps; turns = options.turns; most = most } in
       let b = begun lines (starts_of programs.system programs.users input) in
       let run : EndsBy result (HasFailed outside.pages) (at p.most) b outside.sink.before.told outside.sink.after.told = r b (starts.ready (at p.most) file) in
-      told outside (jobs_setup programs input lines options) file result
+      told outside (jobs_setup programs input lines options) file (are_silent programs.system programs.users input) result
       (subst (λ (n : ℕ). EndsBy result (HasFailed outside.pages) (at n) b outside.sink.before.told outside.sink.after.told) starts.most run) c
 
   -- they ran in their order

@@ -8,4 +8,5 @@ pub mod OnwardLaws
 pub mod OnwardTurns
 pub mod ResumeLaws
 pub mod SaveLaws
+pub mod JobsAlone
 pub mod JobsLaws

@@ -1,19 +1,17 @@
 -- What several programs come to that run together.
-use Rattle.std.specs.Prelude.{ℕ, suc, ◌≡◌, ◌+◌, ◌⊎◌, if◌then◌else◌, nat_lt, codes, decimal, List, [], ◌++◌, length, map, take, drop, Option, None, Some, Result, Ok, Err}
+use Rattle.std.specs.Prelude.{ℕ, suc, ◌≡◌, ◌+◌, ◌⊎◌, List, [], ◌++◌, length, take, drop, Option, None, Some, Ok, Err}
 use Rattle.vax_outside.specs.Blocks.{BlockFile}
-use Rattle.vax_outside.specs.Channels.{Channels, append, only}
+use Rattle.vax_outside.specs.Channels.{Channels}
 use Rattle.vax_outside.specs.Directory.{Directory}
 use Rattle.vax_outside.specs.declared.traits.Chan.TheVariants as channel
 use Rattle.vax_flat.specs.Step.{Flat}
-use Rattle.vax_image.specs.Start.{Start}
 use Rattle.vax_image.specs.declared.Image.{Image}
 use Rattle.vax_jobs.specs.declared.ends.JobsEnd.{JobsEnd}
 use Rattle.vax_jobs.specs.declared.ends.JobsEnd.TheVariants as jobs_end
 use Rattle.vax_jobs.specs.Running.{Runs}
-use Rattle.vax_jobs.specs.Shared.{Process, Setting, Shared, Why, AllDone, ByTurns, begun, bytes_sent, shared, stops}
+use Rattle.vax_jobs.specs.Shared.{Setting, Shared, Why, AllDone, ByTurns, begun, shared, stops}
 use Rattle.vax_order.specs.Orders.{default_order, order_of}
 use Rattle.vax_order.specs.declared.line.Line.{Line}
-use Rattle.vax_report.specs.declared.Last.{Last}
 use Rattle.vax_report.specs.declared.Last.TheVariants as last
 use Rattle.vax_together.specs.Starting.{starts_of}
 use Rattle.vax_together.specs.Together.{output_of}
@@ -21,6 +19,7 @@ use Rattle.vax_cli.specs.Jobs.{JobsOptions}
 use Rattle.vax_cli.specs.Words.{Text}
 use Rattle.vax_command.specs.Around.{Change, HasFailed, Outside}
 use Rattle.vax_command.specs.Ends.{EndsSo}
+use Rattle.vax_command.specs.JobsAlone.{AreAlone}
 use Rattle.vax_command.specs.Reading.{Reads, behind, first_of, given, option_of}
 use Rattle.vax_command.specs.Running.{LacksMemory}
 use Rattle.vax_command.specs.Status.{refusal_growth}
@@ -93,7 +92,7 @@ abbrev pub jobs_answer : Why → Status
 jobs_answer AllDone = Done
 jobs_answer ByTurns = Turns
 
--- they stopped by themselves, and the reports on them were written
+-- They stopped by themselves, and the reports on them were written. Where no program goes on, this is what each comes to alone.
 pub record AreStopped (setup : JobsSetup) (status : Status) (grown : Channels) : Type 0 where
   pub count : ℕ
   pub why : Why
@@ -101,6 +100,7 @@ pub record AreStopped (setup : JobsSetup) (status : Status) (grown : Channels) :
   pub stopped : stops setup.setting (behind_turns setup count) ≡ Some why
   pub answer : status ≡ jobs_answer why
   pub wrote : grown ≡ output_of setup.setting.steps last.Turns (behind_turns setup count)
+  pub alone : why ≡ AllDone → AreAlone setup.setting.steps setup.starts grown
 
 -- a call of the page file failed in the turn behind so many
 pub record AreCut (setup : JobsSetup) (status : Status) (grown : Channels) : Type 0 where

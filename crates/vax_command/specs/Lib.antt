@@ -20,5 +20,6 @@ pub mod Course
 pub mod Onward
 pub mod Resuming
 pub mod Saving
+pub mod JobsAlone
 pub mod Jobs
 pub mod JobsView

@@ -1,12 +1,9 @@
 //! Runs several programs together: makes their processes and their order, runs them, and reports on each.
 ghost use Rattle.std.specs.Prelude.{◌≡◌, ◌⊎◌, ◌*◌, ◌++◌, ◌≤◌, IfErr, IfOk, IfSome, Ok, length};
-ghost use Rattle.std.specs.List.{All};
 ghost use Rattle.std.specs.Option.{option_copied};
-ghost use Rattle.vax_image.specs.Image.{IsImage};
 ghost use Rattle.vax_image.specs.declared.Base.TheVariants as base;
 ghost use Rattle.vax_order.specs.Orders.{IsOrder, order_of};
-ghost use Rattle.vax_jobs.specs.Beginning.{machines, pooling};
-ghost use Rattle.vax_together.specs.Starting.{IsUser};
+ghost use Rattle.vax_jobs.specs.Beginning.{machines};
 ghost use Rattle.vax_cli.specs.Said.{AreShared, jobs_options, names_of};
 ghost use Rattle.vax_command.specs.Around.{change, outside};
 ghost use Rattle.vax_command.specs.Ends.{Admits};
