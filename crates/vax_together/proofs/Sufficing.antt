@@ -15,7 +15,7 @@ use Rattle.vax_jobs.proofs.Rooms.{found}
 use Rattle.vax_jobs.proofs.Trying.{bytes_nil, tried_is}
 use Rattle.vax_jobs.specs.Pooling.{is_there}
 use Rattle.vax_jobs.specs.Running.{Runs}
-use Rattle.vax_jobs.specs.Shared.{Process, Sent, Setting, Shared, Why, AllDone, ByTurns, by_missing, bytes_sent, completed, given_page, goes, goes_on, job_at, moved_on, next_position, next_turn, sent_by, shared, stops, tried, tried_by, turned_by}
+use Rattle.vax_jobs.specs.Shared.{Process, Sent, Setting, Shared, Why, AllDone, ByTurns, by_missing, bytes_sent, completed, given_page, goes, goes_on, job_at, moved_on, next_position, sent_by, shared, stops, tried, tried_by, turned_by}
 use Rattle.vax_jobs.specs.declared.position.Position.{Position}
 
 -- a turn leaves as many processes
