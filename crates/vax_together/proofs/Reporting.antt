@@ -8,7 +8,7 @@ use Rattle.vax_outside.specs.declared.traits.Chan.TheVariants as channel
 use Rattle.vax_order.specs.Orders.{IsOrder}
 use Rattle.vax_jobs.specs.Pool.{keeps_of}
 use Rattle.vax_jobs.proofs.Marks.{count_is}
-use Rattle.vax_jobs.specs.Running.{CountsEnd, IsCut, IsLost, IsReady, IsWhole, System}
+use Rattle.vax_jobs.specs.Running.{CountsEnd, IsCut, IsReady, IsWhole, Runs, System}
 use Rattle.vax_jobs.specs.Shared.{Setting, Shared, Why, bytes_sent, shared}
 use Rattle.vax_jobs.specs.declared.ends.JobsEnd.{JobsEnd}
 use Rattle.vax_jobs.specs.declared.ends.JobsEnd.TheVariants.{PageFault, WriteFault}
@@ -74,10 +74,10 @@ cut_so result failed x s y old mid new a b rose is w (inr h) =
       },
     ))
 
--- a write failed in the run
-pub lost_so : (x : Setting) (s : Shared) (old new : Option Channels) → IsOrder (length s.processes) x.order → IsLost x s old new → IsUnwritten x s old new
-lost_so x s old new order w =
-    let l = later x.turns x s w.count order w.runs (omega arith) in
+-- a write failed in the run, behind a prefix of what so many turns send
+pub lost_so : (x : Setting) (s : Shared) (count : ℕ) (old new : Option Channels) → IsOrder (length s.processes) x.order → Runs x s count → GrewByPrefix old new (only channel.Out (bytes_sent (shared x count s))) → IsUnwritten x s old new
+lost_so x s count old new order runs wrote =
+    let l = later x.turns x s count order runs (omega arith) in
     record {
       count = l.count;
       why = l.why;
@@ -85,7 +85,7 @@ lost_so x s old new order w =
       stopped = l.stopped;
       wrote =
           prefix_of old new (only channel.Out (bytes_sent (shared x l.count s))) (only channel.Report (process_reports x.steps last.Turns (shared x l.count s).processes))
-          (subst (λ bytes. GrewByPrefix old new (only channel.Out bytes)) (sym l.grows) (out_first old new (bytes_sent (shared x w.count s)) l.more w.wrote));
+          (subst (λ bytes. GrewByPrefix old new (only channel.Out bytes)) (sym l.grows) (out_first old new (bytes_sent (shared x count s)) l.more wrote));
     }
 
 -- an order of the machines is one of the processes

@@ -1,7 +1,7 @@
 use Rattle.std.proofs.Common.{◌≡◌, inl, refl, subst, sym}
 use Rattle.vax_outside.specs.Faults.{Rose}
 use Rattle.vax_jobs.specs.Beginning.{machines, pooling}
-use Rattle.vax_jobs.specs.Running.{setting_of, system_of}
+use Rattle.vax_jobs.specs.Running.{Ends, setting_of, system_of}
 use Rattle.vax_jobs.specs.Shared.{AllDone, ByTurns}
 use Rattle.vax_jobs.specs.declared.ends.JobsEnd.{JobsEnd}
 use Rattle.vax_jobs.specs.declared.ends.JobsEnd.TheVariants.{Done, Turns, PageFault, WriteFault}
@@ -51,4 +51,6 @@ pub returns-clause-reports : goal.returns-clause-reports
 returns-clause-reports g c = λ s ready.
     let x = setting_of c.args.order.now c.args.steps c.args.turns (pooling c.args.jobs) in
     let y = system_of (pooling c.args.jobs) (machines c.args.jobs) (g.F.PageFile.contents c.args.file.now) in
-    inl (lost_so x s (g.K.Sink.contents c.args.sink.now) (g.K.Sink.contents c.run.new.sink) (order_same x y s refl ready c.requires) (c.in-WriteFault.ensures.runs s ready))
+    let z = system_of (pooling c.run.new.self) (machines c.run.new.self) (g.F.PageFile.contents c.run.new.file) in
+    let w : Ends WriteFault x s z (g.K.Sink.contents c.args.sink.now) (g.K.Sink.contents c.run.new.sink) = c.in-WriteFault.ensures.runs s ready in
+    inl (lost_so x s w.count (g.K.Sink.contents c.args.sink.now) (g.K.Sink.contents c.run.new.sink) (order_same x y s refl ready c.requires) w.runs w.wrote)
