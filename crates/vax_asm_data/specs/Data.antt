@@ -1,11 +1,11 @@
 -- The directives of data (VAX MACRO and Instruction Set Reference Manual, "VAX MACRO assembler directives": `.BYTE` to
 -- `.QUAD`, `.SIGNED_BYTE`, `.SIGNED_WORD`, `.ADDRESS`, `.ASCII` to `.ASCIZ`, `.BLKB` to `.BLKQ`, `.ALIGN`, `.EVEN`, `.ODD`).
-use Rattle.std.specs.Prelude.{ℕ, pos, ◌+◌, ◌-◌, ◌*◌, ◌%◌, Bool, true, false, ◌&&◌, nat_lt, nat_le, if◌then◌else◌, List, [], ◌∷◌, length, map, take, drop, Option, Some, None, Result, Ok, Err, codes}
+use Rattle.std.specs.Prelude.{ℕ, pos, ◌+◌, ◌-◌, ◌*◌, ◌%◌, ◌^◌, Bool, true, false, ◌&&◌, nat_lt, nat_le, if◌then◌else◌, List, [], ◌∷◌, length, map, replicate, take, drop, Option, Some, None, Result, Ok, Err, codes}
 use Rattle.vax_asm_encode.specs.Operands.{item_size, item_field}
 use Rattle.vax_asm_encode.specs.declared.operand.DataKind.{DataKind}
 use Rattle.vax_asm_encode.specs.declared.operand.DataKind.TheVariants.{Number}
-use Rattle.vax_asm_sections.specs.Layout.{Zeros, Bytes, Field, current_of, put, aligned}
-use Rattle.vax_dialect.specs.Differences.{has_empty_items}
+use Rattle.vax_asm_sections.specs.Layout.{Zeros, Bytes, Field, current_of, gap, put, aligned}
+use Rattle.vax_dialect.specs.Differences.{has_empty_items, has_further_directives}
 use Rattle.vax_lex.specs.Characters.{spells}
 use Rattle.vax_lex.specs.Grammar.{symbols_of}
 use Rattle.vax_lex.specs.Tokens.{token_text}
@@ -13,7 +13,7 @@ use Rattle.vax_lex.specs.declared.token.Token.{Token}
 use Rattle.vax_lex.specs.declared.value.Value.TheVariants as value
 use Rattle.vax_macro.specs.declared.error.FaultKind.{FaultKind}
 use Rattle.vax_macro.specs.declared.error.FaultKind.TheVariants as fault
-use Rattle.vax_asm_first.specs.Faults.{lowest, fault_of_value, unless_place, number_of}
+use Rattle.vax_asm_first.specs.Faults.{first_of, lowest, fault_of_value, unless_place, number_of}
 use Rattle.vax_asm_first.specs.Fixups.{Filling, Known, filling_by}
 use Rattle.vax_asm_first.specs.Progress.{Site, Progress, begun, joined, done, added, Counted, counted, site_of}
 use Rattle.vax_asm_first.specs.Standing.{Standing, Told, here_at, here_in, misplaces, told, with_scope, with_sections}
@@ -203,13 +203,46 @@ align_by site tokens s =
     let c = boundary site tokens (boundary_named site.line tokens) s.scope in
     align_to (with_scope c.scope s) c.number
 
-abbrev pub one_alone : List (List Token) → (List Token → Result Standing FaultKind) → Result Standing FaultKind
-one_alone [] stated = Err fault.Count
-one_alone (one ∷ []) stated = stated one
-one_alone (one ∷ two ∷ more) stated = Err fault.Count
+-- Its second operand, where the dialect has further directives: the byte that it fills with.
+abbrev pub byte_of : Result ℕ FaultKind → Result ℕ FaultKind
+byte_of (Ok n) = if nat_lt n 256 then Ok n else Err fault.Range
+byte_of (Err kind) = Err kind
+
+abbrev pub behind_fill : ℕ → Result Standing FaultKind → Result Standing FaultKind
+behind_fill k (Ok s) = with_sections s (aligned k s.sections)
+behind_fill k (Err kind) = Err kind
+
+abbrev pub filled_to : (byte k : ℕ) → Standing → Result Standing FaultKind
+filled_to byte k s =
+    let n = gap (current_of s.sections).size (2 ^ k) in
+    behind_fill k (with_sections s (put n (Bytes (replicate n byte)) s.sections))
+
+abbrev pub filled_by : Standing → (boundary byte : Result ℕ FaultKind) → Result Standing FaultKind
+filled_by s (Ok k) (Ok byte) = filled_to byte k s
+filled_by s (Ok k) (Err kind) = Err kind
+filled_by s (Err kind) (Ok byte) = Err kind
+filled_by s (Err kind) (Err other) = Err (first_of kind other)
+
+abbrev pub fill_by : Site → (boundary byte : List Token) → Standing → Result Standing FaultKind
+fill_by site tokens byte s =
+    let b = boundary site tokens (boundary_named site.line tokens) s.scope in
+    let c = counted site (Some byte) b.scope in
+    filled_by (with_scope c.scope s) b.number (byte_of c.number)
+
+abbrev pub fill_where : Bool → Site → (boundary byte : List Token) → Standing → Result Standing FaultKind
+fill_where true site tokens byte s = fill_by site tokens byte s
+fill_where false site tokens byte s = Err fault.Count
+
+abbrev pub one_or_two : List (List Token) → (List Token → Result Standing FaultKind) → (List Token → List Token → Result Standing FaultKind) → Result Standing FaultKind
+one_or_two [] stated both = Err fault.Count
+one_or_two (one ∷ []) stated both = stated one
+one_or_two (one ∷ two ∷ []) stated both = both one two
+one_or_two (one ∷ two ∷ three ∷ more) stated both = Err fault.Count
 
 unfoldable pub align_stated : Origin → List ℕ → List Token → Standing → Result Standing FaultKind
-align_stated origin line tokens s = one_alone (parts tokens) (λ one. align_by (site_of origin line s) one s)
+align_stated origin line tokens s =
+    one_or_two (parts tokens) (λ one. align_by (site_of origin line s) one s)
+    (λ one byte. fill_where (has_further_directives s.dialect) (site_of origin line s) one byte s)
 
 -- `.EVEN`: a multiple of two; it has no operands
 unfoldable pub even_stated : List Token → Standing → Result Standing FaultKind

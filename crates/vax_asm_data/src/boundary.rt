@@ -1,14 +1,18 @@
 // Room and boundaries.
 
-ghost use Rattle.std.specs.Prelude.{◌≡◌, ◌≤◌, ◌<◌, ◌^◌, All, IfOk, IfSome, OnOk, Ok, length};
-ghost use Rattle.vax_asm_data.specs.Data.{align_stated, boundary, boundary_named, boundary_of, even_stated, forward, odd_stated, power, room, space_stated, unless_here};
+ghost use Rattle.std.specs.Prelude.{◌≡◌, ◌≤◌, ◌<◌, ◌^◌, All, IfOk, IfSome, OnOk, Ok, length, replicate};
+ghost use Rattle.vax_asm_data.specs.Data.{align_by, align_stated, boundary, boundary_named, boundary_of, byte_of, even_stated, fill_where, filled_to, forward, odd_stated, power, room, space_stated, unless_here};
+ghost use Rattle.vax_dialect.specs.Differences.{has_further_directives};
 ghost use Rattle.vax_lex.specs.Tokens.{IsTokenOf};
+ghost use Rattle.vax_asm_sections.specs.Layout.{gap};
 ghost use Rattle.vax_asm_first.specs.View.{counted_of, site_seen, standing_of, Stands, ChangesScope, States};
 ghost use Rattle.vax_asm_scope.specs.Kept.{scope_of};
 
 use std::alloc::Global;
 use std::rc::Rc;
-use vax_asm_first::{FaultKind, Origin, Refused, Site, Standing, known_count, number_of, site_of};
+use vax_asm_first::{
+    FaultKind, Origin, Refused, Site, Standing, first_of, known_count, number_of, site_of,
+};
 use vax_asm_scope::uses_place;
 use vax_asm_sections::Piece;
 use vax_asm_statement::{name_alone, parts, text_of};
@@ -141,11 +145,98 @@ fn boundary(
     Ok(unless_here(here, power(number_of(told.value))))
 }
 
+/// `.ALIGN` with zeros.
+fn align_to(
+    standing: &mut Standing,
+    alloc: Global,
+    site: Site<'_>,
+    operand: &[Token],
+) -> Result<(), Refused>
+    requires { All (IsTokenOf site.line.now.value.items) operand.now }
+    ensures { States (align_by (site_seen site.entry) operand.now)
+        result standing.old standing.new }
+{
+    match boundary(standing, alloc, site, operand) {
+        Ok(Ok(power)) => standing.align(power),
+        Ok(Err(kind)) => Err(Refused::Fault(kind)),
+        Err(NoMemory) => Err(Refused::NoMemory),
+    }
+}
+
+/// A number that a byte holds.
+fn byte_of(number: Result<u64, FaultKind>) -> Result<u8, FaultKind>
+    ensures { result ≡ byte_of number }
+{
+    match number {
+        Ok(number) if number < 256 => Ok(number as u8),
+        Ok(_) => Err(FaultKind::Range),
+        Err(kind) => Err(kind),
+    }
+}
+
+/// A byte, so many times.
+fn repeated(alloc: Global, byte: u8, count: u32) -> Result<Vec<u8>, NoMemory>
+    ensures { IfOk result (λ v. v.items ≡ replicate count byte) }
+{
+    vec![in alloc; byte; count as usize].map_err(|_| NoMemory)
+}
+
+/// The bytes from a place up to the next multiple of a power of two.
+fn gap(size: u32, power: u8) -> u32
+    requires { power ≤ 9 }
+    ensures { result ≡ gap size (2 ^ power) }
+{
+    let boundary = 2u32.pow(u32::from(power));
+    (boundary - size % boundary) % boundary
+}
+
+/// This byte up to a multiple of a power of two, to which the section is aligned at least.
+fn fill_to(standing: &mut Standing, alloc: Global, byte: u8, power: u8) -> Result<(), Refused>
+    requires { power ≤ 9 }
+    ensures { States (filled_to byte power) result standing.old standing.new }
+{
+    let more = gap(standing.section_size(), power);
+    let Ok(bytes) = repeated(alloc, byte, more) else {
+        return Err(Refused::NoMemory);
+    };
+    standing.put(more, Piece::Bytes(bytes))?;
+    standing.align(power)
+}
+
+/// `.ALIGN` with the byte that it fills with, where the dialect has that.
+fn fill(
+    standing: &mut Standing,
+    alloc: Global,
+    site: Site<'_>,
+    operand: &[Token],
+    byte: &[Token],
+) -> Result<(), Refused>
+    requires boundary { All (IsTokenOf site.line.now.value.items) operand.now }
+    requires byte { All (IsTokenOf site.line.now.value.items) byte.now }
+    ensures { States (λ s. fill_where (has_further_directives s.dialect)
+        (site_seen site.entry) operand.now byte.now s) result standing.old standing.new }
+{
+    if !standing.dialect.has_further_directives() {
+        return Err(Refused::Fault(FaultKind::Count));
+    }
+    let Ok(power) = boundary(standing, alloc, site, operand) else {
+        return Err(Refused::NoMemory);
+    };
+    let Ok(number) = known_count(standing, alloc, site, Some(byte)) else {
+        return Err(Refused::NoMemory);
+    };
+    match (power, byte_of(number)) {
+        (Ok(power), Ok(byte)) => fill_to(standing, alloc, byte, power),
+        (Ok(_), Err(kind)) | (Err(kind), Ok(_)) => Err(Refused::Fault(kind)),
+        (Err(kind), Err(other)) => Err(Refused::Fault(first_of(kind, other))),
+    }
+}
+
 /// `.ALIGN`: zero bytes up to a multiple of a power of two, to which the section is aligned at least. The operand is `BYTE`,
-/// `WORD`, `LONG`, `QUAD` or `PAGE`, else a number from 0 to 9.
+/// `WORD`, `LONG`, `QUAD` or `PAGE`, else a number from 0 to 9. Where the dialect has further directives, a second operand is the byte that is put in place of 0.
 ///
-/// [`Refused::Fault`]: `Count` where there is no operand or a second one, else the first that holds of `Form` where it is no
-/// number or uses `.`, `Undefined` where it isn't known, `Range` where it is below 0 or above 9, `Large` where the section or
+/// [`Refused::Fault`]: `Count` where there is no operand, a second one that the dialect doesn't have, or a third, else the first that holds of `Form` where one is no
+/// number or the first uses `.`, `Undefined` where one isn't known, `Range` where the first is below 0 or above 9 or the second is no byte, `Large` where the section or
 /// the module would be too long. [`Refused::NoMemory`] where memory is refused. Nothing of use is left then.
 #[tactic(auto, unfolding(crate::specs::Data::align_stated))]
 pub fn align(
@@ -163,16 +254,13 @@ pub fn align(
     let Ok(found) = parts(alloc, operands) else {
         return Err(Refused::NoMemory);
     };
-    let [operand] = found.as_slice() else {
-        return Err(Refused::Fault(FaultKind::Count));
-    };
     let Ok(site) = site_of(origin, line, standing) else {
         return Err(Refused::NoMemory);
     };
-    match boundary(standing, alloc, site, operand) {
-        Ok(Ok(power)) => standing.align(power),
-        Ok(Err(kind)) => Err(Refused::Fault(kind)),
-        Err(NoMemory) => Err(Refused::NoMemory),
+    match found.as_slice() {
+        [operand] => align_to(standing, alloc, site, operand),
+        [operand, byte] => fill(standing, alloc, site, operand, byte),
+        _ => Err(Refused::Fault(FaultKind::Count)),
     }
 }
 

@@ -1,11 +1,17 @@
 -- The attributes of a section, one operand after another.
 use Rattle.std.proofs.Common.{◌≡◌, ◌<◌, ◌≤◌, ◌+◌, ℕ, suc, add-one, Bool, true, false, List, [], ◌∷◌, length, map, drop, Option, Some, None, refl, sym, ap, ◌∙◌, drop-cons, leb-true, subst}
-use Rattle.std.specs.Prelude.{IfSome, ◌&&◌, ◌==◌, if◌then◌else◌, nat_le, slice_index_or}
+use Rattle.std.specs.Prelude.{IfSome, ◌&&◌, ◌||◌, ◌==◌, codes, if◌then◌else◌, nat_le, slice_index_or}
 use Rattle.std.specs.Str.{IsUtf8, str_eq_ignore_ascii_case}
 use Rattle.vax_asm_sections.specs.declared.types.Attributes.{Attributes}
+use Rattle.vax_dialect.specs.Differences.{has_further_directives}
+use Rattle.vax_dialect.specs.declared.Dialect.{Dialect}
+use Rattle.vax_lex.specs.Characters.{spells}
+use Rattle.vax_lex.specs.Tokens.{token_text}
 use Rattle.vax_lex.specs.declared.token.Token.{Token}
+use Rattle.vax_lex.specs.declared.token.TokenKind.{TokenKind}
+use Rattle.vax_lex.specs.declared.token.TokenKind.TheVariants as kinds
 use Rattle.vax_asm_labels.proofs.Spelled.{is_ascii, spelled_is_utf8}
-use Rattle.vax_asm_labels.specs.Naming.{attribute_at, attribute_by, attributes_from, nothing_said, same, with_align, with_attribute, with_write}
+use Rattle.vax_asm_labels.specs.Naming.{attribute_at, attribute_by, attributes_from, either_attribute, further_attribute, further_word, power_alone, power_of_two, nothing_said, same, with_align, with_attribute, with_write}
 use Rattle.vax_asm_labels.specs.Within.{Within}
 use Rattle.vax_asm_statement.specs.Directives.{attribute_of, attributes, named_in}
 use Rattle.vax_asm_statement.specs.Items.{name_alone}
@@ -94,22 +100,54 @@ attribute_within (Some (Write w)) None s h = tt
 attribute_within (Some Ignored) None s h = tt
 attribute_within None o s h = tt
 
-attributes_within : (line : List ℕ) (parts : List (List Token)) (o : Option Attributes) → IfSome o Within → IfSome (attributes_from line parts o) Within
-attributes_within line [] o h = h
-attributes_within line (part ∷ parts) o h = attributes_within line parts _ (attribute_within _ o (small_by line (name_alone line part)) h)
+small_power : (k : TokenKind) → Small (power_of_two k)
+small_power (kinds.Number n) = by_test (nat_le n 9) refl
+  where
+    by_test : (b : Bool) → nat_le n 9 ≡ b → Small (if b then Some (Align n) else None)
+    by_test true e = leb-true n 9 e
+    by_test false e = tt
+small_power kinds.Name = tt
+small_power (kinds.Mark m) = tt
+small_power kinds.Text = tt
 
-pub said_within : (line : List ℕ) (parts : List (List Token)) (o : Option Attributes) → o ≡ attributes_from line parts (Some nothing_said) → IfSome o Within
-said_within line parts o h =
+small_alone : (tokens : List Token) → Small (power_alone tokens)
+small_alone [] = tt
+small_alone (t ∷ []) = small_power t.kind
+small_alone (t ∷ u ∷ tokens) = tt
+
+small_word : (line : List ℕ) (o : Option Token) → Small (further_word line o)
+small_word line (Some t) = either_small (spells (codes "NORD") (token_text line t) || spells (codes "VEC") (token_text line t)) Ignored None tt tt
+small_word line None = tt
+
+small_either : (x y : Option Attribute) → Small x → Small y → Small (either_attribute x y)
+small_either (Some a) y h g = h
+small_either None y h g = g
+
+small_further : (b : Bool) (line : List ℕ) (tokens : List Token) → Small (further_attribute b line tokens)
+small_further true line tokens = small_either (power_alone tokens) (further_word line (name_alone line tokens)) (small_alone tokens) (small_word line (name_alone line tokens))
+small_further false line tokens = tt
+
+small_at : (dialect : Dialect) (line : List ℕ) (tokens : List Token) → Small (attribute_at dialect line tokens)
+small_at dialect line tokens =
+    small_either (attribute_by line (name_alone line tokens)) (further_attribute (has_further_directives dialect) line tokens)
+    (small_by line (name_alone line tokens)) (small_further (has_further_directives dialect) line tokens)
+
+attributes_within : (dialect : Dialect) (line : List ℕ) (parts : List (List Token)) (o : Option Attributes) → IfSome o Within → IfSome (attributes_from dialect line parts o) Within
+attributes_within dialect line [] o h = h
+attributes_within dialect line (part ∷ parts) o h = attributes_within dialect line parts _ (attribute_within _ o (small_at dialect line part) h)
+
+pub said_within : (dialect : Dialect) (line : List ℕ) (parts : List (List Token)) (o : Option Attributes) → o ≡ attributes_from dialect line parts (Some nothing_said) → IfSome o Within
+said_within dialect line parts o h =
     let P : Option Attributes → Type 0 = λ x. IfSome x Within in
-    subst P (sym h) (attributes_within line parts (Some nothing_said) tt)
+    subst P (sym h) (attributes_within dialect line parts (Some nothing_said) tt)
 
 -- one more operand
-pub attribute_step : {X : Type 0} (now : X → List Token) (line : List ℕ) (before after all : Option Attributes) (xs : List X) (i : ℕ) (x : X) → i < length xs → x ≡ slice_index_or xs i x
-    → after ≡ with_attribute (attribute_at line (now x)) before
-    → attributes_from line (map now (drop i xs)) before ≡ all
-    → attributes_from line (map now (drop (i + 1) xs)) after ≡ all
-attribute_step now line before after all xs i x h at is same =
+pub attribute_step : {X : Type 0} (now : X → List Token) (dialect : Dialect) (line : List ℕ) (before after all : Option Attributes) (xs : List X) (i : ℕ) (x : X) → i < length xs → x ≡ slice_index_or xs i x
+    → after ≡ with_attribute (attribute_at dialect line (now x)) before
+    → attributes_from dialect line (map now (drop i xs)) before ≡ all
+    → attributes_from dialect line (map now (drop (i + 1) xs)) after ≡ all
+attribute_step now dialect line before after all xs i x h at is same =
     let split : drop i xs ≡ x ∷ drop (i + 1) xs = rw add-one (drop-cons xs i x h ∙ ap (λ y. y ∷ drop (suc i) xs) (sym at)) in
-    ap (λ (o : Option Attributes). attributes_from line (map now (drop (i + 1) xs)) o) is
-    ∙ ap (λ l. attributes_from line (map now l) before) (sym split)
+    ap (λ (o : Option Attributes). attributes_from dialect line (map now (drop (i + 1) xs)) o) is
+    ∙ ap (λ l. attributes_from dialect line (map now l) before) (sym split)
     ∙ same

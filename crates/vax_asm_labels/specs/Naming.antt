@@ -1,17 +1,20 @@
 -- The statements that define names, choose sections and say where a program begins (VAX MACRO and Instruction Set Reference
 -- Manual, "Label field", "Direct assignment statement", `.PSECT`, `.ENTRY`, `.GLOBAL`, `.EXTERNAL` and `.END`).
-use Rattle.std.specs.Prelude.{ℕ, ℤ, pos, negsuc, Bool, true, false, ◌&&◌, ◌==◌, not, if◌then◌else◌, List, [], ◌∷◌, ◌++◌, Option, Some, None, Result, Ok, Err, codes}
+use Rattle.std.specs.Prelude.{ℕ, ℤ, pos, negsuc, Bool, true, false, ◌&&◌, ◌||◌, ◌==◌, nat_le, not, if◌then◌else◌, List, [], ◌∷◌, ◌++◌, Option, Some, None, Result, Ok, Err, codes}
 use Rattle.std.specs.Str.{bytes_eq}
 use Rattle.vax_asm_encode.specs.declared.operand.DataKind.TheVariants.{Number}
 use Rattle.vax_asm_data.specs.Data.{forward, item_stated, unless_none}
 use Rattle.vax_asm_sections.specs.Layout.{Sections, selected}
 use Rattle.vax_asm_sections.specs.declared.types.Attributes.{Attributes}
 use Rattle.vax_asm_sections.specs.declared.types.Refusal.{Refusal}
-use Rattle.vax_dialect.specs.Differences.{assigns_places, has_unnamed_psect}
-use Rattle.vax_lex.specs.Characters.{canonical_name}
+use Rattle.vax_dialect.specs.Differences.{assigns_places, has_further_directives, has_unnamed_psect}
+use Rattle.vax_dialect.specs.declared.Dialect.{Dialect}
+use Rattle.vax_lex.specs.Characters.{canonical_name, spells}
 use Rattle.vax_lex.specs.Grammar.{symbols_of}
 use Rattle.vax_lex.specs.Tokens.{token_text}
 use Rattle.vax_lex.specs.declared.token.Token.{Token}
+use Rattle.vax_lex.specs.declared.token.TokenKind.{TokenKind}
+use Rattle.vax_lex.specs.declared.token.TokenKind.TheVariants as kinds
 use Rattle.vax_lex.specs.declared.value.Value.{Value}
 use Rattle.vax_lex.specs.declared.value.Value.TheVariants as value
 use Rattle.vax_lex.specs.declared.value.ExprError.{ExprError}
@@ -193,13 +196,36 @@ abbrev pub attribute_by : List ℕ → Option Token → Option Attribute
 attribute_by line (Some t) = attribute_of (token_text line t)
 attribute_by line None = None
 
--- the attribute that an operand is
-abbrev pub attribute_at : List ℕ → List Token → Option Attribute
-attribute_at line tokens = attribute_by line (name_alone line tokens)
+-- Attributes where the dialect has further directives: a power of two from 0 to 9, and what says that a section isn't read, or is one of vectors.
+abbrev pub power_of_two : TokenKind → Option Attribute
+power_of_two (kinds.Number n) = if nat_le n 9 then Some (Align n) else None
+power_of_two kinds.Name = None
+power_of_two (kinds.Mark m) = None
+power_of_two kinds.Text = None
 
-abbrev pub attributes_from : List ℕ → List (List Token) → Option Attributes → Option Attributes
-attributes_from line [] found = found
-attributes_from line (part ∷ parts) found = attributes_from line parts (with_attribute (attribute_at line part) found)
+abbrev pub power_alone : List Token → Option Attribute
+power_alone (t ∷ []) = power_of_two t.kind
+power_alone tokens = None
+
+abbrev pub further_word : List ℕ → Option Token → Option Attribute
+further_word line (Some t) = if spells (codes "NORD") (token_text line t) || spells (codes "VEC") (token_text line t) then Some Ignored else None
+further_word line None = None
+
+abbrev pub either_attribute : Option Attribute → Option Attribute → Option Attribute
+either_attribute (Some a) other = Some a
+either_attribute None other = other
+
+abbrev pub further_attribute : Bool → List ℕ → List Token → Option Attribute
+further_attribute true line tokens = either_attribute (power_alone tokens) (further_word line (name_alone line tokens))
+further_attribute false line tokens = None
+
+-- the attribute that an operand is
+abbrev pub attribute_at : Dialect → List ℕ → List Token → Option Attribute
+attribute_at dialect line tokens = either_attribute (attribute_by line (name_alone line tokens)) (further_attribute (has_further_directives dialect) line tokens)
+
+abbrev pub attributes_from : Dialect → List ℕ → List (List Token) → Option Attributes → Option Attributes
+attributes_from dialect line [] found = found
+attributes_from dialect line (part ∷ parts) found = attributes_from dialect line parts (with_attribute (attribute_at dialect line part) found)
 
 abbrev pub nothing_said : Attributes
 nothing_said = record { align = None; write = None }
@@ -221,7 +247,7 @@ unnamed_chosen false s = Err fault.Count
 
 abbrev pub section_by : List ℕ → List (List Token) → Standing → Result Standing FaultKind
 section_by line [] s = unnamed_chosen (has_unnamed_psect s.dialect) s
-section_by line (name ∷ attributes) s = section_chosen (name_of line name) (attributes_from line attributes (Some nothing_said)) s
+section_by line (name ∷ attributes) s = section_chosen (name_of line name) (attributes_from s.dialect line attributes (Some nothing_said)) s
 
 -- `.PSECT`
 unfoldable pub section_stated : List ℕ → List Token → Standing → Result Standing FaultKind

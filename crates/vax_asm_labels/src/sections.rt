@@ -3,11 +3,12 @@
 ghost use Rattle.std.specs.Prelude.{◌≡◌, ◌<◌, ◌^◌, All, IfSome, Some, length, map, option_map};
 ghost use Rattle.vax_lex.specs.KeptNames.{kept_name};
 ghost use Rattle.vax_lex.specs.Tokens.{IsTokenOf};
-ghost use Rattle.vax_asm_labels.specs.Naming.{attribute_at, attributes_from, nothing_said, section_chosen, section_stated, unnamed_chosen, with_align, with_attribute, with_write};
+ghost use Rattle.vax_asm_labels.specs.Naming.{attribute_at, attribute_by, attributes_from, further_attribute, further_word, nothing_said, power_alone, section_chosen, section_stated, unnamed_chosen, with_align, with_attribute, with_write};
 ghost use Rattle.vax_asm_labels.specs.Within.{Within};
 ghost use Rattle.vax_asm_first.specs.View.{States};
-ghost use Rattle.vax_dialect.specs.Differences.{has_unnamed_psect};
+ghost use Rattle.vax_dialect.specs.Differences.{has_further_directives, has_unnamed_psect};
 ghost use Rattle.vax_asm_statement.specs.Directives.{attribute_of};
+ghost use Rattle.vax_asm_statement.specs.Items.{name_alone};
 ghost use Rattle.vax_asm_statement.specs.Parts.{parts};
 
 use crate::operands::name_of;
@@ -16,7 +17,8 @@ use std::str;
 use vax_asm_first::{FaultKind, Refused, Standing};
 use vax_asm_sections::{Attributes, Refusal};
 use vax_asm_statement::{Attribute, attribute_named, name_alone, parts, text_of};
-use vax_lex::{CanonicalName, Token};
+use vax_dialect::Dialect;
+use vax_lex::{CanonicalName, Token, TokenKind, spells};
 
 /// The attribute with this name.
 #[tactic(auto, using(crate::proofs::Attributes::unnamed))]
@@ -29,13 +31,66 @@ fn attribute_of(name: &[u8]) -> Option<Attribute>
     }
 }
 
-/// The attribute that an operand is.
-fn attribute_at(line: &[u8], tokens: &[Token]) -> Option<Attribute>
+/// The attribute whose name an operand is.
+fn attribute_named_by(line: &[u8], tokens: &[Token]) -> Option<Attribute>
     requires { All (IsTokenOf line.now) tokens.now }
-    ensures { result ≡ attribute_at line.now tokens.now }
+    ensures { result ≡ attribute_by line.now (name_alone line.now tokens.now) }
 {
     let token = name_alone(line, tokens)?;
     attribute_of(text_of(line, token))
+}
+
+/// The power of two to align to that an operand is.
+fn power_alone(tokens: &[Token]) -> Option<Attribute>
+    ensures { result ≡ power_alone tokens.now }
+{
+    match tokens {
+        [token] => match token.kind {
+            TokenKind::Number(power) if power <= 9 => Some(Attribute::Align(power as u8)),
+            _ => None,
+        },
+        _ => None,
+    }
+}
+
+/// `NORD` or `VEC`.
+fn further_word(line: &[u8], tokens: &[Token]) -> Option<Attribute>
+    requires { All (IsTokenOf line.now) tokens.now }
+    ensures { result ≡ further_word line.now (name_alone line.now tokens.now) }
+{
+    let token = name_alone(line, tokens)?;
+    let name = text_of(line, token);
+    if spells(b"NORD", name) || spells(b"VEC", name) {
+        Some(Attribute::Ignored)
+    } else {
+        None
+    }
+}
+
+/// The attribute that an operand is where the dialect has further directives.
+fn further_attribute(dialect: Dialect, line: &[u8], tokens: &[Token]) -> Option<Attribute>
+    requires { All (IsTokenOf line.now) tokens.now }
+    ensures { result
+        ≡ further_attribute (has_further_directives dialect) line.now tokens.now }
+{
+    if !dialect.has_further_directives() {
+        return None;
+    }
+    match power_alone(tokens) {
+        Some(attribute) => Some(attribute),
+        None => further_word(line, tokens),
+    }
+}
+
+/// The attribute that an operand is.
+fn attribute_at(dialect: Dialect, line: &[u8], tokens: &[Token]) -> Option<Attribute>
+    requires { All (IsTokenOf line.now) tokens.now }
+    ensures { result ≡ attribute_at dialect line.now tokens.now }
+{
+    match attribute_named_by(line, tokens) {
+        Some(attribute) => Some(attribute),
+        None => further_attribute(dialect, line, tokens),
+    }
 }
 
 fn with_align(align: u8, said: Attributes) -> Option<Attributes>
@@ -79,17 +134,17 @@ fn with_attribute(attribute: Option<Attribute>, said: Option<Attributes>) -> Opt
 
 /// The attributes that operands are.
 #[tactic(auto, using(crate::proofs::Attributes::attribute_step))]
-fn attributes_of(line: &[u8], operands: &[&[Token]]) -> Option<Attributes>
+fn attributes_of(dialect: Dialect, line: &[u8], operands: &[&[Token]]) -> Option<Attributes>
     requires { All (λ o. All (IsTokenOf line.now) o.now) operands.now }
     ensures { result
-        ≡ attributes_from line.now (map (λ o. o.now) operands.now) (Some nothing_said) }
+        ≡ attributes_from dialect line.now (map (λ o. o.now) operands.now) (Some nothing_said) }
 {
     let mut said = Some(Attributes {
         align: None,
         write: None,
     });
     for operand in operands {
-        said = with_attribute(attribute_at(line, operand), said);
+        said = with_attribute(attribute_at(dialect, line, operand), said);
     }
     said
 }
@@ -164,6 +219,6 @@ pub fn section(
     let [name, attributes @ ..] = found.as_slice() else {
         return choose_unnamed(standing, alloc);
     };
-    let attributes = attributes_of(line, attributes);
+    let attributes = attributes_of(standing.dialect, line, attributes);
     choose(standing, alloc, name_of(line, name), attributes)
 }

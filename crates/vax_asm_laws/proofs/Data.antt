@@ -1,11 +1,12 @@
 -- Directives of data.
 use Rattle.std.proofs.Common.{◌≡◌, ◌*◌, ℕ, pos, Bool, true, false, cond, List, [], ◌∷◌, length, map, Option, Some, None, Result, Ok, Err, refl, ap, subst, ◌∙◌}
 use Rattle.std.proofs.Math.Nat.{mul_comm}
-use Rattle.vax_asm_data.specs.Data.{Ending, Plain, Counted_first, Zero_last, addresses_stated, align_by, align_stated, align_to, at_most_one, before_pieces, behind_pieces, boundary, boundary_named, characters_of, count_byte, count_stated, data_stated, even_stated, expression_stated, fixed, is_nothing, item_stated, item_told, items_stated, one_alone, piece_stated, pieces_length, pieces_stated, placed_item, room, room_by, space_stated, text_by, text_parts, text_stated, to_odd, odd_stated, forward, unless_none, zero_stated}
-use Rattle.std.specs.Prelude.{◌&&◌, ◌-◌, nat_lt, if◌then◌else◌}
-use Rattle.vax_dialect.specs.Differences.{has_empty_items}
+use Rattle.std.proofs.lemmas.List.{length-replicate}
+use Rattle.vax_asm_data.specs.Data.{Ending, Plain, Counted_first, Zero_last, addresses_stated, align_by, align_stated, align_to, at_most_one, before_pieces, behind_pieces, boundary, boundary_named, characters_of, count_byte, count_stated, data_stated, even_stated, expression_stated, fixed, is_nothing, item_stated, item_told, items_stated, one_or_two, behind_fill, byte_of, fill_by, fill_where, filled_by, filled_to, piece_stated, pieces_length, pieces_stated, placed_item, room, room_by, space_stated, text_by, text_parts, text_stated, to_odd, odd_stated, forward, unless_none, zero_stated}
+use Rattle.std.specs.Prelude.{◌&&◌, ◌-◌, ◌^◌, nat_lt, replicate, if◌then◌else◌}
+use Rattle.vax_dialect.specs.Differences.{has_empty_items, has_further_directives}
 use Rattle.vax_asm_second.proofs.Fitting.{data_length}
-use Rattle.vax_asm_sections.specs.Layout.{Bytes, Field, Part, Sections, Zeros, aligned, current_of, put}
+use Rattle.vax_asm_sections.specs.Layout.{Bytes, Field, Part, Sections, Zeros, aligned, current_of, gap, put}
 use Rattle.vax_asm_sections.specs.declared.types.Refusal.{Refusal}
 use Rattle.vax_lex.specs.declared.token.Token.{Token}
 use Rattle.vax_lex.specs.Grammar.{symbols_of}
@@ -197,15 +198,49 @@ align_by_goes site tokens s t c e =
     let n = boundary site tokens (boundary_named site.line tokens) s.scope in
     align_to_goes (with_scope n.scope s) t n.number c e
 
-one_goes : (found : List (List Token)) (stated : List Token → Result Standing FaultKind) (s t : Standing) → ((o : List Token) → stated o ≡ Ok t → Goes s t) → one_alone found stated ≡ Ok t → Goes s t
-one_goes [] stated s t h e = cc
-one_goes (one ∷ []) stated s t h e = h one e
-one_goes (one ∷ two ∷ more) stated s t h e = cc
+behind_fill_goes : (k : ℕ) (s t : Standing) (r : Result Standing FaultKind) → ((u : Standing) → r ≡ Ok u → Goes s u) → behind_fill k r ≡ Ok t → Goes s t
+behind_fill_goes k s t (Ok u) h e =
+    let first : Goes s u = h u refl in
+    step_then s.sections u.sections t.sections first
+    (with_sections_goes u t (aligned k u.sections) (λ v made. align_step k u.sections v first.counted made) e)
+behind_fill_goes k s t (Err kind) h e = cc
+
+filled_to_goes : (byte k : ℕ) (s t : Standing) → IsCounted s → filled_to byte k s ≡ Ok t → Goes s t
+filled_to_goes byte k s t c e =
+    let n : ℕ = gap (current_of s.sections).size (2 ^ k) in
+    let part : Part Fixup = Bytes (replicate n byte) in
+    behind_fill_goes k s t (with_sections s (put n part s.sections))
+    (λ u made. with_sections_goes s u (put n part s.sections) (λ v put_made. put_step n part s.sections v c (length-replicate n byte) tt tt put_made) made) e
+
+filled_by_goes : (s t : Standing) (boundary byte : Result ℕ FaultKind) → IsCounted s → filled_by s boundary byte ≡ Ok t → Goes s t
+filled_by_goes s t (Ok k) (Ok byte) c e = filled_to_goes byte k s t c e
+filled_by_goes s t (Ok k) (Err kind) c e = cc
+filled_by_goes s t (Err kind) (Ok byte) c e = cc
+filled_by_goes s t (Err kind) (Err other) c e = cc
+
+fill_by_goes : (site : Site) (tokens byte : List Token) (s t : Standing) → IsCounted s → fill_by site tokens byte s ≡ Ok t → Goes s t
+fill_by_goes site tokens byte s t c e =
+    let b = boundary site tokens (boundary_named site.line tokens) s.scope in
+    let n = counted site (Some byte) b.scope in
+    filled_by_goes (with_scope n.scope s) t b.number (byte_of n.number) c e
+
+where_goes : (may : Bool) (site : Site) (tokens byte : List Token) (s t : Standing) → IsCounted s → fill_where may site tokens byte s ≡ Ok t → Goes s t
+where_goes true site tokens byte s t c e = fill_by_goes site tokens byte s t c e
+where_goes false site tokens byte s t c e = cc
+
+one_or_two_goes : (found : List (List Token)) (stated : List Token → Result Standing FaultKind) (both : List Token → List Token → Result Standing FaultKind) (s t : Standing)
+    → ((o : List Token) → stated o ≡ Ok t → Goes s t) → ((o p : List Token) → both o p ≡ Ok t → Goes s t) → one_or_two found stated both ≡ Ok t → Goes s t
+one_or_two_goes [] stated both s t h g e = cc
+one_or_two_goes (one ∷ []) stated both s t h g e = h one e
+one_or_two_goes (one ∷ two ∷ []) stated both s t h g e = g one two e
+one_or_two_goes (one ∷ two ∷ three ∷ more) stated both s t h g e = cc
 
 pub align_goes : (origin : Origin) (line : List ℕ) (tokens : List Token) (s t : Standing) → IsCounted s → align_stated origin line tokens s ≡ Ok t → Goes s t
 unfolding align_stated
 align_goes origin line tokens s t c e =
-    one_goes (parts tokens) (λ one. align_by (site_of origin line s) one s) s t (λ o made. align_by_goes (site_of origin line s) o s t c made) e
+    let may : Bool = has_further_directives s.dialect in
+    one_or_two_goes (parts tokens) (λ one. align_by (site_of origin line s) one s) (λ one byte. fill_where may (site_of origin line s) one byte s) s t
+    (λ o made. align_by_goes (site_of origin line s) o s t c made) (λ o p made. where_goes may (site_of origin line s) o p s t c made) e
 
 pub even_goes : (tokens : List Token) (s t : Standing) → IsCounted s → even_stated tokens s ≡ Ok t → Goes s t
 unfolding even_stated

@@ -3,12 +3,12 @@ use Rattle.std.proofs.Common.{◌≡◌, ◌⊎◌, ◌+◌, ℕ, Bool, true, fa
 use Rattle.std.proofs.lemmas.Bool.{cases_eq, cases_lt}
 use Rattle.std.proofs.lemmas.List.{get_or_append_left, get_or_past, get_or-set_other}
 use Rattle.std.specs.List.{list_any}
-use Rattle.std.specs.Prelude.{◌==◌, ◌&&◌, not, codes, if◌then◌else◌, map, nat_lt, slice_set}
+use Rattle.std.specs.Prelude.{◌==◌, ◌&&◌, ◌^◌, not, codes, if◌then◌else◌, map, nat_lt, replicate, slice_set}
 use Rattle.std.specs.Str.{bytes_eq}
 use Rattle.vax_asm.specs.Placing.{FaultyLabel, Faulty, Placed, Stands, also, behind_label, beside, body_stated, directed, directive_named, if_wide, instructed, instruction_named, is_bad, is_listing, is_wide, operated_by, placed, placed_by, stated, stated_by, token_of, with_range}
 use Rattle.vax_asm.specs.Walk.{Assembly}
-use Rattle.vax_asm_data.specs.Data.{Ending, Plain, Counted_first, Zero_last, addresses_stated, align_by, align_stated, align_to, at_most_one, before_pieces, behind_pieces, boundary, boundary_named, count_byte, count_stated, data_stated, even_stated, expression_stated, is_nothing, item_stated, items_stated, odd_stated, one_alone, piece_stated, pieces_length, pieces_stated, placed_item, room, room_by, space_stated, text_by, text_stated, unless_none, zero_stated}
-use Rattle.vax_dialect.specs.Differences.{assigns_places, has_empty_items, has_unnamed_psect}
+use Rattle.vax_asm_data.specs.Data.{Ending, Plain, Counted_first, Zero_last, addresses_stated, align_by, align_stated, align_to, at_most_one, before_pieces, behind_pieces, boundary, boundary_named, count_byte, count_stated, data_stated, even_stated, expression_stated, is_nothing, item_stated, items_stated, odd_stated, one_or_two, behind_fill, byte_of, fill_by, fill_where, filled_by, piece_stated, pieces_length, pieces_stated, placed_item, room, room_by, space_stated, text_by, text_stated, unless_none, zero_stated}
+use Rattle.vax_dialect.specs.Differences.{assigns_places, has_empty_items, has_further_directives, has_unnamed_psect}
 use Rattle.vax_asm_encode.specs.declared.operand.DataKind.{DataKind}
 use Rattle.vax_asm_encode.specs.declared.operand.DataKind.TheVariants.{Number}
 use Rattle.vax_asm_encode.specs.declared.operand.Operand.{Operand}
@@ -26,7 +26,7 @@ use Rattle.vax_asm_names.specs.declared.types.Duplicate.{Duplicate}
 use Rattle.vax_asm_names.specs.declared.types.Local.{Local}
 use Rattle.vax_asm_scope.specs.Scope.{Bound, Entry, Scope, assign_to, assigned, bind_all, closed, entry, entry_by, is_local, is_undefined, labelled, labelled_locally, local_by, mean, mean_here, mean_local, mean_name, opened_if_fresh, renamed, with_externals, external_at}
 use Rattle.vax_asm_scope.specs.Used.{at_term, used}
-use Rattle.vax_asm_sections.specs.Layout.{Part, Sections, Zeros, aligned, put, selected}
+use Rattle.vax_asm_sections.specs.Layout.{Bytes, Part, Sections, Zeros, aligned, current_of, gap, put, selected}
 use Rattle.vax_asm_sections.specs.declared.types.Attributes.{Attributes}
 use Rattle.vax_asm_sections.specs.declared.types.Refusal.{Refusal}
 use Rattle.vax_asm_statement.specs.Items.{Item, Piece, Characters, Value as ByteValue, item_of, pieces_of as text_pieces, whole}
@@ -287,10 +287,12 @@ most_in [] s stated h = h None
 most_in (one ∷ []) s stated h = h (Some one)
 most_in (one ∷ two ∷ more) s stated h = tt
 
-one_in : (found : List (List Token)) (s : Standing) (stated : List Token → Result Standing FaultKind) → ((o : List Token) → StandIn s (stated o)) → StandIn s (one_alone found stated)
-one_in [] s stated h = tt
-one_in (one ∷ []) s stated h = h one
-one_in (one ∷ two ∷ more) s stated h = tt
+one_or_two_in : (found : List (List Token)) (s : Standing) (stated : List Token → Result Standing FaultKind) (both : List Token → List Token → Result Standing FaultKind)
+    → ((o : List Token) → StandIn s (stated o)) → ((o p : List Token) → StandIn s (both o p)) → StandIn s (one_or_two found stated both)
+one_or_two_in [] s stated both h g = tt
+one_or_two_in (one ∷ []) s stated both h g = h one
+one_or_two_in (one ∷ two ∷ []) s stated both h g = g one two
+one_or_two_in (one ∷ two ∷ three ∷ more) s stated both h g = tt
 
 boundary_lasts : (site : Site) (tokens : List Token) (o : Option ℕ) (s : Scope) → Lasts s (boundary site tokens o s).scope
 boundary_lasts site tokens (Some k) s = stay_same s.sources
@@ -299,6 +301,31 @@ boundary_lasts site tokens None s = told_lasts site.here (symbols_of site.line t
 align_in : (s : Standing) (n : Result ℕ FaultKind) → StandIn s (align_to s n)
 align_in s (Ok k) = sections_in s (aligned k s.sections)
 align_in s (Err kind) = tt
+
+behind_fill_in : (k : ℕ) (s : Standing) (r : Result Standing FaultKind) → StandIn s r → StandIn s (behind_fill k r)
+behind_fill_in k s (Ok t) h = stand_then s t (with_sections t (aligned k t.sections)) h (sections_in t (aligned k t.sections))
+behind_fill_in k s (Err kind) h = tt
+
+filled_in : (s : Standing) (boundary byte : Result ℕ FaultKind) → StandIn s (filled_by s boundary byte)
+filled_in s (Ok k) (Ok byte) =
+    let n : ℕ = gap (current_of s.sections).size (2 ^ k) in
+    let found : Result (Sections Fixup) Refusal = put n (Bytes (replicate n byte)) s.sections in
+    behind_fill_in k s (with_sections s found) (sections_in s found)
+filled_in s (Ok k) (Err kind) = tt
+filled_in s (Err kind) (Ok byte) = tt
+filled_in s (Err kind) (Err other) = tt
+
+fill_in : (site : Site) (tokens byte : List Token) (s : Standing) → StandIn s (fill_by site tokens byte s)
+fill_in site tokens byte s =
+    let b = boundary site tokens (boundary_named site.line tokens) s.scope in
+    let c = counted site (Some byte) b.scope in
+    stand_then s (with_scope c.scope s) (filled_by (with_scope c.scope s) b.number (byte_of c.number))
+    (stay_then s.scope.sources b.scope.sources c.scope.sources (boundary_lasts site tokens (boundary_named site.line tokens) s.scope) (counted_lasts site (Some byte) b.scope))
+    (filled_in (with_scope c.scope s) b.number (byte_of c.number))
+
+where_in : (may : Bool) (site : Site) (tokens byte : List Token) (s : Standing) → StandIn s (fill_where may site tokens byte s)
+where_in true site tokens byte s = fill_in site tokens byte s
+where_in false site tokens byte s = tt
 
 even_in : (tokens : List Token) (s : Standing) → StandIn s (even_stated tokens s)
 unfolding even_stated
@@ -328,7 +355,7 @@ unnamed_in false s = tt
 
 section_in : (line : List ℕ) (found : List (List Token)) (s : Standing) → StandIn s (section_by line found s)
 section_in line [] s = unnamed_in (has_unnamed_psect s.dialect) s
-section_in line (name ∷ attributes) s = section_in_by (name_of line name) (attributes_from line attributes (Some nothing_said)) s
+section_in line (name ∷ attributes) s = section_in_by (name_of line name) (attributes_from s.dialect line attributes (Some nothing_said)) s
 
 symbol_in : (global : Bool) (name : List ℕ) (s : Standing) → StandIn s (symbol_stated global name s)
 symbol_in global name s = defined_in s (begins global name (labelled name (here_in s.sections) s.scope)) (begins_in global name s.scope (labelled name (here_in s.sections) s.scope) (labelled_lasts name (here_in s.sections) s.scope))
@@ -435,9 +462,10 @@ directed_in (directive.Space k) origin line tokens s =
     most_in (parts tokens) s (λ count. room_by k (site_of origin line s) count s)
     (λ o. let c = counted (site_of origin line s) o s.scope in stand_then s (with_scope c.scope s) (room k (with_scope c.scope s) c.number) (counted_lasts (site_of origin line s) o s.scope) (room_in k (with_scope c.scope s) c.number))
 directed_in directive.Align origin line tokens s =
-    one_in (parts tokens) s (λ one. align_by (site_of origin line s) one s)
+    one_or_two_in (parts tokens) s (λ one. align_by (site_of origin line s) one s) (λ one byte. fill_where (has_further_directives s.dialect) (site_of origin line s) one byte s)
     (λ one. let c = boundary (site_of origin line s) one (boundary_named line one) s.scope in
     stand_then s (with_scope c.scope s) (align_to (with_scope c.scope s) c.number) (boundary_lasts (site_of origin line s) one (boundary_named line one) s.scope) (align_in (with_scope c.scope s) c.number))
+    (λ one byte. where_in (has_further_directives s.dialect) (site_of origin line s) one byte s)
 directed_in directive.Even origin line tokens s = even_in tokens s
 directed_in directive.Odd origin line tokens s = odd_in tokens s
 directed_in directive.Global origin line tokens s = none_in tokens s _ (named_in s (names_from true line (parts tokens) (Some s.scope)) (names_in true line (parts tokens) s.scope (Some s.scope) (stay_same s.scope.sources)))

@@ -114,7 +114,7 @@ unnamed_goes false s t c e = cc
 
 sections_by : (line : List ℕ) (found : List (List Token)) (s t : Standing) → IsCounted s → section_by line found s ≡ Ok t → Goes s t
 sections_by line [] s t c e = unnamed_goes (has_unnamed_psect s.dialect) s t c e
-sections_by line (name ∷ attributes) s t c e = section_goes_by (name_of line name) (attributes_from line attributes (Some nothing_said)) s t c e
+sections_by line (name ∷ attributes) s t c e = section_goes_by (name_of line name) (attributes_from s.dialect line attributes (Some nothing_said)) s t c e
 
 pub section_goes : (line : List ℕ) (tokens : List Token) (s t : Standing) → IsCounted s → section_stated line tokens s ≡ Ok t → Goes s t
 unfolding section_stated

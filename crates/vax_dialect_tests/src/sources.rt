@@ -24,7 +24,7 @@ fn fault_of(alloc: Global, dialect: Dialect, source: &str) -> (u32, u8) {
 #[test]
 fn gives_what_one_dialect_has(rt: HostRuntime) -> Result<(), Fail> {
     let alloc = rt.alloc();
-    let rows: [(&str, &[u8], (u32, u8)); 14] = [
+    let rows: [(&str, &[u8], (u32, u8)); 16] = [
         (".BYTE 1,,2\n", b"\x01\0\x02", (1, 4)),
         (".WORD 1[2],[2],\n", b"\x01\0\x01\0\0\0\0\0\0\0", (1, 4)),
         (
@@ -46,6 +46,16 @@ fn gives_what_one_dialect_has(rt: HostRuntime) -> Result<(), Fail> {
         (".BLKD\n.BYTE 1\n", b"\0\0\0\0\0\0\0\0\x01", (1, 2)),
         (".BLKG 0\n.BYTE 1\n", b"\x01", (1, 2)),
         (".WEAK A\nA: .BYTE 1\n", b"\x01", (1, 2)),
+        (
+            ".BYTE 1\n.ALIGN LONG,^XFF\n.BYTE 2\n.ALIGN 1,7\n.ALIGN 1,8\n",
+            b"\x01\xFF\xFF\xFF\x02\x07",
+            (2, 3),
+        ),
+        (
+            ".BYTE 1\n.PSECT A,2,NORD,vec\n.BYTE 2\n.PSECT\n.BYTE 3\n",
+            b"\x01\x03",
+            (2, 4),
+        ),
         (
             ".CROSS A\n.NOCROSS\n.DEBUG A\n.LIBRARY 'A;B'\n.MCALL $A,$B\n.LINK \"A\"/B\n.PRINT 1 ;C\n.WARN\n.BYTE 3\n",
             b"\x03",
@@ -78,6 +88,15 @@ fn tells_the_faults_of_the_larger_dialect(rt: HostRuntime) {
         (".PSECT ,LONG\n", (1, 4)),
         (".BLKO 1\n", (1, 2)),
         (".ERROR 1\n", (1, 2)),
+        (".ALIGN LONG,256\n", (1, 7)),
+        (".ALIGN LONG,\n", (1, 4)),
+        (".ALIGN LONG,X\nX=1\n", (1, 5)),
+        (".ALIGN LONG,1,2\n", (1, 3)),
+        (".ALIGN 10,300\n", (1, 7)),
+        (".PSECT A,10\n", (1, 4)),
+        (".PSECT A,ABS\n", (1, 4)),
+        (".PSECT A,OVR\n", (1, 4)),
+        (".PSECT A,2,LONG\n.PSECT A,3\n", (2, 4)),
     ];
     for (source, fault) in rows {
         assert!(rt; fault_of(alloc, Dialect::Vms, source) == fault, "{source}");

@@ -4,5 +4,5 @@ use Rattle.vax_asm_labels.proofs.sections.attributes_of.Given as goal
 
 abbrev pub invariant-loop-operand : goal.invariant-loop-operand
 invariant-loop-operand l =
-    attributes_from l.line (map (λ o. o.now) (drop l.operand-index l.operands)) l.said
-    ≡ attributes_from l.line (map (λ o. o.now) l.operands) (Some nothing_said)
+    attributes_from l.dialect l.line (map (λ o. o.now) (drop l.operand-index l.operands)) l.said
+    ≡ attributes_from l.dialect l.line (map (λ o. o.now) l.operands) (Some nothing_said)
