@@ -4,7 +4,6 @@
 //! whatever pages were absent and how often the step was tried.
 #![tactic(auto)]
 
-
 mod beginning;
 mod filling;
 mod laws;
