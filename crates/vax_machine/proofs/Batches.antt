@@ -1,10 +1,11 @@
 -- What several attempts, made at once, make of a machine.
-use Rattle.std.proofs.Common.{ℕ, zero, suc, ◌≡◌, ◌+◌, ◌-◌, ◌^◌, ◌<◌, Bool, true, false, ◌==◌, List, length, refl, ap, sym, ◌∙◌, subst, arith, Option, None}
+use Rattle.std.proofs.Common.{ℕ, zero, suc, ◌≡◌, ◌+◌, ◌-◌, ◌^◌, ◌<◌, Bool, true, false, ◌==◌, List, length, refl, ap, sym, ◌∙◌, subst, arith, Option, Some, None}
 use Rattle.std.specs.Prelude.{IsSome}
 use Rattle.vax_space.specs.declared.Area.{Area}
 use Rattle.vax_space.specs.Reference.{page_of}
 use Rattle.vax_outside.specs.Blocks.{BlockFile}
 use Rattle.vax_outside.specs.Faults.{raised}
+use Rattle.vax_flat.specs.declared.Ending.{Ending}
 use Rattle.vax_flat.specs.Memory.{byte_at}
 use Rattle.vax_flat.specs.Outcome.{first_missing}
 use Rattle.vax_flat.specs.Parts.{Place, At, Within, Completes, machine_at, touches_at, turn}
@@ -23,10 +24,11 @@ use Rattle.vax_pager.specs.Paging.{Paging, StandsWith, view_of}
 use Rattle.vax_pager.specs.Steps.{OnlyWritten, settled}
 use Rattle.vax_machine.proofs.Attempts.{areas_settled, attempted_marks, begins, concluded_marks, ended_as, goes_by, is_try, keeping_by, keeps_by, means_by, parted_as, residence_same, residence_settled, settled_blocks, sound_before, stands_eased, stepped_as, still_missing}
 use Rattle.vax_pager.proofs.Turned.{stands_settled, stands_turned}
-use Rattle.vax_machine.specs.Conclusion.{Concludes, applied_of, eased_pages, pages_after, settled_after}
-use Rattle.vax_machine.specs.Machine.{AreSound, Goes, IsTry, Keeping, Means, keeping, tried}
-use Rattle.vax_machine.specs.Residence.{residence_of, unpinned}
-use Rattle.vax_machine.specs.Batch.{Advances, GoesFar, HasTriedSeveral, Spot, several}
+use Rattle.vax_machine.specs.AtOnce.{AreSteps}
+use Rattle.vax_machine.specs.Conclusion.{Concludes, applied_of, eased_pages, pages_after, settled_after, wanted_behind}
+use Rattle.vax_machine.specs.Machine.{AreSound, Goes, IsThere, IsTry, Keeping, Means, keeping, modified_of, residence, tried}
+use Rattle.vax_machine.specs.Residence.{Residence, is_resident, residence_of, unpinned}
+use Rattle.vax_machine.specs.Batch.{Advances, ComesFar, GoesFar, HasAdvanced, HasTriedSeveral, Spot, several}
 use Rattle.vax_machine.specs.declared.engine.Engine.{Engine}
 use Rattle.vax_machine.specs.declared.event.Applied.{Applied}
 use Rattle.vax_machine.specs.declared.event.Applied.TheVariants.{Stepped}
@@ -233,6 +235,78 @@ module _ (old mid new : Engine) (t : Paging) (result : Applied) (last : Attempt)
     goes = λ file place means. from_place file place means;
   }
 
+-- so many steps that are made at once, and no attempt behind them
+
+-- the machine behind them
+pub record IsFurther (count : ℕ) (old : Engine) (t : Paging) (new : Engine) : Type 0 where
+  pub pages : pages new.pager ≡ settled_after count t
+  pub steps : new.steps ≡ old.steps + count
+  pub turns : new.turns ≡ old.turns + count
+  pub wanted : new.wanted ≡ wanted_behind count old.wanted
+  pub ended : new.ended ≡ old.ended
+
+further_keeping : (count : ℕ) (old new : Engine) (t : Paging) → OnlyWritten (pages old.pager) t → IsFurther count old t new → old.steps + count < 2 ^ 64 → old.turns + count < 2 ^ 64 → keeping new ≡ several count (keeping old)
+unfolding settled_after several wanted_behind
+further_keeping zero old new t w b x y =
+    keeping_by new (keeping old) (ap (λ (z : Paging). z.areas) b.pages ∙ w.areas) (let e = b.steps in omega (arith, e)) (let e = b.turns in omega (arith, e))
+    (ap residence_of b.pages ∙ residence_same (pages old.pager) t w) b.wanted b.ended
+further_keeping (suc count) old new t w b x y =
+    let e = several_is count (keeping old) x y in
+    keeping_by new (record { areas = (pages old.pager).areas; steps = old.steps + suc count; turns = old.turns + suc count; residence = unpinned (residence_of (pages old.pager)); wanted = None; ended = old.ended })
+    (areas_settled t (pages new.pager) b.pages ∙ w.areas) b.steps b.turns (residence_settled t (pages new.pager) b.pages ∙ ap unpinned (residence_same (pages old.pager) t w)) b.wanted b.ended
+    ∙ sym e
+
+module _ (old new : Engine) (t : Paging) (count : ℕ) (w : OnlyWritten (pages old.pager) t) (f : IsPaging (pages old.pager)) (going : old.ended ≡ None) (b : IsFurther count old t new) (low : old.steps + count < 2 ^ 64) (short : old.turns + count < 2 ^ 64)
+    (steps : old.cpu.latch ≡ None → (memory : List Area) → (output : List ℕ) → StandsFor (view_of (pages old.pager)) memory → AreSteps (view_of (pages old.pager)) (flat_of old.cpu memory output) count new.cpu (view_of t))
+    (opened : IsSome old.cpu.latch → (count ≡ 0) × (new.cpu ≡ old.cpu) × (t ≡ pages old.pager))
+    (latch : new.cpu.latch ≡ old.cpu.latch) where
+  all_marks : modified_of new ≡ (view_of t).marked
+  all_marks = ap (λ (z : Paging). (view_of z).marked) b.pages ∙ settled_after_marks count t
+
+  comes_at_start : (file : Option BlockFile) (m : Flat) → Means old file (At m) → ComesFar count old new file (At m)
+  comes_at_start file m means =
+      let at = (begins old file (At m) going f means).0 in
+      let st = (begins old file (At m) going f means).1 in
+      let v = view_of (pages old.pager) in
+      let a = subst (λ (z : Flat). AreSteps v z count new.cpu (view_of t)) at.machine (steps at.open_one m.memory m.output st) in
+      record {
+        here = record { place = At a.here; modified = marks_after v.resident v.marked count m };
+        advances = subst (λ (z : Flat). Advances v.resident count (record { place = At m; modified = v.marked }) (record { place = At z; modified = marks_after v.resident v.marked count m })) a.steps
+            (advances v.resident v.marked m count (ap (λ (z : Flat). z.ending) a.steps ∙ a.running) a.resident a.at_once);
+        silent = a.silent;
+        means = means_by new new.cpu None file (At a.here) refl (b.ended ∙ going) (record { open_one = latch ∙ at.open_one; machine = a.processor })
+            (subst (λ (z : Paging). StandsWith z file a.here.memory) (sym b.pages)
+            (settled_memory count t file a.here.memory (stands_turned (pages old.pager) t file m.memory a.here.memory w f a.stands (λ addr away. a.absent addr away) means.memory)));
+        marks = all_marks ∙ a.marks;
+      }
+
+  comes_within : (file : Option BlockFile) (place : Place) → IsSome old.cpu.latch → Means old file place → ComesFar count old new file place
+  unfolding settled_after Advances
+  comes_within file place some means =
+      let none = opened some in
+      let same : pages new.pager ≡ pages old.pager = subst (λ (n : ℕ). pages new.pager ≡ settled_after n t) none.0 b.pages ∙ none.2 in
+      let here : Spot = record { place = place; modified = modified_of old } in
+      record {
+        here = here;
+        advances = subst (λ (n : ℕ). Advances (is_resident (residence old)) n here here) (sym none.0) refl;
+        silent = refl;
+        means = record {
+          processor = subst (λ (z : Cpu). IsThere z new.ended place) (sym none.1) (subst (λ (z : Option Ending). IsThere old.cpu z place) (sym b.ended) means.processor);
+          memory = subst (λ (z : Paging). StandsWith z file (machine_at place).memory) (sym same) means.memory;
+        };
+        marks = ap (λ (z : Paging). λ page. is_listed page z.modified) same;
+      }
+
+  comes : (file : Option BlockFile) (place : Place) → Means old file place → ComesFar count old new file place
+  comes file (At m) means = comes_at_start file m means
+  comes file (Within q) means = comes_within file (Within q) (rw means.processor.open_one refl) means
+
+  pub has_advanced : HasAdvanced count old new
+  has_advanced = record {
+    keeps = further_keeping count old new t w b low short;
+    goes = λ file place means. comes file place means;
+  }
+
 sound_settled_after : (count : ℕ) (s u : Paging) (want : Option ℕ) → u ≡ settled_after count s → AreSound s.areas (residence_of s) want → AreSound u.areas (residence_of u) want
 unfolding settled_after
 sound_settled_after zero s u want e h = rw e h
@@ -249,3 +323,9 @@ settled_missing (suc count) last s u e h = rw e (unfold settled in h)
 
 pub missing_behind : (count : ℕ) (last : Attempt) (s t u : Paging) → OnlyWritten s t → u ≡ settled_after count t → StopsInside last (view_of s) → StopsInside last (view_of u)
 missing_behind count last s t u w e h = settled_missing count last t u e (still_missing last s t w h)
+
+-- and where no page is wanted behind steps
+pub wanted_sound : (count : ℕ) (areas : List Area) (r : Residence) (want new : Option ℕ) → new ≡ wanted_behind count want → AreSound areas r want → AreSound areas r new
+unfolding wanted_behind
+wanted_sound zero areas r want new e h = rw e h
+wanted_sound (suc count) areas r want new e h = record { pins = h.pins; frames = h.frames; wanted = λ page is. let no : None ≡ Some page = sym e ∙ is in cc }

@@ -9,7 +9,7 @@ use Rattle.vax_flat.specs.declared.Ending.{Ending}
 use Rattle.vax_flat.specs.declared.Flow.TheVariants as flow
 use Rattle.vax_flat.specs.Accesses.{Leaf, Went, Found}
 use Rattle.vax_flat.specs.Outcome.{Outcome, Ends, Raised, first_missing, outcome_of}
-use Rattle.vax_flat.specs.Parts.{Place, gone_back, machine_at, outcome_at, touches_at, turn_from, units_done}
+use Rattle.vax_flat.specs.Parts.{Place, gone_back, machine_at, outcome_at, touches_at, turn, turn_from, units_done}
 use Rattle.vax_flat.specs.Step.{Flat, after_delivery, concluded, state_of, whole_delivery, with_byte_sent}
 use Rattle.vax_flat.proofs.Runs.{Extends}
 use Rattle.vax_sched.specs.Due.{due}
@@ -54,8 +54,12 @@ extends_turn m units (Ends (Went (flow.Ended e) s) memory) = extends_same m.outp
 extends_turn m units (Ends (Found operand s) memory) = extends_same m.output
 extends_turn m units (Raised e) = extends_delivery m (outcome_of (whole_delivery e (state_of m)) m.memory)
 
+-- a turn sends bytes behind those that were sent
+pub turn_extends : (place : Place) → Extends (machine_at place).output (machine_at (place_after (turn place))).output
+turn_extends place = extends_turn (gone_back place) (units_done place) (outcome_at place)
+
 extends_by : (m : Option ℕ) (p : Paged) → Extends (machine_at p.place).output (machine_at (attempted_by m p).place).output
-extends_by None p = extends_turn (gone_back p.place) (units_done p.place) (outcome_at p.place)
+extends_by None p = turn_extends p.place
 extends_by (Some page) p = extends_same (machine_at p.place).output
 
 extends_unless : (how : Option Ending) (p next : Paged) → Extends (machine_at p.place).output (machine_at next.place).output → Extends (machine_at p.place).output (machine_at (unless_ended how p next).place).output

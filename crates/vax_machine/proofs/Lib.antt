@@ -2,6 +2,7 @@ pub mod Bound
 pub mod Lists
 pub mod Attempts
 pub mod Services
+pub mod Ahead
 pub mod Batches
 pub mod Touching
 pub mod Moving

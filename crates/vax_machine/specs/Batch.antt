@@ -44,3 +44,16 @@ pub record HasTriedSeveral (most : ℕ) (old : Engine) (result : Applied) (new :
   pub keeps : keeping new ≡ tried result (several count (keeping old))
   pub blocked : (pages new.pager).blocked ≡ (pages old.pager).blocked
   pub goes : (file : Option BlockFile) → (place : Place) → Means old file place → GoesFar count old result new file place
+
+-- where so many attempts lead from a place, each of which completes a step with no byte sent
+pub record ComesFar (count : ℕ) (old new : Engine) (file : Option BlockFile) (place : Place) : Type 0 where
+  pub here : Spot
+  pub advances : Advances (is_resident (residence old)) count (record { place = place; modified = modified_of old }) here
+  pub silent : (machine_at here.place).output ≡ (machine_at place).output
+  pub means : Means new file here.place
+  pub marks : modified_of new ≡ here.modified
+
+-- so many attempts of a machine that goes on, each of which completes a step with no byte sent
+pub record HasAdvanced (count : ℕ) (old new : Engine) : Type 0 where
+  pub keeps : keeping new ≡ several count (keeping old)
+  pub goes : (file : Option BlockFile) → (place : Place) → Means old file place → ComesFar count old new file place

@@ -21,6 +21,11 @@ unfoldable pub settled_after : ℕ → Paging → Paging
 settled_after zero s = s
 settled_after (suc count) s = settled s
 
+-- no page is wanted where steps were completed
+unfoldable pub wanted_behind : ℕ → Option ℕ → Option ℕ
+wanted_behind zero wanted = wanted
+wanted_behind (suc count) wanted = None
+
 abbrev pub applied_of : Attempt → Applied
 applied_of (attempt.Step sent) = applied.Stepped sent
 applied_of attempt.Part = applied.Parted

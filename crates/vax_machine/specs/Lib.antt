@@ -1,6 +1,7 @@
 pub mod Residence
 pub mod Machine
 pub mod Conclusion
+pub mod AtOnce
 pub mod Batch
 pub mod Touched
 pub mod Paged

@@ -3,8 +3,9 @@ ghost use Rattle.std.specs.Prelude.{◌≡◌, ℕ, ◌+◌, ◌-◌, ◌<◌, �
 ghost use Rattle.vax_outside.specs.Blocks.{BlockFile};
 ghost use Rattle.vax_outside.specs.Faults.{CountsFailure, raised};
 ghost use Rattle.vax_pager.specs.Meaning.{pages};
-ghost use Rattle.vax_machine.specs.Conclusion.{eased_pages, settled_after};
+ghost use Rattle.vax_machine.specs.Conclusion.{eased_pages, settled_after, wanted_behind};
 
+use crate::at_once::steps_at_once;
 use crate::event::{Applied, Event};
 use vax_cpu::{Attempt, Cpu};
 use vax_flat::Ending;
@@ -52,12 +53,19 @@ fn settle_after(pager: &mut Pager, steps: u64)
     }
 }
 
+/// No page is wanted where steps were completed.
+fn wanted_after(wanted: Option<u32>, steps: u64) -> Option<u32>
+    ensures { result ≡ wanted_behind steps wanted }
+{
+    if steps > 0 { None } else { wanted }
+}
+
 impl Engine {
     ghost use Rattle.vax_space.specs.Areas.{area_of};
     ghost use Rattle.vax_cpu.specs.Attempt.{StopsInside};
     ghost use Rattle.vax_pager.specs.Paging.{view_of};
     ghost use Rattle.vax_machine.specs.Conclusion.{Concludes};
-    ghost use Rattle.vax_machine.specs.Batch.{HasTriedSeveral};
+    ghost use Rattle.vax_machine.specs.Batch.{HasAdvanced, HasTriedSeveral};
     ghost use Rattle.vax_machine.specs.Console.{MayGoOn};
     ghost use Rattle.vax_machine.specs.Machine.{Applies, HasSpent, IsSound, Moves, has_failed, keeping};
     ghost use Rattle.vax_machine.specs.Events.{KeepsPins};
@@ -94,6 +102,24 @@ impl Engine {
         self.steps += batch.steps;
         self.turns += batch.steps;
         self.conclude(batch.last)
+    }
+
+    /// Makes at most `most` steps at once, with no byte sent, and says how many. The run hasn't ended. It calls no page file.
+    pub(crate) fn advance(&mut self, most: u64) -> u64
+        requires sound { IsSound self.old }
+        requires going { self.old.ended ≡ None }
+        requires steps { self.old.steps + most < 2 ^ 64 }
+        requires turns { self.old.turns + most < 2 ^ 64 }
+        ensures sound { IsSound self.new }
+        ensures few { result ≤ most }
+        ensures advanced { HasAdvanced result self.old self.new }
+    {
+        let steps = steps_at_once(&mut self.cpu, &mut self.pager, most);
+        settle_after(&mut self.pager, steps);
+        self.wanted = wanted_after(self.wanted, steps);
+        self.steps += steps;
+        self.turns += steps;
+        steps
     }
 
     /// Counts an attempt that came to this, and drops the pins where it completed a step or a part.

@@ -1,6 +1,7 @@
 //! A machine: a processor over a pager, with a page file. Its events are attempts, services, evictions and flushes, in whatever order.
 #![tactic(auto)]
 
+mod at_once;
 mod console;
 mod engine;
 mod event;

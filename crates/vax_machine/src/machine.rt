@@ -1,5 +1,5 @@
 //! The machine as callers have it.
-ghost use Rattle.std.specs.Prelude.{is_err, ◌≡◌, ◌≢◌, ◌-◌, ◌≤◌, ◌<◌, ◌^◌, ℕ, List, Option, Some, None, IfOk, IfSome, OnErr, OnOk, is_some, false, length};
+ghost use Rattle.std.specs.Prelude.{is_err, ◌≡◌, ◌≢◌, ◌+◌, ◌-◌, ◌≤◌, ◌<◌, ◌^◌, ℕ, List, Option, Some, None, IfOk, IfSome, OnErr, OnOk, is_some, false, length};
 ghost use Rattle.std.specs.Option.{option_copied};
 ghost use Rattle.vax_outside.specs.Blocks.{BlockFile};
 ghost use Rattle.vax_outside.specs.Faults.{CountsFailure, Rose};
@@ -42,6 +42,7 @@ impl Machine {
     ghost use Rattle.vax_pager.specs.Calls.{IsByte};
     ghost use Rattle.vax_pager.specs.Listing.{first, is_listed};
     ghost use Rattle.vax_pager.specs.Poking.{OnlyRead, ReadsAtMost, WritesBlocks, pages_of_bytes};
+    ghost use Rattle.vax_machine.specs.Batch.{HasAdvanced};
     ghost use Rattle.vax_machine.specs.Console.{AreShown, BringsPages, Deposits, DepositsRegister, IsBetween, IsThereIn, ShowsMemory, ShowsPage, StopsBetween, cpu_with_register, let_go, pages_in};
     ghost use Rattle.vax_machine.specs.Machine.{Applies, HasSpent, KeepsPlace, Means, Moves, has_failed, keeping, modified_of, residence};
     ghost use Rattle.vax_machine.specs.Marking.{Marks};
@@ -143,6 +144,20 @@ impl Machine {
         ensures since { (start : F) → F.since start file.old → F.since start file.new }
     {
         self.engine.apply(event, file)
+    }
+
+    /// Makes at most `most` attempts, each of which completes a step with no byte sent, and says how many: where it makes fewer, the next is left to an event
+    /// `Attempt`. The run hasn't ended. It calls no page file.
+    ///
+    /// It does what as many events do, and spends less on each.
+    pub fn advance(&mut self, most: u64) -> u64
+        requires going { (engine self.old).ended ≡ None }
+        requires steps { (engine self.old).steps + most < 2 ^ 64 }
+        requires turns { (engine self.old).turns + most < 2 ^ 64 }
+        ensures few { result ≤ most }
+        ensures advanced { HasAdvanced result (engine self.old) (engine self.new) }
+    {
+        self.engine.advance(most)
     }
 
     /// Runs up to an ending or a limit: at each turn what the schedule has due is made absent, an attempt is made, and the page that it misses
