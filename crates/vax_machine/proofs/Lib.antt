@@ -9,6 +9,7 @@ pub mod Moving
 pub mod Tracking
 pub mod Outputs
 pub mod Holding
+pub mod Delivering
 pub mod Listing
 pub mod Evicting
 pub mod Residents

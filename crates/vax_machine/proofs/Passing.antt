@@ -19,7 +19,7 @@ use Rattle.vax_machine.specs.Paged.{Paged}
 use Rattle.vax_machine.specs.Residence.{victim}
 use Rattle.vax_machine.specs.Touched.{PinsTouched}
 use Rattle.vax_machine.specs.Turn.{AttemptsCut, AttemptsDone, AttemptsFollow, AttemptsLost, Finishes, Follows, HasGone, HasServed, IsServed, IsUnserved, ServesAndLists, attempted_times}
-use Rattle.vax_machine.specs.Writing.{Counts, Origin, Passed, Passes, Puts, held_in, listed_by, sent_by}
+use Rattle.vax_machine.specs.Writing.{Counts, Origin, Passed, Passes, Puts, held_in, listed_by}
 use Rattle.vax_machine.specs.declared.engine.Engine.{Engine}
 use Rattle.vax_machine.specs.declared.event.Applied.{Applied}
 use Rattle.vax_machine.specs.declared.event.Applied.TheVariants.{Absent, Failed, Served}
@@ -66,10 +66,6 @@ module _ (o : Origin) (p : Paged) (old new : Engine) (before after : Option Bloc
   passed_on more now next (Ok x) h pass same = follow more now next h pass same
   passed_on more now next (Err Page) h pass same = absurd pass
   passed_on more now next (Err Write) h pass same = lost more now h pass
-
-  -- they write nothing
-  pub in_silence : IsServedHere (λ listed. sent_by None) → AttemptsFollow most o p new after was left
-  in_silence h = follow (λ listed. sent_by None) was left h (pass_nothing (held_in left) was) refl
 
 -- the page that the last attempt missed is served, and the one that made room is listed
 module _ (o : Origin) (p : Paged) (old mid new : Engine) (file after : Option BlockFile) (was : Option Channels) (left : Held) (most page : ℕ) (f : Follows o p old file was left) (going : old.ended ≡ None) (low : old.steps + most < 2 ^ 64) (short : old.turns + most < 2 ^ 64) (h : HasTriedSeveral most old (Absent page) mid) (paging : IsPaging (pages old.pager)) (space : IsSpace (pages old.pager).areas) (sound : IsSound mid) (pins : PinsTouched p.residence p.place) (facts : IsPaging (pages mid.pager)) where
@@ -128,6 +124,12 @@ pub turns_stay : (old new : Keeping) (w : Option ℕ) (result : Applied) → Ser
 turns_stay old new None result x = ap (λ (k : Keeping). k.turns) x.1
 turns_stay old new (Some page) result (inl x) = ap (λ (k : Keeping). k.turns) x.1
 turns_stay old new (Some page) result (inr x) = ap (λ (k : Keeping). k.turns) x.1
+
+-- and makes no step
+pub steps_stay : (old new : Keeping) (w : Option ℕ) (result : Applied) → Serves w old result new → new.steps ≡ old.steps
+steps_stay old new None result x = ap (λ (k : Keeping). k.steps) x.1
+steps_stay old new (Some page) result (inl x) = ap (λ (k : Keeping). k.steps) x.1
+steps_stay old new (Some page) result (inr x) = ap (λ (k : Keeping). k.steps) x.1
 
 -- what is held back wasn't written
 pub finish_lost : (end : RunEnd) (e : Fault) (left : Channels) (old new : Option Channels) (n a b : Failures) → Puts (Err e) left old new → Counts (Err e) n n a b → Finishes end WriteFault left old new (Rose a b)

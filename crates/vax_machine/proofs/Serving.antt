@@ -481,7 +481,9 @@ gone_several old new most result low short h =
     let turns : new.turns ≡ (tried result (several h.count (keeping old))).turns = ap (λ (z : Keeping). z.turns) h.keeps in
     let c = m.steps in
     let d = m.turns in
+    let e = m.some in
     record {
+      further = omega (arith, steps, e, a);
       some = omega (arith, turns, d, b, few, short);
       turns = omega (arith, turns, d, b, few, short);
       steps = omega (arith, steps, c, a, few);
@@ -501,4 +503,5 @@ gone_served old mid new most result h x =
     let c = h.some in
     let d = h.turns in
     let e = h.steps in
-    record { some = omega (arith, a, c); turns = omega (arith, a, d); steps = omega (arith, b, e); areas = s.2 ∙ h.areas }
+    let f = h.further in
+    record { further = omega (arith, b, f); some = omega (arith, a, c); turns = omega (arith, a, d); steps = omega (arith, b, e); areas = s.2 ∙ h.areas }

@@ -10,6 +10,7 @@ pub mod Events
 pub mod Blocks
 pub mod Laws
 pub mod Writing
+pub mod Delivery
 pub mod Run
 pub mod Turn
 pub mod GoingOn

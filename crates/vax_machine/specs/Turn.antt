@@ -33,6 +33,7 @@ pub record Still (old new : Engine) : Type 0 where
 
 -- at least one turn more, and at most so many
 pub record HasGone (most : ℕ) (old new : Engine) : Type 0 where
+  pub further : old.steps ≤ new.steps
   pub some : old.turns < new.turns
   pub turns : new.turns ≤ old.turns + most
   pub steps : new.steps ≤ old.steps + most

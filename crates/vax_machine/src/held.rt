@@ -4,6 +4,7 @@ ghost use Rattle.vax_outside.specs.Channels.{Grew, GrewByPrefix, nothing, only};
 ghost use Rattle.vax_outside.specs.Faults.{CountsFailure};
 ghost use Rattle.vax_outside.specs.declared.faults.Failures.{Failures};
 ghost use Rattle.vax_outside.specs.declared.traits.Chan.TheVariants.{Out, Record};
+ghost use Rattle.vax_machine.specs.Delivery.{Delivers, Waits, WritesDue, ends_line};
 ghost use Rattle.vax_machine.specs.Writing.{Counts, Passed, Puts, StillWrites};
 
 use crate::event::Fault;
@@ -81,6 +82,13 @@ fn make_room<K: Sink>(lines: &mut Text, sink: &mut K) -> Result<(), Fault>
     Ok(())
 }
 
+/// Whether a byte was sent that ends a line.
+fn ends_line(sent: Option<u8>) -> bool
+    ensures { result ≡ ends_line sent }
+{
+    matches!(sent, Some(b'\n'))
+}
+
 impl Held {
     ghost use Rattle.vax_machine.specs.Writing.{held_in, listed_by, sent_by};
 
@@ -88,6 +96,7 @@ impl Held {
     pub fn new(listed: bool) -> Held
         ensures nothing { held_in result ≡ nothing }
         ensures listed { result.listed ≡ listed }
+        ensures waits { (steps : ℕ) → Waits steps result }
     {
         Held {
             bytes: ArrayVec::new(),
@@ -97,7 +106,19 @@ impl Held {
         }
     }
 
-    /// Writes the bytes that are held, at once or where they are due after so many steps.
+    /// For how many steps more none of the bytes that are held is due: at least one.
+    pub(crate) fn wait(&self, steps: u64) -> u64
+        ensures some { 1 ≤ result }
+        ensures early { steps < self.now.due → steps + result ≤ self.now.due }
+    {
+        if steps < self.due {
+            self.due - steps
+        } else {
+            MOST_STEPS
+        }
+    }
+
+    /// Writes the bytes that are held, at once or where they are due after so many steps. Others are due 1,000,000 steps later then.
     pub(crate) fn write_due<K: Sink>(
         &mut self,
         at_once: bool,
@@ -106,6 +127,7 @@ impl Held {
     ) -> Result<(), Fault>
         ensures passes { Passed result (held_in self.old) nothing (held_in self.new)
             (K.contents sink.old) (K.contents sink.new) }
+        ensures due { OnOk result (WritesDue at_once steps self.old self.new) }
         ensures still { StillWrites self.old self.new (K.contents sink.old) (K.contents sink.new) }
         ensures counts { (file : Failures)
             → Counts result file file (K.faults sink.old) (K.faults sink.new) }
@@ -119,7 +141,7 @@ impl Held {
     }
 
     /// Holds a byte more for Out, if one was sent after so many steps. Those that are held are written behind an LF, where there is no room, and where
-    /// they are due.
+    /// they are due: so none is held behind an LF, nor 1,000,000 steps after it was sent.
     pub(crate) fn send<K: Sink>(
         &mut self,
         sent: Option<u8>,
@@ -128,18 +150,21 @@ impl Held {
     ) -> Result<(), Fault>
         ensures passes { Passed result (held_in self.old) (sent_by sent) (held_in self.new)
             (K.contents sink.old) (K.contents sink.new) }
+        ensures delivers { (since : ℕ) → since ≤ steps → OnOk result (Delivers since steps self.old
+            self.new (K.contents sink.old) (K.contents sink.new)) }
         ensures still { StillWrites self.old self.new (K.contents sink.old) (K.contents sink.new) }
         ensures counts { (file : Failures)
             → Counts result file file (K.faults sink.old) (K.faults sink.new) }
     {
         self.hold_sent(sent, sink)?;
-        self.write_due(matches!(sent, Some(b'\n')), steps, sink)
+        self.write_due(ends_line(sent), steps, sink)
     }
 
     /// Holds a byte more for Out, if one was sent, and writes those that are held first where there is no room.
     fn hold_sent<K: Sink>(&mut self, sent: Option<u8>, sink: &mut K) -> Result<(), Fault>
         ensures passes { Passed result (held_in self.old) (sent_by sent) (held_in self.new)
             (K.contents sink.old) (K.contents sink.new) }
+        ensures due { self.new.due ≡ self.old.due }
         ensures still { StillWrites self.old self.new (K.contents sink.old) (K.contents sink.new) }
         ensures counts { (file : Failures)
             → Counts result file file (K.faults sink.old) (K.faults sink.new) }
@@ -154,6 +179,7 @@ impl Held {
     fn hold<K: Sink>(&mut self, byte: u8, sink: &mut K) -> Result<(), Fault>
         ensures passes { Passed result (held_in self.old) (sent_by (Some byte)) (held_in self.new)
             (K.contents sink.old) (K.contents sink.new) }
+        ensures due { self.new.due ≡ self.old.due }
         ensures still { StillWrites self.old self.new (K.contents sink.old) (K.contents sink.new) }
         ensures counts { (file : Failures)
             → Counts result file file (K.faults sink.old) (K.faults sink.new) }
@@ -175,6 +201,7 @@ impl Held {
         ensures passes { Passed result (held_in self.old)
             (listed_by self.old.listed turn evicted) (held_in self.new)
             (K.contents sink.old) (K.contents sink.new) }
+        ensures due { self.new.due ≡ self.old.due }
         ensures still { StillWrites self.old self.new (K.contents sink.old) (K.contents sink.new) }
         ensures counts { (file : Failures)
             → Counts result file file (K.faults sink.old) (K.faults sink.new) }

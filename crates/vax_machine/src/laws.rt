@@ -5,11 +5,14 @@ ghost use Rattle.vax_outside.specs.Blocks.{BlockFile};
 ghost use Rattle.vax_flat.specs.Parts.{GoesBy};
 ghost use Rattle.vax_flat.specs.Step.{Flat, run};
 ghost use Rattle.vax_sched.specs.declared.rule.Target.{Target};
+ghost use Rattle.vax_outside.specs.Channels.{Channels};
+ghost use Rattle.vax_machine.specs.Delivery.{Delivers, Waits};
 ghost use Rattle.vax_machine.specs.Events.{FollowsFrom, GoesOn, Happen};
 ghost use Rattle.vax_machine.specs.Laws.{HasFewTurns, IsAsWritten, IsCounted, IsIdle, IsProper, IsSoonAfter, Run, state_at};
 ghost use Rattle.vax_machine.specs.Paged.{Paged, all_evicted, paged};
 ghost use Rattle.vax_machine.specs.declared.engine.Engine.{Engine};
 ghost use Rattle.vax_machine.specs.declared.event.Event.{Event};
+ghost use Rattle.vax_machine.specs.declared.held.Held.{Held};
 
 /// After any list of events the machine with its page file stands for the flat machine's run, whatever steps it had counted at its start: it is
 /// where the steps that were completed since lead, or where parts of the next one do, and the attempt that comes touches each page that is pinned.
@@ -56,4 +59,11 @@ pub fn parts_end_soon()
 /// Where nothing is ever due, no pinned page is evicted.
 pub fn pinned_pages_stay()
     ensures { (r : Run) (n : ℕ) → IsIdle r → (state_at r n).residence.spoiled ≡ 0 }
+{}
+
+/// What is held back is written soon: as long as not all of it was, fewer than 1,000,000 steps were made since.
+pub fn output_comes_soon()
+    ensures { (since steps : ℕ) (before after : Held) (old new : Option Channels) →
+        Waits since before → (d : Delivers since steps before after old new) →
+        length d.written.out < length before.bytes.items → steps < since + 1000000 }
 {}

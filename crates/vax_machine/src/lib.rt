@@ -13,7 +13,7 @@ mod run;
 pub use crate::event::{Applied, Event, Limits, RunEnd};
 pub use crate::held::Held;
 pub use crate::laws::{
-    events_follow_the_run, parts_end_soon, pinned_pages_stay, turns_are_few, turns_follow_the_run,
-    turns_go_on, writes_suffice,
+    events_follow_the_run, output_comes_soon, parts_end_soon, pinned_pages_stay, turns_are_few,
+    turns_follow_the_run, turns_go_on, writes_suffice,
 };
 pub use crate::machine::Machine;

@@ -46,13 +46,14 @@ impl Machine {
     ghost use Rattle.vax_machine.specs.Console.{AreShown, BringsPages, Deposits, DepositsRegister, IsBetween, IsThereIn, ShowsMemory, ShowsPage, StopsBetween, cpu_with_register, let_go, pages_in};
     ghost use Rattle.vax_machine.specs.Machine.{Applies, HasSpent, KeepsPlace, Means, Moves, has_failed, keeping, modified_of, residence};
     ghost use Rattle.vax_machine.specs.Marking.{Marks};
+    ghost use Rattle.vax_machine.specs.Delivery.{Delivers};
     ghost use Rattle.vax_machine.specs.Depositing.{DepositsIn, filed};
     ghost use Rattle.vax_machine.specs.Events.{FollowsFrom, FollowsRun, KeepsPins, KeepsRun};
     ghost use Rattle.vax_machine.specs.GoingOn.{CountsEnd, GoesOnTo, HasReason};
     ghost use Rattle.vax_machine.specs.Meaning.{engine, flat_start, left_at, memory_of, resumed_at, units_of};
     ghost use Rattle.vax_machine.specs.Paged.{begun_at, fresh};
     ghost use Rattle.vax_machine.specs.Run.{RunsTo, begun, system_of};
-    ghost use Rattle.vax_machine.specs.Turn.{underway_of};
+    ghost use Rattle.vax_machine.specs.Turn.{IsStop, underway_of};
     ghost use Rattle.vax_machine.specs.Writing.{OnlyWrote, StillWrites};
 
     /// A machine at the start: these registers, this input of at most 4,194,304 bytes, and a space of which no page is resident, with so many
@@ -230,6 +231,8 @@ impl Machine {
             → (engine self.new).turns ≤ limits.now.turns }
         ensures areas { StopsBetween result
             → (keeping (engine self.new)).areas ≡ (keeping (engine self.old)).areas }
+        ensures delivers { IsStop result → (Delivers (engine self.old).steps (engine self.new).steps
+            held.old held.new (K.contents sink.old) (K.contents sink.new)) }
         ensures writes { StillWrites held.old held.new (K.contents sink.old) (K.contents sink.new) }
         ensures counts { CountsEnd result (F.faults file.old) (F.faults file.new)
             (K.faults sink.old) (K.faults sink.new) }

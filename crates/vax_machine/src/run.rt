@@ -8,7 +8,7 @@ ghost use Rattle.vax_machine.specs.Writing.{OnlyWrote, held_in};
 
 use crate::engine::Engine;
 use crate::event::{Applied, Fault, Limits, RunEnd};
-use crate::held::{Held, MOST_STEPS};
+use crate::held::Held;
 use vax_outside::{PageFile, Sink};
 use vax_sched::{Schedule, Target};
 
@@ -34,6 +34,7 @@ impl Engine {
     ghost use Rattle.vax_pager.specs.Meaning.{pages};
     ghost use Rattle.vax_sched.specs.Due.{due};
     ghost use Rattle.vax_machine.specs.Console.{IsBetween, MayGoOn, StopsBetween};
+    ghost use Rattle.vax_machine.specs.Delivery.{Delivers};
     ghost use Rattle.vax_machine.specs.Events.{KeepsRun};
     ghost use Rattle.vax_machine.specs.GoingOn.{CountsEnd, GoesOnTo, HasReason};
     ghost use Rattle.vax_machine.specs.Machine.{IsSound, keeping};
@@ -55,6 +56,8 @@ impl Engine {
         ensures passes { Passed result (held_in held.old)
             (listed_by held.old.listed (self.now.turns + 1) evicted) (held_in held.new)
             (K.contents sink.old) (K.contents sink.new) }
+        ensures delivers { (since : ℕ) → since ≤ self.now.steps → OnOk result
+            (Delivers since self.now.steps held.old held.new (K.contents sink.old) (K.contents sink.new)) }
         ensures writes { StillWrites held.old held.new (K.contents sink.old) (K.contents sink.new) }
         ensures counts { (file : Failures)
             → Counts result file file (K.faults sink.old) (K.faults sink.new) }
@@ -79,6 +82,8 @@ impl Engine {
             (underway_of self.new (F.contents file.new) (K.contents sink.new) held.new) }
         ensures still { Still self.old self.new }
         ensures follows { KeepsRun self.old (F.contents file.old) self.new (F.contents file.new) }
+        ensures delivers { OnOk result (Delivers self.old.steps self.new.steps
+            held.old held.new (K.contents sink.old) (K.contents sink.new)) }
         ensures writes { StillWrites held.old held.new (K.contents sink.old) (K.contents sink.new) }
         ensures counts { Counts result (F.faults file.old) (F.faults file.new) (K.faults sink.old)
             (K.faults sink.new) }
@@ -106,6 +111,8 @@ impl Engine {
             (underway_of self.new (F.contents file.new) (K.contents sink.new) held.new) }
         ensures still { Still self.old self.new }
         ensures follows { KeepsRun self.old (F.contents file.old) self.new (F.contents file.new) }
+        ensures delivers { OnOk result (Delivers self.old.steps self.new.steps
+            held.old held.new (K.contents sink.old) (K.contents sink.new)) }
         ensures writes { StillWrites held.old held.new (K.contents sink.old) (K.contents sink.new) }
         ensures counts { Counts result (F.faults file.old) (F.faults file.new) (K.faults sink.old)
             (K.faults sink.new) }
@@ -148,6 +155,8 @@ impl Engine {
             (underway_of self.new (F.contents file.new) (K.contents sink.new) held.new) }
         ensures still { Still self.old self.new }
         ensures follows { KeepsRun self.old (F.contents file.old) self.new (F.contents file.new) }
+        ensures delivers { OnOk result (Delivers self.old.steps self.new.steps
+            held.old held.new (K.contents sink.old) (K.contents sink.new)) }
         ensures writes { StillWrites held.old held.new (K.contents sink.old) (K.contents sink.new) }
         ensures counts { Counts result (F.faults file.old) (F.faults file.new) (K.faults sink.old)
             (K.faults sink.new) }
@@ -180,6 +189,8 @@ impl Engine {
             (underway_of self.new (F.contents file.new) (K.contents sink.new) held.new) }
         ensures still { Still self.old self.new }
         ensures follows { KeepsRun self.old (F.contents file.old) self.new (F.contents file.new) }
+        ensures delivers { OnOk result (Delivers self.old.steps self.new.steps
+            held.old held.new (K.contents sink.old) (K.contents sink.new)) }
         ensures writes { StillWrites held.old held.new (K.contents sink.old) (K.contents sink.new) }
         ensures counts { Counts result (F.faults file.old) (F.faults file.new) (K.faults sink.old)
             (K.faults sink.new) }
@@ -191,7 +202,7 @@ impl Engine {
     }
 
     /// Makes at most `most` attempts, at least one, up to the first that doesn't complete a step with no byte sent, and serves the page that
-    /// the last one missed. The byte that was sent is held for Out, and the page that made room is listed.
+    /// the last one missed. The byte that was sent is held for Out, the page that made room is listed, and what is due is written.
     fn attempt_and_serve<F: PageFile, K: Sink>(
         &mut self,
         most: u64,
@@ -211,6 +222,8 @@ impl Engine {
         ensures gone { HasGone most self.old self.new }
         ensures goes_on { MayGoOn (self.old.steps + most) self.new }
         ensures follows { KeepsRun self.old (F.contents file.old) self.new (F.contents file.new) }
+        ensures delivers { OnOk result (Delivers self.old.steps self.new.steps
+            held.old held.new (K.contents sink.old) (K.contents sink.new)) }
         ensures writes { StillWrites held.old held.new (K.contents sink.old) (K.contents sink.new) }
         ensures counts { Counts result (F.faults file.old) (F.faults file.new) (K.faults sink.old)
             (K.faults sink.new) }
@@ -218,7 +231,7 @@ impl Engine {
         match self.attempts(most) {
             Applied::Stepped(sent) => held.send(sent, self.steps, sink),
             Applied::Absent(_) => self.serve_and_list(held, file, sink),
-            _ => Ok(()),
+            _ => held.write_due(false, self.steps, sink),
         }
     }
 
@@ -237,6 +250,8 @@ impl Engine {
             (underway_of self.old (F.contents file.old) (K.contents sink.old) held.old)
             (underway_of self.new (F.contents file.new) (K.contents sink.new) held.new) }
         ensures follows { KeepsRun self.old (F.contents file.old) self.new (F.contents file.new) }
+        ensures delivers { (since : ℕ) → since ≤ self.old.steps → OnOk result
+            (Delivers since self.new.steps held.old held.new (K.contents sink.old) (K.contents sink.new)) }
         ensures writes { StillWrites held.old held.new (K.contents sink.old) (K.contents sink.new) }
         ensures counts { Counts result (F.faults file.old) (F.faults file.new) (K.faults sink.old)
             (K.faults sink.new) }
@@ -249,18 +264,19 @@ impl Engine {
     }
 
     /// How many attempts may follow at once: up to a limit, to the next turn but one at which something is due, or to where bytes are due.
-    fn most_attempts(&self, limits: &Limits, schedule: &Schedule) -> u64
+    fn most_attempts(&self, limits: &Limits, schedule: &Schedule, held: &Held) -> u64
         requires steps { self.now.steps < limits.now.steps }
         requires turns { self.now.turns < limits.now.turns }
         requires few { limits.now.turns < 2 ^ 64 - 2 }
         ensures some { 1 ≤ result }
         ensures steps { self.now.steps + result ≤ limits.now.steps }
         ensures turns { self.now.turns + result ≤ limits.now.turns }
+        ensures due { self.now.steps < held.now.due → self.now.steps + result ≤ held.now.due }
         ensures quiet { (k : ℕ) → k + 1 < result → due schedule.now (self.now.turns + 2 + k) ≡ [] }
     {
         let quiet = schedule.quiet(self.turns + 2);
         let room = (limits.steps - self.steps).min(limits.turns - self.turns);
-        room.min(quiet + 1).min(MOST_STEPS)
+        room.min(quiet + 1).min(held.wait(self.steps))
     }
 
     /// Makes several turns. What is due at the first of them is made absent, and nothing is due at the others.
@@ -291,12 +307,14 @@ impl Engine {
         ensures areas { OnOk result ((pages self.new.pager).areas ≡ (pages self.old.pager).areas) }
         ensures goes_on { OnOk result (MayGoOn limits.now.steps self.new) }
         ensures follows { KeepsRun self.old (F.contents file.old) self.new (F.contents file.new) }
+        ensures delivers { OnOk result (Delivers self.old.steps self.new.steps
+            held.old held.new (K.contents sink.old) (K.contents sink.new)) }
         ensures writes { StillWrites held.old held.new (K.contents sink.old) (K.contents sink.new) }
         ensures counts { Counts result (F.faults file.old) (F.faults file.new) (K.faults sink.old)
             (K.faults sink.new) }
     {
         self.evict_due(schedule, found, held, file, sink)?;
-        let most = self.most_attempts(limits, schedule);
+        let most = self.most_attempts(limits, schedule, held);
         self.attempt_and_serve(most, held, file, sink)
     }
 
@@ -354,6 +372,8 @@ impl Engine {
         ensures few { self.old.turns ≤ limits.now.turns → self.new.turns ≤ limits.now.turns }
         ensures areas { StopsBetween result
             → (keeping self.new).areas ≡ (keeping self.old).areas }
+        ensures delivers { IsStop result → (Delivers self.old.steps self.new.steps
+            held.old held.new (K.contents sink.old) (K.contents sink.new)) }
         ensures writes { StillWrites held.old held.new (K.contents sink.old) (K.contents sink.new) }
         ensures counts { CountsEnd result (F.faults file.old) (F.faults file.new)
             (K.faults sink.old) (K.faults sink.new) }

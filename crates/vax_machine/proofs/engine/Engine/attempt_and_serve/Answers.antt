@@ -1,10 +1,10 @@
-use Rattle.std.proofs.Common.{ap, arith, refl}
+use Rattle.std.proofs.Common.{None, ap, arith}
 use Rattle.std.specs.Prelude.{is_some}
 use Rattle.vax_pager.proofs.Told.{pager_is, space_is}
 use Rattle.vax_machine.proofs.Between.{served_and_listed}
 use Rattle.vax_machine.proofs.Following.{attempts_follow}
-use Rattle.vax_machine.proofs.Outputs.{counts_none, writes_nothing}
-use Rattle.vax_machine.proofs.Passing.{gone_on, in_silence, passed_on, served_on}
+use Rattle.vax_machine.proofs.Delivering.{due_delivers}
+use Rattle.vax_machine.proofs.Passing.{gone_on, passed_on, served_on}
 use Rattle.vax_machine.proofs.Serving.{gone_several, quiet, stepped}
 use Rattle.vax_machine.specs.Machine.{Keeping}
 use Rattle.vax_machine.specs.Writing.{sent_by}
@@ -53,13 +53,17 @@ returns-in_default g c =
     record {
       sound = c.attempts.ensures.sound;
       done = λ o p f pins.
-          in_silence o p c.args.self.now c.attempts.new.self _ _ _ _ c.args.most f
-          (quiet c.args.self.now p _ f.tracks c.requires.going c.args.most c.attempts.new.self c.requires.steps (omega (arith, low)) c.attempts.result c.attempts.ensures.tried c.in_default.not-Stepped c.in_default.not-Absent);
+          passed_on o p c.args.self.now c.attempts.new.self _ _ _ _ c.args.most f (λ listed. sent_by None) _ _ c.write_due.result
+          (quiet c.args.self.now p _ f.tracks c.requires.going c.args.most c.attempts.new.self c.requires.steps (omega (arith, low)) c.attempts.result c.attempts.ensures.tried c.in_default.not-Stepped c.in_default.not-Absent)
+          c.write_due.ensures.passes c.write_due.ensures.still.listed;
       gone = gone_several c.args.self.now c.attempts.new.self c.args.most c.attempts.result c.requires.steps (omega (arith, low)) c.attempts.ensures.tried;
       goes_on = c.attempts.ensures.goes_on;
       follows = attempts_follow c.args.most c.args.self.now c.attempts.new.self c.attempts.result _ c.requires.going c.requires.steps c.attempts.ensures.tried;
-      writes = writes_nothing _ _;
-      counts = counts_none refl refl;
+      delivers =
+          let gone = gone_several c.args.self.now c.attempts.new.self c.args.most c.attempts.result c.requires.steps (omega (arith, low)) c.attempts.ensures.tried in
+          due_delivers _ _ gone.further _ _ _ _ c.write_due.result c.write_due.ensures.passes c.write_due.ensures.due;
+      writes = c.write_due.ensures.still;
+      counts = c.write_due.ensures.counts (g.F.PageFile.faults c.args.file.now);
     }
 
 pub returns-in-Stepped-clause-follows : goal.returns-in-Stepped-clause-follows
@@ -71,3 +75,15 @@ returns-in-Absent-clause-follows g c = λ first start f.
 
 pub returns-in-Stepped-clause-counts : goal.returns-in-Stepped-clause-counts
 returns-in-Stepped-clause-counts g c = c.send.ensures.counts (g.F.PageFile.faults c.args.file.now)
+
+pub returns-in-Stepped-clause-delivers : goal.returns-in-Stepped-clause-delivers
+returns-in-Stepped-clause-delivers g c =
+    let low = c.requires.turns in
+    let gone = gone_several c.args.self.now c.attempts.new.self c.args.most c.attempts.result c.requires.steps (omega (arith, low)) c.attempts.ensures.tried in
+    c.send.ensures.delivers c.args.self.now.steps gone.further
+
+pub returns-in-Absent-clause-delivers : goal.returns-in-Absent-clause-delivers
+returns-in-Absent-clause-delivers g c =
+    let low = c.requires.turns in
+    let gone = gone_several c.args.self.now c.attempts.new.self c.args.most c.attempts.result c.requires.steps (omega (arith, low)) c.attempts.ensures.tried in
+    c.serve_and_list.ensures.delivers c.args.self.now.steps gone.further

@@ -4,6 +4,7 @@ use Rattle.vax_space.specs.declared.Area.{Area}
 use Rattle.vax_pager.specs.Meaning.{pages}
 use Rattle.vax_sched.specs.Due.{due}
 use Rattle.vax_sched.specs.declared.rule.Target.{Target}
+use Rattle.vax_machine.proofs.Delivering.{delivers_nothing, then_delivers}
 use Rattle.vax_machine.specs.Paged.{all_evicted, all_named, named}
 use Rattle.vax_machine.specs.Turn.{EvictedAll, Follows}
 use Rattle.vax_machine.proofs.Evicting.{all_lists, failed_list, next_list, none_yet, one_more, told}
@@ -17,6 +18,7 @@ loop-target-init g c = record {
   sound = c.requires.sound;
   still = still_itself c.args.self.now;
   writes = writes_nothing _ _;
+  delivers = delivers_nothing _ _ _;
   at = λ o p f. none_yet o p _ _ _ _ f;
   quiet = refl;
   written = refl;
@@ -51,6 +53,7 @@ loop-target-preserved g c = record {
       subst (λ (n : ℕ). Follows o (all_evicted (all_named (pages c.args.self.now.pager).areas (take n (due c.args.schedule.now (c.args.self.now.turns + 1)))) p) c.evict_target.new.self (g.F.PageFile.contents c.evict_target.new.file) (g.K.Sink.contents c.evict_target.new.sink) c.evict_target.new.held) (one_more c.loop-target.yielded c.in-Some.target)
       (next_list (named (pages c.args.self.now.pager).areas) (due c.args.schedule.now (c.args.self.now.turns + 1)) (length c.loop-target.yielded) c.in-Some.target (told (due c.args.schedule.now (c.args.self.now.turns + 1)) (length c.loop-target.yielded) c.in-Some.target (YieldsList-turn (YieldsList-from_first (λ (x : Target). x) (λ (t : List Target). t) (due c.args.schedule.now (c.args.self.now.turns + 1)) (cc (c.into_iter-target-iterator.ensures.into_iter_gives, c.targets-target-items.ensures))) c.loop-target.yielded _ c.loop-target.yielded_by _ _ c.in-Some.target c.in-Some.is c.next.ensures.steps)) o p _ _ _ _
       (subst (λ (z : List Area). Follows o (all_evicted (named z c.in-Some.target) (all_evicted (all_named (pages c.args.self.now.pager).areas (take (length c.loop-target.yielded) (due c.args.schedule.now (c.args.self.now.turns + 1)))) p)) c.evict_target.new.self (g.F.PageFile.contents c.evict_target.new.file) (g.K.Sink.contents c.evict_target.new.sink) c.evict_target.new.held) c.loop-target.invariant.still.areas b));
+  delivers = then_delivers _ _ _ _ _ _ _ _ _ c.loop-target.invariant.delivers c.in_ok-evict_target.ensures.delivers;
   quiet = c.in_ok-evict_target.ensures.counts.file.quiet ∙ c.loop-target.invariant.quiet;
   written = c.in_ok-evict_target.ensures.counts.sink.quiet ∙ c.loop-target.invariant.written;
 }
@@ -77,3 +80,6 @@ returns-in_err-evict_target-clause-follows g c = λ first start f. c.evict_targe
 
 pub returns-clause-follows : goal.returns-clause-follows
 returns-clause-follows g c = c.loop-target.invariant.follows
+
+pub returns-clause-delivers : goal.returns-clause-delivers
+returns-clause-delivers g c = c.loop-target.invariant.delivers

@@ -3,6 +3,7 @@ use Rattle.std.specs.Prelude.{is_some}
 use Rattle.vax_space.specs.Areas.{area_of}
 use Rattle.vax_pager.specs.Meaning.{pages}
 use Rattle.vax_pager.proofs.Told.{pager_is, space_is}
+use Rattle.vax_machine.proofs.Delivering.{delivers_again}
 use Rattle.vax_machine.proofs.Following.{evict_follows}
 use Rattle.vax_machine.proofs.Listing.{evict_away, evict_cut, evict_listed}
 use Rattle.vax_outside.proofs.Counting.{counts_still, still_on}
@@ -53,6 +54,7 @@ returns-in_default g c = record {
   still = still_evict c.args.self.now c.evict.new.self _ _ _ c.evict.ensures.applies.0;
   follows = evict_follows c.args.page c.args.self.now c.evict.new.self _ _ c.evict.result c.evict.ensures.applies;
   writes = writes_nothing _ _;
+  delivers = delivers_again (still_evict c.args.self.now c.evict.new.self _ _ _ c.evict.ensures.applies.0).steps _ _;
   counts = counts_none (still_on (not_failed c.evict.result c.in_default.not-Failed) c.evict.ensures.counts) refl;
 }
 
@@ -61,3 +63,8 @@ returns-in-Failed-clause-follows g c = evict_follows c.args.page c.args.self.now
 
 pub returns-in-Evicted-clause-follows : goal.returns-in-Evicted-clause-follows
 returns-in-Evicted-clause-follows g c = evict_follows c.args.page c.args.self.now c.evict.new.self _ _ c.evict.result c.evict.ensures.applies
+
+pub returns-in-Evicted-clause-delivers : goal.returns-in-Evicted-clause-delivers
+returns-in-Evicted-clause-delivers g c =
+    let e = (still_evict c.args.self.now c.evict.new.self _ _ _ c.evict.ensures.applies.0).steps in
+    c.list.ensures.delivers c.args.self.now.steps (omega (arith, e))

@@ -1,4 +1,5 @@
 use Rattle.std.proofs.Common.{refl, arith, ◌∙◌}
+use Rattle.vax_machine.proofs.Delivering.{delivers_nothing, then_delivers}
 use Rattle.vax_machine.proofs.Evicting.{none_yet}
 use Rattle.vax_machine.proofs.Outputs.{counts_like, counts_none, err_like, then_counts, then_writes, writes_nothing}
 use Rattle.vax_machine.proofs.Skipping.{last_done, next_done, next_failed}
@@ -11,6 +12,7 @@ loop-page-init g c = record {
   sound = c.requires.sound;
   still = still_itself c.args.self.now;
   writes = writes_nothing _ _;
+  delivers = delivers_nothing _ _ _;
   at = λ o p f. none_yet o p _ _ _ _ f;
   quiet = refl;
   written = refl;
@@ -39,6 +41,7 @@ loop-page-preserved g c = record {
   still = then_still _ _ _ c.loop-page.invariant.still c.evict_one.ensures.still;
   writes = then_writes _ _ _ _ _ _ c.loop-page.invariant.writes c.evict_one.ensures.writes;
   at = λ o p f. next_done c.args.pages.now c.loop-page.page-index o p _ _ _ _ c.loop-page-test.true (c.in_ok-evict_one.ensures.done o _ (c.loop-page.invariant.at o p f));
+  delivers = then_delivers _ _ _ _ _ _ _ _ _ c.loop-page.invariant.delivers c.in_ok-evict_one.ensures.delivers;
   quiet = c.in_ok-evict_one.ensures.counts.file.quiet ∙ c.loop-page.invariant.quiet;
   written = c.in_ok-evict_one.ensures.counts.sink.quiet ∙ c.loop-page.invariant.written;
 }
@@ -63,3 +66,6 @@ returns-in_err-evict_one-clause-follows g c = λ first start f. c.evict_one.ensu
 
 pub returns-clause-follows : goal.returns-clause-follows
 returns-clause-follows g c = c.loop-page.invariant.follows
+
+pub returns-clause-delivers : goal.returns-clause-delivers
+returns-clause-delivers g c = c.loop-page.invariant.delivers

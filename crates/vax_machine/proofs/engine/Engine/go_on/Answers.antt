@@ -2,6 +2,7 @@ use Rattle.std.proofs.Common.{◌≡◌, arith, inl, refl, ap, subst, ◌∙◌,
 use Rattle.vax_space.specs.declared.Area.{Area}
 use Rattle.vax_pager.specs.Meaning.{pages}
 use Rattle.vax_sched.specs.Due.{due}
+use Rattle.vax_machine.proofs.Delivering.{delivers_nothing, then_delivers}
 use Rattle.vax_machine.specs.Paged.{paged}
 use Rattle.vax_machine.specs.Turn.{AreMade, TurnsMade}
 use Rattle.vax_machine.specs.declared.event.Fault.{Fault}
@@ -24,6 +25,7 @@ loop-end-init g c = record {
   quiet = refl;
   written = refl;
   writes = writes_nothing _ _;
+  delivers = delivers_nothing _ _ _;
 }
 
 pub returns-in-Some-clause-sound : goal.returns-in-Some-clause-sound
@@ -96,6 +98,7 @@ loop-end-preserved g c = record {
   turns = let a = c.loop-end.invariant.turns in let b = c.several_turns.ensures.later in omega (arith, a, b);
   low = λ low. c.several_turns.ensures.turns;
   few = λ low. c.in-Ok.ensures.steps;
+  delivers = then_delivers _ _ _ _ _ _ _ _ _ c.loop-end.invariant.delivers c.in-Ok.ensures.delivers;
   quiet = c.in-Ok.ensures.counts.file.quiet ∙ c.loop-end.invariant.quiet;
   written = c.in-Ok.ensures.counts.sink.quiet ∙ c.loop-end.invariant.written;
   writes = then_writes _ _ _ _ _ _ c.loop-end.invariant.writes c.several_turns.ensures.writes;
@@ -145,3 +148,12 @@ returns-in-Err-Write-clause-counts g c =
 
 pub returns-in-Some-clause-reason : goal.returns-in-Some-clause-reason
 returns-in-Some-clause-reason g c = c.in-Some.ensures.reason
+
+pub returns-in-Some-clause-delivers : goal.returns-in-Some-clause-delivers
+returns-in-Some-clause-delivers g c = λ s. c.loop-end.invariant.delivers
+
+pub returns-in-Err-Page-clause-delivers : goal.returns-in-Err-Page-clause-delivers
+returns-in-Err-Page-clause-delivers g c = λ s. absurd s
+
+pub returns-in-Err-Write-clause-delivers : goal.returns-in-Err-Write-clause-delivers
+returns-in-Err-Write-clause-delivers g c = λ s. absurd s

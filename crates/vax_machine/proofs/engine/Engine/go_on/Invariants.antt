@@ -1,6 +1,7 @@
 use Rattle.std.proofs.Common.{◌≡◌, ◌≤◌, ◌-◌}
 use Rattle.vax_pager.specs.Meaning.{pages}
 use Rattle.vax_machine.specs.Console.{IsBetween, MayGoOn}
+use Rattle.vax_machine.specs.Delivery.{Delivers}
 use Rattle.vax_machine.specs.Events.{KeepsRun}
 use Rattle.vax_machine.specs.Machine.{IsSound}
 use Rattle.vax_machine.specs.Paged.{Paged}
@@ -22,6 +23,7 @@ invariant-loop-end g l = record {
   quiet : (g.F.PageFile.faults l.file).count ≡ (g.F.PageFile.faults l.fn.file).count;
   written : (g.K.Sink.faults l.sink).count ≡ (g.K.Sink.faults l.fn.sink).count;
   writes : StillWrites l.fn.held l.held (g.K.Sink.contents l.fn.sink) (g.K.Sink.contents l.sink);
+  delivers : Delivers l.fn.self.steps l.self.steps l.fn.held l.held (g.K.Sink.contents l.fn.sink) (g.K.Sink.contents l.sink);
 }
 
 abbrev pub decreases-loop-end : goal.decreases-loop-end

@@ -1,5 +1,6 @@
-use Rattle.std.proofs.Common.{refl}
+use Rattle.std.proofs.Common.{false, refl}
 use Rattle.vax_pager.proofs.Told.{space_is}
+use Rattle.vax_machine.proofs.Delivering.{passed_delivers}
 use Rattle.vax_machine.proofs.Holding.{passed_like, passes_on}
 use Rattle.vax_machine.proofs.Outputs.{counts_like, err_like, then_counts, then_writes}
 use Rattle.vax_machine.proofs.Touching.{page_small}
@@ -25,3 +26,7 @@ returns-clause-writes g c = then_writes _ _ _ _ _ _ c.list.ensures.still c.write
 
 pub returns-clause-counts : goal.returns-clause-counts
 returns-clause-counts g c = λ file. then_counts c.write_due.result file file file _ _ _ refl (c.in_ok-list.ensures.counts file).sink.quiet (c.write_due.ensures.counts file)
+
+pub returns-clause-delivers : goal.returns-clause-delivers
+returns-clause-delivers g c = λ since low.
+    passed_delivers _ false (λ e. refl) since c.args.self.now.steps low c.args.held.now _ _ _ _ _ c.in_ok-list.ensures.passes c.list.ensures.due c.write_due.result c.write_due.ensures.passes c.write_due.ensures.due

@@ -1,7 +1,7 @@
 use Rattle.std.proofs.Common.{arith}
 use Rattle.vax_machine.proofs.Following.{serve_follows}
 use Rattle.vax_machine.proofs.Outputs.{writes_nothing}
-use Rattle.vax_machine.proofs.Passing.{never_else, served_by, turns_stay}
+use Rattle.vax_machine.proofs.Passing.{never_else, served_by, steps_stay, turns_stay}
 use Rattle.vax_machine.specs.Machine.{keeping}
 use Rattle.vax_machine.proofs.engine.Engine.serve_and_list.Goals as goal
 
@@ -33,3 +33,11 @@ returns-in-Served-clause-follows g c = serve_follows c.args.self.now c.serve.new
 
 pub returns-in_default-clause-follows : goal.returns-in_default-clause-follows
 returns-in_default-clause-follows g c = serve_follows c.args.self.now c.serve.new.self _ _ c.serve.result c.serve.ensures.applies
+
+pub returns-in-Served-clause-delivers : goal.returns-in-Served-clause-delivers
+returns-in-Served-clause-delivers g c = λ since low.
+    let e = steps_stay (keeping c.args.self.now) (keeping c.serve.new.self) c.args.self.now.wanted c.serve.result c.serve.ensures.applies.0 in
+    c.list.ensures.delivers since (omega (arith, e, low))
+
+pub returns-in_default-clause-delivers : goal.returns-in_default-clause-delivers
+returns-in_default-clause-delivers g c = absurd (never_else c.args.self.now.wanted (keeping c.args.self.now) (keeping c.serve.new.self) c.serve.result c.requires.wanted c.serve.ensures.applies.0 c.in_default.not-Failed c.in_default.not-Served)

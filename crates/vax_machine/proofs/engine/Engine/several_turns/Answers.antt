@@ -1,6 +1,7 @@
 use Rattle.std.proofs.Common.{◌+◌, ◌∙◌, ℕ, sym, ap, arith}
 use Rattle.vax_pager.specs.Meaning.{pages}
 use Rattle.vax_sched.specs.Due.{due}
+use Rattle.vax_machine.proofs.Delivering.{then_on_ok}
 use Rattle.vax_machine.proofs.Between.{wider}
 use Rattle.vax_machine.proofs.Outputs.{err_like, then_writes}
 use Rattle.vax_machine.proofs.Running.{by_none, on_ok, turns_made, unevicted}
@@ -81,3 +82,6 @@ returns-clause-goes_on g c =
 
 pub returns-clause-follows : goal.returns-clause-follows
 returns-clause-follows g c = λ first start f. c.attempt_and_serve.ensures.follows first start (c.evict_due.ensures.follows first start f)
+
+pub returns-clause-delivers : goal.returns-clause-delivers
+returns-clause-delivers g c = then_on_ok c.attempt_and_serve.result _ _ _ _ _ _ _ _ _ c.in_ok-evict_due.ensures.delivers c.attempt_and_serve.ensures.delivers

@@ -1,6 +1,8 @@
-use Rattle.std.proofs.Common.{refl}
+use Rattle.std.proofs.Common.{Bool, OnOk, refl, subst}
+use Rattle.vax_machine.proofs.Delivering.{open_sent, passed_delivers}
 use Rattle.vax_machine.proofs.Holding.{passed_like, passes_on}
 use Rattle.vax_machine.proofs.Outputs.{counts_like, err_like, then_counts, then_writes}
+use Rattle.vax_machine.specs.Delivery.{WritesDue, ends_line}
 use Rattle.vax_machine.proofs.held.Held.send.Goals as goal
 
 pub returns-in_err-hold_sent-clause-passes : goal.returns-in_err-hold_sent-clause-passes
@@ -20,3 +22,8 @@ returns-clause-still g c = then_writes _ _ _ _ _ _ c.hold_sent.ensures.still c.w
 
 pub returns-clause-counts : goal.returns-clause-counts
 returns-clause-counts g c = λ file. then_counts c.write_due.result file file file _ _ _ refl (c.in_ok-hold_sent.ensures.counts file).sink.quiet (c.write_due.ensures.counts file)
+
+pub returns-clause-delivers : goal.returns-clause-delivers
+returns-clause-delivers g c = λ since low.
+    passed_delivers _ (ends_line c.args.sent) (open_sent c.args.sent) since c.args.steps low c.args.self.now _ _ _ _ _ c.in_ok-hold_sent.ensures.passes c.hold_sent.ensures.due c.write_due.result c.write_due.ensures.passes
+    (subst (λ (b : Bool). OnOk c.write_due.result (WritesDue b c.args.steps c.hold_sent.new.self c.write_due.new.self)) c.ends_line.ensures c.write_due.ensures.due)

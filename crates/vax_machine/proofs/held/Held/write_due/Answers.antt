@@ -1,4 +1,5 @@
-use Rattle.std.proofs.Common.{refl}
+use Rattle.std.proofs.Common.{arith, inl, inr, refl}
+use Rattle.std.proofs.lemmas.Bool.Decides.{nat_tests}
 use Rattle.vax_machine.proofs.Holding.{bytes_first, bytes_whole, only_passes, stuck, through}
 use Rattle.vax_machine.proofs.Outputs.{counts_like, err_like, pass_nothing, writes_nothing}
 use Rattle.vax_machine.proofs.held.Held.write_due.Goals as goal
@@ -26,3 +27,9 @@ returns-then-steps-self-clause-passes g c = pass_nothing _ _
 
 pub returns-then-steps-self-clause-still : goal.returns-then-steps-self-clause-still
 returns-then-steps-self-clause-still g c = writes_nothing _ _
+
+pub returns-clause-due : goal.returns-clause-due
+returns-clause-due g c = inl (record { none = c.in_ok-write_bytes.ensures.none; soon = grind (arith, nat_tests) })
+
+pub returns-then-steps-self-clause-due : goal.returns-then-steps-self-clause-due
+returns-then-steps-self-clause-due g c = inr (record { same = refl; later = cc; early = c.if-steps-self.true })
