@@ -33,12 +33,33 @@ def pages(vector):
     return order
 
 
+def taken(vector):
+    """The places among the accesses at which a vector of the system control block is read."""
+    return [k for k, (way, a, n, _) in enumerate(vector["accesses"]) if way == "r" and n == 4 and SCB <= a < SCB + 512]
+
+
+def check_undone(vector):
+    """Before a fault is delivered, each write is undone by one that puts back what was there, the last first. Those before a trap stay."""
+    places = taken(vector)
+    if not places or vector["accesses"][places[0]][1] - SCB == 0x34:
+        return
+    memory = dict(map(tuple, vector["initial"]["ram"]))
+    writes = [a for a in vector["accesses"][: places[0]] if a[0] == "w"]
+    count = len(writes) // 2
+    assert len(writes) == 2 * count
+    for (_, address, length, data), (_, again, same, back) in zip(writes[:count], reversed(writes[count:])):
+        span = [(address + k) % 2**32 for k in range(length)]
+        assert again == address and same == length and back == [memory.get(place, 0) for place in span]
+        memory.update(zip(span, data))
+
+
 def check(vector):
     first, last, ends = vector["initial"], vector["final"], vector["ends"]
     assert all(a < b for (a, _), (b, _) in zip(last["ram"], last["ram"][1:]))
     if ends[0] in ("step", "part"):
         assert sorted(replayed(vector).items()) == list(map(tuple, last["ram"]))
         assert pages(vector) == vector["touched"]
+        check_undone(vector)
         assert not set(vector["touched"]) & set(first["absent"])
     else:
         assert not vector["accesses"] and not last["ram"]
@@ -95,9 +116,9 @@ def main():
         kinds[name][vector["ends"][0]] += 1
         reached[name] |= forms(vector["name"])
         if vector["ends"][0] == "step":
-            taken = {a - SCB for way, a, n, _ in vector["accesses"] if way == "r" and n == 4 and SCB <= a < SCB + 512}
-            causes[name] |= taken
-            if not taken:
+            found = {vector["accesses"][place][1] - SCB for place in taken(vector)}
+            causes[name] |= found
+            if not found:
                 codes[name].add(vector["final"]["psl"] & 15)
     print(count, "vectors agree with themselves")
     for name in sorted(kinds):

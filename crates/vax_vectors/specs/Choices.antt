@@ -33,15 +33,15 @@ abbrev pub violates_at_page : List Touch → Bool
 violates_at_page touches = begins_page (slice_get touches (length touches - 2))
 
 -- The opcodes of instructions of which a violation may be told by another address or another reason, or later: those of strings, the branches that
--- change a bit, INSQUE and REMQUE, ADAWI, CASE, EXTV, EXTZV and INSV, CALLS.
+-- change a bit, INSQUE and REMQUE, ADAWI, CASE, those of fields, CALLS.
 abbrev pub differing_in_violations : List ℕ
 differing_in_violations =
     0x28 ∷ 0x29 ∷ 0x2A ∷ 0x2B ∷ 0x2C ∷ 0x2D ∷ 0x2E ∷ 0x2F ∷ 0x39 ∷ 0x3A ∷ 0x3B ∷ 0xE2 ∷ 0xE3 ∷ 0xE4 ∷ 0xE5 ∷ 0xE6 ∷ 0xE7 ∷ 0x0E ∷ 0x0F
-    ∷ 0x58 ∷ 0x8F ∷ 0xAF ∷ 0xCF ∷ 0xEE ∷ 0xEF ∷ 0xF0 ∷ 0xFB ∷ []
+    ∷ 0x58 ∷ 0x8F ∷ 0xAF ∷ 0xCF ∷ 0xEA ∷ 0xEB ∷ 0xEC ∷ 0xED ∷ 0xEE ∷ 0xEF ∷ 0xF0 ∷ 0xFB ∷ []
 
--- those with reserved operands of this machine's own: REI, RET, BISPSW and BICPSW, by bits of the status
+-- those with reserved operands of this machine's own: REI, RET, BISPSW and BICPSW by bits of the status, MOVTUC by strings that overlap
 abbrev pub differing_in_operands : List ℕ
-differing_in_operands = 0x02 ∷ 0x04 ∷ 0xB8 ∷ 0xB9 ∷ []
+differing_in_operands = 0x02 ∷ 0x04 ∷ 0x2F ∷ 0xB8 ∷ 0xB9 ∷ []
 
 -- those that read and write the processor's registers, of which each machine has its own: MTPR and MFPR
 abbrev pub differing_in_registers : List ℕ

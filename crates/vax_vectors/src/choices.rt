@@ -8,9 +8,9 @@ use crate::vector::{Cell, End, Ends, Start, Touch, Vector};
 use vax_flat::Ending;
 
 /// The opcodes of instructions of which a violation may be told by another address or another reason, or later.
-const DIFFERING_IN_VIOLATIONS: [u8; 27] = [
+const DIFFERING_IN_VIOLATIONS: [u8; 31] = [
     0x28, 0x29, 0x2A, 0x2B, 0x2C, 0x2D, 0x2E, 0x2F, 0x39, 0x3A, 0x3B, 0xE2, 0xE3, 0xE4, 0xE5, 0xE6,
-    0xE7, 0x0E, 0x0F, 0x58, 0x8F, 0xAF, 0xCF, 0xEE, 0xEF, 0xF0, 0xFB,
+    0xE7, 0x0E, 0x0F, 0x58, 0x8F, 0xAF, 0xCF, 0xEA, 0xEB, 0xEC, 0xED, 0xEE, 0xEF, 0xF0, 0xFB,
 ];
 
 /// Those whose codes N and Z are read from a result that overflowed.
@@ -114,7 +114,8 @@ fn delivers_by_choice(opcode: u8, touches: &[Touch]) -> bool
     let violation = delivers(touches, 0x20);
     let operand = delivers(touches, 0x18);
     let told_so = is_listed(&DIFFERING_IN_VIOLATIONS, opcode) || violates_at_page(touches);
-    form || (violation && told_so) || (operand && is_listed(&[0x02, 0x04, 0xB8, 0xB9], opcode))
+    form || (violation && told_so)
+        || (operand && is_listed(&[0x02, 0x04, 0x2F, 0xB8, 0xB9], opcode))
 }
 
 /// V is set, or an arithmetic trap is delivered.
