@@ -44,6 +44,29 @@ expect 'a paged run' '0 ENDING HALT' "$(answer "${paged[@]}" --record on)"
 expect 'the sum of a paged run' '327692800 25473' "$(tr '\n' ' ' <out | sed 's/ *$//')"
 for file in out err vax.pag vax.rec; do mv "$file" "lone.$file"; done
 
+# ---- Eight programs on one pool ----
+
+for j in 1 2 3 4 5 6 7 8; do
+  printf '.PSECT DATA\nBUF: .BLKB 51200\n.PSECT CODE,NOWRT\n.ENTRY START,^M<>\nMOVL #3,R9\n20$: MOVAL BUF,R7\nMOVL #100,R6\n' >"eight$j.mar"
+  printf '10$: ADDL2 #%d,(R7)\nXORL2 (R7),R8\nROTL #%d,R8,R8\nADDL2 #512,R7\nSOBGTR R6,10$\n' "$((j * 7919))" "$j" >>"eight$j.mar"
+  printf 'SOBGTR R9,20$\nADDL3 #%d,#48,R0\nCHMK #1\nRET\n.END START\n' "$j" >>"eight$j.mar"
+done
+: >wanted
+for j in 1 2 3 4 5 6 7 8; do
+  echo "JOB $j" >>wanted
+  "$vax" run "eight$j.mar" 2>>wanted >>letters
+done
+"$vax" jobs eight?.mar --pool 512 >out 2>err
+expect 'eight programs' '0 same' "$? $(same wanted err)"
+expect 'what each of them sends' "$(fold -w 1 letters | sort)" "$(fold -w 1 out | sort)"
+for j in 8 7 6 5 4 3 2 1; do echo "$j $((j * j))"; done >order
+"$vax" jobs eight?.mar --pool 512 --order order >out 2>err
+expect 'eight programs in an order' '0 same' "$? $(same wanted err)"
+for j in 1 2 3 4 5 6 7 8; do echo "$j 1000000000"; done >order
+"$vax" jobs eight?.mar --pool 512 --order order >out 2>err
+expect 'one of eight programs behind another' '0 same same' "$? $(same wanted err) $(same letters out)"
+rm -f order vax.pag
+
 # ---- Exit statuses ----
 
 cp literals.mar program.mar
