@@ -2,7 +2,7 @@
 #![tactic(auto)]
 
 mod laws;
-mod outputs;
+mod sent;
 
 pub use laws::{processes_end_whole, processes_reach_their_runs};
-pub use outputs::{processes_end_as_alone, processes_send_their_outputs, runs_end_alike};
+pub use sent::{processes_end_as_alone, processes_send_their_outputs, runs_end_alike};
