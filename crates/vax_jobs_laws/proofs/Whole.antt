@@ -20,7 +20,7 @@ use Rattle.vax_jobs_laws.specs.Whole.{AreWhole, EndWhole, ReachTheirRuns, stage_
 abbrev pub Came : ℕ → Flat → Process → Type 0
 Came limit start p = Comes limit start (stage_in p)
 
-came_further : (limit : ℕ) (start : Flat) (p : Process) → (machine_at p.place).ending ≡ None → p.steps < limit → Came limit start p → Came limit start (completed p)
+pub came_further : (limit : ℕ) (start : Flat) (p : Process) → (machine_at p.place).ending ≡ None → p.steps < limit → Came limit start p → Came limit start (completed p)
 came_further limit start p going left c = comes_further (turn p.place) limit start (stage_in p) refl going left c
 
 pub all_came : (x : Setting) (starts : List Flat) (count : ℕ) → AllHave (Came x.steps) x.steps (came_further x.steps) (λ start p page c. c) starts (after_turns x starts count).processes
