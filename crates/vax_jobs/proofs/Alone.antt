@@ -55,7 +55,7 @@ drop_none : (xs : List Line) → drop 0 xs ≡ xs
 drop_none [] = refl
 drop_none (x ∷ xs) = refl
 
-next_goes : (going : ℕ → Bool) (order : List Line) (at next : Position) → next_position going order at ≡ Some next → going (job_at order next.line) ≡ true
+pub next_goes : (going : ℕ → Bool) (order : List Line) (at next : Position) → next_position going order at ≡ Some next → going (job_at order next.line) ≡ true
 unfolding next_position
 next_goes going order at next e = elim (cases_Bool (nat_lt 0 at.left && going (job_at order at.line))) [
   | inl t ↦

@@ -170,7 +170,7 @@ gone_without job page p q r missed (inr e) =
 
 -- where it leads
 
-resident_is : (most job : ℕ) (pairs : List Pair) (r : Residence) → IsShare most job pairs r → is_resident r ≡ is_there pairs job
+pub resident_is : (most job : ℕ) (pairs : List Pair) (r : Residence) → IsShare most job pairs r → is_resident r ≡ is_there pairs job
 resident_is most job pairs r share =
     let same : (page : ℕ) → is_listed page r.order ≡ is_there pairs job page = λ page. ap (is_listed page) share.order ∙ sym (there_is job page pairs) in
     λ i page. same page i

@@ -16,3 +16,4 @@ pub mod Sends
 pub mod Rounds
 pub mod Alone
 pub mod Readying
+pub mod Advancing

@@ -77,7 +77,7 @@ free_is ks (x ∷ pairs) pair e = elim (cases_Bool (is_pinned ks x)) [
       subst (λ (z : Pair). is_pinned ks z ≡ false) q f
 ]
 
-room_free : (p : Pooling) (pair : Pair) → room_of p ≡ Some pair → is_pinned p.processes pair ≡ false
+pub room_free : (p : Pooling) (pair : Pair) → room_of p ≡ Some pair → is_pinned p.processes pair ≡ false
 unfolding room_of
 room_free p pair e = elim (cases_Bool (nat_lt (length p.resident) p.most)) [
   | inl t ↦ let no : None ≡ Some pair = rw t at e in cc

@@ -117,7 +117,7 @@ stops_done x s at names none =
 not_less : (a b : ℕ) → b ≤ a → nat_lt a b ≡ false
 not_less a b l = grind (arith, nat_tests)
 
-less_is : (a b : ℕ) → a < b → nat_lt a b ≡ true
+pub less_is : (a b : ℕ) → a < b → nat_lt a b ≡ true
 less_is a b l = grind (arith, nat_tests)
 
 pub stops_turns : (x : Setting) (s : Shared) (job : ℕ) → goes x.steps s.processes job ≡ true → x.turns ≤ s.turns → stops x s ≡ Some ByTurns

@@ -71,7 +71,7 @@ drop_all : (xs : List ℕ) → drop (length xs) xs ≡ []
 drop_all [] = refl
 drop_all (x ∷ xs) = drop_all xs
 
-drop_front : (xs ys : List ℕ) → drop (length xs) (xs ++ ys) ≡ ys
+pub drop_front : (xs ys : List ℕ) → drop (length xs) (xs ++ ys) ≡ ys
 drop_front [] ys = refl
 drop_front (x ∷ xs) ys = drop_front xs ys
 
@@ -94,7 +94,7 @@ pub bytes_nil : (xs : List ℕ) → xs ≡ xs ++ []
 bytes_nil [] = refl
 bytes_nil (x ∷ xs) = ap (λ zs. x ∷ zs) (bytes_nil xs)
 
-bytes_more : (job : ℕ) (x : Process) (s : Shared) (bytes : List ℕ) → sent_in (machine_at x.place).output (turn x.place) ≡ bytes → map byte_in (s.sent ++ sent_by job x) ≡ bytes_sent s ++ bytes
+pub bytes_more : (job : ℕ) (x : Process) (s : Shared) (bytes : List ℕ) → sent_in (machine_at x.place).output (turn x.place) ≡ bytes → map byte_in (s.sent ++ sent_by job x) ≡ bytes_sent s ++ bytes
 bytes_more job x s bytes e =
     bytes_behind s.sent (sent_by job x)
     ∙ ap (λ zs. map byte_in s.sent ++ zs) (bytes_as job (sent_in (machine_at x.place).output (turn x.place)) ∙ e)
@@ -105,7 +105,7 @@ pub tried_is : (most job : ℕ) (s : Shared) (x : Process) (o : Option ℕ) → 
 unfolding tried
 tried_is most job s x o a b = ap (λ p. tried_by most job p s) a ∙ ap (by_missing most job x s) b
 
-mark_eq : (a b : ℕ) (xs ys : List ℕ) (o q : Option Ending) → a ≡ b → xs ≡ ys → o ≡ q → record { steps = a; pinned = xs; ended = o } ≡ (let m : Mark = record { steps = b; pinned = ys; ended = q } in m)
+pub mark_eq : (a b : ℕ) (xs ys : List ℕ) (o q : Option Ending) → a ≡ b → xs ≡ ys → o ≡ q → record { steps = a; pinned = xs; ended = o } ≡ (let m : Mark = record { steps = b; pinned = ys; ended = q } in m)
 mark_eq a b xs ys o q e f g = λ i. record { steps = e i; pinned = f i; ended = g i }
 
 -- a turn of a process that goes on
@@ -164,7 +164,7 @@ module _ (job : ℕ) (y z : System) (s : Shared) (m n : Machine) (x : Process) (
         g.others i other a.0 b a.1 there p.place (g.tracks.stands.means i a.0 p a.1 old)
   ]
 
-  set_stands : (new : Process) → map kept_mark z.pooling.processes ≡ slice_set (map kept_mark y.pooling.processes) job (flat_mark new) → Means (engine n) (its job z.file) new.place → Stands z (slice_set s.processes job new)
+  pub set_stands : (new : Process) → map kept_mark z.pooling.processes ≡ slice_set (map kept_mark y.pooling.processes) job (flat_mark new) → Means (engine n) (its job z.file) new.place → Stands z (slice_set s.processes job new)
   set_stands new marks means = record {
     marks = marks ∙ ap (λ ms. slice_set ms job (flat_mark new)) g.tracks.stands.marks ∙ sym (map-set flat_mark s.processes job new);
     means = set_means new means;

@@ -6,3 +6,4 @@ pub mod Shared
 pub mod Sending
 pub mod Running
 pub mod Alone
+pub mod Several

@@ -102,7 +102,8 @@ pub record MayGo (limit job : ℕ) (s : Shared) : Type 0 where
 abbrev pub TurnsTo : Result (Unit {0}) Fault → ℕ → (first : Option Channels) → Shared → System → List ℕ → Option Channels → Type 0
 TurnsTo (Ok x) job first s new left now = IsAt first (tried new.pooling.most job s) new left now
 TurnsTo (Err Page) job first s new left now = IsStuck s new × (Sends first (bytes_sent s) left now)
-TurnsTo (Err Write) job first s new left now = GrewByPrefix first now (only channel.Out (bytes_sent (tried new.pooling.most job s)))
+TurnsTo (Err Write) job first s new left now =
+    Tracks new (tried new.pooling.most job s) × GrewByPrefix first now (only channel.Out (bytes_sent (tried new.pooling.most job s)))
 
 -- from wherever the processes are
 abbrev pub MakesTurn : Result (Unit {0}) Fault → ℕ → System → List ℕ → Option Channels → System → List ℕ → Option Channels → Type 0
@@ -137,17 +138,18 @@ pub record IsCut (x : Setting) (s : Shared) (y : System) (old new : Option Chann
   pub stuck : IsStuck (shared x count s) y
   pub wrote : Grew old new (only channel.Out (bytes_sent (shared x count s)))
 
--- a write failed: a prefix of what so many turns send was written
-pub record IsLost (x : Setting) (s : Shared) (old new : Option Channels) : Type 0 where
+-- a write failed: each process is where so many turns lead, and a prefix of what these send was written; the page that makes room for the next may be absent
+pub record IsLost (x : Setting) (s : Shared) (y : System) (old new : Option Channels) : Type 0 where
   pub count : ℕ
   pub runs : Runs x s count
+  pub stands : IsStuck (shared x count s) y
   pub wrote : GrewByPrefix old new (only channel.Out (bytes_sent (shared x count s)))
 
 abbrev pub Ends : JobsEnd → Setting → Shared → System → Option Channels → Option Channels → Type 0
 Ends Done x s y old new = IsWhole x s AllDone y old new
 Ends Turns x s y old new = IsWhole x s ByTurns y old new
 Ends PageFault x s y old new = IsCut x s y old new
-Ends WriteFault x s y old new = IsLost x s old new
+Ends WriteFault x s y old new = IsLost x s y old new
 
 -- from wherever turns begin
 abbrev pub RunsTo : JobsEnd → Setting → System → Option Channels → System → Option Channels → Type 0
@@ -162,12 +164,12 @@ pub record IsPosition (going : ℕ → Bool) (order : List Line) (at : Position)
   pub left : 1 ≤ at.left
   pub goes : going (job_at order at.line) ≡ true
 
-abbrev pub is_page_fault : Result (Unit {0}) Fault → Bool
+abbrev pub is_page_fault : {A : Type 0} → Result A Fault → Bool
 is_page_fault (Ok x) = false
 is_page_fault (Err Page) = true
 is_page_fault (Err Write) = false
 
-abbrev pub is_write_fault : Result (Unit {0}) Fault → Bool
+abbrev pub is_write_fault : {A : Type 0} → Result A Fault → Bool
 is_write_fault (Ok x) = false
 is_write_fault (Err Page) = false
 is_write_fault (Err Write) = true

@@ -42,7 +42,7 @@ abbrev pub HasSent : (first : Option Channels) → (held : List ℕ) → (now : 
 HasSent first held now = (sent : List ℕ) × Sends first sent held now
 
 -- so they were by a turn, or a write failed behind a prefix
-abbrev pub WritesOn : Result (Unit {0}) Fault → (before : Option Channels) → (held : List ℕ) → (now : Option Channels) → (left : List ℕ) → Type 0
+abbrev pub WritesOn : {A : Type 0} → Result A Fault → (before : Option Channels) → (held : List ℕ) → (now : Option Channels) → (left : List ℕ) → Type 0
 WritesOn (Ok x) before held now left = (first : Option Channels) → HasSent first held before → HasSent first left now
 WritesOn (Err Page) before held now left = (first : Option Channels) → HasSent first held before → HasSent first left now
 WritesOn (Err Write) before held now left =

@@ -46,7 +46,8 @@ impl Jobs {
         ensures count { result ≡ Err JobsError.Count → IsCount (length jobs.items) → ⊥ }
         ensures pool { result ≡ Err JobsError.Pool
             → IsCount (length jobs.items) × (IsMost (length jobs.items) pool → ⊥) }
-        ensures whole { IsOk result → IsCount (length jobs.items) × IsMost (length jobs.items) pool }
+        ensures whole { IsOk result
+            → IsCount (length jobs.items) × IsMost (length jobs.items) pool }
     {
         let count = jobs.len();
         if count == 0 || MOST_JOBS < count {
@@ -90,7 +91,7 @@ impl Jobs {
     /// hasn't ended and has completed fewer than `steps` steps. The bytes that the processes send go to Out in the order of the steps that send them.
     ///
     /// It makes turns `Go` alone, and takes no memory. From wherever the processes stand it follows the turns of the flat machines. After a failure of the
-    /// page file each process is where the turns before it left it; after one of the sink, a prefix of what the turns send was written.
+    /// page file each process is where the turns before it left it; after one of the sink each is where some turns lead, and a prefix of what these send was written.
     pub fn run<F: PageFile, K: Sink>(
         &mut self,
         order: &Order,

@@ -11,6 +11,7 @@ mod pool;
 mod position;
 mod run;
 mod sending;
+mod several;
 mod turn;
 
 pub use ends::JobsEnd;

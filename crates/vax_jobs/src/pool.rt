@@ -1,5 +1,5 @@
 //! The machines of the processes and their resident pages.
-ghost use Rattle.std.specs.Prelude.{◌≡◌, ◌<◌, ◌≤◌, ◌⊎◌, ◌++◌, ◌∷◌, [], Some, IfSome, OnErr, OnOk, is_err, length, slice_get};
+ghost use Rattle.std.specs.Prelude.{◌≡◌, ◌<◌, ◌≤◌, ◌⊎◌, ◌++◌, ◌∷◌, [], Some, IfSome, OnErr, OnOk, is_err, length};
 ghost use Rattle.std.specs.List.{remove};
 ghost use Rattle.std.specs.VecDeque.{deque_capacity};
 ghost use Rattle.vax_outside.specs.Faults.{CountsFailure};
@@ -163,7 +163,8 @@ impl Pool {
         requires sound { IsPool self.old }
         requires there { wanted_at job (pooling_of self.old) ≡ Some page }
         ensures sound { IsPool self.new }
-        ensures ok { OnOk result (pooling_of self.new ≡ came job page (with_room (pooling_of self.old))) }
+        ensures ok { OnOk result
+            (pooling_of self.new ≡ came job page (with_room (pooling_of self.old))) }
         ensures err { OnErr result ((pooling_of self.new ≡ pooling_of self.old)
             ⊎ (pooling_of self.new ≡ with_room (pooling_of self.old))) }
         ensures keeps { AllKeep self.old.machines.items (F.contents file.old)

@@ -31,9 +31,20 @@ fn byte_of(turned: Turned) -> Option<u8>
     }
 }
 
+/// How many turns of a line may follow at once, by what is left of it and of the limit.
+fn most_turns(left: u32, turns: u64) -> u64
+    requires line { 1 ≤ left }
+    requires limit { 1 ≤ turns }
+    ensures some { 1 ≤ result }
+    ensures line { result ≤ left }
+    ensures limit { result ≤ turns }
+{
+    u64::from(left).min(turns)
+}
+
 impl Pool {
     /// Whether a process hasn't ended, and has steps left of so many.
-    fn goes_on(&self, job: u8, steps: u64) -> bool
+    pub(crate) fn goes_on(&self, job: u8, steps: u64) -> bool
         requires { job < length self.now.machines.items }
         ensures { result ≡ going steps (pooling_of self.now) job }
     {
@@ -76,7 +87,7 @@ impl Pool {
     }
 
     /// An attempt of a process. The page that it misses is served, and the byte that it sends is held back for Out.
-    fn one_turn<F: PageFile, K: Sink>(
+    pub(crate) fn one_turn<F: PageFile, K: Sink>(
         &mut self,
         job: u8,
         held: &mut Held,
@@ -97,7 +108,8 @@ impl Pool {
             held.new.items (K.contents sink.new) }
         ensures writes { WritesOn result (K.contents sink.old) held.old.items (K.contents sink.new)
             held.new.items }
-        ensures file { CountsFailure (is_page_fault result) (F.faults file.old) (F.faults file.new) }
+        ensures file { CountsFailure (is_page_fault result) (F.faults file.old)
+            (F.faults file.new) }
         ensures sink { CountsFailure (is_write_fault result) (K.faults sink.old)
             (K.faults sink.new) }
     {
@@ -149,13 +161,15 @@ impl Pool {
             if made >= turns {
                 return finish(&held, JobsEnd::Turns, sink);
             }
-            made += 1;
-            at = Position {
-                line: next.line,
-                left: next.left - 1,
-            };
-            match self.one_turn(order[next.line].job, &mut held, file, sink) {
-                Ok(()) => {}
+            let most = most_turns(next.left, turns - made);
+            match self.several_turns(order[next.line].job, most, steps, &mut held, file, sink) {
+                Ok(count) => {
+                    made += count;
+                    at = Position {
+                        line: next.line,
+                        left: next.left - count as u32,
+                    };
+                }
                 Err(Fault::Page) => return finish(&held, JobsEnd::PageFault, sink),
                 Err(Fault::Write) => return JobsEnd::WriteFault,
             }

@@ -40,9 +40,11 @@ pub returns-in-Err-clause-done : goal.returns-in-Err-clause-done
 returns-in-Err-clause-done g c = λ first s limit may at.
     let y = system_of (pooling_of c.args.self.now) c.args.self.now.machines.items (g.F.PageFile.contents c.args.file.now) in
     let z = system_of (pooling_of c.go.new.self) c.go.new.self.machines.items (g.F.PageFile.contents c.go.new.file) in
-    let lead = turn_leads c.args.job y z c.go.result refl refl c.go.ensures.turned c.go.ensures.goes c.go.ensures.unsettled s limit may at.tracks c.in_default.not-Failed in
-    subst (λ (bytes : List ℕ). GrewByPrefix first (g.K.Sink.contents c.hold.new.sink) (only Out bytes)) (ap (λ xs. bytes_sent s ++ xs) c.in-Some.ensures ∙ sym lead.sent)
-    (sends_lost first (g.K.Sink.contents c.args.sink.now) (g.K.Sink.contents c.hold.new.sink) (bytes_sent s) c.args.held.now.items c.in-Some.byte at.sends c.in-Err.ensures.cut)
+    let lead = turn_leads c.args.job y z c.go.result refl refl c.go.ensures.turned c.go.ensures.goes c.go.ensures.unsettled s limit may at.tracks c.in_default.not-Failed in (
+      lead.tracks,
+      subst (λ (bytes : List ℕ). GrewByPrefix first (g.K.Sink.contents c.hold.new.sink) (only Out bytes)) (ap (λ xs. bytes_sent s ++ xs) c.in-Some.ensures ∙ sym lead.sent)
+          (sends_lost first (g.K.Sink.contents c.args.sink.now) (g.K.Sink.contents c.hold.new.sink) (bytes_sent s) c.args.held.now.items c.in-Some.byte at.sends c.in-Err.ensures.cut),
+    )
 
 pub returns-in-Ok-clause-writes : goal.returns-in-Ok-clause-writes
 returns-in-Ok-clause-writes g c = λ first h.
