@@ -64,6 +64,7 @@ fn tells_what_is_refused(rt: HostRuntime) -> Result<(), Fail> {
     assert!(rt; refused(b"st") == Some(Refusal::Several));
     assert!(rt; refused(b"e 200") == Some(Refusal::Several));
     assert!(rt; refused(b"gone") == Some(Refusal::Unknown));
+    assert!(rt; refused(b"dep psl 0") == Some(Refusal::Usage(Command::Deposit)));
     assert!(rt; refused(b"/b 200") == Some(Refusal::Unknown));
     assert!(rt; refused(b"go 1") == Some(Refusal::Usage(Command::Go)));
     assert!(rt; refused(b"go/b") == Some(Refusal::Usage(Command::Go)));
@@ -119,11 +120,6 @@ fn reads_places(rt: HostRuntime) -> Result<(), Fail> {
     );
     let stop = read_line(b"break fact");
     assert!(rt; matches!(&stop, Line::Request(Request::Break(at)) if is_name(at, b"FACT", 0, 0)));
-    let watch = read_line(b"watch 20a");
-    assert!(rt;
-        matches!(&watch, Line::Request(Request::Watch(at))
-        if at.count == 4 && is_name(&at.from, b"20A", 0, 0))
-    );
     Ok(())
 }
 
@@ -172,8 +168,8 @@ fn count_of(text: &[u8]) -> usize {
 
 #[test]
 fn tells_what_would_be_understood(rt: HostRuntime) -> Result<(), Fail> {
-    assert!(rt; count_of(b"frob") == 22);
-    assert!(rt; count_of(b"s") == 4);
+    assert!(rt; count_of(b"frob") == 17);
+    assert!(rt; count_of(b"s") == 3);
     assert!(rt; count_of(b"st") == 2);
     assert!(rt; count_of(b"go 1") == 1);
     assert!(rt; count_of(&[b' '; 1_025]) == 0);

@@ -109,10 +109,10 @@ memory_put (Some to) value = option_map (request.DepositMemory to) value
 abbrev pub put_by : Option ℕ → Text → Text → Option Request
 put_by (Some n) what given = option_map (request.DepositRegister n) (expression given)
 put_by None what given =
-    if is_called (codes "PSL") what then option_map request.DepositStatus (expression given)
+    if is_called (codes "PSL") what then None
     else memory_put (expression what) (value_of form.Long given)
 
--- into a register, the status, or memory
+-- into a register or memory
 abbrev pub put_at : Option Form → Text → Text → Option Request
 put_at None what given = put_by (register what) what given
 put_at (Some f) what given = memory_put (expression what) (value_of f given)
@@ -132,10 +132,6 @@ unfoldable pub stepped : List Text → Option Request
 stepped [] = Some (request.Step 1)
 stepped (many ∷ []) = option_map request.Step (number (10 ^ 15) many)
 stepped operands = None
-
--- four bytes, where it isn't said
-abbrev pub watched : List Text → Option Request
-watched operands = option_map request.Watch (spanned 4 operands)
 
 unfoldable pub cleared : List Text → Option Request
 cleared [] = Some (request.Clear None)
@@ -184,17 +180,12 @@ asked_plainly command.Out operands = alone request.Out operands
 asked_plainly command.Go operands = alone request.Go operands
 asked_plainly command.Until operands = option_map request.Until (one_expression operands)
 asked_plainly command.Break operands = option_map request.Break (one_expression operands)
-asked_plainly command.Watch operands = watched operands
 asked_plainly command.Clear operands = cleared operands
 asked_plainly command.Show operands = shown operands
 asked_plainly command.Where operands = alone request.Where operands
 asked_plainly command.Stack operands = stacked operands
 asked_plainly command.Queue operands = option_map request.Queue (one_expression operands)
-asked_plainly command.Pages operands = alone request.Pages operands
 asked_plainly command.Evict operands = evicted operands
-asked_plainly command.Turn operands = alone request.Turn operands
-asked_plainly command.Restart operands = alone request.Restart operands
-asked_plainly command.Save operands = alone request.Save operands
 asked_plainly command.Help operands = helped operands
 asked_plainly command.Quit operands = alone request.Quit operands
 
@@ -279,7 +270,6 @@ IsProper (request.ExamineRegister n) = n < 16
 IsProper request.ExamineStatus = Unit {0}
 IsProper (request.ExamineMemory f at) = IsSpan at
 IsProper (request.DepositRegister n e) = (n < 16) × IsExpression e
-IsProper (request.DepositStatus e) = IsExpression e
 IsProper (request.DepositMemory e v) = IsExpression e × IsValue v
 IsProper (request.Disassemble at) = IfSome at IsSpan
 IsProper (request.Step n) = (1 ≤ n) × (n ≤ 10 ^ 15)
@@ -288,18 +278,13 @@ IsProper request.Out = Unit {0}
 IsProper request.Go = Unit {0}
 IsProper (request.Until e) = IsExpression e
 IsProper (request.Break e) = IsExpression e
-IsProper (request.Watch at) = IsSpan at
 IsProper (request.Clear e) = IfSome e IsExpression
 IsProper request.Show = Unit {0}
 IsProper request.Where = Unit {0}
 IsProper (request.Stack n) = IsCount n
 IsProper (request.Queue e) = IsExpression e
-IsProper request.Pages = Unit {0}
 IsProper (request.Evict e) = IsExpression e
 IsProper request.EvictAll = Unit {0}
-IsProper request.Turn = Unit {0}
-IsProper request.Restart = Unit {0}
-IsProper request.Save = Unit {0}
 IsProper (request.Help c) = Unit {0}
 IsProper request.Quit = Unit {0}
 

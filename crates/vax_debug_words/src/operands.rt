@@ -5,7 +5,7 @@ ghost use Rattle.vax_debug_words.specs.Expressions.{IsExpression, expression};
 ghost use Rattle.vax_debug_words.specs.Commands.{meaning};
 ghost use Rattle.vax_debug_words.specs.declared.request.Request.TheVariants as request;
 ghost use Rattle.vax_debug_words.specs.declared.request.Value.TheVariants as value;
-ghost use Rattle.vax_debug_words.specs.Requests.{IsCount, IsProper, IsSpan, IsValue, alone, characters, cleared, count, count_or, deposited, disassembled, evicted, evicted_at, examined, form_or_long, help_on, helped, memory_put, memory_shown, one_expression, one_shown, put_at, quadword, shown, shown_at, span, spanned, stacked, stepped, value_of, watched};
+ghost use Rattle.vax_debug_words.specs.Requests.{IsCount, IsProper, IsSpan, IsValue, alone, characters, cleared, count, count_or, deposited, disassembled, evicted, evicted_at, examined, form_or_long, help_on, helped, memory_put, memory_shown, one_expression, one_shown, put_at, quadword, shown, shown_at, span, spanned, stacked, stepped, value_of};
 
 use crate::command::{Form, Meaning, begins, is_called, meaning_of};
 use crate::expression::{expression, longword, register};
@@ -23,9 +23,6 @@ const INSTRUCTIONS: u8 = 10;
 
 /// How many longwords of the stack are shown where a line doesn't say.
 const LONGWORDS: u8 = 8;
-
-/// How many bytes are watched where a line doesn't say.
-const WATCHED: u8 = 4;
 
 /// A count of values, longwords, bytes or instructions.
 fn count(word: &[u8]) -> Option<u8>
@@ -228,7 +225,7 @@ fn register_put(register: u8, given: &[u8]) -> Option<Request>
     expression(given).map(|value| Request::DepositRegister { register, value })
 }
 
-/// Into a register, the status, or a longword.
+/// Into a register or a longword; the status has no value to be put into.
 #[tactic(auto, unfolding(crate::specs::Requests::IsProper))]
 fn put_plainly(what: &[u8], given: &[u8]) -> Option<Request>
     ensures request { result ≡ put_at None what.now given.now }
@@ -236,12 +233,12 @@ fn put_plainly(what: &[u8], given: &[u8]) -> Option<Request>
 {
     match register(what) {
         Some(n) => register_put(n, given),
-        None if is_called(what, b"PSL") => expression(given).map(Request::DepositStatus),
+        None if is_called(what, b"PSL") => None,
         None => memory_put(Form::Long, what, given),
     }
 }
 
-/// Into a register, the status, or memory.
+/// Into a register or memory.
 fn put_at(form: Option<Form>, what: &[u8], given: &[u8]) -> Option<Request>
     ensures request { result ≡ put_at form what.now given.now }
     ensures proper { IfSome result IsProper }
@@ -291,15 +288,6 @@ pub(crate) fn stepped(operands: &[u8]) -> Option<Request>
             Some(_) => None,
         },
     }
-}
-
-/// What a `WATCH` with these operands asks for.
-#[tactic(auto, unfolding(crate::specs::Requests::IsProper))]
-pub(crate) fn watched(operands: &[u8]) -> Option<Request>
-    ensures request { result ≡ watched (words operands.now) }
-    ensures proper { IfSome result IsProper }
-{
-    spanned(WATCHED, operands).map(Request::Watch)
 }
 
 /// What a `CLEAR` with these operands asks for.

@@ -133,8 +133,6 @@ pub enum Request {
     ExamineMemory(Form, Span),
     /// Another value of a register, R0 to R15.
     DepositRegister { register: u8, value: Expression },
-    /// Another processor status longword.
-    DepositStatus(Expression),
     /// Another value in memory.
     DepositMemory { to: Expression, value: Value },
     /// So many instructions, or ten from PC on.
@@ -151,8 +149,6 @@ pub enum Request {
     Until(Expression),
     /// A stop before each step at an address.
     Break(Expression),
-    /// A stop behind each step that changes one of so many bytes.
-    Watch(Span),
     /// No stop any more at an address, or none at all.
     Clear(Option<Expression>),
     /// The stops.
@@ -163,18 +159,10 @@ pub enum Request {
     Stack(u8),
     /// The entries of a queue.
     Queue(Expression),
-    /// The pages of memory: resident, kept, modified.
-    Pages,
     /// The page of an address made absent.
     Evict(Expression),
     /// All pages made absent.
     EvictAll,
-    /// One attempt.
-    Turn,
-    /// The machine as it was at the start.
-    Restart,
-    /// The state, to Record.
-    Save,
     /// What may be asked for, or how one command is used.
     Help(Option<Command>),
     /// The end.
