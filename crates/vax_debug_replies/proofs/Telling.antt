@@ -1,0 +1,10 @@
+-- What is written behind what was written.
+use Rattle.std.proofs.Common.{List, ℕ, ◌++◌, Option, Result, Ok, Err, OnErr}
+use Rattle.vax_outside.specs.Channels.{Channels, Grew, GrewByPrefix, only}
+use Rattle.vax_outside.specs.declared.traits.Chan.TheVariants.{Report}
+use Rattle.vax_outside.specs.declared.traits.Failed.{Failed}
+use Rattle.vax_outside.proofs.Growth.{report_last}
+
+pub err_last : {T : Type 0} (r : Result T Failed) (a b c : Option Channels) (xs ys : List ℕ) → Grew a b (only Report xs) → OnErr r (GrewByPrefix b c (only Report ys)) → OnErr r (GrewByPrefix a c (only Report (xs ++ ys)))
+err_last (Ok x) a b c xs ys p q = tt
+err_last (Err e) a b c xs ys p q = report_last a b c xs ys p q

@@ -1,0 +1,31 @@
+-- The lines of values in memory.
+use Rattle.std.specs.Prelude.{ℕ, ◌&&◌, nat_le, nat_lt, reverse, List, [], ◌∷◌, ◌++◌, codes, Option, None, Some, if◌then◌else◌}
+use Rattle.std.specs.List.{flat_map}
+use Rattle.vax_outside.specs.Hex.{hex}
+use Rattle.vax_debug_names.specs.declared.Symbol.{Symbol}
+use Rattle.vax_debug_replies.specs.Places.{place}
+
+-- an address and a colon
+abbrev pub head : List Symbol → ℕ → List ℕ
+head symbols address = place symbols address ++ codes ": "
+
+-- a byte in two digits, or two dashes where there is none
+abbrev pub digits_of : Option ℕ → List ℕ
+digits_of None = codes "--"
+digits_of (Some byte) = hex 2 byte
+
+-- a value of these bytes, the lowest first, at an address: its digits, the highest byte first
+unfoldable pub value_line : List Symbol → ℕ → List (Option ℕ) → List ℕ
+value_line symbols address cells = head symbols address ++ flat_map digits_of (reverse cells) ++ 10 ∷ []
+
+-- a character as it is, where it can be shown; a point where it can't, and a dash where there is none
+abbrev pub character : Option ℕ → ℕ
+character None = 45
+character (Some byte) = if nat_le 32 byte && nat_lt byte 127 then byte else 46
+
+abbrev pub character_text : Option ℕ → List ℕ
+character_text cell = character cell ∷ []
+
+-- characters from an address on
+unfoldable pub ascii_line : List Symbol → ℕ → List (Option ℕ) → List ℕ
+ascii_line symbols address cells = head symbols address ++ flat_map character_text cells ++ 10 ∷ []

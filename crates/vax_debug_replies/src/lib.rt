@@ -1,0 +1,21 @@
+//! What a debugger replies: the texts of addresses, values, instructions, registers and stops.
+//!
+//! An address is eight hexadecimal digits, and behind them the nearest symbol at or below it, with the distance from there where there is one. Lines are built
+//! in a text of fixed size, so nothing here takes memory. specs/ has the texts.
+#![tactic(auto)]
+
+mod frames;
+mod help;
+mod instructions;
+mod places;
+mod status;
+mod stops;
+mod values;
+
+pub use crate::frames::{Frame, push_frame};
+pub use crate::help::{write_breaks, write_help, write_refusal};
+pub use crate::instructions::{push_instruction_line, span_of};
+pub use crate::places::push_place;
+pub use crate::status::push_status_line;
+pub use crate::stops::{push_break_line, push_stop};
+pub use crate::values::{push_ascii_line, push_value_line};
