@@ -3,24 +3,25 @@
 use crate::count::instruction;
 use crate::names::are_same;
 use crate::statement::{
-    Statement, is_mark, is_name, number_of, operands_of, parts_of, pieces_of, text_of,
+    Statement, expression_of, is_mark, is_name, number_of, operands_of, parts_of, pieces_of,
+    text_between, text_of,
 };
 use std::alloc::Global;
 use vax_isa::{Letter, OperandKind};
 use vax_lex::Piece;
 use vax_space::NoMemory;
 
-/// A name with its value.
+/// An expression as it is written, with its value.
 #[derive(Drop)]
-pub struct NamedValue {
-    pub name: Vec<u8>,
+pub struct KnownValue {
+    pub text: Vec<u8>,
     pub value: i64,
 }
 
-/// What is known of a statement: the values of names in it, and how far its branch would have to reach, counted from its end.
+/// What is known of a statement: the values of expressions in it, and how far its branch would have to reach, counted from its end.
 #[derive(Drop)]
 pub struct Facts {
-    pub values: Vec<NamedValue>,
+    pub values: Vec<KnownValue>,
     pub reach: Option<i64>,
 }
 
@@ -33,10 +34,10 @@ impl Facts {
         }
     }
 
-    /// The value of a name.
-    pub(crate) fn value(&self, name: &[u8]) -> Option<i64> {
+    /// The value of an expression with this text.
+    pub(crate) fn value(&self, text: &[u8]) -> Option<i64> {
         for known in self.values.as_slice() {
-            if are_same(&known.name, name) {
+            if known.text.as_slice() == text {
                 return Some(known.value);
             }
         }
@@ -136,19 +137,19 @@ pub fn branch_of(alloc: Global, line: &[u8]) -> Result<Option<Branch>, NoMemory>
     Ok(None)
 }
 
-/// The names in a statement's text.
+/// The texts of the expressions in a statement's text: of each operand what stands behind `#` or a prefix, and before a bracket.
 ///
 /// # Errors
 ///
 /// [`NoMemory`] where memory is refused.
-pub fn names_in(alloc: Global, line: &[u8]) -> Result<Vec<Vec<u8>>, NoMemory> {
+pub fn expressions_in(alloc: Global, line: &[u8]) -> Result<Vec<Vec<u8>>, NoMemory> {
     let pieces = pieces_of(alloc, line)?;
+    let operands = operands_of(alloc, parts_of(&pieces).operands)?;
     let mut all = Vec::new(alloc);
-    for piece in parts_of(&pieces).operands {
-        if is_name(*piece) {
-            let name = text_of(line, *piece).to_vec(alloc).map_err(|_| NoMemory)?;
-            all.push(name).map_err(|_| NoMemory)?;
-        }
+    for operand in operands {
+        let text = text_between(line, expression_of(operand));
+        let text = text.to_vec(alloc).map_err(|_| NoMemory)?;
+        all.push(text).map_err(|_| NoMemory)?;
     }
     Ok(all)
 }

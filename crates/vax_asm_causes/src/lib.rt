@@ -18,6 +18,6 @@ mod words;
 
 pub use cause::{Cause, Place, cause_of};
 pub use expansion::expansion_of;
-pub use facts::{Branch, Facts, NamedValue, branch_of, names_in};
+pub use facts::{Branch, Facts, KnownValue, branch_of, expressions_in};
 pub use names::{Spot, definition_of, first_use, is_definition};
 pub use remarks::{Remark, Tone, Wanted, remarks_of};

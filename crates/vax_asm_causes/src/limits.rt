@@ -2,8 +2,8 @@
 
 use crate::cause::Place;
 use crate::names::are_same;
-use crate::range::{Field, Signed, fits, misfit_at, number_in, number_in_rest};
-use crate::statement::{is_mark, is_name, text_of};
+use crate::range::{Field, Signed, fits, mark_of, misfit_at, number_in, number_in_rest};
+use crate::statement::{before_bracket, is_mark, is_name, text_of};
 use crate::words::{Found, cause_at};
 use std::alloc::Global;
 use vax_lex::Piece;
@@ -34,16 +34,6 @@ fn field_behind(prefix: &[u8]) -> Option<Field> {
     }
 }
 
-/// The pieces before the first bracket.
-fn before_bracket(pieces: &[Piece]) -> &[Piece] {
-    for (i, piece) in pieces.iter().enumerate() {
-        if is_mark(*piece, b'(') || is_mark(*piece, b'[') {
-            return pieces.split_at(i).0;
-        }
-    }
-    pieces
-}
-
 /// Why the number behind an operand's prefix is out of range, if it is one and is so.
 pub(crate) fn prefix_cause(
     alloc: Global,
@@ -60,17 +50,17 @@ pub(crate) fn prefix_cause(
         return Ok(None);
     }
     let number = before_bracket(rest);
-    let (Some(field), Some(value), Some(last)) = (
+    let (Some(field), Some(value), Some(mark)) = (
         field_behind(text_of(place.line, *prefix)),
         number_in(place, number),
-        number.last(),
+        mark_of(number),
     ) else {
         return Ok(None);
     };
     if fits(value, field) {
         return Ok(None);
     }
-    misfit_at(alloc, last.start, value, field)
+    misfit_at(alloc, mark, value, field)
 }
 
 /// What a directive's first operand may be, where it is a count or a power of two.

@@ -4,7 +4,7 @@ use crate::cause::Place;
 use crate::count::instruction;
 use crate::limits::{counted_cause, prefix_cause};
 use crate::names::are_same;
-use crate::statement::{is_mark, is_name, number_of, text_of};
+use crate::statement::{before_bracket, expression_of, is_mark, number_of, text_between, text_of};
 use crate::words::{Found, at, cause_at, decimal, say};
 use std::alloc::Global;
 use vax_isa::{Letter, OperandKind};
@@ -26,7 +26,7 @@ fn as_signed(value: i64) -> Signed {
     }
 }
 
-/// The number that an operand is, behind `#` or not, if it is one or a name whose value is known, and nothing else.
+/// The number that an operand is, behind `#` or not, if it is one or an expression whose value is known.
 pub(crate) fn number_in(place: Place<'_>, operand: &[Piece]) -> Option<Signed> {
     let (first, rest) = operand.split_first()?;
     if is_mark(*first, b'#') {
@@ -36,12 +36,8 @@ pub(crate) fn number_in(place: Place<'_>, operand: &[Piece]) -> Option<Signed> {
 }
 
 /// The number that pieces are, with a sign or without.
-pub(crate) fn number_in_rest(place: Place<'_>, pieces: &[Piece]) -> Option<Signed> {
+fn written_number(pieces: &[Piece]) -> Option<Signed> {
     match pieces {
-        [name] if is_name(*name) => {
-            let value = place.facts.value(text_of(place.line, *name))?;
-            Some(as_signed(value))
-        }
         [number] => Some(Signed {
             negative: false,
             size: number_of(*number)?,
@@ -51,6 +47,27 @@ pub(crate) fn number_in_rest(place: Place<'_>, pieces: &[Piece]) -> Option<Signe
             size: number_of(*number)?,
         }),
         _ => None,
+    }
+}
+
+/// Where an operand's number is marked: at its digits where it is written as one, and else where its expression begins.
+pub(crate) fn mark_of(operand: &[Piece]) -> Option<u32> {
+    let pieces = expression_of(operand);
+    let piece = match written_number(pieces) {
+        Some(_) => pieces.last()?,
+        None => pieces.first()?,
+    };
+    Some(piece.start)
+}
+
+/// The number that pieces are, or the value of the expression that they are before a bracket.
+pub(crate) fn number_in_rest(place: Place<'_>, pieces: &[Piece]) -> Option<Signed> {
+    match written_number(pieces) {
+        Some(number) => Some(number),
+        None => {
+            let text = text_between(place.line, before_bracket(pieces));
+            Some(as_signed(place.facts.value(text)?))
+        }
     }
 }
 
@@ -152,13 +169,13 @@ fn misfit(
     let Some(field) = field_of(width) else {
         return Ok(None);
     };
-    let Some(last) = operand.last() else {
+    let Some(mark) = mark_of(operand) else {
         return Ok(None);
     };
     if fits(number, field) {
         return Ok(None);
     }
-    misfit_at(alloc, last.start, number, field)
+    misfit_at(alloc, mark, number, field)
 }
 
 /// The first piece that is a number above 64 bits.

@@ -21,6 +21,17 @@ pub(crate) fn text_of<'a>(line: &'a [u8], piece: Piece) -> &'a [u8] {
     }
 }
 
+/// The bytes from the first of some pieces up to the last.
+pub(crate) fn text_between<'a>(line: &'a [u8], pieces: &[Piece]) -> &'a [u8] {
+    let (Some(first), Some(last)) = (pieces.first(), pieces.last()) else {
+        return &[];
+    };
+    match line.get(first.start as usize..last.end as usize) {
+        Some(text) => text,
+        None => &[],
+    }
+}
+
 /// Whether a piece is this mark.
 pub(crate) fn is_mark(piece: Piece, mark: u8) -> bool {
     match piece.kind {
@@ -144,4 +155,34 @@ pub(crate) fn operands_of<'a>(
     }
     all.push(rest).map_err(|_| NoMemory)?;
     Ok(all)
+}
+
+/// The pieces before the first bracket.
+pub(crate) fn before_bracket(pieces: &[Piece]) -> &[Piece] {
+    for (i, piece) in pieces.iter().enumerate() {
+        if is_mark(*piece, b'(') || is_mark(*piece, b'[') {
+            return pieces.split_at(i).0;
+        }
+    }
+    pieces
+}
+
+/// What stands behind a prefix as `W^`, if an operand begins with one.
+fn behind_prefix<'a>(operand: &'a [Piece]) -> &'a [Piece] {
+    let Some((prefix, rest)) = operand.split_first() else {
+        return operand;
+    };
+    match behind_mark(rest, b'^') {
+        Some(behind) if is_name(*prefix) => behind,
+        _ => operand,
+    }
+}
+
+/// What of an operand is an expression: what stands behind a prefix and `#`, and before a bracket.
+pub(crate) fn expression_of<'a>(operand: &'a [Piece]) -> &'a [Piece] {
+    let behind = behind_prefix(operand);
+    match behind_mark(behind, b'#') {
+        Some(rest) => before_bracket(rest),
+        None => before_bracket(behind),
+    }
 }

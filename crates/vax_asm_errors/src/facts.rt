@@ -1,13 +1,16 @@
 // What the assembler knows of statements with a fault.
 
 use std::alloc::Global;
-use vax_asm_causes::{Branch, Facts, NamedValue, branch_of, names_in};
+use vax_asm_causes::{Branch, Facts, KnownValue, branch_of, expressions_in};
 use vax_asm_encode::Operand;
 use vax_asm_first::{Content, Filling, Fixup, Standing};
-use vax_asm_scope::Scope;
+use vax_asm_scope::{KnownNames, Scope};
 use vax_asm_sections::Piece;
-use vax_lex::Value;
+use vax_lex::{LexError, Value, evaluate, scan};
 use vax_space::NoMemory;
+
+/// The longest line of a source.
+const LONGEST: usize = 1024;
 
 /// A place of a section.
 #[derive(Clone, Copy)]
@@ -53,7 +56,31 @@ fn value_of(
     Ok(standing.scope.known(&name, here))
 }
 
-/// The values of the names in a statement's text.
+/// The value of an expression of this text where the next statement stands, if that is a number.
+fn number_of(
+    alloc: Global,
+    standing: &Standing,
+    here: Value,
+    text: &[u8],
+) -> Result<Option<i64>, NoMemory> {
+    if text.len() > LONGEST {
+        return Ok(None);
+    }
+    let names = KnownNames {
+        scope: &standing.scope,
+        here,
+    };
+    match scan(alloc, text) {
+        Ok(tokens) => match evaluate(text, &tokens, &names) {
+            Ok(Value::Absolute(value)) => Ok(Some(value)),
+            Ok(_) | Err(_) => Ok(None),
+        },
+        Err(LexError::NoMemory) => Err(NoMemory),
+        Err(_) => Ok(None),
+    }
+}
+
+/// The values of the expressions in a statement's text.
 fn push_values(
     alloc: Global,
     facts: &mut Facts,
@@ -61,12 +88,12 @@ fn push_values(
     here: Value,
     text: &[u8],
 ) -> Result<(), NoMemory> {
-    let names = names_in(alloc, text)?;
-    for name in names {
-        if let Some(Value::Absolute(value)) = value_of(alloc, standing, here, &name)? {
+    let expressions = expressions_in(alloc, text)?;
+    for text in expressions {
+        if let Some(value) = number_of(alloc, standing, here, &text)? {
             facts
                 .values
-                .push(NamedValue { name, value })
+                .push(KnownValue { text, value })
                 .map_err(|_| NoMemory)?;
         }
     }
