@@ -1,3 +1,4 @@
 pub mod Tried
+pub mod Trail
 pub mod Attempt
 pub mod Batch

@@ -10,9 +10,11 @@ ghost use Rattle.vax_flat.specs.Step.{finished, handed_over, leaf, ticked, deliv
 ghost use Rattle.vax_flat.specs.Parts.{begun_part, part, part_step, later, later_step};
 ghost use Rattle.vax_undo.specs.FirstPart.{NothingOpen};
 ghost use Rattle.vax_undo.specs.Rooms.{room_of_beginning, room_of_end, room_of_step, room_of_tick};
-ghost use Rattle.vax_undo.specs.Transaction.{present, room, told, undone, IsReady, IsSame, Keeps, KeepsUnlessDone, Does, Updates, seen};
+ghost use Rattle.vax_undo.specs.Trail.{FollowsTraced, Traced};
+ghost use Rattle.vax_undo.specs.Transaction.{present, traced, room, told, undone, IsReady, IsSame, Keeps, KeepsUnlessDone, Does, Updates, seen};
 ghost use Rattle.vax_x_str.specs.Ends.{ClosesIfDone};
 ghost use Rattle.vax_cpu.specs.Tried.{IsFinal, IsLast, IsTried, KeepsClosed, KeepsClosedLater, KeepsTime, LeadsBack, Made, UnlessDone, came, is_done, put_again, start_by, tree_of, with_registers};
+ghost use Rattle.vax_cpu.specs.Trail.{TracesTried, TrailedTried, traced_of};
 ghost use Rattle.vax_cpu.specs.Attempt.{open_after};
 ghost use Rattle.vax_cpu.specs.Batch.{Ran};
 
@@ -47,7 +49,7 @@ pub(crate) enum Tried {
 fn take_interrupt<P: Port>(txn: &mut Txn<P>, level: u8, other: &mut Result<Flow, CutShort>) -> bool
     requires of_level { IsLevel level }
     requires room { room_of_beginning ≤ room txn.old }
-    ensures exact { Does P.view
+    ensures exact { Does P.view P.trail
         (λ s next. interrupt level s (λ how s. next (flow_of_delivery how) s))
         (came result other.new) txn.old txn.new }
     ensures keeps { Keeps P.view P.since room_of_beginning txn.old txn.new }
@@ -67,7 +69,7 @@ fn begin<P: Port>(
     scratch: &mut Scratch,
 ) -> bool
     requires { room_of_beginning ≤ room txn.old }
-    ensures exact { Does P.view begun_part (came result other.new) txn.old txn.new }
+    ensures exact { Does P.view P.trail begun_part (came result other.new) txn.old txn.new }
     ensures keeps { KeepsUnlessDone P.view P.since room_of_beginning
         (came result other.new) txn.old txn.new }
     ensures same { IsSame P.since txn.old txn.new }
@@ -84,7 +86,7 @@ fn begin<P: Port>(
 #[tactic(auto, unfolding(vax_flat::specs::Step::handed_over))]
 fn hand_over<P: Port>(txn: &mut Txn<P>, how: Delivery) -> Result<Flow, CutShort>
     requires { room_of_tick ≤ room txn.old }
-    ensures exact { Does P.view (handed_over how) result txn.old txn.new }
+    ensures exact { Does P.view P.trail (handed_over how) result txn.old txn.new }
     ensures keeps { Keeps P.view P.since room_of_tick txn.old txn.new }
     ensures last { IsLast result }
 {
@@ -102,7 +104,7 @@ fn hand_over<P: Port>(txn: &mut Txn<P>, how: Delivery) -> Result<Flow, CutShort>
 #[tactic(auto, unfolding(vax_flat::specs::Step::delivered))]
 fn deliver_and_tick<P: Port>(txn: &mut Txn<P>, exception: Exception) -> Result<Flow, CutShort>
     requires { room_of_end ≤ room txn.old }
-    ensures exact { Does P.view (delivered exception) result txn.old txn.new }
+    ensures exact { Does P.view P.trail (delivered exception) result txn.old txn.new }
     ensures keeps { Keeps P.view P.since room_of_end txn.old txn.new }
     ensures last { IsLast result }
 {
@@ -114,7 +116,7 @@ fn deliver_and_tick<P: Port>(txn: &mut Txn<P>, exception: Exception) -> Result<F
 #[inline]
 fn complete<P: Port>(txn: &mut Txn<P>)
     requires { room_of_end ≤ room txn.old }
-    ensures exact { Updates P.view ticked txn.old txn.new }
+    ensures exact { Updates P.view P.trail ticked txn.old txn.new }
     ensures keeps { Keeps P.view P.since room_of_end txn.old txn.new }
 {
     tick(txn);
@@ -126,7 +128,7 @@ fn complete<P: Port>(txn: &mut Txn<P>)
 #[tactic(auto, using(vax_undo::proofs::Left::always, vax_undo::proofs::Left::kept_through, vax_undo::proofs::Left::left_then, crate::proofs::Attempts::closes), unfolding(vax_flat::specs::Step::finished, vax_flat::specs::Step::delivered))]
 fn finish<P: Port>(txn: &mut Txn<P>, flow: Flow) -> Result<Flow, CutShort>
     requires { room_of_end ≤ room txn.old }
-    ensures exact { Does P.view (finished flow) result txn.old txn.new }
+    ensures exact { Does P.view P.trail (finished flow) result txn.old txn.new }
     ensures keeps { (count : ℕ) → (start : _) →
         KeepsUnlessDone P.view P.since count (Ok flow) start txn.old
         → KeepsUnlessDone P.view P.since (count + room_of_end) result start txn.new }
@@ -156,7 +158,7 @@ fn work<P: Port>(
     scratch: &mut Scratch,
 ) -> bool
     requires { room_of_step ≤ room txn.old }
-    ensures exact { Does P.view part (came result other.new) txn.old txn.new }
+    ensures exact { Does P.view P.trail part (came result other.new) txn.old txn.new }
     ensures keeps { KeepsUnlessDone P.view P.since room_of_step
         (came result other.new) txn.old txn.new }
     ensures same { IsSame P.since txn.old txn.new }
@@ -177,7 +179,7 @@ fn work<P: Port>(
 #[inline(never)]
 fn work_once<P: Port>(txn: &mut Txn<P>, scratch: &mut Scratch) -> Result<Flow, CutShort>
     requires { room_of_step ≤ room txn.old }
-    ensures exact { Does P.view part result txn.old txn.new }
+    ensures exact { Does P.view P.trail part result txn.old txn.new }
     ensures keeps { KeepsUnlessDone P.view P.since room_of_step result txn.old txn.new }
     ensures same { IsSame P.since txn.old txn.new }
     ensures last { IsLast result }
@@ -199,7 +201,7 @@ fn work_later<P: Port>(
     scratch: &mut Scratch,
 ) -> Result<Flow, CutShort>
     requires { room_of_step ≤ room txn.old }
-    ensures exact { Does P.view (later opcode) result txn.old txn.new }
+    ensures exact { Does P.view P.trail (later opcode) result txn.old txn.new }
     ensures keeps { KeepsUnlessDone P.view P.since room_of_step result txn.old txn.new }
     ensures same { IsSame P.since txn.old txn.new }
     ensures last { IsLast result }
@@ -214,7 +216,7 @@ fn work_later<P: Port>(
 #[tactic(auto, using(vax_undo::proofs::Left::always))]
 fn work_delivery<P: Port>(txn: &mut Txn<P>, exception: Exception) -> Result<Flow, CutShort>
     requires { room_of_end ≤ room txn.old }
-    ensures exact { Does P.view (delivered exception) result txn.old txn.new }
+    ensures exact { Does P.view P.trail (delivered exception) result txn.old txn.new }
     ensures keeps { KeepsUnlessDone P.view P.since room_of_end result txn.old txn.new }
     ensures same { IsSame P.since txn.old txn.new }
     ensures last { IsLast result }
@@ -234,6 +236,11 @@ fn conclude<P: Port>(txn: Txn<P>, work: Result<Flow, CutShort>) -> Tried
         → LeadsBack P.view old work txn.entry
         → IsTried (λ s. tree s leaf) old result
         (seen P.view txn.exit.0.now txn.exit.1.0.now txn.exit.1.1.0.now) }
+    ensures traces { (old : Traced) →
+        (tree : State → (Flow → State → Accesses Leaf) → Accesses Leaf) →
+        FollowsTraced (tree old.state) old (told txn.entry work)
+        (traced P.view P.trail txn.entry)
+        → TracesTried (λ s. tree s leaf) old result (P.trail txn.exit.1.1.0.now) }
     ensures completed { (sent : Option ℕ) → result ≡ Tried.Step sent → work ≡ Ok Flow.Done }
     ensures unsent { txn.exit.1.0.now.out ≡ None }
     ensures input { txn.exit.1.0.now.input ≡ txn.entry.term.now.input }
@@ -286,6 +293,8 @@ pub(crate) fn try_step<P: Port>(
     requires { term.old.out ≡ None }
     ensures tried { IsTried part_step (seen P.view core.old term.old port.old) result
         (seen P.view core.new term.new port.new) }
+    ensures traces { TracesTried part_step
+        (traced_of P.view P.trail core.old term.old port.old) result (P.trail port.new) }
     ensures unsent { term.new.out ≡ None }
     ensures input { term.new.input ≡ term.old.input }
     ensures clock { core.old.clock ≤ 999 → KeepsTime core.new.clock result }
@@ -310,6 +319,8 @@ fn try_delivery<P: Port>(
     ensures quiet { IsFinal result }
     ensures tried { IsTried (whole_delivery exception) (seen P.view core.old term.old port.old)
         result (seen P.view core.new term.new port.new) }
+    ensures traces { TracesTried (whole_delivery exception)
+        (traced_of P.view P.trail core.old term.old port.old) result (P.trail port.new) }
     ensures unsent { term.new.out ≡ None }
     ensures input { term.new.input ≡ term.old.input }
     ensures clock { core.old.clock ≤ 999 → KeepsTime core.new.clock result }
@@ -333,6 +344,8 @@ fn try_later<P: Port>(
     requires { term.old.out ≡ None }
     ensures tried { IsTried (later_step opcode) (seen P.view core.old term.old port.old) result
         (seen P.view core.new term.new port.new) }
+    ensures traces { TracesTried (later_step opcode)
+        (traced_of P.view P.trail core.old term.old port.old) result (P.trail port.new) }
     ensures unsent { term.new.out ≡ None }
     ensures input { term.new.input ≡ term.old.input }
     ensures clock { core.old.clock ≤ 999 → KeepsTime core.new.clock result }
@@ -359,6 +372,11 @@ pub(crate) fn settle<P: Port>(
     ensures made { (tree : State → Accesses Leaf) → (old : Present) →
         IsTried tree old tried (seen P.view core.old term.old port.old)
         → Made tree old.state.core old result (seen P.view core.new term.new port.new) }
+    ensures trail { (tree : State → Accesses Leaf) → (old : Traced) →
+        IsTried tree (record { state = old.state; view = old.view }) tried
+        (seen P.view core.old term.old port.old)
+        → TracesTried tree old tried (P.trail port.old)
+        → TrailedTried tree old.state.core old result (P.trail port.new) }
     ensures unsent { term.new.out ≡ None }
     ensures input { term.new.input ≡ term.old.input }
     ensures clock { KeepsTime core.old.clock tried → KeepsTime core.new.clock result }
@@ -386,6 +404,8 @@ fn deliver_from<P: Port>(
         IsTried (whole_delivery exception)
         (with_registers start (seen P.view core.old term.old port.old)) result mid
         × (seen P.view core.new term.new port.new ≡ put_again core.old result mid) }
+    ensures traces { TracesTried (whole_delivery exception)
+        (traced_of P.view P.trail start term.old port.old) result (P.trail port.new) }
     ensures unsent { term.new.out ≡ None }
     ensures input { term.new.input ≡ term.old.input }
     ensures clock { core.old.clock ≤ 999 → start.clock ≤ 999 → KeepsTime core.new.clock result }
@@ -419,6 +439,11 @@ fn settle_later<P: Port>(
     ensures made { (tree : State → Accesses Leaf) → (old : Present) →
         IsTried tree old tried (seen P.view core.old term.old port.old)
         → Made tree start old result (seen P.view core.new term.new port.new) }
+    ensures trail { (tree : State → Accesses Leaf) → (old : Traced) →
+        IsTried tree (record { state = old.state; view = old.view }) tried
+        (seen P.view core.old term.old port.old)
+        → TracesTried tree old tried (P.trail port.old)
+        → TrailedTried tree start old result (P.trail port.new) }
     ensures unsent { term.new.out ≡ None }
     ensures input { term.new.input ≡ term.old.input }
     ensures clock { KeepsTime core.old.clock tried → start.clock ≤ 999
@@ -451,6 +476,8 @@ pub(crate) fn try_once<P: Port>(
     ensures quiet { IsFinal result }
     ensures made { Made (tree_of latch) (start_by latch core.old)
         (seen P.view core.old term.old port.old) result (seen P.view core.new term.new port.new) }
+    ensures trail { TrailedTried (tree_of latch) (start_by latch core.old)
+        (traced_of P.view P.trail core.old term.old port.old) result (P.trail port.new) }
     ensures unsent { term.new.out ≡ None }
     ensures input { term.new.input ≡ term.old.input }
     ensures clock { core.old.clock ≤ 999 → (start_by latch core.old).clock ≤ 999
@@ -534,7 +561,7 @@ fn work_apart<P: Port>(
     scratch: &mut Scratch,
 ) -> bool
     requires { room_of_step ≤ room txn.old }
-    ensures exact { Does P.view part (came result other.new) txn.old txn.new }
+    ensures exact { Does P.view P.trail part (came result other.new) txn.old txn.new }
     ensures keeps { KeepsUnlessDone P.view P.since room_of_step
         (came result other.new) txn.old txn.new }
     ensures same { IsSame P.since txn.old txn.new }

@@ -101,6 +101,8 @@ fn open_after(latch: Option<Open>, tried: Tried) -> Option<Open>
 
 impl Cpu {
     ghost use Rattle.vax_cpu.specs.Attempt.{flat_of, Attempted, IsAsBefore, IsAt, IsOpenAfter, KeepsTime, StartsClosed, StopsInside};
+    ghost use Rattle.vax_cpu.specs.Trail.{Trailed, traced_of};
+    ghost use Rattle.vax_cpu.specs.Tried.{start_by, tree_of};
     ghost use Rattle.vax_flat.specs.Step.{run};
     ghost use Rattle.vax_cpu.specs.Batch.{AreAttempts, IsOneAttempt, Raises};
 
@@ -123,7 +125,7 @@ impl Cpu {
     /// is left.
     ///
     /// It answers the first page, in the order in which the attempt touches memory, that isn't resident, and then everything is as before; else
-    /// it makes the step of the flat machine, or a part of it. Pages to which it wrote are marked, also where it was undone. The interval
+    /// it makes the step of the flat machine, or a part of it. It makes the accesses of the instruction alone, and of an exception's delivery. Pages to which it wrote are marked, also where it was undone. The interval
     /// clock counts to 999. First part done is clear where no instruction is open.
     pub fn attempt<P: Port>(&mut self, port: &mut P) -> Attempt
         requires unsent { self.old.term.out ≡ None }
@@ -131,6 +133,9 @@ impl Cpu {
             → StandsFor (P.view port.old) (machine_at place).memory
             → Attempted (P.view port.old) place result self.new (P.view port.new) }
         ensures before { IsAsBefore result self.old (P.view port.old) self.new (P.view port.new) }
+        ensures trail { Trailed (tree_of self.old.latch) (start_by self.old.latch self.old.core)
+            (traced_of P.view P.trail self.old.core self.old.term port.old) result
+            (P.trail port.new) }
         ensures absent { StopsInside result (P.view port.old) }
         ensures latch { IsOpenAfter result self.old.latch self.new.latch }
         ensures unsent { self.new.term.out ≡ None }

@@ -38,7 +38,8 @@ fn act_any<P: Port>(
     scratch: &mut Scratch,
 ) -> bool
     requires { room_of_instruction ≤ room txn.old }
-    ensures exact { Does P.view (acted_part action) (came result other.new) txn.old txn.new }
+    ensures exact { Does P.view P.trail (acted_part action)
+        (came result other.new) txn.old txn.new }
     ensures keeps { KeepsUnlessDone P.view P.since room_of_instruction
         (came result other.new) txn.old txn.new }
     ensures same { IsSame P.since txn.old txn.new }
@@ -64,7 +65,8 @@ fn act<P: Port>(
     scratch: &mut Scratch,
 ) -> bool
     requires { room_of_instruction ≤ room txn.old }
-    ensures exact { Does P.view (acted_part action) (came result other.new) txn.old txn.new }
+    ensures exact { Does P.view P.trail (acted_part action)
+        (came result other.new) txn.old txn.new }
     ensures keeps { KeepsUnlessDone P.view P.since room_of_instruction
         (came result other.new) txn.old txn.new }
     ensures same { IsSame P.since txn.old txn.new }
@@ -78,7 +80,7 @@ fn act<P: Port>(
 
 /// What an opcode does; one that the table hasn't is reserved.
 #[inline(always)]
-#[tactic(auto, using(vax_flat::proofs::Leaves::over_port_raises, vax_undo::proofs::Left::always), unfolding(vax_flat::specs::Instruction::acted_part_if))]
+#[tactic(auto, using(vax_undo::proofs::Trail::over_trail_raises, vax_undo::proofs::Left::always), unfolding(vax_flat::specs::Instruction::acted_part_if))]
 fn act_if<P: Port>(
     txn: &mut Txn<P>,
     action: Option<Action>,
@@ -86,7 +88,8 @@ fn act_if<P: Port>(
     scratch: &mut Scratch,
 ) -> bool
     requires { room_of_instruction ≤ room txn.old }
-    ensures exact { Does P.view (acted_part_if action) (came result other.new) txn.old txn.new }
+    ensures exact { Does P.view P.trail (acted_part_if action)
+        (came result other.new) txn.old txn.new }
     ensures keeps { KeepsUnlessDone P.view P.since room_of_instruction
         (came result other.new) txn.old txn.new }
     ensures same { IsSame P.since txn.old txn.new }
@@ -106,7 +109,7 @@ pub fn execute<P: Port>(
     scratch: &mut Scratch,
 ) -> bool
     requires { room_of_beginning ≤ room txn.old }
-    ensures exact { Does P.view first_part (came result other.new) txn.old txn.new }
+    ensures exact { Does P.view P.trail first_part (came result other.new) txn.old txn.new }
     ensures keeps { KeepsUnlessDone P.view P.since room_of_beginning
         (came result other.new) txn.old txn.new }
     ensures same { IsSame P.since txn.old txn.new }
@@ -126,7 +129,7 @@ pub(crate) fn resume<P: Port>(
     scratch: &mut Scratch,
 ) -> Result<Flow, CutShort>
     requires { room_of_beginning ≤ room txn.old }
-    ensures exact { Does P.view (resumed opcode) result txn.old txn.new }
+    ensures exact { Does P.view P.trail (resumed opcode) result txn.old txn.new }
     ensures keeps { KeepsUnlessDone P.view P.since room_of_beginning result txn.old txn.new }
     ensures same { IsSame P.since txn.old txn.new }
     ensures closed { ClosesIfDone result txn.new.core.now.psl }

@@ -51,7 +51,7 @@ pub(crate) fn requested<P: Port>(txn: &Txn<P>) -> u8
 #[tactic(auto, unfolding(vax_flat::specs::Step::ticked))]
 pub(crate) fn tick<P: Port>(txn: &mut Txn<P>)
     requires { room_of_tick ≤ room txn.old }
-    ensures exact { Updates P.view ticked txn.old txn.new }
+    ensures exact { Updates P.view P.trail ticked txn.old txn.new }
     ensures keeps { Keeps P.view P.since room_of_tick txn.old txn.new }
 {
     let timer = txn.iccs();

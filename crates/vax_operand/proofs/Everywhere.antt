@@ -9,6 +9,8 @@ use Rattle.vax_flat.specs.Accesses.{Accesses, Leaf}
 use Rattle.vax_flat.specs.Outcome.{Outcome}
 use Rattle.vax_flat.specs.OverPort.{Present, Comes, Stops, Agrees, Follows, over_port}
 use Rattle.vax_flat.proofs.Standing.{standing}
+use Rattle.vax_undo.specs.Trail.{Traced, FollowsTraced}
+use Rattle.vax_undo.proofs.Trail.{follows, present_of}
 use Rattle.vax_operand.specs.Located.{at_end, Lands, LandsEverywhere}
 
 module _ {X : Type 0} (leaf : X → State → Leaf) where
@@ -28,6 +30,9 @@ module _ {X : Type 0} (leaf : X → State → Leaf) where
   stopped_at : (tree : (X → State → Accesses Leaf) → Accesses Leaf) (before : Present) (result : Result X Cut) (after : Present) → Follows tree before result after → (cut : Cut) → result ≡ Err cut → over_port (tree (at_end leaf)) before.view ≡ Stops cut after.view.marked
   stopped_at tree before result after follows cut is = subst (λ (r : Result X Cut). Follows tree before r after) is follows (at_end leaf)
 
-  pub everywhere : (tree : (X → State → Accesses Leaf) → Accesses Leaf) (before : Present) (result : Result X Cut) (after : Present) → Follows tree before result after → LandsEverywhere leaf tree before result after
-  everywhere tree before result after follows = λ memory st.
+  by_follows : (tree : (X → State → Accesses Leaf) → Accesses Leaf) (before : Present) (result : Result X Cut) (after : Present) → Follows tree before result after → LandsEverywhere leaf tree before result after
+  by_follows tree before result after follows = λ memory st.
       landed before.view memory (tree (at_end leaf)) _ _ result after (standing (tree (at_end leaf)) before.view memory st) (came_to tree before result after follows) (stopped_at tree before result after follows)
+
+  pub everywhere : (tree : (X → State → Accesses Leaf) → Accesses Leaf) (before : Traced) (result : Result X Cut) (after : Traced) → FollowsTraced tree before result after → LandsEverywhere leaf tree (present_of before) result (present_of after)
+  everywhere tree before result after made = by_follows tree (present_of before) result (present_of after) (follows tree before result after made)

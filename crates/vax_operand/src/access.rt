@@ -72,7 +72,7 @@ fn set_value<P: Port>(txn: &mut Txn<P>, width: u8, n: u8, value: u64)
     requires pair { width ≡ 8 → n < 14 }
     requires fits { value < 256 ^ width }
     requires room { 2 ≤ room txn.old }
-    ensures exact { Updates P.view (with_value width n value) txn.old txn.new }
+    ensures exact { Updates P.view P.trail (with_value width n value) txn.old txn.new }
     ensures keeps { Keeps P.view P.since 2 txn.old txn.new }
 {
     match width {
@@ -99,7 +99,7 @@ fn store_at<P: Port>(
     requires place { IsPlace width operand }
     requires fits { value < 256 ^ width }
     requires room { 2 ≤ room txn.old }
-    ensures exact { Acts P.view (stored width operand value) result txn.old txn.new }
+    ensures exact { Acts P.view P.trail (stored width operand value) result txn.old txn.new }
     ensures keeps { Keeps P.view P.since 2 txn.old txn.new }
 {
     match operand {
@@ -125,7 +125,8 @@ pub fn store<P: Port>(
     requires place { IsPlace (bytes_of size) operand }
     requires fits { value < 256 ^ bytes_of size }
     requires room { 2 ≤ room txn.old }
-    ensures exact { Acts P.view (stored (bytes_of size) operand value) result txn.old txn.new }
+    ensures exact { Acts P.view P.trail (stored (bytes_of size) operand value)
+        result txn.old txn.new }
     ensures keeps { Keeps P.view P.since 2 txn.old txn.new }
 {
     store_at(txn, width_of(size), operand, value)
@@ -136,7 +137,7 @@ pub fn store<P: Port>(
 fn value_there<P: Port>(txn: &mut Txn<P>, width: u8, byte: u8) -> Result<u64, CutShort>
     requires width { IsWidth width }
     requires room { 3 ≤ room txn.old }
-    ensures exact { Does P.view
+    ensures exact { Does P.view P.trail
         (λ s next. located letter.Read width (form_of byte) s (λ addr s. read_at addr width s next))
         result txn.old txn.new }
     ensures fits { IfOk result (λ x. x < 256 ^ width) }
@@ -152,7 +153,7 @@ fn value_beyond<P: Port>(txn: &mut Txn<P>, width: u8, byte: u8) -> Result<u64, C
     requires width { IsWidth width }
     requires memory { IsMemory (form_of byte) }
     requires room { 3 ≤ room txn.old }
-    ensures exact { Does P.view
+    ensures exact { Does P.view P.trail
         (λ s next. formed (read_of width) (form_of byte) s (λ o s. next (value_of o) s))
         result txn.old txn.new }
     ensures fits { IfOk result (λ x. x < 256 ^ width) }
@@ -167,7 +168,7 @@ fn value_beyond<P: Port>(txn: &mut Txn<P>, width: u8, byte: u8) -> Result<u64, C
 fn checked_address<P: Port>(txn: &mut Txn<P>, width: u8, byte: u8) -> Result<u32, CutShort>
     requires width { IsWidth width }
     requires room { 3 ≤ room txn.old }
-    ensures exact { Does P.view (checked width (form_of byte)) result txn.old txn.new }
+    ensures exact { Does P.view P.trail (checked width (form_of byte)) result txn.old txn.new }
     ensures keeps { Keeps P.view P.since 3 txn.old txn.new }
 {
     let addr = address_near(txn, Letter::Modify, width, byte)?;
@@ -185,7 +186,8 @@ fn modified_there<P: Port>(
 ) -> Result<(Operand, u64), CutShort>
     requires width { IsWidth width }
     requires room { 3 ≤ room txn.old }
-    ensures exact { Does P.view (modified_there width (form_of byte)) result txn.old txn.new }
+    ensures exact { Does P.view P.trail (modified_there width (form_of byte))
+        result txn.old txn.new }
     ensures place { IfOk result (λ m. IsPlace width m.0) }
     ensures fits { IfOk result (λ m. m.1 < 256 ^ width) }
     ensures keeps { Keeps P.view P.since 3 txn.old txn.new }
@@ -205,7 +207,7 @@ fn modified_beyond<P: Port>(
     requires width { IsWidth width }
     requires memory { IsMemory (form_of byte) }
     requires room { 3 ≤ room txn.old }
-    ensures exact { Does P.view (modified width (form_of byte)) result txn.old txn.new }
+    ensures exact { Does P.view P.trail (modified width (form_of byte)) result txn.old txn.new }
     ensures place { IfOk result (λ m. IsPlace width m.0) }
     ensures fits { IfOk result (λ m. m.1 < 256 ^ width) }
     ensures keeps { Keeps P.view P.since 3 txn.old txn.new }
@@ -218,7 +220,8 @@ fn modified_beyond<P: Port>(
 fn written_address<P: Port>(txn: &mut Txn<P>, width: u8, byte: u8) -> Result<u32, CutShort>
     requires width { IsWidth width }
     requires room { 3 ≤ room txn.old }
-    ensures exact { Does P.view (located letter.Write width (form_of byte)) result txn.old txn.new }
+    ensures exact { Does P.view P.trail (located letter.Write width (form_of byte))
+        result txn.old txn.new }
     ensures keeps { Keeps P.view P.since 3 txn.old txn.new }
 {
     address_near(txn, Letter::Write, width, byte)
@@ -229,7 +232,7 @@ fn written_address<P: Port>(txn: &mut Txn<P>, width: u8, byte: u8) -> Result<u32
 fn place_there<P: Port>(txn: &mut Txn<P>, width: u8, byte: u8) -> Result<Operand, CutShort>
     requires width { IsWidth width }
     requires room { 3 ≤ room txn.old }
-    ensures exact { Does P.view
+    ensures exact { Does P.view P.trail
         (λ s next. located letter.Write width (form_of byte) s
         (λ addr s. next (operand.Memory addr) s))
         result txn.old txn.new }
@@ -246,7 +249,8 @@ fn place_beyond<P: Port>(txn: &mut Txn<P>, width: u8, byte: u8) -> Result<Operan
     requires width { IsWidth width }
     requires memory { IsMemory (form_of byte) }
     requires room { 3 ≤ room txn.old }
-    ensures exact { Does P.view (formed (write_of width) (form_of byte)) result txn.old txn.new }
+    ensures exact { Does P.view P.trail (formed (write_of width) (form_of byte))
+        result txn.old txn.new }
     ensures place { IfOk result (IsPlace width) }
     ensures keeps { Keeps P.view P.since 3 txn.old txn.new }
 {
@@ -255,11 +259,11 @@ fn place_beyond<P: Port>(txn: &mut Txn<P>, width: u8, byte: u8) -> Result<Operan
 
 /// The value of an operand in a register.
 #[inline(always)]
-#[tactic(auto, using(vax_flat::proofs::Leaves::over_port_raises), unfolding(vax_flat::specs::Operand::in_register, vax_flat::specs::Rows::value_of))]
+#[tactic(auto, using(vax_undo::proofs::Trail::over_trail_raises), unfolding(vax_flat::specs::Operand::in_register, vax_flat::specs::Rows::value_of))]
 fn value_of_register<P: Port>(txn: &mut Txn<P>, width: u8, n: u8) -> Result<u64, CutShort>
     requires width { IsWidth width }
     requires of_core { n < 16 }
-    ensures exact { Does P.view
+    ensures exact { Does P.view P.trail
         (λ s next. in_register (read_of width) n s (λ o s. next (value_of o) s))
         result txn.old txn.new }
     ensures fits { IfOk result (λ x. x < 256 ^ width) }
@@ -273,7 +277,7 @@ fn value_of_register<P: Port>(txn: &mut Txn<P>, width: u8, n: u8) -> Result<u64,
 
 /// A register that is modified, and the value there.
 #[inline(always)]
-#[tactic(auto, using(vax_flat::proofs::Leaves::over_port_raises), unfolding(crate::specs::Addressed::modified, vax_flat::specs::Operand::formed, vax_flat::specs::Operand::in_register, vax_flat::specs::Rows::value_at))]
+#[tactic(auto, using(vax_undo::proofs::Trail::over_trail_raises), unfolding(crate::specs::Addressed::modified, vax_flat::specs::Operand::formed, vax_flat::specs::Operand::in_register, vax_flat::specs::Rows::value_at))]
 fn modified_register<P: Port>(
     txn: &mut Txn<P>,
     width: u8,
@@ -281,7 +285,7 @@ fn modified_register<P: Port>(
 ) -> Result<(Operand, u64), CutShort>
     requires width { IsWidth width }
     requires of_core { n < 16 }
-    ensures exact { Does P.view (modified width (form.Register n)) result txn.old txn.new }
+    ensures exact { Does P.view P.trail (modified width (form.Register n)) result txn.old txn.new }
     ensures place { IfOk result (λ m. IsPlace width m.0) }
     ensures fits { IfOk result (λ m. m.1 < 256 ^ width) }
     ensures keeps { Keeps P.view P.since 0 txn.old txn.new }
@@ -294,11 +298,11 @@ fn modified_register<P: Port>(
 
 /// A register that is written.
 #[inline(always)]
-#[tactic(auto, using(vax_flat::proofs::Leaves::over_port_raises), unfolding(vax_flat::specs::Operand::in_register))]
+#[tactic(auto, using(vax_undo::proofs::Trail::over_trail_raises), unfolding(vax_flat::specs::Operand::in_register))]
 fn place_register<P: Port>(txn: &mut Txn<P>, width: u8, n: u8) -> Result<Operand, CutShort>
     requires width { IsWidth width }
     requires of_core { n < 16 }
-    ensures exact { Does P.view (in_register (write_of width) n) result txn.old txn.new }
+    ensures exact { Does P.view P.trail (in_register (write_of width) n) result txn.old txn.new }
     ensures place { IfOk result (IsPlace width) }
     ensures keeps { Keeps P.view P.since 0 txn.old txn.new }
 {
@@ -310,13 +314,14 @@ fn place_register<P: Port>(txn: &mut Txn<P>, width: u8, n: u8) -> Result<Operand
 
 /// A literal is no operand that is modified.
 #[cold]
-#[tactic(auto, using(vax_flat::proofs::Leaves::over_port_raises), unfolding(crate::specs::Addressed::modified, vax_flat::specs::Operand::formed, vax_flat::specs::Operand::literal))]
+#[tactic(auto, using(vax_undo::proofs::Trail::over_trail_raises), unfolding(crate::specs::Addressed::modified, vax_flat::specs::Operand::formed, vax_flat::specs::Operand::literal))]
 fn modified_literal<P: Port>(
     txn: &mut Txn<P>,
     width: u8,
     byte: u8,
 ) -> Result<(Operand, u64), CutShort>
-    ensures exact { Does P.view (modified width (form.Literal byte)) result txn.old txn.new }
+    ensures exact { Does P.view P.trail (modified width (form.Literal byte))
+        result txn.old txn.new }
     ensures place { IfOk result (λ m. IsPlace width m.0) }
     ensures fits { IfOk result (λ m. m.1 < 256 ^ width) }
     ensures keeps { Keeps P.view P.since 0 txn.old txn.new }
@@ -331,7 +336,7 @@ fn modified_literal<P: Port>(
 fn value_by_byte<P: Port>(txn: &mut Txn<P>, width: u8, byte: u8) -> Result<u64, CutShort>
     requires width { IsWidth width }
     requires room { 3 ≤ room txn.old }
-    ensures exact { Does P.view
+    ensures exact { Does P.view P.trail
         (λ s next. formed (read_of width) (form_of byte) s (λ o s. next (value_of o) s))
         result txn.old txn.new }
     ensures fits { IfOk result (λ x. x < 256 ^ width) }
@@ -354,7 +359,7 @@ fn modified_by_byte<P: Port>(
 ) -> Result<(Operand, u64), CutShort>
     requires width { IsWidth width }
     requires room { 3 ≤ room txn.old }
-    ensures exact { Does P.view (modified width (form_of byte)) result txn.old txn.new }
+    ensures exact { Does P.view P.trail (modified width (form_of byte)) result txn.old txn.new }
     ensures place { IfOk result (λ m. IsPlace width m.0) }
     ensures fits { IfOk result (λ m. m.1 < 256 ^ width) }
     ensures keeps { Keeps P.view P.since 3 txn.old txn.new }
@@ -368,11 +373,12 @@ fn modified_by_byte<P: Port>(
 
 /// An operand that is written, by its specifier byte.
 #[inline(always)]
-#[tactic(auto, using(vax_flat::proofs::Leaves::over_port_raises), unfolding(vax_flat::specs::Operand::formed, vax_flat::specs::Operand::form_of, vax_flat::specs::Operand::literal))]
+#[tactic(auto, using(vax_undo::proofs::Trail::over_trail_raises), unfolding(vax_flat::specs::Operand::formed, vax_flat::specs::Operand::form_of, vax_flat::specs::Operand::literal))]
 fn place_by_byte<P: Port>(txn: &mut Txn<P>, width: u8, byte: u8) -> Result<Operand, CutShort>
     requires width { IsWidth width }
     requires room { 3 ≤ room txn.old }
-    ensures exact { Does P.view (formed (write_of width) (form_of byte)) result txn.old txn.new }
+    ensures exact { Does P.view P.trail (formed (write_of width) (form_of byte))
+        result txn.old txn.new }
     ensures place { IfOk result (IsPlace width) }
     ensures keeps { Keeps P.view P.since 3 txn.old txn.new }
 {
@@ -388,7 +394,7 @@ fn place_by_byte<P: Port>(txn: &mut Txn<P>, width: u8, byte: u8) -> Result<Opera
 #[tactic(auto, unfolding(vax_flat::specs::Rows::read_value, vax_flat::specs::Operand::next_operand, vax_flat::specs::Operand::specified))]
 pub fn next_value<P: Port>(txn: &mut Txn<P>, size: Size) -> Result<u64, CutShort>
     requires room { 4 ≤ room txn.old }
-    ensures exact { Does P.view (read_value (bytes_of size)) result txn.old txn.new }
+    ensures exact { Does P.view P.trail (read_value (bytes_of size)) result txn.old txn.new }
     ensures fits { IfOk result (λ x. x < 256 ^ bytes_of size) }
     ensures keeps { Keeps P.view P.since 4 txn.old txn.new }
 {
@@ -402,7 +408,7 @@ pub fn next_value<P: Port>(txn: &mut Txn<P>, size: Size) -> Result<u64, CutShort
 #[tactic(auto, unfolding(crate::specs::Addressed::modified, vax_flat::specs::Rows::modify_value, vax_flat::specs::Operand::next_operand, vax_flat::specs::Operand::specified))]
 pub fn next_modified<P: Port>(txn: &mut Txn<P>, size: Size) -> Result<(Operand, u64), CutShort>
     requires room { 4 ≤ room txn.old }
-    ensures exact { Does P.view (modify_value (bytes_of size)) result txn.old txn.new }
+    ensures exact { Does P.view P.trail (modify_value (bytes_of size)) result txn.old txn.new }
     ensures place { IfOk result (λ m. IsPlace (bytes_of size) m.0) }
     ensures fits { IfOk result (λ m. m.1 < 256 ^ bytes_of size) }
     ensures keeps { Keeps P.view P.since 4 txn.old txn.new }
@@ -417,7 +423,7 @@ pub fn next_modified<P: Port>(txn: &mut Txn<P>, size: Size) -> Result<(Operand, 
 #[tactic(auto, unfolding(vax_flat::specs::Rows::write_place, vax_flat::specs::Operand::next_operand, vax_flat::specs::Operand::specified))]
 pub fn next_place<P: Port>(txn: &mut Txn<P>, size: Size) -> Result<Operand, CutShort>
     requires room { 4 ≤ room txn.old }
-    ensures exact { Does P.view (write_place (bytes_of size)) result txn.old txn.new }
+    ensures exact { Does P.view P.trail (write_place (bytes_of size)) result txn.old txn.new }
     ensures place { IfOk result (IsPlace (bytes_of size)) }
     ensures keeps { Keeps P.view P.since 4 txn.old txn.new }
 {
@@ -431,7 +437,7 @@ pub fn next_place<P: Port>(txn: &mut Txn<P>, size: Size) -> Result<Operand, CutS
 #[tactic(auto, unfolding(vax_flat::specs::Rows::address_value))]
 pub fn next_address<P: Port>(txn: &mut Txn<P>, size: Size) -> Result<u32, CutShort>
     requires room { 4 ≤ room txn.old }
-    ensures exact { Does P.view (address_value (bytes_of size)) result txn.old txn.new }
+    ensures exact { Does P.view P.trail (address_value (bytes_of size)) result txn.old txn.new }
     ensures keeps { Keeps P.view P.since 4 txn.old txn.new }
 {
     let kind = OperandKind {
@@ -447,7 +453,8 @@ pub fn next_address<P: Port>(txn: &mut Txn<P>, size: Size) -> Result<u32, CutSho
 #[tactic(auto, unfolding(vax_flat::specs::Rows::branch_target, vax_flat::specs::Operand::next_operand, vax_flat::specs::Operand::branched, vax_flat::specs::Rows::address_in))]
 pub fn next_target<P: Port>(txn: &mut Txn<P>, size: Narrow) -> Result<u32, CutShort>
     requires room { 4 ≤ room txn.old }
-    ensures exact { Does P.view (branch_target (bytes_of (size_of size))) result txn.old txn.new }
+    ensures exact { Does P.view P.trail (branch_target (bytes_of (size_of size)))
+        result txn.old txn.new }
     ensures keeps { Keeps P.view P.since 4 txn.old txn.new }
 {
     let width = displacement_width(size);

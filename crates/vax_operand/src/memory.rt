@@ -9,11 +9,11 @@ use vax_undo::{CutShort, Port, Txn};
 
 /// The number that `n` bytes are.
 #[inline(always)]
-#[tactic(auto, unfolding(vax_flat::specs::OverPort::over_port, vax_flat::specs::Operand::read_at))]
+#[tactic(auto, unfolding(vax_undo::specs::Trail::over_trail, vax_flat::specs::Operand::read_at))]
 pub fn read<P: Port>(txn: &mut Txn<P>, addr: u32, n: u32) -> Result<u64, CutShort>
     requires some { 1 ≤ n }
     requires few { n ≤ 8 }
-    ensures exact { Does P.view (read_at addr n) result txn.old txn.new }
+    ensures exact { Does P.view P.trail (read_at addr n) result txn.old txn.new }
     ensures same { present P.view txn.new ≡ present P.view txn.old }
     ensures fits { IfOk result (λ x. x < 256 ^ n) }
     ensures keeps { Keeps P.view P.since 0 txn.old txn.new }
@@ -27,13 +27,13 @@ pub fn read<P: Port>(txn: &mut Txn<P>, addr: u32, n: u32) -> Result<u64, CutShor
 
 /// Writes the `n` bytes of a number. It stays a call, since most operands that are written are registers.
 #[inline(never)]
-#[tactic(auto, unfolding(vax_flat::specs::OverPort::over_port, vax_flat::specs::Operand::write_at))]
+#[tactic(auto, unfolding(vax_undo::specs::Trail::over_trail, vax_flat::specs::Operand::write_at))]
 pub fn write<P: Port>(txn: &mut Txn<P>, addr: u32, n: u32, value: u64) -> Result<(), CutShort>
     requires some { 1 ≤ n }
     requires few { n ≤ 8 }
     requires fits { value < 256 ^ n }
     requires room { 1 ≤ room txn.old }
-    ensures exact { Acts P.view (write_at addr n value) result txn.old txn.new }
+    ensures exact { Acts P.view P.trail (write_at addr n value) result txn.old txn.new }
     ensures keeps { Keeps P.view P.since 1 txn.old txn.new }
 {
     let mode = txn.psl().mode();
@@ -45,10 +45,10 @@ pub fn write<P: Port>(txn: &mut Txn<P>, addr: u32, n: u32, value: u64) -> Result
 
 /// Checks that `n` bytes may be used so, resident or not.
 #[inline(always)]
-#[tactic(auto, unfolding(vax_flat::specs::OverPort::over_port, vax_flat::specs::Operand::check_at))]
+#[tactic(auto, unfolding(vax_undo::specs::Trail::over_trail, vax_flat::specs::Operand::check_at))]
 pub fn check<P: Port>(txn: &mut Txn<P>, addr: u32, n: u32, access: Access) -> Result<(), CutShort>
     requires short { n ≤ 65536 }
-    ensures exact { Acts P.view (check_at addr n access) result txn.old txn.new }
+    ensures exact { Acts P.view P.trail (check_at addr n access) result txn.old txn.new }
     ensures same { present P.view txn.new ≡ present P.view txn.old }
     ensures keeps { Keeps P.view P.since 0 txn.old txn.new }
 {
@@ -61,12 +61,12 @@ pub fn check<P: Port>(txn: &mut Txn<P>, addr: u32, n: u32, access: Access) -> Re
 
 /// The number that `n` bytes are, in this access mode.
 #[inline]
-#[tactic(auto, unfolding(vax_flat::specs::OverPort::over_port, vax_flat::specs::Operand::read_in))]
+#[tactic(auto, unfolding(vax_undo::specs::Trail::over_trail, vax_flat::specs::Operand::read_in))]
 pub fn read_in<P: Port>(txn: &mut Txn<P>, addr: u32, n: u32, mode: u8) -> Result<u64, CutShort>
     requires some { 1 ≤ n }
     requires few { n ≤ 8 }
     requires of_mode { mode ≤ 3 }
-    ensures exact { Does P.view (read_in addr n mode) result txn.old txn.new }
+    ensures exact { Does P.view P.trail (read_in addr n mode) result txn.old txn.new }
     ensures same { present P.view txn.new ≡ present P.view txn.old }
     ensures fits { IfOk result (λ x. x < 256 ^ n) }
     ensures keeps { Keeps P.view P.since 0 txn.old txn.new }
@@ -79,7 +79,7 @@ pub fn read_in<P: Port>(txn: &mut Txn<P>, addr: u32, n: u32, mode: u8) -> Result
 
 /// Writes the `n` bytes of a number, in this access mode.
 #[inline]
-#[tactic(auto, unfolding(vax_flat::specs::OverPort::over_port, vax_flat::specs::Operand::write_in))]
+#[tactic(auto, unfolding(vax_undo::specs::Trail::over_trail, vax_flat::specs::Operand::write_in))]
 pub fn write_in<P: Port>(
     txn: &mut Txn<P>,
     addr: u32,
@@ -92,7 +92,7 @@ pub fn write_in<P: Port>(
     requires of_mode { mode ≤ 3 }
     requires fits { value < 256 ^ n }
     requires room { 1 ≤ room txn.old }
-    ensures exact { Acts P.view (write_in addr n value mode) result txn.old txn.new }
+    ensures exact { Acts P.view P.trail (write_in addr n value mode) result txn.old txn.new }
     ensures keeps { Keeps P.view P.since 1 txn.old txn.new }
 {
     match txn.write(addr, n, value, mode) {
@@ -103,23 +103,23 @@ pub fn write_in<P: Port>(
 
 /// Whether this access mode may use `n` bytes so, resident or not.
 #[inline]
-#[tactic(auto, unfolding(vax_flat::specs::OverPort::over_port, vax_flat::specs::Operand::asked))]
+#[tactic(auto, unfolding(vax_undo::specs::Trail::over_trail, vax_flat::specs::Operand::asked))]
 pub fn is_allowed<P: Port>(txn: &Txn<P>, addr: u32, n: u32, mode: u8, access: Access) -> bool
     requires short { n ≤ 65536 }
     requires of_mode { mode ≤ 3 }
-    ensures { Does P.view (asked addr n mode access) (Ok result) txn.now txn.now }
+    ensures { Does P.view P.trail (asked addr n mode access) (Ok result) txn.now txn.now }
 {
     txn.check(addr, n, mode, access).is_ok()
 }
 
 /// The number that the next `n` bytes of the instruction are. PC moves past them.
 #[inline(always)]
-#[tactic(auto, unfolding(vax_flat::specs::OverPort::over_port, vax_flat::specs::Operand::fetched, vax_flat::specs::Operand::read_at))]
+#[tactic(auto, unfolding(vax_undo::specs::Trail::over_trail, vax_flat::specs::Operand::fetched, vax_flat::specs::Operand::read_at))]
 pub fn fetch<P: Port>(txn: &mut Txn<P>, n: u32) -> Result<u64, CutShort>
     requires some { 1 ≤ n }
     requires few { n ≤ 8 }
     requires room { 1 ≤ room txn.old }
-    ensures exact { Does P.view (fetched n) result txn.old txn.new }
+    ensures exact { Does P.view P.trail (fetched n) result txn.old txn.new }
     ensures fits { IfOk result (λ x. x < 256 ^ n) }
     ensures keeps { Keeps P.view P.since 1 txn.old txn.new }
 {

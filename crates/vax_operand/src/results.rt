@@ -17,7 +17,7 @@ use vax_word::{Codes, Psl, Size};
 #[tactic(auto, using(vax_undo::proofs::FirstPart::codes_closed))]
 pub fn set_codes<P: Port>(txn: &mut Txn<P>, codes: Codes)
     requires { 1 ≤ room txn.old }
-    ensures exact { Updates P.view (λ s. with_conditions s codes) txn.old txn.new }
+    ensures exact { Updates P.view P.trail (λ s. with_conditions s codes) txn.old txn.new }
     ensures keeps { Keeps P.view P.since 1 txn.old txn.new }
 {
     let psl = txn.psl().with_codes(codes);
@@ -38,7 +38,7 @@ fn traps_overflow<P: Port>(txn: &Txn<P>) -> bool
 #[tactic(auto, unfolding(vax_flat::specs::Rows::settled, vax_flat::specs::Rows::flow_of))]
 pub fn settle<P: Port>(txn: &mut Txn<P>, by_zero: bool, codes: Codes) -> Result<Flow, CutShort>
     requires { 1 ≤ room txn.old }
-    ensures exact { Does P.view (settled by_zero codes) result txn.old txn.new }
+    ensures exact { Does P.view P.trail (settled by_zero codes) result txn.old txn.new }
     ensures keeps { Keeps P.view P.since 1 txn.old txn.new }
 {
     let flow = if by_zero {
@@ -65,7 +65,7 @@ pub fn answer<P: Port>(
     requires place { IsPlace (bytes_of size) place }
     requires fits { result_and_codes.0 < 256 ^ bytes_of size }
     requires room { 3 ≤ room txn.old }
-    ensures exact { Does P.view (answered (bytes_of size) place by_zero result_and_codes)
+    ensures exact { Does P.view P.trail (answered (bytes_of size) place by_zero result_and_codes)
         result txn.old txn.new }
     ensures keeps { Keeps P.view P.since 3 txn.old txn.new }
 {
@@ -79,7 +79,7 @@ pub fn answer<P: Port>(
 #[tactic(auto, unfolding(vax_flat::specs::Rows::pushed))]
 pub fn push<P: Port>(txn: &mut Txn<P>, value: u32) -> Result<(), CutShort>
     requires { 2 ≤ room txn.old }
-    ensures exact { Acts P.view (pushed value) result txn.old txn.new }
+    ensures exact { Acts P.view P.trail (pushed value) result txn.old txn.new }
     ensures keeps { Keeps P.view P.since 2 txn.old txn.new }
 {
     let top = txn.reg(14).wrapping_sub(4);

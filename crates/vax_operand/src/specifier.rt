@@ -54,10 +54,10 @@ pub fn extend(width: u8, value: u64) -> u32
 
 /// An operand at an address: one that is read is read, one that is modified is checked for writing.
 #[inline]
-#[tactic(auto, using(vax_flat::proofs::Leaves::over_port_raises), unfolding(vax_flat::specs::Operand::at_address))]
+#[tactic(auto, using(vax_undo::proofs::Trail::over_trail_raises), unfolding(vax_flat::specs::Operand::at_address))]
 fn locate<P: Port>(txn: &mut Txn<P>, kind: OperandKind, addr: u32) -> Result<Operand, CutShort>
     requires width { IsWidth kind.width }
-    ensures exact { Does P.view (at_address kind addr) result txn.old txn.new }
+    ensures exact { Does P.view P.trail (at_address kind addr) result txn.old txn.new }
     ensures fits { IfOk result (Fits kind) }
     ensures keeps { Keeps P.view P.since 0 txn.old txn.new }
 {
@@ -79,7 +79,7 @@ fn locate<P: Port>(txn: &mut Txn<P>, kind: OperandKind, addr: u32) -> Result<Ope
 
 /// A literal, which is for an operand that is read alone.
 #[inline]
-#[tactic(auto, using(vax_flat::proofs::Leaves::over_port_raises), unfolding(vax_flat::specs::Operand::literal))]
+#[tactic(auto, using(vax_undo::proofs::Trail::over_trail_raises), unfolding(vax_flat::specs::Operand::literal))]
 fn short_literal<P: Port>(
     txn: &mut Txn<P>,
     kind: OperandKind,
@@ -87,7 +87,7 @@ fn short_literal<P: Port>(
 ) -> Result<Operand, CutShort>
     requires small { value < 64 }
     requires width { IsWidth kind.width }
-    ensures exact { Does P.view (literal kind.letter value) result txn.old txn.new }
+    ensures exact { Does P.view P.trail (literal kind.letter value) result txn.old txn.new }
     ensures fits { IfOk result (Fits kind) }
     ensures keeps { Keeps P.view P.since 0 txn.old txn.new }
 {
@@ -130,7 +130,7 @@ pub fn reaches_pc(width: u8, n: u8) -> bool
 
 /// A register as an operand.
 #[inline]
-#[tactic(auto, using(vax_flat::proofs::Leaves::over_port_raises), unfolding(vax_flat::specs::Operand::in_register))]
+#[tactic(auto, using(vax_undo::proofs::Trail::over_trail_raises), unfolding(vax_flat::specs::Operand::in_register))]
 fn register_operand<P: Port>(
     txn: &mut Txn<P>,
     kind: OperandKind,
@@ -138,7 +138,7 @@ fn register_operand<P: Port>(
 ) -> Result<Operand, CutShort>
     requires of_core { n < 16 }
     requires width { IsWidth kind.width }
-    ensures exact { Does P.view (in_register kind n) result txn.old txn.new }
+    ensures exact { Does P.view P.trail (in_register kind n) result txn.old txn.new }
     ensures fits { IfOk result (Fits kind) }
     ensures keeps { Keeps P.view P.since 0 txn.old txn.new }
 {
@@ -157,12 +157,12 @@ fn register_operand<P: Port>(
 
 /// The address that a memory form gives, with what it does to its register.
 #[inline]
-#[tactic(auto, using(vax_flat::proofs::Leaves::over_port_raises), unfolding(vax_flat::specs::Operand::addressed))]
+#[tactic(auto, using(vax_undo::proofs::Trail::over_trail_raises), unfolding(vax_flat::specs::Operand::addressed))]
 fn address<P: Port>(txn: &mut Txn<P>, width: u8, form: Form) -> Result<u32, CutShort>
     requires width { IsWidth width }
     requires form { IsForm form }
     requires room { 2 ≤ room txn.old }
-    ensures exact { Does P.view (addressed width form) result txn.old txn.new }
+    ensures exact { Does P.view P.trail (addressed width form) result txn.old txn.new }
     ensures keeps { Keeps P.view P.since 2 txn.old txn.new }
 {
     match form {
@@ -249,7 +249,7 @@ pub fn is_no_base(x: u8, form: Form) -> bool
 
 /// The address of a form that is no index.
 #[inline]
-#[tactic(auto, using(vax_flat::proofs::Leaves::over_port_raises), unfolding(crate::specs::Addressed::direct))]
+#[tactic(auto, using(vax_undo::proofs::Trail::over_trail_raises), unfolding(crate::specs::Addressed::direct))]
 fn direct_address<P: Port>(
     txn: &mut Txn<P>,
     letter: Letter,
@@ -259,7 +259,7 @@ fn direct_address<P: Port>(
     requires width { IsWidth width }
     requires form { IsForm form }
     requires room { 2 ≤ room txn.old }
-    ensures exact { Does P.view (direct letter width form) result txn.old txn.new }
+    ensures exact { Does P.view P.trail (direct letter width form) result txn.old txn.new }
     ensures keeps { Keeps P.view P.since 2 txn.old txn.new }
 {
     if is_reserved(letter, form) {
@@ -270,13 +270,13 @@ fn direct_address<P: Port>(
 
 /// The address of a base form, indexed by register `x`.
 #[inline]
-#[tactic(auto, using(vax_flat::proofs::Leaves::over_port_raises), unfolding(crate::specs::Addressed::based))]
+#[tactic(auto, using(vax_undo::proofs::Trail::over_trail_raises), unfolding(crate::specs::Addressed::based))]
 fn based_address<P: Port>(txn: &mut Txn<P>, width: u8, x: u8, base: Form) -> Result<u32, CutShort>
     requires width { IsWidth width }
     requires of_core { x < 16 }
     requires form { IsForm base }
     requires room { 2 ≤ room txn.old }
-    ensures exact { Does P.view (based width x base) result txn.old txn.new }
+    ensures exact { Does P.view P.trail (based width x base) result txn.old txn.new }
     ensures keeps { Keeps P.view P.since 2 txn.old txn.new }
 {
     if is_no_base(x, base) {
@@ -289,12 +289,12 @@ fn based_address<P: Port>(txn: &mut Txn<P>, width: u8, x: u8, base: Form) -> Res
 
 /// The address behind the prefix of an index by register `x`.
 #[inline(never)]
-#[tactic(auto, using(vax_flat::proofs::Leaves::over_port_raises), unfolding(crate::specs::Addressed::prefixed))]
+#[tactic(auto, using(vax_undo::proofs::Trail::over_trail_raises), unfolding(crate::specs::Addressed::prefixed))]
 fn prefixed_address<P: Port>(txn: &mut Txn<P>, width: u8, x: u8) -> Result<u32, CutShort>
     requires width { IsWidth width }
     requires of_core { x < 16 }
     requires room { 3 ≤ room txn.old }
-    ensures exact { Does P.view (prefixed width x) result txn.old txn.new }
+    ensures exact { Does P.view P.trail (prefixed width x) result txn.old txn.new }
     ensures keeps { Keeps P.view P.since 3 txn.old txn.new }
 {
     if x == 15 {
@@ -316,7 +316,7 @@ fn address_of<P: Port>(
     requires width { IsWidth width }
     requires form { IsForm form }
     requires room { 3 ≤ room txn.old }
-    ensures exact { Does P.view (located letter width form) result txn.old txn.new }
+    ensures exact { Does P.view P.trail (located letter width form) result txn.old txn.new }
     ensures keeps { Keeps P.view P.since 3 txn.old txn.new }
 {
     match form {
@@ -334,7 +334,7 @@ fn address_of<P: Port>(
 
 /// The address in a register.
 #[inline(always)]
-#[tactic(auto, using(vax_flat::proofs::Leaves::over_port_raises), unfolding(crate::specs::Addressed::located, crate::specs::Addressed::direct, vax_flat::specs::Operand::is_reserved, vax_flat::specs::Operand::addressed))]
+#[tactic(auto, using(vax_undo::proofs::Trail::over_trail_raises), unfolding(crate::specs::Addressed::located, crate::specs::Addressed::direct, vax_flat::specs::Operand::is_reserved, vax_flat::specs::Operand::addressed))]
 fn deferred_address<P: Port>(
     txn: &mut Txn<P>,
     letter: Letter,
@@ -342,7 +342,8 @@ fn deferred_address<P: Port>(
     n: u8,
 ) -> Result<u32, CutShort>
     requires of_core { n < 16 }
-    ensures exact { Does P.view (located letter width (Form.Deferred n)) result txn.old txn.new }
+    ensures exact { Does P.view P.trail (located letter width (Form.Deferred n))
+        result txn.old txn.new }
     ensures keeps { Keeps P.view P.since 0 txn.old txn.new }
 {
     let _ = (letter, width);
@@ -354,7 +355,7 @@ fn deferred_address<P: Port>(
 
 /// The address at a displacement of one byte from a register.
 #[inline(always)]
-#[tactic(auto, using(vax_flat::proofs::Leaves::over_port_raises), unfolding(crate::specs::Addressed::located, crate::specs::Addressed::direct, vax_flat::specs::Operand::is_reserved, vax_flat::specs::Operand::addressed))]
+#[tactic(auto, using(vax_undo::proofs::Trail::over_trail_raises), unfolding(crate::specs::Addressed::located, crate::specs::Addressed::direct, vax_flat::specs::Operand::is_reserved, vax_flat::specs::Operand::addressed))]
 fn near_address<P: Port>(
     txn: &mut Txn<P>,
     letter: Letter,
@@ -363,7 +364,7 @@ fn near_address<P: Port>(
 ) -> Result<u32, CutShort>
     requires of_core { n < 16 }
     requires room { 1 ≤ room txn.old }
-    ensures exact { Does P.view (located letter width (Form.Displacement 1 n))
+    ensures exact { Does P.view P.trail (located letter width (Form.Displacement 1 n))
         result txn.old txn.new }
     ensures keeps { Keeps P.view P.since 1 txn.old txn.new }
 {
@@ -383,7 +384,8 @@ pub(crate) fn address_near<P: Port>(
 ) -> Result<u32, CutShort>
     requires width { IsWidth width }
     requires room { 3 ≤ room txn.old }
-    ensures exact { Does P.view (located letter width (form_of byte)) result txn.old txn.new }
+    ensures exact { Does P.view P.trail (located letter width (form_of byte))
+        result txn.old txn.new }
     ensures keeps { Keeps P.view P.since 3 txn.old txn.new }
 {
     match byte >> 4 {
@@ -402,7 +404,7 @@ fn operand_there<P: Port>(
 ) -> Result<Operand, CutShort>
     requires width { IsWidth kind.width }
     requires room { 3 ≤ room txn.old }
-    ensures exact { Does P.view
+    ensures exact { Does P.view P.trail
         (λ s next. located kind.letter kind.width (form_of byte) s
         (λ addr s. at_address kind addr s next))
         result txn.old txn.new }
@@ -425,7 +427,7 @@ fn memory_operand<P: Port>(
     requires width { IsWidth kind.width }
     requires memory { IsMemory (form_of byte) }
     requires room { 3 ≤ room txn.old }
-    ensures exact { Does P.view (formed kind (form_of byte)) result txn.old txn.new }
+    ensures exact { Does P.view P.trail (formed kind (form_of byte)) result txn.old txn.new }
     ensures fits { IfOk result (Fits kind) }
     ensures keeps { Keeps P.view P.since 3 txn.old txn.new }
 {
@@ -438,7 +440,7 @@ fn memory_operand<P: Port>(
 fn by_byte<P: Port>(txn: &mut Txn<P>, kind: OperandKind, byte: u8) -> Result<Operand, CutShort>
     requires width { IsWidth kind.width }
     requires room { 3 ≤ room txn.old }
-    ensures exact { Does P.view (formed kind (form_of byte)) result txn.old txn.new }
+    ensures exact { Does P.view P.trail (formed kind (form_of byte)) result txn.old txn.new }
     ensures fits { IfOk result (Fits kind) }
     ensures keeps { Keeps P.view P.since 3 txn.old txn.new }
 {
@@ -455,7 +457,7 @@ fn by_byte<P: Port>(txn: &mut Txn<P>, kind: OperandKind, byte: u8) -> Result<Ope
 fn specified<P: Port>(txn: &mut Txn<P>, kind: OperandKind) -> Result<Operand, CutShort>
     requires width { IsWidth kind.width }
     requires room { 4 ≤ room txn.old }
-    ensures exact { Does P.view (specified kind) result txn.old txn.new }
+    ensures exact { Does P.view P.trail (specified kind) result txn.old txn.new }
     ensures fits { IfOk result (Fits kind) }
     ensures keeps { Keeps P.view P.since 4 txn.old txn.new }
 {
@@ -471,7 +473,7 @@ fn specified<P: Port>(txn: &mut Txn<P>, kind: OperandKind) -> Result<Operand, Cu
 fn branch_target<P: Port>(txn: &mut Txn<P>, width: u8) -> Result<Operand, CutShort>
     requires width { IsDisplacement width }
     requires room { 1 ≤ room txn.old }
-    ensures exact { Does P.view (branched width) result txn.old txn.new }
+    ensures exact { Does P.view P.trail (branched width) result txn.old txn.new }
     ensures target { IfOk result IsTarget }
     ensures keeps { Keeps P.view P.since 1 txn.old txn.new }
 {
@@ -491,7 +493,7 @@ fn by_letter<P: Port>(txn: &mut Txn<P>, kind: OperandKind) -> Result<Operand, Cu
     requires width { IsWidth kind.width }
     requires displacement { kind.letter ≡ Letter.Branch → IsDisplacement kind.width }
     requires room { 4 ≤ room txn.old }
-    ensures exact { Does P.view (next_operand kind) result txn.old txn.new }
+    ensures exact { Does P.view P.trail (next_operand kind) result txn.old txn.new }
     ensures fits { IfOk result (Fits kind) }
     ensures keeps { Keeps P.view P.since 4 txn.old txn.new }
 {
@@ -515,7 +517,7 @@ pub fn next<P: Port>(txn: &mut Txn<P>, kind: OperandKind) -> Result<Operand, Cut
     requires width { IsWidth kind.width }
     requires displacement { kind.letter ≡ Letter.Branch → IsDisplacement kind.width }
     requires room { 4 ≤ room txn.old }
-    ensures exact { Does P.view (next_operand kind) result txn.old txn.new }
+    ensures exact { Does P.view P.trail (next_operand kind) result txn.old txn.new }
     ensures everywhere { LocatesEverywhere P.view (next_operand kind) result txn.old txn.new }
     ensures fits { IfOk result (Fits kind) }
     ensures keeps { Keeps P.view P.since 4 txn.old txn.new }

@@ -12,6 +12,7 @@ impl Port for Pager {
     ghost use Rattle.vax_flat.specs.Memory.{bytes_from};
     ghost use Rattle.vax_flat.specs.Port.{AreBytes, loaded, stop, stored, stored_run};
     ghost use Rattle.vax_undo.specs.Answers.{err_of, replaced};
+    ghost use Rattle.vax_undo.specs.Trail.{NoneKept, after_reading, after_writing, after_writing_run};
     ghost use Rattle.vax_pager.specs.Steps.{touched};
     ghost use Rattle.vax_pager.specs.Meaning.{hits, in_buffer, pages, since, view};
     ghost use Rattle.vax_pager.specs.declared.pager.Pager.{Pager};
@@ -26,6 +27,7 @@ impl Port for Pager {
     }
 
     #[inline(always)]
+    #[tactic(auto, using(vax_undo::proofs::Trail::unkept))]
     fn read(&mut self, addr: u32, n: u32, mode: u8) -> Result<u64, Stop>
         requires some { 1 ≤ n }
         requires few { n ≤ 8 }
@@ -33,6 +35,7 @@ impl Port for Pager {
         ensures answer { result ≡ loaded (view self.old) addr n mode }
         ensures same { view self.new ≡ view self.old }
         ensures bytes { AreBytes (view self.old).byte }
+        ensures trail { NoneKept ≡ after_reading (view self.old) NoneKept addr n mode }
         ensures since { (start : Pager) → since start self.old → since start self.new }
         ensures unchanged { pages self.new ≡ pages self.old }
         ensures entry { OnOk result (addr % 512 + n ≤ 512
@@ -44,6 +47,7 @@ impl Port for Pager {
     }
 
     #[inline(always)]
+    #[tactic(auto, using(vax_undo::proofs::Trail::unkept))]
     fn write(&mut self, addr: u32, n: u32, value: u64, mode: u8) -> Result<u64, Stop>
         requires some { 1 ≤ n }
         requires few { n ≤ 8 }
@@ -52,6 +56,7 @@ impl Port for Pager {
         ensures answer { result ≡ replaced (view self.old) addr n mode }
         ensures bytes { AreBytes (view self.old).byte }
         ensures stored { view self.new ≡ stored (view self.old) addr n value mode }
+        ensures trail { NoneKept ≡ after_writing (view self.old) NoneKept addr n value mode }
         ensures since { (start : Pager) → since start self.old → since start self.new }
         ensures listed { OnOk result
             ((pages self.new).modified ≡ touched (pages self.old).modified addr n) }
@@ -60,6 +65,7 @@ impl Port for Pager {
         self.store.write(addr, n, value, mode)
     }
 
+    #[tactic(auto, using(vax_undo::proofs::Trail::unkept))]
     fn read_run(&mut self, addr: u32, into: &mut [u8], mode: u8) -> Result<(), Stop>
         requires some { 1 ≤ length into.old }
         requires one_page { addr % 512 + length into.old ≤ 512 }
@@ -70,12 +76,15 @@ impl Port for Pager {
             (into.new ≡ bytes_from (view self.old).byte addr (length into.old)) }
         ensures unread { OnErr result (into.new ≡ into.old) }
         ensures same { view self.new ≡ view self.old }
+        ensures trail { NoneKept
+            ≡ after_reading (view self.old) NoneKept addr (length into.old) mode }
         ensures since { (start : Pager) → since start self.old → since start self.new }
         ensures unchanged { pages self.new ≡ pages self.old }
     {
         self.store.read_run(addr, into, mode)
     }
 
+    #[tactic(auto, using(vax_undo::proofs::Trail::unkept))]
     fn write_run(&mut self, addr: u32, from: &[u8], mode: u8) -> Result<(), Stop>
         requires some { 1 ≤ length from.now }
         requires one_page { addr % 512 + length from.now ≤ 512 }
@@ -83,6 +92,7 @@ impl Port for Pager {
         ensures answer { err_of result
             ≡ stop (view self.old) addr (length from.now) mode Access.Write }
         ensures stored { view self.new ≡ stored_run (view self.old) addr from.now mode }
+        ensures trail { NoneKept ≡ after_writing_run (view self.old) NoneKept addr from.now mode }
         ensures since { (start : Pager) → since start self.old → since start self.new }
         ensures listed { OnOk result
             ((pages self.new).modified ≡ touched (pages self.old).modified addr (length from.now)) }

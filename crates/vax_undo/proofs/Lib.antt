@@ -1,4 +1,5 @@
 pub mod FirstPart
+pub mod Trail
 pub mod Undo
 pub mod Left
 pub mod Open

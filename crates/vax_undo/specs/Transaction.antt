@@ -2,6 +2,8 @@
 use Rattle.std.specs.Prelude.{◌≡◌, ℕ, ◌+◌, ◌-◌, ◌^◌, ◌<◌, ◌≤◌, Bool, true, nat_lt, if◌then◌else◌, Option, Some, None, Result, Ok, Err, List, [], ◌∷◌, length, slice_set, vec_len}
 use Rattle.vax_word.specs.declared.Core.{Core}
 use Rattle.vax_undo.specs.FirstPart.{first_part_done}
+use Rattle.vax_undo.specs.Blocks.{low_bytes}
+use Rattle.vax_undo.specs.Trail.{Trail, Traced, FollowsTraced, PerformsTraced, noted, writing, over_trail, lands_on}
 use Rattle.vax_space.specs.declared.Access.TheVariants.{Write}
 use Rattle.vax_space.specs.declared.Area.{Area}
 use Rattle.vax_space.specs.Reference.{violation}
@@ -11,7 +13,7 @@ use Rattle.vax_flat.specs.declared.Flow.TheVariants as flow
 use Rattle.vax_flat.specs.State.{State, with_register, with_psl, with_stack, with_requests, with_timer, with_clock, with_taken, with_sent, next_input}
 use Rattle.vax_flat.specs.Port.{View, first_absent, is_in, unmarked, with_number_back}
 use Rattle.vax_flat.specs.Accesses.{Accesses, Leaf}
-use Rattle.vax_flat.specs.OverPort.{Present, Follows, Performs, over_port, goes_on}
+use Rattle.vax_flat.specs.OverPort.{Present}
 use Rattle.vax_undo.specs.declared.entry.Entry.{Entry}
 use Rattle.vax_undo.specs.declared.entry.Kept.{Kept}
 use Rattle.vax_undo.specs.declared.entry.Kept.TheVariants.{Register, Stack, Requests, Timer, Taken, Sent, Bytes}
@@ -91,6 +93,21 @@ abbrev pub undo_all : List Entry → Present → Present
 undo_all [] p = p
 undo_all (e ∷ es) p = undo e (undo_all es p)
 
+-- the accesses with the write by which the old value of an entry is put back
+abbrev pub trail_back : Kept → Entry → Trail → Trail
+trail_back Register e trail = trail
+trail_back Stack e trail = trail
+trail_back Requests e trail = trail
+trail_back Timer e trail = trail
+trail_back Taken e trail = trail
+trail_back Sent e trail = trail
+trail_back Bytes e trail = noted trail (writing e.addr (low_bytes e.number e.old))
+
+-- the accesses with the writes by which a log is undone, from its last entry backwards
+abbrev pub trail_undone : List Entry → Trail → Trail
+trail_undone [] trail = trail
+trail_undone (e ∷ es) trail = trail_back e.kept e (trail_undone es trail)
+
 -- PC, the status longword and the clock's count, which aren't logged, are put back last
 abbrev pub restart : Origin → Present → Present
 restart origin p = with_state p (with_clock (with_psl (with_register p.state 15 origin.pc) origin.psl) origin.clock)
@@ -119,32 +136,40 @@ module _ {P : Type 0} where
   abbrev pub present : (P → View) → Transaction P → Present
   present view t = record { state = state_of t.core.now t.term.now; view = view t.port.now }
 
+  -- the same with the accesses that were made
+  abbrev pub traced : (P → View) → (P → Trail) → Transaction P → Traced
+  traced view trail t = record { state = state_of t.core.now t.term.now; view = view t.port.now; trail = trail t.port.now }
+
   -- what a call answers, where the transaction says what cut the work short
   abbrev pub told : {X : Type 0} → Transaction P → Result X CutShort → Result X Cut
   told t (Ok x) = Ok x
   told t (Err short) = Err t.why
 
-  -- The call makes the accesses of a tree, which begins at the registers and the console that the call finds.
-  abbrev pub Does : {X : Type 0} → (P → View) → (State → (X → State → Accesses Leaf) → Accesses Leaf)
+  -- The call makes the accesses of a tree, and no other. The tree begins at the registers and the console that the call finds.
+  abbrev pub Does : {X : Type 0} → (P → View) → (P → Trail) → (State → (X → State → Accesses Leaf) → Accesses Leaf)
       → Result X CutShort → Transaction P → Transaction P → Type 0
-  Does view tree result old new = Follows (tree (present view old).state) (present view old) (told new result) (present view new)
+  Does view trail tree result old new =
+      FollowsTraced (tree (traced view trail old).state) (traced view trail old) (told new result) (traced view trail new)
 
   -- the same of a call that gives no value
-  abbrev pub Acts : (P → View) → (State → (State → Accesses Leaf) → Accesses Leaf)
+  abbrev pub Acts : (P → View) → (P → Trail) → (State → (State → Accesses Leaf) → Accesses Leaf)
       → Result (Unit {0}) CutShort → Transaction P → Transaction P → Type 0
-  Acts view tree result old new = Performs (tree (present view old).state) (present view old) (told new result) (present view new)
+  Acts view trail tree result old new =
+      PerformsTraced (tree (traced view trail old).state) (traced view trail old) (told new result) (traced view trail new)
 
   -- the same of a call whose answer is told to what follows in some way of its own
-  abbrev pub Passes : {X N : Type 0} → (P → View) → (State → N → Accesses Leaf) → (N → X → State → Accesses Leaf)
+  abbrev pub Passes : {X N : Type 0} → (P → View) → (P → Trail) → (State → N → Accesses Leaf) → (N → X → State → Accesses Leaf)
       → Result X CutShort → Transaction P → Transaction P → Type 0
-  Passes view tree tell result old new =
-      (next : _) → over_port (tree (present view old).state next) (present view old).view
-      ≡ goes_on (told new result) (present view new).view.marked
-      (λ x. over_port (tell next x (present view new).state) (present view new).view)
+  Passes view trail tree tell result old new =
+      (next : _) → over_trail (tree (traced view trail old).state next) (traced view trail old).view (traced view trail old).trail
+      ≡ lands_on (told new result) (traced view trail new).view.marked (traced view trail new).trail
+      (λ x. over_trail (tell next x (traced view trail new).state) (traced view trail new).view (traced view trail new).trail)
 
-  -- The call changes the registers and the console in this way, and nothing of what the port shows.
-  abbrev pub Updates : (P → View) → (State → State) → Transaction P → Transaction P → Type 0
-  Updates view change old new = present view new ≡ with_state (present view old) (change (present view old).state)
+  -- The call changes the registers and the console in this way, and nothing of what the port shows; it makes no access.
+  abbrev pub Updates : (P → View) → (P → Trail) → (State → State) → Transaction P → Transaction P → Type 0
+  Updates view trail change old new =
+      traced view trail new
+      ≡ record { state = change (traced view trail old).state; view = (traced view trail old).view; trail = (traced view trail old).trail }
 
   -- what comes out when the log is undone, but for the marks
   abbrev pub undone : (P → View) → Transaction P → Present

@@ -315,6 +315,7 @@ impl Port for Plain {
         self.space.check(addr, len, mode, access)
     }
 
+    #[tactic(auto, using(crate::proofs::Trail::unkept))]
     #[inline(always)]
     fn read(&mut self, addr: u32, n: u32, mode: u8) -> Result<u64, Stop> {
         if self.space.is_free_page(addr, n, mode, Access::Read) {
@@ -328,6 +329,7 @@ impl Port for Plain {
         }
     }
 
+    #[tactic(auto, using(crate::proofs::Trail::unkept))]
     #[inline(always)]
     fn write(&mut self, addr: u32, n: u32, value: u64, mode: u8) -> Result<u64, Stop> {
         if self.space.is_free_page(addr, n, mode, Access::Write) {
@@ -341,6 +343,7 @@ impl Port for Plain {
         }
     }
 
+    #[tactic(auto, using(crate::proofs::Trail::unkept))]
     fn read_run(&mut self, addr: u32, into: &mut [u8], mode: u8) -> Result<(), Stop> {
         let len = into.len() as u32;
         if let Err(violation) = self.space.check(addr, len, mode, Access::Read) {
@@ -355,6 +358,7 @@ impl Port for Plain {
         }
     }
 
+    #[tactic(auto, using(crate::proofs::Trail::unkept))]
     fn write_run(&mut self, addr: u32, from: &[u8], mode: u8) -> Result<(), Stop> {
         if let Err(violation) = self
             .space

@@ -4,6 +4,7 @@ ghost use Rattle.vax_space.specs.Reference.{violation};
 ghost use Rattle.vax_flat.specs.Memory.{bytes_from};
 ghost use Rattle.vax_flat.specs.Port.{View, AreBytes, stop, loaded, stored, stored_run};
 ghost use Rattle.vax_undo.specs.Answers.{err_of, replaced};
+ghost use Rattle.vax_undo.specs.Trail.{Trail, NoneKept, after_reading, after_writing, after_writing_run};
 
 use vax_flat::Stop;
 use vax_space::{Access, Violation};
@@ -17,6 +18,9 @@ use vax_space::{Access, Violation};
 pub trait Port {
     /// Its areas, its resident pages, the bytes of these, and the marked pages.
     ghost view: { Self → View };
+
+    /// The accesses that were made through it, in order, where it keeps them. An access that is stopped isn't made.
+    ghost trail: { Self → Trail } = { λ port. NoneKept };
 
     /// The second came from the first by calls of this trait alone.
     ghost since: { Self → Self → Type 0 };
@@ -35,6 +39,8 @@ pub trait Port {
         ensures answer { result ≡ loaded (view self.old) addr n mode }
         ensures same { view self.new ≡ view self.old }
         ensures bytes { AreBytes (view self.old).byte }
+        ensures trail { trail self.new
+            ≡ after_reading (view self.old) (trail self.old) addr n mode }
         ensures since { (start : Self) → since start self.old → since start self.new };
 
     /// Writes the `n` bytes of a number, 1 to 8, and gives the number that they were.
@@ -46,6 +52,8 @@ pub trait Port {
         ensures answer { result ≡ replaced (view self.old) addr n mode }
         ensures bytes { AreBytes (view self.old).byte }
         ensures stored { view self.new ≡ stored (view self.old) addr n value mode }
+        ensures trail { trail self.new
+            ≡ after_writing (view self.old) (trail self.old) addr n value mode }
         ensures since { (start : Self) → since start self.old → since start self.new };
 
     /// Reads a run of 1 to 512 bytes that lies within one page.
@@ -59,6 +67,8 @@ pub trait Port {
             (into.new ≡ bytes_from (view self.old).byte addr (length into.old)) }
         ensures unread { OnErr result (into.new ≡ into.old) }
         ensures same { view self.new ≡ view self.old }
+        ensures trail { trail self.new
+            ≡ after_reading (view self.old) (trail self.old) addr (length into.old) mode }
         ensures since { (start : Self) → since start self.old → since start self.new };
 
     /// Writes a run of 1 to 512 bytes that lies within one page.
@@ -69,5 +79,7 @@ pub trait Port {
         ensures answer { err_of result
             ≡ stop (view self.old) addr (length from.now) mode Access.Write }
         ensures stored { view self.new ≡ stored_run (view self.old) addr from.now mode }
+        ensures trail { trail self.new
+            ≡ after_writing_run (view self.old) (trail self.old) addr from.now mode }
         ensures since { (start : Self) → since start self.old → since start self.new };
 }

@@ -99,16 +99,17 @@ fn input_is_left(term: &Term) -> bool
     (term.place as usize) < term.input.len()
 }
 
-ghost use Rattle.vax_undo.specs.Transaction.{state_of, undo, Allows, seen};
+ghost use Rattle.vax_undo.specs.Transaction.{state_of, undo, trail_back, Allows, seen};
 
 /// Puts the old value of an entry back.
-#[tactic(auto, using(crate::proofs::Undo::put_again))]
+#[tactic(auto, using(crate::proofs::Undo::put_again, crate::proofs::Trail::made_again))]
 fn put_back<P: Port>(entry: Entry, core: &mut Core, term: &mut Term, port: &mut P)
     requires { Allows (vec_len term.old.input) (P.view port.old).areas (P.view port.old).resident
         (P.view port.old).marked entry.kept entry }
     ensures state { state_of core.new term.new
         ≡ (undo entry (seen P.view core.old term.old port.old)).state }
     ensures view { P.view port.new ≡ (undo entry (seen P.view core.old term.old port.old)).view }
+    ensures trail { P.trail port.new ≡ trail_back entry.kept entry (P.trail port.old) }
     ensures input { term.new.input ≡ term.old.input }
     ensures since { (start : P) → P.since start port.old → P.since start port.new }
 {
@@ -147,7 +148,8 @@ impl<'a, P: Port> Txn<'a, P> {
     ghost use Rattle.vax_flat.specs.State.{register, with_register, with_psl, with_stack, with_requests, with_timer, with_clock, with_sent};
     ghost use Rattle.vax_flat.specs.Memory.{bytes_from};
     ghost use Rattle.vax_flat.specs.Port.{loaded, stored, stored_run, stop, unmarked};
-    ghost use Rattle.vax_undo.specs.Transaction.{bare, state_of, present, undone, room, IsLeft, IsLeftOpen, IsReady, IsSame, Keeps, Updates, seen, with_view, next_byte, after_take};
+    ghost use Rattle.vax_undo.specs.Trail.{after_reading, after_writing, after_writing_run};
+    ghost use Rattle.vax_undo.specs.Transaction.{bare, state_of, present, traced, trail_undone, undone, room, IsLeft, IsLeftOpen, IsReady, IsSame, Keeps, Updates, seen, with_view, next_byte, after_take};
 
     /// Begins a transaction, at which nothing is sent to the console yet. What the log held is forgotten.
     #[inline]
@@ -184,7 +186,7 @@ impl<'a, P: Port> Txn<'a, P> {
     #[cold]
     pub fn cut(&mut self, why: Cut) -> CutShort
         ensures why { self.new.why ≡ why }
-        ensures present { present P.view self.new ≡ present P.view self.old }
+        ensures present { traced P.view P.trail self.new ≡ traced P.view P.trail self.old }
         ensures keeps { Keeps P.view P.since 0 self.old self.new }
     {
         self.why = why;
@@ -224,7 +226,7 @@ impl<'a, P: Port> Txn<'a, P> {
     pub fn set_reg(&mut self, n: u8, v: u32)
         requires of_core { n < 16 }
         requires room { 1 ≤ room self.old }
-        ensures present { Updates P.view (λ s. with_register s n v) self.old self.new }
+        ensures present { Updates P.view P.trail (λ s. with_register s n v) self.old self.new }
         ensures keeps { Keeps P.view P.since 1 self.old self.new }
     {
         if n == 15 {
@@ -251,7 +253,7 @@ impl<'a, P: Port> Txn<'a, P> {
     pub fn set_psl(&mut self, v: Psl)
         requires closed { first_part_done v ≤ first_part_done self.old.core.now.psl }
         requires room { 1 ≤ room self.old }
-        ensures present { Updates P.view (λ s. with_psl s v) self.old self.new }
+        ensures present { Updates P.view P.trail (λ s. with_psl s v) self.old self.new }
         ensures keeps { Keeps P.view P.since 1 self.old self.new }
     {
         self.core.psl = v;
@@ -262,7 +264,7 @@ impl<'a, P: Port> Txn<'a, P> {
     #[inline]
     pub fn leave_open(&mut self, v: Psl)
         requires { 1 ≤ room self.old }
-        ensures present { Updates P.view (λ s. with_psl s v) self.old self.new }
+        ensures present { Updates P.view P.trail (λ s. with_psl s v) self.old self.new }
         ensures left { IsLeftOpen P.view P.since 1 self.old self.new }
     {
         self.core.psl = v;
@@ -281,7 +283,7 @@ impl<'a, P: Port> Txn<'a, P> {
     pub fn set_stack(&mut self, i: u8, v: u32)
         requires of_core { i < 5 }
         requires room { 1 ≤ room self.old }
-        ensures present { Updates P.view (λ s. with_stack s i v) self.old self.new }
+        ensures present { Updates P.view P.trail (λ s. with_stack s i v) self.old self.new }
         ensures keeps { Keeps P.view P.since 1 self.old self.new }
     {
         let old = stack_of(self.core, i);
@@ -300,7 +302,7 @@ impl<'a, P: Port> Txn<'a, P> {
     #[inline]
     pub fn set_sisr(&mut self, v: u16)
         requires { 1 ≤ room self.old }
-        ensures present { Updates P.view (λ s. with_requests s v) self.old self.new }
+        ensures present { Updates P.view P.trail (λ s. with_requests s v) self.old self.new }
         ensures keeps { Keeps P.view P.since 1 self.old self.new }
     {
         self.log
@@ -320,7 +322,7 @@ impl<'a, P: Port> Txn<'a, P> {
     #[inline]
     pub fn set_iccs(&mut self, v: u8)
         requires { 1 ≤ room self.old }
-        ensures present { Updates P.view (λ s. with_timer s v) self.old self.new }
+        ensures present { Updates P.view P.trail (λ s. with_timer s v) self.old self.new }
         ensures keeps { Keeps P.view P.since 1 self.old self.new }
     {
         self.log
@@ -341,7 +343,7 @@ impl<'a, P: Port> Txn<'a, P> {
     #[inline(always)]
     pub fn set_clock(&mut self, v: u16)
         requires { v ≤ 999 }
-        ensures present { Updates P.view (λ s. with_clock s v) self.old self.new }
+        ensures present { Updates P.view P.trail (λ s. with_clock s v) self.old self.new }
         ensures keeps { Keeps P.view P.since 0 self.old self.new }
     {
         self.core.clock = v;
@@ -352,7 +354,7 @@ impl<'a, P: Port> Txn<'a, P> {
     pub fn take(&mut self) -> Option<u8>
         requires room { 1 ≤ room self.old }
         ensures answer { result ≡ next_byte (present P.view self.old).state }
-        ensures present { Updates P.view after_take self.old self.new }
+        ensures present { Updates P.view P.trail after_take self.old self.new }
         ensures keeps { Keeps P.view P.since 1 self.old self.new }
     {
         let term = &mut *self.term;
@@ -380,7 +382,7 @@ impl<'a, P: Port> Txn<'a, P> {
     #[inline]
     pub fn emit(&mut self, byte: u8)
         requires room { 1 ≤ room self.old }
-        ensures present { Updates P.view (λ s. with_sent s (Some byte)) self.old self.new }
+        ensures present { Updates P.view P.trail (λ s. with_sent s (Some byte)) self.old self.new }
         ensures keeps { Keeps P.view P.since 1 self.old self.new }
     {
         let old = sent_number(self.term.out);
@@ -408,6 +410,8 @@ impl<'a, P: Port> Txn<'a, P> {
         ensures answer { result ≡ loaded (present P.view self.old).view addr n mode }
         ensures fits { IfOk result (λ v. v < 256 ^ n) }
         ensures present { present P.view self.new ≡ present P.view self.old }
+        ensures trail { P.trail self.new.port.now ≡ after_reading
+            (present P.view self.old).view (P.trail self.old.port.now) addr n mode }
         ensures keeps { Keeps P.view P.since 0 self.old self.new }
     {
         self.port.read(addr, n, mode)
@@ -426,6 +430,8 @@ impl<'a, P: Port> Txn<'a, P> {
         ensures present { present P.view self.new
             ≡ with_view (present P.view self.old)
             (stored (present P.view self.old).view addr n value mode) }
+        ensures trail { P.trail self.new.port.now ≡ after_writing
+            (present P.view self.old).view (P.trail self.old.port.now) addr n value mode }
         ensures keeps { Keeps P.view P.since 1 self.old self.new }
     {
         match self.port.write(addr, n, value, mode) {
@@ -456,6 +462,8 @@ impl<'a, P: Port> Txn<'a, P> {
             (into.new ≡ bytes_from (present P.view self.old).view.byte addr (length into.old)) }
         ensures unread { OnErr result (into.new ≡ into.old) }
         ensures present { present P.view self.new ≡ present P.view self.old }
+        ensures trail { P.trail self.new.port.now ≡ after_reading (present P.view self.old).view
+            (P.trail self.old.port.now) addr (length into.old) mode }
         ensures keeps { Keeps P.view P.since 0 self.old self.new }
     {
         self.port.read_run(addr, into, mode)
@@ -473,6 +481,8 @@ impl<'a, P: Port> Txn<'a, P> {
         ensures present { present P.view self.new
             ≡ with_view (present P.view self.old)
             (stored_run (present P.view self.old).view addr from.now mode) }
+        ensures trail { P.trail self.new.port.now ≡ after_writing_run
+            (present P.view self.old).view (P.trail self.old.port.now) addr from.now mode }
         ensures keeps { OnErr result (Keeps P.view P.since 0 self.old self.new) }
         ensures left { IsLeftOpen P.view P.since 0 self.old self.new }
         ensures completed { IsLeft P.since 0 self.old self.new }
@@ -486,7 +496,7 @@ impl<'a, P: Port> Txn<'a, P> {
     #[inline(always)]
     pub fn renew(&mut self) -> Option<u8>
         ensures sent { result ≡ (present P.view self.old).state.sent }
-        ensures present { Updates P.view (λ s. with_sent s None) self.old self.new }
+        ensures present { Updates P.view P.trail (λ s. with_sent s None) self.old self.new }
         ensures undone { undone P.view self.new ≡ bare (present P.view self.new) }
         ensures room { room self.new ≡ 96 }
         ensures ready { IsReady P.view self.new }
@@ -559,6 +569,8 @@ impl<'a, P: Port> Txn<'a, P> {
             ≡ (undone P.view self.entry).state }
         ensures view { unmarked (P.view self.exit.1.1.0.now) ≡ (undone P.view self.entry).view }
         ensures marks { (P.view self.exit.1.1.0.now).marked ≡ (P.view self.entry.port.now).marked }
+        ensures trail { P.trail self.exit.1.1.0.now
+            ≡ trail_undone self.entry.log.now.entries.items (P.trail self.entry.port.now) }
         ensures input { self.exit.1.0.now.input ≡ self.entry.term.now.input }
         ensures since { (start : P) → P.since start self.entry.port.now
             → P.since start self.exit.1.1.0.now }

@@ -14,21 +14,21 @@ use Rattle.vax_isa.specs.Instructions.{Instruction}
 use Rattle.vax_isa.specs.Rows.{plain, row_of, with_opcode}
 use Rattle.vax_isa.specs.declared.Row.{Row}
 use Rattle.vax_vectors.specs.Text.{json_text}
-use Rattle.vax_vectors.specs.Truth.{IsTold}
+use Rattle.vax_vector_runs.specs.Exact.{IsExact}
 use Rattle.vax_vectors.specs.declared.vector.Vector.{Vector}
 use Rattle.vax_vector_lines.specs.Lines.{AreGroups, AreLinesWithout, AreOfAll, AreVectors, IsGroup, IsMore, IsOf, IsWithout, Wrote, WrotePrefix, choices, instruction_at, pairs}
 
 -- lines alone
 pub no_vectors : AreVectors []
-no_vectors = record { vectors = []; told = All-nil IsTold; lines = refl }
+no_vectors = record { vectors = []; told = All-nil IsExact; lines = refl }
 
-one_vector : (v : Vector) → IsTold v → AreVectors (json_text v)
-one_vector v is = record { vectors = v ∷ []; told = All-cons IsTold v [] is (All-nil IsTold); lines = sym (append-nil (json_text v)) }
+one_vector : (v : Vector) → IsExact v → AreVectors (json_text v)
+one_vector v is = record { vectors = v ∷ []; told = All-cons IsExact v [] is (All-nil IsExact); lines = sym (append-nil (json_text v)) }
 
 both : (a b : List ℕ) → AreVectors a → AreVectors b → AreVectors (a ++ b)
 both a b x y = record {
   vectors = x.vectors ++ y.vectors;
-  told = All-append IsTold x.vectors y.vectors x.told y.told;
+  told = All-append IsExact x.vectors y.vectors x.told y.told;
   lines = ap (λ t. t ++ b) x.lines ∙ (ap (λ t. flat_map json_text x.vectors ++ t) y.lines ∙ sym (flat_map-append json_text x.vectors y.vectors));
 }
 
@@ -57,7 +57,7 @@ all_true mode absent count (suc code) text x =
     joined text x.first x.rest x.text_is (all_true mode absent count code x.first x.is_first) (groups_true code mode absent (instruction_at code * count) x.rest x.is_rest)
 
 -- lines with pages absent
-pub one_line : (old new : List ℕ) (whole v : Vector) (absent : List ℕ) → IsTold v → IsWithout whole absent v → new ≡ old ++ json_text v → IsMore (AreLinesWithout whole (absent ∷ [])) old new
+pub one_line : (old new : List ℕ) (whole v : Vector) (absent : List ℕ) → IsExact v → IsWithout whole absent v → new ≡ old ++ json_text v → IsMore (AreLinesWithout whole (absent ∷ [])) old new
 unfolding AreLinesWithout
 one_line old new whole v absent is without e = record {
   more = json_text v;
@@ -139,7 +139,7 @@ before_none whole all pages k a b past x = record {
 }
 
 -- the lines of one step
-pub one_group : (opcode mode : ℕ) (absent : Bool) (v : Vector) (none one text : List ℕ) → IsTold v → IsOf opcode mode v → none ≡ [] → one ≡ none ++ json_text v
+pub one_group : (opcode mode : ℕ) (absent : Bool) (v : Vector) (none one text : List ℕ) → IsExact v → IsOf opcode mode v → none ≡ [] → one ≡ none ++ json_text v
     → IsMore (AreLinesWithout v (if absent then choices v.touched.items else [])) one text → IsGroup opcode mode absent text
 one_group opcode mode absent v none one text told of empty line more = record {
   vector = v;

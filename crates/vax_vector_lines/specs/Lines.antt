@@ -6,7 +6,7 @@ use Rattle.vax_outside.specs.declared.traits.Chan.TheVariants.{Out}
 use Rattle.vax_isa.specs.Rows.{with_opcode}
 use Rattle.vax_vectors.specs.Choices.{mode_of, opcode_of}
 use Rattle.vax_vectors.specs.Text.{json_text}
-use Rattle.vax_vectors.specs.Truth.{IsTold}
+use Rattle.vax_vector_runs.specs.Exact.{IsExact}
 use Rattle.vax_vectors.specs.declared.vector.Vector.{Vector}
 use Rattle.vax_vector_lines.specs.declared.write.Extent.{Extent}
 use Rattle.vax_vector_lines.specs.declared.write.Extent.TheVariants.{Whole, Part}
@@ -37,7 +37,7 @@ choices (page ∷ pages) = pairs page pages ++ choices pages
 -- the line of a true vector with these pages absent
 pub record IsLineWithout (whole : Vector) (absent : List ℕ) (text : List ℕ) : Type 0 where
   pub vector : Vector
-  pub told : IsTold vector
+  pub told : IsExact vector
   pub without : IsWithout whole absent vector
   pub line : text ≡ json_text vector
 
@@ -58,7 +58,7 @@ AreLinesWithout whole (absent ∷ more) text = AreBoth (IsLineWithout whole abse
 -- those that it touches.
 pub record IsGroup (opcode mode : ℕ) (absent : Bool) (text : List ℕ) : Type 0 where
   pub vector : Vector
-  pub told : IsTold vector
+  pub told : IsExact vector
   pub of : IsOf opcode mode vector
   pub others : List ℕ
   pub without : AreLinesWithout vector (if absent then choices vector.touched.items else []) others
@@ -82,7 +82,7 @@ AreOfAll mode absent count (suc code) text =
 -- the text is the lines of vectors, each of them true
 pub record AreVectors (text : List ℕ) : Type 0 where
   pub vectors : List Vector
-  pub told : All IsTold vectors
+  pub told : All IsExact vectors
   pub lines : text ≡ flat_map json_text vectors
 
 -- such text was appended

@@ -2,7 +2,8 @@
 ghost use Rattle.std.specs.Prelude.{◌≡◌, ◌++◌, List, [], IfOk};
 ghost use Rattle.vax_vectors.specs.declared.vector.Cell.{Cell};
 ghost use Rattle.vax_vectors.specs.Choices.{opcode_of};
-ghost use Rattle.vax_vectors.specs.Truth.{IsTold, told};
+ghost use Rattle.vax_vectors.specs.Truth.{told};
+ghost use Rattle.vax_vector_runs.specs.Exact.{IsExact};
 ghost use Rattle.vax_vector_lines.specs.Lines.{IsOf, IsWithout};
 
 use std::alloc::Global;
@@ -130,7 +131,7 @@ fn with_opcode(
 /// The vector of a case, with no page absent. Where the step is completed, memory has at the start the bytes alone that it reads or writes, and
 /// the opcode.
 pub(crate) fn whole(alloc: Global, bench: &mut Workbench, case: Case) -> Result<Vector, NoVector>
-    ensures told { IfOk result IsTold }
+    ensures told { IfOk result IsExact }
     ensures of { IfOk result (IsOf case.opcode case.mode) }
 {
     let start = start_of(alloc, case)?;
@@ -154,7 +155,7 @@ pub(crate) fn without(
     whole: &Vector,
     absent: &[u32],
 ) -> Result<Vector, NoVector>
-    ensures told { IfOk result IsTold }
+    ensures told { IfOk result IsExact }
     ensures without { IfOk result (IsWithout whole.now absent.now) }
 {
     let start = Start {

@@ -1,18 +1,22 @@
 -- What a memory keeps, access by access.
-use Rattle.std.proofs.Common.{◌≡◌, ℕ, zero, suc, ◌+◌, ◌*◌, ◌/◌, ◌%◌, Option, Some, None, Ok, List, [], ◌∷◌, ◌++◌, length, refl, sym, ap, subst, ◌∙◌, append_assoc, append-nil, arith, IsTrue}
+use Rattle.std.proofs.Common.{◌≡◌, ℕ, zero, suc, ◌+◌, ◌*◌, ◌/◌, ◌%◌, ◌<◌, ◌≤◌, Bool, true, false, nat_lt, Option, Some, None, Ok, Err, List, [], ◌∷◌, ◌++◌, length, refl, sym, ap, subst, ◌∙◌, append_assoc, append-nil, arith, IsTrue, map, if◌then◌else◌}
+use Rattle.std.proofs.lemmas.Bool.Decides.{nat_tests}
+use Rattle.std.proofs.lemmas.List.{length-map, map-append}
+use Rattle.vax_space.specs.declared.Violation.{Violation}
 use Rattle.std.proofs.Math.Path.{fun_ext}
 use Rattle.vax_space.specs.declared.Access.{Access}
 use Rattle.vax_space.specs.declared.Access.TheVariants.{Read, Write}
 use Rattle.vax_flat.specs.declared.Stop.{Stop}
 use Rattle.vax_flat.specs.Memory.{after, number, bytes_from}
-use Rattle.vax_flat.specs.Port.{AreBytes, View, loaded_by, unless_cut, with_number, with_run}
+use Rattle.vax_flat.specs.Port.{AreBytes, View, loaded_by, stop_of, unless_cut, with_number, with_run}
 use Rattle.vax_undo.specs.Blocks.{low_bytes}
+use Rattle.vax_undo.specs.Trail.{KeptUpTo, Made, NoneKept, Trail, noted, unless_stopped}
 use Rattle.vax_undo.proofs.Numbers.{put_is}
 use Rattle.vax_undo.proofs.Ranges.{bytes_length}
 use Rattle.vax_vectors.specs.declared.vector.Touch.{Touch}
 use Rattle.vax_vectors.specs.Truth.{AreInOrder, GivesWhatIsThere, after_access, bytes_after}
 use Rattle.vax_vector_memory.specs.declared.recorder.Recorder.{Recorder}
-use Rattle.vax_vector_memory.specs.Record.{IsKept, Keeps, Since, view_of}
+use Rattle.vax_vector_memory.specs.Record.{IsKept, Keeps, Since, made_of, most_kept, trail_by, view_of}
 
 bytes-push : (byte : ℕ → ℕ) (ts : List Touch) (t : Touch) → bytes_after byte (ts ++ t ∷ []) ≡ after_access t.access (bytes_after byte ts) t.addr t.bytes.items
 unfolding bytes_after
@@ -79,6 +83,13 @@ low-number f addr (suc n) are =
     ap (λ (b : ℕ). b ∷ low_bytes n ((f addr + 256 * number f (after addr) n) / 256)) low
     ∙ ap (λ (bs : List ℕ). f addr ∷ bs) (ap (low_bytes n) high ∙ low-number f (after addr) n are)
 
+-- the bytes of a number that was read
+pub read_is : (f : ℕ → ℕ) (addr n v : ℕ) (s : Option Stop) → AreBytes f → Ok v ≡ loaded_by s (number f addr n) → low_bytes n v ≡ bytes_from f addr n
+read_is f addr n v (Some s) are e = absurd (cc)
+read_is f addr n v None are e =
+    let is : v ≡ number f addr n = cc in
+    ap (low_bytes n) is ∙ low-number f addr n are
+
 low-size : (n v : ℕ) → length (low_bytes n v) ≡ n
 unfolding low_bytes
 low-size zero v = refl
@@ -109,3 +120,49 @@ run_gives f addr n bs is =
 pub run_leaves : (view after : View) (addr : ℕ) (bs : List ℕ) (s : Option Stop) → None ≡ s → after ≡ unless_cut s view (with_run view addr bs) → after.byte ≡ after_access Write view.byte addr bs
 run_leaves view after addr bs (Some s) none is = absurd (cc)
 run_leaves view after addr bs None none is = ap (λ (w : View). w.byte) is
+
+-- one access more, where there is room
+pub one_kept : (all : Bool) (old new : List Touch) (t : Touch) → length old < 4096 → new ≡ old ++ t ∷ [] → trail_by all new ≡ noted (trail_by all old) (made_of t)
+unfolding noted
+one_kept true old new t room is =
+    let few : nat_lt (length (map made_of old)) most_kept ≡ true = rw length-map (grind (arith, nat_tests)) in
+    ap (λ ts. KeptUpTo most_kept (map made_of ts)) is ∙ (ap (λ ms. KeptUpTo most_kept ms) (map-append made_of old (t ∷ [])) ∙ rw few refl)
+one_kept false old new t room is = refl
+
+-- where there is none
+pub none_kept : (all : Bool) (old : List Touch) (m : Made) → 4096 ≤ length old → NoneKept ≡ noted (trail_by all old) m
+unfolding noted
+none_kept true old m full =
+    let many : nat_lt (length (map made_of old)) most_kept ≡ false = rw length-map (grind (arith, nat_tests)) in
+    rw many refl
+none_kept false old m full = refl
+
+-- a range that may be used and is there
+free : (v w : Option Violation) (p : Option ℕ) (x y : ℕ) → None ≡ v → Ok y ≡ loaded_by (stop_of w p) x → stop_of v p ≡ None
+free (Some v) w p x y none ok = absurd (cc)
+free None (Some w) p x y none ok = absurd (cc)
+free None None (Some p) x y none ok = absurd (cc)
+free None None None x y none ok = refl
+
+-- the accesses after one that is made
+pub made_so : (v w : Option Violation) (p : Option ℕ) (x y : ℕ) (old new more : Trail) → None ≡ v → Ok y ≡ loaded_by (stop_of w p) x → new ≡ more → new ≡ unless_stopped (stop_of v p) old more
+made_so v w p x y old new more none ok is = is ∙ ap (λ (s : Option Stop). unless_stopped s old more) (sym (free v w p x y none ok))
+
+-- after one that is stopped
+pub stopped_so : (s : Option Stop) (x : ℕ) (why : Stop) (old more : Trail) → Err why ≡ loaded_by s x → old ≡ unless_stopped s old more
+stopped_so (Some s) x why old more is = refl
+stopped_so None x why old more is = absurd (cc)
+
+-- the same of runs
+run_free : (v w : Option Violation) (p : Option ℕ) → None ≡ v → None ≡ stop_of w p → stop_of v p ≡ None
+run_free (Some v) w p none ok = absurd (cc)
+run_free None (Some w) p none ok = absurd (cc)
+run_free None None (Some p) none ok = absurd (cc)
+run_free None None None none ok = refl
+
+pub run_made_so : (v w : Option Violation) (p : Option ℕ) (old new more : Trail) → None ≡ v → None ≡ stop_of w p → new ≡ more → new ≡ unless_stopped (stop_of v p) old more
+run_made_so v w p old new more none ok is = is ∙ ap (λ (s : Option Stop). unless_stopped s old more) (sym (run_free v w p none ok))
+
+pub run_stopped_so : (s : Option Stop) (why : Stop) (old more : Trail) → Some why ≡ s → old ≡ unless_stopped s old more
+run_stopped_so (Some s) why old more is = refl
+run_stopped_so None why old more is = absurd (cc)

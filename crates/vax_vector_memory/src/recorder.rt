@@ -1,19 +1,19 @@
 //! Memory that keeps what is read from it and written to it.
-ghost use Rattle.std.specs.Prelude.{◌≡◌, map};
+ghost use Rattle.std.specs.Prelude.{◌≡◌, ◌≤◌, map, vec_capacity};
 ghost use Rattle.vax_undo.specs.Plain.{view_of as plain_view};
 ghost use Rattle.vax_vector_memory.specs.Pages.{guarded, unguarded};
 
 use crate::areas::{guarded_space, unguarded_memory};
 use crate::error::NoVector;
 use crate::fill::fill;
+use arrayvec::ArrayVec;
 use std::alloc::Global;
-use std::mem;
 use vax_space::{Access, Space, Violation};
 use vax_undo::{Plain, Port, Stop, put_number};
 use vax_vectors::{Cell, Page, Touch};
 
 /// Memory of pages of which any may be absent, with what was read from it and written to it since it was told to forget that. It is made
-/// once, and filled anew for each step.
+/// once, and filled anew for each step. It keeps at most 4,096 accesses.
 #[derive(Drop)]
 pub struct Recorder {
     alloc: Global,
@@ -23,19 +23,21 @@ pub struct Recorder {
     /// The bytes, with which every mode may do all.
     memory: Plain,
     touches: Vec<Touch>,
-    /// Whether all of it is among `touches`. It isn't where memory was refused.
+    /// Whether all of it is among `touches`. It isn't where it was more than is kept.
     complete: bool,
     ghost rights_are: { rights ≡ map guarded pages.items },
     ghost areas_are: { (plain_view memory).areas ≡ map unguarded pages.items },
+    ghost room: { 4096 ≤ vec_capacity touches },
 }
 
 impl Recorder {
-    ghost use Rattle.std.specs.Prelude.{◌<◌, ◌≤◌, ◌^◌, ◌+◌, length, is_some, IsTrue, IfSome, IfOk, OnOk, []};
+    ghost use Rattle.std.specs.Prelude.{◌<◌, ◌^◌, ◌+◌, length, is_some, IsTrue, IfSome, IfOk, OnOk, []};
     ghost use Rattle.vax_space.specs.Areas.{area_of};
     ghost use Rattle.vax_undo.specs.Blocks.{low_bytes};
     ghost use Rattle.vax_undo.specs.Plain.{with_page};
     ghost use Rattle.vax_vectors.specs.Truth.{memory_of};
-    ghost use Rattle.vax_vector_memory.specs.Record.{Keeps, view_of};
+    ghost use Rattle.vax_undo.specs.Trail.{noted};
+    ghost use Rattle.vax_vector_memory.specs.Record.{Keeps, trail_of, view_of};
     ghost use Rattle.vax_vector_memory.specs.Seen.{seen};
 
     /// Memory of these pages.
@@ -49,7 +51,7 @@ impl Recorder {
             pages: Vec::from_slice(alloc, pages)?,
             rights,
             memory,
-            touches: Vec::new(alloc),
+            touches: Vec::with_capacity(alloc, 4096)?,
             complete: true,
         })
     }
@@ -103,31 +105,42 @@ impl Recorder {
         &self.touches
     }
 
-    /// Hands out what was read and written; none where not all of it was kept.
+    /// Hands out what was read and written; none where not all of it was kept, or where memory is refused.
     pub fn take_touches(&mut self) -> Option<Vec<Touch>>
         ensures { IfSome result (λ touches.
             IsTrue self.old.complete × (touches.items ≡ self.old.touches.items)) }
     {
-        let touches = mem::replace(&mut self.touches, Vec::new(self.alloc));
+        let mut touches = Vec::new(self.alloc);
+        if touches.append(&mut self.touches).is_err() {
+            return None;
+        }
         if self.complete { Some(touches) } else { None }
     }
 
-    /// Keeps an access.
+    /// Keeps an access of at most 512 bytes.
+    #[tactic(auto, using(crate::proofs::Keeping::one_kept, crate::proofs::Keeping::none_kept))]
     fn keep(&mut self, access: Access, addr: u32, bytes: &[u8])
+        requires { length bytes.now ≤ 512 }
+        ensures trail { trail_of self.new ≡ noted (trail_of self.old)
+            (record { access = access; addr = addr; bytes = bytes.now }) }
         ensures view { view_of self.new ≡ view_of self.old }
         ensures kept { IsTrue self.new.complete → Keeps self.old self.new access addr bytes.now }
     {
-        let Ok(bytes) = Vec::from_slice(self.alloc, bytes) else {
+        if self.touches.len() >= 4096 {
             self.complete = false;
             return;
-        };
+        }
+        let mut kept = ArrayVec::new();
+        if kept.try_extend_from_slice(bytes).is_err() {
+            unreachable!();
+        }
         let touch = Touch {
             access,
             addr,
-            bytes,
+            bytes: kept,
         };
         if self.touches.push(touch).is_err() {
-            self.complete = false;
+            unreachable!();
         }
     }
 
@@ -135,6 +148,8 @@ impl Recorder {
     fn keep_number(&mut self, access: Access, addr: u32, n: u32, value: u64)
         requires some { 1 ≤ n }
         requires few { n ≤ 8 }
+        ensures trail { trail_of self.new ≡ noted (trail_of self.old)
+            (record { access = access; addr = addr; bytes = low_bytes n value }) }
         ensures view { view_of self.new ≡ view_of self.old }
         ensures kept { IsTrue self.new.complete
             → Keeps self.old self.new access addr (low_bytes n value) }
@@ -147,9 +162,11 @@ impl Recorder {
 }
 
 impl Port for Recorder {
-    ghost use Rattle.vax_vector_memory.specs.Record.{Since, view_of};
+    ghost use Rattle.vax_vector_memory.specs.Record.{Since, trail_of, view_of};
 
     ghost view = { view_of };
+
+    ghost trail = { trail_of };
 
     ghost since = { Since };
 

@@ -1,5 +1,5 @@
 -- Attempts at a step while more and more pages are resident, and what the last of them came to.
-use Rattle.std.proofs.Common.{◌≡◌, ◌⊎◌, inl, inr, ℕ, Bool, true, Option, Some, None, List, [], ◌∷◌, ◌++◌, get_or, refl, sym, ap, subst, ◌∙◌, arith, IsTrue}
+use Rattle.std.proofs.Common.{◌≡◌, ◌⊎◌, inl, inr, ℕ, Bool, true, Option, Some, None, List, [], ◌∷◌, ◌++◌, get_or, map, true, refl, sym, ap, subst, ◌∙◌, arith, IsTrue}
 use Rattle.std.specs.Prelude.{is_some, All}
 use Rattle.vax_word.specs.declared.Core.{Core}
 use Rattle.vax_space.specs.declared.Area.{Area}
@@ -10,14 +10,18 @@ use Rattle.vax_flat.specs.declared.Flow.TheVariants as flow
 use Rattle.vax_flat.specs.Accesses.{Leaf, Went, Found}
 use Rattle.vax_flat.specs.Memory.{byte_at}
 use Rattle.vax_flat.specs.Outcome.{Outcome, Ends, Raised, first_missing}
-use Rattle.vax_flat.specs.Parts.{At, Partway, Leaves, outcome_at, touches_at, turn_from, units_after}
+use Rattle.vax_flat.specs.State.{State}
+use Rattle.vax_flat.specs.Parts.{At, part_step, Partway, Leaves, outcome_at, touches_at, turn_from, units_after}
 use Rattle.vax_flat.specs.Port.{View, StandsFor, layout, with_marks}
 use Rattle.vax_flat.specs.Step.{Flat, with_byte_sent}
 use Rattle.vax_undo.specs.Plain.{with_page}
+use Rattle.vax_undo.specs.Trail.{Traced, Trail, KeptUpTo}
 use Rattle.vax_cpu.specs.declared.cpu.Attempt.{Attempt}
 use Rattle.vax_cpu.specs.declared.cpu.Attempt.TheVariants as attempt
 use Rattle.vax_cpu.specs.declared.cpu.Cpu.{Cpu}
 use Rattle.vax_cpu.specs.declared.cpu.Open.{Open}
+use Rattle.vax_cpu.specs.Tried.{start_by, tree_of}
+use Rattle.vax_cpu.specs.Trail.{Trailed, traced_of}
 use Rattle.vax_cpu.specs.Attempt.{Attempted, IsAsBefore, IsAt, LeavesMemory, flat_of}
 use Rattle.vax_vectors.specs.declared.vector.Cell.{Cell}
 use Rattle.vax_vectors.specs.declared.vector.End.{End}
@@ -27,7 +31,10 @@ use Rattle.vax_vector_memory.specs.declared.recorder.Recorder.{Recorder}
 use Rattle.vax_vector_runs.specs.declared.settle.Settled.{Settled}
 use Rattle.vax_vector_runs.specs.Attempts.{IsReady, IsRecord, IsSettled, IsSettling}
 use Rattle.vax_vector_runs.specs.Ends.{EndsWell, IsCell, IsStart}
-use Rattle.vax_vector_memory.specs.Record.{IsKept, Since, view_of}
+use Rattle.vax_vectors.specs.declared.vector.Ends.{Ends}
+use Rattle.vax_vectors.specs.declared.vector.Touch.{Touch}
+use Rattle.vax_vector_memory.specs.Record.{IsKept, Since, made_of, most_kept, trail_by, trail_of, view_of}
+use Rattle.vax_vector_runs.specs.Exact.{ExactBy, begin_at}
 use Rattle.vax_vector_memory.specs.Seen.{seen}
 use Rattle.vax_vector_memory.proofs.Keeping.{since_refl}
 use Rattle.vax_vector_runs.proofs.Order.{IsBegun, among-push, begun_all, begun_more, begun_none}
@@ -64,7 +71,7 @@ at_start {m} {space} {touched} {cpu} {memory} ready = record {
 
 -- the memory forgets what it kept
 pub ready_again : {m : Flat} {space : List Area} {touched : List ℕ} {cpu : Cpu} {memory : Recorder} (fresh : Recorder) → view_of fresh ≡ view_of memory → IsReady m space touched cpu memory → IsReady m space touched cpu fresh
-ready_again fresh same ready = record { machine = ready.machine; closed = ready.closed; view = same ∙ ready.view; areas = ready.areas; whole = ready.whole }
+ready_again fresh same ready = record { machine = ready.machine; closed = ready.closed; view = same ∙ ready.view; areas = ready.areas; bare = ready.bare; whole = ready.whole }
 
 pub tried : {m : Flat} {space : List Area} {touched : List ℕ} {cpu : Cpu} {memory : Recorder} (a : Attempt) (next : Cpu) (after : View) (ready : IsReady m space touched cpu memory)
     → (StandsFor (view_of memory) m.memory → Attempted (view_of memory) (At m) a next after) → Attempted (seen space m.memory touched) (At m) a next after
@@ -88,6 +95,7 @@ going_on {m} {space} {touched} {cpu} {memory} page next after shown more ready b
         closed = latch ∙ ready.closed;
         view = seen_more space m.memory touched page (view_of memory) (view_of after) (view_of shown) ready.view before.1 refl there now;
         areas = ready.areas;
+        bare = ready.bare;
         whole = ready.whole;
       };
       begun = begun_more (touches_at (At m)) touched page begun attempted.0;
@@ -111,20 +119,44 @@ recorded m fresh after none bytes kept =
       bytes = kept.bytes ∙ (ap (λ (f : ℕ → ℕ). bytes_after f kept.touches) bytes ∙ ap (λ ts. bytes_after (byte_at m.memory) ts) all);
     }
 
+all_kept : (complete : Bool) (touches : List Touch) → IsTrue complete → touches ≡ [] → trail_by complete touches ≡ KeptUpTo most_kept []
+all_kept true touches all none = ap (λ ts. KeptUpTo most_kept (map made_of ts)) none
+all_kept false touches all none = absurd all
+
+-- where an attempt begins
+begun_at : {m : Flat} {space : List Area} {touched : List ℕ} {cpu : Cpu} (fresh : Recorder) → IsReady m space touched cpu fresh → cpu.term.out ≡ None → fresh.touches.items ≡ [] → IsTrue fresh.complete
+    → traced_of view_of trail_of cpu.core cpu.term fresh ≡ begin_at m space touched
+begun_at {m} {space} {touched} {cpu} fresh ready unsent none all =
+    ap (λ (x : Flat). record { state = record { core = x.core; input = x.input; taken = x.taken; sent = cpu.term.out }; view = view_of fresh; trail = trail_of fresh }) ready.machine
+    ∙ (ap (λ (o : Option ℕ). record { state = record { core = m.core; input = m.input; taken = m.taken; sent = o }; view = view_of fresh; trail = trail_of fresh }) unsent
+    ∙ (ap (λ (v : View). record { state = (begin_at m space touched).state; view = v; trail = trail_of fresh }) ready.view
+    ∙ ap (λ (t : Trail). record { state = (begin_at m space touched).state; view = seen space m.memory touched; trail = t }) (all_kept fresh.complete fresh.touches.items all none)))
+
+trailed_at : {m : Flat} {space : List Area} {touched : List ℕ} {cpu : Cpu} (fresh : Recorder) (a : Attempt) (trail : Trail) → IsReady m space touched cpu fresh → cpu.term.out ≡ None → fresh.touches.items ≡ [] → IsTrue fresh.complete
+    → Trailed (tree_of cpu.latch) (start_by cpu.latch cpu.core) (traced_of view_of trail_of cpu.core cpu.term fresh) a trail → Trailed part_step m.core (begin_at m space touched) a trail
+trailed_at {m} {space} {touched} {cpu} fresh a trail ready unsent none all made =
+    subst (λ (t : Traced). Trailed part_step m.core t a trail) (begun_at fresh ready unsent none all)
+    (subst (λ (x : Flat). Trailed part_step x.core (traced_of view_of trail_of cpu.core cpu.term fresh) a trail) ready.machine
+    (subst (λ (l : Option Open). Trailed (tree_of l) (start_by l cpu.core) (traced_of view_of trail_of cpu.core cpu.term fresh) a trail) ready.closed made))
+
 -- the attempt that doesn't stop
 pub settled : {m : Flat} {space : List Area} {touched : List ℕ} {cpu : Cpu} {fresh : Recorder} (s : Settled) (next : Cpu) (after : Recorder)
     (ready : IsReady m space touched cpu fresh) → IsBegun (touches_at (At m)) touched → fresh.touches.items ≡ [] → IsTrue fresh.complete
     → s.touched.items ≡ touched → IsSettling s.attempt
     → Attempted (seen space m.memory touched) (At m) s.attempt next (view_of after)
     → (Since fresh fresh → Since fresh after)
+    → cpu.term.out ≡ None
+    → Trailed (tree_of cpu.latch) (start_by cpu.latch cpu.core) (traced_of view_of trail_of cpu.core cpu.term fresh) s.attempt (trail_of after)
     → IsSettled m space s next after
-settled {m} {space} {touched} {cpu} {fresh} s next after ready begun none all is so attempted since = record {
+settled {m} {space} {touched} {cpu} {fresh} s next after ready begun none all is so attempted since unsent made = record {
   order = subst (λ ps. (resident : ℕ → Bool) → first_missing resident (touches_at (At m)) ≡ first_out resident ps) (sym is)
       (begun_all (touches_at (At m)) touched begun (none_missed (seen space m.memory touched) m s.attempt next (view_of after) so attempted));
   settling = so;
   attempted = subst (λ ps. Attempted (seen space m.memory ps) (At m) s.attempt next (view_of after)) (sym is) attempted;
   kept = λ complete. recorded m fresh after none (ap (λ (v : View). v.byte) ready.view) (since (λ _. since_refl fresh all) complete);
+  trail = subst (λ ps. Trailed part_step m.core (begin_at m space ps) s.attempt (trail_of after)) (sym is) (trailed_at fresh s.attempt (trail_of after) ready unsent none all made);
   areas = ready.areas;
+  bare = ready.bare;
 }
 
 -- what a part leaves of a machine
@@ -161,6 +193,10 @@ left {m} {space} {touched} {memory} end now leaves record_of areas same pages ce
       cells = all_there touched (view_of memory).byte now there end.ram.items cells;
     }
 
+kept_are : (complete : Bool) (kept touches : List Touch) → IsTrue complete → touches ≡ kept → trail_by complete kept ≡ KeptUpTo most_kept (map made_of touches)
+kept_are true kept touches all same = ap (λ ts. KeptUpTo most_kept (map made_of ts)) (sym same)
+kept_are false kept touches all same = absurd all
+
 module _ {m : Flat} {space : List Area} {s : Settled} {cpu : Cpu} {memory : Recorder} (all : IsSettled m space s cpu memory) (core : Core) (start : IsStart m core)
     (input : cpu.term.input.items ≡ []) (taken : cpu.term.place ≡ 0) where
   same_flat : (now : List Area) (output : List ℕ) → flat_of cpu now output ≡ record m { core = cpu.core; memory = now; output = output }
@@ -168,6 +204,13 @@ module _ {m : Flat} {space : List Area} {s : Settled} {cpu : Cpu} {memory : Reco
       ap (λ (i : List ℕ). record (flat_of cpu now output) { input = i }) (input ∙ sym start.input)
       ∙ (ap (λ (t : ℕ). record m { core = cpu.core; memory = now; taken = t; output = output; ending = None }) (taken ∙ sym start.taken)
       ∙ ap (λ (e : Option Ending). record m { core = cpu.core; memory = now; output = output; ending = e }) (sym start.ending))
+
+  -- the accesses that are kept are all
+  exact_at : (a : Attempt) (touches : List Touch) → s.attempt ≡ a → IsTrue memory.complete → touches ≡ memory.touches.items → Trailed part_step m.core (begin_at m (layout m.memory) s.touched.items) a (KeptUpTo most_kept (map made_of touches))
+  exact_at a touches is complete same =
+      subst (λ (t : Trail). Trailed part_step m.core (begin_at m (layout m.memory) s.touched.items) a t) (kept_are memory.complete memory.touches.items touches complete same)
+      (subst (λ (areas : List Area). Trailed part_step m.core (begin_at m areas s.touched.items) a (trail_of memory)) (sym (all.areas ∙ all.bare))
+      (subst (λ (x : Attempt). Trailed part_step m.core (begin_at m space s.touched.items) x (trail_of memory)) is all.trail))
 
   -- a step that was completed
   pub step_ends : (end : End) (sent : Option ℕ) → s.attempt ≡ attempt.Step sent → end.core ≡ cpu.core → end.ends ≡ told.Step sent → IsTrue memory.complete × (end.touches.items ≡ memory.touches.items)
@@ -178,6 +221,7 @@ module _ {m : Flat} {space : List Area} {s : Settled} {cpu : Cpu} {memory : Reco
       record {
         found = ap page_missed ends;
         ends = subst (λ e. EndsBy m s.touched.items end e) (sym ends) (a.1.memory, goes, left end a.1.memory a.1.leaves (all.kept kept.0) all.areas kept.1 pages cells);
+        exact = subst (λ (e : Ends). ExactBy m s.touched.items e (map made_of end.touches.items)) (sym ends) (exact_at (attempt.Step sent) end.touches.items is kept.0 kept.1);
       }
 
   -- a part of a step
@@ -199,6 +243,7 @@ module _ {m : Flat} {space : List Area} {s : Settled} {cpu : Cpu} {memory : Reco
       record {
         found = ap page_missed ends;
         ends = subst (λ e. EndsBy m s.touched.items end e) (sym ends) (q.now.memory, goes, left end q.now.memory a.1.leaves (all.kept kept.0) all.areas kept.1 pages cells);
+        exact = subst (λ (e : Ends). ExactBy m s.touched.items e (map made_of end.touches.items)) (sym ends) (exact_at attempt.Part end.touches.items is kept.0 kept.1);
       }
 
   -- a step that ends the run
@@ -209,4 +254,5 @@ module _ {m : Flat} {space : List Area} {s : Settled} {cpu : Cpu} {memory : Reco
       record {
         found = ap page_missed ends;
         ends = subst (λ x. EndsBy m s.touched.items end x) (sym ends) (a.1.step m start.ending refl, same);
+        exact = subst (λ (x : Ends). ExactBy m s.touched.items x (map made_of end.touches.items)) (sym ends) (ap (map made_of) quiet);
       }

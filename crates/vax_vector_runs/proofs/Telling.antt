@@ -1,13 +1,18 @@
 -- What a vector tells, from the last attempt.
-use Rattle.std.proofs.Common.{◌≡◌, ℕ, Some, None, List, [], map, refl, sym, ap, subst, ◌∙◌, arith}
+use Rattle.std.proofs.Common.{◌≡◌, ℕ, Some, None, List, [], ◌∷◌, map, refl, sym, ap, subst, ◌∙◌, arith}
 use Rattle.std.specs.Prelude.{All}
 use Rattle.vax_word.specs.declared.Core.{Core}
+use Rattle.vax_space.specs.declared.Area.{Area}
+use Rattle.vax_flat.specs.Port.{layout}
 use Rattle.vax_flat.specs.Step.{Flat}
 use Rattle.vax_cpu.specs.declared.cpu.Cpu.{Cpu}
 use Rattle.vax_cpu.specs.Attempt.{flat_of}
 use Rattle.vax_vectors.specs.declared.vector.Cell.{Cell}
 use Rattle.vax_vectors.specs.declared.vector.End.{End}
+use Rattle.vax_vectors.specs.declared.vector.Ends.{Ends}
 use Rattle.vax_vectors.specs.declared.vector.Ends.TheVariants as told
+use Rattle.vax_vector_memory.specs.Record.{made_of}
+use Rattle.vax_vector_runs.specs.Exact.{ExactBy}
 use Rattle.vax_vectors.specs.declared.vector.Page.{Page}
 use Rattle.vax_vectors.specs.declared.vector.Start.{Start}
 use Rattle.vax_vectors.specs.Truth.{AreTouchedInOrder, EndsBy, IsAsBefore, IsThere, TellsStep, first_out, machine_of, memory_of, page_missed, resident_of}
@@ -18,6 +23,12 @@ use Rattle.vax_vector_memory.specs.Pages.{guarded}
 use Rattle.vax_vector_memory.specs.Record.{view_of}
 use Rattle.vax_vector_memory.specs.Seen.{seen}
 use Rattle.vax_vector_memory.proofs.Filling.{memory_areas, memory_whole}
+
+-- the areas have no bytes
+bare_areas : (pages : List Page) → layout (map guarded pages) ≡ map guarded pages
+unfolding layout
+bare_areas [] = refl
+bare_areas (page ∷ pages) = ap (λ (areas : List Area). guarded page ∷ areas) (bare_areas pages)
 
 -- a new processor is where the machine is
 pub ready_first : (start : Start) (cpu : Cpu) (memory : Recorder) (pages : List Page) (ram : List Cell) → pages ≡ start.pages.items → ram ≡ start.ram.items
@@ -33,6 +44,7 @@ ready_first start cpu memory pages ram same_pages same_ram core input place clos
   view = view ∙ (ap (λ (r : List Cell). seen (map guarded pages) (memory_of pages r) []) same_ram
       ∙ ap (λ (ps : List Page). seen (map guarded ps) (memory_of ps start.ram.items) []) same_pages);
   areas = memory_areas start.pages.items start.ram.items;
+  bare = bare_areas start.pages.items;
   whole = memory_whole start.pages.items start.ram.items;
 }
 
@@ -55,3 +67,7 @@ end_tells m absent touched end order out well = record {
   missed = order (resident_of absent) ∙ (out ∙ sym well.found);
   ends = well.ends;
 }
+
+-- where a page is absent, there are no accesses
+pub absent_exact : (m : Flat) (touched : List ℕ) (end : End) (page : ℕ) → end.touches.items ≡ [] → end.ends ≡ told.Absent page → ExactBy m touched end.ends (map made_of end.touches.items)
+absent_exact m touched end page quiet ends = subst (λ (e : Ends). ExactBy m touched e (map made_of end.touches.items)) (sym ends) (ap (map made_of) quiet)

@@ -2,7 +2,8 @@
 ghost use Rattle.std.specs.Prelude.{◌≡◌, List, IfOk, OnOk, None, All, [], true, IsTrue};
 ghost use Rattle.vax_space.specs.declared.Area.{Area};
 ghost use Rattle.vax_flat.specs.Step.{Flat};
-ghost use Rattle.vax_vectors.specs.Truth.{IsTold, first_out, is_among, pages_after, resident_of, with_pages};
+ghost use Rattle.vax_vector_runs.specs.Exact.{IsExact};
+ghost use Rattle.vax_vectors.specs.Truth.{first_out, is_among, pages_after, resident_of, with_pages};
 ghost use Rattle.vax_vector_runs.specs.Attempts.{IsSettled};
 ghost use Rattle.vax_vector_runs.specs.Ends.{EndsWell, IsCell, IsStart};
 ghost use Rattle.vax_vector_memory.specs.Record.{view_of};
@@ -48,7 +49,7 @@ fn addresses_of(alloc: Global, touches: &[Touch]) -> Result<Vec<u32>, NoMemory> 
     let mut addresses = Vec::new(alloc);
     for touch in touches {
         let mut addr = touch.addr;
-        for _ in &touch.bytes {
+        for _ in touch.bytes.as_slice() {
             if addresses.push(addr).is_err() {
                 return Err(NoMemory);
             }
@@ -83,7 +84,7 @@ fn pages_of(alloc: Global, touches: &[Touch]) -> Result<Vec<u32>, NoMemory>
 {
     let mut pages = Vec::new(alloc);
     for touch in touches {
-        add_pages(&mut pages, touch.addr, touch.bytes.len())?;
+        add_pages(&mut pages, touch.addr, touch.bytes.as_slice().len())?;
     }
     Ok(pages)
 }
@@ -214,7 +215,7 @@ impl Workbench {
     /// The vector of the first part of a step with this start, in a machine with no input. It fails where memory is
     /// refused, or where the pages are no space. It takes longer where the pages are others than the last vector's.
     pub fn vector_of(&mut self, name: Vec<u8>, start: Start) -> Result<Vector, NoVector>
-        ensures told { IfOk result IsTold }
+        ensures exact { IfOk result IsExact }
         ensures start { IfOk result (λ v. v.start ≡ start) }
         ensures name { IfOk result (λ v. v.name ≡ name) }
     {

@@ -22,7 +22,7 @@ fn pages_of(alloc: Global, told: &Vector) -> Result<Vec<u32>, Fail> {
     let mut pages = Vec::new(alloc);
     for touch in &told.end.touches {
         let mut addr = touch.addr;
-        for _ in &touch.bytes {
+        for _ in touch.bytes.as_slice() {
             if !pages.contains(&(addr / 512)) {
                 pages.push(addr / 512)?;
             }

@@ -79,7 +79,7 @@ impl Item for Touch {
         out.extend_from_slice(b",")?;
         push_number(out, u64::from(self.addr))?;
         out.extend_from_slice(b",")?;
-        push_number(out, self.bytes.len() as u64)?;
+        push_number(out, self.bytes.as_slice().len() as u64)?;
         out.extend_from_slice(b",")?;
         push_array(out, self.bytes.as_slice())?;
         out.extend_from_slice(b"]")

@@ -1,4 +1,5 @@
 //! Test vectors.
+use arrayvec::ArrayVec;
 use vax_flat::Ending;
 use vax_space::Access;
 use vax_word::Core;
@@ -22,8 +23,8 @@ pub struct Page {
 pub struct Touch {
     pub access: Access,
     pub addr: u32,
-    /// What was read or written, by ascending addresses.
-    pub bytes: Vec<u8>,
+    /// What was read or written, by ascending addresses: at most a page.
+    pub bytes: ArrayVec<u8, 512>,
 }
 
 /// How a step ended.

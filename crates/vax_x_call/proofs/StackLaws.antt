@@ -9,11 +9,11 @@ use Rattle.vax_word.specs.Status.{is_one}
 use Rattle.vax_flat.specs.State.{State, register, with_register, mode}
 use Rattle.std.specs.Result.{IsErr}
 use Rattle.vax_flat.specs.Port.{View}
-use Rattle.vax_flat.specs.OverPort.{Arrival, Stops, goes_on}
 use Rattle.vax_flat.specs.Accesses.{Accesses, Reads, Leaf}
 use Rattle.vax_flat.specs.Operand.{plus, read_at, write_at}
 use Rattle.vax_undo.specs.declared.txn.CutShort.{CutShort}
 use Rattle.vax_undo.specs.declared.txn.Txn.{Txn as Transaction}
+use Rattle.vax_undo.specs.Trail.{Trail, Landing, Breaks, lands_on}
 use Rattle.vax_undo.specs.Transaction.{Keeps, told}
 use Rattle.vax_x_call.specs.Stack.{links_pushed, links_restored, restored_if, saved_if}
 use Rattle.vax_flat.specs.Call.{pushed_one, pushed_below, popped_from, named, with_registers, saved, restored, linked, frame}
@@ -161,9 +161,9 @@ links_popped mask addr s next =
     restored_more 13 (15 ∷ ns) b t next ∙ ap (λ f. restored (13 ∷ []) b t f) (fun_ext λ d. fun_ext λ u. restored_more 15 ns d u next))
 
 -- what a call answers that is cut short
-pub stopped : {X P : Type 0} (t : Transaction P) (r : Result X CutShort) (marked : ℕ → Bool) (next : X → Arrival Leaf) → IsErr r → goes_on (told t r) marked next ≡ Stops t.why marked
-stopped t (Ok x) marked next e = let no : false ≡ true = e in cc
-stopped t (Err short) marked next e = refl
+pub stopped : {X P : Type 0} (t : Transaction P) (r : Result X CutShort) (marked : ℕ → Bool) (trail : Trail) (next : X → Landing Leaf) → IsErr r → lands_on (told t r) marked trail next ≡ Breaks t.why marked trail
+stopped t (Ok x) marked trail next e = let no : false ≡ true = e in cc
+stopped t (Err short) marked trail next e = refl
 
 -- calls one after the other
 pub keeps_more : {P : Type 0} (view : P → View) (along : P → P → Type 0) (a b count : ℕ) (x y z : Transaction P) → a + b ≤ count → Keeps view along a x y → Keeps view along b y z → Keeps view along count x z

@@ -26,7 +26,7 @@ use vax_undo::{CutShort, Port, Txn};
 /// of a frame's status aren't 0, or the first page that it needs and that is absent.
 pub fn run<P: Port>(txn: &mut Txn<P>, instruction: Call) -> Result<Flow, CutShort>
     requires { room_of_call ≤ room txn.old }
-    ensures exact { Does P.view (performed instruction) result txn.old txn.new }
+    ensures exact { Does P.view P.trail (performed instruction) result txn.old txn.new }
     ensures everywhere { GoesEverywhere P.view (performed instruction) result txn.old txn.new }
     ensures keeps { Keeps P.view P.since room_of_call txn.old txn.new }
 {

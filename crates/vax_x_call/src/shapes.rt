@@ -14,7 +14,7 @@ use vax_word::{Psl, Size};
 #[tactic(auto, unfolding(vax_flat::specs::Call::push_registers, vax_flat::specs::Call::registers_pushed))]
 fn push_registers<P: Port>(txn: &mut Txn<P>) -> Result<Flow, CutShort>
     requires { 20 ≤ room txn.old }
-    ensures exact { Does P.view call.push_registers result txn.old txn.new }
+    ensures exact { Does P.view P.trail call.push_registers result txn.old txn.new }
     ensures keeps { Keeps P.view P.since 20 txn.old txn.new }
 {
     let mask = next_value(txn, Size::W)?;
@@ -27,7 +27,7 @@ fn push_registers<P: Port>(txn: &mut Txn<P>) -> Result<Flow, CutShort>
 #[tactic(auto, unfolding(vax_flat::specs::Call::pop_registers, vax_flat::specs::Call::registers_popped))]
 fn pop_registers<P: Port>(txn: &mut Txn<P>) -> Result<Flow, CutShort>
     requires { 20 ≤ room txn.old }
-    ensures exact { Does P.view call.pop_registers result txn.old txn.new }
+    ensures exact { Does P.view P.trail call.pop_registers result txn.old txn.new }
     ensures keeps { Keeps P.view P.since 20 txn.old txn.new }
 {
     let mask = next_value(txn, Size::W)?;
@@ -68,7 +68,7 @@ pub fn entry_status(mask: u32, psl: Psl) -> Psl
 #[tactic(auto, using(crate::proofs::Closed::entry_closed), unfolding(vax_flat::specs::Call::at_procedure))]
 fn go_to<P: Port>(txn: &mut Txn<P>, procedure: u32, mask: u32, arguments: u32, bottom: u32)
     requires { 5 ≤ room txn.old }
-    ensures exact { Updates P.view (call.at_procedure procedure mask arguments bottom)
+    ensures exact { Updates P.view P.trail (call.at_procedure procedure mask arguments bottom)
         txn.old txn.new }
     ensures keeps { Keeps P.view P.since 5 txn.old txn.new }
 {
@@ -91,7 +91,7 @@ fn enter<P: Port>(
     on_stack: bool,
 ) -> Result<Flow, CutShort>
     requires { 22 ≤ room txn.old }
-    ensures exact { Does P.view (call.entered procedure mask arguments top on_stack)
+    ensures exact { Does P.view P.trail (call.entered procedure mask arguments top on_stack)
         result txn.old txn.new }
     ensures keeps { Keeps P.view P.since 22 txn.old txn.new }
 {
@@ -102,9 +102,9 @@ fn enter<P: Port>(
 }
 
 /// Reads a procedure's entry mask.
-#[tactic(auto, using(vax_flat::proofs::Leaves::over_port_raises), unfolding(vax_flat::specs::Call::entry_mask))]
+#[tactic(auto, using(vax_undo::proofs::Trail::over_trail_raises), unfolding(vax_flat::specs::Call::entry_mask))]
 fn entry_mask<P: Port>(txn: &mut Txn<P>, procedure: u32) -> Result<u32, CutShort>
-    ensures exact { Does P.view (call.entry_mask procedure) result txn.old txn.new }
+    ensures exact { Does P.view P.trail (call.entry_mask procedure) result txn.old txn.new }
     ensures same { present P.view txn.new ≡ present P.view txn.old }
     ensures keeps { Keeps P.view P.since 0 txn.old txn.new }
 {
@@ -119,7 +119,7 @@ fn entry_mask<P: Port>(txn: &mut Txn<P>, procedure: u32) -> Result<u32, CutShort
 #[tactic(auto, unfolding(vax_flat::specs::Call::call_with_list, vax_flat::specs::Call::called_with_list))]
 fn call_with_list<P: Port>(txn: &mut Txn<P>) -> Result<Flow, CutShort>
     requires { 30 ≤ room txn.old }
-    ensures exact { Does P.view call.call_with_list result txn.old txn.new }
+    ensures exact { Does P.view P.trail call.call_with_list result txn.old txn.new }
     ensures keeps { Keeps P.view P.since 30 txn.old txn.new }
 {
     let arguments = next_address(txn, Size::B)?;
@@ -133,7 +133,7 @@ fn call_with_list<P: Port>(txn: &mut Txn<P>) -> Result<Flow, CutShort>
 #[tactic(auto, unfolding(vax_flat::specs::Call::call_with_stack, vax_flat::specs::Call::called_with_stack))]
 fn call_with_stack<P: Port>(txn: &mut Txn<P>) -> Result<Flow, CutShort>
     requires { 31 ≤ room txn.old }
-    ensures exact { Does P.view call.call_with_stack result txn.old txn.new }
+    ensures exact { Does P.view P.trail call.call_with_stack result txn.old txn.new }
     ensures keeps { Keeps P.view P.since 31 txn.old txn.new }
 {
     let count = next_value(txn, Size::L)?;
@@ -167,7 +167,8 @@ pub fn return_status(word: u32, psl: Psl) -> Psl
 #[inline]
 #[tactic(auto, unfolding(vax_flat::specs::Call::behind_arguments))]
 fn behind_arguments<P: Port>(txn: &mut Txn<P>, on_stack: bool, top: u32) -> Result<u32, CutShort>
-    ensures exact { Does P.view (call.behind_arguments on_stack top) result txn.old txn.new }
+    ensures exact { Does P.view P.trail (call.behind_arguments on_stack top)
+        result txn.old txn.new }
     ensures same { present P.view txn.new ≡ present P.view txn.old }
     ensures keeps { Keeps P.view P.since 0 txn.old txn.new }
 {
@@ -182,7 +183,7 @@ fn behind_arguments<P: Port>(txn: &mut Txn<P>, on_stack: bool, top: u32) -> Resu
 #[tactic(auto, using(crate::proofs::Closed::return_closed), unfolding(vax_flat::specs::Call::unwound))]
 fn unwind<P: Port>(txn: &mut Txn<P>, word: u32) -> Result<Flow, CutShort>
     requires { 17 ≤ room txn.old }
-    ensures exact { Does P.view (call.unwound word) result txn.old txn.new }
+    ensures exact { Does P.view P.trail (call.unwound word) result txn.old txn.new }
     ensures keeps { Keeps P.view P.since 17 txn.old txn.new }
 {
     let from = txn.reg(13).wrapping_add(8);
@@ -196,10 +197,10 @@ fn unwind<P: Port>(txn: &mut Txn<P>, word: u32) -> Result<Flow, CutShort>
 }
 
 /// RET.
-#[tactic(auto, using(vax_flat::proofs::Leaves::over_port_raises), unfolding(vax_flat::specs::Call::return_from))]
+#[tactic(auto, using(vax_undo::proofs::Trail::over_trail_raises), unfolding(vax_flat::specs::Call::return_from))]
 fn return_from<P: Port>(txn: &mut Txn<P>) -> Result<Flow, CutShort>
     requires { 17 ≤ room txn.old }
-    ensures exact { Does P.view call.return_from result txn.old txn.new }
+    ensures exact { Does P.view P.trail call.return_from result txn.old txn.new }
     ensures keeps { Keeps P.view P.since 17 txn.old txn.new }
 {
     let at = txn.reg(13).wrapping_add(4);
@@ -215,7 +216,7 @@ fn return_from<P: Port>(txn: &mut Txn<P>) -> Result<Flow, CutShort>
 #[tactic(auto, unfolding(vax_flat::specs::Call::performed))]
 pub(crate) fn perform<P: Port>(txn: &mut Txn<P>, instruction: Call) -> Result<Flow, CutShort>
     requires { 31 ≤ room txn.old }
-    ensures exact { Does P.view (call.performed instruction) result txn.old txn.new }
+    ensures exact { Does P.view P.trail (call.performed instruction) result txn.old txn.new }
     ensures keeps { Keeps P.view P.since 31 txn.old txn.new }
 {
     match instruction {

@@ -12,10 +12,10 @@ use vax_undo::{CutShort, Port, Txn};
 
 /// Writes a longword. With the width known it takes three quarters of what [`vax_operand::write`] does.
 #[inline(never)]
-#[tactic(auto, unfolding(vax_flat::specs::OverPort::over_port, vax_flat::specs::Operand::write_at))]
+#[tactic(auto, unfolding(vax_undo::specs::Trail::over_trail, vax_flat::specs::Operand::write_at))]
 fn write_long<P: Port>(txn: &mut Txn<P>, addr: u32, value: u32) -> Result<(), CutShort>
     requires { 1 ≤ room txn.old }
-    ensures exact { Acts P.view (write_at addr 4 value) result txn.old txn.new }
+    ensures exact { Acts P.view P.trail (write_at addr 4 value) result txn.old txn.new }
     ensures keeps { Keeps P.view P.since 1 txn.old txn.new }
 {
     let mode = txn.psl().mode();
@@ -30,7 +30,7 @@ fn write_long<P: Port>(txn: &mut Txn<P>, addr: u32, value: u32) -> Result<(), Cu
 #[tactic(auto, unfolding(vax_flat::specs::Call::pushed_one))]
 pub(crate) fn push_below<P: Port>(txn: &mut Txn<P>, value: u32, top: u32) -> Result<u32, CutShort>
     requires { 1 ≤ room txn.old }
-    ensures exact { Does P.view (pushed_one value top) result txn.old txn.new }
+    ensures exact { Does P.view P.trail (pushed_one value top) result txn.old txn.new }
     ensures keeps { Keeps P.view P.since 1 txn.old txn.new }
 {
     let at = top.wrapping_sub(4);
@@ -44,7 +44,7 @@ pub(crate) fn push_below<P: Port>(txn: &mut Txn<P>, value: u32, top: u32) -> Res
 fn restore_one<P: Port>(txn: &mut Txn<P>, n: u8, from: u32) -> Result<u32, CutShort>
     requires of_core { n < 16 }
     requires room { 1 ≤ room txn.old }
-    ensures exact { Does P.view (restored (n ∷ []) from) result txn.old txn.new }
+    ensures exact { Does P.view P.trail (restored (n ∷ []) from) result txn.old txn.new }
     ensures keeps { Keeps P.view P.since 1 txn.old txn.new }
 {
     let value = read(txn, from, 4)?;
@@ -57,7 +57,7 @@ fn restore_one<P: Port>(txn: &mut Txn<P>, n: u8, from: u32) -> Result<u32, CutSh
 fn save_if<P: Port>(txn: &mut Txn<P>, mask: u32, n: u8, top: u32) -> Result<u32, CutShort>
     requires of_core { n < 16 }
     requires room { 1 ≤ room txn.old }
-    ensures exact { Does P.view (saved_if (is_one mask n) n top) result txn.old txn.new }
+    ensures exact { Does P.view P.trail (saved_if (is_one mask n) n top) result txn.old txn.new }
     ensures keeps { Keeps P.view P.since 1 txn.old txn.new }
 {
     if (mask >> n) % 2 == 1 {
@@ -72,7 +72,8 @@ fn save_if<P: Port>(txn: &mut Txn<P>, mask: u32, n: u8, top: u32) -> Result<u32,
 fn restore_if<P: Port>(txn: &mut Txn<P>, mask: u32, n: u8, from: u32) -> Result<u32, CutShort>
     requires of_core { n < 16 }
     requires room { 1 ≤ room txn.old }
-    ensures exact { Does P.view (restored_if (is_one mask n) n from) result txn.old txn.new }
+    ensures exact { Does P.view P.trail (restored_if (is_one mask n) n from)
+        result txn.old txn.new }
     ensures keeps { Keeps P.view P.since 1 txn.old txn.new }
 {
     if (mask >> n) % 2 == 1 {
@@ -108,7 +109,7 @@ pub(crate) fn save<P: Port>(
 ) -> Result<u32, CutShort>
     requires of_core { count ≤ 15 }
     requires room { count ≤ room txn.old }
-    ensures exact { Does P.view (saved (named count mask) top) result txn.old txn.new }
+    ensures exact { Does P.view P.trail (saved (named count mask) top) result txn.old txn.new }
     ensures keeps { Keeps P.view P.since count txn.old txn.new }
 {
     let mut at = top;
@@ -129,7 +130,7 @@ pub(crate) fn restore<P: Port>(
 ) -> Result<u32, CutShort>
     requires of_core { count ≤ 15 }
     requires room { count ≤ room txn.old }
-    ensures exact { Does P.view (restored (named count mask) from) result txn.old txn.new }
+    ensures exact { Does P.view P.trail (restored (named count mask) from) result txn.old txn.new }
     ensures keeps { Keeps P.view P.since count txn.old txn.new }
 {
     let mut at = from;
@@ -146,7 +147,7 @@ pub(crate) fn restore<P: Port>(
 #[inline]
 fn push_links<P: Port>(txn: &mut Txn<P>, mask: u32, word: u32, top: u32) -> Result<u32, CutShort>
     requires { 17 ≤ room txn.old }
-    ensures exact { Does P.view (links_pushed mask word top) result txn.old txn.new }
+    ensures exact { Does P.view P.trail (links_pushed mask word top) result txn.old txn.new }
     ensures keeps { Keeps P.view P.since 17 txn.old txn.new }
 {
     let (ap, fp, pc) = (txn.reg(12), txn.reg(13), txn.reg(15));
@@ -167,7 +168,7 @@ pub(crate) fn push_frame<P: Port>(
     top: u32,
 ) -> Result<u32, CutShort>
     requires { 17 ≤ room txn.old }
-    ensures exact { Does P.view (λ s. pushed_below (frame mask word s) top s)
+    ensures exact { Does P.view P.trail (λ s. pushed_below (frame mask word s) top s)
         result txn.old txn.new }
     ensures keeps { Keeps P.view P.since 17 txn.old txn.new }
 {
@@ -178,7 +179,7 @@ pub(crate) fn push_frame<P: Port>(
 #[inline]
 fn restore_links<P: Port>(txn: &mut Txn<P>, mask: u32, from: u32) -> Result<u32, CutShort>
     requires { 15 ≤ room txn.old }
-    ensures exact { Does P.view (links_restored mask from) result txn.old txn.new }
+    ensures exact { Does P.view P.trail (links_restored mask from) result txn.old txn.new }
     ensures keeps { Keeps P.view P.since 15 txn.old txn.new }
 {
     let at = restore_one(txn, 12, from)?;
@@ -194,7 +195,7 @@ pub(crate) fn restore_frame<P: Port>(
     from: u32,
 ) -> Result<u32, CutShort>
     requires { 15 ≤ room txn.old }
-    ensures exact { Does P.view (restored (linked mask) from) result txn.old txn.new }
+    ensures exact { Does P.view P.trail (restored (linked mask) from) result txn.old txn.new }
     ensures keeps { Keeps P.view P.since 15 txn.old txn.new }
 {
     restore_links(txn, mask, from)

@@ -8,12 +8,13 @@ use Rattle.vax_flat.specs.Port.{View}
 use Rattle.vax_flat.specs.Field.{bits_of}
 use Rattle.vax_undo.specs.declared.txn.CutShort.{CutShort}
 use Rattle.vax_undo.specs.declared.txn.Txn.{Txn as Transaction}
+use Rattle.vax_undo.specs.Trail.{Trail}
 use Rattle.vax_undo.specs.Transaction.{Passes}
 
 -- The call makes the accesses of a tree that gives a field of this size, and answers the number that the field's bits are.
-abbrev pub DoesBits : {P : Type 0} → (P → View) → ℕ → (State → (List Bool → State → Accesses Leaf) → Accesses Leaf)
+abbrev pub DoesBits : {P : Type 0} → (P → View) → (P → Trail) → ℕ → (State → (List Bool → State → Accesses Leaf) → Accesses Leaf)
     → Result ℕ CutShort → Transaction P → Transaction P → Type 0
-DoesBits view size tree result old new = Passes view tree (λ next x. next (bits_of size x)) result old new
+DoesBits view trail size tree result old new = Passes view trail tree (λ next x. next (bits_of size x)) result old new
 
 -- so many bytes of memory, or of a register or two of which none is PC
 abbrev pub IsHeld : ℕ → Operand → Type 0

@@ -18,7 +18,7 @@ use vax_word::Size;
 #[tactic(auto, unfolding(vax_flat::specs::Field::base_place))]
 pub(crate) fn next_base<P: Port>(txn: &mut Txn<P>) -> Result<Operand, CutShort>
     requires room { 4 ≤ room txn.old }
-    ensures exact { Does P.view base_place result txn.old txn.new }
+    ensures exact { Does P.view P.trail base_place result txn.old txn.new }
     ensures base { IfOk result IsBase }
     ensures keeps { Keeps P.view P.since 4 txn.old txn.new }
 {
@@ -112,7 +112,8 @@ pub(crate) fn held<P: Port>(txn: &mut Txn<P>, holder: Holder) -> Result<u64, Cut
     requires some { 1 ≤ holder.width }
     requires few { holder.width ≤ 8 }
     requires place { IsHeld holder.width holder.place }
-    ensures exact { Does P.view (value_at holder.width holder.place) result txn.old txn.new }
+    ensures exact { Does P.view P.trail (value_at holder.width holder.place)
+        result txn.old txn.new }
     ensures fits { IfOk result (λ x. x < 256 ^ holder.width) }
     ensures keeps { Keeps P.view P.since 0 txn.old txn.new }
 {
@@ -139,7 +140,8 @@ pub(crate) fn put<P: Port>(txn: &mut Txn<P>, holder: Holder, value: u64) -> Resu
     requires place { IsHeld holder.width holder.place }
     requires fits { value < 256 ^ holder.width }
     requires room { 2 ≤ room txn.old }
-    ensures exact { Acts P.view (stored holder.width holder.place value) result txn.old txn.new }
+    ensures exact { Acts P.view P.trail (stored holder.width holder.place value)
+        result txn.old txn.new }
     ensures keeps { Keeps P.view P.since 2 txn.old txn.new }
 {
     match holder.place {
@@ -152,7 +154,7 @@ pub(crate) fn put<P: Port>(txn: &mut Txn<P>, holder: Holder, value: u64) -> Resu
 
 /// The bits of a field, as a number. An empty field is 0, and nothing is read.
 #[inline(always)]
-#[tactic(auto, using(vax_flat::proofs::Leaves::over_port_raises, crate::proofs::BitLaws::no_bits), unfolding(vax_flat::specs::Field::field_bits, vax_flat::specs::Field::held))]
+#[tactic(auto, using(vax_undo::proofs::Trail::over_trail_raises, crate::proofs::BitLaws::no_bits), unfolding(vax_flat::specs::Field::field_bits, vax_flat::specs::Field::held))]
 pub(crate) fn field_bits<P: Port>(
     txn: &mut Txn<P>,
     position: u32,
@@ -160,7 +162,8 @@ pub(crate) fn field_bits<P: Port>(
     base: Operand,
 ) -> Result<u64, CutShort>
     requires base { IsBase base }
-    ensures exact { DoesBits P.view size (field_bits position size base) result txn.old txn.new }
+    ensures exact { DoesBits P.view P.trail size (field_bits position size base)
+        result txn.old txn.new }
     ensures fits { IfOk result (λ x. x < 2 ^ size) }
     ensures short { IfOk result (λ x. size ≤ 32) }
     ensures keeps { Keeps P.view P.since 0 txn.old txn.new }

@@ -28,7 +28,7 @@ use vax_undo::{CutShort, Port, Txn};
 /// registers and begins behind bit 31 or reaches PC, or the first page that it needs and that is absent. No trap is answered.
 pub fn run<P: Port>(txn: &mut Txn<P>, instruction: Field) -> Result<Flow, CutShort>
     requires { room_of_field ≤ room txn.old }
-    ensures exact { Does P.view (performed instruction) result txn.old txn.new }
+    ensures exact { Does P.view P.trail (performed instruction) result txn.old txn.new }
     ensures everywhere { GoesEverywhere P.view (performed instruction) result txn.old txn.new }
     ensures keeps { Keeps P.view P.since room_of_field txn.old txn.new }
 {

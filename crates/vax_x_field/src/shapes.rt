@@ -29,7 +29,7 @@ fn carry<P: Port>(txn: &Txn<P>) -> bool
 #[tactic(auto, unfolding(vax_flat::specs::Field::extract, vax_flat::specs::Field::extracted))]
 fn extract<P: Port>(txn: &mut Txn<P>, signed: bool) -> Result<Flow, CutShort>
     requires { 19 ≤ room txn.old }
-    ensures exact { Does P.view (field.extract signed) result txn.old txn.new }
+    ensures exact { Does P.view P.trail (field.extract signed) result txn.old txn.new }
     ensures keeps { Keeps P.view P.since 19 txn.old txn.new }
 {
     let position = next_value(txn, Size::L)? as u32;
@@ -45,7 +45,7 @@ fn extract<P: Port>(txn: &mut Txn<P>, signed: bool) -> Result<Flow, CutShort>
 #[tactic(auto, unfolding(vax_flat::specs::Field::compare, vax_flat::specs::Field::compared_field))]
 fn compare<P: Port>(txn: &mut Txn<P>, signed: bool) -> Result<Flow, CutShort>
     requires { 17 ≤ room txn.old }
-    ensures exact { Does P.view (field.compare signed) result txn.old txn.new }
+    ensures exact { Does P.view P.trail (field.compare signed) result txn.old txn.new }
     ensures keeps { Keeps P.view P.since 17 txn.old txn.new }
 {
     let position = next_value(txn, Size::L)? as u32;
@@ -64,7 +64,7 @@ fn compare<P: Port>(txn: &mut Txn<P>, signed: bool) -> Result<Flow, CutShort>
 #[tactic(auto, using(crate::proofs::BitLaws::length_of), unfolding(vax_flat::specs::Field::find_first, vax_flat::specs::Field::found))]
 fn find_first<P: Port>(txn: &mut Txn<P>, set: bool) -> Result<Flow, CutShort>
     requires { 19 ≤ room txn.old }
-    ensures exact { Does P.view (field.find_first set) result txn.old txn.new }
+    ensures exact { Does P.view P.trail (field.find_first set) result txn.old txn.new }
     ensures keeps { Keeps P.view P.since 19 txn.old txn.new }
 {
     let position = next_value(txn, Size::L)? as u32;
@@ -84,7 +84,7 @@ fn find_first<P: Port>(txn: &mut Txn<P>, set: bool) -> Result<Flow, CutShort>
 }
 
 /// The field of INSV becomes the lowest bits of the source.
-#[tactic(auto, using(vax_flat::proofs::Leaves::over_port_raises), unfolding(vax_flat::specs::Field::inserted, vax_flat::specs::Field::held, vax_flat::specs::Field::put))]
+#[tactic(auto, using(vax_undo::proofs::Trail::over_trail_raises), unfolding(vax_flat::specs::Field::inserted, vax_flat::specs::Field::held, vax_flat::specs::Field::put))]
 fn insert_bits<P: Port>(
     txn: &mut Txn<P>,
     source: u64,
@@ -94,7 +94,8 @@ fn insert_bits<P: Port>(
 ) -> Result<Flow, CutShort>
     requires base { IsBase base }
     requires room { 2 ≤ room txn.old }
-    ensures exact { Does P.view (field.inserted source position size base) result txn.old txn.new }
+    ensures exact { Does P.view P.trail (field.inserted source position size base)
+        result txn.old txn.new }
     ensures keeps { Keeps P.view P.since 2 txn.old txn.new }
 {
     if is_reserved(position, size, base) {
@@ -113,7 +114,7 @@ fn insert_bits<P: Port>(
 #[tactic(auto, unfolding(vax_flat::specs::Field::insert))]
 fn insert<P: Port>(txn: &mut Txn<P>) -> Result<Flow, CutShort>
     requires { 18 ≤ room txn.old }
-    ensures exact { Does P.view field.insert result txn.old txn.new }
+    ensures exact { Does P.view P.trail field.insert result txn.old txn.new }
     ensures keeps { Keeps P.view P.since 18 txn.old txn.new }
 {
     let source = next_value(txn, Size::L)?;
@@ -128,7 +129,7 @@ fn insert<P: Port>(txn: &mut Txn<P>) -> Result<Flow, CutShort>
 #[tactic(auto, unfolding(vax_flat::specs::Control::jumped_if))]
 fn jump_if<P: Port>(txn: &mut Txn<P>, taken: bool, target: u32)
     requires { 1 ≤ room txn.old }
-    ensures exact { Updates P.view (jumped_if taken target) txn.old txn.new }
+    ensures exact { Updates P.view P.trail (jumped_if taken target) txn.old txn.new }
     ensures keeps { Keeps P.view P.since 1 txn.old txn.new }
 {
     if taken {
@@ -152,7 +153,8 @@ fn becoming<P: Port>(
     requires first { holder.first < 32 }
     requires fits { bits < 256 ^ holder.width }
     requires room { 2 ≤ room txn.old }
-    ensures exact { Acts P.view (field.becoming becomes holder (bits_of (8 * holder.width) bits))
+    ensures exact { Acts P.view P.trail
+        (field.becoming becomes holder (bits_of (8 * holder.width) bits))
         result txn.old txn.new }
     ensures keeps { Keeps P.view P.since 2 txn.old txn.new }
 {
@@ -164,7 +166,7 @@ fn becoming<P: Port>(
 
 /// A bit is tested, becomes what is said, and control goes on at the target where the bit was so.
 #[inline(always)]
-#[tactic(auto, using(vax_flat::proofs::Leaves::over_port_raises), unfolding(vax_flat::specs::Field::branched_on, vax_flat::specs::Field::held))]
+#[tactic(auto, using(vax_undo::proofs::Trail::over_trail_raises), unfolding(vax_flat::specs::Field::branched_on, vax_flat::specs::Field::held))]
 fn branch_on<P: Port>(
     txn: &mut Txn<P>,
     set: bool,
@@ -175,7 +177,7 @@ fn branch_on<P: Port>(
 ) -> Result<Flow, CutShort>
     requires base { IsBase base }
     requires room { 3 ≤ room txn.old }
-    ensures exact { Does P.view (field.branched_on set becomes position base target)
+    ensures exact { Does P.view P.trail (field.branched_on set becomes position base target)
         result txn.old txn.new }
     ensures keeps { Keeps P.view P.since 3 txn.old txn.new }
 {
@@ -193,7 +195,7 @@ fn branch_on<P: Port>(
 #[tactic(auto, unfolding(vax_flat::specs::Field::branch))]
 fn branch<P: Port>(txn: &mut Txn<P>, set: bool, becomes: Option<bool>) -> Result<Flow, CutShort>
     requires { 15 ≤ room txn.old }
-    ensures exact { Does P.view (field.branch set becomes) result txn.old txn.new }
+    ensures exact { Does P.view P.trail (field.branch set becomes) result txn.old txn.new }
     ensures keeps { Keeps P.view P.since 15 txn.old txn.new }
 {
     let position = next_value(txn, Size::L)? as u32;
@@ -207,7 +209,7 @@ fn branch<P: Port>(txn: &mut Txn<P>, set: bool, becomes: Option<bool>) -> Result
 #[tactic(auto, unfolding(vax_flat::specs::Field::performed))]
 pub(crate) fn perform<P: Port>(txn: &mut Txn<P>, instruction: Field) -> Result<Flow, CutShort>
     requires { 19 ≤ room txn.old }
-    ensures exact { Does P.view (field.performed instruction) result txn.old txn.new }
+    ensures exact { Does P.view P.trail (field.performed instruction) result txn.old txn.new }
     ensures keeps { Keeps P.view P.since 19 txn.old txn.new }
 {
     match instruction {

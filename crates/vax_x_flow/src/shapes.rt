@@ -19,7 +19,7 @@ use vax_word::{Codes, Size, add, compare, sub};
 #[inline(always)]
 fn jump_to<P: Port>(txn: &mut Txn<P>, target: u32)
     requires { 1 ≤ room txn.old }
-    ensures exact { Updates P.view (control.jumped target) txn.old txn.new }
+    ensures exact { Updates P.view P.trail (control.jumped target) txn.old txn.new }
     ensures keeps { Keeps P.view P.since 1 txn.old txn.new }
 {
     txn.set_reg(15, target);
@@ -30,7 +30,7 @@ fn jump_to<P: Port>(txn: &mut Txn<P>, target: u32)
 #[tactic(auto, unfolding(vax_flat::specs::Control::jumped_if))]
 fn jump_if<P: Port>(txn: &mut Txn<P>, taken: bool, target: u32)
     requires { 1 ≤ room txn.old }
-    ensures exact { Updates P.view (control.jumped_if taken target) txn.old txn.new }
+    ensures exact { Updates P.view P.trail (control.jumped_if taken target) txn.old txn.new }
     ensures keeps { Keeps P.view P.since 1 txn.old txn.new }
 {
     if taken {
@@ -43,7 +43,8 @@ fn jump_if<P: Port>(txn: &mut Txn<P>, taken: bool, target: u32)
 #[tactic(auto, unfolding(vax_flat::specs::Control::branch))]
 fn branch<P: Port>(txn: &mut Txn<P>, condition: Condition, size: Narrow) -> Result<Flow, CutShort>
     requires { 5 ≤ room txn.old }
-    ensures exact { Does P.view (control.branch condition (size_of size)) result txn.old txn.new }
+    ensures exact { Does P.view P.trail (control.branch condition (size_of size))
+        result txn.old txn.new }
     ensures keeps { Keeps P.view P.since 5 txn.old txn.new }
 {
     let target = next_target(txn, size)?;
@@ -57,7 +58,7 @@ fn branch<P: Port>(txn: &mut Txn<P>, condition: Condition, size: Narrow) -> Resu
 #[tactic(auto, unfolding(vax_flat::specs::Control::called))]
 fn call<P: Port>(txn: &mut Txn<P>, target: u32) -> Result<Flow, CutShort>
     requires { 3 ≤ room txn.old }
-    ensures exact { Does P.view (control.called target) result txn.old txn.new }
+    ensures exact { Does P.view P.trail (control.called target) result txn.old txn.new }
     ensures keeps { Keeps P.view P.since 3 txn.old txn.new }
 {
     push(txn, txn.reg(15))?;
@@ -70,7 +71,8 @@ fn call<P: Port>(txn: &mut Txn<P>, target: u32) -> Result<Flow, CutShort>
 #[tactic(auto, unfolding(vax_flat::specs::Control::branch_subroutine))]
 fn branch_subroutine<P: Port>(txn: &mut Txn<P>, size: Narrow) -> Result<Flow, CutShort>
     requires { 7 ≤ room txn.old }
-    ensures exact { Does P.view (control.branch_subroutine (size_of size)) result txn.old txn.new }
+    ensures exact { Does P.view P.trail (control.branch_subroutine (size_of size))
+        result txn.old txn.new }
     ensures keeps { Keeps P.view P.since 7 txn.old txn.new }
 {
     let target = next_target(txn, size)?;
@@ -82,7 +84,7 @@ fn branch_subroutine<P: Port>(txn: &mut Txn<P>, size: Narrow) -> Result<Flow, Cu
 #[tactic(auto, unfolding(vax_flat::specs::Control::jump))]
 fn jump<P: Port>(txn: &mut Txn<P>) -> Result<Flow, CutShort>
     requires { 5 ≤ room txn.old }
-    ensures exact { Does P.view control.jump result txn.old txn.new }
+    ensures exact { Does P.view P.trail control.jump result txn.old txn.new }
     ensures keeps { Keeps P.view P.since 5 txn.old txn.new }
 {
     let target = next_address(txn, Size::B)?;
@@ -95,7 +97,7 @@ fn jump<P: Port>(txn: &mut Txn<P>) -> Result<Flow, CutShort>
 #[tactic(auto, unfolding(vax_flat::specs::Control::jump_subroutine))]
 fn jump_subroutine<P: Port>(txn: &mut Txn<P>) -> Result<Flow, CutShort>
     requires { 7 ≤ room txn.old }
-    ensures exact { Does P.view control.jump_subroutine result txn.old txn.new }
+    ensures exact { Does P.view P.trail control.jump_subroutine result txn.old txn.new }
     ensures keeps { Keeps P.view P.since 7 txn.old txn.new }
 {
     let target = next_address(txn, Size::B)?;
@@ -107,7 +109,7 @@ fn jump_subroutine<P: Port>(txn: &mut Txn<P>) -> Result<Flow, CutShort>
 #[tactic(auto, unfolding(vax_flat::specs::Control::return_subroutine))]
 fn return_subroutine<P: Port>(txn: &mut Txn<P>) -> Result<Flow, CutShort>
     requires { 2 ≤ room txn.old }
-    ensures exact { Does P.view control.return_subroutine result txn.old txn.new }
+    ensures exact { Does P.view P.trail control.return_subroutine result txn.old txn.new }
     ensures keeps { Keeps P.view P.since 2 txn.old txn.new }
 {
     let top = txn.reg(14);
@@ -122,7 +124,7 @@ fn return_subroutine<P: Port>(txn: &mut Txn<P>) -> Result<Flow, CutShort>
 #[tactic(auto, unfolding(vax_flat::specs::Control::low_bit))]
 fn low_bit<P: Port>(txn: &mut Txn<P>, set: bool) -> Result<Flow, CutShort>
     requires { 9 ≤ room txn.old }
-    ensures exact { Does P.view (control.low_bit set) result txn.old txn.new }
+    ensures exact { Does P.view P.trail (control.low_bit set) result txn.old txn.new }
     ensures keeps { Keeps P.view P.since 9 txn.old txn.new }
 {
     let x = next_value(txn, Size::L)?;
@@ -146,7 +148,7 @@ fn go_on<P: Port>(
     requires place { IsPlace (bytes_of size) place }
     requires fits { index.0 < 256 ^ bytes_of size }
     requires room { 4 ≤ room txn.old }
-    ensures exact { Does P.view (control.looped size place index taken target)
+    ensures exact { Does P.view P.trail (control.looped size place index taken target)
         result txn.old txn.new }
     ensures keeps { Keeps P.view P.since 4 txn.old txn.new }
 {
@@ -165,7 +167,7 @@ fn go_on<P: Port>(
 #[tactic(auto, unfolding(vax_flat::specs::Control::add_one))]
 fn add_one<P: Port>(txn: &mut Txn<P>, relation: Relation) -> Result<Flow, CutShort>
     requires { 16 ≤ room txn.old }
-    ensures exact { Does P.view (control.add_one relation) result txn.old txn.new }
+    ensures exact { Does P.view P.trail (control.add_one relation) result txn.old txn.new }
     ensures keeps { Keeps P.view P.since 16 txn.old txn.new }
 {
     let limit = next_value(txn, Size::L)?;
@@ -181,7 +183,7 @@ fn add_one<P: Port>(txn: &mut Txn<P>, relation: Relation) -> Result<Flow, CutSho
 #[tactic(auto, unfolding(vax_flat::specs::Control::subtract_one))]
 fn subtract_one<P: Port>(txn: &mut Txn<P>, relation: Relation) -> Result<Flow, CutShort>
     requires { 12 ≤ room txn.old }
-    ensures exact { Does P.view (control.subtract_one relation) result txn.old txn.new }
+    ensures exact { Does P.view P.trail (control.subtract_one relation) result txn.old txn.new }
     ensures keeps { Keeps P.view P.since 12 txn.old txn.new }
 {
     let (place, old) = next_modified(txn, Size::L)?;
@@ -196,7 +198,7 @@ fn subtract_one<P: Port>(txn: &mut Txn<P>, relation: Relation) -> Result<Flow, C
 #[tactic(auto, unfolding(vax_flat::specs::Control::add_compare))]
 fn add_compare<P: Port>(txn: &mut Txn<P>, size: Size) -> Result<Flow, CutShort>
     requires { 20 ≤ room txn.old }
-    ensures exact { Does P.view (control.add_compare size) result txn.old txn.new }
+    ensures exact { Does P.view P.trail (control.add_compare size) result txn.old txn.new }
     ensures keeps { Keeps P.view P.since 20 txn.old txn.new }
 {
     let limit = next_value(txn, size)?;
@@ -228,7 +230,8 @@ fn choose<P: Port>(txn: &mut Txn<P>, size: Narrow, place: u64, limit: u64) -> Re
     requires place { place < 256 ^ bytes_of (size_of size) }
     requires limit { limit < 256 ^ bytes_of (size_of size) }
     requires room { 2 ≤ room txn.old }
-    ensures exact { Does P.view (control.chosen (size_of size) place limit) result txn.old txn.new }
+    ensures exact { Does P.view P.trail (control.chosen (size_of size) place limit)
+        result txn.old txn.new }
     ensures keeps { Keeps P.view P.since 2 txn.old txn.new }
 {
     let table = txn.reg(15);
@@ -249,7 +252,7 @@ fn choose<P: Port>(txn: &mut Txn<P>, size: Narrow, place: u64, limit: u64) -> Re
 #[tactic(auto, unfolding(vax_flat::specs::Control::case_of))]
 fn case_of<P: Port>(txn: &mut Txn<P>, size: Narrow) -> Result<Flow, CutShort>
     requires { 14 ≤ room txn.old }
-    ensures exact { Does P.view (control.case_of (size_of size)) result txn.old txn.new }
+    ensures exact { Does P.view P.trail (control.case_of (size_of size)) result txn.old txn.new }
     ensures keeps { Keeps P.view P.since 14 txn.old txn.new }
 {
     let selector = next_value(txn, size.into())?;
@@ -264,7 +267,7 @@ fn case_of<P: Port>(txn: &mut Txn<P>, size: Narrow) -> Result<Flow, CutShort>
 #[tactic(auto, unfolding(vax_flat::specs::Control::performed))]
 fn perform_any<P: Port>(txn: &mut Txn<P>, instruction: Control) -> Result<Flow, CutShort>
     requires { 20 ≤ room txn.old }
-    ensures exact { Does P.view (control.performed instruction) result txn.old txn.new }
+    ensures exact { Does P.view P.trail (control.performed instruction) result txn.old txn.new }
     ensures keeps { Keeps P.view P.since 20 txn.old txn.new }
 {
     match instruction {
@@ -286,7 +289,7 @@ fn perform_any<P: Port>(txn: &mut Txn<P>, instruction: Control) -> Result<Flow, 
 #[tactic(auto, unfolding(vax_flat::specs::Control::performed))]
 pub(crate) fn perform<P: Port>(txn: &mut Txn<P>, instruction: Control) -> Result<Flow, CutShort>
     requires { 20 ≤ room txn.old }
-    ensures exact { Does P.view (control.performed instruction) result txn.old txn.new }
+    ensures exact { Does P.view P.trail (control.performed instruction) result txn.old txn.new }
     ensures keeps { Keeps P.view P.since 20 txn.old txn.new }
 {
     match instruction {

@@ -26,7 +26,7 @@ use vax_undo::{CutShort, Port, Txn};
 #[inline(always)]
 pub fn run<P: Port>(txn: &mut Txn<P>, instruction: Integer) -> Result<Flow, CutShort>
     requires { room_of_integer ≤ room txn.old }
-    ensures exact { Does P.view (performed instruction) result txn.old txn.new }
+    ensures exact { Does P.view P.trail (performed instruction) result txn.old txn.new }
     ensures everywhere { GoesEverywhere P.view (performed instruction) result txn.old txn.new }
     ensures keeps { Keeps P.view P.since room_of_integer txn.old txn.new }
 {

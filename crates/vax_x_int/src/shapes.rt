@@ -32,7 +32,7 @@ fn unary<P: Port>(
     to: Size,
 ) -> Result<Flow, CutShort>
     requires { 11 ≤ room txn.old }
-    ensures exact { Does P.view (integer.unary operation from to) result txn.old txn.new }
+    ensures exact { Does P.view P.trail (integer.unary operation from to) result txn.old txn.new }
     ensures keeps { Keeps P.view P.since 11 txn.old txn.new }
 {
     let x = next_value(txn, from)?;
@@ -46,7 +46,8 @@ fn unary<P: Port>(
 #[tactic(auto, unfolding(vax_flat::specs::Integer::two))]
 fn two<P: Port>(txn: &mut Txn<P>, operation: Binary, size: Narrow) -> Result<Flow, CutShort>
     requires { 11 ≤ room txn.old }
-    ensures exact { Does P.view (integer.two operation (size_of size)) result txn.old txn.new }
+    ensures exact { Does P.view P.trail (integer.two operation (size_of size))
+        result txn.old txn.new }
     ensures keeps { Keeps P.view P.since 11 txn.old txn.new }
 {
     let a = next_value(txn, size.into())?;
@@ -60,7 +61,8 @@ fn two<P: Port>(txn: &mut Txn<P>, operation: Binary, size: Narrow) -> Result<Flo
 #[tactic(auto, unfolding(vax_flat::specs::Integer::three))]
 fn three<P: Port>(txn: &mut Txn<P>, operation: Binary, size: Narrow) -> Result<Flow, CutShort>
     requires { 15 ≤ room txn.old }
-    ensures exact { Does P.view (integer.three operation (size_of size)) result txn.old txn.new }
+    ensures exact { Does P.view P.trail (integer.three operation (size_of size))
+        result txn.old txn.new }
     ensures keeps { Keeps P.view P.since 15 txn.old txn.new }
 {
     let a = next_value(txn, size.into())?;
@@ -81,7 +83,8 @@ fn three<P: Port>(txn: &mut Txn<P>, operation: Binary, size: Narrow) -> Result<F
 #[tactic(auto, unfolding(vax_flat::specs::Integer::by_one))]
 fn by_one<P: Port>(txn: &mut Txn<P>, operation: Binary, size: Narrow) -> Result<Flow, CutShort>
     requires { 7 ≤ room txn.old }
-    ensures exact { Does P.view (integer.by_one operation (size_of size)) result txn.old txn.new }
+    ensures exact { Does P.view P.trail (integer.by_one operation (size_of size))
+        result txn.old txn.new }
     ensures keeps { Keeps P.view P.since 7 txn.old txn.new }
 {
     let (place, b) = next_modified(txn, size.into())?;
@@ -94,7 +97,7 @@ fn by_one<P: Port>(txn: &mut Txn<P>, operation: Binary, size: Narrow) -> Result<
 #[tactic(auto, unfolding(vax_flat::specs::Integer::clear))]
 fn clear<P: Port>(txn: &mut Txn<P>, size: Size) -> Result<Flow, CutShort>
     requires { 7 ≤ room txn.old }
-    ensures exact { Does P.view (integer.clear size) result txn.old txn.new }
+    ensures exact { Does P.view P.trail (integer.clear size) result txn.old txn.new }
     ensures keeps { Keeps P.view P.since 7 txn.old txn.new }
 {
     let destination = next_place(txn, size)?;
@@ -107,7 +110,7 @@ fn clear<P: Port>(txn: &mut Txn<P>, size: Size) -> Result<Flow, CutShort>
 #[tactic(auto, unfolding(vax_flat::specs::Integer::test_value))]
 fn test<P: Port>(txn: &mut Txn<P>, size: Size) -> Result<Flow, CutShort>
     requires { 5 ≤ room txn.old }
-    ensures exact { Does P.view (integer.test_value size) result txn.old txn.new }
+    ensures exact { Does P.view P.trail (integer.test_value size) result txn.old txn.new }
     ensures keeps { Keeps P.view P.since 5 txn.old txn.new }
 {
     let x = next_value(txn, size)?;
@@ -119,7 +122,7 @@ fn test<P: Port>(txn: &mut Txn<P>, size: Size) -> Result<Flow, CutShort>
 #[tactic(auto, unfolding(vax_flat::specs::Integer::compare))]
 fn compare<P: Port>(txn: &mut Txn<P>, size: Size) -> Result<Flow, CutShort>
     requires { 9 ≤ room txn.old }
-    ensures exact { Does P.view (integer.compare size) result txn.old txn.new }
+    ensures exact { Does P.view P.trail (integer.compare size) result txn.old txn.new }
     ensures keeps { Keeps P.view P.since 9 txn.old txn.new }
 {
     let a = next_value(txn, size)?;
@@ -132,7 +135,7 @@ fn compare<P: Port>(txn: &mut Txn<P>, size: Size) -> Result<Flow, CutShort>
 #[tactic(auto, using(crate::proofs::Sizes::and_fits), unfolding(vax_flat::specs::Integer::bit_test))]
 fn bit_test<P: Port>(txn: &mut Txn<P>, size: Size) -> Result<Flow, CutShort>
     requires { 9 ≤ room txn.old }
-    ensures exact { Does P.view (integer.bit_test size) result txn.old txn.new }
+    ensures exact { Does P.view P.trail (integer.bit_test size) result txn.old txn.new }
     ensures keeps { Keeps P.view P.since 9 txn.old txn.new }
 {
     let mask = next_value(txn, size)?;
@@ -146,7 +149,7 @@ fn bit_test<P: Port>(txn: &mut Txn<P>, size: Size) -> Result<Flow, CutShort>
 #[tactic(auto, using(crate::proofs::Sizes::signed_count), unfolding(vax_flat::specs::Integer::shift))]
 fn shift_by<P: Port>(txn: &mut Txn<P>, size: Size) -> Result<Flow, CutShort>
     requires { 15 ≤ room txn.old }
-    ensures exact { Does P.view (integer.shift size) result txn.old txn.new }
+    ensures exact { Does P.view P.trail (integer.shift size) result txn.old txn.new }
     ensures keeps { Keeps P.view P.since 15 txn.old txn.new }
 {
     let count = next_value(txn, Size::B)?;
@@ -161,7 +164,7 @@ fn shift_by<P: Port>(txn: &mut Txn<P>, size: Size) -> Result<Flow, CutShort>
 #[tactic(auto, unfolding(vax_flat::specs::Integer::rotate))]
 fn rotate<P: Port>(txn: &mut Txn<P>) -> Result<Flow, CutShort>
     requires { 15 ≤ room txn.old }
-    ensures exact { Does P.view integer.rotate result txn.old txn.new }
+    ensures exact { Does P.view P.trail integer.rotate result txn.old txn.new }
     ensures keeps { Keeps P.view P.since 15 txn.old txn.new }
 {
     let count = next_value(txn, Size::B)?;
@@ -176,7 +179,7 @@ fn rotate<P: Port>(txn: &mut Txn<P>) -> Result<Flow, CutShort>
 #[tactic(auto, unfolding(vax_flat::specs::Integer::move_address))]
 fn move_address<P: Port>(txn: &mut Txn<P>, size: Size) -> Result<Flow, CutShort>
     requires { 11 ≤ room txn.old }
-    ensures exact { Does P.view (integer.move_address size) result txn.old txn.new }
+    ensures exact { Does P.view P.trail (integer.move_address size) result txn.old txn.new }
     ensures keeps { Keeps P.view P.since 11 txn.old txn.new }
 {
     let addr = next_address(txn, size)?;
@@ -190,7 +193,7 @@ fn move_address<P: Port>(txn: &mut Txn<P>, size: Size) -> Result<Flow, CutShort>
 #[tactic(auto, unfolding(vax_flat::specs::Integer::pushed_result))]
 fn push_result<P: Port>(txn: &mut Txn<P>, x: u32) -> Result<Flow, CutShort>
     requires { 3 ≤ room txn.old }
-    ensures exact { Does P.view (integer.pushed_result x) result txn.old txn.new }
+    ensures exact { Does P.view P.trail (integer.pushed_result x) result txn.old txn.new }
     ensures keeps { Keeps P.view P.since 3 txn.old txn.new }
 {
     push(txn, x)?;
@@ -203,7 +206,7 @@ fn push_result<P: Port>(txn: &mut Txn<P>, x: u32) -> Result<Flow, CutShort>
 #[tactic(auto, unfolding(vax_flat::specs::Integer::push_address))]
 fn push_address<P: Port>(txn: &mut Txn<P>, size: Size) -> Result<Flow, CutShort>
     requires { 7 ≤ room txn.old }
-    ensures exact { Does P.view (integer.push_address size) result txn.old txn.new }
+    ensures exact { Does P.view P.trail (integer.push_address size) result txn.old txn.new }
     ensures keeps { Keeps P.view P.since 7 txn.old txn.new }
 {
     let addr = next_address(txn, size)?;
@@ -215,7 +218,7 @@ fn push_address<P: Port>(txn: &mut Txn<P>, size: Size) -> Result<Flow, CutShort>
 #[tactic(auto, unfolding(vax_flat::specs::Integer::push))]
 fn push_long<P: Port>(txn: &mut Txn<P>) -> Result<Flow, CutShort>
     requires { 7 ≤ room txn.old }
-    ensures exact { Does P.view integer.push result txn.old txn.new }
+    ensures exact { Does P.view P.trail integer.push result txn.old txn.new }
     ensures keeps { Keeps P.view P.since 7 txn.old txn.new }
 {
     let x = next_value(txn, Size::L)?;
@@ -227,7 +230,7 @@ fn push_long<P: Port>(txn: &mut Txn<P>) -> Result<Flow, CutShort>
 #[tactic(auto, using(crate::proofs::Sizes::product_fits), unfolding(vax_flat::specs::Integer::extended_multiply))]
 fn extended_multiply<P: Port>(txn: &mut Txn<P>) -> Result<Flow, CutShort>
     requires { 19 ≤ room txn.old }
-    ensures exact { Does P.view integer.extended_multiply result txn.old txn.new }
+    ensures exact { Does P.view P.trail integer.extended_multiply result txn.old txn.new }
     ensures keeps { Keeps P.view P.since 19 txn.old txn.new }
 {
     let a = next_value(txn, Size::L)?;
@@ -243,7 +246,7 @@ fn extended_multiply<P: Port>(txn: &mut Txn<P>) -> Result<Flow, CutShort>
 #[tactic(auto, unfolding(vax_flat::specs::Integer::extended_divide))]
 fn extended_divide<P: Port>(txn: &mut Txn<P>) -> Result<Flow, CutShort>
     requires { 21 ≤ room txn.old }
-    ensures exact { Does P.view integer.extended_divide result txn.old txn.new }
+    ensures exact { Does P.view P.trail integer.extended_divide result txn.old txn.new }
     ensures keeps { Keeps P.view P.since 21 txn.old txn.new }
 {
     let divisor = next_value(txn, Size::L)?;
@@ -291,7 +294,7 @@ fn subscript_flow(subscript: u64, low: u64, high: u64) -> Flow
 #[tactic(auto, unfolding(vax_flat::specs::Integer::index))]
 fn index<P: Port>(txn: &mut Txn<P>) -> Result<Flow, CutShort>
     requires { 27 ≤ room txn.old }
-    ensures exact { Does P.view integer.index result txn.old txn.new }
+    ensures exact { Does P.view P.trail integer.index result txn.old txn.new }
     ensures keeps { Keeps P.view P.since 27 txn.old txn.new }
 {
     let subscript = next_value(txn, Size::L)?;
@@ -311,7 +314,7 @@ fn index<P: Port>(txn: &mut Txn<P>) -> Result<Flow, CutShort>
 #[tactic(auto, unfolding(vax_flat::specs::Integer::performed))]
 fn perform_any<P: Port>(txn: &mut Txn<P>, instruction: Integer) -> Result<Flow, CutShort>
     requires { 27 ≤ room txn.old }
-    ensures exact { Does P.view (integer.performed instruction) result txn.old txn.new }
+    ensures exact { Does P.view P.trail (integer.performed instruction) result txn.old txn.new }
     ensures keeps { Keeps P.view P.since 27 txn.old txn.new }
 {
     match instruction {
@@ -344,7 +347,7 @@ fn perform_any<P: Port>(txn: &mut Txn<P>, instruction: Integer) -> Result<Flow, 
 #[tactic(auto, unfolding(vax_flat::specs::Integer::performed))]
 pub(crate) fn perform<P: Port>(txn: &mut Txn<P>, instruction: Integer) -> Result<Flow, CutShort>
     requires { 27 ≤ room txn.old }
-    ensures exact { Does P.view (integer.performed instruction) result txn.old txn.new }
+    ensures exact { Does P.view P.trail (integer.performed instruction) result txn.old txn.new }
     ensures keeps { Keeps P.view P.since 27 txn.old txn.new }
 {
     match instruction {

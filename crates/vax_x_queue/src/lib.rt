@@ -22,7 +22,7 @@ use vax_undo::{CutShort, Port, Txn};
 /// enables that trap.
 pub fn run<P: Port>(txn: &mut Txn<P>, instruction: Queue) -> Result<Flow, CutShort>
     requires { room_of_queue ≤ room txn.old }
-    ensures exact { Does P.view (performed instruction) result txn.old txn.new }
+    ensures exact { Does P.view P.trail (performed instruction) result txn.old txn.new }
     ensures everywhere { GoesEverywhere P.view (performed instruction) result txn.old txn.new }
     ensures keeps { Keeps P.view P.since room_of_queue txn.old txn.new }
 {

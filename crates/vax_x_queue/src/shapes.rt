@@ -15,7 +15,7 @@ use vax_word::{Codes, Size, add, compare};
 #[tactic(auto, unfolding(vax_flat::specs::Queue::insert, vax_flat::specs::Queue::inserted))]
 fn insert<P: Port>(txn: &mut Txn<P>) -> Result<Flow, CutShort>
     requires { 13 ≤ room txn.old }
-    ensures exact { Does P.view queue.insert result txn.old txn.new }
+    ensures exact { Does P.view P.trail queue.insert result txn.old txn.new }
     ensures keeps { Keeps P.view P.since 13 txn.old txn.new }
 {
     let entry = next_address(txn, Size::B)?;
@@ -33,7 +33,7 @@ fn insert<P: Port>(txn: &mut Txn<P>) -> Result<Flow, CutShort>
 #[tactic(auto, unfolding(vax_flat::specs::Queue::remove, vax_flat::specs::Queue::removed))]
 fn remove<P: Port>(txn: &mut Txn<P>) -> Result<Flow, CutShort>
     requires { 13 ≤ room txn.old }
-    ensures exact { Does P.view queue.remove result txn.old txn.new }
+    ensures exact { Does P.view P.trail queue.remove result txn.old txn.new }
     ensures keeps { Keeps P.view P.since 13 txn.old txn.new }
 {
     let entry = next_address(txn, Size::B)?;
@@ -65,10 +65,10 @@ fn is_odd(place: Operand) -> bool
 }
 
 /// ADAWI.
-#[tactic(auto, using(vax_flat::proofs::Leaves::over_port_raises), unfolding(vax_flat::specs::Queue::add_aligned, vax_flat::specs::Queue::aligned_sum))]
+#[tactic(auto, using(vax_undo::proofs::Trail::over_trail_raises), unfolding(vax_flat::specs::Queue::add_aligned, vax_flat::specs::Queue::aligned_sum))]
 fn add_aligned<P: Port>(txn: &mut Txn<P>) -> Result<Flow, CutShort>
     requires { 11 ≤ room txn.old }
-    ensures exact { Does P.view queue.add_aligned result txn.old txn.new }
+    ensures exact { Does P.view P.trail queue.add_aligned result txn.old txn.new }
     ensures keeps { Keeps P.view P.since 11 txn.old txn.new }
 {
     let addend = next_value(txn, Size::W)?;
@@ -84,7 +84,7 @@ fn add_aligned<P: Port>(txn: &mut Txn<P>) -> Result<Flow, CutShort>
 #[tactic(auto, unfolding(vax_flat::specs::Queue::performed))]
 pub(crate) fn perform<P: Port>(txn: &mut Txn<P>, instruction: Queue) -> Result<Flow, CutShort>
     requires { 15 ≤ room txn.old }
-    ensures exact { Does P.view (queue.performed instruction) result txn.old txn.new }
+    ensures exact { Does P.view P.trail (queue.performed instruction) result txn.old txn.new }
     ensures keeps { Keeps P.view P.since 15 txn.old txn.new }
 {
     match instruction {

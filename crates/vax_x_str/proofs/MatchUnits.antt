@@ -6,12 +6,12 @@ use Rattle.vax_strpart.specs.declared.packing.Progress.{Progress}
 use Rattle.vax_flat.specs.declared.Flow.{Flow}
 use Rattle.vax_flat.specs.State.{State}
 use Rattle.vax_flat.specs.Accesses.{Accesses, Leaf}
-use Rattle.vax_flat.specs.OverPort.{Arrival, Stops, goes_on}
 use Rattle.vax_flat.specs.Port.{View}
 use Rattle.vax_flat.specs.StringMatch.{is_near, match_end, match_on, match_unit}
 use Rattle.std.specs.Result.{IsErr}
 use Rattle.vax_undo.specs.declared.txn.CutShort.{CutShort}
 use Rattle.vax_undo.specs.declared.txn.Txn.{Txn as Transaction}
+use Rattle.vax_undo.specs.Trail.{Trail, Landing, Breaks, lands_on}
 use Rattle.vax_undo.specs.Transaction.{Keeps, told}
 
 -- a unit remains, and lies in these pages
@@ -60,9 +60,9 @@ ends (suc more) units first second p s next e =
 pub none_near : (units first second : ℕ) (p : Progress) (s : State) (next : Flow → State → Accesses Leaf) → has_unit first second p ≡ false → match_on (512 - units) units first second p s next ≡ match_end p units s next
 none_near units first second p s next e = ends (512 - units) units first second p s next e
 
-pub stopped : {X P : Type 0} (t : Transaction P) (r : Result X CutShort) (marked : ℕ → Bool) (next : X → Arrival Leaf) → IsErr r → goes_on (told t r) marked next ≡ Stops t.why marked
-stopped t (Ok x) marked next e = let no : false ≡ true = e in cc
-stopped t (Err short) marked next e = refl
+pub stopped : {X P : Type 0} (t : Transaction P) (r : Result X CutShort) (marked : ℕ → Bool) (trail : Trail) (next : X → Landing Leaf) → IsErr r → lands_on (told t r) marked trail next ≡ Breaks t.why marked trail
+stopped t (Ok x) marked trail next e = let no : false ≡ true = e in cc
+stopped t (Err short) marked trail next e = refl
 
 pub keeps_all : {P : Type 0} (view : P → View) (along : P → P → Type 0) (x : Transaction P) → Keeps view along 0 x x
 keeps_all view along x = record {

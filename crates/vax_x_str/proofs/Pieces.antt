@@ -9,11 +9,11 @@ use Rattle.vax_flat.specs.Port.{View, marking, put, put_run, stop}
 use Rattle.vax_flat.specs.State.{State, mode}
 use Rattle.vax_flat.specs.Accesses.{Accesses, Leaf}
 use Rattle.vax_flat.specs.Operand.{plus, write_at}
-use Rattle.vax_flat.specs.OverPort.{over_port, unless_hindered}
 use Rattle.vax_flat.specs.String.{write_run_at}
 use Rattle.vax_flat.specs.StringMove.{pieces_of, write_pieces}
 use Rattle.vax_flat.proofs.StringMemory.{take_all}
-use Rattle.vax_undo.specs.Blocks.{number_in}
+use Rattle.vax_undo.specs.Blocks.{low_bytes, number_in}
+use Rattle.vax_undo.specs.Trail.{Trail, noted, over_trail, unless_hindered, writing}
 
 pub number_below : (xs : List ℕ) → ((k : ℕ) → slice_index xs k < 256) → number_in xs < 256 ^ length xs
 unfolding number_in
@@ -34,11 +34,21 @@ number_put f addr (x ∷ xs) place each =
     rw (low_byte x (number_in xs) h, high_bytes x (number_in xs) h)
     (ap (λ y. if place == addr then x else y) (number_put f (after addr) xs place (λ k. each (suc k))))
 
+-- the bytes of the number that a list of bytes is
+low_bytes_of : (xs : List ℕ) → ((k : ℕ) → slice_index xs k < 256) → xs ≡ low_bytes (length xs) (number_in xs)
+unfolding low_bytes number_in
+low_bytes_of [] each = refl
+low_bytes_of (x ∷ xs) each =
+    let h = each 0 in
+    rw (low_byte x (number_in xs) h, high_bytes x (number_in xs) h)
+    (ap (λ ys. x ∷ ys) (low_bytes_of xs (λ k. each (suc k))))
+
 -- a run of bytes is written as the number that they are
-pub as_number : (addr : ℕ) (xs : List ℕ) (s : State) (next : State → Accesses Leaf) (view : View) → ((k : ℕ) → slice_index xs k < 256) → over_port (write_run_at addr xs s next) view ≡ over_port (write_at addr (length xs) (number_in xs) s next) view
-unfolding over_port write_run_at write_at
-as_number addr xs s next view each =
-    ap (λ (byte : ℕ → ℕ). unless_hindered (stop view addr (length xs) (mode s) Write) view.marked (over_port (next s) (record view { byte = byte; marked = marking view.marked addr (length xs) }))) (fun_ext λ place. number_put view.byte addr xs place each)
+pub as_number : (addr : ℕ) (xs : List ℕ) (s : State) (next : State → Accesses Leaf) (view : View) (trail : Trail) → ((k : ℕ) → slice_index xs k < 256) → over_trail (write_run_at addr xs s next) view trail ≡ over_trail (write_at addr (length xs) (number_in xs) s next) view trail
+unfolding over_trail write_run_at write_at
+as_number addr xs s next view trail each =
+    ap (λ (byte : ℕ → ℕ). unless_hindered (stop view addr (length xs) (mode s) Write) view.marked trail (over_trail (next s) (record view { byte = byte; marked = marking view.marked addr (length xs) }) (noted trail (writing addr xs)))) (fun_ext λ place. number_put view.byte addr xs place each)
+    ∙ ap (λ bytes. unless_hindered (stop view addr (length xs) (mode s) Write) view.marked trail (over_trail (next s) (record view { byte = put view.byte addr (length xs) (number_in xs); marked = marking view.marked addr (length xs) }) (noted trail (writing addr bytes)))) (low_bytes_of xs each)
 
 last_by : (count addr : ℕ) (xs : List ℕ) (s : State) (next : State → Accesses Leaf) → count ≡ 1 → length xs ≤ 8 → write_pieces count addr xs s next ≡ write_run_at addr xs s next
 unfolding write_pieces

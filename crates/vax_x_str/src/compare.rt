@@ -53,7 +53,7 @@ fn second_rest(p: &Progress) -> Rest
 #[tactic(auto, unfolding(vax_flat::specs::StringCompare::differs))]
 fn differ<P: Port>(txn: &mut Txn<P>, a: Rest, b: Rest, x: u8, y: u8) -> Result<Flow, CutShort>
     requires { 7 ≤ room txn.old }
-    ensures exact { Does P.view (comparison.differs a b x y) result txn.old txn.new }
+    ensures exact { Does P.view P.trail (comparison.differs a b x y) result txn.old txn.new }
     ensures keeps { Keeps P.view P.since 7 txn.old txn.new }
 {
     let old = low_registers(txn);
@@ -76,7 +76,7 @@ fn differ<P: Port>(txn: &mut Txn<P>, a: Rest, b: Rest, x: u8, y: u8) -> Result<F
 #[tactic(auto, unfolding(vax_flat::specs::StringCompare::equals))]
 fn be_equal<P: Port>(txn: &mut Txn<P>, a: Rest, b: Rest) -> Result<Flow, CutShort>
     requires { 7 ≤ room txn.old }
-    ensures exact { Does P.view (comparison.equals a b) result txn.old txn.new }
+    ensures exact { Does P.view P.trail (comparison.equals a b) result txn.old txn.new }
     ensures keeps { Keeps P.view P.since 7 txn.old txn.new }
 {
     let old = low_registers(txn);
@@ -160,7 +160,7 @@ fn read_filled<P: Port>(
 ) -> Result<(), CutShort>
     requires some { 1 ≤ length into.old }
     requires few { length into.old ≤ 512 }
-    ensures exact { Passes P.view (comparison.filled_run fill (length into.old) rest)
+    ensures exact { Passes P.view P.trail (comparison.filled_run fill (length into.old) rest)
         (λ next _. next into.new) result txn.old txn.new }
     ensures same { present P.view txn.new ≡ present P.view txn.old }
     ensures keeps { Keeps P.view P.since 0 txn.old txn.new }
@@ -179,7 +179,7 @@ fn read_filled<P: Port>(
 /// Reads the first byte of what is left of a string, where something is left.
 #[tactic(auto, unfolding(vax_flat::specs::StringCompare::first_read))]
 fn read_first<P: Port>(txn: &mut Txn<P>, rest: Rest) -> Result<(), CutShort>
-    ensures exact { Acts P.view (comparison.first_read rest) result txn.old txn.new }
+    ensures exact { Acts P.view P.trail (comparison.first_read rest) result txn.old txn.new }
     ensures same { present P.view txn.new ≡ present P.view txn.old }
     ensures keeps { Keeps P.view P.since 0 txn.old txn.new }
 {
@@ -193,7 +193,7 @@ fn read_first<P: Port>(txn: &mut Txn<P>, rest: Rest) -> Result<(), CutShort>
 /// Checks that the first byte of what is left of a string may be read, where something is left.
 #[tactic(auto, unfolding(vax_flat::specs::StringCompare::first_checked))]
 fn check_first<P: Port>(txn: &mut Txn<P>, rest: Rest) -> Result<(), CutShort>
-    ensures exact { Acts P.view (comparison.first_checked rest) result txn.old txn.new }
+    ensures exact { Acts P.view P.trail (comparison.first_checked rest) result txn.old txn.new }
     ensures same { present P.view txn.new ≡ present P.view txn.old }
     ensures keeps { Keeps P.view P.since 0 txn.old txn.new }
 {
@@ -217,7 +217,8 @@ fn end_compare<P: Port>(
     requires few { length xs.now ≤ 512 }
     requires within { p.now.done + length xs.now ≤ comparison.pairs_of p.now }
     requires room { 8 ≤ room txn.old }
-    ensures exact { Does P.view (comparison.compare_end p.now (length xs.now) a b xs.now ys.now)
+    ensures exact { Does P.view P.trail
+        (comparison.compare_end p.now (length xs.now) a b xs.now ys.now)
         result txn.old txn.new }
     ensures keeps { KeepsUnlessDone P.view P.since 8 result txn.old txn.new }
 {
@@ -248,7 +249,7 @@ fn compare_run<P: Port>(
     requires equal { length ys.old ≡ length xs.old }
     requires within { p.now.done + length xs.old ≤ comparison.pairs_of p.now }
     requires room { 8 ≤ room txn.old }
-    ensures exact { Does P.view (comparison.compare_run p.now (length xs.old))
+    ensures exact { Does P.view P.trail (comparison.compare_run p.now (length xs.old))
         result txn.old txn.new }
     ensures keeps { KeepsUnlessDone P.view P.since 8 result txn.old txn.new }
 {
@@ -270,7 +271,7 @@ pub(crate) fn compare_part<P: Port>(
     second: &mut [u8; 512],
 ) -> Result<Flow, CutShort>
     requires room { 8 ≤ room txn.old }
-    ensures exact { Does P.view (comparison.compare_part p.now) result txn.old txn.new }
+    ensures exact { Does P.view P.trail (comparison.compare_part p.now) result txn.old txn.new }
     ensures keeps { KeepsUnlessDone P.view P.since 8 result txn.old txn.new }
 {
     if p.len1.max(p.len2).saturating_sub(p.done) == 0 {

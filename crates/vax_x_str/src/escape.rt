@@ -45,7 +45,8 @@ fn escaped_low(p: &Progress, count: u16) -> [u32; 6]
 fn finish_escape<P: Port>(txn: &mut Txn<P>, p: &Progress, count: u16, escape: bool) -> Flow
     requires within { count ≤ moving.moved_count p.now }
     requires room { 7 ≤ room txn.old }
-    ensures exact { Does P.view (escaping.escaped p.now count escape) (Ok result) txn.old txn.new }
+    ensures exact { Does P.view P.trail (escaping.escaped p.now count escape) (Ok result)
+        txn.old txn.new }
     ensures ends { IsPartEnd result }
     ensures keeps { Keeps P.view P.since 7 txn.old txn.new }
 {
@@ -90,7 +91,8 @@ fn source_room(p: &Progress) -> u16
 fn write_some<P: Port>(txn: &mut Txn<P>, addr: u32, from: &[u8]) -> Result<(), CutShort>
     requires few { length from.now ≤ 512 }
     requires room { 33 ≤ room txn.old }
-    ensures exact { Acts P.view (escaping.written_some addr from.now) result txn.old txn.new }
+    ensures exact { Acts P.view P.trail (escaping.written_some addr from.now)
+        result txn.old txn.new }
     ensures keeps { OnErr result (Keeps P.view P.since 33 txn.old txn.new) }
     ensures left { OnOk result (IsLeftOpen P.view P.since 33 txn.old txn.new) }
     ensures completed { OnOk result (IsLeft P.since 33 txn.old txn.new) }
@@ -107,7 +109,7 @@ fn close_escape<P: Port>(txn: &mut Txn<P>, p: &Progress, count: u16, space: u16,
     requires read { count ≤ len }
     requires within { p.now.done + len ≤ moving.moved_count p.now }
     requires room { 8 ≤ room txn.old }
-    ensures exact { Does P.view (escaping.escape_close p.now count space len)
+    ensures exact { Does P.view P.trail (escaping.escape_close p.now count space len)
         (Ok result) txn.old txn.new }
     ensures ends { IsPartEnd result }
     ensures keeps { KeepsUnlessDone P.view P.since 8 (Ok result) txn.old txn.new }
@@ -153,7 +155,7 @@ fn end_escape<P: Port>(
     requires few { length bytes.old ≤ 512 }
     requires within { p.now.done + length bytes.old ≤ moving.moved_count p.now }
     requires room { 41 ≤ room txn.old }
-    ensures exact { Does P.view (escaping.escape_end p.now space bytes.old table.now)
+    ensures exact { Does P.view P.trail (escaping.escape_end p.now space bytes.old table.now)
         result txn.old txn.new }
     ensures keeps { KeepsUnlessDone P.view P.since 41 result txn.old txn.new }
 {
@@ -183,7 +185,7 @@ fn escape_run<P: Port>(
     requires few { length buffer.old ≤ 512 }
     requires within { p.now.done + length buffer.old ≤ moving.moved_count p.now }
     requires room { 41 ≤ room txn.old }
-    ensures exact { Does P.view (escaping.escape_run p.now (length buffer.old) space)
+    ensures exact { Does P.view P.trail (escaping.escape_run p.now (length buffer.old) space)
         result txn.old txn.new }
     ensures keeps { KeepsUnlessDone P.view P.since 41 result txn.old txn.new }
 {
@@ -208,7 +210,7 @@ pub(crate) fn escape_part<P: Port>(
 ) -> Result<Flow, CutShort>
     requires done { p.now.done ≤ moving.moved_count p.now }
     requires room { 41 ≤ room txn.old }
-    ensures exact { Does P.view (escaping.escape_part p.now) result txn.old txn.new }
+    ensures exact { Does P.view P.trail (escaping.escape_part p.now) result txn.old txn.new }
     ensures keeps { KeepsUnlessDone P.view P.since 41 result txn.old txn.new }
 {
     let whole = moved_count(p);
@@ -225,7 +227,7 @@ pub(crate) fn escape_part<P: Port>(
 }
 
 /// The first part of MOVTUC, with its checks.
-#[tactic(auto, using(vax_undo::proofs::Left::always, vax_undo::proofs::Left::behind, vax_flat::proofs::Leaves::over_port_raises), unfolding(vax_flat::specs::StringEscape::escape_start))]
+#[tactic(auto, using(vax_undo::proofs::Left::always, vax_undo::proofs::Left::behind, vax_undo::proofs::Trail::over_trail_raises), unfolding(vax_flat::specs::StringEscape::escape_start))]
 pub(crate) fn start_escape<P: Port>(
     txn: &mut Txn<P>,
     p: &Progress,
@@ -234,7 +236,7 @@ pub(crate) fn start_escape<P: Port>(
 ) -> Result<Flow, CutShort>
     requires done { p.now.done ≤ moving.moved_count p.now }
     requires room { 41 ≤ room txn.old }
-    ensures exact { Does P.view (escaping.escape_start p.now) result txn.old txn.new }
+    ensures exact { Does P.view P.trail (escaping.escape_start p.now) result txn.old txn.new }
     ensures keeps { KeepsUnlessDone P.view P.since 41 result txn.old txn.new }
 {
     if is_escape_reserved(p) {

@@ -26,7 +26,7 @@ fn start_search<P: Port>(
     scratch: &mut Scratch,
 ) -> Result<Flow, CutShort>
     requires { 21 ≤ room txn.old }
-    ensures exact { Does P.view (parts.first_search op equal) result txn.old txn.new }
+    ensures exact { Does P.view P.trail (parts.first_search op equal) result txn.old txn.new }
     ensures keeps { KeepsUnlessDone P.view P.since 21 result txn.old txn.new }
 {
     let p = search_operands(txn, op)?;
@@ -42,7 +42,7 @@ fn start_scan<P: Port>(
     scratch: &mut Scratch,
 ) -> Result<Flow, CutShort>
     requires { 25 ≤ room txn.old }
-    ensures exact { Does P.view (parts.first_scan op some) result txn.old txn.new }
+    ensures exact { Does P.view P.trail (parts.first_scan op some) result txn.old txn.new }
     ensures keeps { KeepsUnlessDone P.view P.since 25 result txn.old txn.new }
 {
     let p = scan_operands(txn, op)?;
@@ -53,7 +53,7 @@ fn start_scan<P: Port>(
 #[tactic(auto, using(vax_undo::proofs::Left::always, vax_undo::proofs::Left::behind), unfolding(vax_flat::specs::StringParts::first_compare))]
 fn start_compare<P: Port>(txn: &mut Txn<P>, op: u8, scratch: &mut Scratch) -> Result<Flow, CutShort>
     requires { 21 ≤ room txn.old }
-    ensures exact { Does P.view (parts.first_compare op) result txn.old txn.new }
+    ensures exact { Does P.view P.trail (parts.first_compare op) result txn.old txn.new }
     ensures keeps { KeepsUnlessDone P.view P.since 21 result txn.old txn.new }
 {
     let p = equal_operands(txn, op)?;
@@ -68,7 +68,7 @@ fn start_compare_filled<P: Port>(
     scratch: &mut Scratch,
 ) -> Result<Flow, CutShort>
     requires { 29 ≤ room txn.old }
-    ensures exact { Does P.view (parts.first_compare_filled op) result txn.old txn.new }
+    ensures exact { Does P.view P.trail (parts.first_compare_filled op) result txn.old txn.new }
     ensures keeps { KeepsUnlessDone P.view P.since 29 result txn.old txn.new }
 {
     let p = filled_operands(txn, op)?;
@@ -83,7 +83,7 @@ fn start_move_equal<P: Port>(
     scratch: &mut Scratch,
 ) -> Result<Flow, CutShort>
     requires { 54 ≤ room txn.old }
-    ensures exact { Does P.view (parts.first_move op) result txn.old txn.new }
+    ensures exact { Does P.view P.trail (parts.first_move op) result txn.old txn.new }
     ensures keeps { KeepsUnlessDone P.view P.since 54 result txn.old txn.new }
 {
     let p = equal_operands(txn, op)?;
@@ -98,7 +98,7 @@ fn start_move_filled<P: Port>(
     scratch: &mut Scratch,
 ) -> Result<Flow, CutShort>
     requires { 62 ≤ room txn.old }
-    ensures exact { Does P.view (parts.first_move_filled op) result txn.old txn.new }
+    ensures exact { Does P.view P.trail (parts.first_move_filled op) result txn.old txn.new }
     ensures keeps { KeepsUnlessDone P.view P.since 62 result txn.old txn.new }
 {
     let p = filled_operands(txn, op)?;
@@ -113,7 +113,7 @@ fn start_move_translated<P: Port>(
     scratch: &mut Scratch,
 ) -> Result<Flow, CutShort>
     requires { 66 ≤ room txn.old }
-    ensures exact { Does P.view (parts.first_move_translated op) result txn.old txn.new }
+    ensures exact { Does P.view P.trail (parts.first_move_translated op) result txn.old txn.new }
     ensures keeps { KeepsUnlessDone P.view P.since 66 result txn.old txn.new }
 {
     let p = translated_operands(txn, op)?;
@@ -128,7 +128,7 @@ fn start_move_escaped<P: Port>(
     scratch: &mut Scratch,
 ) -> Result<Flow, CutShort>
     requires { 66 ≤ room txn.old }
-    ensures exact { Does P.view (parts.first_escape op) result txn.old txn.new }
+    ensures exact { Does P.view P.trail (parts.first_escape op) result txn.old txn.new }
     ensures keeps { KeepsUnlessDone P.view P.since 66 result txn.old txn.new }
 {
     let p = translated_operands(txn, op)?;
@@ -139,7 +139,7 @@ fn start_move_escaped<P: Port>(
 #[tactic(auto, using(vax_undo::proofs::Left::always, vax_undo::proofs::Left::behind), unfolding(vax_flat::specs::StringParts::first_match))]
 fn start_match<P: Port>(txn: &mut Txn<P>, op: u8) -> Result<Flow, CutShort>
     requires { 25 ≤ room txn.old }
-    ensures exact { Does P.view (parts.first_match op) result txn.old txn.new }
+    ensures exact { Does P.view P.trail (parts.first_match op) result txn.old txn.new }
     ensures keeps { KeepsUnlessDone P.view P.since 25 result txn.old txn.new }
 {
     let p = match_operands(txn, op)?;
@@ -157,7 +157,7 @@ fn start_match<P: Port>(txn: &mut Txn<P>, op: u8) -> Result<Flow, CutShort>
 #[tactic(auto, using(crate::proofs::Left::with_more), unfolding(vax_flat::specs::StringParts::text_part))]
 pub fn start<P: Port>(txn: &mut Txn<P>, text: Text, scratch: &mut Scratch) -> Result<Flow, CutShort>
     requires { 66 ≤ room txn.old }
-    ensures exact { Does P.view (parts.text_part text) result txn.old txn.new }
+    ensures exact { Does P.view P.trail (parts.text_part text) result txn.old txn.new }
     ensures keeps { KeepsUnlessDone P.view P.since 66 result txn.old txn.new }
 {
     match text {

@@ -37,7 +37,8 @@ fn resume_search<P: Port>(
     scratch: &mut Scratch,
 ) -> Result<Flow, CutShort>
     requires { 10 ≤ room txn.old }
-    ensures exact { Does P.view (from_registers op (search_part equal)) result txn.old txn.new }
+    ensures exact { Does P.view P.trail (from_registers op (search_part equal))
+        result txn.old txn.new }
     ensures closed { ClosesIfDone result txn.new.core.now.psl }
     ensures keeps { KeepsUnlessDone P.view P.since 10 result txn.old txn.new }
 {
@@ -54,7 +55,8 @@ fn resume_scan<P: Port>(
     scratch: &mut Scratch,
 ) -> Result<Flow, CutShort>
     requires { 10 ≤ room txn.old }
-    ensures exact { Does P.view (from_registers op (scan_part some)) result txn.old txn.new }
+    ensures exact { Does P.view P.trail (from_registers op (scan_part some))
+        result txn.old txn.new }
     ensures closed { ClosesIfDone result txn.new.core.now.psl }
     ensures keeps { KeepsUnlessDone P.view P.since 10 result txn.old txn.new }
 {
@@ -70,7 +72,7 @@ fn resume_compare<P: Port>(
     scratch: &mut Scratch,
 ) -> Result<Flow, CutShort>
     requires { 10 ≤ room txn.old }
-    ensures exact { Does P.view
+    ensures exact { Does P.view P.trail
         (from_registers op (λ p s next. compare_part (done_within (pairs_of p) p) s next))
         result txn.old txn.new }
     ensures closed { ClosesIfDone result txn.new.core.now.psl }
@@ -90,7 +92,7 @@ fn resume_compare<P: Port>(
 #[tactic(auto, using(vax_undo::proofs::Left::behind, crate::proofs::Left::closes))]
 fn resume_match<P: Port>(txn: &mut Txn<P>, op: u8) -> Result<Flow, CutShort>
     requires { 10 ≤ room txn.old }
-    ensures exact { Does P.view
+    ensures exact { Does P.view P.trail
         (from_registers op (λ p s next. match_part (done_within p.len1 p) s next))
         result txn.old txn.new }
     ensures closed { ClosesIfDone result txn.new.core.now.psl }
@@ -109,7 +111,7 @@ fn resume_move<P: Port>(
     scratch: &mut Scratch,
 ) -> Result<Flow, CutShort>
     requires { 43 ≤ room txn.old }
-    ensures exact { Does P.view
+    ensures exact { Does P.view P.trail
         (from_registers op (λ p s next. move_part by_table (done_within p.len2 p) s next))
         result txn.old txn.new }
     ensures closed { ClosesIfDone result txn.new.core.now.psl }
@@ -129,7 +131,7 @@ fn resume_move<P: Port>(
 #[tactic(auto, using(vax_undo::proofs::Left::behind, crate::proofs::Left::closes))]
 fn resume_escape<P: Port>(txn: &mut Txn<P>, op: u8, scratch: &mut Scratch) -> Result<Flow, CutShort>
     requires { 43 ≤ room txn.old }
-    ensures exact { Does P.view
+    ensures exact { Does P.view P.trail
         (from_registers op (λ p s next. escape_part (done_within (moved_count p) p) s next))
         result txn.old txn.new }
     ensures closed { ClosesIfDone result txn.new.core.now.psl }
@@ -156,7 +158,7 @@ pub fn resume<P: Port>(
     scratch: &mut Scratch,
 ) -> Result<Flow, CutShort>
     requires { 43 ≤ room txn.old }
-    ensures exact { Does P.view (resumed opcode) result txn.old txn.new }
+    ensures exact { Does P.view P.trail (resumed opcode) result txn.old txn.new }
     ensures closed { ClosesIfDone result txn.new.core.now.psl }
     ensures keeps { KeepsUnlessDone P.view P.since 43 result txn.old txn.new }
 {

@@ -27,7 +27,7 @@ fn match_codes(found: bool) -> Codes
 fn be_matched<P: Port>(txn: &mut Txn<P>, p: &Progress) -> Result<Flow, CutShort>
     requires fits { p.now.len1 ≤ p.now.len2 }
     requires room { 7 ≤ room txn.old }
-    ensures exact { Does P.view (matching.matched p.now) result txn.old txn.new }
+    ensures exact { Does P.view P.trail (matching.matched p.now) result txn.old txn.new }
     ensures keeps { Keeps P.view P.since 7 txn.old txn.new }
 {
     let old = low_registers(txn);
@@ -47,7 +47,7 @@ fn be_matched<P: Port>(txn: &mut Txn<P>, p: &Progress) -> Result<Flow, CutShort>
 #[tactic(auto, unfolding(vax_flat::specs::StringMatch::unmatched))]
 fn be_unmatched<P: Port>(txn: &mut Txn<P>, p: &Progress) -> Result<Flow, CutShort>
     requires { 7 ≤ room txn.old }
-    ensures exact { Does P.view (matching.unmatched p.now) result txn.old txn.new }
+    ensures exact { Does P.view P.trail (matching.unmatched p.now) result txn.old txn.new }
     ensures keeps { Keeps P.view P.since 7 txn.old txn.new }
 {
     let old = low_registers(txn);
@@ -66,7 +66,7 @@ fn be_unmatched<P: Port>(txn: &mut Txn<P>, p: &Progress) -> Result<Flow, CutShor
 #[tactic(auto, using(vax_undo::proofs::Left::always))]
 fn end_match<P: Port>(txn: &mut Txn<P>, p: &Progress, units: u32) -> Result<Flow, CutShort>
     requires { 8 ≤ room txn.old }
-    ensures exact { Does P.view (matching.match_end p.now units) result txn.old txn.new }
+    ensures exact { Does P.view P.trail (matching.match_end p.now units) result txn.old txn.new }
     ensures keeps { KeepsUnlessDone P.view P.since 8 result txn.old txn.new }
 {
     if p.len2 < p.len1 {
@@ -96,7 +96,7 @@ fn at_next_place(p: &Progress) -> Progress
 fn compare_one<P: Port>(txn: &mut Txn<P>, p: &Progress) -> Result<Progress, CutShort>
     requires some { p.now.done < p.now.len1 }
     requires fits { p.now.len1 ≤ p.now.len2 }
-    ensures exact { Does P.view (matching.match_unit p.now) result txn.old txn.new }
+    ensures exact { Does P.view P.trail (matching.match_unit p.now) result txn.old txn.new }
     ensures done { IfOk result (λ rest. rest.done ≤ rest.len1) }
     ensures same { present P.view txn.new ≡ present P.view txn.old }
     ensures keeps { Keeps P.view P.since 0 txn.old txn.new }
@@ -141,7 +141,7 @@ fn match_within<P: Port>(
 ) -> Result<Flow, CutShort>
     requires done { p.now.done ≤ p.now.len1 }
     requires room { 8 ≤ room txn.old }
-    ensures exact { Does P.view (matching.match_on 512 0 first second p.now)
+    ensures exact { Does P.view P.trail (matching.match_on 512 0 first second p.now)
         result txn.old txn.new }
     ensures keeps { KeepsUnlessDone P.view P.since 8 result txn.old txn.new }
 {
@@ -159,7 +159,7 @@ fn match_within<P: Port>(
 pub(crate) fn match_part<P: Port>(txn: &mut Txn<P>, p: &Progress) -> Result<Flow, CutShort>
     requires done { p.now.done ≤ p.now.len1 }
     requires room { 8 ≤ room txn.old }
-    ensures exact { Does P.view (matching.match_part p.now) result txn.old txn.new }
+    ensures exact { Does P.view P.trail (matching.match_part p.now) result txn.old txn.new }
     ensures keeps { KeepsUnlessDone P.view P.since 8 result txn.old txn.new }
 {
     let done = u32::from(p.done);

@@ -53,7 +53,7 @@ pub(crate) fn check_move<P: Port>(
     p: &Progress,
     written: u16,
 ) -> Result<(), CutShort>
-    ensures exact { Acts P.view (moving.move_checked by_table p.now written)
+    ensures exact { Acts P.view P.trail (moving.move_checked by_table p.now written)
         result txn.old txn.new }
     ensures same { present P.view txn.new ≡ present P.view txn.old }
     ensures keeps { Keeps P.view P.since 0 txn.old txn.new }
@@ -140,7 +140,7 @@ fn moved_low(by_table: bool, p: &Progress) -> [u32; 6]
 #[tactic(auto, unfolding(vax_flat::specs::StringMove::moved, vax_flat::specs::String::completed))]
 fn finish_move<P: Port>(txn: &mut Txn<P>, by_table: bool, p: &Progress) -> Flow
     requires { 7 ≤ room txn.old }
-    ensures exact { Does P.view (moving.moved by_table p.now) (Ok result) txn.old txn.new }
+    ensures exact { Does P.view P.trail (moving.moved by_table p.now) (Ok result) txn.old txn.new }
     ensures ends { IsPartEnd result }
     ensures keeps { Keeps P.view P.since 7 txn.old txn.new }
 {
@@ -154,7 +154,8 @@ fn finish_move<P: Port>(txn: &mut Txn<P>, by_table: bool, p: &Progress) -> Flow
 fn end_move<P: Port>(txn: &mut Txn<P>, by_table: bool, p: &Progress, count: u16) -> Flow
     requires within { p.now.done + count ≤ p.now.len2 }
     requires room { 8 ≤ room txn.old }
-    ensures exact { Does P.view (moving.move_end by_table p.now count) (Ok result) txn.old txn.new }
+    ensures exact { Does P.view P.trail (moving.move_end by_table p.now count) (Ok result)
+        txn.old txn.new }
     ensures ends { IsPartEnd result }
     ensures keeps { KeepsUnlessDone P.view P.since 8 (Ok result) txn.old txn.new }
 {
@@ -180,7 +181,7 @@ fn apply_table<P: Port>(
     bytes: &mut [u8],
     table: &mut [u8; 256],
 ) -> Result<(), CutShort>
-    ensures exact { Passes P.view (moving.table_applied by_table p.now bytes.old)
+    ensures exact { Passes P.view P.trail (moving.table_applied by_table p.now bytes.old)
         (λ next _. next bytes.new) result txn.old txn.new }
     ensures length { length bytes.new ≡ length bytes.old }
     ensures same { present P.view txn.new ≡ present P.view txn.old }
@@ -206,7 +207,7 @@ fn move_run<P: Port>(
     requires few { length buffer.old ≤ 512 }
     requires within { p.now.done + length buffer.old ≤ moving.moved_count p.now }
     requires room { 41 ≤ room txn.old }
-    ensures exact { Does P.view (moving.move_run by_table p.now (length buffer.old))
+    ensures exact { Does P.view P.trail (moving.move_run by_table p.now (length buffer.old))
         result txn.old txn.new }
     ensures keeps { KeepsUnlessDone P.view P.since 41 result txn.old txn.new }
 {
@@ -245,7 +246,7 @@ fn fill_run<P: Port>(
     requires one_page { (p.now.addr2 + p.now.done) % 4294967296 % 512 + length buffer.old ≤ 512 }
     requires within { p.now.done + length buffer.old ≤ p.now.len2 }
     requires room { 8 ≤ room txn.old }
-    ensures exact { Does P.view (moving.fill_run by_table p.now (length buffer.old))
+    ensures exact { Does P.view P.trail (moving.fill_run by_table p.now (length buffer.old))
         result txn.old txn.new }
     ensures keeps { KeepsUnlessDone P.view P.since 8 result txn.old txn.new }
 {
@@ -267,7 +268,7 @@ pub(crate) fn move_part<P: Port>(
 ) -> Result<Flow, CutShort>
     requires done { p.now.done ≤ p.now.len2 }
     requires room { 41 ≤ room txn.old }
-    ensures exact { Does P.view (moving.move_part by_table p.now) result txn.old txn.new }
+    ensures exact { Does P.view P.trail (moving.move_part by_table p.now) result txn.old txn.new }
     ensures keeps { KeepsUnlessDone P.view P.since 41 result txn.old txn.new }
 {
     if p.done == p.len2 {
@@ -287,7 +288,7 @@ pub(crate) fn move_part<P: Port>(
 }
 
 /// The first part of a move, with its checks.
-#[tactic(auto, using(vax_undo::proofs::Left::always, vax_undo::proofs::Left::behind, vax_flat::proofs::Leaves::over_port_raises), unfolding(vax_flat::specs::StringMove::move_start))]
+#[tactic(auto, using(vax_undo::proofs::Left::always, vax_undo::proofs::Left::behind, vax_undo::proofs::Trail::over_trail_raises), unfolding(vax_flat::specs::StringMove::move_start))]
 pub(crate) fn start_move<P: Port>(
     txn: &mut Txn<P>,
     by_table: bool,
@@ -297,7 +298,7 @@ pub(crate) fn start_move<P: Port>(
 ) -> Result<Flow, CutShort>
     requires done { p.now.done ≤ p.now.len2 }
     requires room { 41 ≤ room txn.old }
-    ensures exact { Does P.view (moving.move_start by_table p.now) result txn.old txn.new }
+    ensures exact { Does P.view P.trail (moving.move_start by_table p.now) result txn.old txn.new }
     ensures keeps { KeepsUnlessDone P.view P.since 41 result txn.old txn.new }
 {
     if is_reserved(by_table, p) {

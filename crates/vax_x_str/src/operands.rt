@@ -57,7 +57,7 @@ fn address_in(addr: u32) -> u32
 #[tactic(auto, unfolding(vax_flat::specs::StringOperands::next_word))]
 fn next_length<P: Port>(txn: &mut Txn<P>) -> Result<u16, CutShort>
     requires { 4 ≤ room txn.old }
-    ensures exact { Does P.view operands.next_word result txn.old txn.new }
+    ensures exact { Does P.view P.trail operands.next_word result txn.old txn.new }
     ensures keeps { Keeps P.view P.since 4 txn.old txn.new }
 {
     let value = next_value(txn, Size::W)?;
@@ -68,7 +68,7 @@ fn next_length<P: Port>(txn: &mut Txn<P>) -> Result<u16, CutShort>
 #[tactic(auto, unfolding(vax_flat::specs::StringOperands::next_byte))]
 fn next_byte<P: Port>(txn: &mut Txn<P>) -> Result<u8, CutShort>
     requires { 4 ≤ room txn.old }
-    ensures exact { Does P.view operands.next_byte result txn.old txn.new }
+    ensures exact { Does P.view P.trail operands.next_byte result txn.old txn.new }
     ensures keeps { Keeps P.view P.since 4 txn.old txn.new }
 {
     let value = next_value(txn, Size::B)?;
@@ -79,7 +79,7 @@ fn next_byte<P: Port>(txn: &mut Txn<P>) -> Result<u8, CutShort>
 #[tactic(auto, unfolding(vax_flat::specs::StringOperands::next_longword))]
 fn next_place<P: Port>(txn: &mut Txn<P>) -> Result<u32, CutShort>
     requires { 4 ≤ room txn.old }
-    ensures exact { Does P.view operands.next_longword result txn.old txn.new }
+    ensures exact { Does P.view P.trail operands.next_longword result txn.old txn.new }
     ensures keeps { Keeps P.view P.since 4 txn.old txn.new }
 {
     let addr = next_address(txn, Size::B)?;
@@ -90,7 +90,7 @@ fn next_place<P: Port>(txn: &mut Txn<P>) -> Result<u32, CutShort>
 #[tactic(auto, unfolding(vax_flat::specs::StringOperands::search_operands, vax_flat::specs::StringOperands::length_of))]
 pub(crate) fn search_operands<P: Port>(txn: &mut Txn<P>, op: u8) -> Result<Progress, CutShort>
     requires { 13 ≤ room txn.old }
-    ensures exact { Does P.view (operands.search_operands op) result txn.old txn.new }
+    ensures exact { Does P.view P.trail (operands.search_operands op) result txn.old txn.new }
     ensures keeps { Keeps P.view P.since 13 txn.old txn.new }
 {
     let from = txn.reg(15);
@@ -113,7 +113,7 @@ pub(crate) fn search_operands<P: Port>(txn: &mut Txn<P>, op: u8) -> Result<Progr
 #[tactic(auto, unfolding(vax_flat::specs::StringOperands::scan_operands, vax_flat::specs::StringOperands::length_of))]
 pub(crate) fn scan_operands<P: Port>(txn: &mut Txn<P>, op: u8) -> Result<Progress, CutShort>
     requires { 17 ≤ room txn.old }
-    ensures exact { Does P.view (operands.scan_operands op) result txn.old txn.new }
+    ensures exact { Does P.view P.trail (operands.scan_operands op) result txn.old txn.new }
     ensures keeps { Keeps P.view P.since 17 txn.old txn.new }
 {
     let from = txn.reg(15);
@@ -138,7 +138,7 @@ pub(crate) fn scan_operands<P: Port>(txn: &mut Txn<P>, op: u8) -> Result<Progres
 #[tactic(auto, unfolding(vax_flat::specs::StringOperands::equal_operands, vax_flat::specs::StringOperands::length_of))]
 pub(crate) fn equal_operands<P: Port>(txn: &mut Txn<P>, op: u8) -> Result<Progress, CutShort>
     requires { 13 ≤ room txn.old }
-    ensures exact { Does P.view (operands.equal_operands op) result txn.old txn.new }
+    ensures exact { Does P.view P.trail (operands.equal_operands op) result txn.old txn.new }
     ensures fresh { IfOk result (λ p. p.done ≡ 0) }
     ensures keeps { Keeps P.view P.since 13 txn.old txn.new }
 {
@@ -163,7 +163,7 @@ pub(crate) fn equal_operands<P: Port>(txn: &mut Txn<P>, op: u8) -> Result<Progre
 #[tactic(auto, unfolding(vax_flat::specs::StringOperands::filled_operands, vax_flat::specs::StringOperands::length_of))]
 pub(crate) fn filled_operands<P: Port>(txn: &mut Txn<P>, op: u8) -> Result<Progress, CutShort>
     requires { 21 ≤ room txn.old }
-    ensures exact { Does P.view (operands.filled_operands op) result txn.old txn.new }
+    ensures exact { Does P.view P.trail (operands.filled_operands op) result txn.old txn.new }
     ensures fresh { IfOk result (λ p. p.done ≡ 0) }
     ensures keeps { Keeps P.view P.since 21 txn.old txn.new }
 {
@@ -191,7 +191,7 @@ pub(crate) fn filled_operands<P: Port>(txn: &mut Txn<P>, op: u8) -> Result<Progr
 #[tactic(auto, unfolding(vax_flat::specs::StringOperands::translated_operands, vax_flat::specs::StringOperands::length_of))]
 pub(crate) fn translated_operands<P: Port>(txn: &mut Txn<P>, op: u8) -> Result<Progress, CutShort>
     requires { 25 ≤ room txn.old }
-    ensures exact { Does P.view (operands.translated_operands op) result txn.old txn.new }
+    ensures exact { Does P.view P.trail (operands.translated_operands op) result txn.old txn.new }
     ensures fresh { IfOk result (λ p. p.done ≡ 0) }
     ensures keeps { Keeps P.view P.since 25 txn.old txn.new }
 {
@@ -221,7 +221,7 @@ pub(crate) fn translated_operands<P: Port>(txn: &mut Txn<P>, op: u8) -> Result<P
 #[tactic(auto, unfolding(vax_flat::specs::StringOperands::match_operands, vax_flat::specs::StringOperands::length_of))]
 pub(crate) fn match_operands<P: Port>(txn: &mut Txn<P>, op: u8) -> Result<Progress, CutShort>
     requires { 17 ≤ room txn.old }
-    ensures exact { Does P.view (operands.match_operands op) result txn.old txn.new }
+    ensures exact { Does P.view P.trail (operands.match_operands op) result txn.old txn.new }
     ensures fresh { IfOk result (λ p. p.done ≡ 0) }
     ensures keeps { Keeps P.view P.since 17 txn.old txn.new }
 {

@@ -33,7 +33,7 @@ pub(crate) fn low_registers<P: Port>(txn: &Txn<P>) -> [u32; 6]
 #[tactic(auto, unfolding(vax_flat::specs::String::with_low))]
 fn set_low<P: Port>(txn: &mut Txn<P>, values: &[u32; 6])
     requires { 6 ≤ room txn.old }
-    ensures exact { Updates P.view (with_low values.now) txn.old txn.new }
+    ensures exact { Updates P.view P.trail (with_low values.now) txn.old txn.new }
     ensures keeps { Keeps P.view P.since 6 txn.old txn.new }
 {
     txn.set_reg(0, values[0]);
@@ -48,7 +48,7 @@ fn set_low<P: Port>(txn: &mut Txn<P>, values: &[u32; 6])
 #[tactic(auto, using(vax_undo::proofs::Left::open_through), unfolding(vax_flat::specs::String::left))]
 fn leave<P: Port>(txn: &mut Txn<P>, delta: u8)
     requires { 2 ≤ room txn.old }
-    ensures exact { Updates P.view (left delta) txn.old txn.new }
+    ensures exact { Updates P.view P.trail (left delta) txn.old txn.new }
     ensures left { IsLeftOpen P.view P.since 2 txn.old txn.new }
 {
     let pc = txn.reg(15).wrapping_sub(u32::from(delta));
@@ -61,7 +61,8 @@ fn leave<P: Port>(txn: &mut Txn<P>, delta: u8)
 #[tactic(auto, unfolding(vax_undo::specs::FirstPart::first_part_done))]
 pub(crate) fn clear_part_done<P: Port>(txn: &mut Txn<P>)
     requires { 1 ≤ room txn.old }
-    ensures exact { Updates P.view (λ s. with_psl s (no_part_done s.core.psl)) txn.old txn.new }
+    ensures exact { Updates P.view P.trail (λ s. with_psl s (no_part_done s.core.psl))
+        txn.old txn.new }
     ensures closed { NothingOpen txn.new.core.now.psl }
     ensures keeps { Keeps P.view P.since 1 txn.old txn.new }
 {
@@ -72,7 +73,7 @@ pub(crate) fn clear_part_done<P: Port>(txn: &mut Txn<P>)
 /// What a string instruction begins from, behind its operands: no part is done.
 pub(crate) fn begin_anew<P: Port>(txn: &mut Txn<P>)
     requires { 1 ≤ room txn.old }
-    ensures exact { Updates P.view begun txn.old txn.new }
+    ensures exact { Updates P.view P.trail begun txn.old txn.new }
     ensures keeps { Keeps P.view P.since 1 txn.old txn.new }
 {
     let _ = txn.registers();
@@ -83,7 +84,7 @@ pub(crate) fn begin_anew<P: Port>(txn: &mut Txn<P>)
 #[tactic(auto, unfolding(vax_flat::specs::String::continued))]
 fn go_on<P: Port>(txn: &mut Txn<P>, delta: u8)
     requires { 2 ≤ room txn.old }
-    ensures exact { Updates P.view (continued delta) txn.old txn.new }
+    ensures exact { Updates P.view P.trail (continued delta) txn.old txn.new }
     ensures closed { NothingOpen txn.new.core.now.psl }
     ensures keeps { Keeps P.view P.since 2 txn.old txn.new }
 {
@@ -96,7 +97,7 @@ fn go_on<P: Port>(txn: &mut Txn<P>, delta: u8)
 #[tactic(auto, using(vax_undo::proofs::Left::open_through), unfolding(vax_flat::specs::String::suspended))]
 pub(crate) fn suspend<P: Port>(txn: &mut Txn<P>, rest: &Progress)
     requires { 8 ≤ room txn.old }
-    ensures exact { Updates P.view (suspended rest.now) txn.old txn.new }
+    ensures exact { Updates P.view P.trail (suspended rest.now) txn.old txn.new }
     ensures left { IsLeftOpen P.view P.since 8 txn.old txn.new }
 {
     let old = low_registers(txn);
@@ -112,7 +113,7 @@ pub(crate) fn leave_rest<P: Port>(
     units: u32,
 ) -> Result<Flow, CutShort>
     requires { 8 ≤ room txn.old }
-    ensures exact { Does P.view (leaves rest.now units) result txn.old txn.new }
+    ensures exact { Does P.view P.trail (leaves rest.now units) result txn.old txn.new }
     ensures keeps { KeepsUnlessDone P.view P.since 8 result txn.old txn.new }
 {
     suspend(txn, rest);
@@ -125,7 +126,7 @@ pub(crate) fn leave_rest<P: Port>(
 /// Sets R0 to R5 and the codes of an instruction that is completed.
 pub(crate) fn set_completed<P: Port>(txn: &mut Txn<P>, values: &[u32; 6], codes: Codes)
     requires { 7 ≤ room txn.old }
-    ensures exact { Updates P.view (λ s. with_low values.now (with_conditions s codes))
+    ensures exact { Updates P.view P.trail (λ s. with_low values.now (with_conditions s codes))
         txn.old txn.new }
     ensures keeps { Keeps P.view P.since 7 txn.old txn.new }
 {
@@ -141,7 +142,7 @@ pub(crate) fn complete<P: Port>(
     codes: Codes,
 ) -> Result<Flow, CutShort>
     requires { 7 ≤ room txn.old }
-    ensures exact { Does P.view (completed values.now codes) result txn.old txn.new }
+    ensures exact { Does P.view P.trail (completed values.now codes) result txn.old txn.new }
     ensures keeps { Keeps P.view P.since 7 txn.old txn.new }
 {
     set_completed(txn, values, codes);
@@ -152,7 +153,7 @@ pub(crate) fn complete<P: Port>(
 pub(crate) fn continue_from<P: Port>(txn: &mut Txn<P>, opcode: u8) -> Progress
     requires { 2 ≤ room txn.old }
     ensures progress { result ≡ unpacked opcode (low_registers (present P.view txn.old).state) }
-    ensures exact { Updates P.view (continued result.delta) txn.old txn.new }
+    ensures exact { Updates P.view P.trail (continued result.delta) txn.old txn.new }
     ensures closed { NothingOpen txn.new.core.now.psl }
     ensures keeps { Keeps P.view P.since 2 txn.old txn.new }
 {

@@ -9,7 +9,7 @@ use vax_operand::write;
 use vax_undo::{CutShort, Port, Txn, number_of};
 
 /// Reads a run of 1 to 512 bytes that lies within one page.
-#[tactic(auto, unfolding(vax_flat::specs::OverPort::over_port, vax_flat::specs::String::read_run_at))]
+#[tactic(auto, unfolding(vax_undo::specs::Trail::over_trail, vax_flat::specs::String::read_run_at))]
 pub(crate) fn read_run<P: Port>(
     txn: &mut Txn<P>,
     addr: u32,
@@ -17,7 +17,8 @@ pub(crate) fn read_run<P: Port>(
 ) -> Result<(), CutShort>
     requires some { 1 ≤ length into.old }
     requires one_page { addr % 512 + length into.old ≤ 512 }
-    ensures exact { Passes P.view (read_run_at addr (length into.old)) (λ next _. next into.new)
+    ensures exact { Passes P.view P.trail
+        (read_run_at addr (length into.old)) (λ next _. next into.new)
         result txn.old txn.new }
     ensures same { present P.view txn.new ≡ present P.view txn.old }
     ensures keeps { Keeps P.view P.since 0 txn.old txn.new }
@@ -38,7 +39,8 @@ pub(crate) fn read_span<P: Port>(
 ) -> Result<(), CutShort>
     requires some { 1 ≤ length into.old }
     requires few { length into.old ≤ 512 }
-    ensures exact { Passes P.view (read_span addr (length into.old)) (λ next _. next into.new)
+    ensures exact { Passes P.view P.trail
+        (read_span addr (length into.old)) (λ next _. next into.new)
         result txn.old txn.new }
     ensures same { present P.view txn.new ≡ present P.view txn.old }
     ensures keeps { Keeps P.view P.since 0 txn.old txn.new }
@@ -53,11 +55,11 @@ pub(crate) fn read_span<P: Port>(
 }
 
 /// Writes a run of 1 to 512 bytes that lies within one page, which isn't undone.
-#[tactic(auto, unfolding(vax_flat::specs::OverPort::over_port, vax_flat::specs::String::write_run_at))]
+#[tactic(auto, unfolding(vax_undo::specs::Trail::over_trail, vax_flat::specs::String::write_run_at))]
 pub(crate) fn write_run<P: Port>(txn: &mut Txn<P>, addr: u32, from: &[u8]) -> Result<(), CutShort>
     requires some { 1 ≤ length from.now }
     requires one_page { addr % 512 + length from.now ≤ 512 }
-    ensures exact { Acts P.view (write_run_at addr from.now) result txn.old txn.new }
+    ensures exact { Acts P.view P.trail (write_run_at addr from.now) result txn.old txn.new }
     ensures keeps { OnErr result (Keeps P.view P.since 0 txn.old txn.new) }
     ensures left { OnOk result (IsLeftOpen P.view P.since 0 txn.old txn.new) }
     ensures completed { OnOk result (IsLeft P.since 0 txn.old txn.new) }
@@ -75,7 +77,7 @@ fn write_few<P: Port>(txn: &mut Txn<P>, addr: u32, from: &[u8]) -> Result<(), Cu
     requires some { 1 ≤ length from.now }
     requires few { length from.now ≤ 8 }
     requires room { 1 ≤ room txn.old }
-    ensures exact { Acts P.view (write_run_at addr from.now) result txn.old txn.new }
+    ensures exact { Acts P.view P.trail (write_run_at addr from.now) result txn.old txn.new }
     ensures keeps { Keeps P.view P.since 1 txn.old txn.new }
 {
     let value = number_of(from);
@@ -88,7 +90,7 @@ fn write_pieces<P: Port>(txn: &mut Txn<P>, addr: u32, from: &[u8]) -> Result<(),
     requires some { 1 ≤ length from.now }
     requires few { length from.now ≤ 256 }
     requires room { (length from.now + 7) / 8 ≤ room txn.old }
-    ensures exact { Acts P.view (write_pieces (pieces_of from.now) addr from.now)
+    ensures exact { Acts P.view P.trail (write_pieces (pieces_of from.now) addr from.now)
         result txn.old txn.new }
     ensures keeps { Keeps P.view P.since ((length from.now + 7) / 8) txn.old txn.new }
 {
@@ -107,7 +109,7 @@ fn write_high_last<P: Port>(txn: &mut Txn<P>, addr: u32, from: &[u8]) -> Result<
     requires beyond { 512 < addr % 512 + length from.now }
     requires smaller { 256 ≤ addr % 512 }
     requires room { 33 ≤ room txn.old }
-    ensures exact { Acts P.view (write_high_last addr from.now) result txn.old txn.new }
+    ensures exact { Acts P.view P.trail (write_high_last addr from.now) result txn.old txn.new }
     ensures keeps { OnErr result (Keeps P.view P.since 33 txn.old txn.new) }
     ensures left { OnOk result (IsLeftOpen P.view P.since 33 txn.old txn.new) }
     ensures completed { OnOk result (IsLeft P.since 33 txn.old txn.new) }
@@ -125,7 +127,7 @@ fn write_low_last<P: Port>(txn: &mut Txn<P>, addr: u32, from: &[u8]) -> Result<(
     requires beyond { 512 < addr % 512 + length from.now }
     requires smaller { addr % 512 < 256 }
     requires room { 33 ≤ room txn.old }
-    ensures exact { Acts P.view (write_low_last addr from.now) result txn.old txn.new }
+    ensures exact { Acts P.view P.trail (write_low_last addr from.now) result txn.old txn.new }
     ensures keeps { OnErr result (Keeps P.view P.since 33 txn.old txn.new) }
     ensures left { OnOk result (IsLeftOpen P.view P.since 33 txn.old txn.new) }
     ensures completed { OnOk result (IsLeft P.since 33 txn.old txn.new) }
@@ -143,7 +145,7 @@ pub(crate) fn write_span<P: Port>(txn: &mut Txn<P>, addr: u32, from: &[u8]) -> R
     requires some { 1 ≤ length from.now }
     requires few { length from.now ≤ 512 }
     requires room { 33 ≤ room txn.old }
-    ensures exact { Acts P.view (write_span addr from.now) result txn.old txn.new }
+    ensures exact { Acts P.view P.trail (write_span addr from.now) result txn.old txn.new }
     ensures keeps { OnErr result (Keeps P.view P.since 33 txn.old txn.new) }
     ensures left { OnOk result (IsLeftOpen P.view P.since 33 txn.old txn.new) }
     ensures completed { OnOk result (IsLeft P.since 33 txn.old txn.new) }

@@ -29,7 +29,7 @@ fn found_codes(left: u32) -> Codes
 #[tactic(auto, unfolding(vax_flat::specs::StringSearch::located))]
 fn locate_at<P: Port>(txn: &mut Txn<P>, left: u32, addr: u32) -> Result<Flow, CutShort>
     requires { 7 ≤ room txn.old }
-    ensures exact { Does P.view (search.located left addr) result txn.old txn.new }
+    ensures exact { Does P.view P.trail (search.located left addr) result txn.old txn.new }
     ensures keeps { Keeps P.view P.since 7 txn.old txn.new }
 {
     let old = low_registers(txn);
@@ -86,7 +86,7 @@ fn end_search<P: Port>(
 ) -> Result<Flow, CutShort>
     requires rest { length bytes.now ≤ p.now.len1 }
     requires room { 8 ≤ room txn.old }
-    ensures exact { Does P.view
+    ensures exact { Does P.view P.trail
         (search.search_end search.located (search.is_sought equal p.now.byte) p.now bytes.now)
         result txn.old txn.new }
     ensures keeps { KeepsUnlessDone P.view P.since 8 result txn.old txn.new }
@@ -120,7 +120,7 @@ fn search_run<P: Port>(
     requires rest { length buffer.old ≤ p.now.len1 }
     requires one_page { p.now.addr1 % 512 + length buffer.old ≤ 512 }
     requires room { 8 ≤ room txn.old }
-    ensures exact { Does P.view (search.search_run equal p.now (length buffer.old))
+    ensures exact { Does P.view P.trail (search.search_run equal p.now (length buffer.old))
         result txn.old txn.new }
     ensures keeps { KeepsUnlessDone P.view P.since 8 result txn.old txn.new }
 {
@@ -137,7 +137,7 @@ pub(crate) fn search_part<P: Port>(
     buffer: &mut [u8; 512],
 ) -> Result<Flow, CutShort>
     requires { 8 ≤ room txn.old }
-    ensures exact { Does P.view (search.search_part equal p.now) result txn.old txn.new }
+    ensures exact { Does P.view P.trail (search.search_part equal p.now) result txn.old txn.new }
     ensures keeps { KeepsUnlessDone P.view P.since 8 result txn.old txn.new }
 {
     if p.len1 == 0 {
@@ -150,7 +150,7 @@ pub(crate) fn search_part<P: Port>(
 #[tactic(auto, unfolding(vax_flat::specs::StringSearch::scanned))]
 fn scan_at<P: Port>(txn: &mut Txn<P>, table: u32, left: u32, addr: u32) -> Result<Flow, CutShort>
     requires { 7 ≤ room txn.old }
-    ensures exact { Does P.view (search.scanned table left addr) result txn.old txn.new }
+    ensures exact { Does P.view P.trail (search.scanned table left addr) result txn.old txn.new }
     ensures keeps { Keeps P.view P.since 7 txn.old txn.new }
 {
     let old = low_registers(txn);
@@ -166,7 +166,7 @@ fn scan_at<P: Port>(txn: &mut Txn<P>, table: u32, left: u32, addr: u32) -> Resul
 fn read_piece<P: Port>(txn: &mut Txn<P>, addr: u32, into: &mut [u8]) -> Result<bool, CutShort>
     requires some { 1 ≤ length into.old }
     requires one_page { addr % 512 + length into.old ≤ 512 }
-    ensures exact { Passes P.view (search.piece_read addr (length into.old))
+    ensures exact { Passes P.view P.trail (search.piece_read addr (length into.old))
         (λ next allowed. next allowed into.new) result txn.old txn.new }
     ensures same { present P.view txn.new ≡ present P.view txn.old }
     ensures keeps { Keeps P.view P.since 0 txn.old txn.new }
@@ -188,7 +188,7 @@ fn read_table<P: Port>(
     into: &mut [u8],
 ) -> Result<(u16, u16), CutShort>
     requires whole { length into.old ≡ 256 }
-    ensures exact { Passes P.view (search.table_read table)
+    ensures exact { Passes P.view P.trail (search.table_read table)
         (λ next known. next known.0 known.1 into.new) result txn.old txn.new }
     ensures same { present P.view txn.new ≡ present P.view txn.old }
     ensures keeps { Keeps P.view P.since 0 txn.old txn.new }
@@ -268,7 +268,7 @@ fn end_own<P: Port>(
 ) -> Result<Flow, CutShort>
     requires rest { length bytes.now ≤ p.now.len1 }
     requires room { 8 ≤ room txn.old }
-    ensures exact { Does P.view
+    ensures exact { Does P.view P.trail
         (search.search_end (search.scanned p.now.table)
         (λ byte. search.is_masked some p.now.byte entry) p.now bytes.now)
         result txn.old txn.new }
@@ -303,7 +303,7 @@ fn end_scan<P: Port>(
 ) -> Result<Flow, CutShort>
     requires rest { length bytes.now ≤ p.now.len1 }
     requires room { 8 ≤ room txn.old }
-    ensures exact { Does P.view
+    ensures exact { Does P.view P.trail
         (search.search_end (search.scanned p.now.table)
         (search.is_masked_entry some entries.now p.now.byte) p.now bytes.now)
         result txn.old txn.new }
@@ -340,7 +340,7 @@ fn scan_run<P: Port>(
     requires rest { length buffer.old ≤ p.now.len1 }
     requires one_page { p.now.addr1 % 512 + length buffer.old ≤ 512 }
     requires room { 8 ≤ room txn.old }
-    ensures exact { Does P.view (search.scan_run some p.now (length buffer.old))
+    ensures exact { Does P.view P.trail (search.scan_run some p.now (length buffer.old))
         result txn.old txn.new }
     ensures keeps { KeepsUnlessDone P.view P.since 8 result txn.old txn.new }
 {
@@ -370,7 +370,7 @@ pub(crate) fn scan_part<P: Port>(
     entries: &mut [u8; 256],
 ) -> Result<Flow, CutShort>
     requires { 8 ≤ room txn.old }
-    ensures exact { Does P.view (search.scan_part some p.now) result txn.old txn.new }
+    ensures exact { Does P.view P.trail (search.scan_part some p.now) result txn.old txn.new }
     ensures keeps { KeepsUnlessDone P.view P.since 8 result txn.old txn.new }
 {
     if p.len1 == 0 {

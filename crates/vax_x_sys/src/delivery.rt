@@ -24,7 +24,7 @@ const CONTROL_BLOCK: u32 = 0x8000_0000;
 #[inline]
 #[tactic(auto, unfolding(vax_flat::specs::Delivery::vectored))]
 fn vector<P: Port>(txn: &mut Txn<P>, offset: u16) -> Result<Option<u32>, CutShort>
-    ensures exact { Does P.view (vectored offset) result txn.old txn.new }
+    ensures exact { Does P.view P.trail (vectored offset) result txn.old txn.new }
     ensures same { present P.view txn.new ≡ present P.view txn.old }
     ensures keeps { Keeps P.view P.since 0 txn.old txn.new }
 {
@@ -47,7 +47,7 @@ fn enter<P: Port>(
 ) -> Result<Delivery, CutShort>
     requires closed { NothingOpen psl }
     requires room { 13 ≤ room txn.old }
-    ensures exact { Does P.view (entered (listed parameters) vector interrupt psl)
+    ensures exact { Does P.view P.trail (entered (listed parameters) vector interrupt psl)
         result txn.old txn.new }
     ensures keeps { Keeps P.view P.since 13 txn.old txn.new }
 {
@@ -88,7 +88,7 @@ fn dispatch<P: Port>(
     vector: Option<u32>,
 ) -> Result<Delivery, CutShort>
     requires { 13 ≤ room txn.old }
-    ensures exact { Does P.view (dispatched exception vector) result txn.old txn.new }
+    ensures exact { Does P.view P.trail (dispatched exception vector) result txn.old txn.new }
     ensures keeps { Keeps P.view P.since 13 txn.old txn.new }
 {
     let Some(vector) = vector else {
@@ -113,7 +113,7 @@ fn dispatch<P: Port>(
 #[tactic(auto, unfolding(vax_flat::specs::Delivery::delivery))]
 fn deliver_by_vector<P: Port>(txn: &mut Txn<P>, exception: Exception) -> Result<Delivery, CutShort>
     requires { room_of_delivery ≤ room txn.old }
-    ensures exact { Does P.view (delivery exception) result txn.old txn.new }
+    ensures exact { Does P.view P.trail (delivery exception) result txn.old txn.new }
     ensures keeps { Keeps P.view P.since room_of_delivery txn.old txn.new }
 {
     let vector = vector(txn, vector_of(exception))?;
@@ -126,7 +126,7 @@ fn deliver_by_vector<P: Port>(txn: &mut Txn<P>, exception: Exception) -> Result<
 /// The run ends where the vector can't be read or asks for it, or where the frame can't be pushed. The cut is a page that is absent alone.
 pub fn deliver<P: Port>(txn: &mut Txn<P>, exception: Exception) -> Result<Delivery, CutShort>
     requires { room_of_delivery ≤ room txn.old }
-    ensures exact { Does P.view (delivery exception) result txn.old txn.new }
+    ensures exact { Does P.view P.trail (delivery exception) result txn.old txn.new }
     ensures quiet { RaisedNothing (told txn.new result) }
     ensures keeps { Keeps P.view P.since room_of_delivery txn.old txn.new }
 {
@@ -153,7 +153,7 @@ fn interrupt_vector(level: u8) -> u16
 fn take_back<P: Port>(txn: &mut Txn<P>, level: u8)
     requires of_level { IsLevel level }
     requires room { 1 ≤ room txn.old }
-    ensures exact { Updates P.view (served level) txn.old txn.new }
+    ensures exact { Updates P.view P.trail (served level) txn.old txn.new }
     ensures keeps { Keeps P.view P.since 1 txn.old txn.new }
 {
     if level == 22 {
@@ -173,7 +173,7 @@ fn interrupt_by<P: Port>(
 ) -> Result<Delivery, CutShort>
     requires of_level { IsLevel level }
     requires room { 14 ≤ room txn.old }
-    ensures exact { Does P.view (interrupted level vector) result txn.old txn.new }
+    ensures exact { Does P.view P.trail (interrupted level vector) result txn.old txn.new }
     ensures keeps { Keeps P.view P.since 14 txn.old txn.new }
 {
     let Some(vector) = vector else {
@@ -199,7 +199,7 @@ fn interrupt_by<P: Port>(
 fn interrupt_by_vector<P: Port>(txn: &mut Txn<P>, level: u8) -> Result<Delivery, CutShort>
     requires of_level { IsLevel level }
     requires room { room_of_delivery ≤ room txn.old }
-    ensures exact { Does P.view (interrupt level) result txn.old txn.new }
+    ensures exact { Does P.view P.trail (interrupt level) result txn.old txn.new }
     ensures keeps { Keeps P.view P.since room_of_delivery txn.old txn.new }
 {
     let vector = vector(txn, interrupt_vector(level))?;
@@ -211,7 +211,7 @@ fn interrupt_by_vector<P: Port>(txn: &mut Txn<P>, level: u8) -> Result<Delivery,
 pub fn interrupt<P: Port>(txn: &mut Txn<P>, level: u8) -> Result<Delivery, CutShort>
     requires of_level { IsLevel level }
     requires room { room_of_delivery ≤ room txn.old }
-    ensures exact { Does P.view (interrupt level) result txn.old txn.new }
+    ensures exact { Does P.view P.trail (interrupt level) result txn.old txn.new }
     ensures quiet { RaisedNothing (told txn.new result) }
     ensures keeps { Keeps P.view P.since room_of_delivery txn.old txn.new }
 {
@@ -230,7 +230,7 @@ fn push_outside<P: Port>(
 ) -> Result<(), CutShort>
     requires of_mode { mode ≤ 3 }
     requires room { 6 ≤ room txn.old }
-    ensures exact { Acts P.view (pushed_outside mode old pc code) result txn.old txn.new }
+    ensures exact { Acts P.view P.trail (pushed_outside mode old pc code) result txn.old txn.new }
     ensures keeps { Keeps P.view P.since 6 txn.old txn.new }
 {
     push_in(txn, mode, old.0)?;
@@ -244,7 +244,7 @@ fn push_outside<P: Port>(
 fn arrive<P: Port>(txn: &mut Txn<P>, new: u8, vector: u32, old: Psl)
     requires new { new < 4 }
     requires room { 2 ≤ room txn.old }
-    ensures exact { Updates P.view (changed new vector old) txn.old txn.new }
+    ensures exact { Updates P.view P.trail (changed new vector old) txn.old txn.new }
     ensures keeps { Keeps P.view P.since 2 txn.old txn.new }
 {
     go_on(txn, vector, status(new, old.mode(), old.ipl(), false));
@@ -260,7 +260,7 @@ fn change_to<P: Port>(
 ) -> Result<Delivery, CutShort>
     requires new { new < 4 }
     requires room { 13 ≤ room txn.old }
-    ensures exact { Does P.view (changed_to new code vector) result txn.old txn.new }
+    ensures exact { Does P.view P.trail (changed_to new code vector) result txn.old txn.new }
     ensures keeps { Keeps P.view P.since 13 txn.old txn.new }
 {
     let old = txn.psl();
@@ -310,7 +310,7 @@ fn change_by<P: Port>(
     vector: Option<u32>,
 ) -> Result<Delivery, CutShort>
     requires { 13 ≤ room txn.old }
-    ensures exact { Does P.view (change_by target code vector) result txn.old txn.new }
+    ensures exact { Does P.view P.trail (change_by target code vector) result txn.old txn.new }
     ensures keeps { Keeps P.view P.since 13 txn.old txn.new }
 {
     let Some(vector) = vector else {
@@ -331,7 +331,7 @@ pub(crate) fn change_mode<P: Port>(
     code: u16,
 ) -> Result<Delivery, CutShort>
     requires { room_of_delivery ≤ room txn.old }
-    ensures exact { Does P.view (change_mode target code) result txn.old txn.new }
+    ensures exact { Does P.view P.trail (change_mode target code) result txn.old txn.new }
     ensures keeps { Keeps P.view P.since room_of_delivery txn.old txn.new }
 {
     if on_interrupt_stack(txn.psl()) {

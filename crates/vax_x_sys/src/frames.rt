@@ -49,7 +49,7 @@ pub(crate) fn parameters_of(exception: Exception) -> Parameters
 pub(crate) fn push_in<P: Port>(txn: &mut Txn<P>, mode: u8, value: u32) -> Result<(), CutShort>
     requires of_mode { mode ≤ 3 }
     requires room { 2 ≤ room txn.old }
-    ensures exact { Acts P.view (pushed_in mode value) result txn.old txn.new }
+    ensures exact { Acts P.view P.trail (pushed_in mode value) result txn.old txn.new }
     ensures keeps { Keeps P.view P.since 2 txn.old txn.new }
 {
     let top = txn.reg(14).wrapping_sub(4);
@@ -63,7 +63,7 @@ pub(crate) fn push_in<P: Port>(txn: &mut Txn<P>, mode: u8, value: u32) -> Result
 #[tactic(auto, unfolding(vax_flat::specs::Delivery::pushed_if))]
 pub(crate) fn push_if<P: Port>(txn: &mut Txn<P>, value: u32) -> Result<bool, CutShort>
     requires { 2 ≤ room txn.old }
-    ensures exact { Does P.view (pushed_if value) result txn.old txn.new }
+    ensures exact { Does P.view P.trail (pushed_if value) result txn.old txn.new }
     ensures keeps { Keeps P.view P.since 2 txn.old txn.new }
 {
     let top = txn.reg(14).wrapping_sub(4);
@@ -79,7 +79,7 @@ pub(crate) fn push_if<P: Port>(txn: &mut Txn<P>, value: u32) -> Result<bool, Cut
 #[tactic(auto, unfolding(vax_flat::specs::Delivery::pushed_all))]
 fn push_parameters<P: Port>(txn: &mut Txn<P>, parameters: Parameters) -> Result<bool, CutShort>
     requires { 4 ≤ room txn.old }
-    ensures exact { Does P.view (pushed_all (listed parameters)) result txn.old txn.new }
+    ensures exact { Does P.view P.trail (pushed_all (listed parameters)) result txn.old txn.new }
     ensures keeps { Keeps P.view P.since 4 txn.old txn.new }
 {
     match parameters {
@@ -111,7 +111,7 @@ pub(crate) fn push_frame<P: Port>(
     parameters: Parameters,
 ) -> Result<bool, CutShort>
     requires { 8 ≤ room txn.old }
-    ensures exact { Does P.view (pushed_all (psl.0 ∷ pc ∷ listed parameters))
+    ensures exact { Does P.view P.trail (pushed_all (psl.0 ∷ pc ∷ listed parameters))
         result txn.old txn.new }
     ensures keeps { Keeps P.view P.since 8 txn.old txn.new }
 {

@@ -29,7 +29,7 @@ use vax_undo::{CutShort, Port, Txn};
 /// exactly where the interval clock was set.
 pub fn run<P: Port>(txn: &mut Txn<P>, instruction: System) -> Result<Flow, CutShort>
     requires { room_of_transfer ≤ room txn.old }
-    ensures exact { Does P.view (performed instruction) result txn.old txn.new }
+    ensures exact { Does P.view P.trail (performed instruction) result txn.old txn.new }
     ensures everywhere { GoesEverywhere P.view (performed instruction) result txn.old txn.new }
     ensures keeps { Keeps P.view P.since room_of_transfer txn.old txn.new }
 {

@@ -28,7 +28,7 @@ fn probe_by<P: Port>(
     requires of_mode { mode ≤ 3 }
     requires length { length < 2 ^ 16 }
     requires room { 1 ≤ room txn.old }
-    ensures exact { Does P.view (probed writing mode length base) result txn.old txn.new }
+    ensures exact { Does P.view P.trail (probed writing mode length base) result txn.old txn.new }
     ensures keeps { Keeps P.view P.since 1 txn.old txn.new }
 {
     let access = accessing(writing);
@@ -49,7 +49,7 @@ fn probe_by<P: Port>(
 #[tactic(auto, unfolding(vax_flat::specs::System::probe))]
 pub(crate) fn probe<P: Port>(txn: &mut Txn<P>, writing: bool) -> Result<Flow, CutShort>
     requires { 13 ≤ room txn.old }
-    ensures exact { Does P.view (probe writing) result txn.old txn.new }
+    ensures exact { Does P.view P.trail (probe writing) result txn.old txn.new }
     ensures keeps { Keeps P.view P.since 13 txn.old txn.new }
 {
     let named = next_value(txn, Size::B)?;

@@ -14,7 +14,7 @@ use vax_word::{Codes, Psl, Size, is_negative};
 #[tactic(auto, unfolding(vax_word::specs::Arithmetic::answer))]
 fn set_moved<P: Port>(txn: &mut Txn<P>, value: u32)
     requires { 1 ≤ room txn.old }
-    ensures exact { Updates P.view (with_moved value) txn.old txn.new }
+    ensures exact { Updates P.view P.trail (with_moved value) txn.old txn.new }
     ensures keeps { Keeps P.view P.since 1 txn.old txn.new }
 {
     let codes = Codes {
@@ -45,7 +45,7 @@ fn pointer<P: Port>(txn: &Txn<P>, n: u8) -> u32
 fn set_pointer<P: Port>(txn: &mut Txn<P>, n: u8, value: u32)
     requires n { n < 5 }
     requires room { 1 ≤ room txn.old }
-    ensures exact { Updates P.view (with_pointer n value) txn.old txn.new }
+    ensures exact { Updates P.view P.trail (with_pointer n value) txn.old txn.new }
     ensures keeps { Keeps P.view P.since 1 txn.old txn.new }
 {
     if n == stack_in_use(txn.psl()) {
@@ -61,7 +61,7 @@ fn set_pointer<P: Port>(txn: &mut Txn<P>, n: u8, value: u32)
 fn set_priority<P: Port>(txn: &mut Txn<P>, level: u32)
     requires level { level < 32 }
     requires room { 1 ≤ room txn.old }
-    ensures exact { Updates P.view (with_priority level) txn.old txn.new }
+    ensures exact { Updates P.view P.trail (with_priority level) txn.old txn.new }
     ensures keeps { Keeps P.view P.since 1 txn.old txn.new }
 {
     let Psl(bits) = txn.psl();
@@ -75,7 +75,7 @@ fn set_priority<P: Port>(txn: &mut Txn<P>, level: u32)
 fn request<P: Port>(txn: &mut Txn<P>, level: u32)
     requires level { level < 16 }
     requires room { 1 ≤ room txn.old }
-    ensures exact { Updates P.view (requested level) txn.old txn.new }
+    ensures exact { Updates P.view P.trail (requested level) txn.old txn.new }
     ensures keeps { Keeps P.view P.since 1 txn.old txn.new }
 {
     if level != 0 {
@@ -88,7 +88,7 @@ fn request<P: Port>(txn: &mut Txn<P>, level: u32)
 #[tactic(auto, unfolding(vax_flat::specs::System::clock_set))]
 fn set_clock<P: Port>(txn: &mut Txn<P>, value: u32)
     requires { 2 ≤ room txn.old }
-    ensures exact { Updates P.view (clock_set value) txn.old txn.new }
+    ensures exact { Updates P.view P.trail (clock_set value) txn.old txn.new }
     ensures keeps { Keeps P.view P.since 2 txn.old txn.new }
 {
     let on = value / 0x40 % 2 == 1;
@@ -98,10 +98,10 @@ fn set_clock<P: Port>(txn: &mut Txn<P>, value: u32)
 }
 
 /// Writes a register of the processor.
-#[tactic(auto, using(vax_flat::proofs::Leaves::over_port_raises), unfolding(vax_flat::specs::System::set_processor))]
+#[tactic(auto, using(vax_undo::proofs::Trail::over_trail_raises), unfolding(vax_flat::specs::System::set_processor))]
 fn set_register<P: Port>(txn: &mut Txn<P>, number: u32, value: u32) -> Result<Flow, CutShort>
     requires { 2 ≤ room txn.old }
-    ensures exact { Does P.view (set_processor number value) result txn.old txn.new }
+    ensures exact { Does P.view P.trail (set_processor number value) result txn.old txn.new }
     ensures keeps { Keeps P.view P.since 2 txn.old txn.new }
 {
     if number <= 4 {
@@ -127,7 +127,7 @@ fn set_register<P: Port>(txn: &mut Txn<P>, number: u32, value: u32) -> Result<Fl
 #[tactic(auto, unfolding(vax_flat::specs::System::to_register))]
 pub(crate) fn to_register<P: Port>(txn: &mut Txn<P>) -> Result<Flow, CutShort>
     requires { 11 ≤ room txn.old }
-    ensures exact { Does P.view to_register result txn.old txn.new }
+    ensures exact { Does P.view P.trail to_register result txn.old txn.new }
     ensures keeps { Keeps P.view P.since 11 txn.old txn.new }
 {
     let value = next_value(txn, Size::L)? as u32;
@@ -137,10 +137,10 @@ pub(crate) fn to_register<P: Port>(txn: &mut Txn<P>) -> Result<Flow, CutShort>
 }
 
 /// The value of a register of the processor. That of the console's input takes a byte.
-#[tactic(auto, using(vax_flat::proofs::Leaves::over_port_raises), unfolding(vax_flat::specs::System::get_processor))]
+#[tactic(auto, using(vax_undo::proofs::Trail::over_trail_raises), unfolding(vax_flat::specs::System::get_processor))]
 fn get_register<P: Port>(txn: &mut Txn<P>, number: u32) -> Result<u32, CutShort>
     requires { 1 ≤ room txn.old }
-    ensures exact { Does P.view (get_processor number) result txn.old txn.new }
+    ensures exact { Does P.view P.trail (get_processor number) result txn.old txn.new }
     ensures keeps { Keeps P.view P.since 1 txn.old txn.new }
 {
     if number <= 4 {
@@ -169,7 +169,7 @@ fn get_register<P: Port>(txn: &mut Txn<P>, number: u32) -> Result<u32, CutShort>
 #[tactic(auto, unfolding(vax_flat::specs::System::from_register))]
 pub(crate) fn from_register<P: Port>(txn: &mut Txn<P>) -> Result<Flow, CutShort>
     requires { 12 ≤ room txn.old }
-    ensures exact { Does P.view from_register result txn.old txn.new }
+    ensures exact { Does P.view P.trail from_register result txn.old txn.new }
     ensures keeps { Keeps P.view P.since 12 txn.old txn.new }
 {
     let number = next_value(txn, Size::L)? as u32;

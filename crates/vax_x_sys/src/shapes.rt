@@ -15,9 +15,9 @@ use vax_word::{Psl, Size};
 
 /// HALT, in kernel mode alone.
 #[inline]
-#[tactic(auto, using(vax_flat::proofs::Leaves::over_port_raises), unfolding(vax_flat::specs::System::halt))]
+#[tactic(auto, using(vax_undo::proofs::Trail::over_trail_raises), unfolding(vax_flat::specs::System::halt))]
 fn halt<P: Port>(txn: &mut Txn<P>) -> Result<Flow, CutShort>
-    ensures exact { Does P.view system.halt result txn.old txn.new }
+    ensures exact { Does P.view P.trail system.halt result txn.old txn.new }
     ensures keeps { Keeps P.view P.since 0 txn.old txn.new }
 {
     if txn.psl().mode() == 0 {
@@ -56,10 +56,10 @@ fn is_refused(old: Psl, new: Psl) -> bool
 
 /// Takes PC and the status that were popped, unless they are refused.
 #[inline]
-#[tactic(auto, using(vax_flat::proofs::Leaves::over_port_raises), unfolding(vax_flat::specs::System::return_from))]
+#[tactic(auto, using(vax_undo::proofs::Trail::over_trail_raises), unfolding(vax_flat::specs::System::return_from))]
 fn return_from<P: Port>(txn: &mut Txn<P>, pc: u32, psl: Psl) -> Result<Flow, CutShort>
     requires { 6 ≤ room txn.old }
-    ensures exact { Does P.view (system.return_from pc psl) result txn.old txn.new }
+    ensures exact { Does P.view P.trail (system.return_from pc psl) result txn.old txn.new }
     ensures keeps { Keeps P.view P.since 6 txn.old txn.new }
 {
     let old = txn.psl();
@@ -77,7 +77,7 @@ fn return_from<P: Port>(txn: &mut Txn<P>, pc: u32, psl: Psl) -> Result<Flow, Cut
 #[tactic(auto, unfolding(vax_flat::specs::System::return_exception))]
 fn return_exception<P: Port>(txn: &mut Txn<P>) -> Result<Flow, CutShort>
     requires { 6 ≤ room txn.old }
-    ensures exact { Does P.view system.return_exception result txn.old txn.new }
+    ensures exact { Does P.view P.trail system.return_exception result txn.old txn.new }
     ensures keeps { Keeps P.view P.since 6 txn.old txn.new }
 {
     let top = txn.reg(14);
@@ -101,7 +101,7 @@ pub fn flow_of(delivery: Delivery) -> Flow
 #[tactic(auto, unfolding(vax_flat::specs::System::change_of_mode))]
 fn change_of_mode<P: Port>(txn: &mut Txn<P>, target: AccessMode) -> Result<Flow, CutShort>
     requires { 20 ≤ room txn.old }
-    ensures exact { Does P.view (system.change_of_mode target) result txn.old txn.new }
+    ensures exact { Does P.view P.trail (system.change_of_mode target) result txn.old txn.new }
     ensures keeps { Keeps P.view P.since 20 txn.old txn.new }
 {
     let code = next_value(txn, Size::W)?;
@@ -113,7 +113,7 @@ fn change_of_mode<P: Port>(txn: &mut Txn<P>, target: AccessMode) -> Result<Flow,
 #[tactic(auto, unfolding(vax_flat::specs::System::move_status))]
 fn move_status<P: Port>(txn: &mut Txn<P>) -> Result<Flow, CutShort>
     requires { 6 ≤ room txn.old }
-    ensures exact { Does P.view system.move_status result txn.old txn.new }
+    ensures exact { Does P.view P.trail system.move_status result txn.old txn.new }
     ensures keeps { Keeps P.view P.since 6 txn.old txn.new }
 {
     let destination = next_place(txn, Size::L)?;
@@ -123,10 +123,10 @@ fn move_status<P: Port>(txn: &mut Txn<P>) -> Result<Flow, CutShort>
 }
 
 #[inline]
-#[tactic(auto, using(vax_flat::proofs::Leaves::over_port_raises, vax_undo::proofs::FirstPart::set_closed), unfolding(vax_flat::specs::System::status_set))]
+#[tactic(auto, using(vax_undo::proofs::Trail::over_trail_raises, vax_undo::proofs::FirstPart::set_closed), unfolding(vax_flat::specs::System::status_set))]
 fn set_bits<P: Port>(txn: &mut Txn<P>, mask: u32) -> Result<Flow, CutShort>
     requires { 1 ≤ room txn.old }
-    ensures exact { Does P.view (system.status_set mask) result txn.old txn.new }
+    ensures exact { Does P.view P.trail (system.status_set mask) result txn.old txn.new }
     ensures keeps { Keeps P.view P.since 1 txn.old txn.new }
 {
     if mask / 0x100 != 0 || mask / 0x10 % 2 == 1 {
@@ -141,7 +141,7 @@ fn set_bits<P: Port>(txn: &mut Txn<P>, mask: u32) -> Result<Flow, CutShort>
 #[tactic(auto, unfolding(vax_flat::specs::System::set_status))]
 fn set_status<P: Port>(txn: &mut Txn<P>) -> Result<Flow, CutShort>
     requires { 5 ≤ room txn.old }
-    ensures exact { Does P.view system.set_status result txn.old txn.new }
+    ensures exact { Does P.view P.trail system.set_status result txn.old txn.new }
     ensures keeps { Keeps P.view P.since 5 txn.old txn.new }
 {
     let mask = next_value(txn, Size::W)?;
@@ -149,10 +149,10 @@ fn set_status<P: Port>(txn: &mut Txn<P>) -> Result<Flow, CutShort>
 }
 
 #[inline]
-#[tactic(auto, using(vax_flat::proofs::Leaves::over_port_raises, vax_undo::proofs::FirstPart::cleared_closed), unfolding(vax_flat::specs::System::status_cleared))]
+#[tactic(auto, using(vax_undo::proofs::Trail::over_trail_raises, vax_undo::proofs::FirstPart::cleared_closed), unfolding(vax_flat::specs::System::status_cleared))]
 fn clear_bits<P: Port>(txn: &mut Txn<P>, mask: u32) -> Result<Flow, CutShort>
     requires { 1 ≤ room txn.old }
-    ensures exact { Does P.view (system.status_cleared mask) result txn.old txn.new }
+    ensures exact { Does P.view P.trail (system.status_cleared mask) result txn.old txn.new }
     ensures keeps { Keeps P.view P.since 1 txn.old txn.new }
 {
     if mask / 0x100 != 0 {
@@ -167,7 +167,7 @@ fn clear_bits<P: Port>(txn: &mut Txn<P>, mask: u32) -> Result<Flow, CutShort>
 #[tactic(auto, unfolding(vax_flat::specs::System::clear_status))]
 fn clear_status<P: Port>(txn: &mut Txn<P>) -> Result<Flow, CutShort>
     requires { 5 ≤ room txn.old }
-    ensures exact { Does P.view system.clear_status result txn.old txn.new }
+    ensures exact { Does P.view P.trail system.clear_status result txn.old txn.new }
     ensures keeps { Keeps P.view P.since 5 txn.old txn.new }
 {
     let mask = next_value(txn, Size::W)?;
@@ -176,10 +176,10 @@ fn clear_status<P: Port>(txn: &mut Txn<P>) -> Result<Flow, CutShort>
 
 /// MTPR and MFPR, which are privileged outside kernel mode before any operand is read.
 #[inline]
-#[tactic(auto, using(vax_flat::proofs::Leaves::over_port_raises))]
+#[tactic(auto, using(vax_undo::proofs::Trail::over_trail_raises))]
 fn move_to<P: Port>(txn: &mut Txn<P>) -> Result<Flow, CutShort>
     requires { 11 ≤ room txn.old }
-    ensures exact { Does P.view
+    ensures exact { Does P.view P.trail
         (λ s next. system.unless_privileged true s (system.to_register s next))
         result txn.old txn.new }
     ensures keeps { Keeps P.view P.since 11 txn.old txn.new }
@@ -191,10 +191,10 @@ fn move_to<P: Port>(txn: &mut Txn<P>) -> Result<Flow, CutShort>
 }
 
 #[inline]
-#[tactic(auto, using(vax_flat::proofs::Leaves::over_port_raises))]
+#[tactic(auto, using(vax_undo::proofs::Trail::over_trail_raises))]
 fn move_from<P: Port>(txn: &mut Txn<P>) -> Result<Flow, CutShort>
     requires { 12 ≤ room txn.old }
-    ensures exact { Does P.view
+    ensures exact { Does P.view P.trail
         (λ s next. system.unless_privileged true s (system.from_register s next))
         result txn.old txn.new }
     ensures keeps { Keeps P.view P.since 12 txn.old txn.new }
@@ -206,10 +206,10 @@ fn move_from<P: Port>(txn: &mut Txn<P>) -> Result<Flow, CutShort>
 }
 
 /// The instruction by its shape.
-#[tactic(auto, using(vax_flat::proofs::Leaves::over_port_raises), unfolding(vax_flat::specs::System::performed))]
+#[tactic(auto, using(vax_undo::proofs::Trail::over_trail_raises), unfolding(vax_flat::specs::System::performed))]
 pub(crate) fn perform<P: Port>(txn: &mut Txn<P>, instruction: System) -> Result<Flow, CutShort>
     requires { 20 ≤ room txn.old }
-    ensures exact { Does P.view (system.performed instruction) result txn.old txn.new }
+    ensures exact { Does P.view P.trail (system.performed instruction) result txn.old txn.new }
     ensures keeps { Keeps P.view P.since 20 txn.old txn.new }
 {
     match instruction {

@@ -37,7 +37,7 @@ pub(crate) fn switch<P: Port>(txn: &mut Txn<P>, from: u8, to: u8)
     requires from { from < 5 }
     requires to { to < 5 }
     requires room { 3 ≤ room txn.old }
-    ensures exact { Updates P.view (switched from to) txn.old txn.new }
+    ensures exact { Updates P.view P.trail (switched from to) txn.old txn.new }
     ensures keeps { Keeps P.view P.since 3 txn.old txn.new }
 {
     if from != to {
@@ -69,7 +69,7 @@ pub(crate) fn status(current: u8, previous: u8, level: u8, interrupt: bool) -> P
 pub(crate) fn go_on<P: Port>(txn: &mut Txn<P>, handler: u32, psl: Psl)
     requires closed { NothingOpen psl }
     requires room { 2 ≤ room txn.old }
-    ensures exact { Updates P.view (at_handler handler psl) txn.old txn.new }
+    ensures exact { Updates P.view P.trail (at_handler handler psl) txn.old txn.new }
     ensures keeps { Keeps P.view P.since 2 txn.old txn.new }
 {
     txn.set_reg(15, handler);

@@ -1,10 +1,10 @@
 use Rattle.vax_flat.specs.Accesses.{Went}
 use Rattle.vax_flat.specs.Queue.{performed}
-use Rattle.vax_undo.specs.Transaction.{present}
+use Rattle.vax_undo.specs.Transaction.{traced}
 use Rattle.vax_operand.proofs.Everywhere.{everywhere}
 use Rattle.vax_x_queue.proofs.run.Goals as goal
 
 pub returns-clause-everywhere : goal.returns-clause-everywhere
 returns-clause-everywhere g c =
-    let before = present g.P.Port.view c.args.txn.now in
-    everywhere Went (performed c.args.instruction before.state) before _ (present g.P.Port.view c.perform.new.txn) c.perform.ensures.exact
+    let before = traced g.P.Port.view g.P.Port.trail c.args.txn.now in
+    everywhere Went (performed c.args.instruction before.state) before _ (traced g.P.Port.view g.P.Port.trail c.perform.new.txn) c.perform.ensures.exact

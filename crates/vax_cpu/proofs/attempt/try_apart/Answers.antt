@@ -8,6 +8,7 @@ use Rattle.vax_undo.specs.Rooms.{room_of_step}
 use Rattle.vax_undo.specs.Transaction.{bare, present, told, seen, KeepsUnlessDone}
 use Rattle.vax_cpu.specs.Tried.{IsTried, is_done}
 use Rattle.vax_cpu.proofs.Attempts.{clock_at, clock_unless, closed_at, closed_unless, closes_through, came_done, came_other, kept, tried_at, leads_back}
+use Rattle.vax_cpu.proofs.Trails.{plain}
 use Rattle.vax_cpu.proofs.attempt.try_apart.Goals as goal
 
 pub returns-then-not-done-clause-tried : goal.returns-then-not-done-clause-tried
@@ -20,7 +21,7 @@ returns-then-not-done-clause-tried g c =
     tried_at part_step old c.conclude.result (record { state = _; view = _ }) _ _ (search rules) (search rules)
     (c.conclude.ensures.tried old part
     (subst (λ (p : Present). Follows (part p.state) p (told c.work_apart-done.new.txn c.work_apart-done.new.other) (present view c.work_apart-done.new.txn)) c.begin-txn.ensures.present
-    (subst (λ w. Follows (part now.state) now (told c.work_apart-done.new.txn w) (present view c.work_apart-done.new.txn)) is c.work_apart-done.ensures.exact))
+    (subst (λ w. Follows (part now.state) now (told c.work_apart-done.new.txn w) (present view c.work_apart-done.new.txn)) is (plain view g.P.Port.trail part _ c.begin-txn.result c.work_apart-done.new.txn c.work_apart-done.ensures.exact)))
     (leads_back view g.P.Port.since room_of_step c.work_apart-done.new.other c.begin-txn.result c.work_apart-done.new.txn keeps old (c.begin-txn.ensures.undone ∙ ap bare c.begin-txn.ensures.present)))
 
 pub returns-then-not-done-clause-other : goal.returns-then-not-done-clause-other
@@ -58,7 +59,7 @@ returns-in-None-clause-tried g c =
     let now = present view c.begin-txn.result in
     let mid = present view c.work_apart-done.new.txn in
     let done = came_done c.work_apart-done.result c.work_apart-done.new.other (search rules) in
-    let follows : Follows (part now.state) now (Ok flow.Done) mid = subst (λ w. Follows (part now.state) now (told c.work_apart-done.new.txn w) mid) done c.work_apart-done.ensures.exact in
+    let follows : Follows (part now.state) now (Ok flow.Done) mid = subst (λ w. Follows (part now.state) now (told c.work_apart-done.new.txn w) mid) done (plain view g.P.Port.trail part _ c.begin-txn.result c.work_apart-done.new.txn c.work_apart-done.ensures.exact) in
     let here : Follows (part old.state) old (Ok flow.Done) mid = subst (λ (p : Present). Follows (part p.state) p (Ok flow.Done) mid) c.begin-txn.ensures.present follows in
     let after : Present = record { state = with_sent mid.state None; view = mid.view } in
     tried_at part_step old c.args.last.now after _ _ (search rules) (search rules)
@@ -71,6 +72,6 @@ returns-in-Some-clause-tried g c =
     let now = present view c.begin-txn.result in
     let mid = present view c.work_apart-done.new.txn in
     let done = came_done c.work_apart-done.result c.work_apart-done.new.other (search rules) in
-    let follows : Follows (part now.state) now (Ok flow.Done) mid = subst (λ w. Follows (part now.state) now (told c.work_apart-done.new.txn w) mid) done c.work_apart-done.ensures.exact in
+    let follows : Follows (part now.state) now (Ok flow.Done) mid = subst (λ w. Follows (part now.state) now (told c.work_apart-done.new.txn w) mid) done (plain view g.P.Port.trail part _ c.begin-txn.result c.work_apart-done.new.txn c.work_apart-done.ensures.exact) in
     let here : Follows (part old.state) old (Ok flow.Done) mid = subst (λ (p : Present). Follows (part p.state) p (Ok flow.Done) mid) c.begin-txn.ensures.present follows in
     kept part old mid (record { state = _; view = _ }) (Some c.in-Some.byte) here (search rules) (search rules) c.in-Some.ensures.sent

@@ -8,6 +8,9 @@ use Rattle.vax_undo.specs.Transaction.{present, told, KeepsUnlessDone}
 use Rattle.vax_x_str.specs.Ends.{ClosesIfDone}
 use Rattle.vax_cpu.specs.Tried.{came, is_done}
 use Rattle.vax_cpu.proofs.Attempts.{clock_at, clock_unless, closed_at, closed_unless, closes_through, still_closed, came_done, came_other, renewed_step, sent_step, ran_more, tried_at, leads_back}
+use Rattle.vax_undo.specs.Trail.{Traced}
+use Rattle.vax_undo.proofs.Trail.{present_of}
+use Rattle.vax_cpu.proofs.Trails.{plain}
 use Rattle.vax_cpu.proofs.attempt.try_logged.Goals as goal
 
 pub loop-steps-preserved : goal.loop-steps-preserved
@@ -18,10 +21,10 @@ loop-steps-preserved g c =
     let now = present view c.loop-steps.txn in
     let mid = present view c.work-done.new.txn in
     let done = came_done c.work-done.result c.work-done.new.other (search rules) in
-    let follows : Follows (part now.state) now (Ok flow.Done) mid = subst (λ w. Follows (part now.state) now (told c.work-done.new.txn w) mid) done c.work-done.ensures.exact in
+    let follows : Follows (part now.state) now (Ok flow.Done) mid = subst (λ w. Follows (part now.state) now (told c.work-done.new.txn w) mid) done (plain view g.P.Port.trail part _ c.loop-steps.txn c.work-done.new.txn c.work-done.ensures.exact) in
     record {
       ran = ran_more c.loop-steps.steps _ now (present view c.renew.new.self) inv.ran
-          (renewed_step now mid (present view c.renew.new.self) follows c.renew.ensures.present c.in-None.ensures.sent)
+          (renewed_step now mid (present view c.renew.new.self) follows (ap present_of c.renew.ensures.present) c.in-None.ensures.sent)
           (ap (λ v. v.items) (c.renew.ensures.same.input ∙ same.input));
       few = omega arith;
       undone = c.renew.ensures.undone;
@@ -30,7 +33,7 @@ loop-steps-preserved g c =
       core = c.renew.ensures.same.core ∙ same.core ∙ inv.core;
       term = c.renew.ensures.same.term ∙ same.term ∙ inv.term;
       port = c.renew.ensures.same.port ∙ same.port ∙ inv.port;
-      unsent = ap (λ (p : Present). p.state.sent) c.renew.ensures.present;
+      unsent = ap (λ (p : Traced). p.state.sent) c.renew.ensures.present;
       input = c.renew.ensures.same.input ∙ same.input ∙ inv.input;
       clock = λ h. c.renew.ensures.same.clock (same.clock (inv.clock h));
       closed = λ h. still_closed c.work-done.new.txn.core.now.psl c.renew.new.self.core.now.psl c.renew.ensures.closed
@@ -45,11 +48,11 @@ returns-in-Some-clause-ran g c =
     let now = present view c.loop-steps.txn in
     let mid = present view c.work-done.new.txn in
     let done = came_done c.work-done.result c.work-done.new.other (search rules) in
-    let follows : Follows (part now.state) now (Ok flow.Done) mid = subst (λ w. Follows (part now.state) now (told c.work-done.new.txn w) mid) done c.work-done.ensures.exact in (
+    let follows : Follows (part now.state) now (Ok flow.Done) mid = subst (λ w. Follows (part now.state) now (told c.work-done.new.txn w) mid) done (plain view g.P.Port.trail part _ c.loop-steps.txn c.work-done.new.txn c.work-done.ensures.exact) in (
       now,
       c.loop-steps.invariant.ran,
       sent_step now mid (present view c.renew.new.self) (record { state = _; view = _ }) c.in-Some.byte follows
-          c.renew.ensures.present (search rules) (search rules) c.in-Some.ensures.sent,
+          (ap present_of c.renew.ensures.present) (search rules) (search rules) c.in-Some.ensures.sent,
     )
 
 pub returns-clause-ran : goal.returns-clause-ran
@@ -58,7 +61,7 @@ returns-clause-ran g c =
       now,
       c.loop-steps.invariant.ran,
       tried_at part_step now c.conclude-last-2.result (record { state = _; view = _ }) _ _ (search rules) (search rules)
-          (c.conclude-last-2.ensures.tried now part c.work_once-done.ensures.exact
+          (c.conclude-last-2.ensures.tried now part (plain g.P.Port.view g.P.Port.trail part _ c.loop-steps.txn c.work_once-done.new.txn c.work_once-done.ensures.exact)
           (leads_back g.P.Port.view g.P.Port.since room_of_step c.work_once-done.result c.loop-steps.txn c.work_once-done.new.txn c.work_once-done.ensures.keeps now c.loop-steps.invariant.undone)),
     )
 
@@ -72,7 +75,7 @@ returns-then-not-done-clause-ran g c =
       c.loop-steps.invariant.ran,
       tried_at part_step now c.conclude-last.result (record { state = _; view = _ }) _ _ (search rules) (search rules)
           (c.conclude-last.ensures.tried now part
-          (subst (λ w. Follows (part now.state) now (told c.work-done.new.txn w) (present view c.work-done.new.txn)) is c.work-done.ensures.exact)
+          (subst (λ w. Follows (part now.state) now (told c.work-done.new.txn w) (present view c.work-done.new.txn)) is (plain view g.P.Port.trail part _ c.loop-steps.txn c.work-done.new.txn c.work-done.ensures.exact))
           (leads_back view g.P.Port.since room_of_step c.work-done.new.other c.loop-steps.txn c.work-done.new.txn keeps now c.loop-steps.invariant.undone)),
     )
 

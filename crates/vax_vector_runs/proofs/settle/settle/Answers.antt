@@ -23,7 +23,7 @@ returns-in-Step c = record {
       settled s c.attempt-attempt.new.self c.attempt-attempt.new.port again going.begun c.forget.ensures.touches c.forget.ensures.complete refl
       (is_settling c.attempt-attempt.result c.in-Step.is)
       (tried c.attempt-attempt.result c.attempt-attempt.new.self (view_of c.attempt-attempt.new.port) again (c.attempt-attempt.ensures.attempted (At m) (at_start again)))
-      (c.attempt-attempt.ensures.since c.forget.new.self);
+      (c.attempt-attempt.ensures.since c.forget.new.self) c.loop.invariant.unsent c.attempt-attempt.ensures.trail;
   input = c.attempt-attempt.ensures.input ∙ c.loop.invariant.input;
 }
 

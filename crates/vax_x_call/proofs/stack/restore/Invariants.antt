@@ -2,8 +2,8 @@ use Rattle.std.proofs.Common.{◌≡◌, ◌-◌, ◌≤◌, ℕ}
 use Rattle.vax_flat.specs.State.{State}
 use Rattle.vax_flat.specs.Accesses.{Accesses, Leaf}
 use Rattle.vax_flat.specs.Call.{named, restored}
-use Rattle.vax_flat.specs.OverPort.{over_port}
-use Rattle.vax_undo.specs.Transaction.{present, Keeps}
+use Rattle.vax_undo.specs.Trail.{over_trail}
+use Rattle.vax_undo.specs.Transaction.{traced, Keeps}
 use Rattle.vax_x_call.proofs.StackLaws.{rest}
 use Rattle.vax_x_call.proofs.stack.restore.Given as goal
 
@@ -12,7 +12,7 @@ abbrev pub invariant-loop-n : goal.invariant-loop-n
 invariant-loop-n g l = record {
   few : l.n ≤ l.end;
   within : l.end ≤ l.count;
-  follows : (next : ℕ → State → Accesses Leaf) → over_port (restored (named l.count l.mask) l.from (present g.P.Port.view l.initial.txn).state next) (present g.P.Port.view l.initial.txn).view ≡ over_port (restored (rest l.mask l.n l.end) l.at (present g.P.Port.view l.txn).state next) (present g.P.Port.view l.txn).view;
+  follows : (next : ℕ → State → Accesses Leaf) → over_trail (restored (named l.count l.mask) l.from (traced g.P.Port.view g.P.Port.trail l.initial.txn).state next) (traced g.P.Port.view g.P.Port.trail l.initial.txn).view (traced g.P.Port.view g.P.Port.trail l.initial.txn).trail ≡ over_trail (restored (rest l.mask l.n l.end) l.at (traced g.P.Port.view g.P.Port.trail l.txn).state next) (traced g.P.Port.view g.P.Port.trail l.txn).view (traced g.P.Port.view g.P.Port.trail l.txn).trail;
   keeps : Keeps g.P.Port.view g.P.Port.since l.n l.initial.txn l.txn;
 }
 

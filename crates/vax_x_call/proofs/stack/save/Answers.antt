@@ -1,26 +1,26 @@
 use Rattle.std.proofs.Common.{◌-◌, ◌∙◌, ap, sym, arith}
 use Rattle.vax_flat.specs.Call.{named, saved}
-use Rattle.vax_flat.specs.OverPort.{over_port}
-use Rattle.vax_undo.specs.Transaction.{present}
+use Rattle.vax_undo.specs.Trail.{over_trail}
+use Rattle.vax_undo.specs.Transaction.{traced}
 use Rattle.vax_x_call.proofs.StackLaws.{saved_step, saved_none, stopped, keeps_more, keeps_all}
 use Rattle.vax_x_call.proofs.stack.save.Goals as goal
 
 pub loop-n-init : goal.loop-n-init
 loop-n-init g c =
-    let p = present g.P.Port.view c.args.txn.now in
+    let p = traced g.P.Port.view g.P.Port.trail c.args.txn.now in
     record {
       few = omega arith;
-      follows = λ next. ap (λ ns. over_port (saved ns c.args.top p.state next) p.view) (sym c.end_of_named-n.ensures.named);
+      follows = λ next. ap (λ ns. over_trail (saved ns c.args.top p.state next) p.view p.trail) (sym c.end_of_named-n.ensures.named);
       keeps = keeps_all g.P.Port.view g.P.Port.since _ _;
     }
 
 pub returns-in_err-at-clause-exact : goal.returns-in_err-at-clause-exact
 returns-in_err-at-clause-exact g c = λ next.
-    let p = present g.P.Port.view c.loop-n.txn in
+    let p = traced g.P.Port.view g.P.Port.trail c.loop-n.txn in
     c.loop-n.invariant.follows next
-    ∙ ap (λ tree. over_port tree p.view) (saved_step c.loop-n.n c.args.mask c.loop-n.at p.state next (omega arith))
+    ∙ ap (λ tree. over_trail tree p.view p.trail) (saved_step c.loop-n.n c.args.mask c.loop-n.at p.state next (omega arith))
     ∙ c.in_err-at.ensures.exact (λ top t. saved (named (c.loop-n.n - 1) c.args.mask) top t next)
-    ∙ sym (stopped c.save_if.new.txn c.from_residual.result _ _ c.from_residual.ensures.0)
+    ∙ sym (stopped c.save_if.new.txn c.from_residual.result _ _ _ c.from_residual.ensures.0)
 
 pub returns-in_err-at-clause-keeps : goal.returns-in_err-at-clause-keeps
 returns-in_err-at-clause-keeps g c =
@@ -28,21 +28,21 @@ returns-in_err-at-clause-keeps g c =
 
 pub loop-n-preserved : goal.loop-n-preserved
 loop-n-preserved g c =
-    let p = present g.P.Port.view c.loop-n.txn in
+    let p = traced g.P.Port.view g.P.Port.trail c.loop-n.txn in
     let few = c.loop-n.invariant.few in
     record {
       few = omega arith;
       follows = λ next.
           c.loop-n.invariant.follows next
-          ∙ ap (λ tree. over_port tree p.view) (saved_step c.loop-n.n c.args.mask c.loop-n.at p.state next (omega arith))
+          ∙ ap (λ tree. over_trail tree p.view p.trail) (saved_step c.loop-n.n c.args.mask c.loop-n.at p.state next (omega arith))
           ∙ c.in_ok-at.ensures.exact (λ top t. saved (named (c.loop-n.n - 1) c.args.mask) top t next);
       keeps = keeps_more g.P.Port.view g.P.Port.since (c.args.count - c.loop-n.n) 1 _ _ c.loop-n.txn _ (omega arith) c.loop-n.invariant.keeps c.in_ok-at.ensures.keeps;
     }
 
 pub returns-clause-exact : goal.returns-clause-exact
 returns-clause-exact g c = λ next.
-    let p = present g.P.Port.view c.loop-n.txn in
-    c.loop-n.invariant.follows next ∙ ap (λ tree. over_port tree p.view) (saved_none c.loop-n.n c.args.mask c.loop-n.at p.state next (omega arith))
+    let p = traced g.P.Port.view g.P.Port.trail c.loop-n.txn in
+    c.loop-n.invariant.follows next ∙ ap (λ tree. over_trail tree p.view p.trail) (saved_none c.loop-n.n c.args.mask c.loop-n.at p.state next (omega arith))
 
 pub returns-clause-keeps : goal.returns-clause-keeps
 returns-clause-keeps g c =

@@ -8,6 +8,8 @@ use Rattle.vax_cpu.specs.Attempt.{Attempted, IsAsBefore, IsOpenAfter, StopsInsid
 use Rattle.vax_cpu.specs.Tried.{start_by, tree_of}
 use Rattle.vax_cpu.proofs.Steps.{attempted, inside, unmoved}
 use Rattle.vax_cpu.proofs.Runs.{as_before, input_there, made_there, opens, running_there}
+use Rattle.vax_cpu.specs.Trail.{Trailed, traced_of}
+use Rattle.vax_cpu.proofs.Trails.{answered}
 use Rattle.vax_cpu.proofs.cpu.Cpu.attempt.Goals as goal
 
 pub returns-clause-attempted : goal.returns-clause-attempted
@@ -42,3 +44,11 @@ pub returns-clause-latch : goal.returns-clause-latch
 returns-clause-latch g c =
     subst (λ (o : Option Attempt). IfSome o (λ a. IsOpenAfter a c.args.self.now.latch c.open_after-self.result)) c.answer_of.ensures
     (opens c.args.self.now.latch c.open_after-self.result c.try_once-tried.result c.open_after-self.ensures)
+
+pub returns-clause-trail : goal.returns-clause-trail
+returns-clause-trail g c =
+    let old = c.args.self.now in
+    let before = traced_of g.P.Port.view g.P.Port.trail old.core old.term c.args.port.now in
+    let trail = g.P.Port.trail c.try_once-tried.new.port in
+    subst (λ (o : Option Attempt). IfSome o (λ a. Trailed (tree_of old.latch) (start_by old.latch old.core) before a trail)) c.answer_of.ensures
+    (answered (tree_of old.latch) (start_by old.latch old.core) before c.try_once-tried.result trail c.try_once-tried.ensures.trail)

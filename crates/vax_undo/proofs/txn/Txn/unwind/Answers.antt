@@ -2,6 +2,7 @@ use Rattle.std.proofs.Common.{◌∙◌, vec_len}
 use Rattle.vax_flat.specs.OverPort.{Present}
 use Rattle.vax_undo.specs.Transaction.{state_of}
 use Rattle.vax_undo.proofs.Undo.{last_allowed, unwound, present_alike, still_allowed, still_marked}
+use Rattle.vax_undo.proofs.Trail.{trail_unwound}
 use Rattle.vax_undo.proofs.txn.Txn.unwind.Goals as goal
 
 pub put_back-requires : goal.put_back-requires
@@ -17,6 +18,7 @@ loop-entry-preserved g c =
       ready = still_allowed (vec_len c.args.self.term.now.input) c.in-Some.entry before _ _ c.put_back.ensures.view
           (last_allowed (vec_len c.args.self.term.now.input) before.view.areas before.view.resident before.view.marked _ _ _ c.in-Some.ensures.items c.loop-entry.invariant.ready).0;
       marks = still_marked c.in-Some.entry before _ c.put_back.ensures.view ∙ c.loop-entry.invariant.marks;
+      trail = trail_unwound _ _ c.in-Some.entry _ _ _ c.in-Some.ensures.items c.put_back.ensures.trail c.loop-entry.invariant.trail;
       input = c.put_back.ensures.input ∙ c.loop-entry.invariant.input;
       since = λ start h. c.put_back.ensures.since start (c.loop-entry.invariant.since start h);
     }
