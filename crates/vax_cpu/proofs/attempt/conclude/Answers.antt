@@ -1,4 +1,6 @@
-use Rattle.std.proofs.Common.{◌∙◌, Ok, ap, subst, rules}
+use Rattle.std.proofs.Common.{◌≡◌, ◌∙◌, Ok, Err, ap, subst, sym, rules}
+use Rattle.vax_flat.specs.declared.Cut.{Cut}
+use Rattle.vax_flat.specs.declared.Cut.TheVariants as cut
 use Rattle.vax_flat.specs.declared.Flow.{Flow}
 use Rattle.vax_flat.specs.OverPort.{Follows}
 use Rattle.vax_flat.specs.State.{State}
@@ -7,7 +9,7 @@ use Rattle.vax_cpu.specs.Tried.{LeadsBack}
 use Rattle.vax_cpu.proofs.Attempts.{kept, finished, parted, undone_as}
 use Rattle.vax_flat.specs.declared.Flow.TheVariants as flow
 use Rattle.vax_undo.specs.Trail.{FollowsTraced}
-use Rattle.vax_cpu.proofs.Trails.{came, ended}
+use Rattle.vax_cpu.proofs.Trails.{came, ended, stopped}
 use Rattle.vax_cpu.proofs.attempt.conclude.Goals as goal
 
 pub returns-in-More-clause-tried : goal.returns-in-More-clause-tried
@@ -54,3 +56,17 @@ returns-in-Ended-clause-traces g c = λ old tree follows.
     let mid = traced g.P.Port.view g.P.Port.trail c.args.txn in
     let is = c.in-Ok.is ∙ ap (λ (x : Flow). Ok x) c.in-Ended.is in
     ended tree old mid _ c.in-Ended.ending c.args.txn.log.now.entries.items (subst (λ w. FollowsTraced (tree old.state) old (told c.args.txn w) mid) is follows) c.unwind.ensures.trail
+
+pub returns-in-Absent-clause-traces : goal.returns-in-Absent-clause-traces
+returns-in-Absent-clause-traces g c = λ old tree follows.
+    let mid = traced g.P.Port.view g.P.Port.trail c.args.txn in
+    let why : c.args.txn.why ≡ cut.Absent c.in-Absent.field-0 = sym c.why-why.ensures ∙ c.in-Absent.is in
+    stopped tree old mid _ (cut.Absent c.in-Absent.field-0) c.args.txn.log.now.entries.items
+    (subst (λ (x : Cut). FollowsTraced (tree old.state) old (Err x) mid) why (subst (λ w. FollowsTraced (tree old.state) old (told c.args.txn w) mid) c.in-Err.is follows)) c.unwind.ensures.trail
+
+pub returns-in-Event-clause-traces : goal.returns-in-Event-clause-traces
+returns-in-Event-clause-traces g c = λ old tree follows.
+    let mid = traced g.P.Port.view g.P.Port.trail c.args.txn in
+    let why : c.args.txn.why ≡ cut.Event c.in-Event.exception = sym c.why-why.ensures ∙ c.in-Event.is in
+    stopped tree old mid _ (cut.Event c.in-Event.exception) c.args.txn.log.now.entries.items
+    (subst (λ (x : Cut). FollowsTraced (tree old.state) old (Err x) mid) why (subst (λ w. FollowsTraced (tree old.state) old (told c.args.txn w) mid) c.in-Err.is follows)) c.unwind.ensures.trail
