@@ -1,5 +1,5 @@
 //! Memory that keeps what is read from it and written to it.
-ghost use Rattle.std.specs.Prelude.{◌≡◌, ◌≤◌, map, vec_capacity};
+ghost use Rattle.std.specs.Prelude.{◌≡◌, ◌≤◌, length, map, vec_capacity};
 ghost use Rattle.vax_undo.specs.Plain.{view_of as plain_view};
 ghost use Rattle.vax_vector_memory.specs.Pages.{guarded, unguarded};
 
@@ -11,6 +11,24 @@ use std::alloc::Global;
 use vax_space::{Access, Space, Violation};
 use vax_undo::{Plain, Port, Stop, put_number};
 use vax_vectors::{Cell, Page, Touch};
+
+/// An access of at most 512 bytes.
+fn touch_of(access: Access, addr: u32, bytes: &[u8]) -> Touch
+    requires { length bytes.now ≤ 512 }
+    ensures access { result.access ≡ access }
+    ensures addr { result.addr ≡ addr }
+    ensures bytes { result.bytes.items ≡ bytes.now }
+{
+    let mut kept = ArrayVec::new();
+    match kept.try_extend_from_slice(bytes) {
+        Ok(()) => Touch {
+            access,
+            addr,
+            bytes: kept,
+        },
+        Err(_) => unreachable!(),
+    }
+}
 
 /// Memory of pages of which any may be absent, with what was read from it and written to it since it was told to forget that. It is made
 /// once, and filled anew for each step. It keeps at most 4,096 accesses.
@@ -130,17 +148,9 @@ impl Recorder {
             self.complete = false;
             return;
         }
-        let mut kept = ArrayVec::new();
-        if kept.try_extend_from_slice(bytes).is_err() {
-            unreachable!();
-        }
-        let touch = Touch {
-            access,
-            addr,
-            bytes: kept,
-        };
-        if self.touches.push(touch).is_err() {
-            unreachable!();
+        match self.touches.push(touch_of(access, addr, bytes)) {
+            Ok(()) => {}
+            Err(_) => unreachable!(),
         }
     }
 
