@@ -1,5 +1,5 @@
 -- From the accesses that a transaction made to those of an attempt.
-use Rattle.std.proofs.Common.{◌≡◌, ℕ, Bool, Option, Some, None, Result, Ok, Err, List, [], ◌∷◌, ◌++◌, refl, ap, sym, subst, ◌∙◌}
+use Rattle.std.proofs.Common.{◌≡◌, ℕ, Bool, Some, Result, Ok, Err, List, [], ◌∷◌, ◌++◌, refl, ap, sym, subst, ◌∙◌}
 use Rattle.std.specs.Prelude.{All, IfSome}
 use Rattle.std.proofs.lemmas.List.Elements.{All-nil, All-cons, All-append}
 use Rattle.vax_word.specs.declared.Core.{Core}
@@ -26,10 +26,9 @@ use Rattle.vax_undo.specs.Transaction.{present, seen, state_of, told, traced, tr
 use Rattle.vax_undo.proofs.Trail.{follows, present_of}
 use Rattle.vax_cpu.specs.declared.attempt.Tried.{Tried}
 use Rattle.vax_cpu.specs.declared.attempt.Tried.TheVariants as tried
-use Rattle.vax_cpu.specs.declared.cpu.Attempt.{Attempt}
 use Rattle.vax_cpu.specs.declared.cpu.Attempt.TheVariants.{Step, Part, Absent, Ended}
 use Rattle.vax_cpu.specs.Attempt.{answer_of}
-use Rattle.vax_cpu.specs.Tried.{IsFinal, IsTried, marked_as}
+use Rattle.vax_cpu.specs.Tried.{IsFinal, IsTried}
 use Rattle.vax_cpu.specs.Trail.{AtOnce, Completes, Delivered, EndsRun, IsPutBack, IsWrite, Stops, Traces, TracesTried, Trailed, TrailedTried, noted_all, raised_at, traced_of}
 
 -- what a call of a transaction follows, with the accesses left aside

@@ -1,5 +1,5 @@
 -- The accesses that an attempt makes, where its port keeps them.
-use Rattle.std.specs.Prelude.{◌≡◌, ℕ, Bool, Option, Some, None, List, [], ◌∷◌, ◌++◌, All}
+use Rattle.std.specs.Prelude.{◌≡◌, ℕ, Bool, List, [], ◌∷◌, All}
 use Rattle.vax_word.specs.declared.Core.{Core}
 use Rattle.vax_space.specs.declared.Access.TheVariants.{Write}
 use Rattle.vax_flat.specs.declared.Cut.{Cut}
@@ -10,7 +10,6 @@ use Rattle.vax_flat.specs.State.{State}
 use Rattle.vax_flat.specs.Port.{View, with_marks}
 use Rattle.vax_flat.specs.Accesses.{Accesses, Leaf, Went}
 use Rattle.vax_flat.specs.Step.{whole_delivery}
-use Rattle.vax_undo.specs.declared.txn.Txn.{Txn as Transaction}
 use Rattle.vax_undo.specs.declared.term.Term.{Term}
 use Rattle.vax_undo.specs.Trail.{Made, Trail, Traced, Arrives, Breaks, noted, over_trail}
 use Rattle.vax_undo.specs.Transaction.{state_of}

@@ -10,7 +10,6 @@ use Rattle.vax_flat.specs.declared.Flow.TheVariants as flow
 use Rattle.vax_flat.specs.Accesses.{Leaf, Went, Found}
 use Rattle.vax_flat.specs.Memory.{byte_at}
 use Rattle.vax_flat.specs.Outcome.{Outcome, Ends, Raised, first_missing}
-use Rattle.vax_flat.specs.State.{State}
 use Rattle.vax_flat.specs.Parts.{At, part_step, Partway, Leaves, outcome_at, touches_at, turn_from, units_after}
 use Rattle.vax_flat.specs.Port.{View, StandsFor, layout, with_marks}
 use Rattle.vax_flat.specs.Step.{Flat, with_byte_sent}
@@ -31,7 +30,7 @@ use Rattle.vax_vector_memory.specs.declared.recorder.Recorder.{Recorder}
 use Rattle.vax_vector_runs.specs.declared.settle.Settled.{Settled}
 use Rattle.vax_vector_runs.specs.Attempts.{IsReady, IsRecord, IsSettled, IsSettling}
 use Rattle.vax_vector_runs.specs.Ends.{EndsWell, IsCell, IsStart}
-use Rattle.vax_vectors.specs.declared.vector.Ends.{Ends}
+use Rattle.vax_vectors.specs.declared.vector.Ends.{Ends as HowEnded}
 use Rattle.vax_vectors.specs.declared.vector.Touch.{Touch}
 use Rattle.vax_vector_memory.specs.Record.{IsKept, Since, made_of, most_kept, trail_by, trail_of, view_of}
 use Rattle.vax_vector_runs.specs.Exact.{ExactBy, begin_at}
@@ -221,7 +220,7 @@ module _ {m : Flat} {space : List Area} {s : Settled} {cpu : Cpu} {memory : Reco
       record {
         found = ap page_missed ends;
         ends = subst (λ e. EndsBy m s.touched.items end e) (sym ends) (a.1.memory, goes, left end a.1.memory a.1.leaves (all.kept kept.0) all.areas kept.1 pages cells);
-        exact = subst (λ (e : Ends). ExactBy m s.touched.items e (map made_of end.touches.items)) (sym ends) (exact_at (attempt.Step sent) end.touches.items is kept.0 kept.1);
+        exact = subst (λ (e : HowEnded). ExactBy m s.touched.items e (map made_of end.touches.items)) (sym ends) (exact_at (attempt.Step sent) end.touches.items is kept.0 kept.1);
       }
 
   -- a part of a step
@@ -243,7 +242,7 @@ module _ {m : Flat} {space : List Area} {s : Settled} {cpu : Cpu} {memory : Reco
       record {
         found = ap page_missed ends;
         ends = subst (λ e. EndsBy m s.touched.items end e) (sym ends) (q.now.memory, goes, left end q.now.memory a.1.leaves (all.kept kept.0) all.areas kept.1 pages cells);
-        exact = subst (λ (e : Ends). ExactBy m s.touched.items e (map made_of end.touches.items)) (sym ends) (exact_at attempt.Part end.touches.items is kept.0 kept.1);
+        exact = subst (λ (e : HowEnded). ExactBy m s.touched.items e (map made_of end.touches.items)) (sym ends) (exact_at attempt.Part end.touches.items is kept.0 kept.1);
       }
 
   -- a step that ends the run
@@ -254,5 +253,5 @@ module _ {m : Flat} {space : List Area} {s : Settled} {cpu : Cpu} {memory : Reco
       record {
         found = ap page_missed ends;
         ends = subst (λ x. EndsBy m s.touched.items end x) (sym ends) (a.1.step m start.ending refl, same);
-        exact = subst (λ (x : Ends). ExactBy m s.touched.items x (map made_of end.touches.items)) (sym ends) (ap (map made_of) quiet);
+        exact = subst (λ (x : HowEnded). ExactBy m s.touched.items x (map made_of end.touches.items)) (sym ends) (ap (map made_of) quiet);
       }

@@ -1,8 +1,6 @@
 use Rattle.std.proofs.Common.{ℕ, List, ap, sym, ◌∙◌}
 use Rattle.vax_flat.specs.String.{no_part_done}
 use Rattle.vax_flat.proofs.StringState.{sixteen_is}
-use Rattle.vax_flat.specs.State.{State}
-use Rattle.vax_undo.specs.Trail.{Traced}
 use Rattle.vax_undo.specs.Transaction.{traced}
 use Rattle.vax_x_str.proofs.registers.begin_anew.Goals as goal
 
