@@ -1,27 +1,29 @@
 -- Steps that were made at once, as attempts.
-use Rattle.std.proofs.Common.{◌≡◌, ℕ, zero, suc, ◌+◌, None, sym, ap, subst, ◌∙◌, arith}
+use Rattle.std.proofs.Common.{◌≡◌, ℕ, zero, suc, ◌+◌, None, refl, sym, ap, subst, ◌∙◌, arith}
 use Rattle.vax_flat.specs.State.{State, with_sent}
 use Rattle.vax_flat.specs.OverPort.{Present}
 use Rattle.vax_flat.specs.Parts.{part_step}
+use Rattle.vax_undo.specs.declared.term.Term.{Term}
+use Rattle.vax_undo.specs.Transaction.{state_of}
 use Rattle.vax_cpu.specs.declared.attempt.Tried.TheVariants as tried
 use Rattle.vax_cpu.specs.Tried.{IsTried}
 use Rattle.vax_cpu.specs.Batch.{Ran}
 use Rattle.vax_cpu.proofs.Attempts.{ran_more}
-use Rattle.vax_quick.specs.Made.{MakesSteps}
+use Rattle.vax_quick.specs.Made.{Computer, MakesSteps}
 
 unsent_is : (s : State) → s.sent ≡ None → s ≡ with_sent s None
 unsent_is s e = λ k. record { core = s.core; input = s.input; taken = s.taken; sent = e k }
 
-quick_ran : (count : ℕ) (old new : Present) → old.state.sent ≡ None → MakesSteps count old new → Ran count old new × (new.state.sent ≡ None)
-quick_ran zero old new unsent made = (made, ap (λ (p : Present). p.state.sent) made ∙ unsent)
-quick_ran (suc count) old new unsent made =
-    let before = quick_ran count old made.0 unsent made.1 in
-    let one = made.2 in
-    let sent : new.state.sent ≡ None = one.sent ∙ before.1 in
-    ((made.0, before.0, (new.state, one.made, unsent_is new.state sent, sym sent), one.input), sent)
+-- a computer with its console
+abbrev with_console : Computer → Term → Present
+with_console old term = record { state = state_of old.core term; view = old.view }
 
-pub ran_quick : (count : ℕ) (old new : Present) → old.state.sent ≡ None → MakesSteps count old new → Ran count old new
-ran_quick count old new unsent made = (quick_ran count old new unsent made).0
+pub ran_quick : (count : ℕ) (old new : Computer) (term : Term) → term.out ≡ None → MakesSteps count old new → Ran count (with_console old term) (with_console new term)
+ran_quick zero old new term unsent made = ap (λ (c : Computer). with_console c term) made
+ran_quick (suc count) old new term unsent made =
+    let state = state_of new.core term in
+    let one = made.2.made term.input.items term.place term.out in
+    (with_console made.0 term, ran_quick count old made.0 term unsent made.1, (state, one, unsent_is state unsent, sym unsent), refl)
 
 -- steps after steps
 pub ran_append : (n m : ℕ) (a b c : Present) → Ran n a b → Ran m b c → Ran (n + m) a c

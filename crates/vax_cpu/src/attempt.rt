@@ -636,7 +636,7 @@ pub(crate) fn try_steps<P: Port>(
     let mut last = Tried::Step(None);
     let mut steps = 0;
     while is_still(core) {
-        let quick = vax_quick::run(core, term, port, most - steps - 1);
+        let quick = vax_quick::run(core, port, most - steps - 1);
         steps += quick;
         let silent = try_apart(core, term, port, log, scratch, &mut last);
         if steps + 1 == most {

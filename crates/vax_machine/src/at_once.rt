@@ -29,5 +29,5 @@ pub(crate) fn steps_at_once(cpu: &mut Cpu, pager: &mut Pager, most: u64) -> u64
     if cpu.latch.is_some() || !vax_quick::is_still(&cpu.core) {
         return 0;
     }
-    vax_quick::run(&mut cpu.core, &cpu.term, pager, most)
+    vax_quick::run(&mut cpu.core, pager, most)
 }

@@ -15,8 +15,8 @@ use Rattle.vax_undo.proofs.Ranges.{resident_here}
 use Rattle.vax_undo.proofs.Undo.{is_free, not_stopped}
 use Rattle.vax_flat.specs.State.{State}
 use Rattle.vax_flat.specs.Accesses.{Accesses, Leaf}
-use Rattle.vax_flat.specs.OverPort.{Present, over_port}
-use Rattle.vax_quick.specs.Made.{Reads}
+use Rattle.vax_flat.specs.OverPort.{over_port}
+use Rattle.vax_quick.specs.Made.{Computer, Reads, at_console}
 use Rattle.vax_quick.specs.Frames.{Finds, HasRoom, IsWritten, MayWrite}
 use Rattle.vax_quick.proofs.Windows.{done_by}
 
@@ -125,6 +125,7 @@ reads_more view along a x b y c z k l = record {
 }
 
 -- a call that follows one of two trees that come to the same follows the other
-pub finds_by : {X : Type 0} (a b : State → (X → State → Accesses Leaf) → Accesses Leaf) (r : Option X) (old new : Present) → ((next : X → State → Accesses Leaf) → a old.state next ≡ b old.state next) → Finds b r old new → Finds a r old new
+pub finds_by : {X : Type 0} (a b : State → (X → State → Accesses Leaf) → Accesses Leaf) (r : Option X) (old new : Computer) → ((s : State) (next : X → State → Accesses Leaf) → a s next ≡ b s next) → Finds b r old new → Finds a r old new
 finds_by a b None old new same finds = tt
-finds_by a b (Some found) old new same finds = λ next. ap (λ tree. over_port tree old.view) (same next) ∙ finds next
+finds_by a b (Some found) old new same finds = λ input taken sent next.
+    ap (λ tree. over_port tree old.view) (same (at_console old.core input taken sent) next) ∙ finds input taken sent next

@@ -3,23 +3,20 @@ use Rattle.std.proofs.Common.{◌≡◌, Option, Some, None, sym, ap, ◌∙◌}
 use Rattle.std.proofs.lemmas.List.{set-set, set-get_or}
 use Rattle.std.specs.Prelude.{slice_set, slice_index}
 use Rattle.vax_word.specs.declared.Core.{Core}
-use Rattle.vax_flat.specs.OverPort.{Present}
 use Rattle.vax_flat.specs.Port.{View}
-use Rattle.vax_undo.specs.declared.term.Term.{Term}
-use Rattle.vax_undo.specs.Transaction.{seen, state_of}
-use Rattle.vax_quick.specs.Made.{IsMoved, Makes, MakesOrStays, Tree, with_pc}
+use Rattle.vax_quick.specs.Made.{Computer, IsMoved, Makes, MakesOrStays, Tree, computer, with_pc}
 
 -- where the registers and what a port shows are as before, all is
-pub all_same : {P : Type 0} (view : P → View) (old new : Core) (term : Term) (before after : P) → new ≡ old → view after ≡ view before → seen view new term after ≡ seen view old term before
-all_same view old new term before after core shown = λ k. record { state = state_of (core k) term; view = shown k }
+pub all_same : {P : Type 0} (view : P → View) (old new : Core) (before after : P) → new ≡ old → view after ≡ view before → computer view new after ≡ computer view old before
+all_same view old new before after core shown = λ k. record { core = core k; view = shown k }
 
 -- an instruction that wasn't made, behind which the registers are put back
-pub put_back : (tree : Tree) (made : Option (Unit {0})) (old mid : Present) → made ≡ None → Makes tree made old mid → record { state = old.state; view = mid.view } ≡ old
-put_back tree None old mid none same = λ k. record { state = old.state; view = same k }
+pub put_back : (tree : Tree) (made : Option (Unit {0})) (old mid : Computer) → made ≡ None → Makes tree made old mid → record { core = old.core; view = mid.view } ≡ old
+put_back tree None old mid none same = λ k. record { core = old.core; view = same k }
 put_back tree (Some done) old mid none same = absurd (let no : ⊥ = cc in no)
 
 -- one that was made
-pub made_stays : (tree : Tree) (made : Option (Unit {0})) (done : Unit {0}) (old new : Present) → made ≡ Some done → Makes tree made old new → MakesOrStays tree (Some done) old new
+pub made_stays : (tree : Tree) (made : Option (Unit {0})) (done : Unit {0}) (old new : Computer) → made ≡ Some done → Makes tree made old new → MakesOrStays tree (Some done) old new
 made_stays tree None done old new some makes = absurd (let no : ⊥ = cc in no)
 made_stays tree (Some one) done old new some makes = makes
 
@@ -38,9 +35,9 @@ pub not_moved : (core : Core) → IsMoved core core
 not_moved core = (slice_index core.regs 15, ap (λ regs. record core { regs = regs }) (sym (set-get_or core.regs 15 0)))
 
 -- what left all but PC as it was, behind which PC is put back
-pub opcode_back : {P : Type 0} (view : P → View) (old mid new : Core) (term : Term) (before between after : P) → IsMoved old mid → view between ≡ view before → seen view new term after ≡ seen view mid term between →
-    seen view (record new { regs = slice_set new.regs 15 (slice_index old.regs 15) }) term after ≡ seen view old term before
-opcode_back view old mid new term before between after moved shown stays =
-    let core : new ≡ mid = ap (λ (p : Present). p.state.core) stays in
+pub opcode_back : {P : Type 0} (view : P → View) (old mid new : Core) (before between after : P) → IsMoved old mid → view between ≡ view before → computer view new after ≡ computer view mid between →
+    computer view (record new { regs = slice_set new.regs 15 (slice_index old.regs 15) }) after ≡ computer view old before
+opcode_back view old mid new before between after moved shown stays =
+    let core : new ≡ mid = ap (λ (p : Computer). p.core) stays in
     let back : record new { regs = slice_set new.regs 15 (slice_index old.regs 15) } ≡ old = ap (λ (c : Core). record c { regs = slice_set c.regs 15 (slice_index old.regs 15) }) core ∙ pc_back old mid moved in
-    all_same view old (record new { regs = slice_set new.regs 15 (slice_index old.regs 15) }) term before after back (ap (λ (p : Present). p.view) stays ∙ shown)
+    all_same view old (record new { regs = slice_set new.regs 15 (slice_index old.regs 15) }) before after back (ap (λ (p : Computer). p.view) stays ∙ shown)

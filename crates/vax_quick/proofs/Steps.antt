@@ -8,11 +8,11 @@ use Rattle.vax_flat.specs.declared.Flow.TheVariants as flow
 use Rattle.vax_flat.specs.State.{State, priority}
 use Rattle.vax_flat.specs.Accesses.{Went}
 use Rattle.vax_flat.specs.Instruction.{first_part}
-use Rattle.vax_flat.specs.OverPort.{Present, over_port, Comes}
+use Rattle.vax_flat.specs.OverPort.{over_port, Comes}
 use Rattle.vax_flat.specs.Parts.{begun_part, part}
 use Rattle.vax_flat.specs.Port.{View}
 use Rattle.vax_flat.specs.Step.{finished, leaf, level, highest, ticked}
-use Rattle.vax_quick.specs.Made.{GoesOn, IsStill, MakesStep, MakesSteps}
+use Rattle.vax_quick.specs.Made.{Computer, GoesOn, IsStill, MakesStep, MakesSteps, at_console}
 
 none_set : (place : ℕ) → is_one 0 place ≡ false
 none_set place = ne_eqb (0 / 2 ^ place % 2 ^ 1) 1 (omega arith)
@@ -39,16 +39,16 @@ unfolding finished ticked over_port
 ends s view off = rw off refl
 
 -- an instruction that was made where no interrupt is asked for and the clock is off is a step
-pub step_made : (old new : Present) → IsStill old.state.core → new.state.core.iccs ≡ old.state.core.iccs → new.state.input ≡ old.state.input → new.state.sent ≡ old.state.sent → GoesOn first_part flow.Done old new → MakesStep old new
+pub step_made : (old new : Computer) → IsStill old.core → new.core.iccs ≡ old.core.iccs → GoesOn first_part flow.Done old new → MakesStep old new
 unfolding part begun_part
-step_made old new still timer input sent made =
-    let low : nat_lt (priority old.state) (level old.state.core) ≡ false = let none = still.none in grind (arith, nat_tests) in
-    let off : is_one new.state.core.iccs 6 ≡ false = rw timer still.off in
-    record {
-      made = rw low (made (λ how s. finished how s leaf) ∙ ends new.state new.view off);
-      input = input;
-      sent = sent;
-    }
+step_made old new still timer made = record {
+  made = λ input taken sent.
+      let before = at_console old.core input taken sent in
+      let after = at_console new.core input taken sent in
+      let low : nat_lt (priority before) (level old.core) ≡ false = let none = still.none in grind (arith, nat_tests) in
+      let off : is_one new.core.iccs 6 ≡ false = rw timer still.off in
+      rw low (made input taken sent (λ how s. finished how s leaf) ∙ ends after new.view off);
+}
 
-pub steps_more : (count : ℕ) (old mid new : Present) → MakesSteps count old mid → MakesStep mid new → MakesSteps (count + 1) old new
+pub steps_more : (count : ℕ) (old mid new : Computer) → MakesSteps count old mid → MakesStep mid new → MakesSteps (count + 1) old new
 steps_more count old mid new so_far one = rw add-one (mid, so_far, one)

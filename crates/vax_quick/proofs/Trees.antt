@@ -10,16 +10,17 @@ use Rattle.vax_flat.specs.declared.Form.TheVariants as form
 use Rattle.vax_flat.specs.State.{State}
 use Rattle.vax_flat.specs.Accesses.{Accesses, Leaf}
 use Rattle.vax_flat.specs.Operand.{form_of, formed, fetched, read_at, addressed, is_reserved, at_address}
-use Rattle.vax_flat.specs.OverPort.{Present, over_port}
+use Rattle.vax_flat.specs.OverPort.{over_port}
 use Rattle.vax_flat.specs.Rows.{address_of, address_in}
 use Rattle.vax_operand.specs.Addressed.{located, direct, IsMemory}
 use Rattle.vax_operand.proofs.Addresses.{formed_located}
 use Rattle.vax_quick.specs.declared.window.Window.{Window}
-use Rattle.vax_quick.specs.Made.{Gives}
+use Rattle.vax_quick.specs.Made.{Computer, Gives, at_console}
 
-pub gives_by : {X : Type 0} (a b : State → (X → State → Accesses Leaf) → Accesses Leaf) (r : Option (X × Window)) (old new : Present) → ((next : X → State → Accesses Leaf) → a old.state next ≡ b old.state next) → Gives b r old new → Gives a r old new
+pub gives_by : {X : Type 0} (a b : State → (X → State → Accesses Leaf) → Accesses Leaf) (r : Option (X × Window)) (old new : Computer) → ((s : State) (next : X → State → Accesses Leaf) → a s next ≡ b s next) → Gives b r old new → Gives a r old new
 gives_by a b None old new same gives = tt
-gives_by a b (Some found) old new same gives = λ next. ap (λ tree. over_port tree old.view) (same next) ∙ gives next
+gives_by a b (Some found) old new same gives = λ input taken sent next.
+    ap (λ tree. over_port tree old.view) (same (at_console old.core input taken sent) next) ∙ gives input taken sent next
 
 -- an immediate is what the instruction has next
 pub immediate_is : (width : ℕ) (s : State) (next : ℕ → State → Accesses Leaf) → located Read width (form.Increment 15) s (λ addr t. read_at addr width t next) ≡ fetched width s next

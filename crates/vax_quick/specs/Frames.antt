@@ -7,17 +7,16 @@ use Rattle.vax_word.specs.Status.{mode_of}
 use Rattle.vax_flat.specs.Field.{bits_of}
 use Rattle.vax_flat.specs.State.{State}
 use Rattle.vax_flat.specs.Accesses.{Accesses, Leaf}
-use Rattle.vax_flat.specs.OverPort.{Present}
 use Rattle.vax_flat.specs.Port.{View, stop, with_number}
-use Rattle.vax_quick.specs.Made.{GoesOn}
+use Rattle.vax_quick.specs.Made.{Computer, GoesOn}
 
 -- a call that gives a value makes the accesses of a tree; one that gives none says nothing
-abbrev pub Finds : {X : Type 0} → (State → (X → State → Accesses Leaf) → Accesses Leaf) → Option X → Present → Present → Type 0
+abbrev pub Finds : {X : Type 0} → (State → (X → State → Accesses Leaf) → Accesses Leaf) → Option X → Computer → Computer → Type 0
 Finds tree None old new = Unit {0}
 Finds tree (Some found) old new = GoesOn tree found old new
 
 -- the same of a field of so many bits, as the number that they are
-abbrev pub FindsBits : ℕ → (State → (List Bool → State → Accesses Leaf) → Accesses Leaf) → Option ℕ → Present → Present → Type 0
+abbrev pub FindsBits : ℕ → (State → (List Bool → State → Accesses Leaf) → Accesses Leaf) → Option ℕ → Computer → Computer → Type 0
 FindsBits size tree None old new = Unit {0}
 FindsBits size tree (Some bits) old new = GoesOn tree (bits_of size bits) old new
 

@@ -6,29 +6,27 @@ ghost use Rattle.vax_flat.specs.declared.Operand.TheVariants as operand;
 ghost use Rattle.vax_flat.specs.declared.Form.TheVariants as form;
 ghost use Rattle.vax_flat.specs.Operand.{form_of, formed, in_register, read_at, register_value, IsWidth, IsPlace};
 ghost use Rattle.vax_flat.specs.Rows.{read_of, write_of, value_of, with_value, stored, read_value, modify_value, write_place};
-ghost use Rattle.vax_undo.specs.Transaction.{seen, state_of};
 ghost use Rattle.vax_operand.specs.Addressed.{located, checked, modified, modified_there, IsMemory};
-ghost use Rattle.vax_quick.specs.Made.{Acts, Gives, IsKept, IsSeen, Reads};
+ghost use Rattle.vax_quick.specs.Made.{Acts, Becomes, Gives, IsKept, IsSeen, IsValueOf, Reads, computer};
 
 use crate::memory::{check, read, write};
 use crate::specifier::{address_near, deferred_address, near_address};
 use crate::window::{Window, fetch};
 use vax_isa::Letter;
 use vax_operand::{Operand, reaches_pc, width_of};
-use vax_undo::{Port, Term};
+use vax_undo::Port;
 use vax_word::{Core, Size};
 
 /// The value of a register, or of the pair of a quadword.
 #[inline(always)]
 #[tactic(auto, unfolding(vax_flat::specs::Operand::register_value))]
-fn value_in(core: &Core, term: &Term, width: u8, n: u8) -> u64
+fn value_in(core: &Core, width: u8, n: u8) -> u64
     requires width { IsWidth width }
     requires below { n < 15 }
     requires pair { width ≡ 8 → n < 14 }
-    ensures exact { result ≡ register_value width n (state_of core.now term.now) }
+    ensures exact { IsValueOf (register_value width n) result core.now }
     ensures fits { result < 256 ^ width }
 {
-    let _ = term;
     let low = core.regs[n as usize];
     match width {
         1 => (low & 0xff) as u64,
@@ -41,16 +39,14 @@ fn value_in(core: &Core, term: &Term, width: u8, n: u8) -> u64
 /// Sets a register, or the pair of a quadword. A byte or a word leaves the register's other bits.
 #[inline(always)]
 #[tactic(auto, unfolding(vax_flat::specs::Rows::with_value))]
-pub(crate) fn set_value(core: &mut Core, term: &Term, width: u8, n: u8, value: u64)
+pub(crate) fn set_value(core: &mut Core, width: u8, n: u8, value: u64)
     requires width { IsWidth width }
     requires below { n < 15 }
     requires pair { width ≡ 8 → n < 14 }
     requires fits { value < 256 ^ width }
-    ensures exact { state_of core.new term.now
-        ≡ with_value width n value (state_of core.old term.now) }
+    ensures exact { Becomes (with_value width n value) core.old core.new }
     ensures kept { IsKept core.old core.new }
 {
-    let _ = term;
     let i = n as usize;
     match width {
         1 => core.regs[i] = core.regs[i] / 0x100 * 0x100 + value as u32,
@@ -68,7 +64,6 @@ pub(crate) fn set_value(core: &mut Core, term: &Term, width: u8, n: u8, value: u
 #[tactic(auto, unfolding(vax_flat::specs::Rows::stored))]
 fn store_at<P: Port>(
     core: &mut Core,
-    term: &Term,
     port: &mut P,
     width: u8,
     operand: Operand,
@@ -78,17 +73,17 @@ fn store_at<P: Port>(
     requires place { IsPlace width operand }
     requires fits { value < 256 ^ width }
     ensures exact { Acts (stored width operand value) result
-        (seen P.view core.old term.now port.old) (seen P.view core.new term.now port.new) }
+        (computer P.view core.old port.old) (computer P.view core.new port.new) }
     ensures kept { IsKept core.old core.new }
     ensures since { (start : P) → P.since start port.old → P.since start port.new }
 {
     match operand {
         Operand::Value(_) => Some(()),
         Operand::Register(n) => {
-            set_value(core, term, width, n, value);
+            set_value(core, width, n, value);
             Some(())
         }
-        Operand::Memory(addr) => write(core, term, port, addr, width as u32, value),
+        Operand::Memory(addr) => write(core, port, addr, width as u32, value),
         Operand::FieldRegister(_) => Some(()),
         Operand::Target(_) => Some(()),
     }
@@ -98,7 +93,6 @@ fn store_at<P: Port>(
 #[inline(always)]
 pub(crate) fn store<P: Port>(
     core: &mut Core,
-    term: &Term,
     port: &mut P,
     size: Size,
     operand: Operand,
@@ -107,18 +101,17 @@ pub(crate) fn store<P: Port>(
     requires place { IsPlace (bytes_of size) operand }
     requires fits { value < 256 ^ bytes_of size }
     ensures exact { Acts (stored (bytes_of size) operand value) result
-        (seen P.view core.old term.now port.old) (seen P.view core.new term.now port.new) }
+        (computer P.view core.old port.old) (computer P.view core.new port.new) }
     ensures kept { IsKept core.old core.new }
     ensures since { (start : P) → P.since start port.old → P.since start port.new }
 {
-    store_at(core, term, port, width_of(size), operand, value)
+    store_at(core, port, width_of(size), operand, value)
 }
 
 /// An immediate, which lies in the instruction itself. A quadword is left out.
 #[inline(always)]
 fn immediate<P: Port>(
     core: &mut Core,
-    term: &Term,
     port: &mut P,
     window: Window,
     width: u8,
@@ -127,7 +120,7 @@ fn immediate<P: Port>(
     requires window { IsSeen (P.view port.old) core.old window }
     ensures exact { Gives (λ s next. located letter.Read width (form.Increment 15) s
         (λ addr s. read_at addr width s next)) result
-        (seen P.view core.old term.now port.old) (seen P.view core.new term.now port.new) }
+        (computer P.view core.old port.old) (computer P.view core.new port.new) }
     ensures fits { IfSome result (λ r. r.0 < 256 ^ width) }
     ensures left { IfSome result (λ r. IsSeen (P.view port.new) core.new r.1) }
     ensures reads { Reads P.view P.since core.old port.old core.new port.new }
@@ -135,14 +128,13 @@ fn immediate<P: Port>(
     if width == 8 {
         return None;
     }
-    fetch(core, term, port, window, width as u32)
+    fetch(core, port, window, width as u32)
 }
 
 /// The value at the address of a specifier byte.
 #[inline(always)]
 fn value_at_address<P: Port>(
     core: &mut Core,
-    term: &Term,
     port: &mut P,
     window: Window,
     width: u8,
@@ -152,13 +144,13 @@ fn value_at_address<P: Port>(
     requires window { IsSeen (P.view port.old) core.old window }
     ensures exact { Gives (λ s next. located letter.Read width (form_of byte) s
         (λ addr s. read_at addr width s next)) result
-        (seen P.view core.old term.now port.old) (seen P.view core.new term.now port.new) }
+        (computer P.view core.old port.old) (computer P.view core.new port.new) }
     ensures fits { IfSome result (λ r. r.0 < 256 ^ width) }
     ensures left { IfSome result (λ r. IsSeen (P.view port.new) core.new r.1) }
     ensures reads { Reads P.view P.since core.old port.old core.new port.new }
 {
-    let (addr, behind) = address_near(core, term, port, window, Letter::Read, width, byte)?;
-    let value = read(core, term, port, addr, width as u32)?;
+    let (addr, behind) = address_near(core, port, window, Letter::Read, width, byte)?;
+    let value = read(core, port, addr, width as u32)?;
     Some((value, behind))
 }
 
@@ -166,7 +158,6 @@ fn value_at_address<P: Port>(
 #[inline(always)]
 fn value_deferred<P: Port>(
     core: &mut Core,
-    term: &Term,
     port: &mut P,
     window: Window,
     width: u8,
@@ -177,13 +168,13 @@ fn value_deferred<P: Port>(
     requires window { IsSeen (P.view port.old) core.old window }
     ensures exact { Gives (λ s next. located letter.Read width (form.Deferred n) s
         (λ addr s. read_at addr width s next)) result
-        (seen P.view core.old term.now port.old) (seen P.view core.new term.now port.new) }
+        (computer P.view core.old port.old) (computer P.view core.new port.new) }
     ensures fits { IfSome result (λ r. r.0 < 256 ^ width) }
     ensures left { IfSome result (λ r. IsSeen (P.view port.new) core.new r.1) }
     ensures reads { Reads P.view P.since core.old port.old core.new port.new }
 {
-    let (addr, behind) = deferred_address(core, term, port, window, Letter::Read, width, n)?;
-    let value = read(core, term, port, addr, width as u32)?;
+    let (addr, behind) = deferred_address(core, port, window, Letter::Read, width, n)?;
+    let value = read(core, port, addr, width as u32)?;
     Some((value, behind))
 }
 
@@ -191,7 +182,6 @@ fn value_deferred<P: Port>(
 #[inline(always)]
 fn value_near<P: Port>(
     core: &mut Core,
-    term: &Term,
     port: &mut P,
     window: Window,
     width: u8,
@@ -202,13 +192,13 @@ fn value_near<P: Port>(
     requires window { IsSeen (P.view port.old) core.old window }
     ensures exact { Gives (λ s next. located letter.Read width (form.Displacement 1 n) s
         (λ addr s. read_at addr width s next)) result
-        (seen P.view core.old term.now port.old) (seen P.view core.new term.now port.new) }
+        (computer P.view core.old port.old) (computer P.view core.new port.new) }
     ensures fits { IfSome result (λ r. r.0 < 256 ^ width) }
     ensures left { IfSome result (λ r. IsSeen (P.view port.new) core.new r.1) }
     ensures reads { Reads P.view P.since core.old port.old core.new port.new }
 {
-    let (addr, behind) = near_address(core, term, port, window, Letter::Read, width, n)?;
-    let value = read(core, term, port, addr, width as u32)?;
+    let (addr, behind) = near_address(core, port, window, Letter::Read, width, n)?;
+    let value = read(core, port, addr, width as u32)?;
     Some((value, behind))
 }
 
@@ -216,7 +206,6 @@ fn value_near<P: Port>(
 #[inline(always)]
 fn value_by_form<P: Port>(
     core: &mut Core,
-    term: &Term,
     port: &mut P,
     window: Window,
     width: u8,
@@ -226,15 +215,15 @@ fn value_by_form<P: Port>(
     requires window { IsSeen (P.view port.old) core.old window }
     ensures exact { Gives (λ s next. located letter.Read width (form_of byte) s
         (λ addr s. read_at addr width s next)) result
-        (seen P.view core.old term.now port.old) (seen P.view core.new term.now port.new) }
+        (computer P.view core.old port.old) (computer P.view core.new port.new) }
     ensures fits { IfSome result (λ r. r.0 < 256 ^ width) }
     ensures left { IfSome result (λ r. IsSeen (P.view port.new) core.new r.1) }
     ensures reads { Reads P.view P.since core.old port.old core.new port.new }
 {
     if byte == 0x8F {
-        return immediate(core, term, port, window, width);
+        return immediate(core, port, window, width);
     }
-    value_at_address(core, term, port, window, width, byte)
+    value_at_address(core, port, window, width, byte)
 }
 
 /// The value of an operand that is neither a literal nor in a register. The two commonest forms are told from the byte alone.
@@ -242,7 +231,6 @@ fn value_by_form<P: Port>(
 #[tactic(auto, unfolding(vax_flat::specs::Operand::form_of))]
 fn value_there<P: Port>(
     core: &mut Core,
-    term: &Term,
     port: &mut P,
     window: Window,
     width: u8,
@@ -252,15 +240,15 @@ fn value_there<P: Port>(
     requires window { IsSeen (P.view port.old) core.old window }
     ensures exact { Gives (λ s next. located letter.Read width (form_of byte) s
         (λ addr s. read_at addr width s next)) result
-        (seen P.view core.old term.now port.old) (seen P.view core.new term.now port.new) }
+        (computer P.view core.old port.old) (computer P.view core.new port.new) }
     ensures fits { IfSome result (λ r. r.0 < 256 ^ width) }
     ensures left { IfSome result (λ r. IsSeen (P.view port.new) core.new r.1) }
     ensures reads { Reads P.view P.since core.old port.old core.new port.new }
 {
     match byte >> 4 {
-        6 => value_deferred(core, term, port, window, width, byte % 16),
-        10 => value_near(core, term, port, window, width, byte % 16),
-        _ => value_by_form(core, term, port, window, width, byte),
+        6 => value_deferred(core, port, window, width, byte % 16),
+        10 => value_near(core, port, window, width, byte % 16),
+        _ => value_by_form(core, port, window, width, byte),
     }
 }
 
@@ -268,7 +256,6 @@ fn value_there<P: Port>(
 #[inline(always)]
 fn value_beyond<P: Port>(
     core: &mut Core,
-    term: &Term,
     port: &mut P,
     window: Window,
     width: u8,
@@ -279,12 +266,12 @@ fn value_beyond<P: Port>(
     requires window { IsSeen (P.view port.old) core.old window }
     ensures exact { Gives
         (λ s next. formed (read_of width) (form_of byte) s (λ o s. next (value_of o) s)) result
-        (seen P.view core.old term.now port.old) (seen P.view core.new term.now port.new) }
+        (computer P.view core.old port.old) (computer P.view core.new port.new) }
     ensures fits { IfSome result (λ r. r.0 < 256 ^ width) }
     ensures left { IfSome result (λ r. IsSeen (P.view port.new) core.new r.1) }
     ensures reads { Reads P.view P.since core.old port.old core.new port.new }
 {
-    value_there(core, term, port, window, width, byte)
+    value_there(core, port, window, width, byte)
 }
 
 /// The place at the address in a register, checked for writing, and the value there.
@@ -292,7 +279,6 @@ fn value_beyond<P: Port>(
 #[tactic(auto, unfolding(vax_operand::specs::Addressed::modified_there, vax_operand::specs::Addressed::checked))]
 fn modified_deferred<P: Port>(
     core: &mut Core,
-    term: &Term,
     port: &mut P,
     window: Window,
     width: u8,
@@ -302,15 +288,15 @@ fn modified_deferred<P: Port>(
     requires of_core { n < 16 }
     requires window { IsSeen (P.view port.old) core.old window }
     ensures exact { Gives (modified_there width (form.Deferred n)) result
-        (seen P.view core.old term.now port.old) (seen P.view core.new term.now port.new) }
+        (computer P.view core.old port.old) (computer P.view core.new port.new) }
     ensures place { IfSome result (λ r. IsPlace width r.0.0) }
     ensures fits { IfSome result (λ r. r.0.1 < 256 ^ width) }
     ensures left { IfSome result (λ r. IsSeen (P.view port.new) core.new r.1) }
     ensures reads { Reads P.view P.since core.old port.old core.new port.new }
 {
-    let (addr, behind) = deferred_address(core, term, port, window, Letter::Modify, width, n)?;
-    check(core, term, port, addr, width as u32)?;
-    let value = read(core, term, port, addr, width as u32)?;
+    let (addr, behind) = deferred_address(core, port, window, Letter::Modify, width, n)?;
+    check(core, port, addr, width as u32)?;
+    let value = read(core, port, addr, width as u32)?;
     Some(((Operand::Memory(addr), value), behind))
 }
 
@@ -319,7 +305,6 @@ fn modified_deferred<P: Port>(
 #[tactic(auto, unfolding(vax_operand::specs::Addressed::modified_there, vax_operand::specs::Addressed::checked))]
 fn modified_near<P: Port>(
     core: &mut Core,
-    term: &Term,
     port: &mut P,
     window: Window,
     width: u8,
@@ -329,15 +314,15 @@ fn modified_near<P: Port>(
     requires of_core { n < 16 }
     requires window { IsSeen (P.view port.old) core.old window }
     ensures exact { Gives (modified_there width (form.Displacement 1 n)) result
-        (seen P.view core.old term.now port.old) (seen P.view core.new term.now port.new) }
+        (computer P.view core.old port.old) (computer P.view core.new port.new) }
     ensures place { IfSome result (λ r. IsPlace width r.0.0) }
     ensures fits { IfSome result (λ r. r.0.1 < 256 ^ width) }
     ensures left { IfSome result (λ r. IsSeen (P.view port.new) core.new r.1) }
     ensures reads { Reads P.view P.since core.old port.old core.new port.new }
 {
-    let (addr, behind) = near_address(core, term, port, window, Letter::Modify, width, n)?;
-    check(core, term, port, addr, width as u32)?;
-    let value = read(core, term, port, addr, width as u32)?;
+    let (addr, behind) = near_address(core, port, window, Letter::Modify, width, n)?;
+    check(core, port, addr, width as u32)?;
+    let value = read(core, port, addr, width as u32)?;
     Some(((Operand::Memory(addr), value), behind))
 }
 
@@ -346,7 +331,6 @@ fn modified_near<P: Port>(
 #[tactic(auto, unfolding(vax_operand::specs::Addressed::modified_there, vax_operand::specs::Addressed::checked))]
 fn modified_by_form<P: Port>(
     core: &mut Core,
-    term: &Term,
     port: &mut P,
     window: Window,
     width: u8,
@@ -355,15 +339,15 @@ fn modified_by_form<P: Port>(
     requires width { IsWidth width }
     requires window { IsSeen (P.view port.old) core.old window }
     ensures exact { Gives (modified_there width (form_of byte)) result
-        (seen P.view core.old term.now port.old) (seen P.view core.new term.now port.new) }
+        (computer P.view core.old port.old) (computer P.view core.new port.new) }
     ensures place { IfSome result (λ r. IsPlace width r.0.0) }
     ensures fits { IfSome result (λ r. r.0.1 < 256 ^ width) }
     ensures left { IfSome result (λ r. IsSeen (P.view port.new) core.new r.1) }
     ensures reads { Reads P.view P.since core.old port.old core.new port.new }
 {
-    let (addr, behind) = address_near(core, term, port, window, Letter::Modify, width, byte)?;
-    check(core, term, port, addr, width as u32)?;
-    let value = read(core, term, port, addr, width as u32)?;
+    let (addr, behind) = address_near(core, port, window, Letter::Modify, width, byte)?;
+    check(core, port, addr, width as u32)?;
+    let value = read(core, port, addr, width as u32)?;
     Some(((Operand::Memory(addr), value), behind))
 }
 
@@ -372,7 +356,6 @@ fn modified_by_form<P: Port>(
 #[tactic(auto, unfolding(vax_flat::specs::Operand::form_of))]
 fn modified_there<P: Port>(
     core: &mut Core,
-    term: &Term,
     port: &mut P,
     window: Window,
     width: u8,
@@ -381,16 +364,16 @@ fn modified_there<P: Port>(
     requires width { IsWidth width }
     requires window { IsSeen (P.view port.old) core.old window }
     ensures exact { Gives (modified_there width (form_of byte)) result
-        (seen P.view core.old term.now port.old) (seen P.view core.new term.now port.new) }
+        (computer P.view core.old port.old) (computer P.view core.new port.new) }
     ensures place { IfSome result (λ r. IsPlace width r.0.0) }
     ensures fits { IfSome result (λ r. r.0.1 < 256 ^ width) }
     ensures left { IfSome result (λ r. IsSeen (P.view port.new) core.new r.1) }
     ensures reads { Reads P.view P.since core.old port.old core.new port.new }
 {
     match byte >> 4 {
-        6 => modified_deferred(core, term, port, window, width, byte & 15),
-        10 => modified_near(core, term, port, window, width, byte & 15),
-        _ => modified_by_form(core, term, port, window, width, byte),
+        6 => modified_deferred(core, port, window, width, byte & 15),
+        10 => modified_near(core, port, window, width, byte & 15),
+        _ => modified_by_form(core, port, window, width, byte),
     }
 }
 
@@ -398,7 +381,6 @@ fn modified_there<P: Port>(
 #[inline(always)]
 fn modified_beyond<P: Port>(
     core: &mut Core,
-    term: &Term,
     port: &mut P,
     window: Window,
     width: u8,
@@ -408,20 +390,19 @@ fn modified_beyond<P: Port>(
     requires memory { IsMemory (form_of byte) }
     requires window { IsSeen (P.view port.old) core.old window }
     ensures exact { Gives (modified width (form_of byte)) result
-        (seen P.view core.old term.now port.old) (seen P.view core.new term.now port.new) }
+        (computer P.view core.old port.old) (computer P.view core.new port.new) }
     ensures place { IfSome result (λ r. IsPlace width r.0.0) }
     ensures fits { IfSome result (λ r. r.0.1 < 256 ^ width) }
     ensures left { IfSome result (λ r. IsSeen (P.view port.new) core.new r.1) }
     ensures reads { Reads P.view P.since core.old port.old core.new port.new }
 {
-    modified_there(core, term, port, window, width, byte)
+    modified_there(core, port, window, width, byte)
 }
 
 /// The place at the address of a specifier byte.
 #[inline(never)]
 fn place_there<P: Port>(
     core: &mut Core,
-    term: &Term,
     port: &mut P,
     window: Window,
     width: u8,
@@ -431,12 +412,12 @@ fn place_there<P: Port>(
     requires window { IsSeen (P.view port.old) core.old window }
     ensures exact { Gives (λ s next. located letter.Write width (form_of byte) s
         (λ addr s. next (operand.Memory addr) s)) result
-        (seen P.view core.old term.now port.old) (seen P.view core.new term.now port.new) }
+        (computer P.view core.old port.old) (computer P.view core.new port.new) }
     ensures place { IfSome result (λ r. IsPlace width r.0) }
     ensures left { IfSome result (λ r. IsSeen (P.view port.new) core.new r.1) }
     ensures reads { Reads P.view P.since core.old port.old core.new port.new }
 {
-    let (addr, behind) = address_near(core, term, port, window, Letter::Write, width, byte)?;
+    let (addr, behind) = address_near(core, port, window, Letter::Write, width, byte)?;
     Some((Operand::Memory(addr), behind))
 }
 
@@ -444,7 +425,6 @@ fn place_there<P: Port>(
 #[inline(always)]
 fn place_beyond<P: Port>(
     core: &mut Core,
-    term: &Term,
     port: &mut P,
     window: Window,
     width: u8,
@@ -454,12 +434,12 @@ fn place_beyond<P: Port>(
     requires memory { IsMemory (form_of byte) }
     requires window { IsSeen (P.view port.old) core.old window }
     ensures exact { Gives (formed (write_of width) (form_of byte)) result
-        (seen P.view core.old term.now port.old) (seen P.view core.new term.now port.new) }
+        (computer P.view core.old port.old) (computer P.view core.new port.new) }
     ensures place { IfSome result (λ r. IsPlace width r.0) }
     ensures left { IfSome result (λ r. IsSeen (P.view port.new) core.new r.1) }
     ensures reads { Reads P.view P.since core.old port.old core.new port.new }
 {
-    place_there(core, term, port, window, width, byte)
+    place_there(core, port, window, width, byte)
 }
 
 /// The value of an operand in a register.
@@ -467,7 +447,6 @@ fn place_beyond<P: Port>(
 #[tactic(auto, unfolding(vax_flat::specs::Operand::in_register, vax_flat::specs::Rows::value_of))]
 fn value_of_register<P: Port>(
     core: &Core,
-    term: &Term,
     port: &P,
     window: Window,
     width: u8,
@@ -477,7 +456,7 @@ fn value_of_register<P: Port>(
     requires of_core { n < 16 }
     requires window { IsSeen (P.view port.now) core.now window }
     ensures exact { Gives (λ s next. in_register (read_of width) n s (λ o s. next (value_of o) s))
-        result (seen P.view core.now term.now port.now) (seen P.view core.now term.now port.now) }
+        result (computer P.view core.now port.now) (computer P.view core.now port.now) }
     ensures fits { IfSome result (λ r. r.0 < 256 ^ width) }
     ensures left { IfSome result (λ r. IsSeen (P.view port.now) core.now r.1) }
 {
@@ -485,7 +464,7 @@ fn value_of_register<P: Port>(
     if reaches_pc(width, n) {
         return None;
     }
-    Some((value_in(core, term, width, n), window))
+    Some((value_in(core, width, n), window))
 }
 
 /// A register that is modified, and the value there.
@@ -493,7 +472,6 @@ fn value_of_register<P: Port>(
 #[tactic(auto, unfolding(vax_operand::specs::Addressed::modified, vax_flat::specs::Operand::formed, vax_flat::specs::Operand::in_register, vax_flat::specs::Rows::value_at))]
 pub(crate) fn modified_register<P: Port>(
     core: &Core,
-    term: &Term,
     port: &P,
     window: Window,
     width: u8,
@@ -503,7 +481,7 @@ pub(crate) fn modified_register<P: Port>(
     requires of_core { n < 16 }
     requires window { IsSeen (P.view port.now) core.now window }
     ensures exact { Gives (modified width (form.Register n)) result
-        (seen P.view core.now term.now port.now) (seen P.view core.now term.now port.now) }
+        (computer P.view core.now port.now) (computer P.view core.now port.now) }
     ensures place { IfSome result (λ r. IsPlace width r.0.0) }
     ensures fits { IfSome result (λ r. r.0.1 < 256 ^ width) }
     ensures left { IfSome result (λ r. IsSeen (P.view port.now) core.now r.1) }
@@ -512,7 +490,7 @@ pub(crate) fn modified_register<P: Port>(
     if reaches_pc(width, n) {
         return None;
     }
-    let value = value_in(core, term, width, n);
+    let value = value_in(core, width, n);
     Some(((Operand::Register(n), value), window))
 }
 
@@ -521,7 +499,6 @@ pub(crate) fn modified_register<P: Port>(
 #[tactic(auto, unfolding(vax_flat::specs::Operand::in_register))]
 fn place_register<P: Port>(
     core: &Core,
-    term: &Term,
     port: &P,
     window: Window,
     width: u8,
@@ -531,12 +508,11 @@ fn place_register<P: Port>(
     requires of_core { n < 16 }
     requires window { IsSeen (P.view port.now) core.now window }
     ensures exact { Gives (in_register (write_of width) n) result
-        (seen P.view core.now term.now port.now) (seen P.view core.now term.now port.now) }
+        (computer P.view core.now port.now) (computer P.view core.now port.now) }
     ensures place { IfSome result (λ r. IsPlace width r.0) }
     ensures left { IfSome result (λ r. IsSeen (P.view port.now) core.now r.1) }
 {
     let _ = core;
-    let _ = term;
     let _ = port;
     if reaches_pc(width, n) {
         return None;
@@ -549,7 +525,6 @@ fn place_register<P: Port>(
 #[tactic(auto, unfolding(vax_flat::specs::Operand::formed, vax_flat::specs::Operand::form_of, vax_flat::specs::Operand::literal, vax_flat::specs::Rows::value_of))]
 fn value_by_byte<P: Port>(
     core: &mut Core,
-    term: &Term,
     port: &mut P,
     window: Window,
     width: u8,
@@ -559,15 +534,15 @@ fn value_by_byte<P: Port>(
     requires window { IsSeen (P.view port.old) core.old window }
     ensures exact { Gives
         (λ s next. formed (read_of width) (form_of byte) s (λ o s. next (value_of o) s)) result
-        (seen P.view core.old term.now port.old) (seen P.view core.new term.now port.new) }
+        (computer P.view core.old port.old) (computer P.view core.new port.new) }
     ensures fits { IfSome result (λ r. r.0 < 256 ^ width) }
     ensures left { IfSome result (λ r. IsSeen (P.view port.new) core.new r.1) }
     ensures reads { Reads P.view P.since core.old port.old core.new port.new }
 {
     match byte >> 4 {
         0 | 1 | 2 | 3 => Some((byte as u64, window)),
-        5 => value_of_register(core, term, port, window, width, byte & 15),
-        _ => value_beyond(core, term, port, window, width, byte),
+        5 => value_of_register(core, port, window, width, byte & 15),
+        _ => value_beyond(core, port, window, width, byte),
     }
 }
 
@@ -576,7 +551,6 @@ fn value_by_byte<P: Port>(
 #[tactic(auto, unfolding(vax_flat::specs::Operand::form_of))]
 fn modified_by_byte<P: Port>(
     core: &mut Core,
-    term: &Term,
     port: &mut P,
     window: Window,
     width: u8,
@@ -585,7 +559,7 @@ fn modified_by_byte<P: Port>(
     requires width { IsWidth width }
     requires window { IsSeen (P.view port.old) core.old window }
     ensures exact { Gives (modified width (form_of byte)) result
-        (seen P.view core.old term.now port.old) (seen P.view core.new term.now port.new) }
+        (computer P.view core.old port.old) (computer P.view core.new port.new) }
     ensures place { IfSome result (λ r. IsPlace width r.0.0) }
     ensures fits { IfSome result (λ r. r.0.1 < 256 ^ width) }
     ensures left { IfSome result (λ r. IsSeen (P.view port.new) core.new r.1) }
@@ -593,8 +567,8 @@ fn modified_by_byte<P: Port>(
 {
     match byte >> 4 {
         0 | 1 | 2 | 3 => None,
-        5 => modified_register(core, term, port, window, width, byte & 15),
-        _ => modified_beyond(core, term, port, window, width, byte),
+        5 => modified_register(core, port, window, width, byte & 15),
+        _ => modified_beyond(core, port, window, width, byte),
     }
 }
 
@@ -603,7 +577,6 @@ fn modified_by_byte<P: Port>(
 #[tactic(auto, unfolding(vax_flat::specs::Operand::formed, vax_flat::specs::Operand::form_of))]
 fn place_by_byte<P: Port>(
     core: &mut Core,
-    term: &Term,
     port: &mut P,
     window: Window,
     width: u8,
@@ -612,15 +585,15 @@ fn place_by_byte<P: Port>(
     requires width { IsWidth width }
     requires window { IsSeen (P.view port.old) core.old window }
     ensures exact { Gives (formed (write_of width) (form_of byte)) result
-        (seen P.view core.old term.now port.old) (seen P.view core.new term.now port.new) }
+        (computer P.view core.old port.old) (computer P.view core.new port.new) }
     ensures place { IfSome result (λ r. IsPlace width r.0) }
     ensures left { IfSome result (λ r. IsSeen (P.view port.new) core.new r.1) }
     ensures reads { Reads P.view P.since core.old port.old core.new port.new }
 {
     match byte >> 4 {
         0 | 1 | 2 | 3 => None,
-        5 => place_register(core, term, port, window, width, byte & 15),
-        _ => place_beyond(core, term, port, window, width, byte),
+        5 => place_register(core, port, window, width, byte & 15),
+        _ => place_beyond(core, port, window, width, byte),
     }
 }
 
@@ -629,21 +602,20 @@ fn place_by_byte<P: Port>(
 #[tactic(auto, unfolding(vax_flat::specs::Rows::read_value, vax_flat::specs::Operand::next_operand, vax_flat::specs::Operand::specified))]
 pub(crate) fn next_value<P: Port>(
     core: &mut Core,
-    term: &Term,
     port: &mut P,
     window: Window,
     size: Size,
 ) -> Option<(u64, Window)>
     requires window { IsSeen (P.view port.old) core.old window }
     ensures exact { Gives (read_value (bytes_of size)) result
-        (seen P.view core.old term.now port.old) (seen P.view core.new term.now port.new) }
+        (computer P.view core.old port.old) (computer P.view core.new port.new) }
     ensures fits { IfSome result (λ r. r.0 < 256 ^ bytes_of size) }
     ensures left { IfSome result (λ r. IsSeen (P.view port.new) core.new r.1) }
     ensures reads { Reads P.view P.since core.old port.old core.new port.new }
 {
     let width = width_of(size);
-    let (byte, behind) = fetch(core, term, port, window, 1)?;
-    value_by_byte(core, term, port, behind, width, byte as u8)
+    let (byte, behind) = fetch(core, port, window, 1)?;
+    value_by_byte(core, port, behind, width, byte as u8)
 }
 
 /// Reads one operand at PC that is modified: where it is, checked for writing, and the value there.
@@ -651,22 +623,21 @@ pub(crate) fn next_value<P: Port>(
 #[tactic(auto, unfolding(vax_operand::specs::Addressed::modified, vax_flat::specs::Rows::modify_value, vax_flat::specs::Operand::next_operand, vax_flat::specs::Operand::specified))]
 pub(crate) fn next_modified<P: Port>(
     core: &mut Core,
-    term: &Term,
     port: &mut P,
     window: Window,
     size: Size,
 ) -> Option<((Operand, u64), Window)>
     requires window { IsSeen (P.view port.old) core.old window }
     ensures exact { Gives (modify_value (bytes_of size)) result
-        (seen P.view core.old term.now port.old) (seen P.view core.new term.now port.new) }
+        (computer P.view core.old port.old) (computer P.view core.new port.new) }
     ensures place { IfSome result (λ r. IsPlace (bytes_of size) r.0.0) }
     ensures fits { IfSome result (λ r. r.0.1 < 256 ^ bytes_of size) }
     ensures left { IfSome result (λ r. IsSeen (P.view port.new) core.new r.1) }
     ensures reads { Reads P.view P.since core.old port.old core.new port.new }
 {
     let width = width_of(size);
-    let (byte, behind) = fetch(core, term, port, window, 1)?;
-    modified_by_byte(core, term, port, behind, width, byte as u8)
+    let (byte, behind) = fetch(core, port, window, 1)?;
+    modified_by_byte(core, port, behind, width, byte as u8)
 }
 
 /// Reads one operand at PC that is written: where it is.
@@ -674,19 +645,18 @@ pub(crate) fn next_modified<P: Port>(
 #[tactic(auto, unfolding(vax_flat::specs::Rows::write_place, vax_flat::specs::Operand::next_operand, vax_flat::specs::Operand::specified))]
 pub(crate) fn next_place<P: Port>(
     core: &mut Core,
-    term: &Term,
     port: &mut P,
     window: Window,
     size: Size,
 ) -> Option<(Operand, Window)>
     requires window { IsSeen (P.view port.old) core.old window }
     ensures exact { Gives (write_place (bytes_of size)) result
-        (seen P.view core.old term.now port.old) (seen P.view core.new term.now port.new) }
+        (computer P.view core.old port.old) (computer P.view core.new port.new) }
     ensures place { IfSome result (λ r. IsPlace (bytes_of size) r.0) }
     ensures left { IfSome result (λ r. IsSeen (P.view port.new) core.new r.1) }
     ensures reads { Reads P.view P.since core.old port.old core.new port.new }
 {
     let width = width_of(size);
-    let (byte, behind) = fetch(core, term, port, window, 1)?;
-    place_by_byte(core, term, port, behind, width, byte as u8)
+    let (byte, behind) = fetch(core, port, window, 1)?;
+    place_by_byte(core, port, behind, width, byte as u8)
 }

@@ -1,6 +1,5 @@
 //! The commonest branches, loops and calls, each with its condition and size as constants.
-ghost use Rattle.vax_undo.specs.Transaction.{seen};
-ghost use Rattle.vax_quick.specs.Made.{IsSeen, Leaves, MakesOrStays, made_by};
+ghost use Rattle.vax_quick.specs.Made.{IsSeen, Leaves, MakesOrStays, computer, made_by};
 
 use crate::call::{call_with_stack, return_from};
 use crate::control::{add_one, branch, branch_subroutine, jump_subroutine, return_subroutine};
@@ -8,75 +7,55 @@ use crate::near::count_down;
 use crate::results::unless_made;
 use crate::window::Window;
 use vax_isa::{Condition, Narrow, Relation};
-use vax_undo::{Port, Term};
+use vax_undo::Port;
 use vax_word::Core;
 
 /// BRB.
 #[inline(never)]
 #[tactic(auto, using(crate::proofs::Opcodes::at_11))]
-pub(crate) fn branch_byte<P: Port>(
-    core: &mut Core,
-    term: &Term,
-    port: &mut P,
-    window: Window,
-) -> Option<()>
+pub(crate) fn branch_byte<P: Port>(core: &mut Core, port: &mut P, window: Window) -> Option<()>
     requires window { IsSeen (P.view port.old) core.old window }
     ensures exact { MakesOrStays (made_by 0x11) result
-        (seen P.view core.old term.now port.old) (seen P.view core.new term.now port.new) }
+        (computer P.view core.old port.old) (computer P.view core.new port.new) }
     ensures leaves { Leaves P.since core.old port.old core.new port.new }
 {
-    branch(core, term, port, window, Condition::Always, Narrow::B)
+    branch(core, port, window, Condition::Always, Narrow::B)
 }
 
 /// BNEQ.
 #[inline(never)]
 #[tactic(auto, using(crate::proofs::Opcodes::at_12))]
-pub(crate) fn branch_not_equal<P: Port>(
-    core: &mut Core,
-    term: &Term,
-    port: &mut P,
-    window: Window,
-) -> Option<()>
+pub(crate) fn branch_not_equal<P: Port>(core: &mut Core, port: &mut P, window: Window) -> Option<()>
     requires window { IsSeen (P.view port.old) core.old window }
     ensures exact { MakesOrStays (made_by 0x12) result
-        (seen P.view core.old term.now port.old) (seen P.view core.new term.now port.new) }
+        (computer P.view core.old port.old) (computer P.view core.new port.new) }
     ensures leaves { Leaves P.since core.old port.old core.new port.new }
 {
-    branch(core, term, port, window, Condition::NotEqual, Narrow::B)
+    branch(core, port, window, Condition::NotEqual, Narrow::B)
 }
 
 /// BEQL.
 #[inline(never)]
 #[tactic(auto, using(crate::proofs::Opcodes::at_13))]
-pub(crate) fn branch_equal<P: Port>(
-    core: &mut Core,
-    term: &Term,
-    port: &mut P,
-    window: Window,
-) -> Option<()>
+pub(crate) fn branch_equal<P: Port>(core: &mut Core, port: &mut P, window: Window) -> Option<()>
     requires window { IsSeen (P.view port.old) core.old window }
     ensures exact { MakesOrStays (made_by 0x13) result
-        (seen P.view core.old term.now port.old) (seen P.view core.new term.now port.new) }
+        (computer P.view core.old port.old) (computer P.view core.new port.new) }
     ensures leaves { Leaves P.since core.old port.old core.new port.new }
 {
-    branch(core, term, port, window, Condition::Equal, Narrow::B)
+    branch(core, port, window, Condition::Equal, Narrow::B)
 }
 
 /// BGTR.
 #[inline(never)]
 #[tactic(auto, using(crate::proofs::Opcodes::at_14))]
-pub(crate) fn branch_greater<P: Port>(
-    core: &mut Core,
-    term: &Term,
-    port: &mut P,
-    window: Window,
-) -> Option<()>
+pub(crate) fn branch_greater<P: Port>(core: &mut Core, port: &mut P, window: Window) -> Option<()>
     requires window { IsSeen (P.view port.old) core.old window }
     ensures exact { MakesOrStays (made_by 0x14) result
-        (seen P.view core.old term.now port.old) (seen P.view core.new term.now port.new) }
+        (computer P.view core.old port.old) (computer P.view core.new port.new) }
     ensures leaves { Leaves P.since core.old port.old core.new port.new }
 {
-    branch(core, term, port, window, Condition::Greater, Narrow::B)
+    branch(core, port, window, Condition::Greater, Narrow::B)
 }
 
 /// BLEQ.
@@ -84,16 +63,15 @@ pub(crate) fn branch_greater<P: Port>(
 #[tactic(auto, using(crate::proofs::Opcodes::at_15))]
 pub(crate) fn branch_less_or_equal<P: Port>(
     core: &mut Core,
-    term: &Term,
     port: &mut P,
     window: Window,
 ) -> Option<()>
     requires window { IsSeen (P.view port.old) core.old window }
     ensures exact { MakesOrStays (made_by 0x15) result
-        (seen P.view core.old term.now port.old) (seen P.view core.new term.now port.new) }
+        (computer P.view core.old port.old) (computer P.view core.new port.new) }
     ensures leaves { Leaves P.since core.old port.old core.new port.new }
 {
-    branch(core, term, port, window, Condition::LessOrEqual, Narrow::B)
+    branch(core, port, window, Condition::LessOrEqual, Narrow::B)
 }
 
 /// BGEQ.
@@ -101,40 +79,27 @@ pub(crate) fn branch_less_or_equal<P: Port>(
 #[tactic(auto, using(crate::proofs::Opcodes::at_18))]
 pub(crate) fn branch_greater_or_equal<P: Port>(
     core: &mut Core,
-    term: &Term,
     port: &mut P,
     window: Window,
 ) -> Option<()>
     requires window { IsSeen (P.view port.old) core.old window }
     ensures exact { MakesOrStays (made_by 0x18) result
-        (seen P.view core.old term.now port.old) (seen P.view core.new term.now port.new) }
+        (computer P.view core.old port.old) (computer P.view core.new port.new) }
     ensures leaves { Leaves P.since core.old port.old core.new port.new }
 {
-    branch(
-        core,
-        term,
-        port,
-        window,
-        Condition::GreaterOrEqual,
-        Narrow::B,
-    )
+    branch(core, port, window, Condition::GreaterOrEqual, Narrow::B)
 }
 
 /// BLSS.
 #[inline(never)]
 #[tactic(auto, using(crate::proofs::Opcodes::at_19))]
-pub(crate) fn branch_less<P: Port>(
-    core: &mut Core,
-    term: &Term,
-    port: &mut P,
-    window: Window,
-) -> Option<()>
+pub(crate) fn branch_less<P: Port>(core: &mut Core, port: &mut P, window: Window) -> Option<()>
     requires window { IsSeen (P.view port.old) core.old window }
     ensures exact { MakesOrStays (made_by 0x19) result
-        (seen P.view core.old term.now port.old) (seen P.view core.new term.now port.new) }
+        (computer P.view core.old port.old) (computer P.view core.new port.new) }
     ensures leaves { Leaves P.since core.old port.old core.new port.new }
 {
-    branch(core, term, port, window, Condition::Less, Narrow::B)
+    branch(core, port, window, Condition::Less, Narrow::B)
 }
 
 /// BGTRU.
@@ -142,23 +107,15 @@ pub(crate) fn branch_less<P: Port>(
 #[tactic(auto, using(crate::proofs::Opcodes::at_1a))]
 pub(crate) fn branch_greater_unsigned<P: Port>(
     core: &mut Core,
-    term: &Term,
     port: &mut P,
     window: Window,
 ) -> Option<()>
     requires window { IsSeen (P.view port.old) core.old window }
     ensures exact { MakesOrStays (made_by 0x1A) result
-        (seen P.view core.old term.now port.old) (seen P.view core.new term.now port.new) }
+        (computer P.view core.old port.old) (computer P.view core.new port.new) }
     ensures leaves { Leaves P.since core.old port.old core.new port.new }
 {
-    branch(
-        core,
-        term,
-        port,
-        window,
-        Condition::GreaterUnsigned,
-        Narrow::B,
-    )
+    branch(core, port, window, Condition::GreaterUnsigned, Narrow::B)
 }
 
 /// BLEQU.
@@ -166,18 +123,16 @@ pub(crate) fn branch_greater_unsigned<P: Port>(
 #[tactic(auto, using(crate::proofs::Opcodes::at_1b))]
 pub(crate) fn branch_less_or_equal_unsigned<P: Port>(
     core: &mut Core,
-    term: &Term,
     port: &mut P,
     window: Window,
 ) -> Option<()>
     requires window { IsSeen (P.view port.old) core.old window }
     ensures exact { MakesOrStays (made_by 0x1B) result
-        (seen P.view core.old term.now port.old) (seen P.view core.new term.now port.new) }
+        (computer P.view core.old port.old) (computer P.view core.new port.new) }
     ensures leaves { Leaves P.since core.old port.old core.new port.new }
 {
     branch(
         core,
-        term,
         port,
         window,
         Condition::LessOrEqualUnsigned,
@@ -190,69 +145,53 @@ pub(crate) fn branch_less_or_equal_unsigned<P: Port>(
 #[tactic(auto, using(crate::proofs::Opcodes::at_1e))]
 pub(crate) fn branch_carry_clear<P: Port>(
     core: &mut Core,
-    term: &Term,
     port: &mut P,
     window: Window,
 ) -> Option<()>
     requires window { IsSeen (P.view port.old) core.old window }
     ensures exact { MakesOrStays (made_by 0x1E) result
-        (seen P.view core.old term.now port.old) (seen P.view core.new term.now port.new) }
+        (computer P.view core.old port.old) (computer P.view core.new port.new) }
     ensures leaves { Leaves P.since core.old port.old core.new port.new }
 {
-    branch(core, term, port, window, Condition::CarryClear, Narrow::B)
+    branch(core, port, window, Condition::CarryClear, Narrow::B)
 }
 
 /// BCS.
 #[inline(never)]
 #[tactic(auto, using(crate::proofs::Opcodes::at_1f))]
-pub(crate) fn branch_carry_set<P: Port>(
-    core: &mut Core,
-    term: &Term,
-    port: &mut P,
-    window: Window,
-) -> Option<()>
+pub(crate) fn branch_carry_set<P: Port>(core: &mut Core, port: &mut P, window: Window) -> Option<()>
     requires window { IsSeen (P.view port.old) core.old window }
     ensures exact { MakesOrStays (made_by 0x1F) result
-        (seen P.view core.old term.now port.old) (seen P.view core.new term.now port.new) }
+        (computer P.view core.old port.old) (computer P.view core.new port.new) }
     ensures leaves { Leaves P.since core.old port.old core.new port.new }
 {
-    branch(core, term, port, window, Condition::CarrySet, Narrow::B)
+    branch(core, port, window, Condition::CarrySet, Narrow::B)
 }
 
 /// BRW.
 #[inline(never)]
 #[tactic(auto, using(crate::proofs::Opcodes::at_31))]
-pub(crate) fn branch_word<P: Port>(
-    core: &mut Core,
-    term: &Term,
-    port: &mut P,
-    window: Window,
-) -> Option<()>
+pub(crate) fn branch_word<P: Port>(core: &mut Core, port: &mut P, window: Window) -> Option<()>
     requires window { IsSeen (P.view port.old) core.old window }
     ensures exact { MakesOrStays (made_by 0x31) result
-        (seen P.view core.old term.now port.old) (seen P.view core.new term.now port.new) }
+        (computer P.view core.old port.old) (computer P.view core.new port.new) }
     ensures leaves { Leaves P.since core.old port.old core.new port.new }
 {
-    branch(core, term, port, window, Condition::Always, Narrow::W)
+    branch(core, port, window, Condition::Always, Narrow::W)
 }
 
 /// AOBLSS.
 #[inline(never)]
 #[tactic(auto, using(crate::proofs::Opcodes::at_f2))]
-pub(crate) fn add_one_below<P: Port>(
-    core: &mut Core,
-    term: &Term,
-    port: &mut P,
-    window: Window,
-) -> Option<()>
+pub(crate) fn add_one_below<P: Port>(core: &mut Core, port: &mut P, window: Window) -> Option<()>
     requires window { IsSeen (P.view port.old) core.old window }
     ensures exact { MakesOrStays (made_by 0xF2) result
-        (seen P.view core.old term.now port.old) (seen P.view core.new term.now port.new) }
+        (computer P.view core.old port.old) (computer P.view core.new port.new) }
     ensures leaves { Leaves P.since core.old port.old core.new port.new }
 {
     let aside = *core;
-    let made = add_one(core, term, port, window, Relation::Less);
-    unless_made(core, term, port, aside, made)
+    let made = add_one(core, port, window, Relation::Less);
+    unless_made(core, port, aside, made)
 }
 
 /// SOBGEQ.
@@ -260,16 +199,15 @@ pub(crate) fn add_one_below<P: Port>(
 #[tactic(auto, using(crate::proofs::Opcodes::at_f4))]
 pub(crate) fn subtract_one_to_zero<P: Port>(
     core: &mut Core,
-    term: &Term,
     port: &mut P,
     window: Window,
 ) -> Option<()>
     requires window { IsSeen (P.view port.old) core.old window }
     ensures exact { MakesOrStays (made_by 0xF4) result
-        (seen P.view core.old term.now port.old) (seen P.view core.new term.now port.new) }
+        (computer P.view core.old port.old) (computer P.view core.new port.new) }
     ensures leaves { Leaves P.since core.old port.old core.new port.new }
 {
-    count_down(core, term, port, window, Relation::GreaterOrEqual)
+    count_down(core, port, window, Relation::GreaterOrEqual)
 }
 
 /// SOBGTR.
@@ -277,54 +215,43 @@ pub(crate) fn subtract_one_to_zero<P: Port>(
 #[tactic(auto, using(crate::proofs::Opcodes::at_f5))]
 pub(crate) fn subtract_one_above_zero<P: Port>(
     core: &mut Core,
-    term: &Term,
     port: &mut P,
     window: Window,
 ) -> Option<()>
     requires window { IsSeen (P.view port.old) core.old window }
     ensures exact { MakesOrStays (made_by 0xF5) result
-        (seen P.view core.old term.now port.old) (seen P.view core.new term.now port.new) }
+        (computer P.view core.old port.old) (computer P.view core.new port.new) }
     ensures leaves { Leaves P.since core.old port.old core.new port.new }
 {
-    count_down(core, term, port, window, Relation::Greater)
+    count_down(core, port, window, Relation::Greater)
 }
 
 /// BSBB.
 #[inline(never)]
 #[tactic(auto, using(crate::proofs::Opcodes::at_10))]
-pub(crate) fn call_near<P: Port>(
-    core: &mut Core,
-    term: &Term,
-    port: &mut P,
-    window: Window,
-) -> Option<()>
+pub(crate) fn call_near<P: Port>(core: &mut Core, port: &mut P, window: Window) -> Option<()>
     requires window { IsSeen (P.view port.old) core.old window }
     ensures exact { MakesOrStays (made_by 0x10) result
-        (seen P.view core.old term.now port.old) (seen P.view core.new term.now port.new) }
+        (computer P.view core.old port.old) (computer P.view core.new port.new) }
     ensures leaves { Leaves P.since core.old port.old core.new port.new }
 {
     let aside = *core;
-    let made = branch_subroutine(core, term, port, window, Narrow::B);
-    unless_made(core, term, port, aside, made)
+    let made = branch_subroutine(core, port, window, Narrow::B);
+    unless_made(core, port, aside, made)
 }
 
 /// JSB.
 #[inline(never)]
 #[tactic(auto, using(crate::proofs::Opcodes::at_16))]
-pub(crate) fn call_subroutine<P: Port>(
-    core: &mut Core,
-    term: &Term,
-    port: &mut P,
-    window: Window,
-) -> Option<()>
+pub(crate) fn call_subroutine<P: Port>(core: &mut Core, port: &mut P, window: Window) -> Option<()>
     requires window { IsSeen (P.view port.old) core.old window }
     ensures exact { MakesOrStays (made_by 0x16) result
-        (seen P.view core.old term.now port.old) (seen P.view core.new term.now port.new) }
+        (computer P.view core.old port.old) (computer P.view core.new port.new) }
     ensures leaves { Leaves P.since core.old port.old core.new port.new }
 {
     let aside = *core;
-    let made = jump_subroutine(core, term, port, window);
-    unless_made(core, term, port, aside, made)
+    let made = jump_subroutine(core, port, window);
+    unless_made(core, port, aside, made)
 }
 
 /// RSB.
@@ -332,35 +259,29 @@ pub(crate) fn call_subroutine<P: Port>(
 #[tactic(auto, using(crate::proofs::Opcodes::at_05))]
 pub(crate) fn return_from_subroutine<P: Port>(
     core: &mut Core,
-    term: &Term,
     port: &mut P,
     window: Window,
 ) -> Option<()>
     requires window { IsSeen (P.view port.old) core.old window }
     ensures exact { MakesOrStays (made_by 0x05) result
-        (seen P.view core.old term.now port.old) (seen P.view core.new term.now port.new) }
+        (computer P.view core.old port.old) (computer P.view core.new port.new) }
     ensures leaves { Leaves P.since core.old port.old core.new port.new }
 {
-    return_subroutine(core, term, port, window)
+    return_subroutine(core, port, window)
 }
 
 /// CALLS.
 #[inline(never)]
 #[tactic(auto, using(crate::proofs::Opcodes::at_fb))]
-pub(crate) fn call_procedure<P: Port>(
-    core: &mut Core,
-    term: &Term,
-    port: &mut P,
-    window: Window,
-) -> Option<()>
+pub(crate) fn call_procedure<P: Port>(core: &mut Core, port: &mut P, window: Window) -> Option<()>
     requires window { IsSeen (P.view port.old) core.old window }
     ensures exact { MakesOrStays (made_by 0xFB) result
-        (seen P.view core.old term.now port.old) (seen P.view core.new term.now port.new) }
+        (computer P.view core.old port.old) (computer P.view core.new port.new) }
     ensures leaves { Leaves P.since core.old port.old core.new port.new }
 {
     let aside = *core;
-    let made = call_with_stack(core, term, port, window);
-    unless_made(core, term, port, aside, made)
+    let made = call_with_stack(core, port, window);
+    unless_made(core, port, aside, made)
 }
 
 /// RET.
@@ -368,17 +289,16 @@ pub(crate) fn call_procedure<P: Port>(
 #[tactic(auto, using(crate::proofs::Opcodes::at_04))]
 pub(crate) fn return_from_procedure<P: Port>(
     core: &mut Core,
-    term: &Term,
     port: &mut P,
     window: Window,
 ) -> Option<()>
     requires window { IsSeen (P.view port.old) core.old window }
     ensures exact { MakesOrStays (made_by 0x04) result
-        (seen P.view core.old term.now port.old) (seen P.view core.new term.now port.new) }
+        (computer P.view core.old port.old) (computer P.view core.new port.new) }
     ensures leaves { Leaves P.since core.old port.old core.new port.new }
 {
     let _ = window;
     let aside = *core;
-    let made = return_from(core, term, port);
-    unless_made(core, term, port, aside, made)
+    let made = return_from(core, port);
+    unless_made(core, port, aside, made)
 }

@@ -2,8 +2,7 @@
 ghost use Rattle.std.specs.Prelude.{◌≡◌, true};
 ghost use Rattle.vax_flat.specs.Call as call;
 ghost use Rattle.vax_flat.specs.State.{register};
-ghost use Rattle.vax_undo.specs.Transaction.{seen, state_of};
-ghost use Rattle.vax_quick.specs.Made.{IsSeen, Leaves, Makes};
+ghost use Rattle.vax_quick.specs.Made.{Becomes, IsSeen, Leaves, Makes, computer};
 ghost use Rattle.vax_quick.specs.Frames.{Finds};
 
 use crate::access::next_value;
@@ -12,7 +11,7 @@ use crate::memory::read;
 use crate::stack::{push_below, push_frame, restore_frame};
 use crate::window::Window;
 use vax_isa::Call;
-use vax_undo::{Port, Term};
+use vax_undo::Port;
 use vax_word::{Core, Size};
 use vax_x_call::{entry_status, frame_word, is_status, return_status};
 
@@ -28,12 +27,12 @@ struct Entry {
 /// Lets control go on at a procedure, behind its entry mask.
 #[inline(always)]
 #[tactic(auto, using(vax_x_call::proofs::Closed::entry_closed), unfolding(vax_flat::specs::Call::at_procedure))]
-fn go_to<P: Port>(core: &mut Core, term: &Term, port: &P, entry: Entry)
-    ensures exact { state_of core.new term.now ≡ call.at_procedure
-        entry.procedure entry.mask entry.arguments entry.frame (state_of core.old term.now) }
+fn go_to<P: Port>(core: &mut Core, port: &P, entry: Entry)
+    ensures exact { Becomes
+        (call.at_procedure entry.procedure entry.mask entry.arguments entry.frame)
+        core.old core.new }
     ensures leaves { Leaves P.since core.old port.now core.new port.now }
 {
-    let _ = term;
     let _ = port;
     core.psl = entry_status(entry.mask, core.psl);
     core.regs[12] = entry.arguments;
@@ -45,13 +44,13 @@ fn go_to<P: Port>(core: &mut Core, term: &Term, port: &P, entry: Entry)
 /// Reads a procedure's entry mask. One that is reserved is left out.
 #[inline(always)]
 #[tactic(auto, unfolding(vax_flat::specs::Call::entry_mask))]
-fn entry_mask<P: Port>(core: &Core, term: &Term, port: &mut P, procedure: u32) -> Option<u32>
+fn entry_mask<P: Port>(core: &Core, port: &mut P, procedure: u32) -> Option<u32>
     ensures exact { Finds (call.entry_mask procedure) result
-        (seen P.view core.now term.now port.old) (seen P.view core.now term.now port.new) }
+        (computer P.view core.now port.old) (computer P.view core.now port.new) }
     ensures same { P.view port.new ≡ P.view port.old }
     ensures since { (start : P) → P.since start port.old → P.since start port.new }
 {
-    let mask = read(core, term, port, procedure, 2)?;
+    let mask = read(core, port, procedure, 2)?;
     if mask / 0x1000 % 4 != 0 {
         return None;
     }
@@ -63,7 +62,6 @@ fn entry_mask<P: Port>(core: &Core, term: &Term, port: &mut P, procedure: u32) -
 #[tactic(auto, using(crate::proofs::Frames::room_aligned), unfolding(vax_flat::specs::Call::entered))]
 fn enter<P: Port>(
     core: &mut Core,
-    term: &Term,
     port: &mut P,
     procedure: u32,
     mask: u32,
@@ -71,81 +69,70 @@ fn enter<P: Port>(
 ) -> Option<()>
     ensures exact { Makes (λ s next. call.pushed_one count (register s 14) s (λ arguments s.
         call.entered procedure mask arguments arguments true s next)) result
-        (seen P.view core.old term.now port.old) (seen P.view core.new term.now port.new) }
+        (computer P.view core.old port.old) (computer P.view core.new port.new) }
     ensures leaves { Leaves P.since core.old port.old core.new port.new }
 {
     let top = core.regs[14];
     if top.wrapping_sub(4) % 512 < 72 {
         return None;
     }
-    let arguments = push_below(core, term, port, count, top)?;
+    let arguments = push_below(core, port, count, top)?;
     let word = frame_word(arguments % 4, true, mask, core.psl);
-    let frame = push_frame(core, term, port, mask, word, arguments / 4 * 4);
+    let frame = push_frame(core, port, mask, word, arguments / 4 * 4);
     let entry = Entry {
         procedure,
         mask,
         arguments,
         frame,
     };
-    go_to(core, term, port, entry);
+    go_to(core, port, entry);
     Some(())
 }
 
 /// CALLS.
 #[inline(always)]
 #[tactic(auto, unfolding(vax_flat::specs::Call::call_with_stack, vax_flat::specs::Call::called_with_stack))]
-pub(crate) fn call_with_stack<P: Port>(
-    core: &mut Core,
-    term: &Term,
-    port: &mut P,
-    window: Window,
-) -> Option<()>
+pub(crate) fn call_with_stack<P: Port>(core: &mut Core, port: &mut P, window: Window) -> Option<()>
     requires window { IsSeen (P.view port.old) core.old window }
     ensures exact { Makes call.call_with_stack result
-        (seen P.view core.old term.now port.old) (seen P.view core.new term.now port.new) }
+        (computer P.view core.old port.old) (computer P.view core.new port.new) }
     ensures leaves { Leaves P.since core.old port.old core.new port.new }
 {
-    let (count, window) = next_value(core, term, port, window, Size::L)?;
-    let (procedure, _) = next_address(core, term, port, window, Size::B)?;
-    let mask = entry_mask(core, term, port, procedure)?;
-    enter(core, term, port, procedure, mask, count as u32)
+    let (count, window) = next_value(core, port, window, Size::L)?;
+    let (procedure, _) = next_address(core, port, window, Size::B)?;
+    let mask = entry_mask(core, port, procedure)?;
+    enter(core, port, procedure, mask, count as u32)
 }
 
 /// The address behind the arguments on the stack.
 #[inline(always)]
 #[tactic(auto, unfolding(vax_flat::specs::Call::behind_arguments))]
-fn behind_arguments<P: Port>(
-    core: &Core,
-    term: &Term,
-    port: &mut P,
-    on_stack: bool,
-    top: u32,
-) -> Option<u32>
+fn behind_arguments<P: Port>(core: &Core, port: &mut P, on_stack: bool, top: u32) -> Option<u32>
     ensures exact { Finds (call.behind_arguments on_stack top) result
-        (seen P.view core.now term.now port.old) (seen P.view core.now term.now port.new) }
+        (computer P.view core.now port.old) (computer P.view core.now port.new) }
     ensures same { P.view port.new ≡ P.view port.old }
     ensures since { (start : P) → P.since start port.old → P.since start port.new }
 {
     if !on_stack {
         return Some(top);
     }
-    let count = read(core, term, port, top, 4)?;
+    let count = read(core, port, top, 4)?;
     Some(top.wrapping_add(4 + 4 * (count as u32 % 0x100)))
 }
 
 /// Pops a frame whose longword was read, and the arguments behind it.
 #[inline(always)]
 #[tactic(auto, using(vax_x_call::proofs::Closed::return_closed), unfolding(vax_flat::specs::Call::unwound))]
-fn unwind<P: Port>(core: &mut Core, term: &Term, port: &mut P, word: u32) -> Option<()>
+fn unwind<P: Port>(core: &mut Core, port: &mut P, word: u32) -> Option<()>
     ensures exact { Makes (call.unwound word) result
-        (seen P.view core.old term.now port.old) (seen P.view core.new term.now port.new) }
+        (computer P.view core.old port.old) (computer P.view core.new port.new) }
     ensures leaves { Leaves P.since core.old port.old core.new port.new }
 {
     let from = core.regs[13].wrapping_add(8);
-    let behind = restore_frame(core, term, port, word / 0x1_0000 % 0x1000, from)?;
+    let behind = restore_frame(core, port, word / 0x1_0000 % 0x1000, from)?;
     let on_stack = word / 0x2000_0000 % 2 == 1;
     let behind = behind.wrapping_add(word / 0x4000_0000);
-    let top = behind_arguments(core, term, port, on_stack, behind)?;
+    let top = behind_arguments(core, port, on_stack, behind)?;
     let status = return_status(word, core.psl);
     core.regs[14] = top;
     core.psl = status;
@@ -155,17 +142,17 @@ fn unwind<P: Port>(core: &mut Core, term: &Term, port: &mut P, word: u32) -> Opt
 /// RET.
 #[inline(always)]
 #[tactic(auto, unfolding(vax_flat::specs::Call::return_from))]
-pub(crate) fn return_from<P: Port>(core: &mut Core, term: &Term, port: &mut P) -> Option<()>
+pub(crate) fn return_from<P: Port>(core: &mut Core, port: &mut P) -> Option<()>
     ensures exact { Makes call.return_from result
-        (seen P.view core.old term.now port.old) (seen P.view core.new term.now port.new) }
+        (computer P.view core.old port.old) (computer P.view core.new port.new) }
     ensures leaves { Leaves P.since core.old port.old core.new port.new }
 {
     let at = core.regs[13].wrapping_add(4);
-    let word = read(core, term, port, at, 4)? as u32;
+    let word = read(core, port, at, 4)? as u32;
     if !is_status(word) {
         return None;
     }
-    unwind(core, term, port, word)
+    unwind(core, port, word)
 }
 
 /// The instruction by its name. CALLG, PUSHR and POPR are left out.
@@ -173,20 +160,19 @@ pub(crate) fn return_from<P: Port>(core: &mut Core, term: &Term, port: &mut P) -
 #[tactic(auto, unfolding(vax_flat::specs::Call::performed))]
 pub(crate) fn perform<P: Port>(
     core: &mut Core,
-    term: &Term,
     port: &mut P,
     window: Window,
     instruction: Call,
 ) -> Option<()>
     requires window { IsSeen (P.view port.old) core.old window }
     ensures exact { Makes (call.performed instruction) result
-        (seen P.view core.old term.now port.old) (seen P.view core.new term.now port.new) }
+        (computer P.view core.old port.old) (computer P.view core.new port.new) }
     ensures leaves { Leaves P.since core.old port.old core.new port.new }
 {
     match instruction {
         Call::WithList => None,
-        Call::WithStack => call_with_stack(core, term, port, window),
-        Call::Return => return_from(core, term, port),
+        Call::WithStack => call_with_stack(core, port, window),
+        Call::Return => return_from(core, port),
         Call::PushRegisters => None,
         Call::PopRegisters => None,
     }

@@ -3,9 +3,8 @@ ghost use Rattle.std.specs.Prelude.{◌+◌, ◌*◌, ◌^◌, ◌<◌, ◌≤�
 ghost use Rattle.vax_flat.specs.Field as field;
 ghost use Rattle.vax_flat.specs.Field.{bits_of};
 ghost use Rattle.vax_flat.specs.Operand.{IsBase};
-ghost use Rattle.vax_undo.specs.Transaction.{seen};
 ghost use Rattle.vax_x_field.specs.Fields.{IsHeld};
-ghost use Rattle.vax_quick.specs.Made.{Acts, IsKept, IsSeen, Leaves, Makes};
+ghost use Rattle.vax_quick.specs.Made.{Acts, IsKept, IsSeen, Leaves, Makes, computer};
 
 use crate::access::{next_place, next_value};
 use crate::addresses::next_target;
@@ -17,7 +16,7 @@ use crate::window::Window;
 use vax_flat::Holder;
 use vax_isa::{Field, Narrow};
 use vax_operand::Operand;
-use vax_undo::{Port, Term};
+use vax_undo::Port;
 use vax_word::{Codes, Core, Size};
 use vax_x_field::{
     answer_of, before_first, holder_of, is_reserved, part, widen, with_bit, with_part,
@@ -26,49 +25,37 @@ use vax_x_field::{
 /// EXTV, EXTZV.
 #[inline(always)]
 #[tactic(auto, unfolding(vax_flat::specs::Field::extract, vax_flat::specs::Field::extracted))]
-fn extract<P: Port>(
-    core: &mut Core,
-    term: &Term,
-    port: &mut P,
-    window: Window,
-    signed: bool,
-) -> Option<()>
+fn extract<P: Port>(core: &mut Core, port: &mut P, window: Window, signed: bool) -> Option<()>
     requires window { IsSeen (P.view port.old) core.old window }
     ensures exact { Makes (field.extract signed) result
-        (seen P.view core.old term.now port.old) (seen P.view core.new term.now port.new) }
+        (computer P.view core.old port.old) (computer P.view core.new port.new) }
     ensures leaves { Leaves P.since core.old port.old core.new port.new }
 {
-    let (position, window) = next_value(core, term, port, window, Size::L)?;
-    let (size, window) = next_value(core, term, port, window, Size::B)?;
-    let (base, window) = next_base(core, term, port, window)?;
-    let (place, _) = next_place(core, term, port, window, Size::L)?;
+    let (position, window) = next_value(core, port, window, Size::L)?;
+    let (size, window) = next_value(core, port, window, Size::B)?;
+    let (base, window) = next_base(core, port, window)?;
+    let (place, _) = next_place(core, port, window, Size::L)?;
     let size = size as u8;
-    let bits = bits_of_field(core, term, port, position as u32, size, base)?;
-    let made = answer_of(widen(signed, size, bits), carry(core, term));
-    answer(core, term, port, Size::L, place, false, made)
+    let bits = bits_of_field(core, port, position as u32, size, base)?;
+    let made = answer_of(widen(signed, size, bits), carry(core));
+    answer(core, port, Size::L, place, false, made)
 }
 
 /// CMPV, CMPZV.
 #[inline(always)]
 #[tactic(auto, using(vax_undo::proofs::FirstPart::codes_closed), unfolding(vax_flat::specs::Field::compare, vax_flat::specs::Field::compared_field))]
-fn compare<P: Port>(
-    core: &mut Core,
-    term: &Term,
-    port: &mut P,
-    window: Window,
-    signed: bool,
-) -> Option<()>
+fn compare<P: Port>(core: &mut Core, port: &mut P, window: Window, signed: bool) -> Option<()>
     requires window { IsSeen (P.view port.old) core.old window }
     ensures exact { Makes (field.compare signed) result
-        (seen P.view core.old term.now port.old) (seen P.view core.new term.now port.new) }
+        (computer P.view core.old port.old) (computer P.view core.new port.new) }
     ensures leaves { Leaves P.since core.old port.old core.new port.new }
 {
-    let (position, window) = next_value(core, term, port, window, Size::L)?;
-    let (size, window) = next_value(core, term, port, window, Size::B)?;
-    let (base, window) = next_base(core, term, port, window)?;
-    let (source, _) = next_value(core, term, port, window, Size::L)?;
+    let (position, window) = next_value(core, port, window, Size::L)?;
+    let (size, window) = next_value(core, port, window, Size::B)?;
+    let (base, window) = next_base(core, port, window)?;
+    let (source, _) = next_value(core, port, window, Size::L)?;
     let size = size as u8;
-    let bits = bits_of_field(core, term, port, position as u32, size, base)?;
+    let bits = bits_of_field(core, port, position as u32, size, base)?;
     let codes = vax_word::compare(Size::L, widen(signed, size, bits), source);
     core.psl = core.psl.with_codes(codes);
     Some(())
@@ -77,25 +64,19 @@ fn compare<P: Port>(
 /// FFS, FFC.
 #[inline(always)]
 #[tactic(auto, using(vax_x_field::proofs::BitLaws::length_of), unfolding(vax_flat::specs::Field::find_first, vax_flat::specs::Field::found))]
-fn find_first<P: Port>(
-    core: &mut Core,
-    term: &Term,
-    port: &mut P,
-    window: Window,
-    set: bool,
-) -> Option<()>
+fn find_first<P: Port>(core: &mut Core, port: &mut P, window: Window, set: bool) -> Option<()>
     requires window { IsSeen (P.view port.old) core.old window }
     ensures exact { Makes (field.find_first set) result
-        (seen P.view core.old term.now port.old) (seen P.view core.new term.now port.new) }
+        (computer P.view core.old port.old) (computer P.view core.new port.new) }
     ensures leaves { Leaves P.since core.old port.old core.new port.new }
 {
-    let (position, window) = next_value(core, term, port, window, Size::L)?;
-    let (size, window) = next_value(core, term, port, window, Size::B)?;
-    let (base, window) = next_base(core, term, port, window)?;
-    let (place, _) = next_place(core, term, port, window, Size::L)?;
+    let (position, window) = next_value(core, port, window, Size::L)?;
+    let (size, window) = next_value(core, port, window, Size::B)?;
+    let (base, window) = next_base(core, port, window)?;
+    let (place, _) = next_place(core, port, window, Size::L)?;
     let position = position as u32;
     let size = size as u8;
-    let bits = bits_of_field(core, term, port, position, size, base)?;
+    let bits = bits_of_field(core, port, position, size, base)?;
     let before = before_first(set, size, bits);
     let codes = Codes {
         n: false,
@@ -104,7 +85,7 @@ fn find_first<P: Port>(
         c: false,
     };
     let found = u64::from(position.wrapping_add(before));
-    answer(core, term, port, Size::L, place, false, (found, codes))
+    answer(core, port, Size::L, place, false, (found, codes))
 }
 
 /// The field of INSV becomes the lowest bits of the source.
@@ -112,7 +93,6 @@ fn find_first<P: Port>(
 #[tactic(auto, unfolding(vax_flat::specs::Field::inserted, vax_flat::specs::Field::held, vax_flat::specs::Field::put))]
 fn insert_bits<P: Port>(
     core: &mut Core,
-    term: &Term,
     port: &mut P,
     source: u64,
     position: u32,
@@ -121,7 +101,7 @@ fn insert_bits<P: Port>(
 ) -> Option<()>
     requires base { IsBase base }
     ensures exact { Makes (field.inserted source position size base) result
-        (seen P.view core.old term.now port.old) (seen P.view core.new term.now port.new) }
+        (computer P.view core.old port.old) (computer P.view core.new port.new) }
     ensures leaves { Leaves P.since core.old port.old core.new port.new }
 {
     if is_reserved(position, size, base) {
@@ -131,31 +111,25 @@ fn insert_bits<P: Port>(
         return Some(());
     }
     let holder = holder_of(position, size, base);
-    let bits = held(core, term, port, holder)?;
-    put(
-        core,
-        term,
-        port,
-        holder,
-        with_part(holder, bits, size, source),
-    )?;
+    let bits = held(core, port, holder)?;
+    put(core, port, holder, with_part(holder, bits, size, source))?;
     Some(())
 }
 
 /// INSV.
 #[inline(always)]
 #[tactic(auto, unfolding(vax_flat::specs::Field::insert))]
-fn insert<P: Port>(core: &mut Core, term: &Term, port: &mut P, window: Window) -> Option<()>
+fn insert<P: Port>(core: &mut Core, port: &mut P, window: Window) -> Option<()>
     requires window { IsSeen (P.view port.old) core.old window }
     ensures exact { Makes field.insert result
-        (seen P.view core.old term.now port.old) (seen P.view core.new term.now port.new) }
+        (computer P.view core.old port.old) (computer P.view core.new port.new) }
     ensures leaves { Leaves P.since core.old port.old core.new port.new }
 {
-    let (source, window) = next_value(core, term, port, window, Size::L)?;
-    let (position, window) = next_value(core, term, port, window, Size::L)?;
-    let (size, window) = next_value(core, term, port, window, Size::B)?;
-    let (base, _) = next_base(core, term, port, window)?;
-    insert_bits(core, term, port, source, position as u32, size as u8, base)
+    let (source, window) = next_value(core, port, window, Size::L)?;
+    let (position, window) = next_value(core, port, window, Size::L)?;
+    let (size, window) = next_value(core, port, window, Size::B)?;
+    let (base, _) = next_base(core, port, window)?;
+    insert_bits(core, port, source, position as u32, size as u8, base)
 }
 
 /// A bit becomes what is said, if anything is.
@@ -163,7 +137,6 @@ fn insert<P: Port>(core: &mut Core, term: &Term, port: &mut P, window: Window) -
 #[tactic(auto, unfolding(vax_flat::specs::Field::becoming, vax_flat::specs::Field::put))]
 fn becoming<P: Port>(
     core: &mut Core,
-    term: &Term,
     port: &mut P,
     becomes: Option<bool>,
     holder: Holder,
@@ -176,12 +149,12 @@ fn becoming<P: Port>(
     requires first { holder.first < 32 }
     requires fits { bits < 256 ^ holder.width }
     ensures exact { Acts (field.becoming becomes holder (bits_of (8 * holder.width) bits)) result
-        (seen P.view core.old term.now port.old) (seen P.view core.new term.now port.new) }
+        (computer P.view core.old port.old) (computer P.view core.new port.new) }
     ensures kept { IsKept core.old core.new }
     ensures since { (start : P) → P.since start port.old → P.since start port.new }
 {
     match becomes {
-        Some(bit) => put(core, term, port, holder, with_bit(holder, bits, bit)),
+        Some(bit) => put(core, port, holder, with_bit(holder, bits, bit)),
         None => Some(()),
     }
 }
@@ -199,21 +172,21 @@ struct TestedBit {
 /// A bit is tested, becomes what is said, and control goes on at the target where the bit was so.
 #[inline(always)]
 #[tactic(auto, unfolding(vax_flat::specs::Field::branched_on, vax_flat::specs::Field::held))]
-fn branch_on<P: Port>(core: &mut Core, term: &Term, port: &mut P, bit: TestedBit) -> Option<()>
+fn branch_on<P: Port>(core: &mut Core, port: &mut P, bit: TestedBit) -> Option<()>
     requires base { IsBase bit.base }
     ensures exact { Makes
         (field.branched_on bit.set bit.becomes bit.position bit.base bit.target) result
-        (seen P.view core.old term.now port.old) (seen P.view core.new term.now port.new) }
+        (computer P.view core.old port.old) (computer P.view core.new port.new) }
     ensures leaves { Leaves P.since core.old port.old core.new port.new }
 {
     if is_reserved(bit.position, 1, bit.base) {
         return None;
     }
     let holder = holder_of(bit.position, 1, bit.base);
-    let bits = held(core, term, port, holder)?;
-    becoming(core, term, port, bit.becomes, holder, bits)?;
+    let bits = held(core, port, holder)?;
+    becoming(core, port, bit.becomes, holder, bits)?;
     let taken = part(holder, bits, 1) == u64::from(bit.set);
-    jump_if(core, term, taken, bit.target);
+    jump_if(core, taken, bit.target);
     Some(())
 }
 
@@ -222,7 +195,6 @@ fn branch_on<P: Port>(core: &mut Core, term: &Term, port: &mut P, bit: TestedBit
 #[tactic(auto, unfolding(vax_flat::specs::Field::branch))]
 fn branch<P: Port>(
     core: &mut Core,
-    term: &Term,
     port: &mut P,
     window: Window,
     set: bool,
@@ -230,12 +202,12 @@ fn branch<P: Port>(
 ) -> Option<()>
     requires window { IsSeen (P.view port.old) core.old window }
     ensures exact { Makes (field.branch set becomes) result
-        (seen P.view core.old term.now port.old) (seen P.view core.new term.now port.new) }
+        (computer P.view core.old port.old) (computer P.view core.new port.new) }
     ensures leaves { Leaves P.since core.old port.old core.new port.new }
 {
-    let (position, window) = next_value(core, term, port, window, Size::L)?;
-    let (base, window) = next_base(core, term, port, window)?;
-    let (target, _) = next_target(core, term, port, window, Narrow::B)?;
+    let (position, window) = next_value(core, port, window, Size::L)?;
+    let (base, window) = next_base(core, port, window)?;
+    let (target, _) = next_target(core, port, window, Narrow::B)?;
     let bit = TestedBit {
         set,
         becomes,
@@ -243,7 +215,7 @@ fn branch<P: Port>(
         base,
         target,
     };
-    branch_on(core, term, port, bit)
+    branch_on(core, port, bit)
 }
 
 /// The instruction by its name.
@@ -251,21 +223,20 @@ fn branch<P: Port>(
 #[tactic(auto, unfolding(vax_flat::specs::Field::performed))]
 pub(crate) fn perform<P: Port>(
     core: &mut Core,
-    term: &Term,
     port: &mut P,
     window: Window,
     instruction: Field,
 ) -> Option<()>
     requires window { IsSeen (P.view port.old) core.old window }
     ensures exact { Makes (field.performed instruction) result
-        (seen P.view core.old term.now port.old) (seen P.view core.new term.now port.new) }
+        (computer P.view core.old port.old) (computer P.view core.new port.new) }
     ensures leaves { Leaves P.since core.old port.old core.new port.new }
 {
     match instruction {
-        Field::Extract { signed } => extract(core, term, port, window, signed),
-        Field::Compare { signed } => compare(core, term, port, window, signed),
-        Field::Insert => insert(core, term, port, window),
-        Field::FindFirst { set } => find_first(core, term, port, window, set),
-        Field::Branch { set, becomes } => branch(core, term, port, window, set, becomes),
+        Field::Extract { signed } => extract(core, port, window, signed),
+        Field::Compare { signed } => compare(core, port, window, signed),
+        Field::Insert => insert(core, port, window),
+        Field::FindFirst { set } => find_first(core, port, window, set),
+        Field::Branch { set, becomes } => branch(core, port, window, set, becomes),
     }
 }

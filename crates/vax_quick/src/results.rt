@@ -5,13 +5,12 @@ ghost use Rattle.vax_flat.specs.declared.Flow.TheVariants as flow;
 ghost use Rattle.vax_flat.specs.Operand.{IsPlace};
 ghost use Rattle.vax_flat.specs.Rows.{answered, pushed, settled};
 ghost use Rattle.vax_undo.specs.FirstPart.{first_part_done};
-ghost use Rattle.vax_undo.specs.Transaction.{seen};
-ghost use Rattle.vax_quick.specs.Made.{Acts, GoesOn, IsKept, IsQuiet, Leaves, Makes, MakesOrStays, Tree};
+ghost use Rattle.vax_quick.specs.Made.{Acts, GoesOn, IsKept, IsQuiet, Leaves, Makes, MakesOrStays, Tree, computer};
 
 use crate::access::store;
 use crate::memory::write;
 use vax_operand::Operand;
-use vax_undo::{Port, Term};
+use vax_undo::Port;
 use vax_word::{Codes, Core, Psl, Size};
 
 /// Puts back the registers that were put aside, where an instruction wasn't made of them.
@@ -19,22 +18,20 @@ use vax_word::{Codes, Core, Psl, Size};
 #[tactic(auto, using(crate::proofs::Stays::put_back, crate::proofs::Stays::made_stays))]
 pub(crate) fn unless_made<P: Port>(
     core: &mut Core,
-    term: &Term,
     port: &P,
     aside: Core,
     made: Option<()>,
 ) -> Option<()>
     ensures exact { (tree : Tree) → (before : P) → Makes tree made
-        (seen P.view aside term.now before) (seen P.view core.old term.now port.now)
+        (computer P.view aside before) (computer P.view core.old port.now)
         → MakesOrStays tree result
-        (seen P.view aside term.now before) (seen P.view core.new term.now port.now) }
+        (computer P.view aside before) (computer P.view core.new port.now) }
     ensures timer { core.old.iccs ≡ aside.iccs → core.new.iccs ≡ aside.iccs }
     ensures requests { core.old.sisr ≡ aside.sisr → core.new.sisr ≡ aside.sisr }
     ensures clock { core.old.clock ≡ aside.clock → core.new.clock ≡ aside.clock }
     ensures closed { first_part_done core.old.psl ≤ first_part_done aside.psl
         → first_part_done core.new.psl ≤ first_part_done aside.psl }
 {
-    let _ = term;
     let _ = port;
     match made {
         Some(()) => Some(()),
@@ -57,19 +54,12 @@ pub(crate) fn is_quiet(psl: Psl, by_zero: bool, codes: Codes) -> bool
 /// Sets the condition codes, where no trap follows.
 #[inline(always)]
 #[tactic(auto, using(crate::proofs::Quiet::settled_quiet, vax_undo::proofs::FirstPart::codes_closed))]
-pub(crate) fn set_codes<P: Port>(
-    core: &mut Core,
-    term: &Term,
-    port: &P,
-    by_zero: bool,
-    codes: Codes,
-)
+pub(crate) fn set_codes<P: Port>(core: &mut Core, port: &P, by_zero: bool, codes: Codes)
     requires quiet { IsQuiet by_zero codes core.old.psl }
     ensures exact { GoesOn (settled by_zero codes) flow.Done
-        (seen P.view core.old term.now port.now) (seen P.view core.new term.now port.now) }
+        (computer P.view core.old port.now) (computer P.view core.new port.now) }
     ensures leaves { Leaves P.since core.old port.now core.new port.now }
 {
-    let _ = term;
     let _ = port;
     let _ = by_zero;
     core.psl = core.psl.with_codes(codes);
@@ -77,21 +67,15 @@ pub(crate) fn set_codes<P: Port>(
 
 /// Sets the condition codes of an instruction that writes nothing.
 #[inline(always)]
-pub(crate) fn settle<P: Port>(
-    core: &mut Core,
-    term: &Term,
-    port: &P,
-    by_zero: bool,
-    codes: Codes,
-) -> Option<()>
+pub(crate) fn settle<P: Port>(core: &mut Core, port: &P, by_zero: bool, codes: Codes) -> Option<()>
     ensures exact { Makes (settled by_zero codes) result
-        (seen P.view core.old term.now port.now) (seen P.view core.new term.now port.now) }
+        (computer P.view core.old port.now) (computer P.view core.new port.now) }
     ensures leaves { Leaves P.since core.old port.now core.new port.now }
 {
     if !is_quiet(core.psl, by_zero, codes) {
         return None;
     }
-    set_codes(core, term, port, by_zero, codes);
+    set_codes(core, port, by_zero, codes);
     Some(())
 }
 
@@ -100,7 +84,6 @@ pub(crate) fn settle<P: Port>(
 #[tactic(auto, using(crate::proofs::Quiet::quiet_still), unfolding(vax_flat::specs::Rows::answered))]
 pub(crate) fn answer<P: Port>(
     core: &mut Core,
-    term: &Term,
     port: &mut P,
     size: Size,
     place: Operand,
@@ -110,29 +93,29 @@ pub(crate) fn answer<P: Port>(
     requires place { IsPlace (bytes_of size) place }
     requires fits { result_and_codes.0 < 256 ^ bytes_of size }
     ensures exact { Makes (answered (bytes_of size) place by_zero result_and_codes) result
-        (seen P.view core.old term.now port.old) (seen P.view core.new term.now port.new) }
+        (computer P.view core.old port.old) (computer P.view core.new port.new) }
     ensures leaves { Leaves P.since core.old port.old core.new port.new }
 {
     let (value, codes) = result_and_codes;
     if !is_quiet(core.psl, by_zero, codes) {
         return None;
     }
-    store(core, term, port, size, place, value)?;
-    set_codes(core, term, port, by_zero, codes);
+    store(core, port, size, place, value)?;
+    set_codes(core, port, by_zero, codes);
     Some(())
 }
 
 /// Pushes a longword onto the stack in use.
 #[inline(always)]
 #[tactic(auto, unfolding(vax_flat::specs::Rows::pushed))]
-pub(crate) fn push<P: Port>(core: &mut Core, term: &Term, port: &mut P, value: u32) -> Option<()>
+pub(crate) fn push<P: Port>(core: &mut Core, port: &mut P, value: u32) -> Option<()>
     ensures exact { Acts (pushed value) result
-        (seen P.view core.old term.now port.old) (seen P.view core.new term.now port.new) }
+        (computer P.view core.old port.old) (computer P.view core.new port.new) }
     ensures kept { IsKept core.old core.new }
     ensures since { (start : P) → P.since start port.old → P.since start port.new }
 {
     let top = core.regs[14].wrapping_sub(4);
-    write(core, term, port, top, 4, value as u64)?;
+    write(core, port, top, 4, value as u64)?;
     core.regs[14] = top;
     Some(())
 }

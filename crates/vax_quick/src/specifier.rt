@@ -1,32 +1,29 @@
 //! Operand specifiers: the addresses of operands that lie in memory.
-ghost use Rattle.std.specs.Prelude.{◌≡◌, ◌<◌, IfSome};
+ghost use Rattle.std.specs.Prelude.{◌≡◌, ◌<◌, IfSome, slice_set};
 ghost use Rattle.vax_flat.specs.declared.Form.TheVariants as form;
 ghost use Rattle.vax_flat.specs.Operand.{form_of, addressed, IsWidth};
-ghost use Rattle.vax_flat.specs.State.{with_register};
-ghost use Rattle.vax_undo.specs.Transaction.{seen, state_of};
 ghost use Rattle.vax_operand.specs.Addressed.{direct, based, prefixed, located};
 ghost use Rattle.vax_operand.specs.Form.{IsForm};
-ghost use Rattle.vax_quick.specs.Made.{Gives, IsKept, IsSeen, Reads};
+ghost use Rattle.vax_quick.specs.Made.{Gives, IsKept, IsSeen, Reads, computer};
 
 use crate::memory::read;
 use crate::window::{Window, fetch};
 use vax_flat::Form;
 use vax_isa::Letter;
 use vax_operand::{decode, extend, is_no_base, is_reserved};
-use vax_undo::{Port, Term};
+use vax_undo::Port;
 use vax_word::Core;
 
 /// Sets a register that isn't PC. What was seen of the instruction stays.
 #[inline(always)]
 #[tactic(auto, using(crate::proofs::Windows::seen_apart))]
-fn set_register<P: Port>(core: &mut Core, term: &Term, port: &P, window: Window, n: u8, value: u32)
+fn set_register<P: Port>(core: &mut Core, port: &P, window: Window, n: u8, value: u32)
     requires other { n < 15 }
     requires window { IsSeen (P.view port.now) core.old window }
-    ensures set { state_of core.new term.now ≡ with_register (state_of core.old term.now) n value }
+    ensures set { core.new ≡ record core.old { regs = slice_set core.old.regs n value } }
     ensures kept { IsKept core.old core.new }
     ensures left { IsSeen (P.view port.now) core.new window }
 {
-    let _ = term;
     let _ = port;
     let _ = window;
     core.regs[n as usize] = value;
@@ -37,19 +34,18 @@ fn set_register<P: Port>(core: &mut Core, term: &Term, port: &P, window: Window,
 #[tactic(auto, unfolding(vax_flat::specs::Operand::addressed, vax_flat::specs::Operand::fetched, vax_flat::specs::Operand::read_at))]
 fn absolute<P: Port>(
     core: &mut Core,
-    term: &Term,
     port: &mut P,
     window: Window,
     width: u8,
 ) -> Option<(u32, Window)>
     requires window { IsSeen (P.view port.old) core.old window }
     ensures exact { Gives (addressed width (form.IncrementDeferred 15)) result
-        (seen P.view core.old term.now port.old) (seen P.view core.new term.now port.new) }
+        (computer P.view core.old port.old) (computer P.view core.new port.new) }
     ensures left { IfSome result (λ r. IsSeen (P.view port.new) core.new r.1) }
     ensures reads { Reads P.view P.since core.old port.old core.new port.new }
 {
     let _ = width;
-    let (addr, behind) = fetch(core, term, port, window, 4)?;
+    let (addr, behind) = fetch(core, port, window, 4)?;
     Some((addr as u32, behind))
 }
 
@@ -58,7 +54,6 @@ fn absolute<P: Port>(
 #[tactic(auto, unfolding(vax_flat::specs::Operand::addressed))]
 fn address<P: Port>(
     core: &mut Core,
-    term: &Term,
     port: &mut P,
     window: Window,
     width: u8,
@@ -67,8 +62,8 @@ fn address<P: Port>(
     requires width { IsWidth width }
     requires form { IsForm form }
     requires window { IsSeen (P.view port.old) core.old window }
-    ensures exact { Gives (addressed width form) result (seen P.view core.old term.now port.old)
-        (seen P.view core.new term.now port.new) }
+    ensures exact { Gives (addressed width form) result (computer P.view core.old port.old)
+        (computer P.view core.new port.new) }
     ensures left { IfSome result (λ r. IsSeen (P.view port.new) core.new r.1) }
     ensures reads { Reads P.view P.since core.old port.old core.new port.new }
 {
@@ -82,7 +77,7 @@ fn address<P: Port>(
                 return None;
             }
             let addr = core.regs[n as usize].wrapping_sub(width as u32);
-            set_register(core, term, port, window, n, addr);
+            set_register(core, port, window, n, addr);
             Some((addr, window))
         }
         Form::Increment(n) => {
@@ -90,20 +85,20 @@ fn address<P: Port>(
                 return None;
             }
             let addr = core.regs[n as usize];
-            set_register(core, term, port, window, n, addr.wrapping_add(width as u32));
+            set_register(core, port, window, n, addr.wrapping_add(width as u32));
             Some((addr, window))
         }
         Form::IncrementDeferred(n) => {
             if n == 15 {
-                return absolute(core, term, port, window, width);
+                return absolute(core, port, window, width);
             }
             let at = core.regs[n as usize];
-            let pointer = read(core, term, port, at, 4)?;
-            set_register(core, term, port, window, n, at.wrapping_add(4));
+            let pointer = read(core, port, at, 4)?;
+            set_register(core, port, window, n, at.wrapping_add(4));
             Some((pointer as u32, window))
         }
         Form::Displacement { width, register } => {
-            let (value, behind) = fetch(core, term, port, window, width as u32)?;
+            let (value, behind) = fetch(core, port, window, width as u32)?;
             let displacement = extend(width, value);
             Some((
                 core.regs[register as usize].wrapping_add(displacement),
@@ -111,10 +106,10 @@ fn address<P: Port>(
             ))
         }
         Form::DisplacementDeferred { width, register } => {
-            let (value, behind) = fetch(core, term, port, window, width as u32)?;
+            let (value, behind) = fetch(core, port, window, width as u32)?;
             let displacement = extend(width, value);
             let at = core.regs[register as usize].wrapping_add(displacement);
-            let pointer = read(core, term, port, at, 4)?;
+            let pointer = read(core, port, at, 4)?;
             Some((pointer as u32, behind))
         }
     }
@@ -125,7 +120,6 @@ fn address<P: Port>(
 #[tactic(auto, unfolding(vax_operand::specs::Addressed::direct))]
 fn direct_address<P: Port>(
     core: &mut Core,
-    term: &Term,
     port: &mut P,
     window: Window,
     letter: Letter,
@@ -136,14 +130,14 @@ fn direct_address<P: Port>(
     requires form { IsForm form }
     requires window { IsSeen (P.view port.old) core.old window }
     ensures exact { Gives (direct letter width form) result
-        (seen P.view core.old term.now port.old) (seen P.view core.new term.now port.new) }
+        (computer P.view core.old port.old) (computer P.view core.new port.new) }
     ensures left { IfSome result (λ r. IsSeen (P.view port.new) core.new r.1) }
     ensures reads { Reads P.view P.since core.old port.old core.new port.new }
 {
     if is_reserved(letter, form) {
         return None;
     }
-    address(core, term, port, window, width, form)
+    address(core, port, window, width, form)
 }
 
 /// The address of a base form, indexed by register `x`.
@@ -151,7 +145,6 @@ fn direct_address<P: Port>(
 #[tactic(auto, unfolding(vax_operand::specs::Addressed::based))]
 fn based_address<P: Port>(
     core: &mut Core,
-    term: &Term,
     port: &mut P,
     window: Window,
     width: u8,
@@ -163,14 +156,14 @@ fn based_address<P: Port>(
     requires form { IsForm base }
     requires window { IsSeen (P.view port.old) core.old window }
     ensures exact { Gives (based width x base) result
-        (seen P.view core.old term.now port.old) (seen P.view core.new term.now port.new) }
+        (computer P.view core.old port.old) (computer P.view core.new port.new) }
     ensures left { IfSome result (λ r. IsSeen (P.view port.new) core.new r.1) }
     ensures reads { Reads P.view P.since core.old port.old core.new port.new }
 {
     if is_no_base(x, base) {
         return None;
     }
-    let (addr, behind) = address(core, term, port, window, width, base)?;
+    let (addr, behind) = address(core, port, window, width, base)?;
     let offset = (width as u32).wrapping_mul(core.regs[x as usize]);
     Some((addr.wrapping_add(offset), behind))
 }
@@ -180,7 +173,6 @@ fn based_address<P: Port>(
 #[tactic(auto, unfolding(vax_operand::specs::Addressed::prefixed))]
 fn prefixed_address<P: Port>(
     core: &mut Core,
-    term: &Term,
     port: &mut P,
     window: Window,
     width: u8,
@@ -190,16 +182,16 @@ fn prefixed_address<P: Port>(
     requires of_core { x < 16 }
     requires window { IsSeen (P.view port.old) core.old window }
     ensures exact { Gives (prefixed width x) result
-        (seen P.view core.old term.now port.old) (seen P.view core.new term.now port.new) }
+        (computer P.view core.old port.old) (computer P.view core.new port.new) }
     ensures left { IfSome result (λ r. IsSeen (P.view port.new) core.new r.1) }
     ensures reads { Reads P.view P.since core.old port.old core.new port.new }
 {
     if x == 15 {
         return None;
     }
-    let (byte, behind) = fetch(core, term, port, window, 1)?;
+    let (byte, behind) = fetch(core, port, window, 1)?;
     let base = decode(byte as u8);
-    based_address(core, term, port, behind, width, x, base)
+    based_address(core, port, behind, width, x, base)
 }
 
 /// The address of any form. One that has none is left out.
@@ -207,7 +199,6 @@ fn prefixed_address<P: Port>(
 #[tactic(auto, unfolding(vax_operand::specs::Addressed::located))]
 fn address_of<P: Port>(
     core: &mut Core,
-    term: &Term,
     port: &mut P,
     window: Window,
     letter: Letter,
@@ -218,25 +209,21 @@ fn address_of<P: Port>(
     requires form { IsForm form }
     requires window { IsSeen (P.view port.old) core.old window }
     ensures exact { Gives (located letter width form) result
-        (seen P.view core.old term.now port.old) (seen P.view core.new term.now port.new) }
+        (computer P.view core.old port.old) (computer P.view core.new port.new) }
     ensures left { IfSome result (λ r. IsSeen (P.view port.new) core.new r.1) }
     ensures reads { Reads P.view P.since core.old port.old core.new port.new }
 {
     match form {
         Form::Literal(_) => None,
-        Form::Index(x) => prefixed_address(core, term, port, window, width, x),
+        Form::Index(x) => prefixed_address(core, port, window, width, x),
         Form::Register(_) => None,
-        Form::Deferred(_) => direct_address(core, term, port, window, letter, width, form),
-        Form::Decrement(_) => direct_address(core, term, port, window, letter, width, form),
-        Form::Increment(_) => direct_address(core, term, port, window, letter, width, form),
-        Form::IncrementDeferred(_) => {
-            direct_address(core, term, port, window, letter, width, form)
-        }
-        Form::Displacement { .. } => {
-            direct_address(core, term, port, window, letter, width, form)
-        }
+        Form::Deferred(_) => direct_address(core, port, window, letter, width, form),
+        Form::Decrement(_) => direct_address(core, port, window, letter, width, form),
+        Form::Increment(_) => direct_address(core, port, window, letter, width, form),
+        Form::IncrementDeferred(_) => { direct_address(core, port, window, letter, width, form) }
+        Form::Displacement { .. } => { direct_address(core, port, window, letter, width, form) }
         Form::DisplacementDeferred { .. } => {
-            direct_address(core, term, port, window, letter, width, form)
+            direct_address(core, port, window, letter, width, form)
         }
     }
 }
@@ -246,7 +233,6 @@ fn address_of<P: Port>(
 #[tactic(auto, unfolding(vax_operand::specs::Addressed::located))]
 fn indexed_address<P: Port>(
     core: &mut Core,
-    term: &Term,
     port: &mut P,
     window: Window,
     letter: Letter,
@@ -257,12 +243,12 @@ fn indexed_address<P: Port>(
     requires of_core { x < 16 }
     requires window { IsSeen (P.view port.old) core.old window }
     ensures exact { Gives (located letter width (form.Index x)) result
-        (seen P.view core.old term.now port.old) (seen P.view core.new term.now port.new) }
+        (computer P.view core.old port.old) (computer P.view core.new port.new) }
     ensures left { IfSome result (λ r. IsSeen (P.view port.new) core.new r.1) }
     ensures reads { Reads P.view P.since core.old port.old core.new port.new }
 {
     let _ = letter;
-    prefixed_address(core, term, port, window, width, x)
+    prefixed_address(core, port, window, width, x)
 }
 
 /// The address in a register.
@@ -270,7 +256,6 @@ fn indexed_address<P: Port>(
 #[tactic(auto, unfolding(vax_operand::specs::Addressed::located, vax_operand::specs::Addressed::direct, vax_flat::specs::Operand::is_reserved, vax_flat::specs::Operand::addressed))]
 pub(crate) fn deferred_address<P: Port>(
     core: &Core,
-    term: &Term,
     port: &P,
     window: Window,
     letter: Letter,
@@ -280,10 +265,9 @@ pub(crate) fn deferred_address<P: Port>(
     requires of_core { n < 16 }
     requires window { IsSeen (P.view port.now) core.now window }
     ensures exact { Gives (located letter width (Form.Deferred n)) result
-        (seen P.view core.now term.now port.now) (seen P.view core.now term.now port.now) }
+        (computer P.view core.now port.now) (computer P.view core.now port.now) }
     ensures left { IfSome result (λ r. IsSeen (P.view port.now) core.now r.1) }
 {
-    let _ = term;
     let _ = port;
     let _ = letter;
     let _ = width;
@@ -298,7 +282,6 @@ pub(crate) fn deferred_address<P: Port>(
 #[tactic(auto, unfolding(vax_operand::specs::Addressed::located, vax_operand::specs::Addressed::direct, vax_flat::specs::Operand::is_reserved, vax_flat::specs::Operand::addressed))]
 pub(crate) fn near_address<P: Port>(
     core: &mut Core,
-    term: &Term,
     port: &mut P,
     window: Window,
     letter: Letter,
@@ -308,13 +291,13 @@ pub(crate) fn near_address<P: Port>(
     requires of_core { n < 16 }
     requires window { IsSeen (P.view port.old) core.old window }
     ensures exact { Gives (located letter width (Form.Displacement 1 n)) result
-        (seen P.view core.old term.now port.old) (seen P.view core.new term.now port.new) }
+        (computer P.view core.old port.old) (computer P.view core.new port.new) }
     ensures left { IfSome result (λ r. IsSeen (P.view port.new) core.new r.1) }
     ensures reads { Reads P.view P.since core.old port.old core.new port.new }
 {
     let _ = letter;
     let _ = width;
-    let (value, behind) = fetch(core, term, port, window, 1)?;
+    let (value, behind) = fetch(core, port, window, 1)?;
     let displacement = extend(1, value);
     Some((core.regs[n as usize].wrapping_add(displacement), behind))
 }
@@ -324,7 +307,6 @@ pub(crate) fn near_address<P: Port>(
 #[tactic(auto, unfolding(vax_flat::specs::Operand::form_of))]
 pub(crate) fn address_near<P: Port>(
     core: &mut Core,
-    term: &Term,
     port: &mut P,
     window: Window,
     letter: Letter,
@@ -334,14 +316,14 @@ pub(crate) fn address_near<P: Port>(
     requires width { IsWidth width }
     requires window { IsSeen (P.view port.old) core.old window }
     ensures exact { Gives (located letter width (form_of byte)) result
-        (seen P.view core.old term.now port.old) (seen P.view core.new term.now port.new) }
+        (computer P.view core.old port.old) (computer P.view core.new port.new) }
     ensures left { IfSome result (λ r. IsSeen (P.view port.new) core.new r.1) }
     ensures reads { Reads P.view P.since core.old port.old core.new port.new }
 {
     match byte >> 4 {
-        4 => indexed_address(core, term, port, window, letter, width, byte & 15),
-        6 => deferred_address(core, term, port, window, letter, width, byte & 15),
-        10 => near_address(core, term, port, window, letter, width, byte & 15),
-        _ => address_of(core, term, port, window, letter, width, decode(byte)),
+        4 => indexed_address(core, port, window, letter, width, byte & 15),
+        6 => deferred_address(core, port, window, letter, width, byte & 15),
+        10 => near_address(core, port, window, letter, width, byte & 15),
+        _ => address_of(core, port, window, letter, width, decode(byte)),
     }
 }

@@ -2,8 +2,7 @@
 ghost use Rattle.std.specs.Prelude.{◌≡◌, ◌≤◌, true, false};
 ghost use Rattle.vax_flat.specs.Instruction.{acted_part, acted_part_if, first_part};
 ghost use Rattle.vax_undo.specs.FirstPart.{first_part_done};
-ghost use Rattle.vax_undo.specs.Transaction.{seen};
-ghost use Rattle.vax_quick.specs.Made.{IsSeen, IsStill, Leaves, Makes, MakesOrStays, MakesStep, MakesSteps, made_by};
+ghost use Rattle.vax_quick.specs.Made.{IsSeen, IsStill, Leaves, Makes, MakesOrStays, MakesStep, MakesSteps, computer, made_by};
 
 use crate::arms::{
     add_long, add_three_long, add_with_carry, add_word, clear_bits_long, clear_bits_three_long,
@@ -25,7 +24,7 @@ use crate::results::unless_made;
 use crate::window::{Window, fetch, look};
 use crate::{call, control, field, integer};
 use vax_isa::{Action, action};
-use vax_undo::{Port, Term};
+use vax_undo::Port;
 use vax_word::Core;
 
 /// Whether no interrupt is asked for and the interval clock is off.
@@ -40,23 +39,17 @@ pub fn is_still(core: &Core) -> bool
 /// What an instruction does whose opcode PC is past: arithmetic, control, a field of bits, or a call. All else is left out.
 #[inline(always)]
 #[tactic(auto, unfolding(vax_flat::specs::Instruction::acted_part))]
-fn act<P: Port>(
-    core: &mut Core,
-    term: &Term,
-    port: &mut P,
-    window: Window,
-    action: Action,
-) -> Option<()>
+fn act<P: Port>(core: &mut Core, port: &mut P, window: Window, action: Action) -> Option<()>
     requires window { IsSeen (P.view port.old) core.old window }
     ensures exact { Makes (acted_part action) result
-        (seen P.view core.old term.now port.old) (seen P.view core.new term.now port.new) }
+        (computer P.view core.old port.old) (computer P.view core.new port.new) }
     ensures leaves { Leaves P.since core.old port.old core.new port.new }
 {
     match action {
-        Action::Integer(instruction) => { integer::perform(core, term, port, window, instruction) }
-        Action::Control(instruction) => { control::perform(core, term, port, window, instruction) }
-        Action::Field(instruction) => field::perform(core, term, port, window, instruction),
-        Action::Call(instruction) => call::perform(core, term, port, window, instruction),
+        Action::Integer(instruction) => { integer::perform(core, port, window, instruction) }
+        Action::Control(instruction) => { control::perform(core, port, window, instruction) }
+        Action::Field(instruction) => field::perform(core, port, window, instruction),
+        Action::Call(instruction) => call::perform(core, port, window, instruction),
         _ => None,
     }
 }
@@ -66,22 +59,21 @@ fn act<P: Port>(
 #[tactic(auto, unfolding(vax_flat::specs::Instruction::acted_part_if))]
 fn act_if<P: Port>(
     core: &mut Core,
-    term: &Term,
     port: &mut P,
     window: Window,
     action: Option<Action>,
 ) -> Option<()>
     requires window { IsSeen (P.view port.old) core.old window }
     ensures exact { MakesOrStays (acted_part_if action) result
-        (seen P.view core.old term.now port.old) (seen P.view core.new term.now port.new) }
+        (computer P.view core.old port.old) (computer P.view core.new port.new) }
     ensures leaves { Leaves P.since core.old port.old core.new port.new }
 {
     match action {
         None | Some(Action::System(_) | Action::Queue(_) | Action::Text(_)) => None,
         Some(action) => {
             let aside = *core;
-            let made = act(core, term, port, window, action);
-            unless_made(core, term, port, aside, made)
+            let made = act(core, port, window, action);
+            unless_made(core, port, aside, made)
         }
     }
 }
@@ -89,19 +81,13 @@ fn act_if<P: Port>(
 /// What an opcode stands for that has no arm of its own.
 #[inline(never)]
 #[tactic(auto, unfolding(crate::specs::Made::made_by))]
-fn act_by_table<P: Port>(
-    core: &mut Core,
-    term: &Term,
-    port: &mut P,
-    window: Window,
-    opcode: u8,
-) -> Option<()>
+fn act_by_table<P: Port>(core: &mut Core, port: &mut P, window: Window, opcode: u8) -> Option<()>
     requires window { IsSeen (P.view port.old) core.old window }
     ensures exact { MakesOrStays (made_by opcode) result
-        (seen P.view core.old term.now port.old) (seen P.view core.new term.now port.new) }
+        (computer P.view core.old port.old) (computer P.view core.new port.new) }
     ensures leaves { Leaves P.since core.old port.old core.new port.new }
 {
-    act_if(core, term, port, window, action(opcode))
+    act_if(core, port, window, action(opcode))
 }
 
 /// What an opcode stands for that has an arm for longwords, or none.
@@ -109,128 +95,115 @@ fn act_by_table<P: Port>(
 #[tactic(auto, using(crate::proofs::Opcodes::as_opcode))]
 fn act_on_longwords<P: Port>(
     core: &mut Core,
-    term: &Term,
     port: &mut P,
     window: Window,
     opcode: u8,
 ) -> Option<()>
     requires window { IsSeen (P.view port.old) core.old window }
     ensures exact { MakesOrStays (made_by opcode) result
-        (seen P.view core.old term.now port.old) (seen P.view core.new term.now port.new) }
+        (computer P.view core.old port.old) (computer P.view core.new port.new) }
     ensures leaves { Leaves P.since core.old port.old core.new port.new }
 {
     match opcode {
-        0xC0 => add_long(core, term, port, window),
-        0xC1 => add_three_long(core, term, port, window),
-        0xC2 => subtract_long(core, term, port, window),
-        0xC3 => subtract_three_long(core, term, port, window),
-        0xC4 => multiply_long(core, term, port, window),
-        0xC5 => multiply_three_long(core, term, port, window),
-        0xC8 => set_bits_long(core, term, port, window),
-        0xC9 => set_bits_three_long(core, term, port, window),
-        0xCA => clear_bits_long(core, term, port, window),
-        0xCB => clear_bits_three_long(core, term, port, window),
-        0xCC => exclusive_or_long(core, term, port, window),
-        0xCD => exclusive_or_three_long(core, term, port, window),
-        0xD0 => move_long(core, term, port, window),
-        0xD1 => compare_long(core, term, port, window),
-        0xD2 => complement_long(core, term, port, window),
-        0xD4 => clear_long(core, term, port, window),
-        0xD5 => test_long(core, term, port, window),
-        0xD6 => increment_long(core, term, port, window),
-        0xD7 => decrement_long(core, term, port, window),
-        0xD8 => add_with_carry(core, term, port, window),
-        0xDD => push_longword(core, term, port, window),
-        0xDE => move_address_of_long(core, term, port, window),
-        _ => act_by_table(core, term, port, window, opcode),
+        0xC0 => add_long(core, port, window),
+        0xC1 => add_three_long(core, port, window),
+        0xC2 => subtract_long(core, port, window),
+        0xC3 => subtract_three_long(core, port, window),
+        0xC4 => multiply_long(core, port, window),
+        0xC5 => multiply_three_long(core, port, window),
+        0xC8 => set_bits_long(core, port, window),
+        0xC9 => set_bits_three_long(core, port, window),
+        0xCA => clear_bits_long(core, port, window),
+        0xCB => clear_bits_three_long(core, port, window),
+        0xCC => exclusive_or_long(core, port, window),
+        0xCD => exclusive_or_three_long(core, port, window),
+        0xD0 => move_long(core, port, window),
+        0xD1 => compare_long(core, port, window),
+        0xD2 => complement_long(core, port, window),
+        0xD4 => clear_long(core, port, window),
+        0xD5 => test_long(core, port, window),
+        0xD6 => increment_long(core, port, window),
+        0xD7 => decrement_long(core, port, window),
+        0xD8 => add_with_carry(core, port, window),
+        0xDD => push_longword(core, port, window),
+        0xDE => move_address_of_long(core, port, window),
+        _ => act_by_table(core, port, window, opcode),
     }
 }
 
 /// What an opcode stands for that isn't one of the branches, loops and calls with an arm.
 #[inline(always)]
 #[tactic(auto, using(crate::proofs::Opcodes::as_opcode))]
-fn act_on_values<P: Port>(
-    core: &mut Core,
-    term: &Term,
-    port: &mut P,
-    window: Window,
-    opcode: u8,
-) -> Option<()>
+fn act_on_values<P: Port>(core: &mut Core, port: &mut P, window: Window, opcode: u8) -> Option<()>
     requires window { IsSeen (P.view port.old) core.old window }
     ensures exact { MakesOrStays (made_by opcode) result
-        (seen P.view core.old term.now port.old) (seen P.view core.new term.now port.new) }
+        (computer P.view core.old port.old) (computer P.view core.new port.new) }
     ensures leaves { Leaves P.since core.old port.old core.new port.new }
 {
     match opcode {
-        0x3C => zero_extend_word(core, term, port, window),
-        0x78 => shift_long(core, term, port, window),
-        0x7A => multiply_extended(core, term, port, window),
-        0x90 => move_byte(core, term, port, window),
-        0x91 => compare_byte(core, term, port, window),
-        0x95 => test_byte(core, term, port, window),
-        0x98 => convert_byte(core, term, port, window),
-        0x9A => zero_extend_byte(core, term, port, window),
-        0x9C => rotate_long(core, term, port, window),
-        0x9E => move_address_of_byte(core, term, port, window),
-        0xA0 => add_word(core, term, port, window),
-        0xB0 => move_word(core, term, port, window),
-        0xB1 => compare_word(core, term, port, window),
-        _ => act_on_longwords(core, term, port, window, opcode),
+        0x3C => zero_extend_word(core, port, window),
+        0x78 => shift_long(core, port, window),
+        0x7A => multiply_extended(core, port, window),
+        0x90 => move_byte(core, port, window),
+        0x91 => compare_byte(core, port, window),
+        0x95 => test_byte(core, port, window),
+        0x98 => convert_byte(core, port, window),
+        0x9A => zero_extend_byte(core, port, window),
+        0x9C => rotate_long(core, port, window),
+        0x9E => move_address_of_byte(core, port, window),
+        0xA0 => add_word(core, port, window),
+        0xB0 => move_word(core, port, window),
+        0xB1 => compare_word(core, port, window),
+        _ => act_on_longwords(core, port, window, opcode),
     }
 }
 
 /// What an opcode stands for.
 #[inline(always)]
 #[tactic(auto, using(crate::proofs::Opcodes::as_opcode))]
-fn act_by_opcode<P: Port>(
-    core: &mut Core,
-    term: &Term,
-    port: &mut P,
-    window: Window,
-    opcode: u8,
-) -> Option<()>
+fn act_by_opcode<P: Port>(core: &mut Core, port: &mut P, window: Window, opcode: u8) -> Option<()>
     requires window { IsSeen (P.view port.old) core.old window }
     ensures exact { MakesOrStays (made_by opcode) result
-        (seen P.view core.old term.now port.old) (seen P.view core.new term.now port.new) }
+        (computer P.view core.old port.old) (computer P.view core.new port.new) }
     ensures leaves { Leaves P.since core.old port.old core.new port.new }
 {
     match opcode {
-        0x04 => return_from_procedure(core, term, port, window),
-        0x05 => return_from_subroutine(core, term, port, window),
-        0x10 => call_near(core, term, port, window),
-        0x11 => branch_byte(core, term, port, window),
-        0x12 => branch_not_equal(core, term, port, window),
-        0x13 => branch_equal(core, term, port, window),
-        0x14 => branch_greater(core, term, port, window),
-        0x15 => branch_less_or_equal(core, term, port, window),
-        0x16 => call_subroutine(core, term, port, window),
-        0x18 => branch_greater_or_equal(core, term, port, window),
-        0x19 => branch_less(core, term, port, window),
-        0x1A => branch_greater_unsigned(core, term, port, window),
-        0x1B => branch_less_or_equal_unsigned(core, term, port, window),
-        0x1E => branch_carry_clear(core, term, port, window),
-        0x1F => branch_carry_set(core, term, port, window),
-        0x31 => branch_word(core, term, port, window),
-        0xF2 => add_one_below(core, term, port, window),
-        0xF4 => subtract_one_to_zero(core, term, port, window),
-        0xF5 => subtract_one_above_zero(core, term, port, window),
-        0xFB => call_procedure(core, term, port, window),
-        _ => act_on_values(core, term, port, window, opcode),
+        0x04 => return_from_procedure(core, port, window),
+        0x05 => return_from_subroutine(core, port, window),
+        0x10 => call_near(core, port, window),
+        0x11 => branch_byte(core, port, window),
+        0x12 => branch_not_equal(core, port, window),
+        0x13 => branch_equal(core, port, window),
+        0x14 => branch_greater(core, port, window),
+        0x15 => branch_less_or_equal(core, port, window),
+        0x16 => call_subroutine(core, port, window),
+        0x18 => branch_greater_or_equal(core, port, window),
+        0x19 => branch_less(core, port, window),
+        0x1A => branch_greater_unsigned(core, port, window),
+        0x1B => branch_less_or_equal_unsigned(core, port, window),
+        0x1E => branch_carry_clear(core, port, window),
+        0x1F => branch_carry_set(core, port, window),
+        0x31 => branch_word(core, port, window),
+        0xF2 => add_one_below(core, port, window),
+        0xF4 => subtract_one_to_zero(core, port, window),
+        0xF5 => subtract_one_above_zero(core, port, window),
+        0xFB => call_procedure(core, port, window),
+        _ => act_on_values(core, port, window, opcode),
     }
 }
 
 /// The instruction at PC.
 #[inline(always)]
 #[tactic(auto, unfolding(vax_flat::specs::Instruction::first_part, crate::specs::Made::made_by))]
-fn execute<P: Port>(core: &mut Core, term: &Term, port: &mut P, window: Window) -> Option<()>
+fn execute<P: Port>(core: &mut Core, port: &mut P, window: Window) -> Option<()>
     requires window { IsSeen (P.view port.old) core.old window }
     ensures exact { MakesOrStays first_part result
-        (seen P.view core.old term.now port.old) (seen P.view core.new term.now port.new) }
+        (computer P.view core.old port.old) (computer P.view core.new port.new) }
     ensures leaves { Leaves P.since core.old port.old core.new port.new }
 {
     let pc = core.regs[15];
-    let (opcode, behind) = fetch(core, term, port, window, 1)?;
-    match act_by_opcode(core, term, port, behind, opcode as u8) {
+    let (opcode, behind) = fetch(core, port, window, 1)?;
+    match act_by_opcode(core, port, behind, opcode as u8) {
         Some(()) => Some(()),
         None => {
             core.regs[15] = pc;
@@ -242,12 +215,12 @@ fn execute<P: Port>(core: &mut Core, term: &Term, port: &mut P, window: Window) 
 /// Makes the step at PC at once, where it can, and says whether it did. Where it didn't, nothing has changed.
 #[inline(always)]
 #[tactic(auto, using(crate::proofs::Steps::still_on))]
-fn step<P: Port>(core: &mut Core, term: &Term, port: &mut P) -> bool
+fn step<P: Port>(core: &mut Core, port: &mut P) -> bool
     requires still { IsStill core.old }
     ensures made { result ≡ true → MakesStep
-        (seen P.view core.old term.now port.old) (seen P.view core.new term.now port.new) }
-    ensures none { result ≡ false → seen P.view core.new term.now port.new
-        ≡ seen P.view core.old term.now port.old }
+        (computer P.view core.old port.old) (computer P.view core.new port.new) }
+    ensures none { result ≡ false
+        → computer P.view core.new port.new ≡ computer P.view core.old port.old }
     ensures still { IsStill core.new }
     ensures clock { core.new.clock ≡ core.old.clock }
     ensures closed { first_part_done core.new.psl ≤ first_part_done core.old.psl }
@@ -257,7 +230,7 @@ fn step<P: Port>(core: &mut Core, term: &Term, port: &mut P) -> bool
         Some(window) => window,
         None => return false,
     };
-    match execute(core, term, port, window) {
+    match execute(core, port, window) {
         Some(()) => true,
         None => false,
     }
@@ -265,10 +238,10 @@ fn step<P: Port>(core: &mut Core, term: &Term, port: &mut P) -> bool
 
 /// Makes at most so many steps, each at once, up to the first that can't be made so, and says how many it made. No interrupt may be asked
 /// for, and the interval clock must be off.
-pub fn run<P: Port>(core: &mut Core, term: &Term, port: &mut P, most: u64) -> u64
+pub fn run<P: Port>(core: &mut Core, port: &mut P, most: u64) -> u64
     requires still { IsStill core.old }
     ensures ran { MakesSteps result
-        (seen P.view core.old term.now port.old) (seen P.view core.new term.now port.new) }
+        (computer P.view core.old port.old) (computer P.view core.new port.new) }
     ensures few { result ≤ most }
     ensures still { IsStill core.new }
     ensures clock { core.new.clock ≡ core.old.clock }
@@ -277,7 +250,7 @@ pub fn run<P: Port>(core: &mut Core, term: &Term, port: &mut P, most: u64) -> u6
 {
     let mut steps = 0;
     while steps < most {
-        if !step(core, term, port) {
+        if !step(core, port) {
             return steps;
         }
         steps += 1;

@@ -1,11 +1,10 @@
 //! The bytes of an instruction, seen at once.
 ghost use Rattle.std.specs.Prelude.{◌≡◌, ◌-◌, ◌/◌, ◌%◌, ◌^◌, ◌<◌, ◌≤◌, IfSome, None};
 ghost use Rattle.vax_flat.specs.Operand.{fetched};
-ghost use Rattle.vax_undo.specs.Transaction.{seen};
 ghost use Rattle.vax_operand.specs.Form.{IsDisplacement};
-ghost use Rattle.vax_quick.specs.Made.{Gives, GoesOn, IsKept, IsMoved, IsSeen, Reads};
+ghost use Rattle.vax_quick.specs.Made.{Gives, GoesOn, IsKept, IsMoved, IsSeen, Reads, computer};
 
-use vax_undo::{Port, Term};
+use vax_undo::Port;
 use vax_word::Core;
 
 /// Bytes from PC on: how many, and the number that they are.
@@ -91,24 +90,17 @@ fn behind(bytes: u64, n: u32) -> u64
 /// So many bytes of those that were seen. PC moves past them.
 #[inline(always)]
 #[tactic(auto, using(crate::proofs::Windows::fetched_seen, crate::proofs::Windows::passed))]
-pub(crate) fn taken<P: Port>(
-    core: &mut Core,
-    term: &Term,
-    port: &P,
-    window: Window,
-    n: u32,
-) -> (u64, Window)
+pub(crate) fn taken<P: Port>(core: &mut Core, port: &P, window: Window, n: u32) -> (u64, Window)
     requires width { IsDisplacement n }
     requires enough { n ≤ window.left }
     requires window { IsSeen (P.view port.now) core.old window }
-    ensures exact { GoesOn (fetched n) result.0 (seen P.view core.old term.now port.now)
-        (seen P.view core.new term.now port.now) }
+    ensures exact { GoesOn (fetched n) result.0 (computer P.view core.old port.now)
+        (computer P.view core.new port.now) }
     ensures fits { result.0 < 256 ^ n }
     ensures left { IsSeen (P.view port.now) core.new result.1 }
     ensures kept { IsKept core.old core.new }
     ensures moved { IsMoved core.old core.new }
 {
-    let _ = term;
     let _ = port;
     core.regs[15] = core.regs[15].wrapping_add(n);
     let bytes = behind(window.bytes, n);
@@ -120,15 +112,14 @@ pub(crate) fn taken<P: Port>(
 #[inline(always)]
 pub(crate) fn fetch<P: Port>(
     core: &mut Core,
-    term: &Term,
     port: &mut P,
     window: Window,
     n: u32,
 ) -> Option<(u64, Window)>
     requires width { IsDisplacement n }
     requires window { IsSeen (P.view port.old) core.old window }
-    ensures exact { Gives (fetched n) result (seen P.view core.old term.now port.old)
-        (seen P.view core.new term.now port.new) }
+    ensures exact { Gives (fetched n) result (computer P.view core.old port.old)
+        (computer P.view core.new port.new) }
     ensures fits { IfSome result (λ r. r.0 < 256 ^ n) }
     ensures left { IfSome result (λ r. IsSeen (P.view port.new) core.new r.1) }
     ensures reads { Reads P.view P.since core.old port.old core.new port.new }
@@ -136,5 +127,5 @@ pub(crate) fn fetch<P: Port>(
     ensures none { result ≡ None → core.new ≡ core.old }
 {
     let window = at_least(core, port, window, n)?;
-    Some(taken(core, term, port, window, n))
+    Some(taken(core, port, window, n))
 }

@@ -1,6 +1,7 @@
 use Rattle.std.proofs.Common.{◌≡◌, ◌≤◌, ◌∙◌, true, false, None, ap, subst, arith, rules}
 use Rattle.vax_flat.specs.Parts.{part_step}
 use Rattle.vax_undo.specs.Transaction.{seen}
+use Rattle.vax_quick.specs.Made.{computer}
 use Rattle.vax_cpu.specs.declared.attempt.Tried.TheVariants as tried
 use Rattle.vax_cpu.specs.Tried.{IsTried, KeepsClosed, KeepsTime}
 use Rattle.vax_cpu.proofs.Attempts.{still_closed}
@@ -14,7 +15,9 @@ returns-then-steps-most-clause-ran g c =
     let old = seen view c.args.core.now c.args.term.now c.args.port.now in
     let now = seen view c.loop-last.core c.loop-last.term c.loop-last.port in
     let mid = seen view c.run-quick.new.core c.loop-last.term c.run-quick.new.port in
-    let second = ran_quick c.run-quick.result now mid inv.unsent c.run-quick.ensures.ran in
+    let before = computer view c.loop-last.core c.loop-last.port in
+    let after = computer view c.run-quick.new.core c.run-quick.new.port in
+    let second = ran_quick c.run-quick.result before after c.loop-last.term inv.unsent c.run-quick.ensures.ran in
     (mid, ran_append c.loop-last.steps c.run-quick.result old now mid inv.ran second, c.try_apart-silent.ensures.tried)
 
 pub returns-then-not-silent-clause-ran : goal.returns-then-not-silent-clause-ran
@@ -24,7 +27,9 @@ returns-then-not-silent-clause-ran g c =
     let old = seen view c.args.core.now c.args.term.now c.args.port.now in
     let now = seen view c.loop-last.core c.loop-last.term c.loop-last.port in
     let mid = seen view c.run-quick.new.core c.loop-last.term c.run-quick.new.port in
-    let second = ran_quick c.run-quick.result now mid inv.unsent c.run-quick.ensures.ran in
+    let before = computer view c.loop-last.core c.loop-last.port in
+    let after = computer view c.run-quick.new.core c.run-quick.new.port in
+    let second = ran_quick c.run-quick.result before after c.loop-last.term inv.unsent c.run-quick.ensures.ran in
     (mid, ran_append c.loop-last.steps c.run-quick.result old now mid inv.ran second, c.try_apart-silent.ensures.tried)
 
 pub returns-then-not-silent-clause-all : goal.returns-then-not-silent-clause-all
@@ -53,7 +58,9 @@ loop-last-preserved g c =
     let yes : last.result ≡ true = search rules in
     let is : last.new.last ≡ tried.Step None = last.ensures.silent yes in
     let one : IsTried part_step mid (tried.Step None) new = subst (λ t. IsTried part_step mid t new) is last.ensures.tried in
-    let second = ran_quick run.result now mid inv.unsent run.ensures.ran in
+    let before = computer view c.loop-last.core c.loop-last.port in
+    let after = computer view run.new.core run.new.port in
+    let second = ran_quick run.result before after c.loop-last.term inv.unsent run.ensures.ran in
     record {
       ran = ran_on c.loop-last.steps run.result old now mid new inv.ran second one (ap (λ v. v.items) last.ensures.input);
       few = omega arith;

@@ -5,6 +5,7 @@ use Rattle.vax_cpu.proofs.Quick.{ran_quick}
 use Rattle.vax_cpu.proofs.Runs.{at_start, reaches}
 use Rattle.vax_cpu.specs.Attempt.{flat_of}
 use Rattle.vax_cpu.specs.declared.cpu.Cpu.{Cpu}
+use Rattle.vax_quick.specs.Made.{Computer}
 use Rattle.vax_pager.proofs.Views.{only_itself}
 use Rattle.vax_pager.specs.Meaning.{pages}
 use Rattle.vax_pager.specs.Paging.{view_of}
@@ -30,7 +31,9 @@ returns-clause-steps c = λ closed memory output st.
     let old : Present = record { state = state_of c.args.cpu.now.core c.args.cpu.now.term; view = view } in
     let new : Present = record { state = state_of c.run.new.core c.args.cpu.now.term; view = after } in
     let cpu : Cpu = record { core = c.run.new.core; term = c.args.cpu.now.term; latch = c.args.cpu.now.latch; log = c.args.cpu.now.log; scratch = c.args.cpu.now.scratch } in
-    let ran = ran_quick c.run.result old new c.requires.unsent c.run.ensures.ran in
+    let before : Computer = record { core = c.args.cpu.now.core; view = view } in
+    let behind : Computer = record { core = c.run.new.core; view = after } in
+    let ran = ran_quick c.run.result before behind c.args.cpu.now.term c.requires.unsent c.run.ensures.ran in
     let r = reaches view m c.run.result old new (at_start c.args.cpu.now.core c.args.cpu.now.term view m refl c.requires.unsent refl refl refl st) refl ran in
     are_steps view m c.run.result new r cpu after refl refl
 

@@ -1,13 +1,12 @@
 use Rattle.std.proofs.Common.{◌≡◌, ◌-◌, ◌≤◌}
 use Rattle.vax_undo.specs.FirstPart.{first_part_done}
-use Rattle.vax_undo.specs.Transaction.{seen}
-use Rattle.vax_quick.specs.Made.{IsStill, MakesSteps}
+use Rattle.vax_quick.specs.Made.{IsStill, MakesSteps, computer}
 use Rattle.vax_quick.proofs.step.run.Given as goal
 
 -- the steps so far were made
 abbrev pub invariant-loop-steps : goal.invariant-loop-steps
 invariant-loop-steps g l = record {
-  ran : MakesSteps l.steps (seen g.P.Port.view l.fn.core l.fn.term l.fn.port) (seen g.P.Port.view l.core l.term l.port);
+  ran : MakesSteps l.steps (computer g.P.Port.view l.fn.core l.fn.port) (computer g.P.Port.view l.core l.port);
   few : l.steps ≤ l.most;
   still : IsStill l.core;
   clock : l.core.clock ≡ l.fn.core.clock;

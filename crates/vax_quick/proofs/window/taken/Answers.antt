@@ -3,15 +3,14 @@ use Rattle.vax_word.specs.declared.Core.{Core}
 use Rattle.vax_flat.specs.State.{register, with_register}
 use Rattle.vax_flat.specs.Operand.{plus}
 use Rattle.vax_flat.specs.OverPort.{over_port}
-use Rattle.vax_undo.specs.Transaction.{state_of}
-use Rattle.vax_quick.specs.Made.{IsSeen}
+use Rattle.vax_quick.specs.Made.{IsSeen, at_console}
 use Rattle.vax_quick.proofs.Windows.{fetched_seen, passed}
 use Rattle.vax_quick.proofs.window.taken.Goals as goal
 
 pub returns-clause-exact : goal.returns-clause-exact
-returns-clause-exact g c = λ next.
+returns-clause-exact g c = λ input taken sent next.
     let view = g.P.Port.view c.args.port.now in
-    let s = state_of c.args.core.now c.args.term.now in
+    let s = at_console c.args.core.now input taken sent in
     let n = c.args.n in
     fetched_seen view s c.args.window n c.requires.enough c.requires.window next
     ∙ ap (λ x. over_port (next x (with_register s 15 (plus (register s 15) n))) view) (sym c.first.ensures.exact)
