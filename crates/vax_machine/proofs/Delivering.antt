@@ -1,14 +1,14 @@
 -- When bytes that are held back are written.
-use Rattle.std.proofs.Common.{ℕ, ◌≡◌, ◌+◌, ◌<◌, ◌≤◌, ◌==◌, ◌||◌, Bool, true, false, List, [], ◌∷◌, ◌++◌, append-nil, append_assoc, length, length-append, refl, ap, sym, ◌∙◌, subst, arith, inl, inr, Option, Some, None, Result, Ok, Err, OnOk}
+use Rattle.std.proofs.Common.{ℕ, ◌≡◌, ◌+◌, ◌<◌, ◌≤◌, ◌==◌, ◌||◌, Bool, true, false, List, [], ◌++◌, append-nil, append_assoc, length, length-append, refl, ap, sym, ◌∙◌, subst, arith, inl, inr, Option, Some, None, Result, Ok, Err, OnOk}
 use Rattle.std.specs.Prelude.{◌⊎◌}
 use Rattle.std.specs.List.{list_any}
 use Rattle.std.proofs.lemmas.List.Folds.{list_any-append}
-use Rattle.vax_outside.specs.Channels.{Channels, append, nothing, only}
+use Rattle.vax_outside.specs.Channels.{Channels, append, nothing}
 use Rattle.vax_outside.proofs.Growth.{grew_more, grew_nothing}
 use Rattle.vax_machine.proofs.Holding.{passes_on}
 use Rattle.vax_machine.proofs.Outputs.{pass_nothing}
-use Rattle.vax_machine.specs.Delivery.{AreKept, AreWritten, Delivers, IsOpenLine, Waits, WritesDue, ends_line, most_steps}
-use Rattle.vax_machine.specs.Writing.{Passed, Passes, held_in, listed_by, sent_by}
+use Rattle.vax_machine.specs.Delivery.{Delivers, IsOpenLine, Waits, WritesDue, ends_line}
+use Rattle.vax_machine.specs.Writing.{Passed, Passes, held_in, sent_by}
 use Rattle.vax_machine.specs.declared.event.Fault.{Fault}
 use Rattle.vax_machine.specs.declared.held.Held.{Held}
 

@@ -19,7 +19,7 @@ use Rattle.vax_machine.specs.Paged.{Paged}
 use Rattle.vax_machine.specs.Residence.{victim}
 use Rattle.vax_machine.specs.Touched.{PinsTouched}
 use Rattle.vax_machine.specs.Turn.{AttemptsCut, AttemptsDone, AttemptsFollow, AttemptsLost, Finishes, Follows, HasGone, HasServed, IsServed, IsUnserved, ServesAndLists, attempted_times}
-use Rattle.vax_machine.specs.Writing.{Counts, Origin, Passed, Passes, Puts, held_in, listed_by, sent_by}
+use Rattle.vax_machine.specs.Writing.{Counts, Origin, Passed, Passes, Puts, held_in, listed_by}
 use Rattle.vax_machine.specs.declared.engine.Engine.{Engine}
 use Rattle.vax_machine.specs.declared.event.Applied.{Applied}
 use Rattle.vax_machine.specs.declared.event.Applied.TheVariants.{Absent, Failed, Served}

@@ -1,5 +1,5 @@
 -- When the bytes that a run holds back are written: behind each line feed, and no later than 1,000,000 steps after they were sent.
-use Rattle.std.specs.Prelude.{ℕ, ◌≡◌, ◌≤◌, ◌<◌, ◌+◌, ◌==◌, ◌⊎◌, Bool, true, false, Option, Some, None, List, [], ◌++◌, length}
+use Rattle.std.specs.Prelude.{ℕ, ◌≡◌, ◌≤◌, ◌<◌, ◌+◌, ◌==◌, ◌⊎◌, Bool, false, Option, Some, None, List, [], ◌++◌, length}
 use Rattle.std.specs.List.{list_any}
 use Rattle.vax_outside.specs.Channels.{Channels, Grew}
 use Rattle.vax_machine.specs.declared.held.Held.{Held}

@@ -385,8 +385,8 @@ impl Machine {
         requires few { length cells.old < 2 ^ 32 }
         ensures len { length cells.new ≡ length cells.old }
         ensures none { OnOk result (AreShown (keeping (engine self.old)).areas addr cells.new) }
-        ensures bytes { OnOk result
-            (ShowsMemory (engine self.old) (F.contents file.old) addr (length cells.old) cells.new) }
+        ensures bytes { OnOk result (ShowsMemory (engine self.old) (F.contents file.old)
+            addr (length cells.old) cells.new) }
         ensures cpu { (engine self.new).cpu ≡ (engine self.old).cpu }
         ensures keeps { keeping (engine self.new) ≡ keeping (engine self.old) }
         ensures same { memory_of self.new ≡ memory_of self.old }

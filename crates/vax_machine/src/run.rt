@@ -57,7 +57,8 @@ impl Engine {
             (listed_by held.old.listed (self.now.turns + 1) evicted) (held_in held.new)
             (K.contents sink.old) (K.contents sink.new) }
         ensures delivers { (since : ℕ) → since ≤ self.now.steps → OnOk result
-            (Delivers since self.now.steps held.old held.new (K.contents sink.old) (K.contents sink.new)) }
+            (Delivers since self.now.steps held.old held.new
+            (K.contents sink.old) (K.contents sink.new)) }
         ensures writes { StillWrites held.old held.new (K.contents sink.old) (K.contents sink.new) }
         ensures counts { (file : Failures)
             → Counts result file file (K.faults sink.old) (K.faults sink.new) }
@@ -251,7 +252,8 @@ impl Engine {
             (underway_of self.new (F.contents file.new) (K.contents sink.new) held.new) }
         ensures follows { KeepsRun self.old (F.contents file.old) self.new (F.contents file.new) }
         ensures delivers { (since : ℕ) → since ≤ self.old.steps → OnOk result
-            (Delivers since self.new.steps held.old held.new (K.contents sink.old) (K.contents sink.new)) }
+            (Delivers since self.new.steps held.old held.new
+            (K.contents sink.old) (K.contents sink.new)) }
         ensures writes { StillWrites held.old held.new (K.contents sink.old) (K.contents sink.new) }
         ensures counts { Counts result (F.faults file.old) (F.faults file.new) (K.faults sink.old)
             (K.faults sink.new) }

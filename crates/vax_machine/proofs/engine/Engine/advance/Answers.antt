@@ -1,4 +1,4 @@
-use Rattle.std.proofs.Common.{◌+◌, arith, ap, refl, ◌∙◌}
+use Rattle.std.proofs.Common.{arith, ap, refl, ◌∙◌}
 use Rattle.vax_pager.specs.Meaning.{pages}
 use Rattle.vax_pager.proofs.Told.{pager_is}
 use Rattle.vax_machine.proofs.Batches.{has_advanced, sound_behind, wanted_sound}
