@@ -36,7 +36,7 @@ pub plain : {P : Type 0} (view : P → View) (trail : P → Trail) (tree : State
 plain view trail tree r old new exact = follows (tree (present view old).state) (traced view trail old) (told new r) (traced view trail new) exact
 
 -- the writes by which a log is undone
-write_of : Kept → Entry → List Made
+abbrev write_of : Kept → Entry → List Made
 write_of kept.Register e = []
 write_of kept.Stack e = []
 write_of kept.Requests e = []
@@ -45,7 +45,7 @@ write_of kept.Taken e = []
 write_of kept.Sent e = []
 write_of kept.Bytes e = writing e.addr (low_bytes e.number e.old) ∷ []
 
-writes_of : List Entry → List Made
+abbrev writes_of : List Entry → List Made
 writes_of [] = []
 writes_of (e ∷ es) = writes_of es ++ write_of e.kept e
 
