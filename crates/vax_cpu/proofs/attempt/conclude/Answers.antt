@@ -62,11 +62,11 @@ returns-in-Absent-clause-traces g c = λ old tree follows.
     let mid = traced g.P.Port.view g.P.Port.trail c.args.txn in
     let why : c.args.txn.why ≡ cut.Absent c.in-Absent.page = sym c.why-why.ensures ∙ c.in-Absent.is in
     stopped tree old mid _ (cut.Absent c.in-Absent.page) c.args.txn.log.now.entries.items
-    (subst (λ (x : Cut). FollowsTraced (tree old.state) old (Err x) mid) why (subst (λ w. FollowsTraced (tree old.state) old (told c.args.txn w) mid) c.in-Err.is follows)) c.unwind.ensures.trail
+    (subst (λ (x : Cut). FollowsTraced (tree old.state) old (Err x) mid) why (subst (λ w. FollowsTraced (tree old.state) old (told c.args.txn w) mid) c.in-Err.is follows)) c.unwind-in-Err.ensures.trail
 
 pub returns-in-Event-clause-traces : goal.returns-in-Event-clause-traces
 returns-in-Event-clause-traces g c = λ old tree follows.
     let mid = traced g.P.Port.view g.P.Port.trail c.args.txn in
     let why : c.args.txn.why ≡ cut.Event c.in-Event.exception = sym c.why-why.ensures ∙ c.in-Event.is in
     stopped tree old mid _ (cut.Event c.in-Event.exception) c.args.txn.log.now.entries.items
-    (subst (λ (x : Cut). FollowsTraced (tree old.state) old (Err x) mid) why (subst (λ w. FollowsTraced (tree old.state) old (told c.args.txn w) mid) c.in-Err.is follows)) c.unwind.ensures.trail
+    (subst (λ (x : Cut). FollowsTraced (tree old.state) old (Err x) mid) why (subst (λ w. FollowsTraced (tree old.state) old (told c.args.txn w) mid) c.in-Err.is follows)) c.unwind-in-Err.ensures.trail
