@@ -22,7 +22,7 @@ walked_opened zero rest a met = refl
 walked_opened (suc left) rest a met = by_step left a met (step (names_in a.standing) rest) (λ r. walked_opened left r a met)
 
 -- how a walk begins
-pub started_walk : (dialect : Dialect) (source : List ℕ) (rest : Rest) (s : Standing) (assignments : List Assignment) → rest ≡ started source → s ≡ at_start dialect → assignments ≡ []
+pub started_walk : (dialect : Dialect) (source : List ℕ) (rest : Rest) (s : Standing) (assignments : List Assignment) → rest ≡ started dialect source → s ≡ at_start dialect → assignments ≡ []
     → walked (suc (work rest)) rest (record { standing = s; assignments = assignments }) None ≡ assembled dialect source
 unfolding assembled
 started_walk dialect source rest s assignments e f g = rw (e, f, g) refl

@@ -2,7 +2,7 @@
 use Rattle.std.specs.Prelude.{ℕ, ◌^◌, ◌-◌, Bool, true, false, nat_lt, if◌then◌else◌, List, map, Option, Some, None, Result, Ok, Err}
 use Rattle.std.specs.List.{list_all, list_any}
 use Rattle.vax_asm_data.specs.Data.{Plain, Counted_first, Zero_last, data_stated, addresses_stated, text_stated, space_stated, align_stated, even_stated, odd_stated}
-use Rattle.vax_asm_instruction.specs.Stating.{instruction_stated}
+use Rattle.vax_asm_instruction.specs.Stating.{instruction_stated, reference_stated}
 use Rattle.vax_dialect.specs.declared.Dialect.{Dialect}
 use Rattle.vax_isa.specs.Instructions.{Instruction}
 use Rattle.vax_isa.specs.Rows.{row_of, with_name}
@@ -15,6 +15,7 @@ use Rattle.vax_lex.specs.declared.token.TokenKind.{TokenKind}
 use Rattle.vax_lex.specs.declared.token.TokenKind.TheVariants.{Number}
 use Rattle.vax_macro.specs.declared.error.FaultKind.{FaultKind}
 use Rattle.vax_macro.specs.declared.error.FaultKind.TheVariants as fault
+use Rattle.vax_asm_labels.specs.Functions.{functions_stated}
 use Rattle.vax_asm_labels.specs.Naming.{Assigned, label_stated, assignment_stated, section_stated, entry_stated, names_stated, end_stated}
 use Rattle.vax_asm_first.specs.Faults.{first_of}
 use Rattle.vax_asm_first.specs.Fixups.{Assignment as Waiting}
@@ -73,11 +74,14 @@ directed directive.Text origin line tokens s = text_stated Plain origin line tok
 directed directive.CountedText origin line tokens s = text_stated Counted_first origin line tokens s
 directed directive.ZeroText origin line tokens s = text_stated Zero_last origin line tokens s
 directed (directive.Space size) origin line tokens s = space_stated size origin line tokens s
+directed (directive.Reference size) origin line tokens s = reference_stated size origin line tokens s
 directed directive.Align origin line tokens s = align_stated origin line tokens s
 directed directive.Even origin line tokens s = even_stated tokens s
 directed directive.Odd origin line tokens s = odd_stated tokens s
 directed directive.Global origin line tokens s = names_stated true line tokens s
 directed directive.External origin line tokens s = names_stated false line tokens s
+directed directive.Enable origin line tokens s = functions_stated true line tokens s
+directed directive.Disable origin line tokens s = functions_stated false line tokens s
 directed directive.Listing origin line tokens s = Ok s
 directed directive.End origin line tokens s = end_stated line tokens s
 

@@ -99,4 +99,4 @@ resumed Later a met = ended a met None
 
 -- the module of a source in a dialect, or its first fault
 unfoldable pub assembled : Dialect → List ℕ → Result Module Fault
-assembled dialect source = walked (suc (work (started source))) (started source) (nothing dialect) None
+assembled dialect source = walked (suc (work (started dialect source))) (started dialect source) (nothing dialect) None

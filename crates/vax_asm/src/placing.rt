@@ -18,7 +18,8 @@ use std::alloc::Global;
 use std::rc::Rc;
 use vax_asm_data::{TextForm, addresses, align, data, even, odd, space, text};
 use vax_asm_first::{Assignment, Origin, Refused, Standing, first_of};
-use vax_asm_labels::{assignment, end, entry, label, names, section};
+use vax_asm_instruction::reference;
+use vax_asm_labels::{assignment, end, entry, functions, label, names, section};
 use vax_asm_statement::{Body, Directive, Statement, read_statement, text_of};
 use vax_dialect::Dialect;
 use vax_lex::{Piece, Token};
@@ -64,11 +65,14 @@ fn direct(
         ),
         Directive::ZeroText => text(standing, alloc, origin, line, TextForm::ZeroLast, operands),
         Directive::Space(size) => space(standing, alloc, origin, line, size, operands),
+        Directive::Reference(size) => reference(standing, alloc, origin, line, size, operands),
         Directive::Align => align(standing, alloc, origin, line, operands),
         Directive::Even => even(standing, operands),
         Directive::Odd => odd(standing, operands),
         Directive::Global => names(standing, alloc, line, true, operands),
         Directive::External => names(standing, alloc, line, false, operands),
+        Directive::Enable => functions(standing, alloc, line, true, operands),
+        Directive::Disable => functions(standing, alloc, line, false, operands),
         Directive::Listing => Ok(()),
         Directive::End => end(standing, alloc, line, operands),
     }

@@ -142,7 +142,7 @@ fn module_of(alloc: Global, dialect: Dialect, source: &[u8]) -> Result<Module, F
     ensures module { Fills result (assembled dialect source.now) }
     ensures formed { IfOk result Formed }
 {
-    let Ok(mut expander) = Expander::new(alloc, source) else {
+    let Ok(mut expander) = Expander::new(alloc, dialect, source) else {
         return Err(FillError::NoMemory);
     };
     let Ok(standing) = Standing::new(alloc, dialect) else {

@@ -24,7 +24,7 @@ use Rattle.vax_macro.specs.Rest.{started, work}
 use Rattle.vax_module.specs.declared.Module.{Module}
 
 pub lines_ascend : (source : List ℕ) → Ascend (faults_of Vax source).lines
-lines_ascend source = survey_ascends (suc (work (started source))) (started source) (nothing Vax) None
+lines_ascend source = survey_ascends (suc (work (started Vax source))) (started Vax source) (nothing Vax) None
 
 -- ---- the lines'
 

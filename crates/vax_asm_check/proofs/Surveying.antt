@@ -30,7 +30,7 @@ survey_opened zero rest a ended = refl
 survey_opened (suc left) rest a ended = by_step left a ended (step (names_in a.standing) rest) (λ r. survey_opened left r a ended)
 
 -- how a survey begins
-pub started_survey : (source : List ℕ) (rest : Rest) (a : Assembly) (ended : Option ℕ) (fs : List Fault) → rest ≡ started source → a ≡ nothing Vax → ended ≡ None → fs ≡ []
+pub started_survey : (source : List ℕ) (rest : Rest) (a : Assembly) (ended : Option ℕ) (fs : List Fault) → rest ≡ started Vax source → a ≡ nothing Vax → ended ≡ None → fs ≡ []
     → with_faults fs (survey (suc (work rest)) rest a ended) ≡ survey_of Vax source
 started_survey source rest a ended fs e f g h = rw (e, f, g, h) refl
 

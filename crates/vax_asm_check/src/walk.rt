@@ -10,6 +10,7 @@ use std::alloc::Global;
 use vax_asm_first::Origin;
 use vax_asm_scope::KnownNames;
 use vax_asm_second::Fault;
+use vax_dialect::Dialect;
 use vax_macro::{Expander, MacroError};
 use vax_space::NoMemory;
 
@@ -25,7 +26,7 @@ use vax_space::NoMemory;
 pub fn faults(alloc: Global, source: &[u8], most: usize) -> Result<Vec<Fault>, NoMemory>
     ensures { IfOk result (λ v. AreFirst most v.items (faults_of Vax source.now)) }
 {
-    let mut expander = Expander::new(alloc, source)?;
+    let mut expander = Expander::new(alloc, Dialect::Vax, source)?;
     let mut survey = Survey::new(alloc)?;
     'statements: loop {
         if survey.faults.len() >= most {

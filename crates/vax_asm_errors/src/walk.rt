@@ -110,7 +110,7 @@ pub(crate) fn statements_of(
     if faults.is_empty() {
         return Ok(all);
     }
-    let mut expander = Expander::new(alloc, source)?;
+    let mut expander = Expander::new(alloc, Dialect::Vax, source)?;
     let mut standing = Standing::new(alloc, Dialect::Vax)?;
     let mut assignments = Vec::new(alloc);
     for _ in 0..MOST_STATEMENTS {

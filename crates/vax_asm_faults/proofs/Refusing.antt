@@ -194,4 +194,4 @@ pub refused_first : (dialect : Dialect) (source : List ℕ) → assembled dialec
 unfolding assembled
 refused_first dialect source =
     let s : Survey = survey_of dialect source in
-    first_is (suc (work (started source))) (started source) (nothing dialect) None (start_known (started source)) ∙ ap (λ (k : Option Origin). answer (first_line (told k None) s.faults) s) no_circle
+    first_is (suc (work (started dialect source))) (started dialect source) (nothing dialect) None (start_known (started dialect source)) ∙ ap (λ (k : Option Origin). answer (first_line (told k None) s.faults) s) no_circle

@@ -81,4 +81,4 @@ survey zero rest a ended = record { faults = []; behind = a; ends = Some None }
 survey (suc left) rest a ended = onward (step (names_in a.standing) rest) a ended (survey left)
 
 abbrev pub survey_of : Dialect → List ℕ → Survey
-survey_of dialect source = survey (suc (work (started source))) (started source) (nothing dialect) None
+survey_of dialect source = survey (suc (work (started dialect source))) (started dialect source) (nothing dialect) None

@@ -1,6 +1,6 @@
 -- What the statements so far leave, and what an expression is where it stands (VAX MACRO and Instruction Set Reference
 -- Manual, "Terms and expressions" and "Location counter").
-use Rattle.std.specs.Prelude.{pos, Bool, ◌&&◌, not, if◌then◌else◌, List, Option, Some, None, Result, Ok, Err}
+use Rattle.std.specs.Prelude.{pos, Bool, false, ◌&&◌, not, if◌then◌else◌, List, Option, Some, None, Result, Ok, Err}
 use Rattle.vax_asm_sections.specs.Layout.{Sections, current_of, at_first}
 use Rattle.vax_asm_sections.specs.declared.types.Refusal.{Refusal}
 use Rattle.vax_dialect.specs.Differences.{has_places_in_operands}
@@ -18,15 +18,17 @@ use Rattle.vax_asm_scope.specs.Used.{uses_place}
 use Rattle.vax_asm_values.specs.Certain.{certain}
 use Rattle.vax_asm_values.specs.Values.{Written, worth, value_of}
 
--- The dialect of the source; the names and their definitions; the sections; and where the program begins, if `.END` has said so.
+-- The dialect of the source; the names and their definitions; whether their block of local labels goes on past labels and
+-- sections; the sections; and where the program begins, if `.END` has said so.
 pub record Standing : Type 0 where
   pub dialect : Dialect
   pub scope : Scope
+  pub keeps_block : Bool
   pub sections : Sections Fixup
   pub transfer : Option Transfer
 
 abbrev pub at_start : Dialect → Standing
-at_start dialect = record { dialect = dialect; scope = nothing; sections = at_first; transfer = None }
+at_start dialect = record { dialect = dialect; scope = nothing; keeps_block = false; sections = at_first; transfer = None }
 
 -- where the next statement stands
 abbrev pub here_in : {F : Type 0} → Sections F → Value

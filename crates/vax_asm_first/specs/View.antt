@@ -52,6 +52,7 @@ abbrev pub standing_of : Standing → standing.Standing
 standing_of s = record {
   dialect = s.dialect;
   scope = scope_of s.scope;
+  keeps_block = s.keeps_block;
   sections = sections_in s.layout;
   transfer = option_map transfer_of s.transfer;
 }

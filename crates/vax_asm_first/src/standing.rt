@@ -50,6 +50,7 @@ impl Standing {
         Ok(Standing {
             dialect,
             scope: Scope::new(alloc),
+            keeps_block: false,
             layout,
             transfer: None,
         })

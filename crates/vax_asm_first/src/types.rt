@@ -75,6 +75,8 @@ pub struct Standing {
     pub dialect: Dialect,
     /// The names and their definitions.
     pub scope: Scope,
+    /// Whether their block of local labels goes on past labels and sections.
+    pub keeps_block: bool,
     /// The sections.
     pub layout: Layout<Fixup>,
     /// Where the program begins, once `.END` says so.

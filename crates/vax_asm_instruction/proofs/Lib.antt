@@ -1,3 +1,4 @@
 pub mod Back
 pub mod Left
+pub mod Referring
 pub mod Stepping

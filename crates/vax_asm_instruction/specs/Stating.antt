@@ -1,6 +1,7 @@
 -- Instructions as statements (VAX MACRO and Instruction Set Reference Manual, "VAX MACRO source statement format" and "Addressing modes").
 use Rattle.std.specs.Prelude.{ℕ, ◌+◌, pos, Bool, true, false, ◌==◌, if◌then◌else◌, List, [], ◌∷◌, length, Option, Some, None, Result, Ok, Err}
 use Rattle.vax_dialect.specs.declared.Dialect.{Dialect}
+use Rattle.vax_isa.specs.declared.Letter.TheVariants.{Read}
 use Rattle.vax_isa.specs.declared.OperandKind.{OperandKind}
 use Rattle.vax_isa.specs.Rows.{Plain}
 use Rattle.vax_lex.specs.Grammar.{symbols_of}
@@ -25,6 +26,8 @@ use Rattle.vax_asm_scope.specs.Scope.{Scope}
 use Rattle.vax_asm_statement.specs.Modes as modes
 use Rattle.vax_asm_statement.specs.Parts.{parts}
 use Rattle.vax_asm_instruction.specs.declared.placing.Addressed.{Addressed}
+use Rattle.vax_word.specs.Arithmetic.{bytes_of}
+use Rattle.vax_word.specs.declared.Size.{Size}
 use Rattle.vax_asm_instruction.specs.Placing.{operand_as, has_expression, operand_at, field_at, operand_length}
 
 -- An operand where it stands: how it is addressed, what its field is filled with, and the names then.
@@ -116,3 +119,18 @@ if_counted false p = Err fault.Count
 unfoldable pub instruction_stated : Plain → Origin → List ℕ → List Token → Standing → Result Standing FaultKind
 instruction_stated row origin line tokens s =
     if_counted (length (parts tokens) == row.count) (operands_stated (site_of origin line s) (parts tokens) row.operands (opcode_stated row s)).progress
+
+-- ---- `.REF1`, `.REF2`, `.REF4`, `.REF8`
+
+-- the operand of an instruction that reads so many bytes
+abbrev pub read_of : Size → OperandKind
+read_of size = record { letter = Read; width = bytes_of size }
+
+abbrev pub reference_by : Size → Site → List (List Token) → Standing → Result Standing FaultKind
+reference_by size site [] s = Err fault.Count
+reference_by size site (one ∷ []) s = done (operand_stated site (read_of size) one (current_of s.sections).size s).progress
+reference_by size site (one ∷ two ∷ more) s = Err fault.Count
+
+-- one operand, without an opcode before it
+unfoldable pub reference_stated : Size → Origin → List ℕ → List Token → Standing → Result Standing FaultKind
+reference_stated size origin line tokens s = reference_by size (site_of origin line s) (parts tokens) s

@@ -1,10 +1,13 @@
 //! The statements of instructions (VAX MACRO and Instruction Set Reference Manual, "Addressing modes").
 //!
 //! [`instruction`] reads the operands between commas, and leaves in the current section the opcode and a field for each
-//! operand, to be filled in once all names have values. The bytes are then read back as the instruction.
+//! operand, to be filled in once all names have values. The bytes are then read back as the instruction. [`reference`] leaves
+//! an operand alone.
 #![tactic(auto)]
 
 mod placing;
+mod references;
 mod statement;
 
+pub use references::reference;
 pub use statement::instruction;

@@ -37,9 +37,9 @@ struct Prepared {
 
 /// The operands so far: where the next one begins, and the fault that counts, if one of them has any.
 #[derive(Clone, Copy)]
-struct Reached {
-    at: u32,
-    fault: Option<FaultKind>,
+pub(crate) struct Reached {
+    pub(crate) at: u32,
+    pub(crate) fault: Option<FaultKind>,
 }
 
 /// `.` may not stand in an operand, unless the dialect allows it.
@@ -192,7 +192,7 @@ fn site_for<'a>(standing: &Standing, site: Site<'a>, at: u32) -> Result<Site<'a>
 }
 
 /// One operand.
-fn state_operand(
+pub(crate) fn state_operand(
     standing: &mut Standing,
     alloc: Global,
     site: Site<'_>,

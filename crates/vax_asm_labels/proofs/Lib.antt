@@ -5,3 +5,4 @@ pub mod Listing
 pub mod Parts
 pub mod Selecting
 pub mod Spelled
+pub mod Switching

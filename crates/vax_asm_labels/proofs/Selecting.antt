@@ -11,12 +11,11 @@ use Rattle.vax_asm_sections.specs.declared.types.Layout.{Layout}
 use Rattle.vax_asm_sections.specs.declared.types.Refusal.{Refusal}
 use Rattle.vax_asm_sections.specs.declared.types.Refusal.TheVariants.{Conflict}
 use Rattle.vax_macro.specs.declared.error.FaultKind.TheVariants as fault
-use Rattle.vax_asm_labels.specs.Naming.{chosen}
+use Rattle.vax_asm_labels.specs.Naming.{chosen, next_block}
 use Rattle.vax_asm_first.specs.Fixups as specs
 use Rattle.vax_asm_first.specs.Standing.{Standing}
 use Rattle.vax_asm_first.specs.View.{section_seen, sections_in, sections_seen}
 use Rattle.vax_asm_first.specs.declared.types.Fixup.{Fixup}
-use Rattle.vax_asm_scope.specs.Scope.{begun_block}
 
 abbrev seen : Result (Sections Fixup) Refusal → Result (Sections specs.Fixup) Refusal
 seen (Ok s) = Ok (sections_seen s)
@@ -44,7 +43,7 @@ selected_both name a s = begun_seen name a s (numbered 0 name s.all) ∙ ap (beg
 
 -- what stands with these sections
 abbrev with : Standing → Sections specs.Fixup → Standing
-with s sections = record s { scope = begun_block s.scope; sections = sections }
+with s sections = record s { scope = next_block s.keeps_block s.scope; sections = sections }
 
 pub select_stands : (name : List ℕ) (a : Attributes) (s : Standing) (l m : Layout Fixup) → selected name a (sections_of l) ≡ Ok (sections_of m)
     → chosen s (selected name a (sections_in l)) ≡ Ok (with s (sections_in m))

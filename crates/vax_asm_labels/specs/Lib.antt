@@ -1,3 +1,4 @@
+pub mod Functions
 pub mod Naming
 pub mod View
 pub mod Within

@@ -65,13 +65,18 @@ abbrev pub shared : Bool → List ℕ → Scope → Scope
 shared true name s = made_global name s
 shared false name s = s
 
+-- a block of local labels begins, unless the one before goes on
+abbrev pub next_block : Bool → Scope → Scope
+next_block true s = s
+next_block false s = begun_block s
+
 -- A label that isn't local has the value of the place where it stands, and begins a block of local labels.
-abbrev pub begins : Bool → List ℕ → Result Scope Duplicate → Result Scope Duplicate
-begins global name (Ok s) = Ok (begun_block (shared global name s))
-begins global name (Err e) = Err e
+abbrev pub begins : (keeps global : Bool) → List ℕ → Result Scope Duplicate → Result Scope Duplicate
+begins keeps global name (Ok s) = Ok (next_block keeps (shared global name s))
+begins keeps global name (Err e) = Err e
 
 abbrev pub symbol_stated : Bool → List ℕ → Standing → Result Standing FaultKind
-symbol_stated global name s = defined s (begins global name (labelled name (here_in s.sections) s.scope))
+symbol_stated global name s = defined s (begins s.keeps_block global name (labelled name (here_in s.sections) s.scope))
 
 -- A local label has that value in its block, and is none for other modules.
 abbrev pub local_stated : Bool → List ℕ → Standing → Result Standing FaultKind
@@ -232,7 +237,7 @@ nothing_said = record { align = None; write = None }
 
 -- a section is chosen; a block of local labels begins
 abbrev pub chosen : Standing → Result (Sections Fixup) Refusal → Result Standing FaultKind
-chosen s (Ok sections) = Ok (record s { scope = begun_block s.scope; sections = sections })
+chosen s (Ok sections) = Ok (record s { scope = next_block s.keeps_block s.scope; sections = sections })
 chosen s (Err refusal) = Err fault.Form
 
 abbrev pub section_chosen : Option (List ℕ) → Option Attributes → Standing → Result Standing FaultKind

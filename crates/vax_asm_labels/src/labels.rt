@@ -2,7 +2,7 @@
 
 ghost use Rattle.std.specs.Prelude.{◌≡◌, OnOk, true};
 ghost use Rattle.vax_lex.specs.Tokens.{IsTokenOf};
-ghost use Rattle.vax_asm_labels.specs.Naming.{label_stated, local_stated, named_label, shared, symbol_stated};
+ghost use Rattle.vax_asm_labels.specs.Naming.{label_stated, local_stated, named_label, next_block, shared, symbol_stated};
 ghost use Rattle.vax_asm_first.specs.View.{Alters};
 ghost use Rattle.vax_asm_scope.specs.Kept.{scope_of};
 ghost use Rattle.vax_asm_statement.specs.Tokens.{is_name_token};
@@ -29,6 +29,15 @@ pub(crate) fn share(
     Ok(())
 }
 
+/// Begins a block of local labels, unless the one before goes on.
+pub(crate) fn next_block(scope: &mut Scope, alloc: Global, keeps: bool)
+    ensures { scope_of scope.new ≡ next_block keeps (scope_of scope.old) }
+{
+    if !keeps {
+        scope.begin_block(alloc);
+    }
+}
+
 /// A label that isn't local: it begins a block of local labels. After a fault all is as before.
 pub(crate) fn define(
     standing: &mut Standing,
@@ -49,7 +58,7 @@ pub(crate) fn define(
     let Ok(()) = share(&mut standing.scope, alloc, global, name) else {
         return Err(Refused::NoMemory);
     };
-    standing.scope.begin_block(alloc);
+    next_block(&mut standing.scope, alloc, standing.keeps_block);
     Ok(())
 }
 
@@ -93,7 +102,7 @@ fn define_named(
 }
 
 /// `name:`, and `name::` for other modules: the name has the value of the place where it stands. A local label has it in its
-/// block; every other label begins a block.
+/// block; every other label begins a block, unless that goes on (`.ENABLE LOCAL_BLOCK`).
 ///
 /// [`Refused::Fault`]: `Form` where the name is `.`, or a local label is to be one for other modules; `Duplicate` where the
 /// name is defined already, a local label in its block. All is as before then. [`Refused::NoMemory`] where memory is refused;

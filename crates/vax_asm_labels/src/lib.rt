@@ -2,7 +2,7 @@
 //! Reference Manual, "VAX MACRO source statement format" and "VAX MACRO assembler directives").
 //!
 //! Each call carries out one statement where it stands: [`label`] `name:`, [`assignment`] `name = e`, [`section`] `.PSECT`,
-//! [`entry`] `.ENTRY`, [`names`] `.GLOBAL` and `.EXTERNAL`, and [`end`] `.END`.
+//! [`entry`] `.ENTRY`, [`names`] `.GLOBAL` and `.EXTERNAL`, [`functions`] `.ENABLE` and `.DISABLE`, and [`end`] `.END`.
 #![tactic(auto)]
 
 mod assignments;
@@ -10,8 +10,10 @@ mod entries;
 mod labels;
 mod operands;
 mod sections;
+mod switches;
 
 pub use assignments::assignment;
 pub use entries::{end, entry, names};
 pub use labels::label;
 pub use sections::section;
+pub use switches::functions;

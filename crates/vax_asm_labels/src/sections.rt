@@ -11,6 +11,7 @@ ghost use Rattle.vax_asm_statement.specs.Directives.{attribute_of};
 ghost use Rattle.vax_asm_statement.specs.Items.{name_alone};
 ghost use Rattle.vax_asm_statement.specs.Parts.{parts};
 
+use crate::labels::next_block;
 use crate::operands::name_of;
 use std::alloc::Global;
 use std::str;
@@ -172,7 +173,7 @@ fn choose(
         Err(Refusal::NoMemory) => return Err(Refused::NoMemory),
         Err(Refusal::Conflict | Refusal::TooLong) => return Err(Refused::Fault(FaultKind::Form)),
     }
-    standing.scope.begin_block(alloc);
+    next_block(&mut standing.scope, alloc, standing.keeps_block);
     Ok(())
 }
 

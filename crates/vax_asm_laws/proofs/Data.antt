@@ -40,7 +40,7 @@ IsCounted s = AreCounted s.sections
 
 pub with_sections_goes : (s t : Standing) (r : Result (Sections Fixup) Refusal) → ((u : Sections Fixup) → r ≡ Ok u → Step s.sections u) → with_sections s r ≡ Ok t → Goes s t
 with_sections_goes s t (Ok u) h e =
-    let same : u ≡ t.sections = ap (λ (x : Standing). x.sections) (let all : record { dialect = s.dialect; scope = s.scope; sections = u; transfer = s.transfer } ≡ t = cc in all) in
+    let same : u ≡ t.sections = ap (λ (x : Standing). x.sections) (let all : record { dialect = s.dialect; scope = s.scope; keeps_block = s.keeps_block; sections = u; transfer = s.transfer } ≡ t = cc in all) in
     subst (λ (x : Sections Fixup). Step s.sections x) same (h u refl)
 with_sections_goes s t (Err refusal) h e = cc
 

@@ -18,8 +18,11 @@ use Rattle.vax_asm_first.specs.Standing.{Standing, here_at, here_in, misplaces, 
 use Rattle.vax_asm_first.specs.declared.types.Origin.{Origin}
 use Rattle.vax_asm_instruction.specs.Placing.{has_expression, operand_as, operand_at}
 use Rattle.vax_asm_instruction.specs.Stating as instruction
-use Rattle.vax_asm_instruction.specs.Stating.{Reached, fault_at, if_counted, instruction_stated, opcode_stated, operand_stated, operands_stated, prepared, site_for}
-use Rattle.vax_asm_labels.specs.Naming.{appears, assigned_by, assignment_stated, attributes_from, begins, begins_at, chosen, defined, end_by, end_stated, entry_named, entry_stated, is_place, label_stated, local_stated, name_assigned, name_in, name_of, named, names_from, names_stated, nothing_said, not_assigned, section_by, section_chosen, section_stated, moved_to, place_assigned, place_moved, shared, target, unnamed_chosen, without_waiting, symbol_stated, two_alone, with_name}
+use Rattle.vax_asm_instruction.specs.Stating.{Reached, fault_at, if_counted, instruction_stated, opcode_stated, operand_stated, operands_stated, prepared, read_of, reference_by, reference_stated, site_for}
+use Rattle.vax_asm_labels.specs.Functions.{all_switched, function_at, functions_stated, switched, then_switched}
+use Rattle.vax_asm_labels.specs.declared.switches.Function.{Function}
+use Rattle.vax_asm_labels.specs.declared.switches.Function.TheVariants.{Idle, Always, Never, LongBlocks}
+use Rattle.vax_asm_labels.specs.Naming.{next_block, appears, assigned_by, assignment_stated, attributes_from, begins, begins_at, chosen, defined, end_by, end_stated, entry_named, entry_stated, is_place, label_stated, local_stated, name_assigned, name_in, name_of, named, names_from, names_stated, nothing_said, not_assigned, section_by, section_chosen, section_stated, moved_to, place_assigned, place_moved, shared, target, unnamed_chosen, without_waiting, symbol_stated, two_alone, with_name}
 use Rattle.vax_asm_labels.specs.Naming as naming
 use Rattle.vax_asm_names.specs.Names as table
 use Rattle.vax_asm_names.specs.declared.types.Duplicate.{Duplicate}
@@ -163,9 +166,13 @@ shared_lasts : (global : Bool) (name : List ℕ) (s : Scope) → Lasts s (shared
 shared_lasts true name s = entry_lasts name s
 shared_lasts false name s = stay_same s.sources
 
-begins_in : (global : Bool) (name : List ℕ) (s : Scope) (r : Result Scope Duplicate) → ScopeIn s r → ScopeIn s (begins global name r)
-begins_in global name s (Ok t) h = stay_then s.sources t.sources (shared global name t).sources h (shared_lasts global name t)
-begins_in global name s (Err e) h = tt
+block_lasts : (keeps : Bool) (s t : Scope) → Lasts s t → Lasts s (next_block keeps t)
+block_lasts true s t h = h
+block_lasts false s t h = h
+
+begins_in : (keeps global : Bool) (name : List ℕ) (s : Scope) (r : Result Scope Duplicate) → ScopeIn s r → ScopeIn s (begins keeps global name r)
+begins_in keeps global name s (Ok t) h = block_lasts keeps s (shared global name t) (stay_then s.sources t.sources (shared global name t).sources h (shared_lasts global name t))
+begins_in keeps global name s (Err e) h = tt
 
 -- ---- what statements leave
 
@@ -340,7 +347,7 @@ odd_in (t ∷ tokens) s = tt
 -- ---- sections, entries, names, the end
 
 chosen_in : (s : Standing) (r : Result (Sections Fixup) Refusal) → StandIn s (chosen s r)
-chosen_in s (Ok x) = stay_same s.scope.sources
+chosen_in s (Ok x) = block_lasts s.keeps_block s.scope s.scope (stay_same s.scope.sources)
 chosen_in s (Err e) = tt
 
 section_in_by : (name : Option (List ℕ)) (a : Option Attributes) (s : Standing) → StandIn s (section_chosen name a s)
@@ -358,7 +365,7 @@ section_in line [] s = unnamed_in (has_unnamed_psect s.dialect) s
 section_in line (name ∷ attributes) s = section_in_by (name_of line name) (attributes_from s.dialect line attributes (Some nothing_said)) s
 
 symbol_in : (global : Bool) (name : List ℕ) (s : Standing) → StandIn s (symbol_stated global name s)
-symbol_in global name s = defined_in s (begins global name (labelled name (here_in s.sections) s.scope)) (begins_in global name s.scope (labelled name (here_in s.sections) s.scope) (labelled_lasts name (here_in s.sections) s.scope))
+symbol_in global name s = defined_in s (begins s.keeps_block global name (labelled name (here_in s.sections) s.scope)) (begins_in s.keeps_block global name s.scope (labelled name (here_in s.sections) s.scope) (labelled_lasts name (here_in s.sections) s.scope))
 
 entry_in : (site : Site) (name : Option (List ℕ)) (mask : List Token) (s : Standing) → StandIn s (entry_named site name mask s)
 entry_in site (Some name) mask s =
@@ -445,10 +452,34 @@ instruction_in row origin line tokens s =
     counted_in (length (parts tokens) == row.count) s last.progress
     (stay_then s.scope.sources first.progress.standing.scope.sources last.progress.standing.scope.sources (added_lasts _ _ s) (operands_last (site_of origin line s) (parts tokens) row.operands first))
 
+reference_in : (k : Size) (site : Site) (found : List (List Token)) (s : Standing) → StandIn s (reference_by k site found s)
+reference_in k site [] s = tt
+reference_in k site (o ∷ []) s =
+    let one : Reached = operand_stated site (read_of k) o (current_of s.sections).size s in
+    done_in s one.progress (operand_lasts site (read_of k) o (current_of s.sections).size s)
+reference_in k site (o ∷ p ∷ more) s = tt
+
 -- ---- statements
 
+switched_in : (on : Bool) (f : Option Function) (s : Standing) → StandIn s (switched on f s)
+switched_in on None s = tt
+switched_in on (Some Idle) s = stay_same s.scope.sources
+switched_in true (Some Always) s = stay_same s.scope.sources
+switched_in false (Some Always) s = tt
+switched_in true (Some Never) s = tt
+switched_in false (Some Never) s = stay_same s.scope.sources
+switched_in on (Some LongBlocks) s = block_lasts (not on) s.scope s.scope (stay_same s.scope.sources)
+
+then_in : (on : Bool) (f : Option Function) (s : Standing) (r : Result Standing FaultKind) → StandIn s r → StandIn s (then_switched on f r)
+then_in on f s (Ok t) h = stand_then s t (switched on f t) h (switched_in on f t)
+then_in on f s (Err kind) h = tt
+
+all_in : (on : Bool) (line : List ℕ) (found : List (List Token)) (s : Standing) (r : Result Standing FaultKind) → StandIn s r → StandIn s (all_switched on line found r)
+all_in on line [] s r h = h
+all_in on line (part ∷ found) s r h = all_in on line found s (then_switched on (function_at line part) r) (then_in on (function_at line part) s r h)
+
 directed_in : (d : Directive) (origin : Origin) (line : List ℕ) (tokens : List Token) (s : Standing) → StandIn s (directed d origin line tokens s)
-unfolding section_stated entry_stated data_stated addresses_stated text_stated space_stated align_stated names_stated end_stated
+unfolding section_stated entry_stated data_stated addresses_stated text_stated space_stated reference_stated align_stated names_stated functions_stated end_stated
 directed_in directive.Section origin line tokens s = section_in line (parts tokens) s
 directed_in directive.Entry origin line tokens s = two_in (parts tokens) s _ (λ name mask. entry_in (site_of origin line s) (name_of line name) mask s)
 directed_in (directive.Data kind) origin line tokens s =
@@ -461,6 +492,7 @@ directed_in directive.ZeroText origin line tokens s = none_in tokens s _ (text_i
 directed_in (directive.Space k) origin line tokens s =
     most_in (parts tokens) s (λ count. room_by k (site_of origin line s) count s)
     (λ o. let c = counted (site_of origin line s) o s.scope in stand_then s (with_scope c.scope s) (room k (with_scope c.scope s) c.number) (counted_lasts (site_of origin line s) o s.scope) (room_in k (with_scope c.scope s) c.number))
+directed_in (directive.Reference k) origin line tokens s = reference_in k (site_of origin line s) (parts tokens) s
 directed_in directive.Align origin line tokens s =
     one_or_two_in (parts tokens) s (λ one. align_by (site_of origin line s) one s) (λ one byte. fill_where (has_further_directives s.dialect) (site_of origin line s) one byte s)
     (λ one. let c = boundary (site_of origin line s) one (boundary_named line one) s.scope in
@@ -470,6 +502,8 @@ directed_in directive.Even origin line tokens s = even_in tokens s
 directed_in directive.Odd origin line tokens s = odd_in tokens s
 directed_in directive.Global origin line tokens s = none_in tokens s _ (named_in s (names_from true line (parts tokens) (Some s.scope)) (names_in true line (parts tokens) s.scope (Some s.scope) (stay_same s.scope.sources)))
 directed_in directive.External origin line tokens s = none_in tokens s _ (named_in s (names_from false line (parts tokens) (Some s.scope)) (names_in false line (parts tokens) s.scope (Some s.scope) (stay_same s.scope.sources)))
+directed_in directive.Enable origin line tokens s = none_in tokens s _ (all_in true line (parts tokens) s (Ok s) (stay_same s.scope.sources))
+directed_in directive.Disable origin line tokens s = none_in tokens s _ (all_in false line (parts tokens) s (Ok s) (stay_same s.scope.sources))
 directed_in directive.Listing origin line tokens s = stay_same s.scope.sources
 directed_in directive.End origin line tokens s = end_in line (parts tokens) s
 

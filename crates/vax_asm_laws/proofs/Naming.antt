@@ -10,12 +10,15 @@ use Rattle.vax_lex.specs.declared.token.Token.{Token}
 use Rattle.vax_macro.specs.declared.error.FaultKind.{FaultKind}
 use Rattle.vax_macro.specs.declared.error.FaultKind.TheVariants as fault
 use Rattle.vax_asm_names.specs.declared.types.Duplicate.{Duplicate}
-use Rattle.vax_asm_labels.specs.Naming.{moved_to, place_assigned, target, unnamed_chosen, without_waiting, assigned_by, assignment_stated, attributes_from, begins, begins_at, chosen, defined, end_by, end_stated, entry_named, entry_stated, fault_of, is_place, label_stated, local_stated, name_assigned, name_in, name_of, named, names_from, names_stated, not_assigned, nothing_said, section_by, section_chosen, section_stated, shared, symbol_stated, two_alone}
+use Rattle.vax_asm_labels.specs.Functions.{all_switched, function_at, functions_stated, switched, then_switched}
+use Rattle.vax_asm_labels.specs.declared.switches.Function.{Function}
+use Rattle.vax_asm_labels.specs.declared.switches.Function.TheVariants.{Idle, Always, Never, LongBlocks}
+use Rattle.vax_asm_labels.specs.Naming.{next_block, moved_to, place_assigned, target, unnamed_chosen, without_waiting, assigned_by, assignment_stated, attributes_from, begins, begins_at, chosen, defined, end_by, end_stated, entry_named, entry_stated, fault_of, is_place, label_stated, local_stated, name_assigned, name_in, name_of, named, names_from, names_stated, not_assigned, nothing_said, section_by, section_chosen, section_stated, shared, symbol_stated, two_alone}
 use Rattle.vax_asm_first.specs.Fixups.{Fixup}
 use Rattle.vax_asm_first.specs.Progress.{Progress, Site, after_change, joined, site_of}
 use Rattle.vax_asm_first.specs.Standing.{Standing, Told, here_in, told, with_scope}
 use Rattle.vax_asm_first.specs.declared.types.Origin.{Origin}
-use Rattle.vax_asm_scope.specs.Scope.{Scope, assigned, begun_block, entry, is_local, labelled, labelled_locally}
+use Rattle.vax_asm_scope.specs.Scope.{Scope, assigned, entry, is_local, labelled, labelled_locally}
 use Rattle.vax_asm_statement.specs.Items.{whole}
 use Rattle.vax_asm_statement.specs.Parts.{parts}
 use Rattle.vax_asm_statement.specs.declared.reading.Label.{Label}
@@ -40,7 +43,7 @@ defined_goes s t (Ok scope) c e = same_goes s t (with_scope scope s) c refl e
 defined_goes s t (Err x) c e = cc
 
 pub symbol_goes : (global : Bool) (name : List ℕ) (s t : Standing) → IsCounted s → symbol_stated global name s ≡ Ok t → Goes s t
-symbol_goes global name s t c e = defined_goes s t (begins global name (labelled name (here_in s.sections) s.scope)) c e
+symbol_goes global name s t c e = defined_goes s t (begins s.keeps_block global name (labelled name (here_in s.sections) s.scope)) c e
 
 local_goes : (global : Bool) (name : List ℕ) (s t : Standing) → IsCounted s → local_stated global name s ≡ Ok t → Goes s t
 local_goes true name s t c e = cc
@@ -98,7 +101,7 @@ assignment_goes origin line name global tokens s t c e =
 
 chosen_goes : (s t : Standing) (r : Result (Sections Fixup) Refusal) → ((u : Sections Fixup) → r ≡ Ok u → Step s.sections u) → chosen s r ≡ Ok t → Goes s t
 chosen_goes s t (Ok u) h e =
-    let made : record { dialect = s.dialect; scope = begun_block s.scope; sections = u; transfer = s.transfer } ≡ t = cc in
+    let made : record { dialect = s.dialect; scope = next_block s.keeps_block s.scope; keeps_block = s.keeps_block; sections = u; transfer = s.transfer } ≡ t = cc in
     subst (λ (x : Standing). Goes s x) made (h u refl)
 chosen_goes s t (Err refusal) h e = cc
 
@@ -150,6 +153,30 @@ pub names_go : (global : Bool) (line : List ℕ) (tokens : List Token) (s t : St
 unfolding names_stated
 names_go global line tokens s t c e =
     unless_none_goes tokens (named s (names_from global line (parts tokens) (Some s.scope))) s t (named_goes s t (names_from global line (parts tokens) (Some s.scope)) c) e
+
+switched_goes : (on : Bool) (f : Option Function) (s t : Standing) → IsCounted s → switched on f s ≡ Ok t → Goes s t
+switched_goes on None s t c e = cc
+switched_goes on (Some Idle) s t c e = same_goes s t s c refl e
+switched_goes true (Some Always) s t c e = same_goes s t s c refl e
+switched_goes false (Some Always) s t c e = cc
+switched_goes true (Some Never) s t c e = cc
+switched_goes false (Some Never) s t c e = same_goes s t s c refl e
+switched_goes on (Some LongBlocks) s t c e = same_goes s t (record s { scope = next_block (not on) s.scope; keeps_block = on }) c refl e
+
+then_goes : (on : Bool) (f : Option Function) (s t : Standing) (r : Result Standing FaultKind) → ((u : Standing) → r ≡ Ok u → Goes s u) → then_switched on f r ≡ Ok t → Goes s t
+then_goes on f s t (Ok u) h e = let first : Goes s u = h u refl in step_then s.sections u.sections t.sections first (switched_goes on f u t first.counted e)
+then_goes on f s t (Err kind) h e = cc
+
+all_switched_go : (on : Bool) (line : List ℕ) (found : List (List Token)) (s t : Standing) (r : Result Standing FaultKind) → ((u : Standing) → r ≡ Ok u → Goes s u) → all_switched on line found r ≡ Ok t → Goes s t
+all_switched_go on line [] s t r h e = h t e
+all_switched_go on line (part ∷ found) s t r h e =
+    all_switched_go on line found s t (then_switched on (function_at line part) r) (λ u made. then_goes on (function_at line part) s u r h made) e
+
+pub functions_go : (on : Bool) (line : List ℕ) (tokens : List Token) (s t : Standing) → IsCounted s → functions_stated on line tokens s ≡ Ok t → Goes s t
+unfolding functions_stated
+functions_go on line tokens s t c e =
+    unless_none_goes tokens (all_switched on line (parts tokens) (Ok s)) s t
+    (all_switched_go on line (parts tokens) s t (Ok s) (λ u made. same_goes s u s c refl made)) e
 
 begins_goes : (name : Option (List ℕ)) (s t : Standing) → IsCounted s → begins_at name s ≡ Ok t → Goes s t
 begins_goes (Some name) s t c e = subst (λ (x : Sections Fixup). Step s.sections x) (ap (λ (r : Result Standing FaultKind). sections_in r s) e) (step_same s.sections c)

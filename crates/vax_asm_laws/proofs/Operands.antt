@@ -7,14 +7,16 @@ use Rattle.vax_asm_encode.specs.Operands.{may_stand, takes_branch}
 use Rattle.vax_asm_encode.specs.declared.operand.Operand.{Operand}
 use Rattle.vax_asm_encode.specs.declared.operand.Operand.TheVariants as operand
 use Rattle.vax_asm_instruction.proofs.Back.{operand_is_long}
+use Rattle.vax_asm_instruction.proofs.Referring.{read_kind}
 use Rattle.vax_asm_instruction.specs.Placing.{if_stands, operand_as, operand_at, operand_length, specifier_length}
-use Rattle.vax_asm_instruction.specs.Stating.{Prepared, Reached, behind, fault_at, fixed, fixup_at, if_counted, instruction_stated, opcode_stated, operand_stated, operands_stated, placed, prepared, site_for}
+use Rattle.vax_asm_instruction.specs.Stating.{Prepared, Reached, behind, fault_at, fixed, fixup_at, if_counted, instruction_stated, opcode_stated, operand_stated, operands_stated, placed, prepared, read_of, reference_by, reference_stated, site_for}
 use Rattle.vax_isa.specs.Rows.{IsFormed, IsKind, Plain}
 use Rattle.vax_isa.specs.declared.OperandKind.{OperandKind}
 use Rattle.vax_asm_sections.specs.Layout.{Bytes, Field as Kept, Part, Sections, current_of, exceeds, longer, put, unnamed, with_part}
 use Rattle.vax_asm_sections.specs.declared.types.Refusal.TheVariants.{TooLong}
 use Rattle.vax_lex.specs.declared.token.Token.{Token}
 use Rattle.vax_macro.specs.declared.error.FaultKind.{FaultKind}
+use Rattle.vax_word.specs.declared.Size.{Size}
 use Rattle.vax_asm_first.specs.Faults.{lowest}
 use Rattle.vax_asm_first.specs.Fixups.{Filling, Fixup}
 use Rattle.vax_asm_first.specs.Progress.{Progress, Site, added, after_change, done, done_by, site_of}
@@ -142,3 +144,17 @@ instruction_goes row origin line tokens s t formed c e =
     let begun : Fine s first = added_fine 1 (Bytes (row.code ∷ [])) s c refl tt tt (none_before site (parts tokens) row.operands first stated.0) in
     let fine : Fine s last = operands_fine site (parts tokens) row.operands s first are begun stated.0 in
     subst (λ (x : Standing). Goes s x) stated.1 fine.goes
+
+reference_goes_by : (size : Size) (site : Site) (found : List (List Token)) (s t : Standing) → IsCounted s → reference_by size site found s ≡ Ok t → Goes s t
+reference_goes_by size site [] s t c e = cc
+reference_goes_by size site (o ∷ []) s t c e =
+    let at : ℕ = (current_of s.sections).size in
+    let one : Reached = operand_stated site (read_of size) o at s in
+    let stated = done_ok one.progress.fault one.progress.standing t e in
+    let fine : Fine s one = one_fine site (read_of size) o at s (read_kind size (read_of size) refl) c refl stated.0 in
+    subst (λ (x : Standing). Goes s x) stated.1 fine.goes
+reference_goes_by size site (o ∷ p ∷ more) s t c e = cc
+
+pub reference_goes : (size : Size) (origin : Origin) (line : List ℕ) (tokens : List Token) (s t : Standing) → IsCounted s → reference_stated size origin line tokens s ≡ Ok t → Goes s t
+unfolding reference_stated
+reference_goes size origin line tokens s t c e = reference_goes_by size (site_of origin line s) (parts tokens) s t c e

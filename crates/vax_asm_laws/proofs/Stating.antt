@@ -22,8 +22,8 @@ use Rattle.vax_asm_statement.specs.declared.directives.Directive.TheVariants as 
 use Rattle.vax_asm_statement.specs.declared.reading.Label.{Label}
 use Rattle.vax_asm_laws.proofs.Counting.{step_then}
 use Rattle.vax_asm_laws.proofs.Data.{Goes, IsCounted, addresses_go, align_goes, data_goes, even_goes, odd_goes, space_goes, text_goes}
-use Rattle.vax_asm_laws.proofs.Naming.{assignment_goes, end_goes, entry_goes, label_goes, names_go, same_goes, section_goes}
-use Rattle.vax_asm_laws.proofs.Operands.{instruction_goes}
+use Rattle.vax_asm_laws.proofs.Naming.{assignment_goes, end_goes, entry_goes, functions_go, label_goes, names_go, same_goes, section_goes}
+use Rattle.vax_asm_laws.proofs.Operands.{instruction_goes, reference_goes}
 
 directed_goes : (d : Directive) (origin : Origin) (line : List ℕ) (tokens : List Token) (s t : Standing) → IsCounted s → directed d origin line tokens s ≡ Ok t → Goes s t
 directed_goes directive.Section origin line tokens s t c e = section_goes line tokens s t c e
@@ -34,11 +34,14 @@ directed_goes directive.Text origin line tokens s t c e = text_goes Plain origin
 directed_goes directive.CountedText origin line tokens s t c e = text_goes Counted_first origin line tokens s t c e
 directed_goes directive.ZeroText origin line tokens s t c e = text_goes Zero_last origin line tokens s t c e
 directed_goes (directive.Space size) origin line tokens s t c e = space_goes size origin line tokens s t c e
+directed_goes (directive.Reference size) origin line tokens s t c e = reference_goes size origin line tokens s t c e
 directed_goes directive.Align origin line tokens s t c e = align_goes origin line tokens s t c e
 directed_goes directive.Even origin line tokens s t c e = even_goes tokens s t c e
 directed_goes directive.Odd origin line tokens s t c e = odd_goes tokens s t c e
 directed_goes directive.Global origin line tokens s t c e = names_go true line tokens s t c e
 directed_goes directive.External origin line tokens s t c e = names_go false line tokens s t c e
+directed_goes directive.Enable origin line tokens s t c e = functions_go true line tokens s t c e
+directed_goes directive.Disable origin line tokens s t c e = functions_go false line tokens s t c e
 directed_goes directive.Listing origin line tokens s t c e = same_goes s t s c refl e
 directed_goes directive.End origin line tokens s t c e = end_goes line tokens s t c e
 

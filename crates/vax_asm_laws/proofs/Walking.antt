@@ -72,7 +72,7 @@ walked_path (suc left) rest a met m e = onward_path (step (names_in a.standing) 
 
 assembled_path : (dialect : Dialect) (source : List ℕ) (m : Module) → assembled dialect source ≡ Ok m → Path (nothing dialect) m
 unfolding assembled
-assembled_path dialect source m e = walked_path (suc (work (started source))) (started source) (nothing dialect) None m e
+assembled_path dialect source m e = walked_path (suc (work (started dialect source))) (started dialect source) (nothing dialect) None m e
 
 -- ---- what is counted
 

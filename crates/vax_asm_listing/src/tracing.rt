@@ -123,7 +123,7 @@ fn traced(alloc: Global, source: &[u8]) -> Result<Trace, FillError>
     ensures trace { IfOk result IsTrace }
     ensures formed { IfOk result (λ t. Formed t.module) }
 {
-    let Ok(mut expander) = Expander::new(alloc, source) else {
+    let Ok(mut expander) = Expander::new(alloc, Dialect::Vax, source) else {
         return Err(FillError::NoMemory);
     };
     let Ok(standing) = Standing::new(alloc, Dialect::Vax) else {

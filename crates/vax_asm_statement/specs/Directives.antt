@@ -6,7 +6,7 @@ use Rattle.vax_dialect.specs.declared.Dialect.{Dialect}
 use Rattle.vax_word.specs.declared.Size.TheVariants as size
 use Rattle.vax_asm_encode.specs.declared.operand.DataKind.TheVariants.{Number, Signed}
 use Rattle.vax_asm_statement.specs.declared.directives.Directive.{Directive}
-use Rattle.vax_asm_statement.specs.declared.directives.Directive.TheVariants.{Section, Entry, Data, Address, Text, CountedText, ZeroText, Space, Align, Even, Odd, Global, External, Listing, End}
+use Rattle.vax_asm_statement.specs.declared.directives.Directive.TheVariants.{Section, Entry, Data, Address, Text, CountedText, ZeroText, Space, Reference, Align, Even, Odd, Global, External, Enable, Disable, Listing, End}
 use Rattle.vax_asm_statement.specs.declared.directives.Named.{Named}
 use Rattle.vax_asm_statement.specs.declared.directives.Attribute.{Attribute}
 use Rattle.vax_asm_statement.specs.declared.directives.Attribute.TheVariants.{Align as AlignTo, Write, Ignored}
@@ -56,8 +56,16 @@ further_directives =
     (codes ".BLKF", Space size.L)
     ∷ (codes ".BLKD", Space size.Q)
     ∷ (codes ".BLKG", Space size.Q)
+    ∷ (codes ".REF1", Reference size.B)
+    ∷ (codes ".REF2", Reference size.W)
+    ∷ (codes ".REF4", Reference size.L)
+    ∷ (codes ".REF8", Reference size.Q)
     ∷ (codes ".ODD", Odd)
     ∷ (codes ".WEAK", Global)
+    ∷ (codes ".ENABLE", Enable)
+    ∷ (codes ".ENABL", Enable)
+    ∷ (codes ".DISABLE", Disable)
+    ∷ (codes ".DSABL", Disable)
     ∷ (codes ".CROSS", Listing)
     ∷ (codes ".NOCROSS", Listing)
     ∷ (codes ".DEBUG", Listing)

@@ -28,6 +28,8 @@ pub enum Directive {
     ZeroText,
     /// `.BLKB`, `.BLKW`, `.BLKL`, `.BLKA`, `.BLKQ`, `.BLKF`, `.BLKD`, `.BLKG`: room for so many of this size.
     Space(Size),
+    /// `.REF1`, `.REF2`, `.REF4`, `.REF8`: an operand that has so many bytes, without an opcode.
+    Reference(Size),
     /// `.ALIGN`: up to a multiple of a power of two.
     Align,
     /// `.EVEN`: up to a multiple of two.
@@ -38,6 +40,10 @@ pub enum Directive {
     Global,
     /// `.EXTERNAL`, `.EXTRN`: names of other modules.
     External,
+    /// `.ENABLE`, `.ENABL`: functions of the assembler that are wanted.
+    Enable,
+    /// `.DISABLE`, `.DSABL`: those that aren't.
+    Disable,
     /// `.TITLE`, `.SBTTL`, `.SUBTITLE`, `.IDENT`, `.PAGE`, `.LIST`, `.NLIST`, `.SHOW`, `.NOSHOW`, `.CROSS`, `.NOCROSS`, `.DEBUG`,
     /// `.LIBRARY`, `.MCALL`, `.LINK`, `.PRINT`, `.WARN`: nothing in the module.
     Listing,
@@ -96,12 +102,20 @@ fn all_directives() -> &'static [Named; 33]
 
 /// Those of one dialect alone.
 #[rattlefmt::skip]
-static FURTHER_DIRECTIVES: [Named; 13] = [
+static FURTHER_DIRECTIVES: [Named; 21] = [
     Named { name: ".BLKF", directive: Directive::Space(Size::L) },
     Named { name: ".BLKD", directive: Directive::Space(Size::Q) },
     Named { name: ".BLKG", directive: Directive::Space(Size::Q) },
+    Named { name: ".REF1", directive: Directive::Reference(Size::B) },
+    Named { name: ".REF2", directive: Directive::Reference(Size::W) },
+    Named { name: ".REF4", directive: Directive::Reference(Size::L) },
+    Named { name: ".REF8", directive: Directive::Reference(Size::Q) },
     Named { name: ".ODD", directive: Directive::Odd },
     Named { name: ".WEAK", directive: Directive::Global },
+    Named { name: ".ENABLE", directive: Directive::Enable },
+    Named { name: ".ENABL", directive: Directive::Enable },
+    Named { name: ".DISABLE", directive: Directive::Disable },
+    Named { name: ".DSABL", directive: Directive::Disable },
     Named { name: ".CROSS", directive: Directive::Listing },
     Named { name: ".NOCROSS", directive: Directive::Listing },
     Named { name: ".DEBUG", directive: Directive::Listing },
@@ -112,7 +126,7 @@ static FURTHER_DIRECTIVES: [Named; 13] = [
     Named { name: ".WARN", directive: Directive::Listing },
 ];
 
-fn all_further_directives() -> &'static [Named; 13]
+fn all_further_directives() -> &'static [Named; 21]
     ensures { map named result.now ≡ further_directives }
 {
     &FURTHER_DIRECTIVES

@@ -29,3 +29,28 @@ has_unnamed_psect Vms = true
 abbrev pub assigns_places : Dialect → Bool
 assigns_places Vax = false
 assigns_places Vms = true
+
+-- A negative count of `.REPT` makes no copy.
+abbrev pub has_negative_repeats : Dialect → Bool
+has_negative_repeats Vax = false
+has_negative_repeats Vms = true
+
+-- `.MEXIT`, `.NARG`, `.NCHR` and `.MDELETE` are there ("Macro directives").
+abbrev pub has_macro_directives : Dialect → Bool
+has_macro_directives Vax = false
+has_macro_directives Vms = true
+
+-- `%LENGTH`, `%LOCATE` and `%EXTRACT` stand for their values in lines of macros and repeats ("Macro string operators").
+abbrev pub has_string_operators : Dialect → Bool
+has_string_operators Vax = false
+has_string_operators Vms = true
+
+-- In arguments of macros `^/text/` is a text as `<text>` is, and a `;` within brackets begins no comment ("Macro arguments").
+abbrev pub has_argument_forms : Dialect → Bool
+has_argument_forms Vax = false
+has_argument_forms Vms = true
+
+-- An argument `\e` of a macro stands for the value of e in decimal digits ("Passing numeric values of symbols").
+abbrev pub has_arguments_by_value : Dialect → Bool
+has_arguments_by_value Vax = false
+has_arguments_by_value Vms = true

@@ -14,7 +14,7 @@ pub enum Dialect {
 }
 
 impl Dialect {
-    ghost use Rattle.vax_dialect.specs.Differences.{assigns_places, has_empty_items, has_further_directives, has_places_in_operands, has_unnamed_psect};
+    ghost use Rattle.vax_dialect.specs.Differences.{assigns_places, has_argument_forms, has_arguments_by_value, has_empty_items, has_further_directives, has_macro_directives, has_negative_repeats, has_places_in_operands, has_string_operators, has_unnamed_psect};
 
     /// Whether directives are there beside those that both dialects have.
     pub fn has_further_directives(self) -> bool
@@ -59,6 +59,56 @@ impl Dialect {
     /// Whether `. = e` goes on at a place of the section.
     pub fn assigns_places(self) -> bool
         ensures { result ≡ assigns_places self }
+    {
+        match self {
+            Dialect::Vax => false,
+            Dialect::Vms => true,
+        }
+    }
+
+    /// Whether a negative count of `.REPT` makes no copy.
+    pub fn has_negative_repeats(self) -> bool
+        ensures { result ≡ has_negative_repeats self }
+    {
+        match self {
+            Dialect::Vax => false,
+            Dialect::Vms => true,
+        }
+    }
+
+    /// Whether `^/text/` is an argument as `<text>` is, and a `;` within brackets begins no comment.
+    pub fn has_argument_forms(self) -> bool
+        ensures { result ≡ has_argument_forms self }
+    {
+        match self {
+            Dialect::Vax => false,
+            Dialect::Vms => true,
+        }
+    }
+
+    /// Whether an argument `\e` of a macro stands for the value of e in decimal digits.
+    pub fn has_arguments_by_value(self) -> bool
+        ensures { result ≡ has_arguments_by_value self }
+    {
+        match self {
+            Dialect::Vax => false,
+            Dialect::Vms => true,
+        }
+    }
+
+    /// Whether `%LENGTH`, `%LOCATE` and `%EXTRACT` stand for their values in lines of macros and repeats.
+    pub fn has_string_operators(self) -> bool
+        ensures { result ≡ has_string_operators self }
+    {
+        match self {
+            Dialect::Vax => false,
+            Dialect::Vms => true,
+        }
+    }
+
+    /// Whether `.MEXIT`, `.NARG`, `.NCHR` and `.MDELETE` are there.
+    pub fn has_macro_directives(self) -> bool
+        ensures { result ≡ has_macro_directives self }
     {
         match self {
             Dialect::Vax => false,

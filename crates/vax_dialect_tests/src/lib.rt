@@ -2,4 +2,6 @@
 #![tactic(auto)]
 
 #[cfg(test)]
+mod macros;
+#[cfg(test)]
 mod sources;

@@ -24,7 +24,7 @@ fn fault_of(alloc: Global, dialect: Dialect, source: &str) -> (u32, u8) {
 #[test]
 fn gives_what_one_dialect_has(rt: HostRuntime) -> Result<(), Fail> {
     let alloc = rt.alloc();
-    let rows: [(&str, &[u8], (u32, u8)); 16] = [
+    let rows: [(&str, &[u8], (u32, u8)); 22] = [
         (".BYTE 1,,2\n", b"\x01\0\x02", (1, 4)),
         (".WORD 1[2],[2],\n", b"\x01\0\x01\0\0\0\0\0\0\0", (1, 4)),
         (
@@ -55,6 +55,36 @@ fn gives_what_one_dialect_has(rt: HostRuntime) -> Result<(), Fail> {
             ".BYTE 1\n.PSECT A,2,NORD,vec\n.BYTE 2\n.PSECT\n.BYTE 3\n",
             b"\x01\x03",
             (2, 4),
+        ),
+        (
+            ".ENABLE SUPPRESSION,gbl\n.ENABL DBG\n.DISABLE TRACEBACK,AMA\n.DSABL FPT,LSB\n.BYTE 4\n",
+            b"\x04",
+            (1, 2),
+        ),
+        (
+            ".ENABLE LOCAL_BLOCK\n1$: NOP\nA: BRB 1$\n.DSABL LSB\n.BYTE 1$-A\nB: NOP\n1$: NOP\n",
+            b"\x01\x11\xFD\xFF\x01\x01",
+            (1, 2),
+        ),
+        (
+            "1$: NOP\n.ENABL LSB\n1$: NOP\n.PSECT A\n.PSECT\n.BYTE 1$-.\n",
+            b"\x01\x01\xFF",
+            (2, 2),
+        ),
+        (
+            ".REF1 #5\n.REF2 (R1)+\n.REF4 (R2)\n.REF4 #X\nX=7\n.REF1 R3\n",
+            b"\x05\x81\x62\x8F\x07\0\0\0\x53",
+            (1, 2),
+        ),
+        (
+            ".REF2 #64\n.REF8 #-1\n",
+            b"\x8F\x40\0\x8F\xFF\xFF\xFF\xFF\xFF\xFF\xFF\xFF",
+            (1, 2),
+        ),
+        (
+            "A: NOP\n.ref4 A\n.REF4 B^4(SP)[R1]\n",
+            b"\x01\xAF\xFD\x41\xAE\x04",
+            (2, 2),
         ),
         (
             ".CROSS A\n.NOCROSS\n.DEBUG A\n.LIBRARY 'A;B'\n.MCALL $A,$B\n.LINK \"A\"/B\n.PRINT 1 ;C\n.WARN\n.BYTE 3\n",
@@ -88,6 +118,11 @@ fn tells_the_faults_of_the_larger_dialect(rt: HostRuntime) {
         (".PSECT ,LONG\n", (1, 4)),
         (".BLKO 1\n", (1, 2)),
         (".ERROR 1\n", (1, 2)),
+        (".REF1\n", (1, 3)),
+        (".REF2 R0,R1\n", (1, 3)),
+        (".REF1 #256\n", (1, 7)),
+        (".REF4 #\n", (1, 4)),
+        (".REF16 R0\n", (1, 2)),
         (".ALIGN LONG,256\n", (1, 7)),
         (".ALIGN LONG,\n", (1, 4)),
         (".ALIGN LONG,X\nX=1\n", (1, 5)),
@@ -97,6 +132,12 @@ fn tells_the_faults_of_the_larger_dialect(rt: HostRuntime) {
         (".PSECT A,ABS\n", (1, 4)),
         (".PSECT A,OVR\n", (1, 4)),
         (".PSECT A,2,LONG\n.PSECT A,3\n", (2, 4)),
+        (".ENABLE\n", (1, 3)),
+        (".ENABLE LISTING\n", (1, 4)),
+        (".ENABLE ABSOLUTE\n", (1, 4)),
+        (".DISABLE DEBUG,GLOBAL\n", (1, 4)),
+        (".ENABL LSB\n1$: NOP\n.DSABL LSB\nA: BRB 1$\n", (4, 5)),
+        (".ENABL LSB\n1$: NOP\n1$: NOP\n", (3, 6)),
     ];
     for (source, fault) in rows {
         assert!(rt; fault_of(alloc, Dialect::Vms, source) == fault, "{source}");

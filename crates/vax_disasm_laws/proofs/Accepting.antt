@@ -26,6 +26,7 @@ use Rattle.vax_macro.specs.Expansion.{Stepped, step}
 use Rattle.vax_module.specs.declared.Module.{Module}
 use Rattle.vax_disasm.specs.Listed.{Listing, listed}
 use Rattle.vax_listing.specs.Listing.{length_of, text_of}
+use Rattle.vax_dialect.specs.declared.Dialect.{Dialect}
 use Rattle.vax_disasm_laws.specs.Rows.{row_texts, rows_from}
 use Rattle.vax_disasm_laws.proofs.Adding.{adds, adds_fits, adds_made, begun_at, put_all, standing_with}
 use Rattle.vax_disasm_laws.proofs.Bytes.{byte_part, byte_placed, byte_text}
@@ -204,17 +205,17 @@ pub Fit : (n : ℕ) → List (List ℕ) → Type 0
 Fit n [] = Unit {0}
 Fit n (t ∷ ts) = (count : ℕ) × IsAdding t count × (n + count ≤ section_limit) × Fit (n + count) ts
 
-pub texts_accepted : (these : List (List ℕ)) (left at count n : ℕ) (a : Assembly) → AreOrdinary these → AreShort these → Fit n these → length these < left → count + length these ≤ 100000 → Alone n a → (m : Module) × (walked left (left_of at these count) a None ≡ Ok m)
+pub texts_accepted : (dialect : Dialect) (these : List (List ℕ)) (left at count n : ℕ) (a : Assembly) → AreOrdinary these → AreShort these → Fit n these → length these < left → count + length these ≤ 100000 → Alone n a → (m : Module) × (walked left (left_of dialect at these count) a None ≡ Ok m)
 unfolding walked said step Fit
-texts_accepted [] zero at count n a o s f less few alone = absurd (omega arith)
-texts_accepted [] (suc left) at count n a o s f less few alone = end_accepts a n alone
-texts_accepted (t ∷ these) zero at count n a o s f less few alone = absurd (omega arith)
-texts_accepted (t ∷ these) (suc left) at count n a o s f less few alone =
-    let says = step_says (names_in a.standing) t at these count o.0 s.0 (omega arith) in
+texts_accepted dialect [] zero at count n a o s f less few alone = absurd (omega arith)
+texts_accepted dialect [] (suc left) at count n a o s f less few alone = end_accepts a n alone
+texts_accepted dialect (t ∷ these) zero at count n a o s f less few alone = absurd (omega arith)
+texts_accepted dialect (t ∷ these) (suc left) at count n a o s f less few alone =
+    let says = step_says dialect (names_in a.standing) t at these count o.0 s.0 (omega arith) in
     let origin : Origin = record { line = at + 1; place = count + 1 } in
     let stood : Stood origin t n f.0 a = line_stood origin t n f.0 a f.1 alone f.2 in
-    let rest = texts_accepted these left (at + 1) (count + 1) (n + f.0) (with_statement stood.behind None a) o.1 s.1 f.3 (omega arith) (omega arith) stood.alone in
-    (rest.0, ap (λ (st : Stepped). onward st a None (walked left)) says ∙ ap (λ (p : Placed). behind p origin a None (walked left (left_of (at + 1) these (count + 1)))) stood.placed ∙ rest.1)
+    let rest = texts_accepted dialect these left (at + 1) (count + 1) (n + f.0) (with_statement stood.behind None a) o.1 s.1 f.3 (omega arith) (omega arith) stood.alone in
+    (rest.0, ap (λ (st : Stepped). onward st a None (walked left)) says ∙ ap (λ (p : Placed). behind p origin a None (walked left (left_of dialect (at + 1) these (count + 1)))) stood.placed ∙ rest.1)
 
 abbrev pub RowsFit : List ℕ → Type 0
 RowsFit bytes = (before address n : ℕ) → before ≤ length bytes → n + (length bytes - before) ≤ section_limit → Fit n (row_texts (rows_from before address bytes))

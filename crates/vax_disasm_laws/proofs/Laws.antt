@@ -161,9 +161,9 @@ short_each (t ∷ these) h = (All-head (λ (x : List ℕ). length x ≤ 1024) t 
 source_read : (dialect : Dialect) (source : List ℕ) (rows : List Row) (m : Module) → IsSourceOf source rows → AreOrdinary (row_texts rows) → assembled dialect source ≡ Ok m → IsReadAs (row_texts rows) (nothing dialect) m
 unfolding assembled
 source_read dialect source rows m is ordinary e =
-    let steps : ℕ = suc (work (started source)) in
-    let same : walked steps (left_of 0 (row_texts rows) 0) (nothing dialect) None ≡ Ok m = ap (λ (ts : List (List ℕ)). walked steps (left_of 0 ts 0) (nothing dialect) None) (sym is.texts) ∙ e in
-    texts_read (row_texts rows) steps 0 0 (nothing dialect) m ordinary (short_each (row_texts rows) is.short) (let few = is.few in omega arith) (let few = is.few in omega arith) same
+    let steps : ℕ = suc (work (started dialect source)) in
+    let same : walked steps (left_of dialect 0 (row_texts rows) 0) (nothing dialect) None ≡ Ok m = ap (λ (ts : List (List ℕ)). walked steps (left_of dialect 0 ts 0) (nothing dialect) None) (sym is.texts) ∙ e in
+    texts_read dialect (row_texts rows) steps 0 0 (nothing dialect) m ordinary (short_each (row_texts rows) is.short) (let few = is.few in omega arith) (let few = is.few in omega arith) same
 
 pub source_stands : (dialect : Dialect) (source bytes : List ℕ) (m : Module) (p : Program) (owner : ℕ) → AreBytes bytes → IsLinked p → slice_get p.modules owner ≡ Some m → assembled dialect source ≡ Ok m
     → IsSourceOf source (rows_from 0 (section_address p.region p.modules owner 0) bytes) → section_address p.region p.modules owner 0 + length bytes ≤ 2 ^ 32 → Shows p.image (section_address p.region p.modules owner 0) bytes
@@ -182,7 +182,7 @@ pub source_accepted : (dialect : Dialect) (source bytes : List ℕ) (address : �
 unfolding assembled
 source_accepted dialect source bytes address are room is =
     let these : List (List ℕ) = row_texts (rows_from 0 address bytes) in
-    let steps : ℕ = suc (work (started source)) in
+    let steps : ℕ = suc (work (started dialect source)) in
     let start : Alone 0 (nothing dialect) = record { section = unnamed; is = refl; size = refl; clear = nothing_clear; none = refl } in
-    let made = texts_accepted these steps 0 0 0 (nothing dialect) (rows_ordinary bytes 0 address are) (short_each these is.short) (rows_fit bytes are 0 address 0 (omega arith) (omega arith)) (let few = is.few in omega arith) (let few = is.few in omega arith) start in
-    record { source_module = made.0; is = ap (λ (ts : List (List ℕ)). walked steps (left_of 0 ts 0) (nothing dialect) None) is.texts ∙ made.1 }
+    let made = texts_accepted dialect these steps 0 0 0 (nothing dialect) (rows_ordinary bytes 0 address are) (short_each these is.short) (rows_fit bytes are 0 address 0 (omega arith) (omega arith)) (let few = is.few in omega arith) (let few = is.few in omega arith) start in
+    record { source_module = made.0; is = ap (λ (ts : List (List ℕ)). walked steps (left_of dialect 0 ts 0) (nothing dialect) None) is.texts ∙ made.1 }

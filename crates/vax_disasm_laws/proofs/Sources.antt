@@ -17,6 +17,7 @@ use Rattle.vax_lex.specs.declared.token.Token.{Token}
 use Rattle.vax_lex.specs.declared.token.TokenKind.{TokenKind}
 use Rattle.vax_lex.specs.declared.token.TokenKind.TheVariants.{Name, Number, Mark, Text}
 use Rattle.vax_lex.specs.declared.value.Value.{Value}
+use Rattle.vax_dialect.specs.declared.Dialect.{Dialect}
 use Rattle.vax_macro.specs.Directives.{Gives, done, read}
 use Rattle.vax_macro.specs.Expansion.{Says, Stepped, line_step, outcome, read_on, step}
 use Rattle.vax_macro.specs.Heads.{Head, condition_word, head_in, is_mark_piece, label_pieces, operator_in, other_word, piece_text, word_of}
@@ -196,31 +197,31 @@ unfolding head_in
 head_is name tokens named h = rw (no_label name tokens named h) (operator_is name tokens named h)
 
 -- what is left of a source of these texts
-abbrev pub left_of : (at : ℕ) → List (List ℕ) → (read : ℕ) → Rest
-left_of at texts read = record { lines = numbered at texts; again = None; macros = λ name. None; collecting = None; conditions = []; made = 0; read = read }
+abbrev pub left_of : Dialect → (at : ℕ) → List (List ℕ) → (read : ℕ) → Rest
+left_of dialect at texts read = record { dialect = dialect; lines = numbered at texts; again = None; macros = λ name. None; collecting = None; conditions = []; calls = []; made = 0; read = read }
 
-read_gives : (names : List ℕ → Option Value) (line : Reading) (pieces : List Piece) (head : Head) (operator : Piece) (at : ℕ) (texts : List (List ℕ)) (count : ℕ) → head.operator ≡ Some operator → word_of (piece_text line.text operator) ≡ other_word
-    → done names line pieces head (left_of at texts count) ≡ Gives (left_of at texts count)
-unfolding done read
-read_gives names line pieces head operator at texts count e word = rw (e, word) refl
+read_gives : (dialect : Dialect) (names : List ℕ → Option Value) (line : Reading) (pieces : List Piece) (head : Head) (operator : Piece) (at : ℕ) (texts : List (List ℕ)) (count : ℕ) → line.depth ≡ 0 → head.operator ≡ Some operator → word_of (piece_text line.text operator) ≡ other_word
+    → done names line pieces head (left_of dialect at texts count) ≡ Gives (left_of dialect at texts count)
+unfolding done read read_line
+read_gives dialect names line pieces head operator at texts count outside e word = rw (outside, e, word) refl
 
-line_says : (names : List ℕ → Option Value) (text : List ℕ) (number depth : ℕ) (parts : List (List ℕ)) (at : ℕ) (texts : List (List ℕ)) (count : ℕ) → IsOrdinary text
-    → line_step names (record { number = number; depth = depth; text = text; parts = parts; labelled = false }) (left_of at texts count) ≡ Says (record { number = number; text = text }) (left_of at texts count)
+line_says : (dialect : Dialect) (names : List ℕ → Option Value) (text : List ℕ) (number : ℕ) (parts : List (List ℕ)) (at : ℕ) (texts : List (List ℕ)) (count : ℕ) → IsOrdinary text
+    → line_step names (record { number = number; depth = 0; text = text; parts = parts; labelled = false }) (left_of dialect at texts count) ≡ Says (record { number = number; text = text }) (left_of dialect at texts count)
 unfolding line_step as_piece
-line_says names text number depth parts at texts count o =
-    let line : Reading = record { number = number; depth = depth; text = text; parts = parts; labelled = false } in
+line_says dialect names text number parts at texts count o =
+    let line : Reading = record { number = number; depth = 0; text = text; parts = parts; labelled = false } in
     let pieces : pieces_of text ≡ map as_piece (o.operator ∷ o.operands) = pieces_whole (pieces_of text) (o.operator ∷ o.operands) o.tokens in
     let operator : (head_in (pieces_of text)).operator ≡ Some (as_piece o.operator) = ap (λ (ps : List Piece). (head_in ps).operator) pieces ∙ head_is o.operator o.operands o.named o.no_mark in
-    ap (outcome line count) (read_gives names line (pieces_of text) (head_in (pieces_of text)) (as_piece o.operator) at texts count operator o.word)
+    ap (outcome line count) (read_gives dialect names line (pieces_of text) (head_in (pieces_of text)) (as_piece o.operator) at texts count refl operator o.word)
 
-pub step_says : (names : List ℕ → Option Value) (text : List ℕ) (at : ℕ) (texts : List (List ℕ)) (count : ℕ) → IsOrdinary text → length text ≤ 1024 → count < 100000
-    → step names (left_of at (text ∷ texts) count) ≡ Says (record { number = at + 1; text = text }) (left_of (at + 1) texts (count + 1))
+pub step_says : (dialect : Dialect) (names : List ℕ → Option Value) (text : List ℕ) (at : ℕ) (texts : List (List ℕ)) (count : ℕ) → IsOrdinary text → length text ≤ 1024 → count < 100000
+    → step names (left_of dialect at (text ∷ texts) count) ≡ Says (record { number = at + 1; text = text }) (left_of dialect (at + 1) texts (count + 1))
 unfolding step read_on
-step_says names text at texts count o short few =
+step_says dialect names text at texts count o short few =
     let dash : dash_in (pieces_of text) ≡ None = ap dash_in (pieces_whole (pieces_of text) (o.operator ∷ o.operands) o.tokens) ∙ no_dash (o.operator ∷ o.operands) o.no_dash in
     let not_long : nat_lt 1024 (length text) ≡ false = grind (arith, nat_tests) in
     let room : nat_le 100000 count ≡ false = grind (arith, nat_tests) in
-    rw (not_long, room, dash, not_long) (line_says names text (at + 1) 0 (text ∷ []) (at + 1) texts (count + 1) o)
+    rw (not_long, room, dash, not_long) (line_says dialect names text (at + 1) (text ∷ []) (at + 1) texts (count + 1) o)
 
 -- ---- a source of such lines
 
@@ -260,15 +261,15 @@ line_read origin text these a m next o h e =
     let p = o.placed origin a.standing in
     said_read p.0 origin text these a m next p.1 h (ap (λ (q : Placed). behind q origin a None next) (sym p.1) ∙ e)
 
-pub texts_read : (these : List (List ℕ)) (left at count : ℕ) (a : Assembly) (m : Module) → AreOrdinary these → AreShort these → length these < left → count + length these ≤ 100000 → walked left (left_of at these count) a None ≡ Ok m → IsReadAs these a m
+pub texts_read : (dialect : Dialect) (these : List (List ℕ)) (left at count : ℕ) (a : Assembly) (m : Module) → AreOrdinary these → AreShort these → length these < left → count + length these ≤ 100000 → walked left (left_of dialect at these count) a None ≡ Ok m → IsReadAs these a m
 unfolding walked step
-texts_read [] zero at count a m o s less few e = absurd (omega arith)
-texts_read [] (suc left) at count a m o s less few e = end_read a m e
-texts_read (t ∷ these) zero at count a m o s less few e = absurd (omega arith)
-texts_read (t ∷ these) (suc left) at count a m o s less few e =
-    let says = step_says (names_in a.standing) t at these count o.0 s.0 (omega arith) in
-    line_read (record { line = at + 1; place = count + 1 }) t these a m (walked left (left_of (at + 1) these (count + 1))) o.0
-    (λ b f. texts_read these left (at + 1) (count + 1) b m o.1 s.1 (omega arith) (omega arith) f)
+texts_read dialect [] zero at count a m o s less few e = absurd (omega arith)
+texts_read dialect [] (suc left) at count a m o s less few e = end_read a m e
+texts_read dialect (t ∷ these) zero at count a m o s less few e = absurd (omega arith)
+texts_read dialect (t ∷ these) (suc left) at count a m o s less few e =
+    let says = step_says dialect (names_in a.standing) t at these count o.0 s.0 (omega arith) in
+    line_read (record { line = at + 1; place = count + 1 }) t these a m (walked left (left_of dialect (at + 1) these (count + 1))) o.0
+    (λ b f. texts_read dialect these left (at + 1) (count + 1) b m o.1 s.1 (omega arith) (omega arith) f)
     (sym (ap (λ (st : Stepped). onward st a None (walked left)) says) ∙ e)
 
 -- ---- the texts of a listing

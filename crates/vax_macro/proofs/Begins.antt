@@ -5,6 +5,7 @@ use Rattle.std.specs.Prelude.{Vec}
 use Rattle.std.specs.Global.{Global}
 use Rattle.std.specs.BTreeMap.{BTreeMap}
 use Rattle.std.specs.declared.rc.Rc.{Rc}
+use Rattle.vax_dialect.specs.declared.Dialect.{Dialect}
 use Rattle.vax_macro.specs.Lines.{SourceLine, source_lines}
 use Rattle.vax_macro.specs.LineViews.{lines_of, source_of}
 use Rattle.vax_macro.specs.Templates.{Template}
@@ -13,7 +14,8 @@ use Rattle.vax_macro.specs.declared.template_types.Template as code_template
 use Rattle.vax_macro.proofs.Maps.{no_macros}
 use Rattle.vax_macro.specs.Rest.{Opening, Pending, Rest, started}
 use Rattle.vax_macro.specs.Expansion.{last_begin, unclosed}
-use Rattle.vax_macro.specs.View.{condition_view, opening_of, macros_of}
+use Rattle.vax_macro.specs.View.{call_view, condition_view, opening_of, macros_of}
+use Rattle.vax_macro.specs.declared.state_types.Call as code_call
 use Rattle.vax_macro.specs.declared.state_types.OpenCondition as code
 
 pub condition_count : (conditions : List code.OpenCondition) → length (map condition_view conditions) ≡ length conditions
@@ -32,12 +34,13 @@ outermost (c ∷ conditions) x collecting h e =
     ap (λ (o : Opening). let s : Option Opening = Some o in s) (last_of c conditions x (e ∙ ap (λ (k : ℕ). get_or (c ∷ conditions) k x) place))
 
 -- a source of which nothing was opened
-pub fresh : (l : code_lines.Lines) (m : BTreeMap (Vec ℕ Global) (Rc code_template.Template Global)) (conditions : List code.OpenCondition) (source : List ℕ)
-    → l.frames.items ≡ [] → l.source.items ≡ source → l.at ≡ 0 → l.number ≡ 0 → m.entries ≡ [] → conditions ≡ []
-    → (let r : Rest = record { lines = lines_of l; again = None; macros = macros_of m; collecting = None; conditions = map condition_view conditions; made = 0; read = 0 } in r) ≡ started source
+pub fresh : (dialect : Dialect) (l : code_lines.Lines) (m : BTreeMap (Vec ℕ Global) (Rc code_template.Template Global)) (conditions : List code.OpenCondition) (calls : List code_call.Call) (source : List ℕ)
+    → l.frames.items ≡ [] → l.source.items ≡ source → l.at ≡ 0 → l.number ≡ 0 → m.entries ≡ [] → conditions ≡ [] → calls ≡ []
+    → (let r : Rest = record { dialect = dialect; lines = lines_of l; again = None; macros = macros_of m; collecting = None; conditions = map condition_view conditions; calls = map call_view calls; made = 0; read = 0 } in r) ≡ started dialect source
 unfolding lines_of source_of
-fresh l m conditions source f s a n e c =
+fresh dialect l m conditions calls source f s a n e c k =
     let all : lines_of l ≡ source_lines source = rw (f, s, a, n) refl in
-    ap (λ (ls : List SourceLine). let r : Rest = record { lines = ls; again = None; macros = macros_of m; collecting = None; conditions = map condition_view conditions; made = 0; read = 0 } in r) all
-    ∙ ap (λ (ms : List ℕ → Option Template). let r : Rest = record { lines = source_lines source; again = None; macros = ms; collecting = None; conditions = map condition_view conditions; made = 0; read = 0 } in r) (no_macros m e)
-    ∙ ap (λ (cs : List code.OpenCondition). let r : Rest = record { lines = source_lines source; again = None; macros = λ name. None; collecting = None; conditions = map condition_view cs; made = 0; read = 0 } in r) c
+    ap (λ (ls : List SourceLine). let r : Rest = record { dialect = dialect; lines = ls; again = None; macros = macros_of m; collecting = None; conditions = map condition_view conditions; calls = map call_view calls; made = 0; read = 0 } in r) all
+    ∙ ap (λ (ms : List ℕ → Option Template). let r : Rest = record { dialect = dialect; lines = source_lines source; again = None; macros = ms; collecting = None; conditions = map condition_view conditions; calls = map call_view calls; made = 0; read = 0 } in r) (no_macros m e)
+    ∙ ap (λ (cs : List code.OpenCondition). let r : Rest = record { dialect = dialect; lines = source_lines source; again = None; macros = λ name. None; collecting = None; conditions = map condition_view cs; calls = map call_view calls; made = 0; read = 0 } in r) c
+    ∙ ap (λ (cs : List code_call.Call). let r : Rest = record { dialect = dialect; lines = source_lines source; again = None; macros = λ name. None; collecting = None; conditions = []; calls = map call_view cs; made = 0; read = 0 } in r) k

@@ -41,3 +41,11 @@ unlabelled false n e = omega arith
 -- a line whose label was handed out
 pub label_less : (line : code_reading.Reading) → line.labelled ≡ false → length line.text.items * 2 + 1 ≤ left_of line
 label_less line e = unlabelled line.labelled (length line.text.items) e
+
+turned_if : (t : Bool) (n m : ℕ) → n < m → n * 2 + cond t 1 2 ≤ m * 2 + cond t 0 1
+turned_if true n m h = omega (arith, h)
+turned_if false n m h = omega (arith, h)
+
+-- a line that is read again as a shorter text
+pub turned_less : (line : code_reading.Reading) (n : ℕ) → n < length line.text.items → n * 2 + cond line.labelled 1 2 ≤ left_of line
+turned_less line n h = turned_if line.labelled n (length line.text.items) h

@@ -10,3 +10,7 @@ pub mod Begins
 pub mod Steps
 pub mod Lessening
 pub mod Within
+pub mod Leaving
+pub mod Passing
+pub mod Places
+pub mod Calls

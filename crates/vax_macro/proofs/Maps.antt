@@ -53,12 +53,23 @@ of_entry : {X Y : Type 0} (f : X → Y) (t : Bool) (x : X) (o : Option X) → op
 of_entry f true x o = refl
 of_entry f false x o = refl
 
+of_none : {X Y : Type 0} (f : X → Y) (t : Bool) (o : Option X) → option_map f (cond t None o) ≡ cond t None (option_map f o)
+of_none f true o = refl
+of_none f false o = refl
+
 pub macro_updates : (bs : List ℕ) (m n : BTreeMap (Vec ℕ Global) (Rc code_template.Template Global)) (rc : Rc code_template.Template Global)
     → tree.UpdatesBy (λ (x y : Vec ℕ Global). slice_cmp nat_cmp x.items y.items) (λ (k : Vec ℕ Global). slice_cmp nat_cmp bs k.items) m n (Some rc)
     → macros_of n ≡ with_entry bs (Some (template_view rc.value)) (macros_of m)
 macro_updates bs m n rc h = same_function _ _ (λ name.
     ap (λ (e : List ℕ → Option (Rc code_template.Template Global)). option_map (λ r. template_view r.value) (e name)) (name_updates bs m n (Some rc) h)
     ∙ of_entry (λ (r : Rc code_template.Template Global). template_view r.value) (bytes_eq bs name) rc (by_name m name))
+
+pub macro_removed : (bs : List ℕ) (m n : BTreeMap (Vec ℕ Global) (Rc code_template.Template Global))
+    → tree.UpdatesBy (λ (x y : Vec ℕ Global). slice_cmp nat_cmp x.items y.items) (λ (k : Vec ℕ Global). slice_cmp nat_cmp bs k.items) m n None
+    → macros_of n ≡ with_entry bs None (macros_of m)
+macro_removed bs m n h = same_function _ _ (λ name.
+    ap (λ (e : List ℕ → Option (Rc code_template.Template Global)). option_map (λ r. template_view r.value) (e name)) (name_updates bs m n None h)
+    ∙ of_none (λ (r : Rc code_template.Template Global). template_view r.value) (bytes_eq bs name) (by_name m name))
 
 -- no macros
 pub no_macros : (m : BTreeMap (Vec ℕ Global) (Rc code_template.Template Global)) → m.entries ≡ [] → macros_of m ≡ (λ name. None)

@@ -57,19 +57,19 @@ unfolding formals_from
 last_formal fs arguments all is same = ap (formals_from fs) (sym is) ∙ same
 
 -- one more argument of a call, or one for which there is no place
-pub one_given : (fs : Formals) (a : Argument) (arguments rest : List Argument) (g h : Giving) (all : Option (List (Option (List ℕ)))) → arguments ≡ a ∷ rest → given_to (keyword_index fs a.keyword) a.text g ≡ Some h
+pub one_given : (fs : Formals) (a : Argument) (arguments rest : List Argument) (g h : Giving) (all : Option Giving) → arguments ≡ a ∷ rest → given_to (keyword_index fs a.keyword) a.text g ≡ Some h
     → given_from fs arguments g ≡ all → given_from fs rest h ≡ all
 unfolding given_from
 one_given fs a arguments rest g h all is e same =
     sym (ap (λ (o : Option Giving). then_given o (λ more. given_from fs rest more)) e) ∙ ap (λ (l : List Argument). given_from fs l g) (sym is) ∙ same
 
-pub not_given : (fs : Formals) (a : Argument) (arguments rest : List Argument) (g : Giving) (all : Option (List (Option (List ℕ)))) → arguments ≡ a ∷ rest → given_to (keyword_index fs a.keyword) a.text g ≡ None
+pub not_given : (fs : Formals) (a : Argument) (arguments rest : List Argument) (g : Giving) (all : Option Giving) → arguments ≡ a ∷ rest → given_to (keyword_index fs a.keyword) a.text g ≡ None
     → given_from fs arguments g ≡ all → None ≡ all
 unfolding given_from
 not_given fs a arguments rest g all is e same =
     sym (ap (λ (o : Option Giving). then_given o (λ more. given_from fs rest more)) e) ∙ ap (λ (l : List Argument). given_from fs l g) (sym is) ∙ same
 
-pub last_given : (fs : Formals) (arguments : List Argument) (g : Giving) (all : Option (List (Option (List ℕ)))) → arguments ≡ [] → given_from fs arguments g ≡ all → Some g.texts ≡ all
+pub last_given : (fs : Formals) (arguments : List Argument) (g : Giving) (all : Option Giving) → arguments ≡ [] → given_from fs arguments g ≡ all → Some g ≡ all
 unfolding given_from
 last_given fs arguments g all is same = ap (λ (l : List Argument). given_from fs l g) (sym is) ∙ same
 

@@ -47,6 +47,11 @@ abbrev pub listed_view : Result (Bor (List ℕ)) FaultKind → Result (List ℕ)
 listed_view (Ok s) = Ok s.now
 listed_view (Err kind) = Err kind
 
+-- a name and a text
+abbrev pub pair_view : Result (Bor (List ℕ) × Bor (List ℕ)) FaultKind → Result Iterated FaultKind
+pair_view (Ok p) = Ok (record { name = p.0.now; text = p.1.now })
+pair_view (Err kind) = Err kind
+
 -- memory was refused
 abbrev pub refused : code_refusal.Refusal
 refused = refusals.NoMemory

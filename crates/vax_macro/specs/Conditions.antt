@@ -173,9 +173,9 @@ unfoldable pub condition_on : (List ℕ → Option Value) → List ℕ → Condi
 condition_on names text (compares c) at pieces = compare_number c (number_in names text pieces)
 condition_on names text (defined wanted) at pieces = defined_in names wanted text pieces
 condition_on names text (blank wanted) at pieces =
-    if has_unprintable text pieces then Err faults.Token else blank_arguments wanted (arguments no_keyword (code_from at pieces text))
+    if has_unprintable text pieces then Err faults.Token else blank_arguments wanted (arguments false no_keyword (code_from at pieces text))
 condition_on names text (identical wanted) at pieces =
-    if has_unprintable text pieces then Err faults.Token else same_arguments wanted (arguments no_keyword (code_from at pieces text))
+    if has_unprintable text pieces then Err faults.Token else same_arguments wanted (arguments false no_keyword (code_from at pieces text))
 
 -- no condition has this name
 abbrev pub no_condition : List Piece → FaultKind
@@ -230,7 +230,7 @@ comma_behind end (Some t) = elim (at_comma end t.rest) [ Some k ↦ Ok k | None 
 
 abbrev pub comma_behind_two : ℕ → Option Taken → Result ℕ FaultKind
 comma_behind_two end None = Err faults.Form
-comma_behind_two end (Some t) = comma_behind end (taken (second_argument t.rest))
+comma_behind_two end (Some t) = comma_behind end (taken false (second_argument t.rest))
 
 -- Where the condition is at fault, its statement isn't left out: a byte of it where no token begins is a fault of the line
 -- too, and goes before the condition's.
@@ -257,9 +257,9 @@ unfoldable pub guarded_on : (List ℕ → Option Value) → List ℕ → Conditi
 guarded_on names text (compares c) at pieces = guarded_pieces names text (compares c) at pieces (comma_in pieces)
 guarded_on names text (defined wanted) at pieces = guarded_pieces names text (defined wanted) at pieces (comma_in pieces)
 guarded_on names text (blank wanted) at pieces =
-    guarded_text names text (blank wanted) at pieces (comma_behind (code_end pieces) (taken (behind_blanks (code_from at pieces text))))
+    guarded_text names text (blank wanted) at pieces (comma_behind (code_end pieces) (taken false (behind_blanks (code_from at pieces text))))
 guarded_on names text (identical wanted) at pieces =
-    guarded_text names text (identical wanted) at pieces (comma_behind_two (code_end pieces) (taken (behind_blanks (code_from at pieces text))))
+    guarded_text names text (identical wanted) at pieces (comma_behind_two (code_end pieces) (taken false (behind_blanks (code_from at pieces text))))
 
 unfoldable pub guarded_in : (List ℕ → Option Value) → List ℕ → List Piece → Result Guarded FaultKind
 guarded_in names text [] = Err faults.Count

@@ -1,30 +1,36 @@
 -- What the lines of a source do: definitions of macros, calls, repeats and conditions (VAX MACRO and Instruction Set
 -- Reference Manual, directives `.MACRO` to `.ENDR`).
-use Rattle.std.specs.Prelude.{ℕ, ℤ, pos, negsuc, zero, suc, ◌+◌, ◌-◌, Bool, true, false, not, ◌&&◌, ◌||◌, ◌==◌, nat_le, List, [], ◌∷◌, ◌++◌, length, take, drop, map, Option, Some, None, unwrap_or, is_some, Result, Ok, Err, if◌then◌else◌}
+use Rattle.std.specs.Prelude.{ℕ, ℤ, pos, negsuc, zero, suc, ◌+◌, ◌-◌, Bool, true, false, not, ◌&&◌, ◌||◌, ◌==◌, nat_le, nat_lt, List, [], ◌∷◌, ◌++◌, length, take, drop, map, Option, Some, None, unwrap_or, is_some, Result, Ok, Err, codes, decimal, if◌then◌else◌}
 use Rattle.std.specs.List.{flat_map, prefix_len}
 use Rattle.vax_lex.specs.Characters.{is_blank, canonical_name, spells}
 use Rattle.vax_lex.specs.declared.token.Piece.{Piece}
 use Rattle.vax_lex.specs.declared.value.Value.{Value}
+use Rattle.vax_dialect.specs.Differences.{has_argument_forms, has_arguments_by_value, has_macro_directives, has_negative_repeats, has_string_operators}
+use Rattle.vax_dialect.specs.declared.Dialect.{Dialect}
 use Rattle.vax_macro.specs.declared.error.FaultKind.{FaultKind}
 use Rattle.vax_macro.specs.declared.error.FaultKind.TheVariants as faults
 use Rattle.vax_macro.specs.Names.{is_name, with_entry}
 use Rattle.vax_macro.specs.Arguments.{Argument, arguments, behind_blanks, begins_with, closing, is_no_separator, name_length}
-use Rattle.vax_macro.specs.Heads.{Head, Word, macro_word, end_macro, repeat, repeat_arguments, repeat_characters, end_repeat, if_word, if_false, if_true, if_true_false, end_if, immediate_if, end_word, other_word, word_in, piece_text, has_bad, has_unprintable, code_from}
-use Rattle.vax_macro.specs.Templates.{Formals, no_formals, with_formal, formals_from, BodyLine, Template, template, rewritten, assigned, Filled, filled}
+use Rattle.vax_macro.specs.Heads.{Head, Word, macro_word, end_macro, repeat, repeat_arguments, repeat_characters, end_repeat, if_word, if_false, if_true, if_true_false, end_if, immediate_if, leave_word, argument_count, character_count, delete_word, end_word, other_word, word_in, known_word, piece_text, has_bad, has_unprintable, code_end, code_from}
+use Rattle.vax_macro.specs.Templates.{Formals, no_formals, with_formal, formals_from, BodyLine, Template, template, rewritten, assigned, Giving, Filled, filled}
 use Rattle.vax_macro.specs.Conditions.{has_comma, number_in, condition_in, guarded_in, no_keyword}
 use Rattle.vax_macro.specs.Lines.{SourceLine, Reading}
-use Rattle.vax_macro.specs.Rest.{Opening, Use, macro_body, copies_of, copy_each, Pending, OpenCondition, Rest}
+use Rattle.vax_macro.specs.Values.{all_by_value}
+use Rattle.vax_macro.specs.Strings.{Evaluated, Found, evaluated, last_operator}
+use Rattle.vax_macro.specs.Rest.{Opening, Use, macro_body, copies_of, copy_each, Pending, OpenCondition, Call, Rest}
 
 -- a statement: the number of its line, and its text
 pub record Statement : Type 0 where
   pub number : ℕ
   pub text : List ℕ
 
--- What a line does: it changes what is left to open, it is a statement, what is behind a place is read as a line of its
--- own, a label up to a place is a statement and the line is read again without it, or it has a fault.
+-- What a line does: it changes what is left to open, it is a statement, a text is one in its place, it is read again as this
+-- text, what is behind a place is read as a line of its own, a label up to a place is a statement and the line is read again without it, or it has a fault.
 pub data Done : Type 0 where
   Goes : Rest → Done
   Gives : Rest → Done
+  Writes : List ℕ → Rest → Done
+  Turns : List ℕ → Rest → Done
   Again : (at : ℕ) → Rest → Done
   Label : (at : ℕ) → Rest → Done
   Fails : FaultKind → Done
@@ -42,10 +48,6 @@ copies (suc n) lines = lines ++ copies n lines
 -- an expansion for each of these texts
 abbrev pub expansions : List BodyLine → ℕ → ℕ → List (List ℕ) → List SourceLine
 expansions lines number depth texts = flat_map (λ text. expansion lines number depth (text ∷ [])) texts
-
--- lines come before all that are left to open
-abbrev pub with_lines : List SourceLine → Rest → Rest
-with_lines lines rest = record rest { lines = lines ++ rest.lines }
 
 -- a macro is at a name
 abbrev pub with_macro : List ℕ → Template → Rest → Rest
@@ -90,12 +92,21 @@ line_copies count lines number depth = copies count (expansion (template no_form
 abbrev pub lines_for_each : List ℕ → List (List ℕ) → ℕ → ℕ → List (List ℕ) → List SourceLine
 lines_for_each name lines number depth texts = expansions (template (one_formal name) lines).lines number depth texts
 
+-- the calls whose lines stand in no more than so many expansions
+abbrev pub calls_within : ℕ → List Call → List Call
+calls_within depth [] = []
+calls_within depth (c ∷ calls) = if nat_le c.depth depth then c ∷ calls else calls_within depth calls
+
+-- lines that stand in so many expansions come next: calls whose lines stand in as many are over
+abbrev pub with_expansion : ℕ → List SourceLine → Rest → Rest
+with_expansion depth lines rest = record rest { lines = lines ++ rest.lines; calls = calls_within (depth - 1) rest.calls }
+
 -- a macro is defined; the copies of a repeat come next
 unfoldable pub finished : Pending → Rest → Rest
 finished p rest = elim p.use_of [
   | macro_body name fs ↦ with_macro name (template fs p.lines) rest
-  | copies_of n ↦ with_lines (line_copies n p.lines p.begin.number p.depth) rest
-  | copy_each name texts ↦ with_lines (lines_for_each name p.lines p.begin.number p.depth texts) rest
+  | copies_of n ↦ with_expansion p.depth (line_copies n p.lines p.begin.number p.depth) rest
+  | copy_each name texts ↦ with_expansion p.depth (lines_for_each name p.lines p.begin.number p.depth texts) rest
 ]
 
 -- The fault of a directive that has no operands, if it has some.
@@ -151,7 +162,7 @@ is_skipping (c ∷ conditions) = not (c.outer && c.here)
 abbrev pub open_condition : Reading → Bool → Bool → Rest → Done
 open_condition line outer holds rest =
     if is_deep line rest then Fails faults.Depth
-    else Goes (record rest { conditions = record { begin = opening line rest; outer = outer; holds = holds; here = holds } ∷ rest.conditions })
+    else Goes (record rest { conditions = record { begin = opening line rest; depth = line.depth; outer = outer; holds = holds; here = holds } ∷ rest.conditions })
 
 unfoldable pub begin_condition : (List ℕ → Option Value) → Reading → Head → Rest → Done
 begin_condition names line head rest = elim (condition_in names line.text head.operands) [
@@ -213,16 +224,21 @@ with_pending u line depth rest = record rest { collecting = Some (record { use_o
 abbrev pub begin_copies : Use → Reading → Rest → Done
 begin_copies u line rest = if is_deep line rest then Fails faults.Depth else Goes (with_pending u line (line.depth + 1) rest)
 
-abbrev pub count_of : ℤ → Result ℕ FaultKind
-count_of (pos n) = Ok n
-count_of (negsuc n) = Err faults.Range
+-- a negative count is none, or a fault
+abbrev pub negative_count : Bool → Result ℕ FaultKind
+negative_count true = Ok 0
+negative_count false = Err faults.Range
 
-abbrev pub then_count : Result ℤ FaultKind → Result ℕ FaultKind
-then_count (Ok n) = count_of n
-then_count (Err kind) = Err kind
+abbrev pub count_of : Dialect → ℤ → Result ℕ FaultKind
+count_of dialect (pos n) = Ok n
+count_of dialect (negsuc n) = negative_count (has_negative_repeats dialect)
+
+abbrev pub then_count : Dialect → Result ℤ FaultKind → Result ℕ FaultKind
+then_count dialect (Ok n) = count_of dialect n
+then_count dialect (Err kind) = Err kind
 
 unfoldable pub begin_repeat : (List ℕ → Option Value) → Reading → Head → Rest → Done
-begin_repeat names line head rest = elim (then_count (number_in names line.text head.operands)) [
+begin_repeat names line head rest = elim (then_count rest.dialect (number_in names line.text head.operands)) [
   | Ok n ↦ begin_copies (copies_of n) line rest
   | Err kind ↦ Fails kind
 ]
@@ -246,7 +262,7 @@ is_cut_off text = begins_with 44 (behind_blanks text) && (length (behind_comma t
 
 abbrev pub macro_formals : List ℕ → Option Formals
 macro_formals text =
-    if not (is_parted text) || is_cut_off text then None else then_formals_from (arguments is_name (behind_comma text))
+    if not (is_parted text) || is_cut_off text then None else then_formals_from (arguments false is_name (behind_comma text))
 
 abbrev pub begin_body : List ℕ → Option Formals → Reading → Rest → Done
 begin_body name None line rest = Fails faults.Form
@@ -276,7 +292,7 @@ listed text = if begins_with 60 text then listed_in (drop 1 text) (closing 0 (dr
 abbrev pub formal_name : List ℕ → Option (List ℕ)
 formal_name text = if is_name text then Some (canonical_name text) else None
 
--- a formal argument and the text for it
+-- a name and a text
 pub record Iterated : Type 0 where
   pub name : List ℕ
   pub text : List ℕ
@@ -311,7 +327,7 @@ begin_each name (Some arguments) line rest = begin_copies (copy_each name (argum
 
 unfoldable pub begin_arguments : Reading → Head → ℕ → Rest → Done
 begin_arguments line head at rest = elim (iterated_in line.text head.operands at) [
-  | Ok i ↦ begin_each i.name (arguments no_keyword i.text) line rest
+  | Ok i ↦ begin_each i.name (arguments (has_argument_forms rest.dialect) no_keyword i.text) line rest
   | Err kind ↦ Fails kind
 ]
 
@@ -323,27 +339,131 @@ begin_characters line head at rest = elim (iterated_in line.text head.operands a
 
 -- ---- Calls
 
-abbrev pub open_call : Template → Filled → Reading → Rest → Done
-open_call t f line rest =
+-- The text of operands. In the larger language it is the arguments that tell where a comment begins.
+abbrev pub operands_from : Bool → List ℕ → List Piece → ℕ → List ℕ
+operands_from larger text operands at = if larger then drop at text else code_from at operands text
+
+abbrev pub with_call : ℕ → ℕ → Rest → Rest
+with_call depth arguments rest = record rest { calls = record { depth = depth; arguments = arguments } ∷ rest.calls }
+
+abbrev pub open_call : Template → ℕ → Filled → Reading → Rest → Done
+open_call t arguments f line rest =
     if is_deep line rest then Fails faults.Depth
-    else Goes (record rest { lines = expansion t.lines line.number (line.depth + 1) f.texts ++ rest.lines; made = f.made })
+    else Goes (with_call (line.depth + 1) arguments
+    (with_expansion (line.depth + 1) (expansion t.lines line.number (line.depth + 1) f.texts) (record rest { made = f.made })))
 
-abbrev pub call_with : Template → Option (List (Option (List ℕ))) → Reading → Rest → Done
+abbrev pub call_with : Template → Option Giving → Reading → Rest → Done
 call_with t None line rest = Fails faults.Count
-call_with t (Some texts) line rest = open_call t (filled rest.made t.formals.list texts) line rest
+call_with t (Some g) line rest = open_call t g.next (filled rest.made t.formals.list g.texts) line rest
 
-abbrev pub call_by : Template → Option (List Argument) → Reading → Rest → Done
-call_by t None line rest = Fails faults.Form
-call_by t (Some arguments) line rest = call_with t (assigned t.formals arguments) line rest
+-- arguments as they are passed
+abbrev pub passed : Bool → (List ℕ → Option Value) → List Argument → Result (List Argument) FaultKind
+passed true names arguments = all_by_value names arguments
+passed false names arguments = Ok arguments
+
+abbrev pub call_of : Template → Result (List Argument) FaultKind → Reading → Rest → Done
+call_of t (Ok arguments) line rest = call_with t (assigned t.formals arguments) line rest
+call_of t (Err kind) line rest = Fails kind
+
+abbrev pub call_by : (List ℕ → Option Value) → Template → Option (List Argument) → Reading → Rest → Done
+call_by names t None line rest = Fails faults.Form
+call_by names t (Some arguments) line rest = call_of t (passed (has_arguments_by_value rest.dialect) names arguments) line rest
 
 -- A keyword is the name of a formal argument.
 abbrev pub is_formal : Formals → List ℕ → Bool
 is_formal fs name = is_name name && is_some (fs.index (canonical_name name))
 
-unfoldable pub call : Template → Reading → Head → ℕ → Rest → Done
-call t line head at rest =
+unfoldable pub call : (List ℕ → Option Value) → Template → Reading → Head → ℕ → Rest → Done
+call names t line head at rest =
     if has_unprintable line.text head.operands then Fails faults.Token
-    else call_by t (arguments (is_formal t.formals) (code_from at head.operands line.text)) line rest
+    else call_by names t (arguments (has_argument_forms rest.dialect) (is_formal t.formals) (operands_from (has_argument_forms rest.dialect) line.text head.operands at)) line rest
+
+-- ---- `.MEXIT`
+
+-- the lines behind those that stand in so many expansions or more
+abbrev pub lines_outside : ℕ → List SourceLine → List SourceLine
+lines_outside depth [] = []
+lines_outside depth (l ∷ lines) = if nat_lt l.depth depth then l ∷ lines else lines_outside depth lines
+
+-- the conditions that were opened outside of as many expansions
+abbrev pub conditions_outside : ℕ → List OpenCondition → List OpenCondition
+conditions_outside depth [] = []
+conditions_outside depth (c ∷ conditions) = if nat_lt c.depth depth then c ∷ conditions else conditions_outside depth conditions
+
+-- What is left of the innermost expansion isn't read, and the conditions that it opened are closed. Outside of every expansion nothing is left.
+abbrev pub left_at : ℕ → Rest → Done
+left_at depth rest =
+    if depth == 0 then Fails faults.Nesting
+    else Goes (record rest { lines = lines_outside depth rest.lines; conditions = conditions_outside depth rest.conditions })
+
+unfoldable pub leave : Reading → List Piece → Head → Rest → Done
+leave line pieces head rest = unless_operands pieces head (left_at line.depth rest)
+
+-- ---- `.NARG`, `.NCHR` and `.MDELETE`
+
+-- A statement that gives a number to a name. So the name may have been given one before.
+abbrev pub assignment : List ℕ → ℕ → List ℕ
+assignment name n = name ++ codes "=" ++ decimal n
+
+abbrev pub assigns : List ℕ → ℕ → Rest → Done
+assigns name n rest = if is_name name then Writes (assignment name n) rest else Fails faults.Form
+
+-- how many arguments the innermost call has
+abbrev pub innermost : List Call → Option ℕ
+innermost [] = None
+innermost (c ∷ calls) = Some c.arguments
+
+abbrev pub counted : List ℕ → Option ℕ → Rest → Done
+counted name None rest = Fails faults.Nesting
+counted name (Some n) rest = assigns name n rest
+
+abbrev pub one_piece : List Piece → Option Piece
+one_piece (p ∷ []) = Some p
+one_piece _ = None
+
+abbrev pub counted_in : List ℕ → Option Piece → Rest → Done
+counted_in text None rest = Fails faults.Count
+counted_in text (Some p) rest = counted (piece_text text p) (innermost rest.calls) rest
+
+-- The one operand is a name. Outside of every macro there are no arguments.
+unfoldable pub count_arguments : Reading → List Piece → Head → Rest → Done
+count_arguments line pieces head rest =
+    if has_bad pieces then Fails faults.Token
+    else counted_in line.text (one_piece head.operands) (record rest { calls = calls_within line.depth rest.calls })
+
+-- The operands are a name and a text.
+abbrev pub two_texts : Option (List Argument) → Result Iterated FaultKind
+two_texts None = Err faults.Form
+two_texts (Some (a ∷ b ∷ [])) = Ok (record { name = unwrap_or a.text []; text = unwrap_or b.text [] })
+two_texts (Some _) = Err faults.Count
+
+abbrev pub measured : Result Iterated FaultKind → Rest → Done
+measured (Ok i) rest = assigns i.name (length i.text) rest
+measured (Err kind) rest = Fails kind
+
+unfoldable pub count_characters : Reading → Head → ℕ → Rest → Done
+count_characters line head at rest =
+    if has_unprintable line.text head.operands then Fails faults.Token
+    else measured (two_texts (arguments (has_argument_forms rest.dialect) no_keyword (operands_from (has_argument_forms rest.dialect) line.text head.operands at))) rest
+
+-- The macros of these names are no longer there, if they were.
+abbrev pub without_macro : List ℕ → Rest → Rest
+without_macro name rest = record rest { macros = with_entry (canonical_name name) None rest.macros }
+
+abbrev pub delete_all : List Argument → Rest → Done
+delete_all [] rest = Goes rest
+delete_all (a ∷ arguments) rest =
+    if is_name (unwrap_or a.text []) then delete_all arguments (without_macro (unwrap_or a.text []) rest) else Fails faults.Form
+
+abbrev pub delete_listed : Option (List Argument) → Rest → Done
+delete_listed None rest = Fails faults.Form
+delete_listed (Some []) rest = Fails faults.Count
+delete_listed (Some (a ∷ arguments)) rest = delete_all (a ∷ arguments) rest
+
+unfoldable pub delete_macros : Reading → Head → ℕ → Rest → Done
+delete_macros line head at rest =
+    if has_unprintable line.text head.operands then Fails faults.Token
+    else delete_listed (arguments (has_argument_forms rest.dialect) no_keyword (operands_from (has_argument_forms rest.dialect) line.text head.operands at)) rest
 
 -- ---- A line that is read
 
@@ -365,6 +485,10 @@ direct names word line pieces head at rest = elim word [
   | if_true_false ↦ switch_condition if_true_false pieces head rest
   | end_if ↦ end_condition pieces head rest
   | immediate_if ↦ guard names line head rest
+  | leave_word ↦ leave line pieces head rest
+  | argument_count ↦ count_arguments line pieces head rest
+  | character_count ↦ count_characters line head at rest
+  | delete_word ↦ delete_macros line head at rest
   | end_word ↦ Gives rest
   | other_word ↦ Gives rest
 ]
@@ -376,8 +500,9 @@ read_word names word line pieces head at rest = behind_label line head rest (dir
 
 -- A macro comes before a directive of its name.
 abbrev pub read_operator : (List ℕ → Option Value) → Reading → List Piece → Head → Piece → Option Template → Rest → Done
-read_operator names line pieces head operator (Some t) rest = behind_label line head rest (call t line head operator.end rest)
-read_operator names line pieces head operator None rest = read_word names (word_in line.text (Some operator)) line pieces head operator.end rest
+read_operator names line pieces head operator (Some t) rest = behind_label line head rest (call names t line head operator.end rest)
+read_operator names line pieces head operator None rest =
+    read_word names (known_word (has_macro_directives rest.dialect) (word_in line.text (Some operator))) line pieces head operator.end rest
 
 unfoldable pub read : (List ℕ → Option Value) → Reading → List Piece → Head → Rest → Done
 read names line pieces head rest = elim head.operator [
@@ -385,9 +510,29 @@ read names line pieces head rest = elim head.operator [
   | Some operator ↦ read_operator names line pieces head operator (rest.macros (canonical_name (piece_text line.text operator))) rest
 ]
 
+-- the operator on texts that is carried out first in a line, of which so many bytes stand before the comment
+abbrev pub operator_within : Bool → ℕ → List ℕ → Option Found
+operator_within true end text = last_operator end text
+operator_within false end text = None
+
+-- the line with the value in the operator's place
+abbrev pub with_value : List ℕ → Found → Evaluated → Rest → Done
+with_value text f (Ok e) rest = Turns (take f.at text ++ e.text ++ e.rest) rest
+with_value text f (Err kind) rest = Fails kind
+
+abbrev pub turn : (List ℕ → Option Value) → List ℕ → Option Found → Done → Rest → Done
+turn names text None done rest = done
+turn names text (Some f) done rest = with_value text f (evaluated names f.operator (drop f.operands text)) rest
+
+-- a line that is read; in expansions operators on texts are carried out before
+unfoldable pub read_line : (List ℕ → Option Value) → Reading → List Piece → Head → Rest → Done
+read_line names line pieces head rest =
+    turn names line.text (operator_within (not (line.depth == 0) && has_string_operators rest.dialect) (code_end pieces) line.text)
+    (read names line pieces head rest) rest
+
 -- what a line does
 unfoldable pub done : (List ℕ → Option Value) → Reading → List Piece → Head → Rest → Done
 done names line pieces head rest = elim rest.collecting [
   | Some p ↦ collect p line pieces head (record rest { collecting = None })
-  | None ↦ if is_skipping rest.conditions then skip line pieces head rest else read names line pieces head rest
+  | None ↦ if is_skipping rest.conditions then skip line pieces head rest else read_line names line pieces head rest
 ]

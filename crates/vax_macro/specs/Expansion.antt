@@ -7,7 +7,7 @@ use Rattle.vax_macro.specs.declared.error.FaultKind.TheVariants as faults
 use Rattle.vax_macro.specs.Heads.{head_in}
 use Rattle.vax_macro.specs.Lines.{SourceLine, Remainder, Reading, dash_in, before_dash, is_long, with_part}
 use Rattle.vax_macro.specs.Rest.{Opening, Pending, OpenCondition, Rest}
-use Rattle.vax_macro.specs.Directives.{Statement, Done, Goes, Gives, Again, Label, Fails, done}
+use Rattle.vax_macro.specs.Directives.{Statement, Done, Goes, Gives, Writes, Turns, Again, Label, Fails, done}
 
 -- What one step does. A statement's place is the number of lines read with it, which is `read` of the rest that it
 -- leaves: two statements of one place are parts of one line, and then the first leaves `again`. A fault tells its line's
@@ -31,6 +31,10 @@ unclosed (c ∷ conditions) collecting = Some (last_begin c conditions)
 abbrev pub cut : ℕ → Reading → Remainder
 cut at line = record { number = line.number; depth = line.depth; text = drop at line.text; labelled = false }
 
+-- a line that is read again as this text
+abbrev pub turned : List ℕ → Reading → Remainder
+turned text line = record { number = line.number; depth = line.depth; text = text; labelled = line.labelled }
+
 -- a line whose label was handed out
 abbrev pub behind_label : Reading → Remainder
 behind_label line = record { number = line.number; depth = line.depth; text = line.text; labelled = true }
@@ -38,6 +42,8 @@ behind_label line = record { number = line.number; depth = line.depth; text = li
 abbrev pub outcome : Reading → ℕ → Done → Stepped
 outcome line place (Goes rest) = Steps rest
 outcome line place (Gives rest) = Says (record { number = line.number; text = line.text }) rest
+outcome line place (Writes text rest) = Says (record { number = line.number; text = text }) rest
+outcome line place (Turns text rest) = Steps (record rest { again = Some (turned text line) })
 outcome line place (Again at rest) = Steps (record rest { again = Some (cut at line) })
 outcome line place (Label at rest) = Says (record { number = line.number; text = take at line.text }) (record rest { again = Some (behind_label line) })
 outcome line place (Fails kind) = Faults line.number place kind

@@ -19,6 +19,10 @@ word_view words.IfTrue = specs.if_true
 word_view words.IfTrueFalse = specs.if_true_false
 word_view words.EndIf = specs.end_if
 word_view words.ImmediateIf = specs.immediate_if
+word_view words.Leave = specs.leave_word
+word_view words.CountArguments = specs.argument_count
+word_view words.CountCharacters = specs.character_count
+word_view words.Delete = specs.delete_word
 word_view words.End = specs.end_word
 word_view words.Other = specs.other_word
 

@@ -86,6 +86,10 @@ pub data Word : Type 0 where
   if_true_false : Word
   end_if : Word
   immediate_if : Word
+  leave_word : Word
+  argument_count : Word
+  character_count : Word
+  delete_word : Word
   end_word : Word
   other_word : Word
 
@@ -97,8 +101,12 @@ condition_word name =
     else (if spells (codes ".IFTF") name || spells (codes ".IF_TRUE_FALSE") name then if_true_false
     else (if spells (codes ".ENDC") name then end_if
     else (if spells (codes ".IIF") name then immediate_if
+    else (if spells (codes ".MEXIT") name then leave_word
+    else (if spells (codes ".NARG") name then argument_count
+    else (if spells (codes ".NCHR") name then character_count
+    else (if spells (codes ".MDELETE") name then delete_word
     else (if spells (codes ".END") name then end_word
-    else other_word))))))
+    else other_word))))))))))
 
 unfoldable pub word_of : List ℕ → Word
 word_of name =
@@ -114,6 +122,14 @@ word_of name =
 abbrev pub word_in : List ℕ → Option Piece → Word
 word_in text None = other_word
 word_in text (Some p) = word_of (piece_text text p)
+
+-- the directives that only the larger language has are no words of the other
+abbrev pub known_word : Bool → Word → Word
+known_word larger leave_word = if larger then leave_word else other_word
+known_word larger argument_count = if larger then argument_count else other_word
+known_word larger character_count = if larger then character_count else other_word
+known_word larger delete_word = if larger then delete_word else other_word
+known_word larger word = word
 
 -- Bytes that belong to no token: some of these pieces is one, or is one that isn't printable either.
 abbrev pub has_bad : List Piece → Bool

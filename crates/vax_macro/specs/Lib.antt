@@ -5,6 +5,9 @@ pub mod ArgumentViews
 pub mod Heads
 pub mod HeadViews
 pub mod Templates
+pub mod Values
+pub mod Strings
+pub mod StringViews
 pub mod TemplateViews
 pub mod Conditions
 pub mod ConditionViews

@@ -116,7 +116,7 @@ abbrev pub keyword_index : Formals → Option (List ℕ) → Option ℕ
 keyword_index fs (Some keyword) = fs.index (canonical_name keyword)
 keyword_index fs None = None
 
--- the texts that arguments have given so far, and the next place for one without a keyword
+-- the texts that arguments have given so far, and the next place for one without a keyword, which is the number of those
 pub record Giving : Type 0 where
   pub next : ℕ
   pub texts : List (Option (List ℕ))
@@ -126,16 +126,16 @@ abbrev pub given_to : Option ℕ → Option (List ℕ) → Giving → Option Giv
 given_to (Some i) text g = Some (record { next = g.next; texts = set g.texts i text })
 given_to None text g = if nat_lt g.next (length g.texts) then Some (record { next = g.next + 1; texts = set g.texts g.next text }) else None
 
-abbrev pub then_given : Option Giving → (Giving → Option (List (Option (List ℕ)))) → Option (List (Option (List ℕ)))
+abbrev pub then_given : Option Giving → (Giving → Option Giving) → Option Giving
 then_given (Some g) next = next g
 then_given None next = None
 
-unfoldable pub given_from : Formals → List Argument → Giving → Option (List (Option (List ℕ)))
-given_from fs [] g = Some g.texts
+unfoldable pub given_from : Formals → List Argument → Giving → Option Giving
+given_from fs [] g = Some g
 given_from fs (a ∷ arguments) g = then_given (given_to (keyword_index fs a.keyword) a.text g) (λ more. given_from fs arguments more)
 
--- The texts of formal arguments that arguments give: none if there are more places than formal arguments.
-abbrev pub assigned : Formals → List Argument → Option (List (Option (List ℕ)))
+-- What arguments give to formal ones: nothing if there are more places than formal arguments.
+abbrev pub assigned : Formals → List Argument → Option Giving
 assigned fs arguments = given_from fs arguments (record { next = 0; texts = replicate (length fs.list) None })
 
 -- a made label: 30000$, 30001$ and so on

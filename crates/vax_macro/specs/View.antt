@@ -8,7 +8,7 @@ use Rattle.vax_macro.specs.TemplateViews.{by_name, template_view, formals_view, 
 use Rattle.vax_macro.specs.LineViews.{lines_of}
 use Rattle.vax_macro.specs.Rest as specs
 use Rattle.vax_macro.specs.Rest.{Rest}
-use Rattle.vax_macro.specs.Directives.{Goes, Gives, Again, Label, Fails}
+use Rattle.vax_macro.specs.Directives.{Goes, Gives, Writes, Turns, Again, Label, Fails}
 use Rattle.vax_macro.specs.Directives as directives
 use Rattle.vax_macro.specs.declared.template_types.Template as code_template
 use Rattle.vax_macro.specs.declared.state_types.Begin as code_begin
@@ -16,6 +16,7 @@ use Rattle.vax_macro.specs.declared.state_types.Use as code_use
 use Rattle.vax_macro.specs.declared.state_types.Use.TheVariants as uses
 use Rattle.vax_macro.specs.declared.state_types.Pending as code_pending
 use Rattle.vax_macro.specs.declared.state_types.OpenCondition as code_condition
+use Rattle.vax_macro.specs.declared.state_types.Call as code_call
 use Rattle.vax_macro.specs.declared.state_types.State as code_state
 use Rattle.vax_macro.specs.declared.state_types.Done as code_done
 use Rattle.vax_macro.specs.declared.state_types.Done.TheVariants as dones
@@ -39,7 +40,10 @@ abbrev pub pending_view : code_pending.Pending → specs.Pending
 pending_view p = record { use_of = use_view p.use_of; begin = opening_of p.begin; depth = p.depth; nested = p.nested; lines = texts_view p.lines }
 
 abbrev pub condition_view : code_condition.OpenCondition → specs.OpenCondition
-condition_view c = record { begin = opening_of c.begin; outer = c.outer; holds = c.holds; here = c.here }
+condition_view c = record { begin = opening_of c.begin; depth = c.depth; outer = c.outer; holds = c.holds; here = c.here }
+
+abbrev pub call_view : code_call.Call → specs.Call
+call_view c = record { depth = c.depth; arguments = c.arguments }
 
 abbrev pub macros_of : BTreeMap (Vec ℕ Global) (Rc code_template.Template Global) → List ℕ → Option Template
 macros_of m name = option_map (λ rc. template_view rc.value) (by_name m name)
@@ -47,11 +51,13 @@ macros_of m name = option_map (λ rc. template_view rc.value) (by_name m name)
 -- what is left to open, where so many lines were read
 abbrev pub rest_in : ℕ → code_state.State → Rest
 rest_in read s = record {
+  dialect = s.dialect;
   lines = lines_of s.lines;
   again = None;
   macros = macros_of s.macros;
   collecting = option_map pending_view s.collecting;
   conditions = map condition_view s.conditions.items;
+  calls = map call_view s.calls.items;
   made = s.made;
   read = read;
 }
@@ -60,6 +66,8 @@ rest_in read s = record {
 abbrev pub Acts : code_done.Done → ℕ → code_state.State → directives.Done → Type 0
 Acts dones.Goes read after d = d ≡ Goes (rest_in read after)
 Acts dones.Gives read after d = d ≡ Gives (rest_in read after)
+Acts (dones.Writes text) read after d = d ≡ Writes text.items (rest_in read after)
+Acts (dones.Turns text) read after d = d ≡ Turns text.items (rest_in read after)
 Acts (dones.Again at) read after d = d ≡ Again at (rest_in read after)
 Acts (dones.Label at) read after d = d ≡ Label at (rest_in read after)
 Acts (dones.Fails kind) read after d = d ≡ Fails kind

@@ -1,10 +1,10 @@
 // Arguments of macros as whole texts.
 
-ghost use Rattle.std.specs.Prelude.{◌≡◌, ◌+◌, ◌<◌, ◌≤◌, ◌^◌, ◌++◌, ◌∷◌, [], List, ℕ, Bool, length, option_map, IfOk, OnOk, IfSome};
+ghost use Rattle.std.specs.Prelude.{◌≡◌, ◌+◌, ◌<◌, ◌≤◌, ◌^◌, ◌++◌, ◌∷◌, ◌==◌, [], List, ℕ, Bool, not, length, option_map, IfOk, OnOk, IfSome};
 ghost use Rattle.std.specs.List.{prefix_len};
 ghost use Rattle.vax_lex.specs.Characters.{is_blank, is_name_character};
 ghost use Rattle.vax_macro.specs.Names.{is_name};
-ghost use Rattle.vax_macro.specs.Arguments.{is_no_separator, behind_blanks, closing, taken, depth_after, argument, following, arguments_from, arguments};
+ghost use Rattle.vax_macro.specs.Arguments.{is_no_separator, is_bare, is_edge, edged, has_edge, is_at_end, behind_blanks, closing, taken, depth_after, argument, following, arguments_from, arguments};
 ghost use Rattle.vax_macro.specs.ArgumentViews.{argument_view, arguments_view, taken_view, taking_view, following_view, owned_view, lent_view, IsShorter};
 
 use crate::names::{begins_with, behind, copied};
@@ -121,6 +121,80 @@ pub(crate) fn bare_length(text: &[u8]) -> usize
     count
 }
 
+/// Whether a byte is one of an argument without brackets.
+fn is_bare(larger: bool, byte: u8) -> bool
+    ensures { result ≡ is_bare larger byte }
+{
+    !is_blank(byte) && byte != b',' && !(larger && byte == b';')
+}
+
+/// How many bytes stand before what ends an argument without brackets.
+#[tactic(auto, using(crate::proofs::Runs::runs))]
+fn argument_length(larger: bool, text: &[u8]) -> usize
+    ensures value { result ≡ prefix_len (is_bare larger) text.now }
+    ensures bound { result ≤ length text.now }
+{
+    let mut count = 0;
+    while count < text.len() && is_bare(larger, text[count]) {
+        count += 1;
+    }
+    count
+}
+
+/// Whether a byte may stand at both ends of a text.
+fn is_edge(byte: u8) -> bool
+    ensures { result ≡ is_edge byte }
+{
+    byte.is_ascii_graphic() && !byte.is_ascii_alphabetic() && byte != b'<' && byte != b';'
+}
+
+/// How many bytes stand before this one.
+#[tactic(auto, using(crate::proofs::Runs::runs))]
+fn length_before(edge: u8, text: &[u8]) -> usize
+    ensures value { result ≡ prefix_len (λ c. not (c == edge)) text.now }
+    ensures bound { result ≤ length text.now }
+{
+    let mut count = 0;
+    while count < text.len() && text[count] != edge {
+        count += 1;
+    }
+    count
+}
+
+/// The text between two of the byte that stands first.
+pub(crate) fn edged(text: &[u8]) -> Option<Taken<'_>>
+    ensures value { option_map taken_view result ≡ edged text.now }
+    ensures shorter { IfSome result (λ t. length t.rest.now ≤ length text.now) }
+{
+    let Some((edge, inner)) = text.split_first() else {
+        return None;
+    };
+    if !is_edge(*edge) {
+        return None;
+    }
+    let length = length_before(*edge, inner);
+    if length == inner.len() {
+        return None;
+    }
+    Some(Taken {
+        text: Some(&inner[..length]),
+        rest: &inner[length + 1..],
+    })
+}
+
+/// Whether a text begins with `^` and a byte that may stand at both ends of a text.
+fn has_edge(text: &[u8]) -> bool
+    ensures { result ≡ has_edge text.now }
+{
+    if !begins_with(b'^', text) {
+        return false;
+    }
+    match behind(text, 1).first() {
+        Some(edge) => is_edge(*edge),
+        None => false,
+    }
+}
+
 /// How many brackets are open behind a byte, unless it closes the text.
 fn depth_after(depth: usize, byte: u8) -> Option<usize>
     requires { depth < 2 ^ 63 }
@@ -153,10 +227,10 @@ pub(crate) fn closing(text: &[u8]) -> Option<usize>
     None
 }
 
-/// The text that stands at a place; none where a bracket isn't closed.
+/// The text that stands at a place; none where a bracket isn't closed, or a text between two of a byte.
 #[tactic(auto, unfolding(crate::specs::Arguments::taken))]
-pub(crate) fn take_text(text: &[u8]) -> Option<Taken<'_>>
-    ensures value { option_map taken_view result ≡ taken text.now }
+pub(crate) fn take_text(larger: bool, text: &[u8]) -> Option<Taken<'_>>
+    ensures value { option_map taken_view result ≡ taken larger text.now }
     ensures shorter { IfSome result (λ t. length t.rest.now ≤ length text.now) }
 {
     if begins_with(b'<', text) {
@@ -169,7 +243,10 @@ pub(crate) fn take_text(text: &[u8]) -> Option<Taken<'_>>
             rest: &inner[length + 1..],
         });
     }
-    let length = bare_length(text);
+    if larger && has_edge(text) {
+        return edged(behind(text, 1));
+    }
+    let length = argument_length(larger, text);
     let (found, rest) = text.split_at(length);
     if length == 0 {
         return Some(Taken { text: None, rest });
@@ -184,16 +261,17 @@ pub(crate) fn take_text(text: &[u8]) -> Option<Taken<'_>>
 #[tactic(auto, unfolding(crate::specs::Arguments::argument))]
 fn take_argument<'a, K: Keywords>(
     alloc: Global,
+    larger: bool,
     keywords: &K,
     text: &'a [u8],
 ) -> Result<Option<Taking<'a>>, NoMemory>
     ensures value { IfOk result
-        (λ o. option_map taking_view o ≡ argument (K.is_keyword keywords.now) text.now) }
+        (λ o. option_map taking_view o ≡ argument larger (K.is_keyword keywords.now) text.now) }
     ensures shorter { IfOk result (λ o. IfSome o (λ t. length t.rest.now ≤ length text.now)) }
 {
     let (name, rest) = text.split_at(name_length(text));
     if begins_with(b'=', rest) && keywords.is_keyword(alloc, name)? {
-        let Some(found) = take_text(behind(rest, 1)) else {
+        let Some(found) = take_text(larger, behind(rest, 1)) else {
             return Ok(None);
         };
         return Ok(Some(Taking {
@@ -202,7 +280,7 @@ fn take_argument<'a, K: Keywords>(
             rest: found.rest,
         }));
     }
-    let Some(found) = take_text(text) else {
+    let Some(found) = take_text(larger, text) else {
         return Ok(None);
     };
     Ok(Some(Taking {
@@ -213,8 +291,8 @@ fn take_argument<'a, K: Keywords>(
 }
 
 /// What follows an argument.
-fn what_follows(rest: &[u8]) -> Following<'_>
-    ensures value { following_view result ≡ following rest.now }
+fn what_follows(larger: bool, rest: &[u8]) -> Following<'_>
+    ensures value { following_view result ≡ following larger rest.now }
     ensures shorter { IsShorter result (length rest.now) }
 {
     let next = behind_blanks(rest);
@@ -223,6 +301,8 @@ fn what_follows(rest: &[u8]) -> Following<'_>
     };
     if *first == b',' {
         Following::Another(behind_blanks(&next[1..]))
+    } else if larger && *first == b';' {
+        Following::Nothing
     } else if next.len() == rest.len() {
         Following::Unparted
     } else {
@@ -262,21 +342,22 @@ fn add(alloc: Global, found: &mut Vec<Argument>, taking: &Taking<'_>) -> Result<
 /// The arguments of a text that begins with one.
 fn arguments_in<K: Keywords>(
     alloc: Global,
+    larger: bool,
     keywords: &K,
     text: &[u8],
 ) -> Result<Option<Vec<Argument>>, NoMemory>
     ensures { IfOk result (λ o. option_map arguments_view o
-        ≡ arguments_from (length text.now + 1) (K.is_keyword keywords.now) text.now) }
+        ≡ arguments_from (length text.now + 1) larger (K.is_keyword keywords.now) text.now) }
 {
     let mut found = Vec::new(alloc);
     let mut rest = text;
     loop {
-        let taken = take_argument(alloc, keywords, rest)?;
+        let taken = take_argument(alloc, larger, keywords, rest)?;
         let Some(taking) = taken else {
             return Ok(None);
         };
         add(alloc, &mut found, &taking)?;
-        match what_follows(taking.rest) {
+        match what_follows(larger, taking.rest) {
             Following::Nothing => return Ok(Some(found)),
             Following::Unparted => return Ok(None),
             Following::Another(next) => rest = next,
@@ -284,20 +365,31 @@ fn arguments_in<K: Keywords>(
     }
 }
 
+/// Whether no argument stands at the head of a text.
+fn is_at_end(larger: bool, text: &[u8]) -> bool
+    ensures { result ≡ is_at_end larger text.now }
+{
+    match text.first() {
+        Some(first) => larger && *first == b';',
+        None => true,
+    }
+}
+
 /// The arguments of a text. None where a bracket isn't closed or a text stands right behind one.
 #[tactic(auto, unfolding(crate::specs::Arguments::arguments))]
 pub(crate) fn arguments<K: Keywords>(
     alloc: Global,
+    larger: bool,
     keywords: &K,
     text: &[u8],
 ) -> Result<Option<Vec<Argument>>, NoMemory>
     ensures { IfOk result
-        (λ o. option_map arguments_view o ≡ arguments (K.is_keyword keywords.now) text.now) }
+        (λ o. option_map arguments_view o ≡ arguments larger (K.is_keyword keywords.now) text.now) }
 {
     let rest = behind_blanks(text);
-    if rest.is_empty() {
+    if is_at_end(larger, rest) {
         return Ok(Some(Vec::new(alloc)));
     }
-    let found = arguments_in(alloc, keywords, rest)?;
+    let found = arguments_in(alloc, larger, keywords, rest)?;
     Ok(found)
 }

@@ -304,7 +304,7 @@ fn blank_arguments(wanted: bool, arguments: Option<&[Argument]>) -> Result<bool,
     }
 }
 
-fn text_of(argument: &Argument) -> &[u8]
+pub(crate) fn text_of(argument: &Argument) -> &[u8]
     ensures { result.now ≡ unwrap_or (argument_view argument.now).text [] }
 {
     match &argument.text {
@@ -357,14 +357,14 @@ fn condition_on<N: Names>(
             if has_unprintable(text, pieces) {
                 return Err(Refusal::Fault(FaultKind::Token));
             }
-            let found = arguments(alloc, &NoKeyword, code_from(at, pieces, text))?;
+            let found = arguments(alloc, false, &NoKeyword, code_from(at, pieces, text))?;
             decided(blank_arguments(wanted, found.as_deref()))
         }
         Condition::Identical(wanted) => {
             if has_unprintable(text, pieces) {
                 return Err(Refusal::Fault(FaultKind::Token));
             }
-            let found = arguments(alloc, &NoKeyword, code_from(at, pieces, text))?;
+            let found = arguments(alloc, false, &NoKeyword, code_from(at, pieces, text))?;
             decided(same_arguments(wanted, found.as_deref()))
         }
     }
@@ -474,7 +474,7 @@ fn comma_behind_two(end: usize, found: Option<Taken<'_>>) -> Result<usize, Fault
     let Some(found) = found else {
         return Err(FaultKind::Form);
     };
-    comma_behind(end, take_text(second_argument(found.rest)))
+    comma_behind(end, take_text(false, second_argument(found.rest)))
 }
 
 /// A condition before a comma among the pieces.
@@ -578,7 +578,7 @@ fn guarded_on<N: Names>(
             guarded_pieces(alloc, names, text, condition, at, pieces)
         }
         Condition::Blank(_) => {
-            let first = take_text(behind_blanks(code_from(at, pieces, text)));
+            let first = take_text(false, behind_blanks(code_from(at, pieces, text)));
             guarded_text(
                 alloc,
                 names,
@@ -590,7 +590,7 @@ fn guarded_on<N: Names>(
             )
         }
         Condition::Identical(_) => {
-            let first = take_text(behind_blanks(code_from(at, pieces, text)));
+            let first = take_text(false, behind_blanks(code_from(at, pieces, text)));
             guarded_text(
                 alloc,
                 names,

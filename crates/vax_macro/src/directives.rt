@@ -1,7 +1,8 @@
 // What the lines of a source do.
 
 ghost use Rattle.std.specs.Prelude.{◌≡◌, ◌+◌, ◌-◌, ◌<◌, ◌∷◌, [], ◌==◌, length, map, option_map, IfOk};
-ghost use Rattle.vax_macro.specs.Directives.{begins, ends, nested_after, listed, is_named, end_fault, body_fault, iterated_in, call, read, operands_fault, expansion, expansions, copies, one_formal, behind_comma, is_parted, macro_formals, argument_texts, character_texts, count_of};
+ghost use Rattle.vax_dialect.specs.Differences.{has_negative_repeats};
+ghost use Rattle.vax_macro.specs.Directives.{operands_from, negative_count, begins, ends, nested_after, listed, is_named, end_fault, body_fault, iterated_in, call, read, operands_fault, expansion, expansions, copies, one_formal, behind_comma, is_parted, macro_formals, argument_texts, character_texts, count_of};
 ghost use Rattle.vax_macro.specs.Heads.{code_from};
 ghost use Rattle.vax_macro.specs.ArgumentViews.{arguments_view, lent_view};
 ghost use Rattle.vax_macro.specs.ConditionViews.{Decides, iterated_view, listed_view};
@@ -23,6 +24,7 @@ use crate::templates::{canonical, formals_of};
 use std::alloc::Global;
 use std::collections::VecDeque;
 use std::rc::Rc;
+use vax_dialect::Dialect;
 use vax_lex::{Piece, is_blank, spells};
 use vax_space::NoMemory;
 
@@ -222,8 +224,9 @@ pub(crate) fn call_frame(
     number: u32,
     depth: u32,
 ) -> Frame
-    ensures { frame_lines result
+    ensures lines { frame_lines result
         ≡ expansion (template_view template.value).lines number depth (texts_view texts) }
+    ensures depth { result.depth ≡ depth }
 {
     Frame {
         template,
@@ -257,6 +260,23 @@ pub(crate) fn shared(template: &Rc<Template>) -> Result<Rc<Template>, NoMemory>
     ensures { IfOk result (λ rc. rc.value ≡ template.now.value) }
 {
     template.clone().map_err(|_| NoMemory)
+}
+
+/// The text of a line's operands, from a place on. In the larger language it is the arguments that tell where a comment
+/// begins.
+pub(crate) fn operands_from<'a>(
+    larger: bool,
+    line: &'a Reading,
+    operands: &[Piece],
+    at: usize,
+) -> &'a [u8]
+    ensures { result.now ≡ operands_from larger line.now.text.items operands.now at }
+{
+    if larger {
+        behind(&line.text, at)
+    } else {
+        code_from(at, operands, &line.text)
+    }
 }
 
 /// The text of a line's operands, from a place on.
@@ -296,7 +316,7 @@ pub(crate) fn macro_formals(alloc: Global, text: &[u8]) -> Result<Option<Formals
     if !is_parted(text) || (begins_with(b',', behind_blanks(text)) && rest.is_empty()) {
         return Ok(None);
     }
-    let Some(arguments) = arguments(alloc, &AnyName, rest)? else {
+    let Some(arguments) = arguments(alloc, false, &AnyName, rest)? else {
         return Ok(None);
     };
     formals_of(alloc, arguments)
@@ -385,12 +405,22 @@ pub(crate) fn character_texts(alloc: Global, text: &[u8]) -> Result<Vec<Vec<u8>>
     Ok(texts)
 }
 
+fn negative_count(dialect: Dialect) -> Result<u64, FaultKind>
+    ensures { result ≡ negative_count (has_negative_repeats dialect) }
+{
+    if dialect.has_negative_repeats() {
+        Ok(0)
+    } else {
+        Err(FaultKind::Range)
+    }
+}
+
 /// The count of a repeat.
-pub(crate) fn count_of(number: i64) -> Result<u64, FaultKind>
-    ensures { result ≡ count_of number }
+pub(crate) fn count_of(dialect: Dialect, number: i64) -> Result<u64, FaultKind>
+    ensures { result ≡ count_of dialect number }
 {
     if number < 0 {
-        return Err(FaultKind::Range);
+        return negative_count(dialect);
     }
     Ok(number.unsigned_abs())
 }

@@ -11,6 +11,7 @@ use crate::reader::{next_reading, whole};
 use crate::state_types::{Begin, Done, OpenCondition, State};
 use std::alloc::Global;
 use std::collections::{BTreeMap, VecDeque};
+use vax_dialect::Dialect;
 use vax_lex::{Names, Piece, pieces};
 use vax_space::NoMemory;
 
@@ -52,28 +53,45 @@ fn begin_of(condition: &OpenCondition) -> Begin
     condition.begin
 }
 
+/// A statement of this text. None has more than 1,024 bytes; one that had is answered like what there is no room for.
+fn statement(alloc: Global, number: u32, text: Vec<u8>) -> Result<Line, NoMemory>
+    ensures number { IfOk result (λ line. line.number ≡ number) }
+    ensures text { IfOk result (λ line. line.text.items ≡ text.items) }
+{
+    if text.len() > 1024 {
+        return Err(NoMemory);
+    }
+    let pieces = pieces(alloc, &text).map_err(|_| NoMemory)?;
+    Ok(Line {
+        number,
+        text,
+        pieces,
+    })
+}
+
 impl Expander {
     ghost use Rattle.vax_macro.specs.Rest.{started, work, weight};
     ghost use Rattle.std.specs.Prelude.{List, Option};
     ghost use Rattle.vax_lex.specs.declared.value.Value.{Value};
     ghost use Rattle.vax_macro.specs.Directives.{done};
-    ghost use Rattle.vax_macro.specs.Expansion.{AtEnd, step, line_step, cut, behind_label, unclosed};
+    ghost use Rattle.vax_macro.specs.Expansion.{AtEnd, step, line_step, cut, turned, behind_label, unclosed};
     ghost use Rattle.vax_macro.specs.Heads.{head_in};
     ghost use Rattle.vax_macro.specs.LineViews.{reading_of};
     ghost use Rattle.vax_macro.specs.Readings.{Reads, Spares, left_of};
     ghost use Rattle.vax_macro.specs.View.{opening_of, rest_in, Acts};
     ghost use Rattle.vax_macro.specs.Expanders.{rest_of, error_of, unclosed_of, read_of, Does, Opens, OpensNext, Shrinks};
 
-    /// A source of which nothing was opened.
+    /// A source in a dialect of which nothing was opened.
     #[tactic(auto, using(crate::proofs::Begins::fresh))]
-    pub fn new(alloc: Global, source: &[u8]) -> Result<Expander, NoMemory>
-        ensures rest { IfOk result (λ e. rest_of e ≡ started source.now) }
+    pub fn new(alloc: Global, dialect: Dialect, source: &[u8]) -> Result<Expander, NoMemory>
+        ensures rest { IfOk result (λ e. rest_of e ≡ started dialect source.now) }
         ensures error { IfOk result (λ e. error_of e ≡ None) }
     {
         let source = copied(alloc, source)?;
         Ok(Expander {
             alloc,
             state: State {
+                dialect,
                 lines: Lines {
                     source,
                     at: 0,
@@ -83,6 +101,7 @@ impl Expander {
                 macros: BTreeMap::new(alloc),
                 collecting: None,
                 conditions: VecDeque::new(alloc),
+                calls: VecDeque::new(alloc),
                 made: 0,
             },
             again: None,
@@ -148,6 +167,27 @@ impl Expander {
             depth: line.depth,
             text,
             labelled: false,
+        });
+        Ok(())
+    }
+
+    /// A line is read again as a shorter text.
+    #[tactic(auto, using(crate::proofs::Lessening::turned_less))]
+    fn turn(&mut self, line: &Reading, text: Vec<u8>) -> Result<(), NoMemory>
+        ensures rest { OnOk result (rest_of self.new
+            ≡ record (rest_of self.old) { again = Some (turned text.items (reading_of line.now)) }) }
+        ensures error { self.new.error ≡ self.old.error }
+        ensures unclosed { self.new.unclosed ≡ self.old.unclosed }
+        ensures fewer { OnOk result (weight (rest_of self.new).again ≤ left_of line.now) }
+    {
+        if text.len() >= line.text.len() {
+            return Err(NoMemory);
+        }
+        self.again = Some(Remainder {
+            number: line.number,
+            depth: line.depth,
+            text,
+            labelled: line.labelled,
         });
         Ok(())
     }
@@ -219,6 +259,10 @@ impl Expander {
                     pieces,
                 }))
             }
+            Done::Turns(text) => {
+                self.turn(&line, text)?;
+                Ok(Step::Goes)
+            }
             Done::Again(at) => {
                 self.cut(&line, at)?;
                 Ok(Step::Goes)
@@ -226,12 +270,12 @@ impl Expander {
             Done::Label(at) => {
                 self.hand_out_label(&line)?;
                 let text = copied(self.alloc, part(&line.text, 0, at))?;
-                let pieces = pieces(self.alloc, &text).map_err(|_| NoMemory)?;
-                Ok(Step::Says(Line {
-                    number: line.number,
-                    text,
-                    pieces,
-                }))
+                let said = statement(self.alloc, line.number, text)?;
+                Ok(Step::Says(said))
+            }
+            Done::Writes(text) => {
+                let said = statement(self.alloc, line.number, text)?;
+                Ok(Step::Says(said))
             }
             Done::Fails(kind) => Ok(Step::Faults(line.number, kind)),
         }

@@ -1,7 +1,7 @@
 // The label and the operator of a line.
 
 ghost use Rattle.std.specs.Prelude.{◌≡◌, ◌+◌, ◌-◌, ◌<◌, ◌≤◌, ◌^◌, length};
-ghost use Rattle.vax_macro.specs.Heads.{is_name_piece, is_mark_piece, is_bad, is_wide, piece_text, label_pieces, end_of, operator_in, head_in, condition_word, word_of, word_in, has_bad, has_unprintable, is_unprintable, code_end, code_from};
+ghost use Rattle.vax_macro.specs.Heads.{is_name_piece, is_mark_piece, is_bad, is_wide, piece_text, label_pieces, end_of, operator_in, head_in, condition_word, word_of, word_in, known_word, has_bad, has_unprintable, is_unprintable, code_end, code_from};
 ghost use Rattle.vax_macro.specs.HeadViews.{word_view, head_view};
 
 use crate::names::part;
@@ -22,6 +22,10 @@ pub(crate) enum Word {
     IfTrueFalse,
     EndIf,
     ImmediateIf,
+    Leave,
+    CountArguments,
+    CountCharacters,
+    Delete,
     End,
     Other,
 }
@@ -140,7 +144,7 @@ pub(crate) fn head_in(pieces: &[Piece]) -> Head
     }
 }
 
-/// The directive that a name is, if it is one of conditions or `.END`.
+/// The directive that a name is, if it is one of conditions, of the larger language alone, or `.END`.
 #[tactic(auto, unfolding(crate::specs::Heads::condition_word))]
 fn condition_word(name: &[u8]) -> Word
     ensures { word_view result ≡ condition_word name.now }
@@ -157,6 +161,14 @@ fn condition_word(name: &[u8]) -> Word
         Word::EndIf
     } else if spells(b".IIF", name) {
         Word::ImmediateIf
+    } else if spells(b".MEXIT", name) {
+        Word::Leave
+    } else if spells(b".NARG", name) {
+        Word::CountArguments
+    } else if spells(b".NCHR", name) {
+        Word::CountCharacters
+    } else if spells(b".MDELETE", name) {
+        Word::Delete
     } else if spells(b".END", name) {
         Word::End
     } else {
@@ -193,6 +205,18 @@ pub(crate) fn word_in(text: &[u8], operator: Option<Piece>) -> Word
     match operator {
         Some(piece) => word_of(piece_text(text, piece)),
         None => Word::Other,
+    }
+}
+
+/// The directives that only the larger language has are no words of the other.
+pub(crate) fn known_word(larger: bool, word: Word) -> Word
+    ensures { word_view result ≡ known_word larger (word_view word) }
+{
+    match word {
+        Word::Leave | Word::CountArguments | Word::CountCharacters | Word::Delete => {
+            if larger { word } else { Word::Other }
+        }
+        word => word,
     }
 }
 

@@ -11,6 +11,7 @@ mod counts;
 mod directives;
 mod error;
 mod expander;
+mod further;
 mod heads;
 mod line_types;
 mod lines;
@@ -18,8 +19,10 @@ mod names;
 mod reader;
 mod state;
 mod state_types;
+mod strings;
 mod template_types;
 mod templates;
+mod values;
 
 pub use error::{FaultKind, MacroError};
 pub use expander::{Expander, Line};

@@ -4,6 +4,7 @@ ghost use Rattle.std.specs.Prelude.{◌≡◌, ◌+◌, ◌<◌, ◌≤◌, ◌+
 ghost use Rattle.std.specs.Bool.{OnTrue, OnFalse};
 ghost use Rattle.std.specs.List.{position_or_len};
 ghost use Rattle.std.specs.Str.Lines.{lines, strip_carriage_return};
+ghost use Rattle.vax_macro.specs.Directives.{lines_outside};
 ghost use Rattle.vax_macro.specs.LineViews.{frame_lines, source_of, lines_of, Takes};
 
 use crate::counts::one_more;
@@ -59,6 +60,7 @@ impl Frame {
         ensures same { frame_lines self.new ≡ frame_lines self.old }
         ensures left { OnTrue result (self.new.at < length self.new.template.value.lines.items) }
         ensures none { OnFalse result (frame_lines self.old ≡ []) }
+        ensures depth { self.new.depth ≡ self.old.depth }
     {
         if self.at < self.template.lines.len() {
             return true;
@@ -143,6 +145,24 @@ impl Lines {
         }
         let line = self.next_of_source(alloc)?;
         Ok(line)
+    }
+
+    /// Leaves the expansions that stand in so many or more.
+    #[tactic(auto, using(crate::proofs::Leaving::nothing_open), unfolding(crate::specs::LineViews::lines_of, crate::specs::LineViews::source_of))]
+    pub(crate) fn leave(&mut self, depth: u32) -> Result<(), NoMemory>
+        requires { 0 < depth }
+        ensures { OnOk result (lines_of self.new ≡ lines_outside depth (lines_of self.old)) }
+    {
+        while let Some(mut frame) = self.frames.pop_front() {
+            if frame.depth >= depth {
+                continue;
+            }
+            if frame.rewind() {
+                self.open(frame)?;
+                return Ok(());
+            }
+        }
+        Ok(())
     }
 
     /// Drops all that is to come.

@@ -4,29 +4,34 @@ ghost use Rattle.std.specs.Prelude.{◌≡◌, ◌+◌, ◌-◌, ◌<◌, ◌≤
 ghost use Rattle.std.specs.Bool.{OnFalse};
 ghost use Rattle.vax_lex.specs.Tokens.{IsPieceOf};
 ghost use Rattle.vax_macro.specs.Heads.{word_in, piece_text};
-ghost use Rattle.vax_macro.specs.Templates.{template as made_of};
-ghost use Rattle.vax_macro.specs.Directives.{finished, line_copies, lines_for_each, with_lines, with_macro, collect, is_skipping, open_condition, begin_condition, switch_condition, end_condition, skip, guard, with_pending, begin_copies, begin_repeat, begin_macro, begin_arguments, begin_characters, call, direct, read, done, is_deep, condition_fault};
+ghost use Rattle.vax_macro.specs.Templates.{assigned as assigned_to, template as made_of};
+ghost use Rattle.vax_macro.specs.Directives.{leave, finished, line_copies, lines_for_each, with_expansion, with_call, with_macro, collect, is_skipping, open_condition, begin_condition, switch_condition, end_condition, skip, guard, with_pending, begin_copies, begin_repeat, begin_macro, begin_arguments, begin_characters, call, call_with, passed, direct, read, done, is_deep, condition_fault};
 ghost use Rattle.vax_macro.specs.Names.{with_entry};
 ghost use Rattle.vax_lex.specs.Characters.{canonical_name};
+ghost use Rattle.vax_dialect.specs.Differences.{has_arguments_by_value};
+ghost use Rattle.vax_macro.specs.ArgumentViews.{arguments_view};
+ghost use Rattle.vax_macro.specs.ConditionViews.{Decides};
 ghost use Rattle.vax_macro.specs.HeadViews.{word_view, head_view};
-ghost use Rattle.vax_macro.specs.LineViews.{reading_of, opened_lines};
+ghost use Rattle.vax_macro.specs.LineViews.{reading_of, frame_lines, opened_lines};
 ghost use Rattle.vax_macro.specs.TemplateViews.{template_view, formals_view, texts_view};
 ghost use Rattle.vax_macro.specs.View.{use_view, pending_view, condition_view, macros_of, rest_in, Acts, Becomes, Obeys, line_in, head_in, operands_at};
 
-use crate::arguments::{NoKeyword, arguments, behind_blanks, name_length};
+use crate::arguments::{Argument, NoKeyword, arguments, behind_blanks, name_length};
 use crate::conditions::{Refusal, condition_in, guarded_in, number_in};
 use crate::directives::{
     argument_texts, begin_at, body_fault, call_frame, character_texts, copies_each, copies_of,
     count_of, end_fault, ends, iterated_in, macro_formals, nested_after, one_formal, operand_text,
-    operands_fault, shared,
+    operands_fault, operands_from, shared,
 };
 use crate::error::FaultKind;
-use crate::heads::{Head, Word, has_unprintable, piece_text, word_in};
+use crate::further::close_calls;
+use crate::heads::{Head, Word, has_unprintable, known_word, piece_text, word_in};
 use crate::line_types::{Frame, Reading};
 use crate::names::{copied, is_name};
-use crate::state_types::{Done, OpenCondition, Pending, State, Use};
-use crate::template_types::{Formals, Template};
+use crate::state_types::{Call, Done, OpenCondition, Pending, State, Use};
+use crate::template_types::{Formals, Giving, Template};
 use crate::templates::{assigned, canonical, filled, template};
+use crate::values::all_by_value;
 use std::alloc::Global;
 use std::collections::BTreeMap;
 use std::rc::Rc;
@@ -46,10 +51,13 @@ impl Parsed<'_> {
     ghost use Rattle.std.specs.Prelude.{◌≡◌, None};
     ghost use Rattle.vax_macro.specs.Heads.{word_in};
     ghost use Rattle.vax_macro.specs.Directives.{operands_fault, end_fault, has_label};
+    ghost use Rattle.vax_dialect.specs.Differences.{has_arguments_by_value};
+    ghost use Rattle.vax_macro.specs.ArgumentViews.{arguments_view};
+    ghost use Rattle.vax_macro.specs.ConditionViews.{Decides};
     ghost use Rattle.vax_macro.specs.HeadViews.{word_view};
     ghost use Rattle.vax_macro.specs.View.{line_in, head_in, operands_at, unless};
 
-    fn operands(&self) -> &[Piece]
+    pub(crate) fn operands(&self) -> &[Piece]
         ensures { result.now ≡ (head_in self.now).operands }
     {
         if self.head.operands > self.pieces.len() {
@@ -65,7 +73,7 @@ impl Parsed<'_> {
     }
 
     /// Where the operands begin in the text.
-    fn operands_at(&self) -> usize
+    pub(crate) fn operands_at(&self) -> usize
         ensures { result ≡ operands_at self.now }
     {
         match self.head.operator {
@@ -154,14 +162,28 @@ impl State {
         put_macro(&mut self.macros, name, template)
     }
 
-    /// The lines of an expansion come next, if there is one.
-    fn open_frame(&mut self, frame: Option<Frame>) -> Result<(), NoMemory>
-        ensures { OnOk result (Becomes (with_lines (opened_lines frame)) self.old self.new) }
+    /// The lines of an expansion of this depth come next, if there is one.
+    fn open_frame(&mut self, depth: u32, frame: Option<Frame>) -> Result<(), NoMemory>
+        ensures { OnOk result
+            (Becomes (with_expansion depth (opened_lines frame)) self.old self.new) }
     {
+        close_calls(&mut self.calls, depth.saturating_sub(1))?;
         match frame {
             Some(frame) => self.lines.open(frame),
             None => Ok(()),
         }
+    }
+
+    /// The lines of a call with so many arguments come next.
+    fn open_call(&mut self, arguments: usize, depth: u32, frame: Frame) -> Result<(), NoMemory>
+        ensures { OnOk result (Becomes (λ rest. with_call depth arguments
+            (with_expansion depth (frame_lines frame) rest)) self.old self.new) }
+    {
+        close_calls(&mut self.calls, depth.saturating_sub(1))?;
+        self.lines.open(frame)?;
+        self.calls
+            .push_front(Call { depth, arguments })
+            .map_err(|_| NoMemory)
     }
 
     /// A macro of these lines is defined.
@@ -193,12 +215,12 @@ impl State {
     ) -> Result<(), NoMemory>
         requires { All (λ t. length t.items ≤ 1024) lines.items }
         ensures { OnOk result
-            (Becomes (with_lines (line_copies count (texts_view lines) number depth))
+            (Becomes (with_expansion depth (line_copies count (texts_view lines) number depth))
             self.old self.new) }
     {
         let kept = template(alloc, Formals::new(alloc), lines)?;
         let frame = copies_of(alloc, kept, count, number, depth)?;
-        self.open_frame(frame)?;
+        self.open_frame(depth, frame)?;
         Ok(())
     }
 
@@ -214,13 +236,13 @@ impl State {
     ) -> Result<(), NoMemory>
         requires { All (λ t. length t.items ≤ 1024) lines.items }
         ensures { OnOk result
-            (Becomes (with_lines (lines_for_each formal.items (texts_view lines) number depth
+            (Becomes (with_expansion depth (lines_for_each formal.items (texts_view lines) number depth
             (texts_view texts))) self.old self.new) }
     {
         let formals = one_formal(alloc, formal)?;
         let kept = template(alloc, formals, lines)?;
         let frame = copies_each(alloc, kept, texts, number, depth)?;
-        self.open_frame(frame)?;
+        self.open_frame(depth, frame)?;
         Ok(())
     }
 
@@ -327,6 +349,7 @@ impl State {
         self.conditions
             .push_front(OpenCondition {
                 begin: begin_at(line, read),
+                depth: line.depth,
                 outer,
                 holds,
                 here: holds,
@@ -394,6 +417,7 @@ impl State {
         self.conditions
             .push_front(OpenCondition {
                 begin: condition.begin,
+                depth: condition.depth,
                 outer: condition.outer,
                 holds: condition.holds,
                 here,
@@ -494,7 +518,7 @@ impl State {
             result self.old self.new }
     {
         match number_in(alloc, names, &parsed.line.text, parsed.operands()) {
-            Ok(number) => match count_of(number) {
+            Ok(number) => match count_of(self.dialect, number) {
                 Ok(count) => Ok(self.begin_copies(alloc, Use::Copies(count), parsed)),
                 Err(kind) => Ok(Done::Fails(kind)),
             },
@@ -538,7 +562,12 @@ impl State {
     {
         let found = iterated_in(alloc, parsed.line, parsed.operands(), parsed.operands_at());
         match found {
-            Ok((formal, text)) => match arguments(alloc, &NoKeyword, &text)? {
+            Ok((formal, text)) => match arguments(
+                alloc,
+                self.dialect.has_argument_forms(),
+                &NoKeyword,
+                &text,
+            )? {
                 Some(found) => {
                     let texts = argument_texts(alloc, found)?;
                     Ok(self.begin_copies(alloc, Use::Each { formal, texts }, parsed))
@@ -590,40 +619,83 @@ impl State {
         }
     }
 
-    #[tactic(auto, unfolding(crate::specs::Directives::call))]
-    fn call(
+    /// Arguments as they are passed.
+    fn passed<N: Names>(
+        &self,
+        alloc: Global,
+        names: &N,
+        found: Vec<Argument>,
+    ) -> Result<Vec<Argument>, Refusal>
+        ensures { Decides arguments_view result
+            (passed (has_arguments_by_value self.now.dialect) (N.meaning names.now)
+            (arguments_view found)) }
+    {
+        if self.dialect.has_arguments_by_value() {
+            all_by_value(alloc, names, found)
+        } else {
+            Ok(found)
+        }
+    }
+
+    /// A call with these arguments.
+    fn call_with(
         &mut self,
         alloc: Global,
         template: Rc<Template>,
+        found: Vec<Argument>,
         parsed: Parsed<'_>,
     ) -> Result<Done, NoMemory>
-        requires { All (IsPieceOf parsed.line.now.text.items) parsed.pieces.now }
-        ensures { Obeys parsed.entry
-            (λ p. call (template_view template.value) (line_in p) (head_in p) (operands_at p))
-            result self.old self.new }
+        ensures { Obeys parsed.entry (λ p. call_with (template_view template.value)
+            (assigned_to (formals_view template.value.formals) (arguments_view found))
+            (line_in p)) result self.old self.new }
     {
-        if has_unprintable(&parsed.line.text, parsed.operands()) {
-            return Ok(Done::Fails(FaultKind::Token));
-        }
-        let text = operand_text(parsed.line, parsed.operands(), parsed.operands_at());
-        let Some(found) = arguments(alloc, &template.formals, text)? else {
-            return Ok(Done::Fails(FaultKind::Form));
-        };
         let Some(given) = assigned(alloc, &template.formals, found)? else {
             return Ok(Done::Fails(FaultKind::Count));
         };
         if self.is_deep(parsed.line) {
             return Ok(Done::Fails(FaultKind::Depth));
         }
-        let texts = filled(alloc, &template.formals.list, given, &mut self.made)?;
-        self.lines.open(call_frame(
+        let Giving { next, texts } = given;
+        let texts = filled(alloc, &template.formals.list, texts, &mut self.made)?;
+        let frame = call_frame(
             alloc,
             template,
             texts,
             parsed.line.number,
             parsed.line.depth + 1,
-        ))?;
+        );
+        self.open_call(next, parsed.line.depth + 1, frame)?;
         Ok(Done::Goes)
+    }
+
+    #[tactic(auto, unfolding(crate::specs::Directives::call))]
+    fn call<N: Names>(
+        &mut self,
+        alloc: Global,
+        names: &N,
+        template: Rc<Template>,
+        parsed: Parsed<'_>,
+    ) -> Result<Done, NoMemory>
+        requires { All (IsPieceOf parsed.line.now.text.items) parsed.pieces.now }
+        ensures { Obeys parsed.entry
+            (λ p. call (N.meaning names.now) (template_view template.value) (line_in p) (head_in p)
+            (operands_at p))
+            result self.old self.new }
+    {
+        if has_unprintable(&parsed.line.text, parsed.operands()) {
+            return Ok(Done::Fails(FaultKind::Token));
+        }
+        let larger = self.dialect.has_argument_forms();
+        let text = operands_from(larger, parsed.line, parsed.operands(), parsed.operands_at());
+        let Some(found) = arguments(alloc, larger, &template.formals, text)? else {
+            return Ok(Done::Fails(FaultKind::Form));
+        };
+        let found = match self.passed(alloc, names, found) {
+            Ok(found) => found,
+            Err(Refusal::Fault(kind)) => return Ok(Done::Fails(kind)),
+            Err(Refusal::NoMemory) => return Err(NoMemory),
+        };
+        self.call_with(alloc, template, found, parsed)
     }
 
     /// A directive of the expander.
@@ -653,13 +725,17 @@ impl State {
             }
             Word::EndIf => Ok(self.end_condition(parsed)),
             Word::ImmediateIf => self.guard(alloc, names, parsed),
+            Word::Leave => self.leave(parsed),
+            Word::CountArguments => self.count_arguments(alloc, parsed),
+            Word::CountCharacters => self.count_characters(alloc, parsed),
+            Word::Delete => self.delete_macros(alloc, parsed),
             Word::End | Word::Other => Ok(Done::Gives),
         }
     }
 
-    /// A line that is read.
+    /// A line that is read, without operators on texts.
     #[tactic(auto, unfolding(crate::specs::Directives::read))]
-    fn read<N: Names>(
+    pub(crate) fn read<N: Names>(
         &mut self,
         alloc: Global,
         names: &N,
@@ -677,9 +753,9 @@ impl State {
             if parsed.has_label() {
                 return Ok(Done::Label(parsed.head.label_end));
             }
-            return self.call(alloc, template, parsed);
+            return self.call(alloc, names, template, parsed);
         }
-        match parsed.word() {
+        match known_word(self.dialect.has_macro_directives(), parsed.word()) {
             Word::End => {
                 self.lines.clear();
                 Ok(Done::Gives)
@@ -722,7 +798,7 @@ impl State {
         if self.is_skipping() {
             self.skip(parsed)
         } else {
-            self.read(alloc, names, parsed)
+            self.read_line(alloc, names, parsed)
         }
     }
 }

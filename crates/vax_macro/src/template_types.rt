@@ -39,7 +39,7 @@ pub(crate) struct Template {
     pub(crate) lines: Vec<BodyLine>,
 }
 
-/// The texts that arguments have given so far, and the next place for one without a keyword.
+/// The texts that arguments have given so far, and the next place for one without a keyword, which is the number of those.
 #[derive(Drop)]
 pub(crate) struct Giving {
     pub(crate) next: usize,

@@ -9,7 +9,7 @@ ghost use Rattle.vax_macro.specs.Names.{with_entry};
 ghost use Rattle.vax_macro.specs.Directives.{is_formal};
 ghost use Rattle.vax_macro.specs.Templates.{Filled, no_formals, with_formal, added, formal_of, plain_formal, keyword_formal, formals_from, slot_at, with_slot, name_at, slots_in, body_line, cut_before, cut_behind, replaced, rewritten, keyword_index, assigned, made_label, with_text, filled_with, filled, template};
 ghost use Rattle.vax_macro.specs.ArgumentViews.{argument_view, arguments_view, owned_view, lent_view};
-ghost use Rattle.vax_macro.specs.TemplateViews.{by_name, formal_view, formals_view, line_view, template_view, texts_view, given_view};
+ghost use Rattle.vax_macro.specs.TemplateViews.{by_name, formal_view, formals_view, line_view, template_view, texts_view, given_view, giving_view};
 
 use crate::arguments::{Argument, Keywords};
 use crate::counts::one_more;
@@ -468,13 +468,13 @@ impl Giving {
     }
 }
 
-/// The texts that arguments give; none where there are more places than formal arguments.
+/// What arguments give to formal ones; nothing where there are more places than formal arguments.
 pub(crate) fn assigned(
     alloc: Global,
     formals: &Formals,
     arguments: Vec<Argument>,
-) -> Result<Option<Vec<Option<Vec<u8>>>>, NoMemory>
-    ensures { IfOk result (λ o. option_map given_view o
+) -> Result<Option<Giving>, NoMemory>
+    ensures { IfOk result (λ o. option_map giving_view o
         ≡ assigned (formals_view formals.now) (arguments_view arguments)) }
 {
     let texts = nothing_given(alloc, formals.list.len())?;
@@ -486,7 +486,7 @@ pub(crate) fn assigned(
             return Ok(None);
         }
     }
-    Ok(Some(giving.texts))
+    Ok(Some(giving))
 }
 
 /// The text of a formal argument: the one that is given, a new label, or the default.

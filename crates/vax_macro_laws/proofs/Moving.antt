@@ -1,19 +1,21 @@
 -- Each step reads on: lines are counted up, and what is left of a line has its number.
 use Rattle.std.proofs.Common.{subst, ap, ◌≡◌, ◌+◌, ◌<◌, ◌⊎◌, inl, inr, ℕ, Bool, true, false, cond, List, [], ◌∷◌, ◌++◌, length, take, drop, Option, Some, None, Result, Ok, Err, refl, sym, ◌∙◌, arith}
-use Rattle.std.specs.Prelude.{not, IfSome, ◌==◌, ◌&&◌, nat_le, if◌then◌else◌}
+use Rattle.std.specs.Prelude.{not, unwrap_or, IfSome, ◌==◌, ◌&&◌, nat_le, if◌then◌else◌}
 use Rattle.vax_lex.specs.Characters.{canonical_name}
 use Rattle.vax_lex.specs.Tokens.{pieces_of}
 use Rattle.vax_lex.specs.declared.token.Piece.{Piece}
 use Rattle.vax_lex.specs.declared.value.Value.{Value}
 use Rattle.vax_macro.specs.Arguments.{Argument, arguments, behind_blanks, name_length}
 use Rattle.vax_macro.specs.Conditions.{condition_in, guarded_in, no_keyword, number_in}
-use Rattle.vax_macro.specs.Directives.{Again, Done, Fails, Gives, Goes, Label, Statement, argument_texts, begin_arguments, begin_body, begin_characters, begin_condition, begin_copies, begin_each, begin_macro, begin_repeat, behind_label, body_fault, call, call_by, call_with, character_texts, collect, condition_fault, direct, done, end_condition, end_fault, ends, expansion, finished, guard, has_label, is_deep, is_formal, is_skipping, iterated_in, line_copies, lines_for_each, macro_formals, nested_after, open_call, open_condition, opening, operands_fault, read, read_operator, read_word, skip, switch, switch_condition, then_count, unless_fault, with_lines, with_macro, with_pending}
+use Rattle.vax_dialect.specs.Differences.{has_argument_forms, has_arguments_by_value, has_macro_directives, has_string_operators}
+use Rattle.vax_macro.specs.Directives.{operands_from, operator_within, read_line, turn, with_value, assignment, assigns, calls_within, conditions_outside, count_arguments, count_characters, counted, counted_in, delete_all, delete_listed, delete_macros, innermost, measured, one_piece, two_texts, Iterated, without_macro, leave, left_at, lines_outside, Again, Done, Fails, Gives, Goes, Label, Turns, Writes, Statement, argument_texts, begin_arguments, begin_body, begin_characters, begin_condition, begin_copies, begin_each, begin_macro, begin_repeat, behind_label, body_fault, call, call_by, call_of, call_with, passed, character_texts, collect, condition_fault, direct, done, end_condition, end_fault, ends, expansion, finished, guard, has_label, is_deep, is_formal, is_skipping, iterated_in, line_copies, lines_for_each, macro_formals, nested_after, open_call, open_condition, opening, operands_fault, read, read_operator, read_word, skip, switch, switch_condition, then_count, unless_fault, with_expansion, with_call, with_macro, with_pending}
 use Rattle.vax_macro.specs.Expansion.{Ends, Faults, Says, Stepped, Steps, begun, joined_on, joined_with, line_step, next_line_step, outcome, read_on, step, unclosed, whole}
-use Rattle.vax_macro.specs.Heads.{Head, Word, code_from, end_if, end_macro, end_repeat, end_word, has_unprintable, head_in, if_false, if_true, if_true_false, if_word, immediate_if, macro_word, other_word, piece_text, repeat, repeat_arguments, repeat_characters, word_in}
+use Rattle.vax_macro.specs.Heads.{Head, Word, code_end, code_from, has_bad, end_if, end_macro, end_repeat, end_word, has_unprintable, head_in, if_false, if_true, if_true_false, if_word, immediate_if, argument_count, character_count, delete_word, known_word, leave_word, macro_word, other_word, piece_text, repeat, repeat_arguments, repeat_characters, word_in}
 use Rattle.vax_macro.specs.Lines.{Reading, Remainder, SourceLine, before_dash, dash_in, is_long, with_part}
 use Rattle.vax_macro.specs.Names.{is_name}
-use Rattle.vax_macro.specs.Rest.{Opening, Pending, Rest, Use, copies_of, copy_each, macro_body}
-use Rattle.vax_macro.specs.Templates.{Filled, Formals, Template, assigned, filled, template}
+use Rattle.vax_macro.specs.Rest.{Call, Opening, Pending, Rest, Use, copies_of, copy_each, macro_body}
+use Rattle.vax_macro.specs.Strings.{Evaluated, Found, evaluated}
+use Rattle.vax_macro.specs.Templates.{Filled, Formals, Giving, Template, assigned, filled, template}
 use Rattle.vax_macro.specs.declared.error.FaultKind.{FaultKind}
 use Rattle.vax_macro.specs.declared.error.FaultKind.TheVariants as faults
 use Rattle.vax_macro_laws.specs.Following.{IsFollowing}
@@ -25,6 +27,8 @@ Same before after = (after.read ≡ before.read) × (after.again ≡ before.agai
 abbrev pub Leaves : (labelled : Bool) → Rest → Done → Type 0
 Leaves labelled rest (Goes after) = Same rest after
 Leaves labelled rest (Gives after) = Same rest after
+Leaves labelled rest (Writes text after) = Same rest after
+Leaves labelled rest (Turns text after) = Same rest after
 Leaves labelled rest (Again at after) = Same rest after
 Leaves labelled rest (Label at after) = Same rest after × (labelled ≡ false)
 Leaves labelled rest (Fails kind) = Unit {0}
@@ -55,8 +59,8 @@ by_label false line head rest d e is h k = k
 
 finished_by : (u : Use) (p : Pending) (rest : Rest) → Same rest (elim u [
   | macro_body name fs ↦ with_macro name (template fs p.lines) rest
-  | copies_of n ↦ with_lines (line_copies n p.lines p.begin.number p.depth) rest
-  | copy_each name texts ↦ with_lines (lines_for_each name p.lines p.begin.number p.depth texts) rest
+  | copies_of n ↦ with_expansion p.depth (line_copies n p.lines p.begin.number p.depth) rest
+  | copy_each name texts ↦ with_expansion p.depth (lines_for_each name p.lines p.begin.number p.depth texts) rest
 ])
 finished_by (macro_body name fs) p rest = (refl, refl)
 finished_by (copies_of n) p rest = (refl, refl)
@@ -78,7 +82,7 @@ collect_leaves p line pieces head rest =
     (refl, refl)
 
 open_leaves : (line : Reading) (outer holds : Bool) (rest : Rest) → Leaves line.labelled rest (open_condition line outer holds rest)
-open_leaves line outer holds rest = either_leaves line.labelled (is_deep line rest) rest (Fails faults.Depth) (Goes (record rest { conditions = record { begin = opening line rest; outer = outer; holds = holds; here = holds } ∷ rest.conditions })) tt (refl, refl)
+open_leaves line outer holds rest = either_leaves line.labelled (is_deep line rest) rest (Fails faults.Depth) (Goes (record rest { conditions = record { begin = opening line rest; depth = line.depth; outer = outer; holds = holds; here = holds } ∷ rest.conditions })) tt (refl, refl)
 
 begin_condition_leaves : (names : List ℕ → Option Value) (line : Reading) (head : Head) (rest : Rest) → Leaves line.labelled rest (begin_condition names line head rest)
 unfolding begin_condition
@@ -112,6 +116,10 @@ skip_by repeat_arguments line pieces head rest = (refl, refl)
 skip_by repeat_characters line pieces head rest = (refl, refl)
 skip_by end_repeat line pieces head rest = (refl, refl)
 skip_by immediate_if line pieces head rest = (refl, refl)
+skip_by leave_word line pieces head rest = (refl, refl)
+skip_by argument_count line pieces head rest = (refl, refl)
+skip_by character_count line pieces head rest = (refl, refl)
+skip_by delete_word line pieces head rest = (refl, refl)
 skip_by end_word line pieces head rest = (refl, refl)
 skip_by other_word line pieces head rest = (refl, refl)
 
@@ -129,7 +137,7 @@ copies_leave u line rest = either_leaves line.labelled (is_deep line rest) rest 
 
 begin_repeat_leaves : (names : List ℕ → Option Value) (line : Reading) (head : Head) (rest : Rest) → Leaves line.labelled rest (begin_repeat names line head rest)
 unfolding begin_repeat
-begin_repeat_leaves names line head rest = result_leaves line.labelled rest (then_count (number_in names line.text head.operands)) (λ n. begin_copies (copies_of n) line rest) (λ n. copies_leave (copies_of n) line rest)
+begin_repeat_leaves names line head rest = result_leaves line.labelled rest (then_count rest.dialect (number_in names line.text head.operands)) (λ n. begin_copies (copies_of n) line rest) (λ n. copies_leave (copies_of n) line rest)
 
 body_leaves : (name : List ℕ) (fs : Option Formals) (line : Reading) (rest : Rest) → Leaves line.labelled rest (begin_body name fs line rest)
 body_leaves name None line rest = tt
@@ -153,33 +161,101 @@ each_leaves name (Some arguments) line rest = copies_leave (copy_each name (argu
 begin_arguments_leaves : (line : Reading) (head : Head) (at : ℕ) (rest : Rest) → Leaves line.labelled rest (begin_arguments line head at rest)
 unfolding begin_arguments
 begin_arguments_leaves line head at rest =
-    result_leaves line.labelled rest (iterated_in line.text head.operands at) (λ i. begin_each i.name (arguments no_keyword i.text) line rest) (λ i. each_leaves i.name (arguments no_keyword i.text) line rest)
+    result_leaves line.labelled rest (iterated_in line.text head.operands at) (λ i. begin_each i.name (arguments (has_argument_forms rest.dialect) no_keyword i.text) line rest) (λ i. each_leaves i.name (arguments (has_argument_forms rest.dialect) no_keyword i.text) line rest)
 
 begin_characters_leaves : (line : Reading) (head : Head) (at : ℕ) (rest : Rest) → Leaves line.labelled rest (begin_characters line head at rest)
 unfolding begin_characters
 begin_characters_leaves line head at rest =
     result_leaves line.labelled rest (iterated_in line.text head.operands at) (λ i. begin_copies (copy_each i.name (character_texts i.text)) line rest) (λ i. copies_leave (copy_each i.name (character_texts i.text)) line rest)
 
-open_call_leaves : (t : Template) (f : Filled) (line : Reading) (rest : Rest) → Leaves line.labelled rest (open_call t f line rest)
-open_call_leaves t f line rest =
-    either_leaves line.labelled (is_deep line rest) rest (Fails faults.Depth) (Goes (record rest { lines = expansion t.lines line.number (line.depth + 1) f.texts ++ rest.lines; made = f.made })) tt (refl, refl)
+open_call_leaves : (t : Template) (arguments : ℕ) (f : Filled) (line : Reading) (rest : Rest) → Leaves line.labelled rest (open_call t arguments f line rest)
+open_call_leaves t arguments f line rest =
+    either_leaves line.labelled (is_deep line rest) rest (Fails faults.Depth)
+    (Goes (with_call (line.depth + 1) arguments (with_expansion (line.depth + 1) (expansion t.lines line.number (line.depth + 1) f.texts) (record rest { made = f.made }))))
+    tt (refl, refl)
 
-call_with_leaves : (t : Template) (o : Option (List (Option (List ℕ)))) (line : Reading) (rest : Rest) → Leaves line.labelled rest (call_with t o line rest)
+call_with_leaves : (t : Template) (o : Option Giving) (line : Reading) (rest : Rest) → Leaves line.labelled rest (call_with t o line rest)
 call_with_leaves t None line rest = tt
-call_with_leaves t (Some texts) line rest = open_call_leaves t (filled rest.made t.formals.list texts) line rest
+call_with_leaves t (Some g) line rest = open_call_leaves t g.next (filled rest.made t.formals.list g.texts) line rest
 
-call_by_leaves : (t : Template) (o : Option (List Argument)) (line : Reading) (rest : Rest) → Leaves line.labelled rest (call_by t o line rest)
-call_by_leaves t None line rest = tt
-call_by_leaves t (Some arguments) line rest = call_with_leaves t (assigned t.formals arguments) line rest
+call_of_leaves : (t : Template) (r : Result (List Argument) FaultKind) (line : Reading) (rest : Rest) → Leaves line.labelled rest (call_of t r line rest)
+call_of_leaves t (Ok arguments) line rest = call_with_leaves t (assigned t.formals arguments) line rest
+call_of_leaves t (Err kind) line rest = tt
 
-call_leaves : (t : Template) (line : Reading) (head : Head) (at : ℕ) (rest : Rest) → Leaves line.labelled rest (call t line head at rest)
+call_by_leaves : (names : List ℕ → Option Value) (t : Template) (o : Option (List Argument)) (line : Reading) (rest : Rest) → Leaves line.labelled rest (call_by names t o line rest)
+call_by_leaves names t None line rest = tt
+call_by_leaves names t (Some arguments) line rest = call_of_leaves t (passed (has_arguments_by_value rest.dialect) names arguments) line rest
+
+call_leaves : (names : List ℕ → Option Value) (t : Template) (line : Reading) (head : Head) (at : ℕ) (rest : Rest) → Leaves line.labelled rest (call names t line head at rest)
 unfolding call
-call_leaves t line head at rest =
-    let made : Done = call_by t (arguments (is_formal t.formals) (code_from at head.operands line.text)) line rest in
-    either_leaves line.labelled (has_unprintable line.text head.operands) rest (Fails faults.Token) made tt (call_by_leaves t (arguments (is_formal t.formals) (code_from at head.operands line.text)) line rest)
+call_leaves names t line head at rest =
+    let made : Done = call_by names t (arguments (has_argument_forms rest.dialect) (is_formal t.formals) (operands_from (has_argument_forms rest.dialect) line.text head.operands at)) line rest in
+    either_leaves line.labelled (has_unprintable line.text head.operands) rest (Fails faults.Token) made tt (call_by_leaves names t (arguments (has_argument_forms rest.dialect) (is_formal t.formals) (operands_from (has_argument_forms rest.dialect) line.text head.operands at)) line rest)
 
 label_leaves : (line : Reading) (head : Head) (rest : Rest) (d : Done) → Leaves line.labelled rest d → Leaves line.labelled rest (behind_label line head rest d)
 label_leaves line head rest d h = by_label (has_label line head) line head rest (Label head.label_end rest) d refl (λ new. ((refl, refl), new)) h
+
+leave_leaves : (line : Reading) (pieces : List Piece) (head : Head) (rest : Rest) → Leaves line.labelled rest (leave line pieces head rest)
+unfolding leave
+leave_leaves line pieces head rest =
+    unless_leaves line.labelled (operands_fault pieces head.operands) rest (left_at line.depth rest)
+    (either_leaves line.labelled (line.depth == 0) rest (Fails faults.Nesting)
+    (Goes (record rest { lines = lines_outside line.depth rest.lines; conditions = conditions_outside line.depth rest.conditions })) tt (refl, refl))
+
+assigns_leaves : (l : Bool) (name : List ℕ) (n : ℕ) (rest : Rest) → Leaves l rest (assigns name n rest)
+assigns_leaves l name n rest = either_leaves l (is_name name) rest (Writes (assignment name n) rest) (Fails faults.Form) (refl, refl) tt
+
+counted_leaves : (l : Bool) (name : List ℕ) (n : Option ℕ) (rest : Rest) → Leaves l rest (counted name n rest)
+counted_leaves l name None rest = tt
+counted_leaves l name (Some n) rest = assigns_leaves l name n rest
+
+counted_in_leaves : (l : Bool) (text : List ℕ) (o : Option Piece) (rest : Rest) → Leaves l rest (counted_in text o rest)
+counted_in_leaves l text None rest = tt
+counted_in_leaves l text (Some p) rest = counted_leaves l (piece_text text p) (innermost rest.calls) rest
+
+over : (l : Bool) (d : Done) (rest : Rest) (calls : List Call) → Leaves l (record rest { calls = calls }) d → Leaves l rest d
+over l (Goes after) rest calls h = h
+over l (Gives after) rest calls h = h
+over l (Writes text after) rest calls h = h
+over l (Turns text after) rest calls h = h
+over l (Again at after) rest calls h = h
+over l (Label at after) rest calls h = h
+over l (Fails kind) rest calls h = tt
+
+count_arguments_leaves : (line : Reading) (pieces : List Piece) (head : Head) (rest : Rest) → Leaves line.labelled rest (count_arguments line pieces head rest)
+unfolding count_arguments
+count_arguments_leaves line pieces head rest =
+    let calls : List Call = calls_within line.depth rest.calls in
+    let found : Done = counted_in line.text (one_piece head.operands) (record rest { calls = calls }) in
+    either_leaves line.labelled (has_bad pieces) rest (Fails faults.Token) found tt
+    (over line.labelled found rest calls (counted_in_leaves line.labelled line.text (one_piece head.operands) (record rest { calls = calls })))
+
+measured_leaves : (l : Bool) (r : Result Iterated FaultKind) (rest : Rest) → Leaves l rest (measured r rest)
+measured_leaves l (Ok i) rest = assigns_leaves l i.name (length i.text) rest
+measured_leaves l (Err kind) rest = tt
+
+count_characters_leaves : (line : Reading) (head : Head) (at : ℕ) (rest : Rest) → Leaves line.labelled rest (count_characters line head at rest)
+unfolding count_characters
+count_characters_leaves line head at rest =
+    let found : Result Iterated FaultKind = two_texts (arguments (has_argument_forms rest.dialect) no_keyword (operands_from (has_argument_forms rest.dialect) line.text head.operands at)) in
+    either_leaves line.labelled (has_unprintable line.text head.operands) rest (Fails faults.Token) (measured found rest) tt (measured_leaves line.labelled found rest)
+
+delete_all_leaves : (l : Bool) (arguments : List Argument) (rest after : Rest) → Same rest after → Leaves l rest (delete_all arguments after)
+delete_all_leaves l [] rest after h = h
+delete_all_leaves l (a ∷ arguments) rest after h =
+    either_leaves l (is_name (unwrap_or a.text [])) rest (delete_all arguments (without_macro (unwrap_or a.text []) after)) (Fails faults.Form)
+    (delete_all_leaves l arguments rest (without_macro (unwrap_or a.text []) after) h) tt
+
+delete_listed_leaves : (l : Bool) (o : Option (List Argument)) (rest : Rest) → Leaves l rest (delete_listed o rest)
+delete_listed_leaves l None rest = tt
+delete_listed_leaves l (Some []) rest = tt
+delete_listed_leaves l (Some (a ∷ arguments)) rest = delete_all_leaves l (a ∷ arguments) rest rest (refl, refl)
+
+delete_macros_leaves : (line : Reading) (head : Head) (at : ℕ) (rest : Rest) → Leaves line.labelled rest (delete_macros line head at rest)
+unfolding delete_macros
+delete_macros_leaves line head at rest =
+    let found : Option (List Argument) = arguments (has_argument_forms rest.dialect) no_keyword (operands_from (has_argument_forms rest.dialect) line.text head.operands at) in
+    either_leaves line.labelled (has_unprintable line.text head.operands) rest (Fails faults.Token) (delete_listed found rest) tt (delete_listed_leaves line.labelled found rest)
 
 direct_by : (names : List ℕ → Option Value) (w : Word) (line : Reading) (pieces : List Piece) (head : Head) (at : ℕ) (rest : Rest) → Leaves line.labelled rest (direct names w line pieces head at rest)
 unfolding direct
@@ -195,6 +271,10 @@ direct_by names if_true line pieces head at rest = switch_leaves line.labelled i
 direct_by names if_true_false line pieces head at rest = switch_leaves line.labelled if_true_false pieces head rest
 direct_by names end_if line pieces head at rest = end_leaves line.labelled pieces head rest
 direct_by names immediate_if line pieces head at rest = guard_leaves names line head rest
+direct_by names leave_word line pieces head at rest = leave_leaves line pieces head rest
+direct_by names argument_count line pieces head at rest = count_arguments_leaves line pieces head rest
+direct_by names character_count line pieces head at rest = count_characters_leaves line head at rest
+direct_by names delete_word line pieces head at rest = delete_macros_leaves line head at rest
 direct_by names end_word line pieces head at rest = (refl, refl)
 direct_by names other_word line pieces head at rest = (refl, refl)
 
@@ -211,12 +291,16 @@ word_leaves names if_true line pieces head at rest = label_leaves line head rest
 word_leaves names if_true_false line pieces head at rest = label_leaves line head rest (direct names if_true_false line pieces head at rest) (direct_by names if_true_false line pieces head at rest)
 word_leaves names end_if line pieces head at rest = label_leaves line head rest (direct names end_if line pieces head at rest) (direct_by names end_if line pieces head at rest)
 word_leaves names immediate_if line pieces head at rest = label_leaves line head rest (direct names immediate_if line pieces head at rest) (direct_by names immediate_if line pieces head at rest)
+word_leaves names leave_word line pieces head at rest = label_leaves line head rest (direct names leave_word line pieces head at rest) (direct_by names leave_word line pieces head at rest)
+word_leaves names argument_count line pieces head at rest = label_leaves line head rest (direct names argument_count line pieces head at rest) (direct_by names argument_count line pieces head at rest)
+word_leaves names character_count line pieces head at rest = label_leaves line head rest (direct names character_count line pieces head at rest) (direct_by names character_count line pieces head at rest)
+word_leaves names delete_word line pieces head at rest = label_leaves line head rest (direct names delete_word line pieces head at rest) (direct_by names delete_word line pieces head at rest)
 word_leaves names end_word line pieces head at rest = (refl, refl)
 word_leaves names other_word line pieces head at rest = (refl, refl)
 
 operator_leaves : (names : List ℕ → Option Value) (line : Reading) (pieces : List Piece) (head : Head) (operator : Piece) (t : Option Template) (rest : Rest) → Leaves line.labelled rest (read_operator names line pieces head operator t rest)
-operator_leaves names line pieces head operator (Some t) rest = label_leaves line head rest (call t line head operator.end rest) (call_leaves t line head operator.end rest)
-operator_leaves names line pieces head operator None rest = word_leaves names (word_in line.text (Some operator)) line pieces head operator.end rest
+operator_leaves names line pieces head operator (Some t) rest = label_leaves line head rest (call names t line head operator.end rest) (call_leaves names t line head operator.end rest)
+operator_leaves names line pieces head operator None rest = word_leaves names (known_word (has_macro_directives rest.dialect) (word_in line.text (Some operator))) line pieces head operator.end rest
 
 read_by : (o : Option Piece) (names : List ℕ → Option Value) (line : Reading) (pieces : List Piece) (head : Head) (rest : Rest) → Leaves line.labelled rest (elim o [
   | None ↦ Gives rest
@@ -229,16 +313,32 @@ read_leaves : (names : List ℕ → Option Value) (line : Reading) (pieces : Lis
 unfolding read
 read_leaves names line pieces head rest = read_by head.operator names line pieces head rest
 
+value_leaves : (l : Bool) (text : List ℕ) (f : Found) (e : Evaluated) (rest : Rest) → Leaves l rest (with_value text f e rest)
+value_leaves l text f (Ok e) rest = (refl, refl)
+value_leaves l text f (Err kind) rest = tt
+
+turn_leaves : (l : Bool) (names : List ℕ → Option Value) (text : List ℕ) (o : Option Found) (d : Done) (rest : Rest) → Leaves l rest d → Leaves l rest (turn names text o d rest)
+turn_leaves l names text None d rest h = h
+turn_leaves l names text (Some f) d rest h = value_leaves l text f (evaluated names f.operator (drop f.operands text)) rest
+
+read_line_leaves : (names : List ℕ → Option Value) (line : Reading) (pieces : List Piece) (head : Head) (rest : Rest) → Leaves line.labelled rest (read_line names line pieces head rest)
+unfolding read_line
+read_line_leaves names line pieces head rest =
+    turn_leaves line.labelled names line.text (operator_within (not (line.depth == 0) && has_string_operators rest.dialect) (code_end pieces) line.text) (read names line pieces head rest) rest
+    (read_leaves names line pieces head rest)
+
 done_by : (o : Option Pending) (names : List ℕ → Option Value) (line : Reading) (pieces : List Piece) (head : Head) (rest : Rest) → Leaves line.labelled rest (elim o [
   | Some p ↦ collect p line pieces head (record rest { collecting = None })
-  | None ↦ if is_skipping rest.conditions then skip line pieces head rest else read names line pieces head rest
+  | None ↦ if is_skipping rest.conditions then skip line pieces head rest else read_line names line pieces head rest
 ])
-done_by None names line pieces head rest = either_leaves line.labelled (is_skipping rest.conditions) rest (skip line pieces head rest) (read names line pieces head rest) (skip_leaves line pieces head rest) (read_leaves names line pieces head rest)
+done_by None names line pieces head rest = either_leaves line.labelled (is_skipping rest.conditions) rest (skip line pieces head rest) (read_line names line pieces head rest) (skip_leaves line pieces head rest) (read_line_leaves names line pieces head rest)
 done_by (Some p) names line pieces head rest = uncollected line.labelled (collect p line pieces head (record rest { collecting = None })) rest (collect_leaves p line pieces head (record rest { collecting = None }))
   where
     uncollected : (l : Bool) (d : Done) (rest : Rest) → Leaves l (record rest { collecting = None }) d → Leaves l rest d
     uncollected l (Goes after) rest h = h
     uncollected l (Gives after) rest h = h
+    uncollected l (Writes text after) rest h = h
+    uncollected l (Turns text after) rest h = h
     uncollected l (Again at after) rest h = h
     uncollected l (Label at after) rest h = h
     uncollected l (Fails kind) rest h = tt
@@ -267,6 +367,8 @@ none_again (Some line) number e = absurd cc
 outcome_of : (line : Reading) (rest : Rest) (d : Done) → rest.again ≡ None → Leaves line.labelled rest d → IsOf line.number rest.read (outcome line rest.read d)
 outcome_of line rest (Goes after) none h = record { read = h.0; again = none_again after.again line.number (h.1 ∙ none) }
 outcome_of line rest (Gives after) none h = (refl, record { read = h.0; again = none_again after.again line.number (h.1 ∙ none) })
+outcome_of line rest (Writes text after) none h = (refl, record { read = h.0; again = none_again after.again line.number (h.1 ∙ none) })
+outcome_of line rest (Turns text after) none h = record { read = h.0; again = refl }
 outcome_of line rest (Again at after) none h = record { read = h.0; again = refl }
 outcome_of line rest (Label at after) none h = (refl, record { read = h.0.0; again = refl })
 outcome_of line rest (Fails kind) none h = (refl, refl)
@@ -368,6 +470,8 @@ none_left (Some line) labelled e = absurd cc
 outcome_hands : (line : Reading) (rest : Rest) (d : Done) → rest.again ≡ None → Leaves line.labelled rest d → Hands line.labelled (outcome line rest.read d)
 outcome_hands line rest (Goes after) none h = tt
 outcome_hands line rest (Gives after) none h = none_left after.again line.labelled (h.1 ∙ none)
+outcome_hands line rest (Writes text after) none h = none_left after.again line.labelled (h.1 ∙ none)
+outcome_hands line rest (Turns text after) none h = tt
 outcome_hands line rest (Again at after) none h = tt
 outcome_hands line rest (Label at after) none h = (refl, h.1)
 outcome_hands line rest (Fails kind) none h = tt

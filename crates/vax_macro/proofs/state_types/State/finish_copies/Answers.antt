@@ -1,5 +1,5 @@
-use Rattle.std.proofs.Common.{◌≡◌, List, [], ◌++◌, ap, ◌∙◌}
-use Rattle.vax_macro.specs.Directives.{copies, expansion}
+use Rattle.std.proofs.Common.{◌≡◌, ◌-◌, List, [], ◌++◌, ap, ◌∙◌}
+use Rattle.vax_macro.specs.Directives.{calls_within, copies, expansion}
 use Rattle.vax_macro.specs.LineViews.{lines_of, opened_lines}
 use Rattle.vax_macro.specs.Lines.{SourceLine}
 use Rattle.vax_macro.specs.Rest.{Rest}
@@ -14,4 +14,4 @@ returns c = λ read.
     let lines : opened_lines c.in_ok-frame.frame ≡ copies c.args.count (expansion (template no_formals (texts_view c.args.lines)).lines c.args.number c.args.depth []) =
     c.in_ok-frame.ensures ∙ ap (λ (t : Template). copies c.args.count (expansion t.lines c.args.number c.args.depth [])) made in
     c.in_ok-open_frame.ensures read
-    ∙ ap (λ (ls : List SourceLine). let r : Rest = record (rest_in read c.args.self.now) { lines = ls ++ lines_of c.args.self.now.lines } in r) lines
+    ∙ ap (λ (ls : List SourceLine). let r : Rest = record (rest_in read c.args.self.now) { lines = ls ++ lines_of c.args.self.now.lines; calls = calls_within (c.args.depth - 1) (rest_in read c.args.self.now).calls } in r) lines

@@ -1,6 +1,6 @@
-use Rattle.std.proofs.Common.{◌≡◌, List, [], ◌∷◌, ◌++◌, ap, ◌∙◌}
+use Rattle.std.proofs.Common.{◌≡◌, ◌-◌, List, [], ◌∷◌, ◌++◌, ap, ◌∙◌}
 use Rattle.std.specs.List.{flat_map}
-use Rattle.vax_macro.specs.Directives.{expansion, one_formal}
+use Rattle.vax_macro.specs.Directives.{calls_within, expansion, one_formal}
 use Rattle.vax_macro.specs.LineViews.{lines_of, opened_lines}
 use Rattle.vax_macro.specs.Lines.{SourceLine}
 use Rattle.vax_macro.specs.Rest.{Rest}
@@ -17,4 +17,4 @@ returns c = λ read.
     ≡ flat_map (λ text. expansion (template (one_formal c.args.formal.items) (texts_view c.args.lines)).lines c.args.number c.args.depth (text ∷ [])) (texts_view c.args.texts) =
     c.in_ok-frame.ensures ∙ ap (λ (t : Template). flat_map (λ text. expansion t.lines c.args.number c.args.depth (text ∷ [])) (texts_view c.args.texts)) made in
     c.in_ok-open_frame.ensures read
-    ∙ ap (λ (ls : List SourceLine). let r : Rest = record (rest_in read c.args.self.now) { lines = ls ++ lines_of c.args.self.now.lines } in r) lines
+    ∙ ap (λ (ls : List SourceLine). let r : Rest = record (rest_in read c.args.self.now) { lines = ls ++ lines_of c.args.self.now.lines; calls = calls_within (c.args.depth - 1) (rest_in read c.args.self.now).calls } in r) lines

@@ -1,0 +1,21 @@
+-- The kind of an operand that is read.
+use Rattle.std.proofs.Common.{◌≡◌, arith}
+use Rattle.std.proofs.lemmas.Bool.Decides.{nat_tests}
+use Rattle.vax_isa.specs.Rows.{IsKind, IsWidth}
+use Rattle.vax_isa.specs.declared.OperandKind.{OperandKind}
+use Rattle.vax_word.specs.Arithmetic.{bytes_of}
+use Rattle.vax_word.specs.declared.Size.{Size}
+use Rattle.vax_word.specs.declared.Size.TheVariants as size
+use Rattle.vax_asm_instruction.specs.Stating.{read_of}
+
+read_width : (k : Size) → IsWidth (bytes_of k)
+read_width size.B = grind (arith, nat_tests)
+read_width size.W = grind (arith, nat_tests)
+read_width size.L = grind (arith, nat_tests)
+read_width size.Q = grind (arith, nat_tests)
+
+kind_of : (k : Size) → IsKind (read_of k)
+kind_of k = record { width = read_width k; branch = λ h. absurd cc }
+
+pub read_kind : (k : Size) (kind : OperandKind) → kind ≡ read_of k → IsKind kind
+read_kind k kind e = rw e (kind_of k)

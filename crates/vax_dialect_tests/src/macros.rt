@@ -1,0 +1,142 @@
+//! Macros, repeats and their directives in each dialect. Expected bytes are worked by the manual.
+use std::alloc::Global;
+use std::test::Fail;
+use vax_asm::{AsmError, assemble};
+use vax_dialect::Dialect;
+use vax_module::Module;
+
+/// The bytes of the section without a name.
+fn bytes_of(module: &Module) -> &[u8] {
+    match module.sections.as_slice().first() {
+        Some(found) => found.bytes.as_slice(),
+        None => &[],
+    }
+}
+
+/// The line and the kind of the first fault, by its number; zeros where there is none.
+fn fault_of(alloc: Global, dialect: Dialect, source: &str) -> (u32, u8) {
+    match assemble(alloc, dialect, source.as_bytes()) {
+        Err(AsmError::Fault { line, kind }) => (line, kind.code()),
+        _ => (0, 0),
+    }
+}
+
+#[test]
+fn carries_out_the_directives_of_one_dialect(rt: HostRuntime) -> Result<(), Fail> {
+    let alloc = rt.alloc();
+    let rows: [(&str, &[u8], (u32, u8)); 15] = [
+        (".REPT 1-2\nNOP\n.ENDR\n.BYTE 1\n", b"\x01", (1, 7)),
+        // The inner of two expansions is left, with the condition that it opened.
+        (
+            ".MACRO A X\n.BYTE 1\n.IF EQ X\n.MEXIT\n.ENDC\n.BYTE 2\n.ENDM\n.MACRO B\nA 0\nA 1\n.BYTE 3\n.ENDM\nB\n",
+            b"\x01\x01\x02\x03",
+            (13, 2),
+        ),
+        (
+            ".REPT 3\n.BYTE 1\n.MEXIT\n.BYTE 2\n.ENDR\n.BYTE 3\n",
+            b"\x01\x03",
+            (1, 2),
+        ),
+        // A repeat in a macro is left, and the macro goes on.
+        (
+            ".MACRO M\n.IRP X,<1,2,3>\n.BYTE X\n.IIF EQ X-2,.MEXIT\n.ENDR\n.BYTE 9\n.ENDM\nM\n",
+            b"\x01\x02\x09",
+            (8, 2),
+        ),
+        // Arguments with a keyword don't count, those that are left out do.
+        (
+            ".MACRO M A B C\n.NARG N\n.BYTE N\n.ENDM\nM\nM 1\nM 1,,2\nM C=5,1\n",
+            b"\0\x01\x03\x01",
+            (5, 2),
+        ),
+        // Those of the innermost call count, within a repeat too.
+        (
+            ".MACRO O X Y\n.REPT 1\n.NARG N\n.BYTE N\n.ENDR\nI 1\n.NARG N\n.BYTE N\n.ENDM\n.MACRO I Z\n.NARG N\n.BYTE N\n.ENDM\nO 7,8\n",
+            b"\x02\x01\x02",
+            (14, 2),
+        ),
+        (
+            ".NCHR N,<AB CD>\n.BYTE N\n.NCHR N,<>\n.BYTE N\n.nchr N,ABC\n.BYTE N\n",
+            b"\x05\0\x03",
+            (1, 2),
+        ),
+        ("L: .NCHR N,AB\n.BYTE N,L-L\n", b"\x02\0", (1, 2)),
+        (
+            ".MACRO NOP\n.BYTE 7\n.ENDM\nNOP\n.MDELETE NOP,X\nNOP\n",
+            b"\x07\x01",
+            (5, 2),
+        ),
+        (
+            ".MACRO M A\n.BYTE %LENGTH(A),%LOCATE(<DE>,<A>),%LOCATE(X,A,2)\n.ASCII /%EXTRACT(1,%LENGTH(<A>)-3,A)/\n.ENDM\nM ABCDE\n",
+            b"\x05\x03\x05BC",
+            (5, 4),
+        ),
+        (
+            ".MACRO RESERVE ARG1\nXX = %LOCATE(<=>,ARG1)\n.IF EQUAL XX-%LENGTH(ARG1)\n.WARN\n.MEXIT\n.ENDC\n%EXTRACT(0,XX,ARG1)::\nXX = XX+1\n.BLKB %EXTRACT(XX,3,ARG1)\n.ENDM\nRESERVE <AB=2>\nRESERVE AB\n.BYTE AB-AB+5\n",
+            b"\0\0\x05",
+            (11, 4),
+        ),
+        (
+            ".MACRO M A\n.BYTE %LENGTH(^/A,B)/),%LOCATE(,A),%length()\n.ENDM\nM XY\n",
+            b"\x05\0\0",
+            (4, 1),
+        ),
+        // An argument by value, also for a keyword and below 0.
+        (
+            ".MACRO M A B\n.BYTE A\n.ASCII /B/\n.ENDM\nX=2\nM \\X,\\X+10\nM B=\\X-5,<\\X>\n",
+            b"\x0212\x02-3",
+            (6, 4),
+        ),
+        // A text between two of a byte, and a `;` in brackets. Operators of radix stay.
+        (
+            ".MACRO M A,B\n.ASCII `A`<B>\n.ENDM\nM ^/x,<y/,^XA ; c\nM B=<^A/;/>,A=<a;b> ; c\n",
+            b"x,<y\x0aa;b;",
+            (4, 4),
+        ),
+        (
+            ".NCHR N,<a;b> ; c\n.BYTE N\n.IRP X,<^/a b/,c>\n.ASCII `X`\n.ENDR\n.NCHR N,^%<;>%;c\n.BYTE N\n",
+            b"\x03a bc\x03",
+            (1, 2),
+        ),
+    ];
+    for (source, bytes, fault) in rows {
+        let module = assemble(alloc, Dialect::Vms, source.as_bytes())?;
+        assert!(rt; bytes_of(&module) == bytes, "{source}");
+        assert!(rt; fault_of(alloc, Dialect::Vax, source) == fault, "{source}");
+    }
+    Ok(())
+}
+
+#[test]
+fn tells_the_faults_of_macros_in_the_larger_dialect(rt: HostRuntime) {
+    let alloc = rt.alloc();
+    let rows = [
+        (".MEXIT\n", (1, 8)),
+        (".REPT 1\n.MEXIT 1\n.ENDR\n", (1, 3)),
+        (".NARG N\n", (1, 8)),
+        (".REPT 1\n.NARG N\n.ENDR\n", (1, 8)),
+        (
+            ".MACRO M A\n.BYTE 1\n.ENDM\nM 1\n.REPT 1\n.NARG N\n.ENDR\n",
+            (5, 8),
+        ),
+        (".MACRO M\n.NARG\n.ENDM\nM\n", (4, 3)),
+        (".MACRO M\n.NARG 5\n.ENDM\nM\n", (4, 4)),
+        (".NCHR N\n", (1, 3)),
+        (".NCHR 5,A\n", (1, 4)),
+        (".NCHR N,<A\n", (1, 4)),
+        (".NCHR N,^/A\n", (1, 4)),
+        (".NCHR N,^/A/B\n", (1, 4)),
+        (".MDELETE\n", (1, 3)),
+        (".MDELETE 5\n", (1, 4)),
+        (".BYTE %LENGTH(A)\n", (1, 4)),
+        (".REPT 1\n.BYTE %LENGTH(A\n.ENDR\n", (1, 4)),
+        (".REPT 1\n.BYTE %LENGTH(A,B)\n.ENDR\n", (1, 4)),
+        (".REPT 1\n.BYTE %EXTRACT(0-1,1,1)\n.ENDR\n", (1, 7)),
+        (".REPT 1\n.BYTE %EXTRACT(X,1,1)\n.ENDR\n", (1, 5)),
+        (".MACRO M A\n.ENDM\nM \\X\n", (3, 5)),
+        (".MACRO M A\n.ENDM\nM \\\n", (3, 3)),
+    ];
+    for (source, fault) in rows {
+        assert!(rt; fault_of(alloc, Dialect::Vms, source) == fault, "{source}");
+    }
+}

@@ -1,0 +1,13 @@
+use Rattle.std.proofs.Common.{◌≡◌, ◌≤◌, ◌+◌, ◌-◌, length, drop}
+use Rattle.std.specs.List.{prefix_len}
+use Rattle.vax_macro.specs.Strings.{is_inner}
+use Rattle.vax_macro.proofs.strings.inner_length.Given as goal
+
+abbrev pub invariant-loop-count : goal.invariant-loop-count
+invariant-loop-count l = record {
+  in_range : l.count ≤ length l.text;
+  same : l.count + prefix_len is_inner (drop l.count l.text) ≡ prefix_len is_inner l.text;
+}
+
+abbrev pub decreases-loop-count : goal.decreases-loop-count
+decreases-loop-count l = length l.text - l.count
