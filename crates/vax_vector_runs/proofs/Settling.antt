@@ -120,7 +120,7 @@ recorded m fresh after none bytes kept =
 
 all_kept : (complete : Bool) (touches : List Touch) → IsTrue complete → touches ≡ [] → trail_by complete touches ≡ KeptUpTo most_kept []
 all_kept true touches all none = ap (λ ts. KeptUpTo most_kept (map made_of ts)) none
-all_kept false touches all none = absurd all
+all_kept false touches all none = let no : false ≡ true = all in cc
 
 -- where an attempt begins
 begun_at : {m : Flat} {space : List Area} {touched : List ℕ} {cpu : Cpu} (fresh : Recorder) → IsReady m space touched cpu fresh → cpu.term.out ≡ None → fresh.touches.items ≡ [] → IsTrue fresh.complete
@@ -194,7 +194,7 @@ left {m} {space} {touched} {memory} end now leaves record_of areas same pages ce
 
 kept_are : (complete : Bool) (kept touches : List Touch) → IsTrue complete → touches ≡ kept → trail_by complete kept ≡ KeptUpTo most_kept (map made_of touches)
 kept_are true kept touches all same = ap (λ ts. KeptUpTo most_kept (map made_of ts)) (sym same)
-kept_are false kept touches all same = absurd all
+kept_are false kept touches all same = let no : false ≡ true = all in cc
 
 module _ {m : Flat} {space : List Area} {s : Settled} {cpu : Cpu} {memory : Recorder} (all : IsSettled m space s cpu memory) (core : Core) (start : IsStart m core)
     (input : cpu.term.input.items ≡ []) (taken : cpu.term.place ≡ 0) where
