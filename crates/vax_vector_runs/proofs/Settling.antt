@@ -1,6 +1,6 @@
 -- Attempts at a step while more and more pages are resident, and what the last of them came to.
-use Rattle.std.proofs.Common.{◌≡◌, ◌⊎◌, inl, inr, ℕ, Bool, true, Option, Some, None, List, [], ◌∷◌, ◌++◌, get_or, map, false, refl, sym, ap, subst, ◌∙◌, arith, IsTrue}
-use Rattle.std.specs.Prelude.{is_some, All}
+use Rattle.std.proofs.Common.{◌≡◌, ◌≤◌, ◌⊎◌, inl, inr, ℕ, Bool, true, Option, Some, None, Result, Ok, Err, List, [], ◌∷◌, ◌++◌, get_or, length, map, false, refl, sym, ap, subst, ◌∙◌, arith, IsTrue}
+use Rattle.std.specs.Prelude.{is_some, All, IfOk}
 use Rattle.vax_word.specs.declared.Core.{Core}
 use Rattle.vax_space.specs.declared.Area.{Area}
 use Rattle.vax_space.specs.Areas.{area_of as area_with}
@@ -14,6 +14,7 @@ use Rattle.vax_flat.specs.Parts.{At, part_step, Partway, Leaves, outcome_at, tou
 use Rattle.vax_flat.specs.Port.{View, StandsFor, layout, with_marks}
 use Rattle.vax_flat.specs.Step.{Flat, with_byte_sent}
 use Rattle.vax_undo.specs.Plain.{with_page}
+use Rattle.vax_undo.specs.declared.term.Term.{Term}
 use Rattle.vax_undo.specs.Trail.{Traced, Trail, KeptUpTo}
 use Rattle.vax_cpu.specs.declared.cpu.Attempt.{Attempt}
 use Rattle.vax_cpu.specs.declared.cpu.Attempt.TheVariants as attempt
@@ -255,3 +256,25 @@ module _ {m : Flat} {space : List Area} {s : Settled} {cpu : Cpu} {memory : Reco
         ends = subst (λ x. EndsBy m s.touched.items end x) (sym ends) (a.1.step m start.ending refl, same);
         exact = subst (λ (x : HowEnded). ExactBy m s.touched.items x (map made_of end.touches.items)) (sym ends) (ap (map made_of) quiet);
       }
+
+  -- what is told of these, where nothing fails
+  pub step_told : {E : Type 0} (r : Result End E) (touched : List ℕ) (sent : Option ℕ) → touched ≡ s.touched.items → s.attempt ≡ attempt.Step sent
+      → IfOk r (λ end. end.core ≡ cpu.core) → IfOk r (λ end. end.ends ≡ told.Step sent) → IfOk r (λ end. IsTrue memory.complete × (end.touches.items ≡ memory.touches.items))
+      → IfOk r (λ end. pages_after [] end.touches.items ≡ touched) → IfOk r (λ end. All (IsCell touched (view_of memory).byte) end.ram.items) → IfOk r (EndsWell m s.touched.items)
+  step_told (Ok end) touched sent same is core_is ends kept pages cells =
+      step_ends end sent is core_is ends kept (pages ∙ same) (subst (λ (ts : List ℕ). All (IsCell ts (view_of memory).byte) end.ram.items) same cells)
+  step_told (Err e) touched sent same is core_is ends kept pages cells = tt
+
+  pub part_told : {E : Type 0} (r : Result End E) (touched : List ℕ) (open_one : Open) → touched ≡ s.touched.items → s.attempt ≡ attempt.Part → cpu.latch ≡ Some open_one
+      → IfOk r (λ end. end.core ≡ cpu.core) → IfOk r (λ end. end.ends ≡ told.Part open_one.opcode open_one.units) → IfOk r (λ end. IsTrue memory.complete × (end.touches.items ≡ memory.touches.items))
+      → IfOk r (λ end. pages_after [] end.touches.items ≡ touched) → IfOk r (λ end. All (IsCell touched (view_of memory).byte) end.ram.items) → IfOk r (EndsWell m s.touched.items)
+  part_told (Ok end) touched open_one same is latch core_is ends kept pages cells =
+      part_ends end open_one is latch core_is ends kept (pages ∙ same) (subst (λ (ts : List ℕ). All (IsCell ts (view_of memory).byte) end.ram.items) same cells)
+  part_told (Err e) touched open_one same is latch core_is ends kept pages cells = tt
+
+-- of no input nothing was taken
+pub none_taken : (term : Term) → term.input.items ≡ [] → term.place ≡ 0
+none_taken term none =
+    let within : term.place ≤ length term.input.items = term.within in
+    let empty : length term.input.items ≡ 0 = ap length none in
+    omega arith
