@@ -1,6 +1,6 @@
 -- Attempts at a step while more and more pages are resident, and what the last of them came to.
 use Rattle.std.proofs.Common.{◌≡◌, ◌≤◌, ◌⊎◌, inl, inr, ℕ, Bool, true, Option, Some, None, Result, Ok, Err, List, [], ◌∷◌, ◌++◌, get_or, length, map, false, refl, sym, ap, subst, ◌∙◌, arith, IsTrue}
-use Rattle.std.specs.Prelude.{is_some, All, IfOk}
+use Rattle.std.specs.Prelude.{is_some, All, IfOk, vec_len}
 use Rattle.vax_word.specs.declared.Core.{Core}
 use Rattle.vax_space.specs.declared.Area.{Area}
 use Rattle.vax_space.specs.Areas.{area_of as area_with}
@@ -273,8 +273,8 @@ module _ {m : Flat} {space : List Area} {s : Settled} {cpu : Cpu} {memory : Reco
   part_told (Err e) touched open_one same is latch core_is ends kept pages cells = tt
 
 -- of no input nothing was taken
-pub none_taken : (term : Term) → term.input.items ≡ [] → term.place ≡ 0
-none_taken term none =
-    let within : term.place ≤ length term.input.items = term.within in
+pub none_taken : (term : Term) → vec_len term.input ≡ length term.input.items → term.input.items ≡ [] → term.place ≡ 0
+none_taken term counted none =
+    let within : term.place ≤ vec_len term.input = term.within in
     let empty : length term.input.items ≡ 0 = ap length none in
-    omega arith
+    omega (arith, within, empty, counted)
