@@ -18,7 +18,7 @@ use Rattle.vax_lex.specs.declared.token.TokenKind.{TokenKind}
 use Rattle.vax_lex.specs.declared.token.TokenKind.TheVariants.{Name, Number, Mark, Text}
 use Rattle.vax_lex.specs.declared.value.Value.{Value}
 use Rattle.vax_dialect.specs.declared.Dialect.{Dialect}
-use Rattle.vax_macro.specs.Directives.{Gives, done, read}
+use Rattle.vax_macro.specs.Directives.{Gives, done, read, read_line}
 use Rattle.vax_macro.specs.Expansion.{Says, Stepped, line_step, outcome, read_on, step}
 use Rattle.vax_macro.specs.Heads.{Head, condition_word, head_in, is_mark_piece, label_pieces, operator_in, other_word, piece_text, word_of}
 use Rattle.vax_macro.specs.Lines.{Reading, dash_at, dash_in, numbered}
