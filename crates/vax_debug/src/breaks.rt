@@ -31,8 +31,8 @@ impl Model for Breaks {
 }
 
 impl Breaks {
-    ghost use Rattle.std.specs.Prelude.{◌≡◌, ◌==◌, ◌<◌, ◌≤◌, [], ◌∷◌, ◌++◌, not, nat_le, length};
-    ghost use Rattle.std.specs.List.{filter, list_any};
+    ghost use Rattle.std.specs.Prelude.{◌≡◌, ◌==◌, ◌<◌, [], ◌∷◌, ◌++◌, nat_le, length};
+    ghost use Rattle.std.specs.List.{list_any};
     ghost use Rattle.vax_debug.specs.Travel.{without};
 
     /// No address.

@@ -1,6 +1,5 @@
 //! The lines of instructions.
 ghost use Rattle.std.specs.Prelude.{◌≡◌, ◌+◌, ◌≤◌, ◌++◌, length, option_map};
-ghost use Rattle.vax_disasm.specs.Listed.{listed};
 ghost use Rattle.vax_disasm.specs.Seen.{decoded_seen};
 ghost use Rattle.vax_debug_replies.specs.Instructions.{bytes_of, instruction_at, instruction_line, length_of, text_of, unlisted};
 

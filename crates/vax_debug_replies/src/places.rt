@@ -1,7 +1,6 @@
 //! Addresses with the names of symbols.
-ghost use Rattle.std.specs.Prelude.{◌≡◌, ◌+◌, ◌≤◌, ◌==◌, ◌++◌, length, take};
-ghost use Rattle.std.specs.List.{prefix_len};
-ghost use Rattle.vax_debug_replies.specs.Places.{digits, distance, name_of, near, place, zeros};
+ghost use Rattle.std.specs.Prelude.{◌≡◌, ◌+◌, ◌≤◌, ◌++◌, length, take};
+ghost use Rattle.vax_debug_replies.specs.Places.{digits, distance, near, place, zeros};
 
 use vax_debug_names::{Near, Symbol, nearest};
 use vax_outside::Text;

@@ -1,6 +1,6 @@
 //! Numbers, names and expressions.
-ghost use Rattle.std.specs.Prelude.{◌≡◌, ◌<◌, ◌≤◌, ◌==◌, ◌||◌, ◌^◌, ◌++◌, not, map, length, IfSome};
-ghost use Rattle.std.specs.List.{list_all, prefix_len};
+ghost use Rattle.std.specs.Prelude.{◌≡◌, ◌<◌, ◌≤◌, ◌==◌, ◌||◌, map, length, IfSome};
+ghost use Rattle.std.specs.List.{list_all};
 ghost use Rattle.std.specs.Char.{to_ascii_uppercase};
 ghost use Rattle.vax_debug_words.specs.Expressions.{IsBase, IsExpression, base_len, base_of, expression, is_name_byte, longword, name, negative, numbered, offset, register, register_number, signs, behind_signs};
 

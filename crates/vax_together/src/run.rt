@@ -1,5 +1,5 @@
 //! Runs processes and reports on them.
-ghost use Rattle.std.specs.Prelude.{◌≡◌, length};
+ghost use Rattle.std.specs.Prelude.{length};
 ghost use Rattle.vax_outside.specs.Faults.{Rose};
 ghost use Rattle.vax_order.specs.Orders.{IsOrder};
 ghost use Rattle.vax_jobs.specs.Beginning.{machines, pooling};

@@ -1,8 +1,7 @@
 //! The lines of one case.
-ghost use Rattle.std.specs.Prelude.{◌≡◌, ◌∷◌, ◌++◌, [], map, if◌then◌else◌, IfOk, OnOk};
+ghost use Rattle.std.specs.Prelude.{◌≡◌, ◌∷◌, ◌++◌, [], if◌then◌else◌, IfOk, OnOk};
 ghost use Rattle.vax_vectors.specs.Text.{json_text};
-ghost use Rattle.vax_vector_runs.specs.Exact.{IsExact};
-ghost use Rattle.vax_vector_lines.specs.Lines.{AreLinesWithout, IsGroup, IsMore, IsOf, choices, pairs};
+ghost use Rattle.vax_vector_lines.specs.Lines.{AreLinesWithout, IsGroup, IsMore, choices, pairs};
 
 use crate::told::{whole, without};
 use std::alloc::Global;

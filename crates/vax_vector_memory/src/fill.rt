@@ -1,5 +1,5 @@
 //! Memory that is filled anew for a step.
-ghost use Rattle.std.specs.Prelude.{◌≡◌, ◌+◌, ◌*◌, ◌<◌, ◌^◌, ℕ, true, false, IfOk, OnOk, map, List, [], ◌∷◌};
+ghost use Rattle.std.specs.Prelude.{◌≡◌, ◌*◌, ◌<◌, ℕ, true, false, OnOk, map, List, [], ◌∷◌};
 ghost use Rattle.vax_undo.specs.Plain.{view_of};
 ghost use Rattle.vax_vectors.specs.declared.vector.Cell.{Cell};
 ghost use Rattle.vax_vectors.specs.Truth.{memory_of};

@@ -49,7 +49,7 @@ pub struct Recorder {
 }
 
 impl Recorder {
-    ghost use Rattle.std.specs.Prelude.{◌<◌, ◌^◌, ◌+◌, length, is_some, IsTrue, IfSome, IfOk, OnOk, []};
+    ghost use Rattle.std.specs.Prelude.{◌<◌, length, is_some, IsTrue, IfSome, IfOk, OnOk, []};
     ghost use Rattle.vax_space.specs.Areas.{area_of};
     ghost use Rattle.vax_undo.specs.Blocks.{low_bytes};
     ghost use Rattle.vax_undo.specs.Plain.{with_page};
