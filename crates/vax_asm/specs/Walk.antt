@@ -2,7 +2,7 @@
 -- Reference Manual, "VAX MACRO assembler directives" and "Diagnostic messages").
 use Rattle.std.specs.Prelude.{ℕ, zero, suc, ◌==◌, if◌then◌else◌, List, [], Option, Some, None, Result, Err}
 use Rattle.vax_dialect.specs.declared.Dialect.{Dialect}
-use Rattle.vax_lex.specs.declared.value.Value.{Value}
+use Rattle.vax_lex.specs.Values.{Sense}
 use Rattle.vax_macro.specs.Expansion.{Stepped, Steps, Says, Faults, Ends, Opened, Given, Faulty as Stops, AtEnd, Later, step}
 use Rattle.vax_macro.specs.Rest.{Opening, Rest, started, work}
 use Rattle.vax_macro.specs.declared.error.FaultKind.{FaultKind}
@@ -82,8 +82,8 @@ onward (Faults line place kind) a met next = stopped a.assignments (least met (a
 onward (Ends begin) a met next = ended a met begin
 
 -- what names are worth where the next statement stands
-abbrev pub names_in : Standing → List ℕ → Option Value
-names_in s = known (here_in s.sections) s.scope
+abbrev pub names_in : Standing → Sense
+names_in s = record { dialect = s.dialect; value = known (here_in s.sections) s.scope }
 
 -- What is left to open of a source comes to this, behind what stands: its statements one after another, within so many steps.
 unfoldable pub walked : ℕ → Rest → Assembly → Option Fault → Result Module Fault

@@ -158,6 +158,7 @@ fn module_of(alloc: Global, dialect: Dialect, source: &[u8]) -> Result<Module, F
             return Err(FillError::NoMemory);
         };
         let names = KnownNames {
+            dialect: walk.standing.dialect,
             scope: &walk.standing.scope,
             here,
         };

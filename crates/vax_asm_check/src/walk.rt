@@ -34,6 +34,7 @@ pub fn faults(alloc: Global, source: &[u8], most: usize) -> Result<Vec<Fault>, N
         }
         let here = survey.left.standing.here()?;
         let names = KnownNames {
+            dialect: survey.left.standing.dialect,
             scope: &survey.left.standing.scope,
             here,
         };

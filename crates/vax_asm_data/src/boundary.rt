@@ -132,7 +132,7 @@ fn boundary(
 ) -> Result<Result<u8, FaultKind>, NoMemory>
     requires { All (IsTokenOf site.line.now.value.items) tokens.now }
     ensures number { IfOk result (λ n. counted_of n (scope_of standing.new.scope)
-        ≡ boundary (site_seen site.entry) tokens.now
+        ≡ boundary standing.old.dialect (site_seen site.entry) tokens.now
         (boundary_named site.entry.line.now.value.items tokens.now) (scope_of standing.old.scope)) }
     ensures few { IfOk result (λ n. IfOk n (λ k. k ≤ 9)) }
     ensures same { OnOk result (ChangesScope standing.old standing.new) }

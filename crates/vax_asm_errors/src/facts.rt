@@ -67,6 +67,7 @@ fn number_of(
         return Ok(None);
     }
     let names = KnownNames {
+        dialect: standing.dialect,
         scope: &standing.scope,
         here,
     };

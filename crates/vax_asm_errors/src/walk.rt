@@ -116,6 +116,7 @@ pub(crate) fn statements_of(
     for _ in 0..MOST_STATEMENTS {
         let here = standing.here()?;
         let names = KnownNames {
+            dialect: standing.dialect,
             scope: &standing.scope,
             here,
         };

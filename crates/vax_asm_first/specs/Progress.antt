@@ -7,6 +7,7 @@ use Rattle.vax_lex.specs.declared.value.Value.{Value}
 use Rattle.vax_macro.specs.declared.error.FaultKind.{FaultKind}
 use Rattle.vax_asm_first.specs.Faults.{lowest, number_of}
 use Rattle.vax_asm_first.specs.Fixups.{Fixup}
+use Rattle.vax_dialect.specs.declared.Dialect.{Dialect}
 use Rattle.vax_asm_first.specs.Standing.{Standing, here_in, told, with_sections}
 use Rattle.vax_asm_first.specs.declared.types.Origin.{Origin}
 use Rattle.vax_asm_scope.specs.Scope.{Scope}
@@ -55,8 +56,8 @@ pub record Counted : Type 0 where
   pub number : Result ℕ FaultKind
   pub scope : Scope
 
-abbrev pub counted : Site → Option (List Token) → Scope → Counted
-counted site None s = record { number = Ok 1; scope = s }
-counted site (Some tokens) s =
-    let t = told site.here (symbols_of site.line tokens) s in
+abbrev pub counted : Dialect → Site → Option (List Token) → Scope → Counted
+counted dialect site None s = record { number = Ok 1; scope = s }
+counted dialect site (Some tokens) s =
+    let t = told dialect site.here (symbols_of site.line tokens) s in
     record { number = number_of t.value; scope = t.scope }

@@ -58,14 +58,14 @@ pub record Told : Type 0 where
   pub settled : Result Value ExprError
   pub scope : Scope
 
-abbrev pub written_here : Value → List Symbol → Scope → Written
-written_here here symbols s = record { symbols = symbols; names = (bound here symbols s).names }
+abbrev pub written_here : Dialect → Value → List Symbol → Scope → Written
+written_here dialect here symbols s = record { dialect = dialect; symbols = symbols; names = (bound here symbols s).names }
 
-abbrev pub told : Value → List Symbol → Scope → Told
-told here symbols s = record {
-  written = written_here here symbols s;
-  value = worth (value_of (bound here symbols s).scope.sources) (written_here here symbols s);
-  settled = unless_certain (certain (value_of (bound here symbols s).scope.sources) (written_here here symbols s)) (worth (value_of (bound here symbols s).scope.sources) (written_here here symbols s));
+abbrev pub told : Dialect → Value → List Symbol → Scope → Told
+told dialect here symbols s = record {
+  written = written_here dialect here symbols s;
+  value = worth (value_of (bound here symbols s).scope.sources) (written_here dialect here symbols s);
+  settled = unless_certain (certain (value_of (bound here symbols s).scope.sources) (written_here dialect here symbols s)) (worth (value_of (bound here symbols s).scope.sources) (written_here dialect here symbols s));
   scope = (bound here symbols s).scope;
 }
 

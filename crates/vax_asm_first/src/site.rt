@@ -99,7 +99,7 @@ pub fn known_count(
 ) -> Result<Result<u64, FaultKind>, NoMemory>
     requires { IfSome tokens (λ t. All (IsTokenOf site.line.now.value.items) t.now) }
     ensures number { IfOk result (λ n. counted_of n (scope_of standing.new.scope)
-        ≡ counted (site_seen site.entry)
+        ≡ counted standing.old.dialect (site_seen site.entry)
         (option_map (λ t. t.now) tokens.entry) (scope_of standing.old.scope)) }
     ensures same { OnOk result (ChangesScope standing.old standing.new) }
 {

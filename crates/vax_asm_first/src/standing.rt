@@ -86,13 +86,15 @@ impl Standing {
     ) -> Result<Told, NoMemory>
         requires { All (IsTokenOf line.now.value.items) tokens.now }
         ensures told { IfOk result (λ t. told_of t (scope_of self.new.scope)
-            ≡ told here (symbols_of line.now.value.items tokens.now) (scope_of self.old.scope)) }
+            ≡ told self.old.dialect here (symbols_of line.now.value.items tokens.now)
+            (scope_of self.old.scope)) }
         ensures same { OnOk result (ChangesScope self.old self.new) }
         // Its names mean definitions that there are.
         ensures means { IfOk result (λ t. Means (length (scope_of self.new.scope).sources)
             (Worked (written_of t.expression))) }
     {
-        let expression = self.scope.expression(alloc, line, tokens, here)?;
+        let dialect = self.dialect;
+        let expression = self.scope.expression(alloc, dialect, line, tokens, here)?;
         let value = self.scope.evaluate(&expression);
         let settled = settled(&self.scope, &expression, value);
         Ok(Told {

@@ -54,7 +54,7 @@ without_expression o s = record { addressed = record { mode = o.mode; index = o.
 abbrev pub prepared : Dialect → Site → modes.Operand → Scope → Prepared
 prepared dialect site o s =
     let symbols = symbols_of site.line o.expression in
-    if has_expression o.mode then with_told o (misplaces dialect symbols) (told site.here symbols s) else without_expression o s
+    if has_expression o.mode then with_told o (misplaces dialect symbols) (told dialect site.here symbols s) else without_expression o s
 
 -- The operands so far: where the next one begins, and what they leave.
 pub record Reached : Type 0 where

@@ -140,6 +140,7 @@ fn traced(alloc: Global, source: &[u8]) -> Result<Trace, FillError>
             return Err(FillError::NoMemory);
         };
         let names = KnownNames {
+            dialect: walk.standing.dialect,
             scope: &walk.standing.scope,
             here,
         };

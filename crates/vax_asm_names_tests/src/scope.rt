@@ -9,6 +9,7 @@ use std::rc::Rc;
 use std::test::Fail;
 use vax_asm_scope::*;
 use vax_asm_values::Expression;
+use vax_dialect::Dialect;
 use vax_lex::{ExprError, Value, evaluate, scan};
 
 /// Where the expressions of the tests stand.
@@ -25,7 +26,7 @@ fn stands(alloc: Global, scope: &mut Scope, text: &[u8]) -> Result<Expression, F
 {
     let tokens = scan(alloc, text)?;
     let line = Rc::new(alloc, text.to_vec(alloc)?)?;
-    Ok(scope.expression(alloc, &line, &tokens, HERE)?)
+    Ok(scope.expression(alloc, Dialect::Vax, &line, &tokens, HERE)?)
 }
 
 #[test]
@@ -146,6 +147,7 @@ fn tells_what_is_known_where_a_statement_stands(rt: HostRuntime) -> Result<(), F
     let one = stands(alloc, &mut scope, b"1")?;
     scope.assign(alloc, b"Y", one)?;
     let names = KnownNames {
+        dialect: Dialect::Vax,
         scope: &scope,
         here: HERE,
     };

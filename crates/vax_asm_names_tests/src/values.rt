@@ -7,6 +7,7 @@ use std::alloc::Global;
 use std::rc::Rc;
 use std::test::Fail;
 use vax_asm_values::*;
+use vax_dialect::Dialect;
 use vax_lex::{ExprError, Value, scan};
 
 /// An expression with one name in it.
@@ -25,7 +26,7 @@ fn expression(
         definition,
     };
     let text = Rc::new(alloc, text.to_vec(alloc)?)?;
-    Ok(Expression::new(text, tokens, vec![in alloc; meaning]?))
+    Ok(Expression::new(Dialect::Vax, text, tokens, vec![in alloc; meaning]?))
 }
 
 #[test]

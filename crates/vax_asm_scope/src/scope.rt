@@ -10,6 +10,7 @@ use std::mem;
 use std::rc::Rc;
 use vax_asm_names::{LabelError, Name};
 use vax_asm_values::Expression;
+use vax_dialect::Dialect;
 use vax_lex::{ExprError, Token, Value};
 use vax_space::NoMemory;
 
@@ -111,11 +112,12 @@ impl Scope {
         Ok(definition)
     }
 
-    /// An expression of a line, whose names mean what they mean where it stands. `here` is what `.` is worth.
+    /// An expression of a line in a dialect, whose names mean what they mean where it stands. `here` is what `.` is worth.
     #[tactic(auto, using(crate::proofs::Spelling::tree_names))]
     pub fn expression(
         &mut self,
         alloc: Global,
+        dialect: Dialect,
         line: &Rc<Vec<u8>>,
         tokens: &[Token],
         here: Value,
@@ -123,6 +125,7 @@ impl Scope {
         requires { All (IsTokenOf line.now.value.items) tokens.now }
         ensures expression { let symbols = symbols_of line.now.value.items tokens.now in
             IfOk result (λ e. written_of e ≡ record {
+              dialect = dialect;
               symbols = symbols;
               names = (bound here symbols (scope_of self.old)).names;
             }) }
@@ -142,7 +145,7 @@ impl Scope {
         let own = tokens.to_vec(alloc).map_err(|_| NoMemory)?;
         let line = Rc::clone(line).map_err(|_| NoMemory)?;
         *self = Scope { tables };
-        Ok(Expression::new(line, own, names))
+        Ok(Expression::new(dialect, line, own, names))
     }
 
     /// A label defines a name.

@@ -2,7 +2,8 @@
 use Rattle.std.proofs.Common.{◌≡◌, ℕ, suc, List, [], ◌∷◌, length, Option, Some, None, Result, Ok, Err, refl}
 use Rattle.vax_lex.specs.Grammar.{Symbol, Term, constant, named_by, quoted, mask, plus, minus, complement, bracketed, Joined, finish, joined, term_value, joined_value}
 use Rattle.vax_lex.specs.Expressions.{TermRead, JoinedRead, term_in, joined_in, whole_value, value_behind, value_at}
-use Rattle.vax_lex.specs.Values.{Operation, combine, negated, complemented, named}
+use Rattle.vax_dialect.specs.declared.Dialect.{Dialect}
+use Rattle.vax_lex.specs.Values.{Operation, Sense, combine, combined, complement_of, complemented, fitted, minus_of, named, negated}
 use Rattle.vax_lex.specs.declared.value.Value.{Value}
 use Rattle.vax_lex.specs.declared.value.ExprError.{ExprError}
 use Rattle.vax_lex.specs.declared.value.ExprError.TheVariants.{Unknown}
@@ -28,41 +29,61 @@ complemented_below : (r s : Result Value ExprError) → Below r s → Below (com
 complemented_below (Ok x) s h v e = rw (h x refl) e
 complemented_below (Err d) s h v e = absurd cc
 
-found_below : (o p : Option Value) → ((v : Value) → o ≡ Some v → p ≡ Some v) → (f g : List ℕ → Option Value) (name : List ℕ) → f name ≡ o → g name ≡ p → Below (named f name) (named g name)
-found_below (Some x) p h f g name a b v e = rw b (rw (h x refl) (rw a at e))
-found_below None p h f g name a b v e = let none : Err Unknown ≡ Ok v = rw a at e in absurd cc
+fitted_below : (d : Dialect) (r s : Result Value ExprError) → Below r s → Below (fitted d r) (fitted d s)
+fitted_below d (Ok x) s h v e = rw (h x refl) e
+fitted_below d (Err c) s h v e = absurd cc
 
-named_below : (f g : List ℕ → Option Value) → Keeps f g → (name : List ℕ) → Below (named f name) (named g name)
-named_below f g h name = found_below (f name) (g name) (h name) f g name refl refl
+combined_below : (d : Dialect) (op : Operation) (l m r s : Result Value ExprError) → Below l m → Below r s → Below (combined d op l r) (combined d op m s)
+combined_below d op l m r s left right =
+    fitted_below d (combine op (fitted d l) (fitted d r)) (combine op (fitted d m) (fitted d s))
+    (combine_below op (fitted d l) (fitted d m) (fitted d r) (fitted d s) (fitted_below d l m left) (fitted_below d r s right))
+
+minus_below : (d : Dialect) (r s : Result Value ExprError) → Below r s → Below (minus_of d r) (minus_of d s)
+minus_below d r s h = fitted_below d (negated (fitted d r)) (negated (fitted d s)) (negated_below (fitted d r) (fitted d s) (fitted_below d r s h))
+
+complement_below : (d : Dialect) (r s : Result Value ExprError) → Below r s → Below (complement_of d r) (complement_of d s)
+complement_below d r s h = fitted_below d (complemented (fitted d r)) (complemented (fitted d s)) (complemented_below (fitted d r) (fitted d s) (fitted_below d r s h))
+
+-- expressions of a dialect under values of names
+abbrev pub under : Dialect → (List ℕ → Option Value) → Sense
+under d f = record { dialect = d; value = f }
+
+found_below : (d : Dialect) (o p : Option Value) → ((v : Value) → o ≡ Some v → p ≡ Some v) → (f g : List ℕ → Option Value) (name : List ℕ) → f name ≡ o → g name ≡ p
+    → Below (named (under d f) name) (named (under d g) name)
+found_below d (Some x) p h f g name a b v e = rw b (rw (h x refl) (rw a at e))
+found_below d None p h f g name a b v e = let none : Err Unknown ≡ Ok v = rw a at e in absurd cc
+
+named_below : (d : Dialect) (f g : List ℕ → Option Value) → Keeps f g → (name : List ℕ) → Below (named (under d f) name) (named (under d g) name)
+named_below d f g h name = found_below d (f name) (g name) (h name) f g name refl refl
 
 mutual
-  term_below : (f g : List ℕ → Option Value) → Keeps f g → (t : Term) → Below (term_value f t) (term_value g t)
-  term_below f g h (constant n) = λ v e. e
-  term_below f g h (named_by s) = named_below f g h s
-  term_below f g h (quoted text) = λ v e. e
-  term_below f g h (mask registers) = λ v e. e
-  term_below f g h (plus t) = term_below f g h t
-  term_below f g h (minus t) = negated_below (term_value f t) (term_value g t) (term_below f g h t)
-  term_below f g h (complement t) = complemented_below (term_value f t) (term_value g t) (term_below f g h t)
-  term_below f g h (bracketed t more) = joined_below f g h (term_value f t) (term_value g t) (term_below f g h t) more
+  term_below : (d : Dialect) (f g : List ℕ → Option Value) → Keeps f g → (t : Term) → Below (term_value (under d f) t) (term_value (under d g) t)
+  term_below d f g h (constant n) = λ v e. e
+  term_below d f g h (named_by s) = named_below d f g h s
+  term_below d f g h (quoted text) = λ v e. e
+  term_below d f g h (mask registers) = λ v e. e
+  term_below d f g h (plus t) = term_below d f g h t
+  term_below d f g h (minus t) = minus_below d (term_value (under d f) t) (term_value (under d g) t) (term_below d f g h t)
+  term_below d f g h (complement t) = complement_below d (term_value (under d f) t) (term_value (under d g) t) (term_below d f g h t)
+  term_below d f g h (bracketed t more) = joined_below d f g h (term_value (under d f) t) (term_value (under d g) t) (term_below d f g h t) more
 
-  joined_below : (f g : List ℕ → Option Value) → Keeps f g → (l m : Result Value ExprError) → Below l m → (more : Joined) → Below (joined_value f l more) (joined_value g m more)
-  joined_below f g h l m less finish = less
-  joined_below f g h l m less (joined op t more) =
-      joined_below f g h (combine op l (term_value f t)) (combine op m (term_value g t)) (combine_below op l m (term_value f t) (term_value g t) less (term_below f g h t)) more
+  joined_below : (d : Dialect) (f g : List ℕ → Option Value) → Keeps f g → (l m : Result Value ExprError) → Below l m → (more : Joined) → Below (joined_value (under d f) l more) (joined_value (under d g) m more)
+  joined_below d f g h l m less finish = less
+  joined_below d f g h l m less (joined op t more) =
+      joined_below d f g h (combined d op l (term_value (under d f) t)) (combined d op m (term_value (under d g) t)) (combined_below d op l m (term_value (under d f) t) (term_value (under d g) t) less (term_below d f g h t)) more
 
-rest_below : (f g : List ℕ → Option Value) → Keeps f g → (t : Term) (more : Joined) (rest : List Symbol) → Below (whole_value f t (Some (record { more = more; rest = rest }))) (whole_value g t (Some (record { more = more; rest = rest })))
-rest_below f g h t more [] = joined_below f g h (term_value f t) (term_value g t) (term_below f g h t) more
-rest_below f g h t more (s ∷ rest) = λ v e. e
+rest_below : (d : Dialect) (f g : List ℕ → Option Value) → Keeps f g → (t : Term) (more : Joined) (rest : List Symbol) → Below (whole_value (under d f) t (Some (record { more = more; rest = rest }))) (whole_value (under d g) t (Some (record { more = more; rest = rest })))
+rest_below d f g h t more [] = joined_below d f g h (term_value (under d f) t) (term_value (under d g) t) (term_below d f g h t) more
+rest_below d f g h t more (s ∷ rest) = λ v e. e
 
-whole_below : (f g : List ℕ → Option Value) → Keeps f g → (t : Term) (o : Option JoinedRead) → Below (whole_value f t o) (whole_value g t o)
-whole_below f g h t None = λ v e. e
-whole_below f g h t (Some r) = rest_below f g h t r.more r.rest
+whole_below : (d : Dialect) (f g : List ℕ → Option Value) → Keeps f g → (t : Term) (o : Option JoinedRead) → Below (whole_value (under d f) t o) (whole_value (under d g) t o)
+whole_below d f g h t None = λ v e. e
+whole_below d f g h t (Some r) = rest_below d f g h t r.more r.rest
 
-behind_below : (f g : List ℕ → Option Value) → Keeps f g → (steps : ℕ) (o : Option TermRead) → Below (value_behind f steps o) (value_behind g steps o)
-behind_below f g h steps None = λ v e. e
-behind_below f g h steps (Some r) = whole_below f g h r.term (joined_in steps r.rest)
+behind_below : (d : Dialect) (f g : List ℕ → Option Value) → Keeps f g → (steps : ℕ) (o : Option TermRead) → Below (value_behind (under d f) steps o) (value_behind (under d g) steps o)
+behind_below d f g h steps None = λ v e. e
+behind_below d f g h steps (Some r) = whole_below d f g h r.term (joined_in steps r.rest)
 
-pub value_kept : (f g : List ℕ → Option Value) → Keeps f g → (symbols : List Symbol) (v : Value) → value_at f symbols ≡ Ok v → value_at g symbols ≡ Ok v
+pub value_kept : (d : Dialect) (f g : List ℕ → Option Value) → Keeps f g → (symbols : List Symbol) (v : Value) → value_at (under d f) symbols ≡ Ok v → value_at (under d g) symbols ≡ Ok v
 unfolding value_at
-value_kept f g h symbols = behind_below f g h (suc (length symbols)) (term_in (suc (length symbols)) symbols)
+value_kept d f g h symbols = behind_below d f g h (suc (length symbols)) (term_in (suc (length symbols)) symbols)

@@ -25,7 +25,7 @@ is_ok (Err d) v e = absurd cc
 pub under_kept : (f g : ℕ → Option Value) → Keeps f g → (s : Source) (v : Value) → value_under f s ≡ Some v → value_under g s ≡ Some v
 under_kept f g h ToCome v e = e
 under_kept f g h (Given u) v e = e
-under_kept f g h (Worked w) v e = ap result_ok (value_kept (named f w.names) (named g w.names) (names_kept f g h w.names) w.symbols v (is_ok (worth f w) v e))
+under_kept f g h (Worked w) v e = ap result_ok (value_kept w.dialect (named f w.names) (named g w.names) (names_kept f g h w.names) w.symbols v (is_ok (worth f w) v e))
 
 -- the one list has the definitions of the other, and some that were to come
 abbrev pub Extends : List Source → List Source → Type 0

@@ -3,7 +3,7 @@ use Rattle.std.specs.Prelude.{ℕ, Option}
 use Rattle.vax_lex.specs.Certain.{certain_at}
 use Rattle.vax_lex.specs.declared.value.Value.{Value}
 use Rattle.vax_lex.specs.declared.value.ExprError.{ExprError}
-use Rattle.vax_asm_values.specs.Values.{Written, named}
+use Rattle.vax_asm_values.specs.Values.{Written, sense_of}
 
 abbrev pub certain : (ℕ → Option Value) → Written → Option ExprError
-certain values w = certain_at (named values w.names) w.symbols
+certain values w = certain_at (sense_of values w) w.symbols

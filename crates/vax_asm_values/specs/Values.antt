@@ -4,7 +4,9 @@ use Rattle.std.specs.Prelude.{ℕ, ◌<◌, All, zero, suc, Bool, true, false, �
 use Rattle.std.specs.Result.{result_ok}
 use Rattle.std.specs.Str.{bytes_eq}
 use Rattle.vax_lex.specs.Grammar.{Symbol}
+use Rattle.vax_dialect.specs.declared.Dialect.{Dialect}
 use Rattle.vax_lex.specs.Expressions.{value_at}
+use Rattle.vax_lex.specs.Values.{Sense}
 use Rattle.vax_lex.specs.declared.value.Value.{Value}
 use Rattle.vax_lex.specs.declared.value.ExprError.{ExprError}
 
@@ -13,8 +15,9 @@ pub record Meaning : Type 0 where
   pub name : List ℕ
   pub definition : ℕ
 
--- An expression: its symbols, and what the names in it mean.
+-- An expression of a dialect: its symbols, and what the names in it mean.
 pub record Written : Type 0 where
+  pub dialect : Dialect
   pub symbols : List Symbol
   pub names : List Meaning
 
@@ -29,9 +32,13 @@ abbrev pub named : (ℕ → Option Value) → List Meaning → List ℕ → Opti
 named values [] name = None
 named values (m ∷ names) name = if bytes_eq m.name name then values m.definition else named values names name
 
+-- what an expression is read by under values of definitions
+abbrev pub sense_of : (ℕ → Option Value) → Written → Sense
+sense_of values w = record { dialect = w.dialect; value = named values w.names }
+
 -- the value of an expression under values of definitions
 abbrev pub worth : (ℕ → Option Value) → Written → Result Value ExprError
-worth values w = value_at (named values w.names) w.symbols
+worth values w = value_at (sense_of values w) w.symbols
 
 abbrev pub source_at : List Source → ℕ → Source
 source_at sources i = slice_index_or sources i ToCome

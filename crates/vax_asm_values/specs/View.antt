@@ -12,7 +12,7 @@ abbrev pub meaning_of : Meaning → specs.Meaning
 meaning_of m = record { name = m.name.items; definition = m.definition }
 
 abbrev pub written_of : Expression → specs.Written
-written_of e = record { symbols = symbols_of e.text.value.items e.tokens.items; names = map meaning_of e.names.items }
+written_of e = record { dialect = e.dialect; symbols = symbols_of e.text.value.items e.tokens.items; names = map meaning_of e.names.items }
 
 abbrev pub source_of : Source → specs.Source
 source_of ToCome = specs.ToCome

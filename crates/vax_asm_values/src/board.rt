@@ -11,12 +11,14 @@ ghost use Rattle.vax_asm_values.specs.ToCome.{names_to_come};
 
 use crate::types::{Board, Expression, Meaning, Source};
 use std::alloc::Global;
+use vax_dialect::Dialect;
 use vax_lex::{ExprError, Names, Value, certain_fault, evaluate};
 use vax_space::NoMemory;
 
 /// The values of the names of an expression.
 #[derive(Clone, Copy)]
 struct Looked<'a> {
+    dialect: Dialect,
     names: &'a [Meaning],
     values: &'a [Option<Value>],
 }
@@ -40,7 +42,14 @@ fn value_at(values: &[Option<Value>], number: usize) -> Option<Value>
 impl Names for Looked<'_> {
     ghost use Rattle.std.specs.Prelude.{map};
 
-    ghost meaning = { λ s. named (known s.values.now) (map meaning_of s.names.now) };
+    ghost meaning = { λ s. record {
+      dialect = s.dialect;
+      value = named (known s.values.now) (map meaning_of s.names.now);
+    } };
+
+    fn dialect(&self) -> Dialect {
+        self.dialect
+    }
 
     fn lookup(&self, name: &[u8]) -> Option<Value> {
         for meaning in self.names {
@@ -178,6 +187,7 @@ impl Board {
         ensures { result ≡ worth (known self.now.values.items) (written_of expression.now) }
     {
         let looked = Looked {
+            dialect: expression.dialect,
             names: &expression.names,
             values: &self.values,
         };
@@ -189,6 +199,7 @@ impl Board {
         ensures { result ≡ certain (known self.now.values.items) (written_of expression.now) }
     {
         let looked = Looked {
+            dialect: expression.dialect,
             names: &expression.names,
             values: &self.values,
         };

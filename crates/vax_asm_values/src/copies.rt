@@ -42,6 +42,6 @@ impl Expression {
         let names = copied(alloc, &self.names)?;
         let tokens = self.tokens.to_vec(alloc).map_err(|_| NoMemory)?;
         let text = Rc::clone(&self.text).map_err(|_| NoMemory)?;
-        Ok(Expression::new(text, tokens, names))
+        Ok(Expression::new(self.dialect, text, tokens, names))
     }
 }

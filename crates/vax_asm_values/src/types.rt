@@ -6,6 +6,7 @@ ghost use Rattle.vax_lex.specs.Tokens.{IsTokenOf};
 ghost use Rattle.vax_asm_values.specs.TokenProps.{tokens_prop};
 
 use std::rc::Rc;
+use vax_dialect::Dialect;
 use vax_lex::{Token, Value};
 
 /// What a name means in an expression: the definition with this number.
@@ -16,10 +17,11 @@ pub struct Meaning {
     pub definition: usize,
 }
 
-/// An expression: tokens of a text, which other expressions share, and what the names in it mean. A name that isn't
-/// among them means nothing.
+/// An expression of a dialect: tokens of a text, which other expressions share, and what the names in it mean. A name that
+/// isn't among them means nothing.
 #[derive(Drop)]
 pub struct Expression {
+    pub(crate) dialect: Dialect,
     pub(crate) text: Rc<Vec<u8>>,
     pub(crate) tokens: Vec<Token>,
     pub(crate) names: Vec<Meaning>,
@@ -29,15 +31,22 @@ pub struct Expression {
 impl Expression {
     ghost use Rattle.vax_asm_values.specs.View.{meaning_of, written_of};
 
-    /// These tokens of a text, with what the names in them mean.
-    pub fn new(text: Rc<Vec<u8>>, tokens: Vec<Token>, names: Vec<Meaning>) -> Expression
+    /// These tokens of a text in a dialect, with what the names in them mean.
+    pub fn new(
+        dialect: Dialect,
+        text: Rc<Vec<u8>>,
+        tokens: Vec<Token>,
+        names: Vec<Meaning>,
+    ) -> Expression
         requires { All (IsTokenOf text.value.items) tokens.items }
         ensures { written_of result ≡ record {
+          dialect = dialect;
           symbols = symbols_of text.value.items tokens.items;
           names = map meaning_of names.items;
         } }
     {
         Expression {
+            dialect,
             text,
             tokens,
             names,

@@ -15,6 +15,12 @@ abbrev pub has_places_in_operands : Dialect → Bool
 has_places_in_operands Vax = false
 has_places_in_operands Vms = true
 
+-- Operators of expressions, conditions and counts see the low 32 bits of numbers, as signed numbers, and operators give such
+-- numbers. A number that stands alone has all of its 64 bits ("Terms and expressions").
+abbrev pub has_longword_values : Dialect → Bool
+has_longword_values Vax = false
+has_longword_values Vms = true
+
 -- An item of data without an expression is 0, as in `.BYTE 1,,2`.
 abbrev pub has_empty_items : Dialect → Bool
 has_empty_items Vax = false

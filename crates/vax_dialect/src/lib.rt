@@ -14,7 +14,7 @@ pub enum Dialect {
 }
 
 impl Dialect {
-    ghost use Rattle.vax_dialect.specs.Differences.{assigns_places, has_argument_forms, has_arguments_by_value, has_empty_items, has_further_directives, has_macro_directives, has_negative_repeats, has_places_in_operands, has_string_operators, has_unnamed_psect};
+    ghost use Rattle.vax_dialect.specs.Differences.{assigns_places, has_argument_forms, has_arguments_by_value, has_empty_items, has_further_directives, has_longword_values, has_macro_directives, has_negative_repeats, has_places_in_operands, has_string_operators, has_unnamed_psect};
 
     /// Whether directives are there beside those that both dialects have.
     pub fn has_further_directives(self) -> bool
@@ -29,6 +29,16 @@ impl Dialect {
     /// Whether `.` may stand in operands and in items.
     pub fn has_places_in_operands(self) -> bool
         ensures { result ≡ has_places_in_operands self }
+    {
+        match self {
+            Dialect::Vax => false,
+            Dialect::Vms => true,
+        }
+    }
+
+    /// Whether operators of expressions see the low 32 bits of numbers, with their sign, and give such numbers.
+    pub fn has_longword_values(self) -> bool
+        ensures { result ≡ has_longword_values self }
     {
         match self {
             Dialect::Vax => false,

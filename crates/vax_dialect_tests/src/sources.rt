@@ -24,7 +24,14 @@ fn fault_of(alloc: Global, dialect: Dialect, source: &str) -> (u32, u8) {
 #[test]
 fn gives_what_one_dialect_has(rt: HostRuntime) -> Result<(), Fail> {
     let alloc = rt.alloc();
-    let rows: [(&str, &[u8], (u32, u8)); 22] = [
+    let rows: [(&str, &[u8], (u32, u8)); 25] = [
+        (
+            "MOVL #^C<^XFFFF0000>,R0\n",
+            b"\xD0\x8F\xFF\xFF\0\0\x50",
+            (1, 7),
+        ),
+        (".LONG 1@32\n", b"\0\0\0\0", (1, 7)),
+        (".LONG ^XFFFFFFFF+2\n", b"\x01\0\0\0", (1, 7)),
         (".BYTE 1,,2\n", b"\x01\0\x02", (1, 4)),
         (".WORD 1[2],[2],\n", b"\x01\0\x01\0\0\0\0\0\0\0", (1, 4)),
         (
@@ -96,6 +103,46 @@ fn gives_what_one_dialect_has(rt: HostRuntime) -> Result<(), Fail> {
         let module = assemble(alloc, Dialect::Vms, source.as_bytes())?;
         assert!(rt; bytes_of(&module) == bytes, "{source}");
         assert!(rt; fault_of(alloc, Dialect::Vax, source) == fault, "{source}");
+    }
+    Ok(())
+}
+
+#[test]
+fn operators_see_32_bits_in_the_larger_one(rt: HostRuntime) -> Result<(), Fail> {
+    let alloc = rt.alloc();
+    let rows: [(&str, &[u8], &[u8]); 6] = [
+        (".LONG ^X80000000/2\n", b"\0\0\0\xC0", b"\0\0\0\x40"),
+        (
+            ".LONG ^XFFFFFFFF@-4\n",
+            b"\xFF\xFF\xFF\xFF",
+            b"\xFF\xFF\xFF\x0F",
+        ),
+        (
+            ".IF LT ^X80000000\n.BYTE 1\n.IFF\n.BYTE 2\n.ENDC\n",
+            b"\x01",
+            b"\x02",
+        ),
+        (
+            "X=^X80000000\n.LONG X\n.BYTE X@-31\n",
+            b"\0\0\0\x80\xFF",
+            b"\0\0\0\x80\x01",
+        ),
+        (
+            ".QUAD ^X123456789\n",
+            b"\x89\x67\x45\x23\x01\0\0\0",
+            b"\x89\x67\x45\x23\x01\0\0\0",
+        ),
+        (
+            ".QUAD ^X80000000+0\n",
+            b"\0\0\0\x80\xFF\xFF\xFF\xFF",
+            b"\0\0\0\x80\0\0\0\0",
+        ),
+    ];
+    for (source, vms, vax) in rows {
+        let module = assemble(alloc, Dialect::Vms, source.as_bytes())?;
+        assert!(rt; bytes_of(&module) == vms, "{source}");
+        let module = assemble(alloc, Dialect::Vax, source.as_bytes())?;
+        assert!(rt; bytes_of(&module) == vax, "{source}");
     }
     Ok(())
 }

@@ -81,7 +81,7 @@ unfolding data_stated item_of filled low_bytes
 byte_stated origin byte s h =
     let v : HasValue (byte_text byte) (token_at 6 (word (Number byte) (94 ∷ 88 ∷ hex 2 byte)) ∷ []) (pos byte) = positive (byte_text byte) 6 byte (94 ∷ 88 ∷ hex 2 byte) (omega arith) in
     let low : nat_lt byte 256 ≡ true = grind (arith, nat_tests) in
-    rw (v.means (named (value_of s.scope.sources) []), low) refl
+    rw (v.means (record { dialect = s.dialect; value = named (value_of s.scope.sources) [] }), low) refl
 
 directed_so : (origin : Origin) (line name : List ℕ) (tokens : List Token) (s : Standing) → directive_named s.dialect name ≡ Some (directive.Data (data_kind.Number size.B)) → operation_stated origin line name tokens s ≡ data_stated (data_kind.Number size.B) origin line tokens s
 directed_so origin line name tokens s e = rw e refl

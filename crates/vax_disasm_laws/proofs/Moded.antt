@@ -1,16 +1,19 @@
 -- The modes of operands, read from their words.
-use Rattle.std.proofs.Common.{◌≡◌, ℕ, suc, ◌+◌, ◌-◌, ◌%◌, ◌<◌, ◌≤◌, ◌^◌, true, false, ℤ, pos, negsuc, List, [], ◌∷◌, Option, Some, None, Ok, refl, ap, ◌∙◌, arith}
+use Rattle.std.proofs.Common.{◌≡◌, ℕ, suc, ◌+◌, ◌-◌, ◌%◌, ◌<◌, ◌≤◌, ◌^◌, true, false, ℤ, pos, negsuc, List, [], ◌∷◌, Option, Some, None, Ok, refl, ap, ◌∙◌, arith, inl, inr}
 use Rattle.std.specs.Prelude.{◌==◌, nat_lt, if◌then◌else◌}
 use Rattle.std.specs.Int.{w64, cast_signed, int_wrapping_neg}
+use Rattle.std.proofs.lemmas.Bool.{cases_Bool}
 use Rattle.std.proofs.lemmas.Bool.Decides.{nat_tests}
 use Rattle.std.proofs.lemmas.Int.{ints}
 use Rattle.vax_outside.specs.Hex.{hex}
+use Rattle.vax_dialect.specs.declared.Dialect.{Dialect}
+use Rattle.vax_dialect.specs.declared.Dialect.TheVariants.{Vax, Vms}
 use Rattle.vax_isa.specs.declared.actions.Narrow.{Narrow}
 use Rattle.vax_isa.specs.declared.actions.Narrow.TheVariants as narrow
 use Rattle.vax_lex.specs.Grammar.{symbols_of}
 use Rattle.vax_lex.specs.Grammar as symbols
 use Rattle.vax_lex.specs.Expressions.{value_at, term_in, joined_in}
-use Rattle.vax_lex.specs.declared.value.Value.{Value}
+use Rattle.vax_lex.specs.Values.{Sense, fitted_number, longword}
 use Rattle.vax_lex.specs.declared.value.Value.TheVariants as value
 use Rattle.vax_lex.specs.declared.token.Token.{Token}
 use Rattle.vax_lex.specs.declared.token.TokenKind.TheVariants.{Number}
@@ -43,7 +46,7 @@ place_mode (DisplacedDeferred width displacement n) = mode.Displaced (Some (narr
 
 -- the value of the expression, where the form has one
 pub record HasValue (line : List ℕ) (expression : List Token) (z : ℤ) : Type 0 where
-  pub means : (names : List ℕ → Option Value) → value_at names (symbols_of line expression) ≡ Ok (value.Absolute z)
+  pub means : (names : Sense) → value_at names (symbols_of line expression) ≡ Ok (value.Absolute z)
   pub no_names : used at_term (symbols_of line expression) ≡ []
 
 abbrev pub PlaceValue : List ℕ → List Token → Place → Type 0
@@ -75,11 +78,32 @@ minus_signed n some h =
     let less : 2 ^ 64 - suc (2 ^ 64 - n) ≡ n - 1 = omega arith in
     ap (cast_signed w64) low ∙ high_signed (2 ^ 64 - n) (omega arith) (omega arith) ∙ ap negsuc less
 
-number_value : (names : List ℕ → Option Value) (n : ℕ) → value_at names (symbols.number n ∷ []) ≡ Ok (value.Absolute (cast_signed w64 n))
+-- a number of 32 bits with its sign is seen whole
+low_seen : (n : ℕ) → n < 2 ^ 31 → longword (pos n) ≡ pos n
+low_seen n h = omega (arith, ints)
+
+minus_seen : (n : ℕ) → 0 < n → n ≤ 2 ^ 31 → longword (negsuc (n - 1)) ≡ negsuc (n - 1)
+minus_seen n some h = omega (arith, ints)
+
+long_minus : (n : ℕ) → 0 < n → n ≤ 2 ^ 31 → longword (int_wrapping_neg w64 (longword (pos n))) ≡ negsuc (n - 1)
+long_minus n some h = elim (cases_Bool (nat_lt n (2 ^ 31))) [
+  | inl t ↦
+      let low : n < 2 ^ 31 = grind (arith, nat_tests) in
+      ap (λ (z : ℤ). longword (int_wrapping_neg w64 z)) (low_seen n low) ∙ ap longword (minus_signed n some (omega arith)) ∙ minus_seen n some h
+  | inr f ↦
+      let same : n ≡ 2 ^ 31 = grind (arith, nat_tests) in
+      rw same refl
+]
+
+minus_fitted : (d : Dialect) (n : ℕ) → 0 < n → n ≤ 2 ^ 31 → fitted_number d (int_wrapping_neg w64 (fitted_number d (pos n))) ≡ negsuc (n - 1)
+minus_fitted Vax n some h = minus_signed n some (omega arith)
+minus_fitted Vms n some h = long_minus n some h
+
+number_value : (names : Sense) (n : ℕ) → value_at names (symbols.number n ∷ []) ≡ Ok (value.Absolute (cast_signed w64 n))
 unfolding value_at term_in joined_in
 number_value names n = refl
 
-minus_value : (names : List ℕ → Option Value) (n : ℕ) → value_at names (symbols.mark 45 ∷ symbols.number n ∷ []) ≡ Ok (value.Absolute (int_wrapping_neg w64 (cast_signed w64 n)))
+minus_value : (names : Sense) (n : ℕ) → value_at names (symbols.mark 45 ∷ symbols.number n ∷ []) ≡ Ok (value.Absolute (fitted_number names.dialect (int_wrapping_neg w64 (fitted_number names.dialect (cast_signed w64 n)))))
 unfolding value_at term_in joined_in
 minus_value names n = refl
 
@@ -90,9 +114,12 @@ positive line at n text h = record { means = λ names. number_value names n ∙ 
 pub unsigned : (line : List ℕ) (at n : ℕ) (text : List ℕ) → HasValue line (tokens_at at (word (Number n) text ∷ [])) (cast_signed w64 n)
 unsigned line at n text = record { means = λ names. number_value names n; no_names = refl }
 
-pub negative : (line : List ℕ) (at n : ℕ) (text : List ℕ) → 0 < n → n < 2 ^ 63 → HasValue line (tokens_at at (sign 45 ∷ word (Number n) text ∷ [])) (negsuc (n - 1))
+pub negative : (line : List ℕ) (at n : ℕ) (text : List ℕ) → 0 < n → n ≤ 2 ^ 31 → HasValue line (tokens_at at (sign 45 ∷ word (Number n) text ∷ [])) (negsuc (n - 1))
 negative line at n text some h = record {
-  means = λ names. minus_value names n ∙ ap (λ (z : ℤ). Ok (value.Absolute (int_wrapping_neg w64 z))) (small_signed n h) ∙ ap (λ (z : ℤ). Ok (value.Absolute z)) (minus_signed n some h);
+  means = λ names.
+      minus_value names n
+      ∙ ap (λ (z : ℤ). Ok (value.Absolute (fitted_number names.dialect (int_wrapping_neg w64 (fitted_number names.dialect z))))) (small_signed n (omega arith))
+      ∙ ap (λ (z : ℤ). Ok (value.Absolute z)) (minus_fitted names.dialect n some h);
   no_names = refl;
 }
 

@@ -35,7 +35,7 @@ direct_reads line at width displacement n true e d h =
     rw (letter_is width, e) (λ there. record { expression = tokens_at (at + 1 + 1) (number displacement ∷ []); is = plain_direct line at n displacement (decimal displacement) h (narrow_of width) there; no_index = refl; means = rw e (positive line (at + 1 + 1) displacement (decimal displacement) (omega arith)) })
 direct_reads line at width displacement n false e d h =
     let much : 2 ^ 31 ≤ displacement = grind (arith, nat_tests) in
-    rw (letter_is width, e) (λ there. record { expression = tokens_at (at + 1 + 1) (sign 45 ∷ number (2 ^ 32 - displacement) ∷ []); is = minus_direct line at n (2 ^ 32 - displacement) (decimal (2 ^ 32 - displacement)) h (narrow_of width) there; no_index = refl; means = rw e (negative line (at + 1 + 1) (2 ^ 32 - displacement) (decimal (2 ^ 32 - displacement)) (omega arith) (omega arith)) })
+    rw (letter_is width, e) (λ there. record { expression = tokens_at (at + 1 + 1) (sign 45 ∷ number (2 ^ 32 - displacement) ∷ []); is = minus_direct line at n (2 ^ 32 - displacement) (decimal (2 ^ 32 - displacement)) h (narrow_of width) there; no_index = refl; means = rw e (negative line (at + 1 + 1) (2 ^ 32 - displacement) (decimal (2 ^ 32 - displacement)) (omega (arith, d)) (omega (arith, much))) })
 
 deferral_reads : (line : List ℕ) (at width displacement n : ℕ) (low : Bool) → nat_lt displacement (2 ^ 31) ≡ low → displacement < 2 ^ 32 → n < 16 → AreThere line at (sign 64 ∷ displaced_words width displacement n [])
     → PlaceReads line (tokens_at at (sign 64 ∷ displaced_words width displacement n [])) (DisplacedDeferred width displacement n)
@@ -43,7 +43,7 @@ deferral_reads line at width displacement n true e d h =
     rw (letter_is width, e) (λ there. record { expression = tokens_at (at + 1 + 1 + 1) (number displacement ∷ []); is = plain_deferred line at n displacement (decimal displacement) h (narrow_of width) there; no_index = refl; means = rw e (positive line (at + 1 + 1 + 1) displacement (decimal displacement) (omega arith)) })
 deferral_reads line at width displacement n false e d h =
     let much : 2 ^ 31 ≤ displacement = grind (arith, nat_tests) in
-    rw (letter_is width, e) (λ there. record { expression = tokens_at (at + 1 + 1 + 1) (sign 45 ∷ number (2 ^ 32 - displacement) ∷ []); is = minus_deferred line at n (2 ^ 32 - displacement) (decimal (2 ^ 32 - displacement)) h (narrow_of width) there; no_index = refl; means = rw e (negative line (at + 1 + 1 + 1) (2 ^ 32 - displacement) (decimal (2 ^ 32 - displacement)) (omega arith) (omega arith)) })
+    rw (letter_is width, e) (λ there. record { expression = tokens_at (at + 1 + 1 + 1) (sign 45 ∷ number (2 ^ 32 - displacement) ∷ []); is = minus_deferred line at n (2 ^ 32 - displacement) (decimal (2 ^ 32 - displacement)) h (narrow_of width) there; no_index = refl; means = rw e (negative line (at + 1 + 1 + 1) (2 ^ 32 - displacement) (decimal (2 ^ 32 - displacement)) (omega (arith, d)) (omega (arith, much))) })
 
 pub place_reads : (line : List ℕ) (at : ℕ) (p : Place) → PlaceFits p → AreThere line at (place_words p []) → PlaceReads line (tokens_at at (place_words p [])) p
 place_reads line at (Deferred n) h there = deferred_reads line at n h there

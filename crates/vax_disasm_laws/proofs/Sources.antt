@@ -16,7 +16,7 @@ use Rattle.vax_lex.specs.declared.token.PieceKind.TheVariants as kinds
 use Rattle.vax_lex.specs.declared.token.Token.{Token}
 use Rattle.vax_lex.specs.declared.token.TokenKind.{TokenKind}
 use Rattle.vax_lex.specs.declared.token.TokenKind.TheVariants.{Name, Number, Mark, Text}
-use Rattle.vax_lex.specs.declared.value.Value.{Value}
+use Rattle.vax_lex.specs.Values.{Sense}
 use Rattle.vax_dialect.specs.declared.Dialect.{Dialect}
 use Rattle.vax_macro.specs.Directives.{Gives, done, read, read_line}
 use Rattle.vax_macro.specs.Expansion.{Says, Stepped, line_step, outcome, read_on, step}
@@ -200,12 +200,12 @@ head_is name tokens named h = rw (no_label name tokens named h) (operator_is nam
 abbrev pub left_of : Dialect → (at : ℕ) → List (List ℕ) → (read : ℕ) → Rest
 left_of dialect at texts read = record { dialect = dialect; lines = numbered at texts; again = None; macros = λ name. None; collecting = None; conditions = []; calls = []; made = 0; read = read }
 
-read_gives : (dialect : Dialect) (names : List ℕ → Option Value) (line : Reading) (pieces : List Piece) (head : Head) (operator : Piece) (at : ℕ) (texts : List (List ℕ)) (count : ℕ) → line.depth ≡ 0 → head.operator ≡ Some operator → word_of (piece_text line.text operator) ≡ other_word
+read_gives : (dialect : Dialect) (names : Sense) (line : Reading) (pieces : List Piece) (head : Head) (operator : Piece) (at : ℕ) (texts : List (List ℕ)) (count : ℕ) → line.depth ≡ 0 → head.operator ≡ Some operator → word_of (piece_text line.text operator) ≡ other_word
     → done names line pieces head (left_of dialect at texts count) ≡ Gives (left_of dialect at texts count)
 unfolding done read read_line
 read_gives dialect names line pieces head operator at texts count outside e word = rw (outside, e, word) refl
 
-line_says : (dialect : Dialect) (names : List ℕ → Option Value) (text : List ℕ) (number : ℕ) (parts : List (List ℕ)) (at : ℕ) (texts : List (List ℕ)) (count : ℕ) → IsOrdinary text
+line_says : (dialect : Dialect) (names : Sense) (text : List ℕ) (number : ℕ) (parts : List (List ℕ)) (at : ℕ) (texts : List (List ℕ)) (count : ℕ) → IsOrdinary text
     → line_step names (record { number = number; depth = 0; text = text; parts = parts; labelled = false }) (left_of dialect at texts count) ≡ Says (record { number = number; text = text }) (left_of dialect at texts count)
 unfolding line_step as_piece
 line_says dialect names text number parts at texts count o =
@@ -214,7 +214,7 @@ line_says dialect names text number parts at texts count o =
     let operator : (head_in (pieces_of text)).operator ≡ Some (as_piece o.operator) = ap (λ (ps : List Piece). (head_in ps).operator) pieces ∙ head_is o.operator o.operands o.named o.no_mark in
     ap (outcome line count) (read_gives dialect names line (pieces_of text) (head_in (pieces_of text)) (as_piece o.operator) at texts count refl operator o.word)
 
-pub step_says : (dialect : Dialect) (names : List ℕ → Option Value) (text : List ℕ) (at : ℕ) (texts : List (List ℕ)) (count : ℕ) → IsOrdinary text → length text ≤ 1024 → count < 100000
+pub step_says : (dialect : Dialect) (names : Sense) (text : List ℕ) (at : ℕ) (texts : List (List ℕ)) (count : ℕ) → IsOrdinary text → length text ≤ 1024 → count < 100000
     → step names (left_of dialect at (text ∷ texts) count) ≡ Says (record { number = at + 1; text = text }) (left_of dialect (at + 1) texts (count + 1))
 unfolding step read_on
 step_says dialect names text at texts count o short few =

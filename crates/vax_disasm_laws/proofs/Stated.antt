@@ -113,7 +113,7 @@ index_for (BranchBy d) = None
 module _ (dialect : Dialect) (origin : Origin) (line : List ℕ) (here : Value) (scope : Scope) where
   with_number : (m : Mode) (index : Option ℕ) (expression : List Token) (z : ℤ) → has_expression m ≡ true → HasValue line expression z
       → prepared dialect (site_at origin line here) (moded m expression index) scope ≡ with_value m index (value.Absolute z) scope
-  with_number m index expression z e h = rw (e, h.no_names, h.means (named (value_of scope.sources) [])) refl
+  with_number m index expression z e h = rw (e, h.no_names, h.means (record { dialect = dialect; value = named (value_of scope.sources) [] })) refl
 
   place_prepared : (p : Place) (index : Option ℕ) (expression : List Token) → PlaceValue line expression p → prepared dialect (site_at origin line here) (moded (place_mode p) expression index) scope ≡ with_value (place_mode p) index (place_value p) scope
   place_prepared (Deferred n) index expression h = refl

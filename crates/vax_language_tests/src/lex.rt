@@ -7,6 +7,7 @@ ghost use Rattle.vax_lex.specs.declared.value.Value.TheVariants.{Absolute, Secti
 use std::alloc::Global;
 use std::process::Abort;
 use std::test::Fail;
+use vax_dialect::Dialect;
 use vax_lex::{
     ExprError, LexError, Names, PieceKind, Span, TokenKind, Value, certain_fault, evaluate, names,
     pieces, scan,
@@ -19,21 +20,31 @@ fn is_word(text: &[u8], word: &[u8]) -> bool
     text == word
 }
 
-/// Names for the tests: `A`, `MIN` and `.` are numbers, `L`, `M2`, `10$` and `K` places, `E` and `F` external.
-struct Symbols;
+/// Names for the tests, in a dialect: `A`, `MIN` and `.` are numbers, `L`, `M2`, `10$` and `K` places, `E` and `F` external.
+#[derive(Drop)]
+struct Symbols {
+    dialect: Dialect,
+}
 
 impl Names for Symbols {
-    ghost meaning = { λ _ name.
-        if bytes_eq name (codes "A") then Some (Absolute (pos 5))
-        else (if bytes_eq name (codes "MIN") then Some (Absolute (negsuc 9223372036854775807))
-        else (if bytes_eq name (codes ".") then Some (Absolute (pos 512))
-        else (if bytes_eq name (codes "L") then Some (Section 1 (pos 16))
-        else (if bytes_eq name (codes "M2") then Some (Section 1 (pos 40))
-        else (if bytes_eq name (codes "10$") then Some (Section 1 (pos 20))
-        else (if bytes_eq name (codes "K") then Some (Section 2 (pos 8))
-        else (if bytes_eq name (codes "E") then Some (External 0 (pos 0))
-        else (if bytes_eq name (codes "F") then Some (External 1 (pos 4))
-        else None)))))))) };
+    ghost meaning = { λ s. record {
+      dialect = s.dialect;
+      value = λ name.
+          if bytes_eq name (codes "A") then Some (Absolute (pos 5))
+          else (if bytes_eq name (codes "MIN") then Some (Absolute (negsuc 9223372036854775807))
+          else (if bytes_eq name (codes ".") then Some (Absolute (pos 512))
+          else (if bytes_eq name (codes "L") then Some (Section 1 (pos 16))
+          else (if bytes_eq name (codes "M2") then Some (Section 1 (pos 40))
+          else (if bytes_eq name (codes "10$") then Some (Section 1 (pos 20))
+          else (if bytes_eq name (codes "K") then Some (Section 2 (pos 8))
+          else (if bytes_eq name (codes "E") then Some (External 0 (pos 0))
+          else (if bytes_eq name (codes "F") then Some (External 1 (pos 4))
+          else None))))))));
+    } };
+
+    fn dialect(&self) -> Dialect {
+        self.dialect
+    }
 
     fn lookup(&self, name: &[u8]) -> Option<Value> {
         if is_word(name, b"A") {
@@ -107,7 +118,13 @@ fn shown(rt: &impl Abort, alloc: Global, line: &str) -> Result<String, Fail> {
 fn value(rt: &impl Abort, alloc: Global, line: &str) -> Result<Result<Value, ExprError>, Fail> {
     assert!(rt; line.len() <= 1024);
     let tokens = scan(alloc, line.as_bytes())?;
-    Ok(evaluate(line.as_bytes(), tokens.as_slice(), &Symbols))
+    Ok(evaluate(
+        line.as_bytes(),
+        tokens.as_slice(),
+        &Symbols {
+            dialect: Dialect::Vax,
+        },
+    ))
 }
 
 static LINES: [(&str, &str); 83] = [
@@ -455,7 +472,15 @@ fn a_line_of_the_greatest_length_is_scanned(rt: HostRuntime) -> Result<(), Fail>
     let line = [b'<'; 1024];
     let tokens = scan(rt.alloc(), &line)?;
     assert!(rt; tokens.len() == 1024);
-    assert!(rt; evaluate(&line, tokens.as_slice(), &Symbols) == Err(ExprError::Form));
+    assert!(rt;
+        evaluate(
+            &line,
+            tokens.as_slice(),
+            &Symbols {
+                dialect: Dialect::Vax
+            }
+        ) == Err(ExprError::Form)
+    );
     Ok(())
 }
 
@@ -530,12 +555,58 @@ static FAULTS: [(&str, Option<ExprError>); 9] = [
     ("6/A", None),
 ];
 
+static LONGWORDS: [(&str, Result<Value, ExprError>); 12] = [
+    ("^XFFFFFFFF", Ok(Value::Absolute(4_294_967_295))),
+    ("^X100000000", Ok(Value::Absolute(4_294_967_296))),
+    ("^X100000000+0", Ok(Value::Absolute(0))),
+    ("-^XFFFFFFFF", Ok(Value::Absolute(1))),
+    ("-^X80000000", Ok(Value::Absolute(-2_147_483_648))),
+    ("^X80000000/2", Ok(Value::Absolute(-1_073_741_824))),
+    ("^XFFFFFFFF@-4", Ok(Value::Absolute(-1))),
+    ("^C<^XFFFF0000>", Ok(Value::Absolute(65_535))),
+    ("1@32", Ok(Value::Absolute(0))),
+    ("^X7FFFFFFF+1", Ok(Value::Absolute(-2_147_483_648))),
+    ("1/^X100000000", Err(ExprError::Range)),
+    (
+        "L+^XFFFFFFFF",
+        Ok(Value::Section {
+            section: 1,
+            offset: 15,
+        }),
+    ),
+];
+
+#[test]
+fn operators_of_the_larger_dialect_see_longwords(rt: HostRuntime) -> Result<(), Fail> {
+    let names = Symbols {
+        dialect: Dialect::Vms,
+    };
+    for (line, value) in LONGWORDS.iter() {
+        assert!(rt; line.len() <= 1024);
+        let tokens = scan(rt.alloc(), line.as_bytes())?;
+        assert!(rt;
+            evaluate(line.as_bytes(), tokens.as_slice(), &names) == *value,
+            "{line}"
+        );
+    }
+    let tokens = scan(rt.alloc(), b"X/^X100000000")?;
+    let found = certain_fault(b"X/^X100000000", tokens.as_slice(), &names);
+    assert!(rt; found == Some(ExprError::Range));
+    Ok(())
+}
+
 #[test]
 fn some_faults_stay_whatever_names_stand_for(rt: HostRuntime) -> Result<(), Fail> {
     for (line, fault) in FAULTS.iter() {
         assert!(rt; line.len() <= 1024);
         let tokens = scan(rt.alloc(), line.as_bytes())?;
-        let found = certain_fault(line.as_bytes(), tokens.as_slice(), &Symbols);
+        let found = certain_fault(
+            line.as_bytes(),
+            tokens.as_slice(),
+            &Symbols {
+                dialect: Dialect::Vax,
+            },
+        );
         assert!(rt; found == *fault, "{line}");
     }
     Ok(())

@@ -5,7 +5,7 @@ use Rattle.std.proofs.lemmas.List.{drop_all, length-drop}
 use Rattle.std.specs.Int.{w64, cast_signed}
 use Rattle.vax_lex.specs.Characters.{canonical_name}
 use Rattle.vax_lex.specs.Tokens.{token_text}
-use Rattle.vax_lex.specs.Values.{Operation, characters_value, mask_bit, combine, negated, complemented, named}
+use Rattle.vax_lex.specs.Values.{Operation, characters_value, mask_bit, Sense, combined, minus_of, complement_of, named}
 use Rattle.vax_lex.specs.Grammar.{Symbol, number, name, characters, mark, characters_in, symbol, symbol_of, symbols_of, is_that_mark, operator_in, operator_mark, names_then, term_then, joined_then, Term, constant, named_by, quoted, mask, plus, minus, complement, bracketed, Joined, finish, joined, with_bit, mask_outcome, mask_value, term_value, joined_value, Expression, spelling, value_of, Evaluates}
 use Rattle.vax_lex.specs.Reading.{NoTerm, ReadsTerm, NotOperator, ReadsExpression, ReadsNames, ReadsQuoted, ReadsMask}
 use Rattle.vax_lex.specs.declared.expression.Read.{Read}
@@ -20,7 +20,7 @@ use Rattle.vax_lex.proofs.Symbols.{Stands, length-symbols, token_stands, nothing
 use Rattle.vax_lex.proofs.Unique.{first_code, second_code, letter_code, unique_term, unique_joined, bracket_ends}
 
 -- An expression of which the terms before `end` have been read. What follows continues it, and nothing else does.
-pub record SoFar (names : (List ℕ → Option Value)) (all : List Symbol) (at : ℕ) (answer : Result Value ExprError) (end : ℕ) : Type 0 where
+pub record SoFar (names : Sense) (all : List Symbol) (at : ℕ) (answer : Result Value ExprError) (end : ℕ) : Type 0 where
   pub begins : at < end
   pub within : end ≤ length all
   pub continues : (more : Joined) (rest : List Symbol) → joined_then more rest ≡ drop end all
@@ -232,7 +232,7 @@ module _ (line : List ℕ) (tokens : List Token) where
 
   -- ---- terms
 
-  module _ (names : (List ℕ → Option Value)) where
+  module _ (names : Sense) where
     -- a term that one symbol spells
     pub constant_read : (at n : ℕ) (answer : Result Value ExprError) → Stands line tokens at (number n) → answer ≡ Ok (Absolute (cast_signed w64 n))
         → ReadsTerm names all at (Some (record { answer = answer; end = at + 1 }))
@@ -251,18 +251,18 @@ module _ (line : List ℕ) (tokens : List Token) where
     plus_read at (Some r) a h = let x = h.2 in
         (omega (arith, h.0), h.1, record { term = plus x.term; spells = ap (λ (y : List Symbol). mark 43 ∷ y) x.spells ∙ sym a.is; gives = x.gives })
 
-    pub minus_read : (at : ℕ) (r : Read) (answer : Result Value ExprError) → Stands line tokens at (mark 45) → ReadsTerm names all (at + 1) (Some r) → answer ≡ negated r.answer
+    pub minus_read : (at : ℕ) (r : Read) (answer : Result Value ExprError) → Stands line tokens at (mark 45) → ReadsTerm names all (at + 1) (Some r) → answer ≡ minus_of names.dialect r.answer
         → ReadsTerm names all at (Some (record { answer = answer; end = r.end }))
     minus_read at r answer a h v = let x = h.2 in
-        (omega (arith, h.0), h.1, record { term = minus x.term; spells = ap (λ (y : List Symbol). mark 45 ∷ y) x.spells ∙ sym a.is; gives = v ∙ ap negated x.gives })
+        (omega (arith, h.0), h.1, record { term = minus x.term; spells = ap (λ (y : List Symbol). mark 45 ∷ y) x.spells ∙ sym a.is; gives = v ∙ ap (minus_of names.dialect) x.gives })
 
     pub no_minus : (at : ℕ) → Stands line tokens at (mark 45) → ReadsTerm names all (at + 1) None → ReadsTerm names all at None
     no_minus at a h t rest e = minus_only t rest _ (e ∙ a.is) h
 
     pub complement_read : (at : ℕ) (r : Read) (answer : Result Value ExprError) → Stands line tokens at (mark 94) → Stands line tokens (at + 1) (name (67 ∷ []))
-        → ReadsTerm names all (at + 2) (Some r) → answer ≡ complemented r.answer → ReadsTerm names all at (Some (record { answer = answer; end = r.end }))
+        → ReadsTerm names all (at + 2) (Some r) → answer ≡ complement_of names.dialect r.answer → ReadsTerm names all at (Some (record { answer = answer; end = r.end }))
     complement_read at r answer a b h v = let x = h.2 in
-        (omega (arith, h.0), h.1, record { term = complement x.term; spells = ap (λ (y : List Symbol). mark 94 ∷ name (67 ∷ []) ∷ y) x.spells ∙ sym (two at (mark 94) (name (67 ∷ [])) a b); gives = v ∙ ap complemented x.gives })
+        (omega (arith, h.0), h.1, record { term = complement x.term; spells = ap (λ (y : List Symbol). mark 94 ∷ name (67 ∷ []) ∷ y) x.spells ∙ sym (two at (mark 94) (name (67 ∷ [])) a b); gives = v ∙ ap (complement_of names.dialect) x.gives })
 
     pub no_complement : (at : ℕ) → Stands line tokens at (mark 94) → Stands line tokens (at + 1) (name (67 ∷ [])) → ReadsTerm names all (at + 2) None → ReadsTerm names all at None
     no_complement at a b h t rest e = complement_only t rest _ (e ∙ two at (mark 94) (name (67 ∷ [])) a b) h
@@ -346,14 +346,14 @@ module _ (line : List ℕ) (tokens : List Token) where
     behind_operator operator symbols (joined b u others) rest q e = (u, others, cc)
 
     pub so_far_more : (at end : ℕ) (answer new : Result Value ExprError) (operator : Operation) (r : Read) → SoFar names all at answer end → operator_in (slice_get tokens end) ≡ Some operator
-        → ReadsTerm names all (end + 1) (Some r) → new ≡ combine operator answer r.answer → SoFar names all at new r.end
+        → ReadsTerm names all (end + 1) (Some r) → new ≡ combined names.dialect operator answer r.answer → SoFar names all at new r.end
     so_far_more at end answer new operator r s o h v = let x = h.2 in let there = operator_stands line tokens end operator o in record {
       begins = omega (arith, s.begins, h.0);
       within = h.1;
       continues = λ more rest e.
           let next : joined_then (joined operator x.term more) rest ≡ drop end all = ap (λ (y : List Symbol). mark (operator_mark operator) ∷ y) (ap (term_then x.term) e ∙ x.spells) ∙ sym there.is in
           let before = s.continues (joined operator x.term more) rest next in
-          let value : combine operator answer (term_value names x.term) ≡ new = ap (combine operator answer) (sym x.gives) ∙ sym v in
+          let value : combined names.dialect operator answer (term_value names x.term) ≡ new = ap (combined names.dialect operator answer) (sym x.gives) ∙ sym v in
           (before.0, before.1, before.2, before.3 ∙ ap (λ (y : Result Value ExprError). joined_value names y more) value);
       leaves = λ t whole rest q e.
           let before = s.leaves t whole rest q e in

@@ -6,7 +6,7 @@ use Rattle.std.proofs.lemmas.Bool.Decides.{nat_tests}
 use Rattle.std.proofs.lemmas.Slice.Eq.{bytes_eq-Decides}
 use Rattle.vax_lex.specs.Grammar.{Symbol, number, name, characters, mark, Term, constant, named_by, quoted, mask, plus, minus, complement, bracketed, Joined, finish, joined, operator_mark, operator_of_mark, names_then, term_then, joined_then, Expression, spelling, value_of, Evaluates}
 use Rattle.vax_lex.specs.Reading.{NotOperator}
-use Rattle.vax_lex.specs.Values.{Operation}
+use Rattle.vax_lex.specs.Values.{Operation, Sense}
 use Rattle.vax_lex.specs.Expressions.{TermRead, JoinedRead, NamesRead, signed, closed, closed_by, with_name, mask_names, mask_of, mask_list, mask_in, quoted_in, operated, join, behind, joining, joined_by, term_in, joined_in, whole_value, value_behind, value_at}
 use Rattle.vax_lex.specs.declared.value.Value.{Value}
 use Rattle.vax_lex.specs.declared.value.ExprError.{ExprError}
@@ -231,7 +231,7 @@ not_operator_end : NotOperator []
 not_operator_end operator rest e = cc
 
 -- the value of an expression that the symbols spell
-pub value_spelled : (names : List ℕ → Option Value) (symbols : List Symbol) (e : Expression) → spelling e ≡ symbols → value_at names symbols ≡ value_of names e
+pub value_spelled : (names : Sense) (symbols : List Symbol) (e : Expression) → spelling e ≡ symbols → value_at names symbols ≡ value_of names e
 unfolding value_at
 value_spelled names symbols e i =
     let P : List Symbol → Type 0 = λ s. value_behind names (suc (length s)) (term_in (suc (length s)) s) ≡ value_of names e in
@@ -240,7 +240,7 @@ value_spelled names symbols e i =
     let second = joined_read (suc (length (spelling e))) e.more [] not_operator_end (omega (arith, term_longer e.first (joined_then e.more []))) in
     subst P i (ap (value_behind names (suc (length (spelling e)))) first ∙ ap (whole_value names e.first) second)
 
-whole_none : (names : List ℕ → Option Value) (symbols rest : List Symbol) (t : Term) (o : Option JoinedRead) → term_then t rest ≡ symbols → JoinedIs rest o → ((e : Expression) → spelling e ≢ symbols) → whole_value names t o ≡ Err Form
+whole_none : (names : Sense) (symbols rest : List Symbol) (t : Term) (o : Option JoinedRead) → term_then t rest ≡ symbols → JoinedIs rest o → ((e : Expression) → spelling e ≢ symbols) → whole_value names t o ≡ Err Form
 whole_none names symbols rest t None h i none = refl
 whole_none names symbols rest t (Some r) h i none = last r.rest i
   where
@@ -248,17 +248,17 @@ whole_none names symbols rest t (Some r) h i none = last r.rest i
     last [] e = absurd (none (record { first = t; more = r.more }) (ap (term_then t) e ∙ h))
     last (s ∷ left) e = refl
 
-term_none : (names : List ℕ → Option Value) (symbols : List Symbol) (n : ℕ) (o : Option TermRead) → TermIs symbols o → ((e : Expression) → spelling e ≢ symbols) → value_behind names n o ≡ Err Form
+term_none : (names : Sense) (symbols : List Symbol) (n : ℕ) (o : Option TermRead) → TermIs symbols o → ((e : Expression) → spelling e ≢ symbols) → value_behind names n o ≡ Err Form
 term_none names symbols n None h none = refl
 term_none names symbols n (Some r) h none = whole_none names symbols r.rest r.term (joined_in n r.rest) h (joined_in_is n r.rest) none
 
 -- symbols that spell none
-pub value_none : (names : List ℕ → Option Value) (symbols : List Symbol) → ((e : Expression) → spelling e ≢ symbols) → value_at names symbols ≡ Err Form
+pub value_none : (names : Sense) (symbols : List Symbol) → ((e : Expression) → spelling e ≢ symbols) → value_at names symbols ≡ Err Form
 unfolding value_at
 value_none names symbols none = term_none names symbols (suc (length symbols)) (term_in (suc (length symbols)) symbols) (term_in_is (suc (length symbols)) symbols) none
 
 -- what an expression evaluates to
-pub evaluates_at : (names : List ℕ → Option Value) (symbols : List Symbol) (answer : Result Value ExprError) → Evaluates names symbols answer → answer ≡ value_at names symbols
+pub evaluates_at : (names : Sense) (symbols : List Symbol) (answer : Result Value ExprError) → Evaluates names symbols answer → answer ≡ value_at names symbols
 evaluates_at names symbols answer v = ⊎_elim
     (λ (p : (e : Expression) × (spelling e ≡ symbols) × (answer ≡ value_of names e)). p.2 ∙ sym (value_spelled names symbols p.0 p.1))
     (λ (p : ((e : Expression) → spelling e ≢ symbols) × (answer ≡ Err Form)). p.1 ∙ sym (value_none names symbols p.0)) v

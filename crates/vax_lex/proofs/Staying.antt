@@ -4,9 +4,10 @@ use Rattle.std.proofs.lemmas.Bool.{false_from_ne_true, false≢true}
 use Rattle.std.proofs.lemmas.Bool.Decides.{Decides-int_eq}
 use Rattle.std.specs.Prelude.{◌&&◌, ◌||◌, ◌≢◌, ok_or, if◌then◌else◌}
 use Rattle.std.specs.Ordering.{int_eq}
-use Rattle.vax_lex.specs.Certain.{Keeps, HasNone, is_zero, is_division, begins_with_zero, divides_by_zero, certain_by}
+use Rattle.vax_lex.specs.Certain.{Keeps, HasNone, with_values, is_zero, is_division, begins_with_zero, divides_by_zero, certain_by}
 use Rattle.vax_lex.specs.Grammar.{Symbol, mark, Term, constant, named_by, quoted, mask, plus, minus, complement, bracketed, Joined, finish, joined, operator_mark, names_then, term_then, joined_then, term_value, joined_value, Expression, spelling, value_of, Evaluates}
-use Rattle.vax_lex.specs.Values.{Operation, addition, subtraction, multiplication, division, arithmetic_shift, logical_and, inclusive_or, exclusive_or, apply, product_of, quotient, combine, negated, complemented, first_error, refuses_left, refuses_right}
+use Rattle.vax_lex.specs.Values.{Operation, addition, subtraction, multiplication, division, arithmetic_shift, logical_and, inclusive_or, exclusive_or, Sense, apply, product_of, quotient, combine, combined, complement_of, complemented, fitted, fitted_value, minus_of, negated, first_error, refuses_left, refuses_right}
+use Rattle.vax_dialect.specs.declared.Dialect.{Dialect}
 use Rattle.vax_lex.specs.declared.value.Value.{Value}
 use Rattle.vax_lex.specs.declared.value.Value.TheVariants.{Absolute, Section, External}
 use Rattle.vax_lex.specs.declared.value.ExprError.{ExprError}
@@ -158,37 +159,101 @@ complemented_later (Err Form) s h = λ v e. let u = complemented_of s v e in h u
 complemented_later (Err Unknown) s h = tt
 complemented_later (Err Range) s h = λ v e. let u = complemented_of s v e in h u.0 u.1
 
+-- what operators see of a term
+
+fitted_of : (d : Dialect) (s : Result Value ExprError) (v : Value) → fitted d s ≡ Ok v → (u : Value) × (s ≡ Ok u)
+fitted_of d (Ok u) v e = (u, refl)
+fitted_of d (Err f) v e = absurd cc
+
+fitted_later : (d : Dialect) (r s : Result Value ExprError) → Later r s → Later (fitted d r) (fitted d s)
+fitted_later d (Ok x) s h = ap (fitted d) h
+fitted_later d (Err Form) s h = λ v e. let u = fitted_of d s v e in h u.0 u.1
+fitted_later d (Err Unknown) s h = tt
+fitted_later d (Err Range) s h = λ v e. let u = fitted_of d s v e in h u.0 u.1
+
+combined_later : (d : Dialect) (op : Operation) (l m r s : Result Value ExprError) → Later l m → Later r s → Later (combined d op l r) (combined d op m s)
+combined_later d op l m r s h i =
+    fitted_later d (combine op (fitted d l) (fitted d r)) (combine op (fitted d m) (fitted d s))
+    (combine_later op (fitted d l) (fitted d m) (fitted d r) (fitted d s) (fitted_later d l m h) (fitted_later d r s i))
+
+minus_later : (d : Dialect) (r s : Result Value ExprError) → Later r s → Later (minus_of d r) (minus_of d s)
+minus_later d r s h = fitted_later d (negated (fitted d r)) (negated (fitted d s)) (negated_later (fitted d r) (fitted d s) (fitted_later d r s h))
+
+complement_later : (d : Dialect) (r s : Result Value ExprError) → Later r s → Later (complement_of d r) (complement_of d s)
+complement_later d r s h = fitted_later d (complemented (fitted d r)) (complemented (fitted d s)) (complemented_later (fitted d r) (fitted d s) (fitted_later d r s h))
+
+-- the operands of an operator in a dialect
+
+record Terms (d : Dialect) (op : Operation) (l r : Result Value ExprError) : Type 0 where
+  left : Value
+  left_is : l ≡ Ok left
+  right : Value
+  right_is : r ≡ Ok right
+  given : Value
+  gives : apply op (fitted_value d left) (fitted_value d right) ≡ Ok given
+
+terms : (d : Dialect) (op : Operation) (l r : Result Value ExprError) (v : Value) → combined d op l r ≡ Ok v → Terms d op l r
+terms d op l r v e =
+    let c = fitted_of d (combine op (fitted d l) (fitted d r)) v e in
+    let o = operands op (fitted d l) (fitted d r) c.0 c.1 in
+    let x = fitted_of d l o.left o.left_is in
+    let y = fitted_of d r o.right o.right_is in
+    let here : Ok (fitted_value d x.0) ≡ Ok o.left = ap (fitted d) (sym x.1) ∙ o.left_is in
+    let there : Ok (fitted_value d y.0) ≡ Ok o.right = ap (fitted d) (sym y.1) ∙ o.right_is in
+    let left : fitted_value d x.0 ≡ o.left = cc in
+    let right : fitted_value d y.0 ≡ o.right = cc in
+    record {
+      left = x.0;
+      left_is = x.1;
+      right = y.0;
+      right_is = y.1;
+      given = c.0;
+      gives = ap (λ z. apply op z (fitted_value d y.0)) left ∙ ap (apply op o.left) right ∙ o.gives;
+    }
+
+minus_term : (d : Dialect) (s : Result Value ExprError) (v : Value) → minus_of d s ≡ Ok v → (u : Value) × (s ≡ Ok u)
+minus_term d s v e =
+    let n = fitted_of d (negated (fitted d s)) v e in
+    let f = negated_of (fitted d s) n.0 n.1 in
+    fitted_of d s f.0 f.1
+
+complement_term : (d : Dialect) (s : Result Value ExprError) (v : Value) → complement_of d s ≡ Ok v → (u : Value) × (s ≡ Ok u)
+complement_term d s v e =
+    let n = fitted_of d (complemented (fitted d s)) v e in
+    let f = complemented_of (fitted d s) n.0 n.1 in
+    fitted_of d s f.0 f.1
+
 found_later : (o p : Option Value) → ((v : Value) → o ≡ Some v → p ≡ Some v) → Later (ok_or o Unknown) (ok_or p Unknown)
 found_later (Some x) p h = ap (λ q. ok_or q Unknown) (h x refl)
 found_later None p h = tt
 
 mutual
-  term_later : (names more : List ℕ → Option Value) → Keeps names more → (t : Term) → Later (term_value names t) (term_value more t)
+  term_later : (names : Sense) (more : List ℕ → Option Value) → Keeps names.value more → (t : Term) → Later (term_value names t) (term_value (with_values names more) t)
   term_later names more h (constant n) = refl
-  term_later names more h (named_by s) = found_later (names s) (more s) (h s)
+  term_later names more h (named_by s) = found_later (names.value s) (more s) (h s)
   term_later names more h (quoted text) = later_itself (term_value names (quoted text))
   term_later names more h (mask registers) = later_itself (term_value names (mask registers))
   term_later names more h (plus t) = term_later names more h t
-  term_later names more h (minus t) = negated_later (term_value names t) (term_value more t) (term_later names more h t)
-  term_later names more h (complement t) = complemented_later (term_value names t) (term_value more t) (term_later names more h t)
-  term_later names more h (bracketed t j) = joined_later names more h (term_value names t) (term_value more t) (term_later names more h t) j
+  term_later names more h (minus t) = minus_later names.dialect (term_value names t) (term_value (with_values names more) t) (term_later names more h t)
+  term_later names more h (complement t) = complement_later names.dialect (term_value names t) (term_value (with_values names more) t) (term_later names more h t)
+  term_later names more h (bracketed t j) = joined_later names more h (term_value names t) (term_value (with_values names more) t) (term_later names more h t) j
 
-  joined_later : (names more : List ℕ → Option Value) → Keeps names more → (l m : Result Value ExprError) → Later l m → (j : Joined) → Later (joined_value names l j) (joined_value more m j)
+  joined_later : (names : Sense) (more : List ℕ → Option Value) → Keeps names.value more → (l m : Result Value ExprError) → Later l m → (j : Joined) → Later (joined_value names l j) (joined_value (with_values names more) m j)
   joined_later names more h l m less finish = less
   joined_later names more h l m less (joined op t j) =
-      joined_later names more h (combine op l (term_value names t)) (combine op m (term_value more t))
-      (combine_later op l m (term_value names t) (term_value more t) less (term_later names more h t)) j
+      joined_later names more h (combined names.dialect op l (term_value names t)) (combined names.dialect op m (term_value (with_values names more) t))
+      (combined_later names.dialect op l m (term_value names t) (term_value (with_values names more) t) less (term_later names more h t)) j
 
-value_later : (names more : List ℕ → Option Value) → Keeps names more → (e : Expression) → Later (value_of names e) (value_of more e)
-value_later names more h e = joined_later names more h (term_value names e.first) (term_value more e.first) (term_later names more h e.first) e.more
+value_later : (names : Sense) (more : List ℕ → Option Value) → Keeps names.value more → (e : Expression) → Later (value_of names e) (value_of (with_values names more) e)
+value_later names more h e = joined_later names more h (term_value names e.first) (term_value (with_values names more) e.first) (term_later names more h e.first) e.more
 
 -- what has a value divides by no 0
 
-first_of : (names : List ℕ → Option Value) (l : Result Value ExprError) (j : Joined) (v : Value) → joined_value names l j ≡ Ok v → (u : Value) × (l ≡ Ok u)
+first_of : (names : Sense) (l : Result Value ExprError) (j : Joined) (v : Value) → joined_value names l j ≡ Ok v → (u : Value) × (l ≡ Ok u)
 first_of names l finish v e = (v, e)
 first_of names l (joined op t j) v e =
-    let n = first_of names (combine op l (term_value names t)) j v e in
-    let o = operands op l (term_value names t) n.0 n.1 in
+    let n = first_of names (combined names.dialect op l (term_value names t)) j v e in
+    let o = terms names.dialect op l (term_value names t) n.0 n.1 in
     (o.left, o.left_is)
 
 divisor : (a b : ℤ) (v : Value) → quotient a b ≡ Ok v → int_eq b (pos 0) ≡ false
@@ -216,44 +281,45 @@ not_by_zero logical_and x y v r h e = refl
 not_by_zero inclusive_or x y v r h e = refl
 not_by_zero exclusive_or x y v r h e = refl
 
-mask_passed : (names : List ℕ → Option Value) (registers : List (List ℕ)) (rest : List Symbol) → divides_by_zero names (names_then registers (mark 62 ∷ rest)) ≡ divides_by_zero names rest
+mask_passed : (names : Sense) (registers : List (List ℕ)) (rest : List Symbol) → divides_by_zero names (names_then registers (mark 62 ∷ rest)) ≡ divides_by_zero names rest
 mask_passed names [] rest = refl
 mask_passed names (r ∷ []) rest = refl
 mask_passed names (r ∷ s ∷ registers) rest = mask_passed names (s ∷ registers) rest
 
 mutual
-  term_passed : (names more : List ℕ → Option Value) → Keeps names more → (t : Term) (rest : List Symbol) (v : Value) → term_value more t ≡ Ok v
+  term_passed : (names : Sense) (more : List ℕ → Option Value) → Keeps names.value more → (t : Term) (rest : List Symbol) (v : Value) → term_value (with_values names more) t ≡ Ok v
       → divides_by_zero names (term_then t rest) ≡ divides_by_zero names rest
   term_passed names more h (constant n) rest v e = refl
   term_passed names more h (named_by s) rest v e = refl
   term_passed names more h (quoted text) rest v e = refl
   term_passed names more h (mask registers) rest v e = mask_passed names registers rest
   term_passed names more h (plus t) rest v e = term_passed names more h t rest v e
-  term_passed names more h (minus t) rest v e = let u = negated_of (term_value more t) v e in term_passed names more h t rest u.0 u.1
-  term_passed names more h (complement t) rest v e = let u = complemented_of (term_value more t) v e in term_passed names more h t rest u.0 u.1
+  term_passed names more h (minus t) rest v e = let u = minus_term names.dialect (term_value (with_values names more) t) v e in term_passed names more h t rest u.0 u.1
+  term_passed names more h (complement t) rest v e = let u = complement_term names.dialect (term_value (with_values names more) t) v e in term_passed names more h t rest u.0 u.1
   term_passed names more h (bracketed t j) rest v e =
-      let u = first_of more (term_value more t) j v e in
-      term_passed names more h t (joined_then j (mark 62 ∷ rest)) u.0 u.1 ∙ joined_passed names more h (term_value more t) j (mark 62 ∷ rest) v e
+      let u = first_of (with_values names more) (term_value (with_values names more) t) j v e in
+      term_passed names more h t (joined_then j (mark 62 ∷ rest)) u.0 u.1 ∙ joined_passed names more h (term_value (with_values names more) t) j (mark 62 ∷ rest) v e
 
-  joined_passed : (names more : List ℕ → Option Value) → Keeps names more → (l : Result Value ExprError) (j : Joined) (rest : List Symbol) (v : Value) → joined_value more l j ≡ Ok v
+  joined_passed : (names : Sense) (more : List ℕ → Option Value) → Keeps names.value more → (l : Result Value ExprError) (j : Joined) (rest : List Symbol) (v : Value) → joined_value (with_values names more) l j ≡ Ok v
       → divides_by_zero names (joined_then j rest) ≡ divides_by_zero names rest
   joined_passed names more h l finish rest v e = refl
   joined_passed names more h l (joined op t j) rest v e =
-      let n = first_of more (combine op l (term_value more t)) j v e in
-      let o = operands op l (term_value more t) n.0 n.1 in
+      let n = first_of (with_values names more) (combined names.dialect op l (term_value (with_values names more) t)) j v e in
+      let o = terms names.dialect op l (term_value (with_values names more) t) n.0 n.1 in
       let behind = term_then t (joined_then j rest) in
-      let P : Result Value ExprError → Type 0 = λ r. Later (term_value names t) r in
-      let zero_there : is_zero (term_value names t) ≡ begins_with_zero names behind = term_is names behind (joined_then j rest) t (term_value names t) refl refl in
-      let none = not_by_zero op o.left o.right n.0 (term_value names t) (subst P o.right_is (term_later names more h t)) o.gives in
+      let P : Result Value ExprError → Type 0 = λ r. Later (fitted names.dialect (term_value names t)) (fitted names.dialect r) in
+      let later = fitted_later names.dialect (term_value names t) (term_value (with_values names more) t) (term_later names more h t) in
+      let zero_there : is_zero (fitted names.dialect (term_value names t)) ≡ begins_with_zero names behind = term_is names behind (joined_then j rest) t (term_value names t) refl refl in
+      let none = not_by_zero op (fitted_value names.dialect o.left) (fitted_value names.dialect o.right) o.given (fitted names.dialect (term_value names t)) (subst P o.right_is later) o.gives in
       ap (λ b. (is_division (mark (operator_mark op)) && b) || divides_by_zero names behind) (sym zero_there)
       ∙ ap (λ b. b || divides_by_zero names behind) none
       ∙ term_passed names more h t (joined_then j rest) o.right o.right_is
-      ∙ joined_passed names more h (combine op l (term_value more t)) j rest v e
+      ∙ joined_passed names more h (combined names.dialect op l (term_value (with_values names more) t)) j rest v e
 
-none_divided : (names more : List ℕ → Option Value) → Keeps names more → (e : Expression) (v : Value) → value_of more e ≡ Ok v → divides_by_zero names (spelling e) ≡ false
+none_divided : (names : Sense) (more : List ℕ → Option Value) → Keeps names.value more → (e : Expression) (v : Value) → value_of (with_values names more) e ≡ Ok v → divides_by_zero names (spelling e) ≡ false
 none_divided names more h e v is =
-    let u = first_of more (term_value more e.first) e.more v is in
-    term_passed names more h e.first (joined_then e.more []) u.0 u.1 ∙ joined_passed names more h (term_value more e.first) e.more [] v is
+    let u = first_of (with_values names more) (term_value (with_values names more) e.first) e.more v is in
+    term_passed names more h e.first (joined_then e.more []) u.0 u.1 ∙ joined_passed names more h (term_value (with_values names more) e.first) e.more [] v is
 
 -- the fault stays
 
@@ -263,16 +329,16 @@ no_fault (Err Form) b f v h i e = h v refl
 no_fault (Err Unknown) b f v h i e = let none : None ≡ Some f = sym (ap (λ c. certain_by c (Err Unknown)) i) ∙ e in cc
 no_fault (Err Range) b f v h i e = h v refl
 
-pub stays : (names : List ℕ → Option Value) (symbols : List Symbol) (answer : Result Value ExprError) (f : ExprError) → Evaluates names symbols answer
+pub stays : (names : Sense) (symbols : List Symbol) (answer : Result Value ExprError) (f : ExprError) → Evaluates names symbols answer
     → certain_by (divides_by_zero names symbols) answer ≡ Some f → HasNone names symbols
 stays names symbols answer f evaluates certain more h v ok =
     ⊎_elim
     (λ (p : (e : Expression) × (spelling e ≡ symbols) × (answer ≡ value_of names e)).
     let P : Result Value ExprError → Type 0 = λ r. Later r (Ok v) in
     let Q : Result Value ExprError → Type 0 = λ r. Later (value_of names p.0) r in
-    let value : value_of more p.0 ≡ Ok v = sym (value_spelled more symbols p.0 p.1) ∙ ok in
+    let value : value_of (with_values names more) p.0 ≡ Ok v = sym (value_spelled (with_values names more) symbols p.0 p.1) ∙ ok in
     no_fault answer (divides_by_zero names symbols) f v (subst P (sym p.2) (subst Q value (value_later names more h p.0)))
     (ap (divides_by_zero names) (sym p.1) ∙ none_divided names more h p.0 v value) certain)
     (λ (p : ((e : Expression) → spelling e ≢ symbols) × (answer ≡ Err Form)).
-    let none : Err Form ≡ Ok v = sym (value_none more symbols p.0) ∙ ok in cc)
+    let none : Err Form ≡ Ok v = sym (value_none (with_values names more) symbols p.0) ∙ ok in cc)
     evaluates

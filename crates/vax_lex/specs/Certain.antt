@@ -4,7 +4,7 @@ use Rattle.std.specs.Prelude.{ℕ, suc, pos, Bool, false, ◌≡◌, ◌≢◌, 
 use Rattle.std.specs.Ordering.{int_eq}
 use Rattle.vax_lex.specs.Expressions.{TermRead, term_in, value_at}
 use Rattle.vax_lex.specs.Grammar.{Symbol, number, name, characters, mark, operator_mark, term_value}
-use Rattle.vax_lex.specs.Values.{division}
+use Rattle.vax_lex.specs.Values.{Sense, division, fitted}
 use Rattle.vax_lex.specs.declared.value.Value.{Value}
 use Rattle.vax_lex.specs.declared.value.Value.TheVariants.{Absolute, Section, External}
 use Rattle.vax_lex.specs.declared.value.ExprError.{ExprError}
@@ -23,15 +23,15 @@ is_division (name s) = false
 is_division (characters text) = false
 
 -- a term whose value is 0, if there is a term
-abbrev pub zero_term : (List ℕ → Option Value) → Option TermRead → Bool
-zero_term names (Some r) = is_zero (term_value names r.term)
+abbrev pub zero_term : Sense → Option TermRead → Bool
+zero_term names (Some r) = is_zero (fitted names.dialect (term_value names r.term))
 zero_term names None = false
 
-abbrev pub begins_with_zero : (List ℕ → Option Value) → List Symbol → Bool
+abbrev pub begins_with_zero : Sense → List Symbol → Bool
 begins_with_zero names symbols = zero_term names (term_in (suc (length symbols)) symbols)
 
 -- whether behind a `/` among them stands a term whose value is 0
-abbrev pub divides_by_zero : (List ℕ → Option Value) → List Symbol → Bool
+abbrev pub divides_by_zero : Sense → List Symbol → Bool
 divides_by_zero names [] = false
 divides_by_zero names (s ∷ symbols) = (is_division s && begins_with_zero names symbols) || divides_by_zero names symbols
 
@@ -43,13 +43,17 @@ certain_by divides (Err Unknown) = if divides then Some Range else None
 certain_by divides (Err Range) = Some Range
 
 -- The fault of the expression that these symbols are, if it has one whatever its names without a value stand for.
-unfoldable pub certain_at : (List ℕ → Option Value) → List Symbol → Option ExprError
+unfoldable pub certain_at : Sense → List Symbol → Option ExprError
 certain_at names symbols = certain_by (divides_by_zero names symbols) (value_at names symbols)
+
+-- the same dialect, and other values of names
+abbrev pub with_values : Sense → (List ℕ → Option Value) → Sense
+with_values names more = record { dialect = names.dialect; value = more }
 
 -- every value of the one is one of the other
 abbrev pub Keeps : (List ℕ → Option Value) → (List ℕ → Option Value) → Type 0
 Keeps names more = (s : List ℕ) (v : Value) → names s ≡ Some v → more s ≡ Some v
 
 -- Whatever values more names have, the symbols have none.
-abbrev pub HasNone : (List ℕ → Option Value) → List Symbol → Type 0
-HasNone names symbols = (more : List ℕ → Option Value) → Keeps names more → (v : Value) → value_at more symbols ≢ Ok v
+abbrev pub HasNone : Sense → List Symbol → Type 0
+HasNone names symbols = (more : List ℕ → Option Value) → Keeps names.value more → (v : Value) → value_at (with_values names more) symbols ≢ Ok v

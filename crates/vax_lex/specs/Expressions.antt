@@ -2,7 +2,7 @@
 use Rattle.std.specs.Prelude.{ℕ, zero, suc, List, [], ◌∷◌, length, Option, Some, None, Result, Err, ◌==◌, if◌then◌else◌, codes}
 use Rattle.std.specs.Str.{bytes_eq}
 use Rattle.vax_lex.specs.Grammar.{Symbol, number, name, characters, mark, Term, constant, named_by, quoted, mask, plus, minus, complement, bracketed, Joined, finish, joined, operator_of_mark, value_of}
-use Rattle.vax_lex.specs.Values.{Operation}
+use Rattle.vax_lex.specs.Values.{Operation, Sense}
 use Rattle.vax_lex.specs.declared.value.Value.{Value}
 use Rattle.vax_lex.specs.declared.value.ExprError.{ExprError}
 use Rattle.vax_lex.specs.declared.value.ExprError.TheVariants.{Form}
@@ -109,13 +109,13 @@ unfoldable mutual
   joined_in (suc n) symbols = Some (record { more = finish; rest = symbols })
 
 -- The value of the expression that these symbols are, all of them.
-abbrev pub whole_value : (List ℕ → Option Value) → Term → Option JoinedRead → Result Value ExprError
+abbrev pub whole_value : Sense → Term → Option JoinedRead → Result Value ExprError
 whole_value names t None = Err Form
 whole_value names t (Some r) = elim r.rest [ [] ↦ value_of names (record { first = t; more = r.more }) | _ ↦ Err Form ]
 
-abbrev pub value_behind : (List ℕ → Option Value) → ℕ → Option TermRead → Result Value ExprError
+abbrev pub value_behind : Sense → ℕ → Option TermRead → Result Value ExprError
 value_behind names steps None = Err Form
 value_behind names steps (Some r) = whole_value names r.term (joined_in steps r.rest)
 
-unfoldable pub value_at : (List ℕ → Option Value) → List Symbol → Result Value ExprError
+unfoldable pub value_at : Sense → List Symbol → Result Value ExprError
 value_at names symbols = value_behind names (suc (length symbols)) (term_in (suc (length symbols)) symbols)

@@ -5,7 +5,7 @@ use Rattle.std.specs.Int.{w64, cast_signed}
 use Rattle.vax_lex.specs.Characters.{canonical_name}
 use Rattle.vax_lex.specs.Tokens.{token_text}
 use Rattle.vax_lex.specs.Statements.{is_mark}
-use Rattle.vax_lex.specs.Values.{Operation, addition, subtraction, multiplication, division, arithmetic_shift, logical_and, inclusive_or, exclusive_or, combine, negated, complemented, named, characters_value, mask_bit}
+use Rattle.vax_lex.specs.Values.{Operation, addition, subtraction, multiplication, division, arithmetic_shift, logical_and, inclusive_or, exclusive_or, Sense, combined, minus_of, complement_of, named, characters_value, mask_bit}
 use Rattle.vax_lex.specs.declared.token.TokenKind.{TokenKind}
 use Rattle.vax_lex.specs.declared.token.TokenKind.TheVariants.{Name, Number, Mark, Text}
 use Rattle.vax_lex.specs.declared.token.Token.{Token}
@@ -107,19 +107,19 @@ mask_value names = mask_outcome (mask_with (Some 0) names)
 -- The value of a term, and that of terms joined to one whose value is known: operators have equal rank, and the left
 -- one comes first.
 abbrev mutual
-  pub term_value : (List ℕ → Option Value) → Term → Result Value ExprError
+  pub term_value : Sense → Term → Result Value ExprError
   term_value names (constant n) = Ok (Absolute (cast_signed w64 n))
   term_value names (named_by s) = named names s
   term_value names (quoted text) = characters_value text
   term_value names (mask registers) = mask_value registers
   term_value names (plus t) = term_value names t
-  term_value names (minus t) = negated (term_value names t)
-  term_value names (complement t) = complemented (term_value names t)
+  term_value names (minus t) = minus_of names.dialect (term_value names t)
+  term_value names (complement t) = complement_of names.dialect (term_value names t)
   term_value names (bracketed t more) = joined_value names (term_value names t) more
 
-  pub joined_value : (List ℕ → Option Value) → Result Value ExprError → Joined → Result Value ExprError
+  pub joined_value : Sense → Result Value ExprError → Joined → Result Value ExprError
   joined_value names left finish = left
-  joined_value names left (joined operator t more) = joined_value names (combine operator left (term_value names t)) more
+  joined_value names left (joined operator t more) = joined_value names (combined names.dialect operator left (term_value names t)) more
 
 -- A whole expression, the symbols that spell it, and its value.
 pub record Expression : Type 0 where
@@ -129,11 +129,11 @@ pub record Expression : Type 0 where
 abbrev pub spelling : Expression → List Symbol
 spelling e = term_then e.first (joined_then e.more [])
 
-abbrev pub value_of : (List ℕ → Option Value) → Expression → Result Value ExprError
+abbrev pub value_of : Sense → Expression → Result Value ExprError
 value_of names e = joined_value names (term_value names e.first) e.more
 
 -- The answer is the value of an expression that the symbols spell, or they spell none.
-abbrev pub Evaluates : (List ℕ → Option Value) → List Symbol → Result Value ExprError → Type 0
+abbrev pub Evaluates : Sense → List Symbol → Result Value ExprError → Type 0
 Evaluates names symbols answer =
     ((e : Expression) × (spelling e ≡ symbols) × (answer ≡ value_of names e))
     ⊎ (((e : Expression) → spelling e ≢ symbols) × (answer ≡ Err Form))

@@ -1,7 +1,7 @@
 -- What is read of an expression from one of its symbols on.
 use Rattle.std.specs.Prelude.{◌≡◌, ℕ, ◌<◌, ◌≤◌, List, ◌∷◌, length, drop, Option, Some, None, Result}
 use Rattle.vax_lex.specs.Grammar.{Symbol, characters, mark, Term, Joined, operator_mark, term_then, joined_then, names_then, term_value, joined_value, mask_with, mask_outcome, mask_value}
-use Rattle.vax_lex.specs.Values.{Operation, characters_value}
+use Rattle.vax_lex.specs.Values.{Operation, Sense, characters_value}
 use Rattle.vax_lex.specs.declared.value.Value.{Value}
 use Rattle.vax_lex.specs.declared.value.ExprError.{ExprError}
 use Rattle.vax_lex.specs.declared.expression.Read.{Read}
@@ -11,13 +11,13 @@ abbrev pub NoTerm : List Symbol → Type 0
 NoTerm symbols = (t : Term) (rest : List Symbol) → term_then t rest ≡ symbols → ⊥
 
 -- a term with this answer, and the rest
-pub record TermIs (names : (List ℕ → Option Value)) (symbols : List Symbol) (answer : Result Value ExprError) (rest : List Symbol) : Type 0 where
+pub record TermIs (names : Sense) (symbols : List Symbol) (answer : Result Value ExprError) (rest : List Symbol) : Type 0 where
   pub term : Term
   pub spells : term_then term rest ≡ symbols
   pub gives : answer ≡ term_value names term
 
 -- The answer of a reader of terms at a place.
-abbrev pub ReadsTerm : (List ℕ → Option Value) → List Symbol → ℕ → Option Read → Type 0
+abbrev pub ReadsTerm : Sense → List Symbol → ℕ → Option Read → Type 0
 ReadsTerm names all at None = NoTerm (drop at all)
 ReadsTerm names all at (Some r) = (at < r.end) × (r.end ≤ length all) × TermIs names (drop at all) r.answer (drop r.end all)
 
@@ -30,14 +30,14 @@ abbrev pub NoExpression : List Symbol → Type 0
 NoExpression symbols = (t : Term) (more : Joined) (rest : List Symbol) → NotOperator rest → term_then t (joined_then more rest) ≡ symbols → ⊥
 
 -- an expression with this answer that goes as far as it can, and the rest
-pub record ExpressionIs (names : (List ℕ → Option Value)) (symbols : List Symbol) (answer : Result Value ExprError) (rest : List Symbol) : Type 0 where
+pub record ExpressionIs (names : Sense) (symbols : List Symbol) (answer : Result Value ExprError) (rest : List Symbol) : Type 0 where
   pub term : Term
   pub more : Joined
   pub spells : term_then term (joined_then more rest) ≡ symbols
   pub gives : answer ≡ joined_value names (term_value names term) more
   pub whole : NotOperator rest
 
-abbrev pub ReadsExpression : (List ℕ → Option Value) → List Symbol → ℕ → Option Read → Type 0
+abbrev pub ReadsExpression : Sense → List Symbol → ℕ → Option Read → Type 0
 ReadsExpression names all at None = NoExpression (drop at all)
 ReadsExpression names all at (Some r) = (at < r.end) × (r.end ≤ length all) × ExpressionIs names (drop at all) r.answer (drop r.end all)
 

@@ -1,8 +1,12 @@
 -- Values and what operators make of them (VAX MACRO and Instruction Set Reference Manual, "Terms and expressions",
--- "Unary operators" and "Operation operators"). Values have 64 bits and wrap.
+-- "Unary operators" and "Operation operators"). Values have 64 bits and wrap, or operators see 32 of them, by the dialect.
 use Rattle.std.specs.Prelude.{ℕ, zero, ℤ, pos, negsuc, ◌+◌, min, Bool, true, false, ◌==◌, nat_lt, List, [], ◌∷◌, length, ◌*◌, ◌&&◌, nat_le, Option, Some, None, Result, Ok, Err, ok_or, if◌then◌else◌, codes}
-use Rattle.std.specs.Int.{w64, int_wrapping_add, int_wrapping_sub, int_wrapping_mul, int_wrapping_div, int_wrapping_neg, int_bit_and, int_bit_or, int_bit_xor, int_bit_not, cast_signed, int_shl, int_shr}
+use Rattle.std.specs.Int.{w32, w64, int_wrapping_add, int_wrapping_sub, int_wrapping_mul, int_wrapping_div, int_wrapping_neg, int_bit_and, int_bit_or, int_bit_xor, int_bit_not, cast_signed, int_shl, int_shr}
+use Rattle.std.specs.Int.{cast_unsigned}
+use Rattle.std.specs.Prelude.{◌%◌}
 use Rattle.std.specs.Str.{bytes_eq}
+use Rattle.vax_dialect.specs.declared.Dialect.{Dialect}
+use Rattle.vax_dialect.specs.Differences.{has_longword_values}
 use Rattle.vax_lex.specs.declared.value.Value.{Value}
 use Rattle.vax_lex.specs.declared.value.Value.TheVariants.{Absolute, Section, External}
 use Rattle.vax_lex.specs.declared.value.ExprError.{ExprError}
@@ -107,9 +111,41 @@ complemented (Ok (Absolute x)) = Ok (Absolute (int_bit_not w64 x))
 complemented (Ok x) = Err Form
 complemented (Err e) = Err e
 
+-- What expressions are read by: the dialect, and the values of names.
+pub record Sense : Type 0 where
+  pub dialect : Dialect
+  pub value : List ℕ → Option Value
+
+-- the low 32 bits of a number, as a signed number
+abbrev pub longword : ℤ → ℤ
+longword x = cast_signed w32 (cast_unsigned w64 x % 4294967296)
+
+-- A number as operators see it and give it.
+abbrev pub fitted_number : Dialect → ℤ → ℤ
+fitted_number dialect x = if has_longword_values dialect then longword x else x
+
+abbrev pub fitted_value : Dialect → Value → Value
+fitted_value dialect (Absolute x) = Absolute (fitted_number dialect x)
+fitted_value dialect (Section s x) = Section s (fitted_number dialect x)
+fitted_value dialect (External i x) = External i (fitted_number dialect x)
+
+abbrev pub fitted : Dialect → Result Value ExprError → Result Value ExprError
+fitted dialect (Ok v) = Ok (fitted_value dialect v)
+fitted dialect (Err e) = Err e
+
+-- An operator at two terms, and the signs before one, in a dialect.
+abbrev pub combined : Dialect → Operation → Result Value ExprError → Result Value ExprError → Result Value ExprError
+combined dialect operator left right = fitted dialect (combine operator (fitted dialect left) (fitted dialect right))
+
+abbrev pub minus_of : Dialect → Result Value ExprError → Result Value ExprError
+minus_of dialect term = fitted dialect (negated (fitted dialect term))
+
+abbrev pub complement_of : Dialect → Result Value ExprError → Result Value ExprError
+complement_of dialect term = fitted dialect (complemented (fitted dialect term))
+
 -- the value of a name
-abbrev pub named : (List ℕ → Option Value) → List ℕ → Result Value ExprError
-named names name = ok_or (names name) Unknown
+abbrev pub named : Sense → List ℕ → Result Value ExprError
+named names name = ok_or (names.value name) Unknown
 
 -- 1 to 8 characters, the first in the low byte
 abbrev pub little_endian : List ℕ → ℕ

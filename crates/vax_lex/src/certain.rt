@@ -7,7 +7,7 @@ ghost use Rattle.vax_lex.specs.Tokens.{IsTokenOf};
 
 use crate::expression::{evaluate, is_mark_at, term};
 use crate::token::Token;
-use crate::value::{ExprError, Names, Outcome, Value};
+use crate::value::{ExprError, Names, Outcome, Value, fitted};
 
 fn is_zero(outcome: Outcome) -> bool
     ensures { result ≡ is_zero outcome }
@@ -25,7 +25,7 @@ fn is_zero_at<N: Names>(line: &[u8], tokens: &[Token], names: &N, at: usize) -> 
         (drop at (symbols_of line.now tokens.now)) }
 {
     match term(line, tokens, names, at) {
-        Some(read) => is_zero(read.answer),
+        Some(read) => is_zero(fitted(names.dialect(), read.answer)),
         None => false,
     }
 }

@@ -16,8 +16,8 @@ use crate::character::is_word;
 use crate::name::CanonicalName;
 use crate::token::{Token, TokenKind};
 use crate::value::{
-    Binary, ExprError, Names, Outcome, Value, characters_value, combine, complemented, mask_bit,
-    named, negated,
+    Binary, ExprError, Names, Outcome, Value, characters_value, combined, complement_of, mask_bit,
+    minus_of, named,
 };
 
 /// What has been read: its value or error, and the place of the first token behind it.
@@ -222,7 +222,7 @@ fn operated<N: Names>(line: &[u8], tokens: &[Token], names: &N, at: usize) -> Op
             return None;
         };
         Some(Read {
-            answer: complemented(read.answer),
+            answer: complement_of(names.dialect(), read.answer),
             end: read.end,
         })
     } else if is_word(name.as_bytes(), b"A") {
@@ -276,7 +276,7 @@ fn marked<N: Names>(line: &[u8], tokens: &[Token], names: &N, at: usize, mark: u
             return None;
         };
         Some(Read {
-            answer: negated(read.answer),
+            answer: minus_of(names.dialect(), read.answer),
             end: read.end,
         })
     } else if mark == b'<' {
@@ -329,7 +329,7 @@ fn expression<N: Names>(line: &[u8], tokens: &[Token], names: &N, at: usize) -> 
         let Some(right) = term(line, tokens, names, end + 1) else {
             return None;
         };
-        answer = combine(operator, answer, right.answer);
+        answer = combined(names.dialect(), operator, answer, right.answer);
         end = right.end;
     }
     Some(Read { answer, end })
@@ -339,7 +339,7 @@ fn expression<N: Names>(line: &[u8], tokens: &[Token], names: &N, at: usize) -> 
 ///
 /// Its terms are numbers, names, `^A/text/`, `^M<R2,R3>`, terms behind `+`, `-` and `^C`, and expressions in `< >`.
 /// The operators `+ - * / @ & ! \` between terms have equal rank and apply from left to right; values have 64 bits
-/// and wrap. A relocatable or external value may be added to an absolute one, an absolute one may be taken from it,
+/// and wrap, or as many as the dialect of the names says. A relocatable or external value may be added to an absolute one, an absolute one may be taken from it,
 /// and two places of one section may be subtracted. (VAX MACRO and Instruction Set Reference Manual, "Terms and
 /// expressions".)
 ///

@@ -23,5 +23,5 @@ pub use expression::evaluate;
 pub use line::{pieces, scan};
 pub use name::CanonicalName;
 pub use token::{LexError, Piece, PieceKind, Span, Token, TokenKind};
-pub use value::{ExprError, Names, Value};
+pub use value::{ExprError, Names, Value, fitted_number};
 pub use words::names;

@@ -1,11 +1,11 @@
 // Values, and what the operators of expressions make of them.
 
-ghost use Rattle.std.specs.Prelude.{◌≡◌, ℕ, List, Option, ◌+◌, ◌<◌, ◌≤◌, length, IfSome};
+ghost use Rattle.std.specs.Prelude.{◌≡◌, ◌+◌, ◌<◌, ◌≤◌, length, IfSome};
 ghost use Rattle.vax_lex.specs.Views.{operation_view};
-ghost use Rattle.vax_lex.specs.Values.{quotient, shifted, arithmetic, apply, first_error, refuses_left, refuses_right, combine, negated, complemented, named, little_endian, characters_value, mask_bit};
-ghost use Rattle.vax_lex.specs.declared.value.Value.{Value};
+ghost use Rattle.vax_lex.specs.Values.{quotient, shifted, arithmetic, apply, first_error, refuses_left, refuses_right, Sense, combine, combined, complement_of, complemented, fitted, fitted_number, fitted_value, longword, minus_of, named, negated, little_endian, characters_value, mask_bit};
 
 use crate::character::is_word;
+use vax_dialect::Dialect;
 
 /// The value of an expression or a name. Offsets and absolute values are 64-bit and wrap.
 #[derive(Clone, Copy, PartialEq, Eq)]
@@ -32,15 +32,19 @@ pub enum ExprError {
     Range,
 }
 
-/// The names that an expression may use, and their values.
+/// What an expression is read by: the dialect, and the names that it may use with their values.
 pub trait Names {
-    /// The values of names, which are given as they are kept: in capitals, and a local label without zeros before its
-    /// number.
-    ghost meaning: { Self → (List ℕ → Option Value) };
+    /// The dialect, and the values of names, which are given as they are kept: in capitals, and a local label without
+    /// zeros before its number.
+    ghost meaning: { Self → Sense };
+
+    /// The dialect that the expression is in.
+    fn dialect(&self) -> Dialect
+        ensures { result ≡ (meaning self.now).dialect };
 
     /// The value of a name.
     fn lookup(&self, name: &[u8]) -> Option<Value>
-        ensures { result ≡ meaning self.now name.now };
+        ensures { result ≡ (meaning self.now).value name.now };
 }
 
 /// The value so far, or why there is none.
@@ -178,7 +182,7 @@ fn refuses_right(operator: Binary, right: Value) -> bool
 }
 
 /// An operator at two terms.
-pub(crate) fn combine(operator: Binary, left: Outcome, right: Outcome) -> Outcome
+fn combine(operator: Binary, left: Outcome, right: Outcome) -> Outcome
     ensures { result ≡ combine (operation_view operator) left right }
 {
     match (left, right) {
@@ -192,7 +196,7 @@ pub(crate) fn combine(operator: Binary, left: Outcome, right: Outcome) -> Outcom
 }
 
 /// The sign `-` before a term.
-pub(crate) fn negated(term: Outcome) -> Outcome
+fn negated(term: Outcome) -> Outcome
     ensures { result ≡ negated term }
 {
     match term {
@@ -203,7 +207,7 @@ pub(crate) fn negated(term: Outcome) -> Outcome
 }
 
 /// `^C` before a term.
-pub(crate) fn complemented(term: Outcome) -> Outcome
+fn complemented(term: Outcome) -> Outcome
     ensures { result ≡ complemented term }
 {
     match term {
@@ -211,6 +215,73 @@ pub(crate) fn complemented(term: Outcome) -> Outcome
         Ok(_) => Err(ExprError::Form),
         Err(error) => Err(error),
     }
+}
+
+/// The low 32 bits of a number, as a signed number.
+fn longword(number: i64) -> i64
+    ensures { result ≡ longword number }
+{
+    let low = (number.cast_unsigned() % 0x1_0000_0000) as u32;
+    i64::from(low.cast_signed())
+}
+
+/// A number as operators of expressions see it and give it: all of its 64 bits, or the low 32 as a signed number.
+pub fn fitted_number(dialect: Dialect, number: i64) -> i64
+    ensures { result ≡ fitted_number dialect number }
+{
+    if dialect.has_longword_values() {
+        longword(number)
+    } else {
+        number
+    }
+}
+
+fn fitted_value(dialect: Dialect, value: Value) -> Value
+    ensures { result ≡ fitted_value dialect value }
+{
+    match value {
+        Value::Absolute(number) => Value::Absolute(fitted_number(dialect, number)),
+        Value::Section { section, offset } => Value::Section {
+            section,
+            offset: fitted_number(dialect, offset),
+        },
+        Value::External { index, offset } => Value::External {
+            index,
+            offset: fitted_number(dialect, offset),
+        },
+    }
+}
+
+/// A term as operators see it and give it.
+pub(crate) fn fitted(dialect: Dialect, term: Outcome) -> Outcome
+    ensures { result ≡ fitted dialect term }
+{
+    match term {
+        Ok(value) => Ok(fitted_value(dialect, value)),
+        Err(error) => Err(error),
+    }
+}
+
+/// An operator at two terms, in a dialect.
+pub(crate) fn combined(dialect: Dialect, operator: Binary, left: Outcome, right: Outcome) -> Outcome
+    ensures { result ≡ combined dialect (operation_view operator) left right }
+{
+    let value = combine(operator, fitted(dialect, left), fitted(dialect, right));
+    fitted(dialect, value)
+}
+
+/// The sign `-` before a term, in a dialect.
+pub(crate) fn minus_of(dialect: Dialect, term: Outcome) -> Outcome
+    ensures { result ≡ minus_of dialect term }
+{
+    fitted(dialect, negated(fitted(dialect, term)))
+}
+
+/// `^C` before a term, in a dialect.
+pub(crate) fn complement_of(dialect: Dialect, term: Outcome) -> Outcome
+    ensures { result ≡ complement_of dialect term }
+{
+    fitted(dialect, complemented(fitted(dialect, term)))
 }
 
 /// The value of a name.

@@ -1,6 +1,6 @@
 -- How arguments are passed by value, one after another.
 use Rattle.std.proofs.Common.{◌≡◌, ℕ, List, [], ◌∷◌, ◌++◌, Option, Result, Ok, Err, refl, sym, ap, ◌∙◌, append_assoc, append-nil}
-use Rattle.vax_lex.specs.declared.value.Value.{Value}
+use Rattle.vax_lex.specs.Values.{Sense}
 use Rattle.vax_macro.specs.ArgumentViews.{argument_view, arguments_view}
 use Rattle.vax_macro.specs.Arguments.{Argument}
 use Rattle.vax_macro.specs.ConditionViews.{Decides}
@@ -18,7 +18,7 @@ one_behind : (front : List Argument) (b : Argument) (r : Result (List Argument) 
 one_behind front b (Ok arguments) = ap (λ (l : List Argument). let o : Result (List Argument) FaultKind = Ok l in o) (sym (append_assoc front (b ∷ []) arguments))
 one_behind front b (Err kind) = refl
 
-pub one_passed : (names : List ℕ → Option Value) (front next : List Argument) (a b : Argument) (arguments rest : List Argument) (all : Result (List Argument) FaultKind) → arguments ≡ a ∷ rest → next ≡ front ++ b ∷ []
+pub one_passed : (names : Sense) (front next : List Argument) (a b : Argument) (arguments rest : List Argument) (all : Result (List Argument) FaultKind) → arguments ≡ a ∷ rest → next ≡ front ++ b ∷ []
     → by_value names a ≡ Ok b → behind front (all_by_value names arguments) ≡ all → behind next (all_by_value names rest) ≡ all
 unfolding all_by_value
 one_passed names front next a b arguments rest all is pushed e same =
@@ -28,7 +28,7 @@ one_passed names front next a b arguments rest all is pushed e same =
     ∙ ap (λ (l : List Argument). behind front (all_by_value names l)) (sym is)
     ∙ same
 
-pub not_passed : (names : List ℕ → Option Value) (front : List Argument) (a : Argument) (kind : FaultKind) (arguments rest : List Argument) (all : Result (List Argument) FaultKind) → arguments ≡ a ∷ rest
+pub not_passed : (names : Sense) (front : List Argument) (a : Argument) (kind : FaultKind) (arguments rest : List Argument) (all : Result (List Argument) FaultKind) → arguments ≡ a ∷ rest
     → by_value names a ≡ Err kind → behind front (all_by_value names arguments) ≡ all → all ≡ Err kind
 unfolding all_by_value
 not_passed names front a kind arguments rest all is e same =
@@ -36,14 +36,14 @@ not_passed names front a kind arguments rest all is e same =
     ∙ ap (λ (l : List Argument). behind front (all_by_value names l)) is
     ∙ ap (λ (r : Result Argument FaultKind). behind front (then_all r (all_by_value names rest))) e
 
-pub all_passed : (names : List ℕ → Option Value) (front : List Argument) (arguments : List Argument) (all : Result (List Argument) FaultKind) → arguments ≡ [] → behind front (all_by_value names arguments) ≡ all → all ≡ Ok front
+pub all_passed : (names : Sense) (front : List Argument) (arguments : List Argument) (all : Result (List Argument) FaultKind) → arguments ≡ [] → behind front (all_by_value names arguments) ≡ all → all ≡ Ok front
 unfolding all_by_value
 all_passed names front arguments all is same =
     sym same
     ∙ ap (λ (l : List Argument). behind front (all_by_value names l)) is
     ∙ ap (λ (l : List Argument). let o : Result (List Argument) FaultKind = Ok l in o) (append-nil front)
 
-pub refused_all : (names : List ℕ → Option Value) (front : List Argument) (a : Argument) (arguments rest : List Argument) (all : Result (List Argument) FaultKind) (r : Refusal) → arguments ≡ a ∷ rest
+pub refused_all : (names : Sense) (front : List Argument) (a : Argument) (arguments rest : List Argument) (all : Result (List Argument) FaultKind) (r : Refusal) → arguments ≡ a ∷ rest
     → Decides argument_view (Err r) (by_value names a) → behind front (all_by_value names arguments) ≡ all → Decides arguments_view (Err r) all
 refused_all names front a arguments rest all (Fault kind) is e same = not_passed names front a kind arguments rest all is e same
 refused_all names front a arguments rest all NoMemory is e same = tt

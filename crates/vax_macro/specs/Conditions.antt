@@ -12,6 +12,8 @@ use Rattle.vax_lex.specs.declared.token.Token.{Token}
 use Rattle.vax_lex.specs.declared.token.TokenKind.{TokenKind}
 use Rattle.vax_lex.specs.declared.token.TokenKind.TheVariants.{Number, Mark}
 use Rattle.vax_lex.specs.declared.value.Value.{Value}
+use Rattle.vax_dialect.specs.declared.Dialect.{Dialect}
+use Rattle.vax_lex.specs.Values.{Sense, fitted_number}
 use Rattle.vax_lex.specs.declared.value.Value.TheVariants.{Absolute, Section, External}
 use Rattle.vax_lex.specs.declared.value.ExprError.{ExprError}
 use Rattle.vax_lex.specs.declared.value.ExprError.TheVariants as errors
@@ -67,12 +69,17 @@ abbrev pub unless_wide : Bool → Result ℤ FaultKind → Result ℤ FaultKind
 unless_wide true (Ok n) = Err faults.Range
 unless_wide wide result = result
 
+-- what conditions and counts see of a number
+abbrev pub fitting : Dialect → Result ℤ FaultKind → Result ℤ FaultKind
+fitting dialect (Ok n) = Ok (fitted_number dialect n)
+fitting dialect (Err kind) = Err kind
+
 -- the one number that pieces of a text are
-unfoldable pub number_in : (List ℕ → Option Value) → List ℕ → List Piece → Result ℤ FaultKind
+unfoldable pub number_in : Sense → List ℕ → List Piece → Result ℤ FaultKind
 number_in names text pieces =
     if has_bad pieces then Err faults.Token
     else (if (length pieces == 0) || has_comma pieces then Err faults.Count
-    else unless_wide (has_wide pieces) (absolute (value_at names (symbols_in text pieces))))
+    else unless_wide (has_wide pieces) (fitting names.dialect (absolute (value_at names (symbols_in text pieces)))))
 
 -- ---- Conditions
 
@@ -139,12 +146,12 @@ abbrev pub compare_number : Comparison → Result ℤ FaultKind → Result Bool 
 compare_number c (Ok n) = Ok (comparison_holds c n)
 compare_number c (Err kind) = Err kind
 
-abbrev pub defined_name : (List ℕ → Option Value) → Bool → List ℕ → List Piece → Result Bool FaultKind
+abbrev pub defined_name : Sense → Bool → List ℕ → List Piece → Result Bool FaultKind
 defined_name names wanted text (p ∷ []) =
-    if is_name_piece p.kind && is_name (piece_text text p) then Ok (as_wanted wanted (is_defined (names (canonical_name (piece_text text p))))) else Err faults.Form
+    if is_name_piece p.kind && is_name (piece_text text p) then Ok (as_wanted wanted (is_defined (names.value (canonical_name (piece_text text p))))) else Err faults.Form
 defined_name names wanted text _ = Err faults.Form
 
-unfoldable pub defined_in : (List ℕ → Option Value) → Bool → List ℕ → List Piece → Result Bool FaultKind
+unfoldable pub defined_in : Sense → Bool → List ℕ → List Piece → Result Bool FaultKind
 defined_in names wanted text pieces =
     if has_bad pieces then Err faults.Token
     else (if (length pieces == 0) || has_comma pieces then Err faults.Count
@@ -169,7 +176,7 @@ same_arguments wanted (Some (a ∷ b ∷ [])) = Ok (as_wanted wanted (bytes_eq (
 same_arguments wanted (Some _) = Err faults.Count
 
 -- a condition on these pieces of a text, which are behind its name
-unfoldable pub condition_on : (List ℕ → Option Value) → List ℕ → Condition → ℕ → List Piece → Result Bool FaultKind
+unfoldable pub condition_on : Sense → List ℕ → Condition → ℕ → List Piece → Result Bool FaultKind
 condition_on names text (compares c) at pieces = compare_number c (number_in names text pieces)
 condition_on names text (defined wanted) at pieces = defined_in names wanted text pieces
 condition_on names text (blank wanted) at pieces =
@@ -199,7 +206,7 @@ name_end end [] = end
 name_end end (p ∷ pieces) = if is_touching end p then p.end else end
 
 -- a condition's name and what is behind it
-unfoldable pub condition_in : (List ℕ → Option Value) → List ℕ → List Piece → Result Bool FaultKind
+unfoldable pub condition_in : Sense → List ℕ → List Piece → Result Bool FaultKind
 condition_in names text [] = Err faults.Count
 condition_in names text (p ∷ pieces) = elim (named_condition text p) [
   | Some condition ↦ condition_on names text condition (name_end p.end pieces) (behind_name p.end pieces)
@@ -239,7 +246,7 @@ beside_bytes bad (Ok holds) = Ok holds
 beside_bytes true (Err kind) = Err faults.Token
 beside_bytes false (Err kind) = Err kind
 
-abbrev pub guarded_pieces : (List ℕ → Option Value) → List ℕ → Condition → ℕ → List Piece → Option ℕ → Result Guarded FaultKind
+abbrev pub guarded_pieces : Sense → List ℕ → Condition → ℕ → List Piece → Option ℕ → Result Guarded FaultKind
 guarded_pieces names text c at pieces None = Err (if has_bad pieces then faults.Token else faults.Count)
 guarded_pieces names text c at pieces (Some i) = guarded_by (beside_bytes (has_bad pieces) (condition_on names text c at (take i pieces))) (first_end (drop i pieces))
 
@@ -247,13 +254,13 @@ guarded_pieces names text c at pieces (Some i) = guarded_by (beside_bytes (has_b
 abbrev pub ends_by : ℕ → Piece → Bool
 ends_by k p = not (nat_lt k p.end)
 
-abbrev pub guarded_text : (List ℕ → Option Value) → List ℕ → Condition → ℕ → List Piece → Result ℕ FaultKind → Result Guarded FaultKind
+abbrev pub guarded_text : Sense → List ℕ → Condition → ℕ → List Piece → Result ℕ FaultKind → Result Guarded FaultKind
 guarded_text names text c at pieces (Err kind) = Err (if has_unprintable text pieces then faults.Token else kind)
 guarded_text names text c at pieces (Ok k) = guarded_by (condition_on names text c at (take (prefix_len (ends_by k) pieces) pieces)) (k + 1)
 
 -- The statement of an `.IIF` begins behind the comma after its condition: the first one outside brackets, or the one
 -- behind the condition's argument, or its two arguments.
-unfoldable pub guarded_on : (List ℕ → Option Value) → List ℕ → Condition → ℕ → List Piece → Result Guarded FaultKind
+unfoldable pub guarded_on : Sense → List ℕ → Condition → ℕ → List Piece → Result Guarded FaultKind
 guarded_on names text (compares c) at pieces = guarded_pieces names text (compares c) at pieces (comma_in pieces)
 guarded_on names text (defined wanted) at pieces = guarded_pieces names text (defined wanted) at pieces (comma_in pieces)
 guarded_on names text (blank wanted) at pieces =
@@ -261,7 +268,7 @@ guarded_on names text (blank wanted) at pieces =
 guarded_on names text (identical wanted) at pieces =
     guarded_text names text (identical wanted) at pieces (comma_behind_two (code_end pieces) (taken false (behind_blanks (code_from at pieces text))))
 
-unfoldable pub guarded_in : (List ℕ → Option Value) → List ℕ → List Piece → Result Guarded FaultKind
+unfoldable pub guarded_in : Sense → List ℕ → List Piece → Result Guarded FaultKind
 guarded_in names text [] = Err faults.Count
 guarded_in names text (p ∷ pieces) = elim (named_condition text p) [
   | Some condition ↦ guarded_on names text condition (name_end p.end pieces) (behind_name p.end pieces)

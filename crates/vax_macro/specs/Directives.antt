@@ -4,7 +4,7 @@ use Rattle.std.specs.Prelude.{ℕ, ℤ, pos, negsuc, zero, suc, ◌+◌, ◌-◌
 use Rattle.std.specs.List.{flat_map, prefix_len}
 use Rattle.vax_lex.specs.Characters.{is_blank, canonical_name, spells}
 use Rattle.vax_lex.specs.declared.token.Piece.{Piece}
-use Rattle.vax_lex.specs.declared.value.Value.{Value}
+use Rattle.vax_lex.specs.Values.{Sense}
 use Rattle.vax_dialect.specs.Differences.{has_argument_forms, has_arguments_by_value, has_macro_directives, has_negative_repeats, has_string_operators}
 use Rattle.vax_dialect.specs.declared.Dialect.{Dialect}
 use Rattle.vax_macro.specs.declared.error.FaultKind.{FaultKind}
@@ -164,7 +164,7 @@ open_condition line outer holds rest =
     if is_deep line rest then Fails faults.Depth
     else Goes (record rest { conditions = record { begin = opening line rest; depth = line.depth; outer = outer; holds = holds; here = holds } ∷ rest.conditions })
 
-unfoldable pub begin_condition : (List ℕ → Option Value) → Reading → Head → Rest → Done
+unfoldable pub begin_condition : Sense → Reading → Head → Rest → Done
 begin_condition names line head rest = elim (condition_in names line.text head.operands) [
   | Ok holds ↦ open_condition line true holds rest
   | Err kind ↦ Fails kind
@@ -210,7 +210,7 @@ skip line pieces head rest = elim (word_in line.text head.operator) [
 ]
 
 -- `.IIF`
-unfoldable pub guard : (List ℕ → Option Value) → Reading → Head → Rest → Done
+unfoldable pub guard : Sense → Reading → Head → Rest → Done
 guard names line head rest = elim (guarded_in names line.text head.operands) [
   | Ok g ↦ if g.holds then Again g.statement rest else Goes rest
   | Err kind ↦ Fails kind
@@ -237,7 +237,7 @@ abbrev pub then_count : Dialect → Result ℤ FaultKind → Result ℕ FaultKin
 then_count dialect (Ok n) = count_of dialect n
 then_count dialect (Err kind) = Err kind
 
-unfoldable pub begin_repeat : (List ℕ → Option Value) → Reading → Head → Rest → Done
+unfoldable pub begin_repeat : Sense → Reading → Head → Rest → Done
 begin_repeat names line head rest = elim (then_count rest.dialect (number_in names line.text head.operands)) [
   | Ok n ↦ begin_copies (copies_of n) line rest
   | Err kind ↦ Fails kind
@@ -357,7 +357,7 @@ call_with t None line rest = Fails faults.Count
 call_with t (Some g) line rest = open_call t g.next (filled rest.made t.formals.list g.texts) line rest
 
 -- arguments as they are passed
-abbrev pub passed : Bool → (List ℕ → Option Value) → List Argument → Result (List Argument) FaultKind
+abbrev pub passed : Bool → Sense → List Argument → Result (List Argument) FaultKind
 passed true names arguments = all_by_value names arguments
 passed false names arguments = Ok arguments
 
@@ -365,7 +365,7 @@ abbrev pub call_of : Template → Result (List Argument) FaultKind → Reading �
 call_of t (Ok arguments) line rest = call_with t (assigned t.formals arguments) line rest
 call_of t (Err kind) line rest = Fails kind
 
-abbrev pub call_by : (List ℕ → Option Value) → Template → Option (List Argument) → Reading → Rest → Done
+abbrev pub call_by : Sense → Template → Option (List Argument) → Reading → Rest → Done
 call_by names t None line rest = Fails faults.Form
 call_by names t (Some arguments) line rest = call_of t (passed (has_arguments_by_value rest.dialect) names arguments) line rest
 
@@ -373,7 +373,7 @@ call_by names t (Some arguments) line rest = call_of t (passed (has_arguments_by
 abbrev pub is_formal : Formals → List ℕ → Bool
 is_formal fs name = is_name name && is_some (fs.index (canonical_name name))
 
-unfoldable pub call : (List ℕ → Option Value) → Template → Reading → Head → ℕ → Rest → Done
+unfoldable pub call : Sense → Template → Reading → Head → ℕ → Rest → Done
 call names t line head at rest =
     if has_unprintable line.text head.operands then Fails faults.Token
     else call_by names t (arguments (has_argument_forms rest.dialect) (is_formal t.formals) (operands_from (has_argument_forms rest.dialect) line.text head.operands at)) line rest
@@ -471,7 +471,7 @@ delete_macros line head at rest =
 abbrev pub behind_label : Reading → Head → Rest → Done → Done
 behind_label line head rest done = if has_label line head then Label head.label_end rest else done
 
-unfoldable pub direct : (List ℕ → Option Value) → Word → Reading → List Piece → Head → ℕ → Rest → Done
+unfoldable pub direct : Sense → Word → Reading → List Piece → Head → ℕ → Rest → Done
 direct names word line pieces head at rest = elim word [
   | macro_word ↦ begin_macro line head at rest
   | end_macro ↦ unless_fault (end_fault line.text None pieces head.operands) (Fails faults.Nesting)
@@ -493,18 +493,18 @@ direct names word line pieces head at rest = elim word [
   | other_word ↦ Gives rest
 ]
 
-abbrev pub read_word : (List ℕ → Option Value) → Word → Reading → List Piece → Head → ℕ → Rest → Done
+abbrev pub read_word : Sense → Word → Reading → List Piece → Head → ℕ → Rest → Done
 read_word names end_word line pieces head at rest = Gives (record rest { lines = [] })
 read_word names other_word line pieces head at rest = Gives rest
 read_word names word line pieces head at rest = behind_label line head rest (direct names word line pieces head at rest)
 
 -- A macro comes before a directive of its name.
-abbrev pub read_operator : (List ℕ → Option Value) → Reading → List Piece → Head → Piece → Option Template → Rest → Done
+abbrev pub read_operator : Sense → Reading → List Piece → Head → Piece → Option Template → Rest → Done
 read_operator names line pieces head operator (Some t) rest = behind_label line head rest (call names t line head operator.end rest)
 read_operator names line pieces head operator None rest =
     read_word names (known_word (has_macro_directives rest.dialect) (word_in line.text (Some operator))) line pieces head operator.end rest
 
-unfoldable pub read : (List ℕ → Option Value) → Reading → List Piece → Head → Rest → Done
+unfoldable pub read : Sense → Reading → List Piece → Head → Rest → Done
 read names line pieces head rest = elim head.operator [
   | None ↦ Gives rest
   | Some operator ↦ read_operator names line pieces head operator (rest.macros (canonical_name (piece_text line.text operator))) rest
@@ -520,18 +520,18 @@ abbrev pub with_value : List ℕ → Found → Evaluated → Rest → Done
 with_value text f (Ok e) rest = Turns (take f.at text ++ e.text ++ e.rest) rest
 with_value text f (Err kind) rest = Fails kind
 
-abbrev pub turn : (List ℕ → Option Value) → List ℕ → Option Found → Done → Rest → Done
+abbrev pub turn : Sense → List ℕ → Option Found → Done → Rest → Done
 turn names text None done rest = done
 turn names text (Some f) done rest = with_value text f (evaluated names f.operator (drop f.operands text)) rest
 
 -- a line that is read; in expansions operators on texts are carried out before
-unfoldable pub read_line : (List ℕ → Option Value) → Reading → List Piece → Head → Rest → Done
+unfoldable pub read_line : Sense → Reading → List Piece → Head → Rest → Done
 read_line names line pieces head rest =
     turn names line.text (operator_within (not (line.depth == 0) && has_string_operators rest.dialect) (code_end pieces) line.text)
     (read names line pieces head rest) rest
 
 -- what a line does
-unfoldable pub done : (List ℕ → Option Value) → Reading → List Piece → Head → Rest → Done
+unfoldable pub done : Sense → Reading → List Piece → Head → Rest → Done
 done names line pieces head rest = elim rest.collecting [
   | Some p ↦ collect p line pieces head (record rest { collecting = None })
   | None ↦ if is_skipping rest.conditions then skip line pieces head rest else read_line names line pieces head rest

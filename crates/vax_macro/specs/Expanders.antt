@@ -1,6 +1,6 @@
 -- What an expander means.
 use Rattle.std.specs.Prelude.{◌≡◌, ℕ, ◌<◌, List, Option, Some, None, option_map, Result, Ok, Err}
-use Rattle.vax_lex.specs.declared.value.Value.{Value}
+use Rattle.vax_lex.specs.Values.{Sense}
 use Rattle.vax_macro.specs.Rest.{Opening, Rest, work}
 use Rattle.vax_macro.specs.Directives.{Statement}
 use Rattle.vax_macro.specs.Expansion.{Stepped, Steps, Says, Faults, Ends, Opened, Given, Faulty, AtEnd, opened}
@@ -52,7 +52,7 @@ Opens (Err errors.NoMemory) after o = Unit {0}
 Opens (Err (errors.Fault number kind)) after o = FaultIs (unclosed_of after) after.read number kind o
 
 -- what was answered is what comes next of what was left to open, in steps enough
-abbrev pub OpensNext : (List ℕ → Option Value) → Result (Option Line) MacroError → (old new : Expander) → Type 0
+abbrev pub OpensNext : Sense → Result (Option Line) MacroError → (old new : Expander) → Type 0
 OpensNext names result old new = (steps : ℕ) → work (rest_of old) < steps → Opens result new (opened steps names (rest_of old))
 
 -- a step that goes on, or gives a statement, takes some of what is left

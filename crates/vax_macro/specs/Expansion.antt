@@ -1,7 +1,7 @@
 -- What comes of a source, one step after another.
 use Rattle.std.specs.Prelude.{ℕ, zero, suc, ◌+◌, true, false, nat_le, List, [], ◌∷◌, ◌++◌, take, drop, Option, Some, None, option_map, if◌then◌else◌}
 use Rattle.vax_lex.specs.Tokens.{pieces_of}
-use Rattle.vax_lex.specs.declared.value.Value.{Value}
+use Rattle.vax_lex.specs.Values.{Sense}
 use Rattle.vax_macro.specs.declared.error.FaultKind.{FaultKind}
 use Rattle.vax_macro.specs.declared.error.FaultKind.TheVariants as faults
 use Rattle.vax_macro.specs.Heads.{head_in}
@@ -48,7 +48,7 @@ outcome line place (Again at rest) = Steps (record rest { again = Some (cut at l
 outcome line place (Label at rest) = Says (record { number = line.number; text = take at line.text }) (record rest { again = Some (behind_label line) })
 outcome line place (Fails kind) = Faults line.number place kind
 
-unfoldable pub line_step : (List ℕ → Option Value) → Reading → Rest → Stepped
+unfoldable pub line_step : Sense → Reading → Rest → Stepped
 line_step names line rest = outcome line rest.read (done names line (pieces_of line.text) (head_in (pieces_of line.text)) rest)
 
 -- A line that may be continued by those to come: of one that is, the `-` and the comment behind it are dropped, and what
@@ -63,7 +63,7 @@ joined_with place r text part dash whole more =
     else joined_on (with_part r (before_dash text dash) part) dash whole more
 
 -- the step of the line that begins with r and goes on with the lines to come
-unfoldable pub read_on : (List ℕ → Option Value) → Reading → List SourceLine → Rest → Stepped
+unfoldable pub read_on : Sense → Reading → List SourceLine → Rest → Stepped
 read_on names r [] rest = line_step names r (record rest { lines = [] })
 read_on names r (line ∷ lines) rest =
     if is_long line.text then Faults line.number (rest.read + 1) faults.Token
@@ -79,11 +79,11 @@ abbrev pub whole : Remainder → Reading
 whole line = record { number = line.number; depth = line.depth; text = line.text; parts = line.text ∷ []; labelled = line.labelled }
 
 -- One step: what is left of the line just read, else the next line.
-abbrev pub next_line_step : (List ℕ → Option Value) → List SourceLine → Rest → Stepped
+abbrev pub next_line_step : Sense → List SourceLine → Rest → Stepped
 next_line_step names [] rest = Ends (unclosed rest.conditions rest.collecting)
 next_line_step names (line ∷ lines) rest = read_on names (begun line) (line ∷ lines) rest
 
-unfoldable pub step : (List ℕ → Option Value) → Rest → Stepped
+unfoldable pub step : Sense → Rest → Stepped
 step names rest = elim rest.again [
   | Some line ↦ line_step names (whole line) (record rest { again = None })
   | None ↦ next_line_step names rest.lines rest
@@ -102,6 +102,6 @@ behind left (Says statement after) next = Given statement left after
 behind left (Faults number place kind) next = Faulty number place kind
 behind left (Ends begin) next = AtEnd begin
 
-unfoldable pub opened : ℕ → (List ℕ → Option Value) → Rest → Opened
+unfoldable pub opened : ℕ → Sense → Rest → Opened
 opened zero names rest = Later
 opened (suc left) names rest = behind left (step names rest) (λ after. opened left names after)

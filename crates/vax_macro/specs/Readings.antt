@@ -1,7 +1,7 @@
 -- How lines are read, with those that continue them.
 use Rattle.std.specs.Prelude.{◌≡◌, ℕ, ◌+◌, ◌*◌, ◌<◌, ◌≤◌, List, ◌∷◌, ◌++◌, length, Option, if◌then◌else◌}
 use Rattle.vax_lex.specs.Tokens.{pieces_of}
-use Rattle.vax_lex.specs.declared.value.Value.{Value}
+use Rattle.vax_lex.specs.Values.{Sense}
 use Rattle.vax_macro.specs.Expansion.{Stepped, Faults, Ends, line_step, read_on, joined_with, next_line_step, unclosed}
 use Rattle.vax_macro.specs.Lines.{SourceLine, Reading, dash_in}
 use Rattle.vax_macro.specs.LineViews.{reading_of}
@@ -22,14 +22,14 @@ Puts (joins.Fault number kind) r part after =
     (place : ℕ) (whole more : Reading → Stepped) → joined_with place r (r.text ++ part) part (dash_in (pieces_of (r.text ++ part))) whole more ≡ Faults number place kind
 
 -- a line that is whole, goes on with these lines, or has a fault
-abbrev pub Joins : (List ℕ → Option Value) → Joined → List SourceLine → Reading → Rest → Stepped → Type 0
+abbrev pub Joins : Sense → Joined → List SourceLine → Reading → Rest → Stepped → Type 0
 Joins names joins.Whole lines r rest s = s ≡ line_step names r (record rest { lines = lines })
 Joins names joins.More lines r rest s = s ≡ read_on names r lines rest
 Joins names (joins.Fault number kind) lines r rest s = s ≡ Faults number rest.read kind
 
 abbrev pub IsJoined : Joined → Reading → SourceLine → Reading → (before after : ℕ) → Type 0
 IsJoined j r line next before after =
-    (names : List ℕ → Option Value) (lines : List SourceLine) (rest : Rest)
+    (names : Sense) (lines : List SourceLine) (rest : Rest)
     → Joins names j lines next (record rest { read = after }) (read_on names r (line ∷ lines) (record rest { read = before }))
 
 -- no more lines are read than may be
@@ -39,14 +39,14 @@ IsWithin joins.More read = read ≤ 100000
 IsWithin (joins.Fault number kind) read = Unit {0}
 
 -- What was read of the lines to come: a line of which this is the step, the fault of one, or none.
-abbrev pub Reads : (List ℕ → Option Value) → Read → Rest → Stepped → Type 0
+abbrev pub Reads : Sense → Read → Rest → Stepped → Type 0
 Reads names (reads.Line line) after s = s ≡ line_step names (reading_of line) after
 Reads names (reads.Fault number kind) after s = s ≡ Faults number after.read kind
 Reads names reads.Nothing after s = s ≡ Ends (unclosed after.conditions after.collecting)
 
 abbrev pub IsRead : Read → (lines left : List SourceLine) → (before after : ℕ) → Type 0
 IsRead r lines left before after =
-    (names : List ℕ → Option Value) (rest : Rest) → Reads names r (record rest { lines = left; read = after }) (next_line_step names lines (record rest { read = before }))
+    (names : Sense) (rest : Rest) → Reads names r (record rest { lines = left; read = after }) (next_line_step names lines (record rest { read = before }))
 
 -- a line that was read is counted
 abbrev pub IsCounted : Read → (before after : ℕ) → Type 0

@@ -4,7 +4,7 @@ use Rattle.std.specs.List.{prefix_len}
 use Rattle.std.specs.Str.{bytes_eq}
 use Rattle.vax_lex.specs.Characters.{spells}
 use Rattle.vax_lex.specs.Tokens.{pieces_of}
-use Rattle.vax_lex.specs.declared.value.Value.{Value}
+use Rattle.vax_lex.specs.Values.{Sense}
 use Rattle.vax_macro.specs.Arguments.{Taken, bare, begins_with, behind_blanks, bracketed, closing, edged}
 use Rattle.vax_macro.specs.Conditions.{number_in}
 use Rattle.vax_macro.specs.declared.error.FaultKind.{FaultKind}
@@ -72,7 +72,7 @@ natural (Ok (pos n)) = Ok n
 natural (Ok (negsuc n)) = Err faults.Range
 natural (Err kind) = Err kind
 
-abbrev pub count_in : (List ℕ → Option Value) → List ℕ → Result ℕ FaultKind
+abbrev pub count_in : Sense → List ℕ → Result ℕ FaultKind
 count_in names text = natural (number_in names text (pieces_of text))
 
 -- The place of a text in another, looked for from a place on. Where it isn't there, the place behind all of it.
@@ -99,16 +99,16 @@ located_from (Ok from) wanted text rest = valued (decimal (located from wanted t
 located_from (Err kind) wanted text rest = Err kind
 
 -- behind a text that is looked for, and the one in which it is: perhaps the place from which on
-abbrev pub place_behind : (List ℕ → Option Value) → List ℕ → List ℕ → Option Parted → Evaluated
+abbrev pub place_behind : Sense → List ℕ → List ℕ → Option Parted → Evaluated
 place_behind names wanted text None = Err faults.Form
 place_behind names wanted text (Some n) = located_from (count_in names n.text) wanted text n.rest
 
-abbrev pub place_in : (List ℕ → Option Value) → List ℕ → Option Parted → Option Parted → Evaluated
+abbrev pub place_in : Sense → List ℕ → Option Parted → Option Parted → Evaluated
 place_in names wanted (Some t) more = located_from (Ok 0) wanted t.text t.rest
 place_in names wanted None (Some t) = place_behind names wanted t.text (parted 41 t.rest)
 place_in names wanted None None = Err faults.Form
 
-abbrev pub place_value : (List ℕ → Option Value) → Option Parted → Evaluated
+abbrev pub place_value : Sense → Option Parted → Evaluated
 place_value names None = Err faults.Form
 place_value names (Some t) = place_in names t.text (parted 41 t.rest) (parted 44 t.rest)
 
@@ -118,16 +118,16 @@ part_between (Err kind) count (Some t) = Err kind
 part_between (Ok from) (Err kind) (Some t) = Err kind
 part_between (Ok from) (Ok count) (Some t) = valued (take count (drop from t.text)) t.rest
 
-abbrev pub part_behind : (List ℕ → Option Value) → List ℕ → Option Parted → Evaluated
+abbrev pub part_behind : Sense → List ℕ → Option Parted → Evaluated
 part_behind names from None = Err faults.Form
 part_behind names from (Some t) = part_between (count_in names from) (count_in names t.text) (parted 41 t.rest)
 
-abbrev pub part_value : (List ℕ → Option Value) → Option Parted → Evaluated
+abbrev pub part_value : Sense → Option Parted → Evaluated
 part_value names None = Err faults.Form
 part_value names (Some t) = part_behind names t.text (parted 44 t.rest)
 
 -- what an operator gives of the operands at the head of a text
-unfoldable pub evaluated : (List ℕ → Option Value) → Operator → List ℕ → Evaluated
+unfoldable pub evaluated : Sense → Operator → List ℕ → Evaluated
 evaluated names operator text = elim operator [
   | length_of ↦ length_value (parted 41 text)
   | place_of ↦ place_value names (parted 44 text)

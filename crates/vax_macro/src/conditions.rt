@@ -3,7 +3,7 @@
 ghost use Rattle.std.specs.Prelude.{◌≡◌, ◌+◌, ◌-◌, ◌<◌, ◌≤◌, ◌^◌, [], List, ℕ, unwrap_or, All, length, map, option_map, IfOk, IfSome};
 ghost use Rattle.std.specs.List.{prefix_len};
 ghost use Rattle.vax_lex.specs.Tokens.{IsPieceOf};
-ghost use Rattle.vax_macro.specs.Conditions.{token_of, depth_behind, comma_in, has_wide, absolute, unless_wide, number_in, comparison_holds, condition_named, is_defined, as_wanted, defined_name, defined_in, is_blank_text, blank_arguments, same_arguments, condition_on, no_condition, named_condition, behind_name, name_end, condition_in, at_comma, second_argument, comma_behind, comma_behind_two, guarded_pieces, guarded_text, ends_by, guarded_on, guarded_in};
+ghost use Rattle.vax_macro.specs.Conditions.{token_of, depth_behind, comma_in, has_wide, absolute, fitting, unless_wide, number_in, comparison_holds, condition_named, is_defined, as_wanted, defined_name, defined_in, is_blank_text, blank_arguments, same_arguments, condition_on, no_condition, named_condition, behind_name, name_end, condition_in, at_comma, second_argument, comma_behind, comma_behind_two, guarded_pieces, guarded_text, ends_by, guarded_on, guarded_in};
 ghost use Rattle.vax_macro.specs.ArgumentViews.{argument_view, taken_view, lent_view, lent_arguments};
 ghost use Rattle.vax_macro.specs.ConditionViews.{comparison_view, condition_view, guarded_view, Decides, same};
 
@@ -15,8 +15,10 @@ use crate::heads::{
 };
 use crate::names::{are_blanks, begins_with, behind, is_name};
 use std::alloc::Global;
+use vax_dialect::Dialect;
 use vax_lex::{
-    CanonicalName, ExprError, Names, Piece, PieceKind, Token, TokenKind, Value, evaluate, spells,
+    CanonicalName, ExprError, Names, Piece, PieceKind, Token, TokenKind, Value, evaluate,
+    fitted_number, spells,
 };
 use vax_space::NoMemory;
 
@@ -153,6 +155,16 @@ fn unless_wide(wide: bool, number: Result<i64, FaultKind>) -> Result<i64, FaultK
     }
 }
 
+/// What conditions and counts see of a number.
+fn fitting(dialect: Dialect, number: Result<i64, FaultKind>) -> Result<i64, FaultKind>
+    ensures { result ≡ fitting dialect number }
+{
+    match number {
+        Ok(number) => Ok(fitted_number(dialect, number)),
+        Err(kind) => Err(kind),
+    }
+}
+
 /// The one number that pieces of a text are.
 #[tactic(auto, unfolding(crate::specs::Conditions::number_in))]
 pub(crate) fn number_in<N: Names>(
@@ -171,7 +183,8 @@ pub(crate) fn number_in<N: Names>(
         return Err(Refusal::Fault(FaultKind::Count));
     }
     let tokens = tokens_of(alloc, pieces)?;
-    match unless_wide(has_wide(pieces), absolute(evaluate(text, &tokens, names))) {
+    let number = absolute(evaluate(text, &tokens, names));
+    match unless_wide(has_wide(pieces), fitting(names.dialect(), number)) {
         Ok(number) => Ok(number),
         Err(kind) => Err(Refusal::Fault(kind)),
     }

@@ -72,7 +72,7 @@ fn statement(alloc: Global, number: u32, text: Vec<u8>) -> Result<Line, NoMemory
 impl Expander {
     ghost use Rattle.vax_macro.specs.Rest.{started, work, weight};
     ghost use Rattle.std.specs.Prelude.{List, Option};
-    ghost use Rattle.vax_lex.specs.declared.value.Value.{Value};
+    ghost use Rattle.vax_lex.specs.Values.{Sense};
     ghost use Rattle.vax_macro.specs.Directives.{done};
     ghost use Rattle.vax_macro.specs.Expansion.{AtEnd, step, line_step, cut, turned, behind_label, unclosed};
     ghost use Rattle.vax_macro.specs.Heads.{head_in};
@@ -114,7 +114,7 @@ impl Expander {
     /// What is left of the line just read, or the next one.
     #[tactic(auto, using(crate::proofs::Lessening::read_again, crate::proofs::Lessening::left_at_most), unfolding(crate::specs::Expansion::step))]
     fn take_line(&mut self) -> Result<Read, NoMemory>
-        ensures exact { IfOk result (λ r. (names : List ℕ → Option Value) →
+        ensures exact { IfOk result (λ r. (names : Sense) →
             Reads names r (rest_of self.new) (step names (rest_of self.old))) }
         ensures again { self.new.again ≡ None }
         ensures error { self.new.error ≡ self.old.error }

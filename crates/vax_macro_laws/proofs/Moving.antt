@@ -4,7 +4,7 @@ use Rattle.std.specs.Prelude.{not, unwrap_or, IfSome, ◌==◌, ◌&&◌, nat_le
 use Rattle.vax_lex.specs.Characters.{canonical_name}
 use Rattle.vax_lex.specs.Tokens.{pieces_of}
 use Rattle.vax_lex.specs.declared.token.Piece.{Piece}
-use Rattle.vax_lex.specs.declared.value.Value.{Value}
+use Rattle.vax_lex.specs.Values.{Sense}
 use Rattle.vax_macro.specs.Arguments.{Argument, arguments, behind_blanks, name_length}
 use Rattle.vax_macro.specs.Conditions.{condition_in, guarded_in, no_keyword, number_in}
 use Rattle.vax_dialect.specs.Differences.{has_argument_forms, has_arguments_by_value, has_macro_directives, has_string_operators}
@@ -84,7 +84,7 @@ collect_leaves p line pieces head rest =
 open_leaves : (line : Reading) (outer holds : Bool) (rest : Rest) → Leaves line.labelled rest (open_condition line outer holds rest)
 open_leaves line outer holds rest = either_leaves line.labelled (is_deep line rest) rest (Fails faults.Depth) (Goes (record rest { conditions = record { begin = opening line rest; depth = line.depth; outer = outer; holds = holds; here = holds } ∷ rest.conditions })) tt (refl, refl)
 
-begin_condition_leaves : (names : List ℕ → Option Value) (line : Reading) (head : Head) (rest : Rest) → Leaves line.labelled rest (begin_condition names line head rest)
+begin_condition_leaves : (names : Sense) (line : Reading) (head : Head) (rest : Rest) → Leaves line.labelled rest (begin_condition names line head rest)
 unfolding begin_condition
 begin_condition_leaves names line head rest = result_leaves line.labelled rest (condition_in names line.text head.operands) (λ holds. open_condition line true holds rest) (λ holds. open_leaves line true holds rest)
 
@@ -127,7 +127,7 @@ skip_leaves : (line : Reading) (pieces : List Piece) (head : Head) (rest : Rest)
 unfolding skip
 skip_leaves line pieces head rest = skip_by (word_in line.text head.operator) line pieces head rest
 
-guard_leaves : (names : List ℕ → Option Value) (line : Reading) (head : Head) (rest : Rest) → Leaves line.labelled rest (guard names line head rest)
+guard_leaves : (names : Sense) (line : Reading) (head : Head) (rest : Rest) → Leaves line.labelled rest (guard names line head rest)
 unfolding guard
 guard_leaves names line head rest =
     result_leaves line.labelled rest (guarded_in names line.text head.operands) (λ g. if g.holds then Again g.statement rest else Goes rest) (λ g. either_leaves line.labelled g.holds rest (Again g.statement rest) (Goes rest) (refl, refl) (refl, refl))
@@ -135,7 +135,7 @@ guard_leaves names line head rest =
 copies_leave : (u : Use) (line : Reading) (rest : Rest) → Leaves line.labelled rest (begin_copies u line rest)
 copies_leave u line rest = either_leaves line.labelled (is_deep line rest) rest (Fails faults.Depth) (Goes (with_pending u line (line.depth + 1) rest)) tt (refl, refl)
 
-begin_repeat_leaves : (names : List ℕ → Option Value) (line : Reading) (head : Head) (rest : Rest) → Leaves line.labelled rest (begin_repeat names line head rest)
+begin_repeat_leaves : (names : Sense) (line : Reading) (head : Head) (rest : Rest) → Leaves line.labelled rest (begin_repeat names line head rest)
 unfolding begin_repeat
 begin_repeat_leaves names line head rest = result_leaves line.labelled rest (then_count rest.dialect (number_in names line.text head.operands)) (λ n. begin_copies (copies_of n) line rest) (λ n. copies_leave (copies_of n) line rest)
 
@@ -182,11 +182,11 @@ call_of_leaves : (t : Template) (r : Result (List Argument) FaultKind) (line : R
 call_of_leaves t (Ok arguments) line rest = call_with_leaves t (assigned t.formals arguments) line rest
 call_of_leaves t (Err kind) line rest = tt
 
-call_by_leaves : (names : List ℕ → Option Value) (t : Template) (o : Option (List Argument)) (line : Reading) (rest : Rest) → Leaves line.labelled rest (call_by names t o line rest)
+call_by_leaves : (names : Sense) (t : Template) (o : Option (List Argument)) (line : Reading) (rest : Rest) → Leaves line.labelled rest (call_by names t o line rest)
 call_by_leaves names t None line rest = tt
 call_by_leaves names t (Some arguments) line rest = call_of_leaves t (passed (has_arguments_by_value rest.dialect) names arguments) line rest
 
-call_leaves : (names : List ℕ → Option Value) (t : Template) (line : Reading) (head : Head) (at : ℕ) (rest : Rest) → Leaves line.labelled rest (call names t line head at rest)
+call_leaves : (names : Sense) (t : Template) (line : Reading) (head : Head) (at : ℕ) (rest : Rest) → Leaves line.labelled rest (call names t line head at rest)
 unfolding call
 call_leaves names t line head at rest =
     let made : Done = call_by names t (arguments (has_argument_forms rest.dialect) (is_formal t.formals) (operands_from (has_argument_forms rest.dialect) line.text head.operands at)) line rest in
@@ -257,7 +257,7 @@ delete_macros_leaves line head at rest =
     let found : Option (List Argument) = arguments (has_argument_forms rest.dialect) no_keyword (operands_from (has_argument_forms rest.dialect) line.text head.operands at) in
     either_leaves line.labelled (has_unprintable line.text head.operands) rest (Fails faults.Token) (delete_listed found rest) tt (delete_listed_leaves line.labelled found rest)
 
-direct_by : (names : List ℕ → Option Value) (w : Word) (line : Reading) (pieces : List Piece) (head : Head) (at : ℕ) (rest : Rest) → Leaves line.labelled rest (direct names w line pieces head at rest)
+direct_by : (names : Sense) (w : Word) (line : Reading) (pieces : List Piece) (head : Head) (at : ℕ) (rest : Rest) → Leaves line.labelled rest (direct names w line pieces head at rest)
 unfolding direct
 direct_by names macro_word line pieces head at rest = begin_macro_leaves line head at rest
 direct_by names end_macro line pieces head at rest = unless_leaves line.labelled (end_fault line.text None pieces head.operands) rest (Fails faults.Nesting) tt
@@ -278,7 +278,7 @@ direct_by names delete_word line pieces head at rest = delete_macros_leaves line
 direct_by names end_word line pieces head at rest = (refl, refl)
 direct_by names other_word line pieces head at rest = (refl, refl)
 
-word_leaves : (names : List ℕ → Option Value) (w : Word) (line : Reading) (pieces : List Piece) (head : Head) (at : ℕ) (rest : Rest) → Leaves line.labelled rest (read_word names w line pieces head at rest)
+word_leaves : (names : Sense) (w : Word) (line : Reading) (pieces : List Piece) (head : Head) (at : ℕ) (rest : Rest) → Leaves line.labelled rest (read_word names w line pieces head at rest)
 word_leaves names macro_word line pieces head at rest = label_leaves line head rest (direct names macro_word line pieces head at rest) (direct_by names macro_word line pieces head at rest)
 word_leaves names end_macro line pieces head at rest = label_leaves line head rest (direct names end_macro line pieces head at rest) (direct_by names end_macro line pieces head at rest)
 word_leaves names repeat line pieces head at rest = label_leaves line head rest (direct names repeat line pieces head at rest) (direct_by names repeat line pieces head at rest)
@@ -298,18 +298,18 @@ word_leaves names delete_word line pieces head at rest = label_leaves line head 
 word_leaves names end_word line pieces head at rest = (refl, refl)
 word_leaves names other_word line pieces head at rest = (refl, refl)
 
-operator_leaves : (names : List ℕ → Option Value) (line : Reading) (pieces : List Piece) (head : Head) (operator : Piece) (t : Option Template) (rest : Rest) → Leaves line.labelled rest (read_operator names line pieces head operator t rest)
+operator_leaves : (names : Sense) (line : Reading) (pieces : List Piece) (head : Head) (operator : Piece) (t : Option Template) (rest : Rest) → Leaves line.labelled rest (read_operator names line pieces head operator t rest)
 operator_leaves names line pieces head operator (Some t) rest = label_leaves line head rest (call names t line head operator.end rest) (call_leaves names t line head operator.end rest)
 operator_leaves names line pieces head operator None rest = word_leaves names (known_word (has_macro_directives rest.dialect) (word_in line.text (Some operator))) line pieces head operator.end rest
 
-read_by : (o : Option Piece) (names : List ℕ → Option Value) (line : Reading) (pieces : List Piece) (head : Head) (rest : Rest) → Leaves line.labelled rest (elim o [
+read_by : (o : Option Piece) (names : Sense) (line : Reading) (pieces : List Piece) (head : Head) (rest : Rest) → Leaves line.labelled rest (elim o [
   | None ↦ Gives rest
   | Some operator ↦ read_operator names line pieces head operator (rest.macros (canonical_name (piece_text line.text operator))) rest
 ])
 read_by None names line pieces head rest = (refl, refl)
 read_by (Some operator) names line pieces head rest = operator_leaves names line pieces head operator (rest.macros (canonical_name (piece_text line.text operator))) rest
 
-read_leaves : (names : List ℕ → Option Value) (line : Reading) (pieces : List Piece) (head : Head) (rest : Rest) → Leaves line.labelled rest (read names line pieces head rest)
+read_leaves : (names : Sense) (line : Reading) (pieces : List Piece) (head : Head) (rest : Rest) → Leaves line.labelled rest (read names line pieces head rest)
 unfolding read
 read_leaves names line pieces head rest = read_by head.operator names line pieces head rest
 
@@ -317,17 +317,17 @@ value_leaves : (l : Bool) (text : List ℕ) (f : Found) (e : Evaluated) (rest : 
 value_leaves l text f (Ok e) rest = (refl, refl)
 value_leaves l text f (Err kind) rest = tt
 
-turn_leaves : (l : Bool) (names : List ℕ → Option Value) (text : List ℕ) (o : Option Found) (d : Done) (rest : Rest) → Leaves l rest d → Leaves l rest (turn names text o d rest)
+turn_leaves : (l : Bool) (names : Sense) (text : List ℕ) (o : Option Found) (d : Done) (rest : Rest) → Leaves l rest d → Leaves l rest (turn names text o d rest)
 turn_leaves l names text None d rest h = h
 turn_leaves l names text (Some f) d rest h = value_leaves l text f (evaluated names f.operator (drop f.operands text)) rest
 
-read_line_leaves : (names : List ℕ → Option Value) (line : Reading) (pieces : List Piece) (head : Head) (rest : Rest) → Leaves line.labelled rest (read_line names line pieces head rest)
+read_line_leaves : (names : Sense) (line : Reading) (pieces : List Piece) (head : Head) (rest : Rest) → Leaves line.labelled rest (read_line names line pieces head rest)
 unfolding read_line
 read_line_leaves names line pieces head rest =
     turn_leaves line.labelled names line.text (operator_within (not (line.depth == 0) && has_string_operators rest.dialect) (code_end pieces) line.text) (read names line pieces head rest) rest
     (read_leaves names line pieces head rest)
 
-done_by : (o : Option Pending) (names : List ℕ → Option Value) (line : Reading) (pieces : List Piece) (head : Head) (rest : Rest) → Leaves line.labelled rest (elim o [
+done_by : (o : Option Pending) (names : Sense) (line : Reading) (pieces : List Piece) (head : Head) (rest : Rest) → Leaves line.labelled rest (elim o [
   | Some p ↦ collect p line pieces head (record rest { collecting = None })
   | None ↦ if is_skipping rest.conditions then skip line pieces head rest else read_line names line pieces head rest
 ])
@@ -343,7 +343,7 @@ done_by (Some p) names line pieces head rest = uncollected line.labelled (collec
     uncollected l (Label at after) rest h = h
     uncollected l (Fails kind) rest h = tt
 
-pub done_leaves : (names : List ℕ → Option Value) (line : Reading) (pieces : List Piece) (head : Head) (rest : Rest) → Leaves line.labelled rest (done names line pieces head rest)
+pub done_leaves : (names : Sense) (line : Reading) (pieces : List Piece) (head : Head) (rest : Rest) → Leaves line.labelled rest (done names line pieces head rest)
 unfolding done
 done_leaves names line pieces head rest = done_by rest.collecting names line pieces head rest
 
@@ -373,7 +373,7 @@ outcome_of line rest (Again at after) none h = record { read = h.0; again = refl
 outcome_of line rest (Label at after) none h = (refl, record { read = h.0.0; again = refl })
 outcome_of line rest (Fails kind) none h = (refl, refl)
 
-line_of : (names : List ℕ → Option Value) (line : Reading) (rest : Rest) → rest.again ≡ None → IsOf line.number rest.read (line_step names line rest)
+line_of : (names : Sense) (line : Reading) (rest : Rest) → rest.again ≡ None → IsOf line.number rest.read (line_step names line rest)
 unfolding line_step
 line_of names line rest none = outcome_of line rest (done names line (pieces_of line.text) (head_in (pieces_of line.text)) rest) none (done_leaves names line (pieces_of line.text) (head_in (pieces_of line.text)) rest)
 
@@ -392,7 +392,7 @@ moves_joined : (o : Option ℕ) (from : ℕ) (r : Reading) (whole more : Reading
 moves_joined None from r whole more h k = h
 moves_joined (Some dash) from r whole more h k = k
 
-moves_more : (names : List ℕ → Option Value) (r : Reading) (lines : List SourceLine) (rest : Rest) (from : ℕ) → from < rest.read → rest.again ≡ None → Moves from (read_on names r lines rest)
+moves_more : (names : Sense) (r : Reading) (lines : List SourceLine) (rest : Rest) (from : ℕ) → from < rest.read → rest.again ≡ None → Moves from (read_on names r lines rest)
 unfolding read_on
 moves_more names r [] rest from less none = record { number = r.number; place = rest.read; more = less; is = line_of names r (record rest { lines = [] }) none }
 moves_more names r (line ∷ lines) rest from less none =
@@ -409,7 +409,7 @@ moves_more names r (line ∷ lines) rest from less none =
     (moves_faults (is_long (before_dash text dash)) from r.number (rest.read + 1) faults.Token (joined_on part dash (λ whole. line_step names whole after) (λ more. read_on names more lines on)) (omega arith)
     (moves_joined dash from part (λ whole. line_step names whole after) (λ more. read_on names more lines on) here later)))
 
-moves_first : (names : List ℕ → Option Value) (r : Reading) (line : SourceLine) (lines : List SourceLine) (rest : Rest) → rest.again ≡ None → Moves rest.read (read_on names r (line ∷ lines) rest)
+moves_first : (names : Sense) (r : Reading) (line : SourceLine) (lines : List SourceLine) (rest : Rest) → rest.again ≡ None → Moves rest.read (read_on names r (line ∷ lines) rest)
 unfolding read_on
 moves_first names r line lines rest none =
     let from : ℕ = rest.read in
@@ -426,11 +426,11 @@ moves_first names r line lines rest none =
     (moves_faults (is_long (before_dash text dash)) from r.number (rest.read + 1) faults.Token (joined_on part dash (λ whole. line_step names whole after) (λ more. read_on names more lines on)) (omega arith)
     (moves_joined dash from part (λ whole. line_step names whole after) (λ more. read_on names more lines on) here later)))
 
-moves_next : (names : List ℕ → Option Value) (lines : List SourceLine) (rest : Rest) → rest.again ≡ None → (Moves rest.read (next_line_step names lines rest)) ⊎ ((begin : Option Opening) × (next_line_step names lines rest ≡ Ends begin))
+moves_next : (names : Sense) (lines : List SourceLine) (rest : Rest) → rest.again ≡ None → (Moves rest.read (next_line_step names lines rest)) ⊎ ((begin : Option Opening) × (next_line_step names lines rest ≡ Ends begin))
 moves_next names [] rest none = inr (unclosed rest.conditions rest.collecting, refl)
 moves_next names (line ∷ lines) rest none = inl (moves_first names (begun line) line lines rest none)
 
-abbrev stepped_by : (List ℕ → Option Value) → Rest → Option Remainder → Stepped
+abbrev stepped_by : Sense → Rest → Option Remainder → Stepped
 stepped_by names rest o = elim o [
   | Some line ↦ line_step names (whole line) (record rest { again = None })
   | None ↦ next_line_step names rest.lines rest
@@ -442,15 +442,15 @@ pub data Brings (rest : Rest) (st : Stepped) : Type 0 where
   on_next : rest.again ≡ None → Moves rest.read st → Brings rest st
   at_end : (begin : Option Opening) → st ≡ Ends begin → Brings rest st
 
-brings_next : (names : List ℕ → Option Value) (rest : Rest) → rest.again ≡ None → (Moves rest.read (next_line_step names rest.lines rest)) ⊎ ((begin : Option Opening) × (next_line_step names rest.lines rest ≡ Ends begin)) → Brings rest (next_line_step names rest.lines rest)
+brings_next : (names : Sense) (rest : Rest) → rest.again ≡ None → (Moves rest.read (next_line_step names rest.lines rest)) ⊎ ((begin : Option Opening) × (next_line_step names rest.lines rest ≡ Ends begin)) → Brings rest (next_line_step names rest.lines rest)
 brings_next names rest none (inl moves) = on_next none moves
 brings_next names rest none (inr ends) = at_end ends.0 ends.1
 
-brings_by : (names : List ℕ → Option Value) (rest : Rest) (o : Option Remainder) → rest.again ≡ o → Brings rest (stepped_by names rest o)
+brings_by : (names : Sense) (rest : Rest) (o : Option Remainder) → rest.again ≡ o → Brings rest (stepped_by names rest o)
 brings_by names rest (Some line) is = on_line line is (line_of names (whole line) (record rest { again = None }) refl)
 brings_by names rest None is = brings_next names rest is (moves_next names rest.lines rest is)
 
-pub brings : (names : List ℕ → Option Value) (rest : Rest) → Brings rest (step names rest)
+pub brings : (names : Sense) (rest : Rest) → Brings rest (step names rest)
 unfolding step
 brings names rest = brings_by names rest rest.again refl
 
@@ -476,7 +476,7 @@ outcome_hands line rest (Again at after) none h = tt
 outcome_hands line rest (Label at after) none h = (refl, h.1)
 outcome_hands line rest (Fails kind) none h = tt
 
-pub line_hands : (names : List ℕ → Option Value) (line : Reading) (rest : Rest) → rest.again ≡ None → Hands line.labelled (line_step names line rest)
+pub line_hands : (names : Sense) (line : Reading) (rest : Rest) → rest.again ≡ None → Hands line.labelled (line_step names line rest)
 unfolding line_step
 line_hands names line rest none = outcome_hands line rest (done names line (pieces_of line.text) (head_in (pieces_of line.text)) rest) none (done_leaves names line (pieces_of line.text) (head_in (pieces_of line.text)) rest)
 
@@ -488,7 +488,7 @@ hands_joined : (o : Option ℕ) (labelled : Bool) (r : Reading) (whole more : Re
 hands_joined None labelled r whole more h k = h
 hands_joined (Some dash) labelled r whole more h k = k
 
-hands_on : (names : List ℕ → Option Value) (r : Reading) (lines : List SourceLine) (rest : Rest) → rest.again ≡ None → Hands r.labelled (read_on names r lines rest)
+hands_on : (names : Sense) (r : Reading) (lines : List SourceLine) (rest : Rest) → rest.again ≡ None → Hands r.labelled (read_on names r lines rest)
 unfolding read_on
 hands_on names r [] rest none = line_hands names r (record rest { lines = [] }) none
 hands_on names r (line ∷ lines) rest none =
@@ -503,7 +503,7 @@ hands_on names r (line ∷ lines) rest none =
     (hands_faults (is_long (before_dash text dash)) r.labelled r.number (rest.read + 1) faults.Token (joined_on part dash (λ whole. line_step names whole after) (λ more. read_on names more lines on))
     (hands_joined dash r.labelled part (λ whole. line_step names whole after) (λ more. read_on names more lines on) (line_hands names part after none) (hands_on names part lines on none))))
 
-hands_next : (names : List ℕ → Option Value) (lines : List SourceLine) (rest : Rest) → rest.again ≡ None → Hands false (next_line_step names lines rest)
+hands_next : (names : Sense) (lines : List SourceLine) (rest : Rest) → rest.again ≡ None → Hands false (next_line_step names lines rest)
 hands_next names [] rest none = tt
 hands_next names (line ∷ lines) rest none = hands_on names (begun line) (line ∷ lines) rest none
 
@@ -512,11 +512,11 @@ abbrev pub is_labelled : Option Remainder → Bool
 is_labelled None = false
 is_labelled (Some line) = line.labelled
 
-hands_by : (names : List ℕ → Option Value) (rest : Rest) (o : Option Remainder) → rest.again ≡ o → Hands (is_labelled o) (stepped_by names rest o)
+hands_by : (names : Sense) (rest : Rest) (o : Option Remainder) → rest.again ≡ o → Hands (is_labelled o) (stepped_by names rest o)
 hands_by names rest (Some line) is = line_hands names (whole line) (record rest { again = None }) refl
 hands_by names rest None is = hands_next names rest.lines rest is
 
-pub hands : (names : List ℕ → Option Value) (rest : Rest) → Hands (is_labelled rest.again) (step names rest)
+pub hands : (names : Sense) (rest : Rest) → Hands (is_labelled rest.again) (step names rest)
 unfolding step
 hands names rest = hands_by names rest rest.again refl
 
@@ -555,14 +555,14 @@ follows_by rest st r s e (on_line line again is) = follows_same rest st r line a
 follows_by rest st r s e (on_next none moves) = follows_next rest st r none (subst (Moves rest.read) e moves)
 follows_by rest st r s e (at_end begin ends) = absurd (let f : Says st r ≡ Ends begin = sym e ∙ ends in cc)
 
-pub follows : (names : List ℕ → Option Value) (rest : Rest) (st : Statement) (r : Rest) → step names rest ≡ Says st r → IsFollowing rest st r
+pub follows : (names : Sense) (rest : Rest) (st : Statement) (r : Rest) → step names rest ≡ Says st r → IsFollowing rest st r
 follows names rest st r e = follows_by rest st r (step names rest) e (brings names rest)
 
 none_handed : (o : Option Remainder) → IfSome o (λ line. (line.labelled ≡ true) × (true ≡ false)) → o ≡ None
 none_handed None h = refl
 none_handed (Some line) h = absurd (let e : true ≡ false = h.1 in cc)
 
-pub once : (names other : List ℕ → Option Value) (before between after : Rest) (label st : Statement) (line : Remainder) → step names before ≡ Says label between → between.again ≡ Some line → step other between ≡ Says st after → after.again ≡ None
+pub once : (names other : Sense) (before between after : Rest) (label st : Statement) (line : Remainder) → step names before ≡ Says label between → between.again ≡ Some line → step other between ≡ Says st after → after.again ≡ None
 once names other before between after label st line first left second =
     let one : Hands (is_labelled before.again) (Says label between) = subst (Hands (is_labelled before.again)) first (hands names before) in
     let two : IfSome (Some line) (λ l. (l.labelled ≡ true) × (is_labelled before.again ≡ false)) = subst (λ (o : Option Remainder). IfSome o (λ l. (l.labelled ≡ true) × (is_labelled before.again ≡ false))) left one in

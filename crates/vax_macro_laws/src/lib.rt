@@ -3,7 +3,7 @@
 #![tactic(auto)]
 
 ghost use Rattle.std.specs.Prelude.{◌≡◌, List, None, Option, Some, ℕ};
-ghost use Rattle.vax_lex.specs.declared.value.Value.{Value};
+ghost use Rattle.vax_lex.specs.Values.{Sense};
 ghost use Rattle.vax_macro.specs.Directives.{Statement};
 ghost use Rattle.vax_macro.specs.Expansion.{Says, step};
 ghost use Rattle.vax_macro.specs.Lines.{Remainder};
@@ -12,13 +12,13 @@ ghost use Rattle.vax_macro_laws.specs.Following.{IsFollowing};
 
 /// Each statement is of what is left of the line just read, or of a later line. So two statements of one place are parts of one line, with one number.
 pub fn statements_follow_their_lines()
-    ensures { (names : List ℕ → Option Value) → (before after : Rest) → (st : Statement) →
+    ensures { (names : Sense) → (before after : Rest) → (st : Statement) →
         step names before ≡ Says st after → IsFollowing before st after }
 {}
 
 /// A line hands its label out once: the statement behind that of a label leaves nothing of the line.
 pub fn labels_are_handed_out_once()
-    ensures { (names other : List ℕ → Option Value) → (before between after : Rest)
+    ensures { (names other : Sense) → (before between after : Rest)
         → (label st : Statement) → (line : Remainder) →
         step names before ≡ Says label between → between.again ≡ Some line → step other between ≡ Says st after →
         after.again ≡ None }

@@ -2,7 +2,7 @@ use Rattle.std.proofs.Common.{sym, ap, subst, ◌∙◌, ◌+◌, Option}
 use Rattle.std.specs.Prelude.{option_map}
 use Rattle.vax_lex.specs.Views.{operation_view}
 use Rattle.vax_lex.specs.Grammar.{symbols_of}
-use Rattle.vax_lex.specs.Values.{named}
+use Rattle.vax_lex.specs.Values.{combined, complement_of, minus_of, named}
 use Rattle.vax_lex.specs.Reading.{ReadsTerm, ReadsExpression}
 use Rattle.vax_lex.specs.declared.expression.Read.{Read}
 use Rattle.vax_lex.proofs.Symbols.{token_within, mark_stands, kind_mark, number_stands, spelled_stands, word_yes, word_no}
@@ -25,7 +25,7 @@ pub expression-returns-in_default-term : goal.expression-returns-in_default-term
 expression-returns-in_default-term g t c = so_far_none c.args.line.now c.args.tokens.now (g.N.Names.meaning c.args.names.now) c.args.at c.loop-operator.end c.loop-operator.answer (operation_view c.in-Some-operator_at.operator) c.loop-operator.invariant (sym c.operator_at.ensures.value ∙ ap (option_map operation_view) c.in-Some-operator_at.is) (let P : Option Read → Type 0 = λ r. ReadsTerm (g.N.Names.meaning c.args.names.now) (symbols_of c.args.line.now c.args.tokens.now) (c.loop-operator.end + 1) r in subst P c.in_default-term.is c.term-in-Some-operator_at.ensures)
 
 pub expression-loop-operator-preserved : goal.expression-loop-operator-preserved
-expression-loop-operator-preserved g t c = so_far_more c.args.line.now c.args.tokens.now (g.N.Names.meaning c.args.names.now) c.args.at c.loop-operator.end c.loop-operator.answer c.combine-answer.result (operation_view c.in-Some-operator_at.operator) c.in-Some-term.right c.loop-operator.invariant (sym c.operator_at.ensures.value ∙ ap (option_map operation_view) c.in-Some-operator_at.is) (let P : Option Read → Type 0 = λ r. ReadsTerm (g.N.Names.meaning c.args.names.now) (symbols_of c.args.line.now c.args.tokens.now) (c.loop-operator.end + 1) r in subst P c.in-Some-term.is c.term-in-Some-operator_at.ensures) c.combine-answer.ensures
+expression-loop-operator-preserved g t c = so_far_more c.args.line.now c.args.tokens.now (g.N.Names.meaning c.args.names.now) c.args.at c.loop-operator.end c.loop-operator.answer c.combined-answer.result (operation_view c.in-Some-operator_at.operator) c.in-Some-term.right c.loop-operator.invariant (sym c.operator_at.ensures.value ∙ ap (option_map operation_view) c.in-Some-operator_at.is) (let P : Option Read → Type 0 = λ r. ReadsTerm (g.N.Names.meaning c.args.names.now) (symbols_of c.args.line.now c.args.tokens.now) (c.loop-operator.end + 1) r in subst P c.in-Some-term.is c.term-in-Some-operator_at.ensures) (c.combined-answer.ensures ∙ ap (λ d. combined d (operation_view c.in-Some-operator_at.operator) c.loop-operator.answer c.in-Some-term.right.answer) c.dialect.ensures)
 
 pub expression-returns : goal.expression-returns
 expression-returns g t c = so_far_end c.args.line.now c.args.tokens.now (g.N.Names.meaning c.args.names.now) c.args.at c.loop-operator.end c.loop-operator.answer c.loop-operator.invariant (sym c.operator_at.ensures.value ∙ ap (option_map operation_view) c.in_default-operator_at.is)
@@ -40,7 +40,7 @@ pub operated-returns-in_default-term : goal.operated-returns-in_default-term
 operated-returns-in_default-term g t c = no_complement c.args.line.now c.args.tokens.now (g.N.Names.meaning c.args.names.now) c.args.at (mark_stands c.args.line.now c.args.tokens.now c.args.at 94 c.requires.caret) (spelled_stands c.args.line.now c.args.tokens.now (c.args.at + 1) _ _ (name_stands c.args.line.now c.args.tokens.now (c.args.at + 1) c.in-Some.token (sym c.token_at.ensures.value ∙ c.in-Some.is) c.in-Name.is) (sym (c.as_bytes.ensures ∙ c.name_of-name.ensures) ∙ (word_yes c.is_word.result _ _ c.is_word.ensures.is c.if-is_word.true))) (let P : Option Read → Type 0 = λ r. ReadsTerm (g.N.Names.meaning c.args.names.now) (symbols_of c.args.line.now c.args.tokens.now) (c.args.at + 2) r in subst P c.in_default-term.is c.term.ensures)
 
 pub operated-returns-in-Some-term : goal.operated-returns-in-Some-term
-operated-returns-in-Some-term g t c = complement_read c.args.line.now c.args.tokens.now (g.N.Names.meaning c.args.names.now) c.args.at c.in-Some-term.read c.complemented.result (mark_stands c.args.line.now c.args.tokens.now c.args.at 94 c.requires.caret) (spelled_stands c.args.line.now c.args.tokens.now (c.args.at + 1) _ _ (name_stands c.args.line.now c.args.tokens.now (c.args.at + 1) c.in-Some.token (sym c.token_at.ensures.value ∙ c.in-Some.is) c.in-Name.is) (sym (c.as_bytes.ensures ∙ c.name_of-name.ensures) ∙ (word_yes c.is_word.result _ _ c.is_word.ensures.is c.if-is_word.true))) (let P : Option Read → Type 0 = λ r. ReadsTerm (g.N.Names.meaning c.args.names.now) (symbols_of c.args.line.now c.args.tokens.now) (c.args.at + 2) r in subst P c.in-Some-term.is c.term.ensures) c.complemented.ensures
+operated-returns-in-Some-term g t c = complement_read c.args.line.now c.args.tokens.now (g.N.Names.meaning c.args.names.now) c.args.at c.in-Some-term.read c.complement_of.result (mark_stands c.args.line.now c.args.tokens.now c.args.at 94 c.requires.caret) (spelled_stands c.args.line.now c.args.tokens.now (c.args.at + 1) _ _ (name_stands c.args.line.now c.args.tokens.now (c.args.at + 1) c.in-Some.token (sym c.token_at.ensures.value ∙ c.in-Some.is) c.in-Name.is) (sym (c.as_bytes.ensures ∙ c.name_of-name.ensures) ∙ (word_yes c.is_word.result _ _ c.is_word.ensures.is c.if-is_word.true))) (let P : Option Read → Type 0 = λ r. ReadsTerm (g.N.Names.meaning c.args.names.now) (symbols_of c.args.line.now c.args.tokens.now) (c.args.at + 2) r in subst P c.in-Some-term.is c.term.ensures) (c.complement_of.ensures ∙ ap (λ d. complement_of d c.in-Some-term.read.answer) c.dialect.ensures)
 
 pub operated-returns-then-is_word-2 : goal.operated-returns-then-is_word-2
 operated-returns-then-is_word-2 g t c = quoted_read c.args.line.now c.args.tokens.now (g.N.Names.meaning c.args.names.now) c.args.at c.quoted_at.result (mark_stands c.args.line.now c.args.tokens.now c.args.at 94 c.requires.caret) (spelled_stands c.args.line.now c.args.tokens.now (c.args.at + 1) _ _ (name_stands c.args.line.now c.args.tokens.now (c.args.at + 1) c.in-Some.token (sym c.token_at.ensures.value ∙ c.in-Some.is) c.in-Name.is) (sym (c.as_bytes-else-is_word.ensures ∙ c.name_of-name.ensures) ∙ (word_yes c.is_word-else-is_word.result _ _ c.is_word-else-is_word.ensures.is c.if-is_word-2.true))) c.quoted_at.ensures
@@ -76,7 +76,7 @@ pub marked-returns-in_default : goal.marked-returns-in_default
 marked-returns-in_default g t c = no_minus c.args.line.now c.args.tokens.now (g.N.Names.meaning c.args.names.now) c.args.at (kind_mark c.args.line.now c.args.tokens.now c.args.at c.args.mark 45 c.requires.mark c.if-mark-eq45.true) (let P : Option Read → Type 0 = λ r. ReadsTerm (g.N.Names.meaning c.args.names.now) (symbols_of c.args.line.now c.args.tokens.now) (c.args.at + 1) r in subst P c.in_default.is c.term-then-mark-eq45.ensures)
 
 pub marked-returns-in-Some : goal.marked-returns-in-Some
-marked-returns-in-Some g t c = minus_read c.args.line.now c.args.tokens.now (g.N.Names.meaning c.args.names.now) c.args.at c.in-Some.read c.negated.result (kind_mark c.args.line.now c.args.tokens.now c.args.at c.args.mark 45 c.requires.mark c.if-mark-eq45.true) (let P : Option Read → Type 0 = λ r. ReadsTerm (g.N.Names.meaning c.args.names.now) (symbols_of c.args.line.now c.args.tokens.now) (c.args.at + 1) r in subst P c.in-Some.is c.term-then-mark-eq45.ensures) c.negated.ensures
+marked-returns-in-Some g t c = minus_read c.args.line.now c.args.tokens.now (g.N.Names.meaning c.args.names.now) c.args.at c.in-Some.read c.minus_of.result (kind_mark c.args.line.now c.args.tokens.now c.args.at c.args.mark 45 c.requires.mark c.if-mark-eq45.true) (let P : Option Read → Type 0 = λ r. ReadsTerm (g.N.Names.meaning c.args.names.now) (symbols_of c.args.line.now c.args.tokens.now) (c.args.at + 1) r in subst P c.in-Some.is c.term-then-mark-eq45.ensures) (c.minus_of.ensures ∙ ap (λ d. minus_of d c.in-Some.read.answer) c.dialect.ensures)
 
 pub marked-returns-else-mark-eq94 : goal.marked-returns-else-mark-eq94
 marked-returns-else-mark-eq94 g t c = no_term_mark c.args.line.now c.args.tokens.now (g.N.Names.meaning c.args.names.now) c.args.at c.args.mark c.requires.mark c.if-mark-eq43.false c.if-mark-eq45.false c.if-mark-eq60.false c.if-mark-eq94.false

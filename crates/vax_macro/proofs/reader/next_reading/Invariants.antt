@@ -1,6 +1,6 @@
 use Rattle.std.proofs.Common.{◌<◌, ◌-◌, ℕ, List}
 use Rattle.std.specs.Prelude.{Option}
-use Rattle.vax_lex.specs.declared.value.Value.{Value}
+use Rattle.vax_lex.specs.Values.{Sense}
 use Rattle.vax_macro.specs.Expansion.{next_line_step}
 use Rattle.vax_macro.specs.LineViews.{lines_of, reading_of}
 use Rattle.vax_macro.specs.Readings.{Joins, IsWithin}
@@ -9,7 +9,7 @@ use Rattle.vax_macro.proofs.reader.next_reading.Given as goal
 
 abbrev pub invariant-lines : goal.invariant-lines
 invariant-lines l = record {
-  same : (names : List ℕ → Option Value) (rest : Rest)
+  same : (names : Sense) (rest : Rest)
       → Joins names l.joined (lines_of l.lines) (reading_of l.begun) (record rest { read = l.read }) (next_line_step names (lines_of l.fn.lines) (record rest { read = l.fn.read }));
   more : l.fn.read < l.read;
   within : IsWithin l.joined l.read;
