@@ -18,13 +18,13 @@ use Rattle.vax_asm_first.specs.declared.types.Origin.{Origin}
 use Rattle.vax_asm_second.specs.Faults.{first_of as least}
 use Rattle.vax_asm_second.specs.Modules.{unless_faulty}
 use Rattle.vax_asm_second.specs.declared.types.Fault.{Fault}
-use Rattle.vax_dialect.specs.declared.Dialect.TheVariants.{Vax}
+use Rattle.vax_dialect.specs.declared.Dialect.{Dialect}
 use Rattle.vax_macro.specs.Fault.{code_of}
 use Rattle.vax_macro.specs.Rest.{started, work}
 use Rattle.vax_module.specs.declared.Module.{Module}
 
-pub lines_ascend : (source : List ℕ) → Ascend (faults_of Vax source).lines
-lines_ascend source = survey_ascends (suc (work (started Vax source))) (started Vax source) (nothing Vax) None
+pub lines_ascend : (dialect : Dialect) (source : List ℕ) → Ascend (faults_of dialect source).lines
+lines_ascend dialect source = survey_ascends (suc (work (started dialect source))) (started dialect source) (nothing dialect) None
 
 -- ---- the lines'
 
@@ -96,5 +96,5 @@ by_all : (told : List Fault) (most : ℕ) (all : Faults) (m : Module) (f : Fault
 by_all told most all m f some up (inl a) e = all_begin all.lines all.whole told all m f refl up a e
 by_all told most all m f some up (inr a) e = front_begin told most all m f some up a e
 
-pub begin_refused : (source : List ℕ) (most : ℕ) (told : List Fault) (f : Fault) → 1 ≤ most → AreFirst most told (faults_of Vax source) → assembled Vax source ≡ Err f → BeginAt f told
-begin_refused source most told f some a e = by_all told most (faults_of Vax source) (module_behind (survey_of Vax source)) f some (lines_ascend source) a (sym (refused_first Vax source) ∙ e)
+pub begin_refused : (dialect : Dialect) (source : List ℕ) (most : ℕ) (told : List Fault) (f : Fault) → 1 ≤ most → AreFirst most told (faults_of dialect source) → assembled dialect source ≡ Err f → BeginAt f told
+begin_refused dialect source most told f some a e = by_all told most (faults_of dialect source) (module_behind (survey_of dialect source)) f some (lines_ascend dialect source) a (sym (refused_first dialect source) ∙ e)

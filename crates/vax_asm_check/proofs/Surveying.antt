@@ -8,7 +8,7 @@ use Rattle.vax_asm_check.specs.Restating.{resumed}
 use Rattle.vax_asm_faults.specs.Refusal.{faults_in, faults_of, whole_faults}
 use Rattle.vax_asm_faults.specs.Survey.{Onward, Survey, is_ended, onward, stated, survey, survey_of, with_faults}
 use Rattle.vax_asm_second.specs.declared.types.Fault.{Fault}
-use Rattle.vax_dialect.specs.declared.Dialect.TheVariants.{Vax}
+use Rattle.vax_dialect.specs.declared.Dialect.{Dialect}
 use Rattle.vax_macro.specs.Directives.{Statement}
 use Rattle.std.specs.Global.{Vec}
 use Rattle.vax_macro.specs.Expanders.{FaultIs}
@@ -30,36 +30,36 @@ survey_opened zero rest a ended = refl
 survey_opened (suc left) rest a ended = by_step left a ended (step (names_in a.standing) rest) (λ r. survey_opened left r a ended)
 
 -- how a survey begins
-pub started_survey : (source : List ℕ) (rest : Rest) (a : Assembly) (ended : Option ℕ) (fs : List Fault) → rest ≡ started Vax source → a ≡ nothing Vax → ended ≡ None → fs ≡ []
-    → with_faults fs (survey (suc (work rest)) rest a ended) ≡ survey_of Vax source
-started_survey source rest a ended fs e f g h = rw (e, f, g, h) refl
+pub started_survey : (dialect : Dialect) (source : List ℕ) (rest : Rest) (a : Assembly) (ended : Option ℕ) (fs : List Fault) → rest ≡ started dialect source → a ≡ nothing dialect → ended ≡ None → fs ≡ []
+    → with_faults fs (survey (suc (work rest)) rest a ended) ≡ survey_of dialect source
+started_survey dialect source rest a ended fs e f g h = rw (e, f, g, h) refl
 
 -- a survey that goes on with what was opened of it
-pub survey_goes : (source : List ℕ) (left : ℕ) (rest : Rest) (a : Assembly) (ended : Option ℕ) (fs : List Fault) (o : Opened) → with_faults fs (survey left rest a ended) ≡ survey_of Vax source
-    → opened left (names_in a.standing) rest ≡ o → with_faults fs (resumed o a ended) ≡ survey_of Vax source
-survey_goes source left rest a ended fs o is e = sym (ap (with_faults fs) (survey_opened left rest a ended ∙ ap (λ (p : Opened). resumed p a ended) e)) ∙ is
+pub survey_goes : (dialect : Dialect) (source : List ℕ) (left : ℕ) (rest : Rest) (a : Assembly) (ended : Option ℕ) (fs : List Fault) (o : Opened) → with_faults fs (survey left rest a ended) ≡ survey_of dialect source
+    → opened left (names_in a.standing) rest ≡ o → with_faults fs (resumed o a ended) ≡ survey_of dialect source
+survey_goes dialect source left rest a ended fs o is e = sym (ap (with_faults fs) (survey_opened left rest a ended ∙ ap (λ (p : Opened). resumed p a ended) e)) ∙ is
 
-pub goes_next : (source : List ℕ) (left more : ℕ) (rest after : Rest) (a b : Assembly) (ended e : Option ℕ) (fs gs : List Fault) (st : Statement) → with_faults fs (survey left rest a ended) ≡ survey_of Vax source
+pub goes_next : (dialect : Dialect) (source : List ℕ) (left more : ℕ) (rest after : Rest) (a b : Assembly) (ended e : Option ℕ) (fs gs : List Fault) (st : Statement) → with_faults fs (survey left rest a ended) ≡ survey_of dialect source
     → opened left (names_in a.standing) rest ≡ Given st more after
     → ((next : Onward) → with_faults fs (stated (at st.number after.read) st.text a ended next) ≡ with_faults gs (next b e))
-    → with_faults gs (survey more after b e) ≡ survey_of Vax source
-goes_next source left more rest after a b ended e fs gs st is o g = sym (g (survey more after)) ∙ survey_goes source left rest a ended fs (Given st more after) is o
+    → with_faults gs (survey more after b e) ≡ survey_of dialect source
+goes_next dialect source left more rest after a b ended e fs gs st is o g = sym (g (survey more after)) ∙ survey_goes dialect source left rest a ended fs (Given st more after) is o
 
 pub if_ok : {A E : Type 0} {P Q : A → Type 0} (r : Result A E) → ((x : A) → P x → Q x) → IfOk r P → IfOk r Q
 if_ok (Ok x) h p = h x p
 if_ok (Err e) h p = tt
 
 -- what was found before the rest is read
-pub first_found : (source : List ℕ) (most : ℕ) (fs : List Fault) (s : Survey) → most ≤ length fs → with_faults fs s ≡ survey_of Vax source → AreFirst most fs (faults_of Vax source)
-first_found source most fs s many is = inr (record {
+pub first_found : (dialect : Dialect) (source : List ℕ) (most : ℕ) (fs : List Fault) (s : Survey) → most ≤ length fs → with_faults fs s ≡ survey_of dialect source → AreFirst most fs (faults_of dialect source)
+first_found dialect source most fs s many is = inr (record {
   more = s.faults;
   joined = ap (λ (t : Survey). t.faults) is;
   many = many;
 })
 
 -- all of them
-pub all_found : (source : List ℕ) (most : ℕ) (list : List Fault) (s : Survey) → AreAll list (faults_in s) → s ≡ survey_of Vax source → AreFirst most list (faults_of Vax source)
-all_found source most list s all is = inl (subst (λ (t : Survey). AreAll list (faults_in t)) is all)
+pub all_found : (dialect : Dialect) (source : List ℕ) (most : ℕ) (list : List Fault) (s : Survey) → AreAll list (faults_in s) → s ≡ survey_of dialect source → AreFirst most list (faults_of dialect source)
+all_found dialect source most list s all is = inl (subst (λ (t : Survey). AreAll list (faults_in t)) is all)
 
 -- those of the lines, and behind them those of the whole source in order
 pub ended_all : (fs found told list : List Fault) (s : Survey) → s.faults ≡ [] → whole_faults s ≡ found → IsInOrder found told → list ≡ fs ++ told → AreAll list (faults_in (with_faults fs s))

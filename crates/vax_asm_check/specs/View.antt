@@ -8,7 +8,6 @@ use Rattle.vax_asm_check.specs.declared.left.Stated.{Stated}
 use Rattle.vax_asm_check.specs.declared.survey.Survey.{Survey}
 use Rattle.vax_asm_faults.specs.Survey.{Onward, stated, with_faults}
 use Rattle.vax_asm_first.specs.declared.types.Origin.{Origin}
-use Rattle.vax_dialect.specs.declared.Dialect.TheVariants.{Vax}
 
 abbrev pub left_of : Left → Assembly
 left_of l = assembly_of l.standing l.assignments
@@ -16,9 +15,9 @@ left_of l = assembly_of l.standing l.assignments
 abbrev pub said_of : Stated → Said
 said_of s = record { origin = s.origin; text = s.line.text.items }
 
--- What stands is what the statements that stand leave.
+-- What stands is what the statements that stand leave, in the dialect of the source.
 abbrev pub IsKept : Survey → Type 0
-IsKept s = restated (map said_of s.stood.items) (nothing Vax) ≡ left_of s.left
+IsKept s = restated (map said_of s.stood.items) (nothing s.dialect) ≡ left_of s.left
 
 -- A statement adds its faults to those before, and leaves this, whatever comes behind it.
 abbrev pub GoesOn : Origin → (text : List ℕ) → (old new : Survey) → Type 0

@@ -6,7 +6,6 @@ ghost use Rattle.vax_asm.specs.Walk.{nothing};
 ghost use Rattle.vax_asm_check.specs.Restating.{restated};
 ghost use Rattle.vax_asm_check.specs.View.{left_of, said_of};
 ghost use Rattle.vax_asm_faults.specs.Survey.{left_by};
-ghost use Rattle.vax_dialect.specs.declared.Dialect.TheVariants.{Vax};
 
 use std::alloc::Global;
 use vax_asm::{Placed, place};
@@ -44,10 +43,10 @@ pub(crate) fn copied(alloc: Global, line: &Line) -> Result<Line, NoMemory>
 }
 
 impl Left {
-    pub(crate) fn new(alloc: Global) -> Result<Left, NoMemory>
-        ensures { IfOk result (λ l. left_of l ≡ nothing Vax) }
+    pub(crate) fn new(alloc: Global, dialect: Dialect) -> Result<Left, NoMemory>
+        ensures { IfOk result (λ l. left_of l ≡ nothing dialect) }
     {
-        let standing = Standing::new(alloc, Dialect::Vax)?;
+        let standing = Standing::new(alloc, dialect)?;
         Ok(Left {
             standing,
             assignments: Vec::new(alloc),
@@ -76,12 +75,12 @@ impl Left {
     }
 }
 
-/// What statements leave that stand one behind another from the first.
+/// What statements of a dialect leave that stand one behind another from the first.
 #[tactic(auto, using(crate::proofs::Restating::one_restated, crate::proofs::Restating::all_restated))]
-pub(crate) fn restated(alloc: Global, stood: &[Stated]) -> Result<Left, NoMemory>
-    ensures { IfOk result (λ l. left_of l ≡ restated (map said_of stood.now) (nothing Vax)) }
+pub(crate) fn restated(alloc: Global, dialect: Dialect, stood: &[Stated]) -> Result<Left, NoMemory>
+    ensures { IfOk result (λ l. left_of l ≡ restated (map said_of stood.now) (nothing dialect)) }
 {
-    let mut left = Left::new(alloc)?;
+    let mut left = Left::new(alloc, dialect)?;
     for stated in stood {
         left.restate(alloc, stated)?;
     }

@@ -8,7 +8,6 @@ ghost use Rattle.vax_asm_check.specs.Restating.{resumed};
 ghost use Rattle.vax_asm_check.specs.View.{left_of, GoesOn, IsKept};
 ghost use Rattle.vax_asm_faults.specs.Refusal.{faults_in};
 ghost use Rattle.vax_asm_faults.specs.Survey.{is_ended, with_faults};
-ghost use Rattle.vax_dialect.specs.declared.Dialect.TheVariants.{Vax};
 ghost use Rattle.vax_macro.specs.Expanders.{FaultIs, read_of, unclosed_of};
 ghost use Rattle.vax_macro.specs.Expansion.{AtEnd, Faulty, Opened};
 ghost use Rattle.vax_macro.specs.View.{opening_of};
@@ -20,13 +19,15 @@ use std::alloc::Global;
 use vax_asm::{FaultKind, Placed, place};
 use vax_asm_first::Origin;
 use vax_asm_second::{Fault, all_faults};
+use vax_dialect::Dialect;
 use vax_macro::{Begin, Expander, Line};
 use vax_space::NoMemory;
 
-/// What the statements without a fault leave, and these statements; the faults of the others, and the line that a fault
-/// ended.
+/// The dialect; what the statements without a fault leave, and these statements; the faults of the others, and the line
+/// that a fault ended.
 #[derive(Drop)]
 pub(crate) struct Survey {
+    pub(crate) dialect: Dialect,
     pub(crate) left: Left,
     pub(crate) stood: Vec<Stated>,
     pub(crate) faults: Vec<Fault>,
@@ -74,14 +75,16 @@ fn keep(list: &mut Vec<Stated>, stated: Stated) -> Result<(), NoMemory>
 }
 
 impl Survey {
-    pub(crate) fn new(alloc: Global) -> Result<Survey, NoMemory>
-        ensures left { IfOk result (λ s. left_of s.left ≡ nothing Vax) }
+    pub(crate) fn new(alloc: Global, dialect: Dialect) -> Result<Survey, NoMemory>
+        ensures dialect { IfOk result (λ s. s.dialect ≡ dialect) }
+        ensures left { IfOk result (λ s. left_of s.left ≡ nothing dialect) }
         ensures stood { IfOk result (λ s. s.stood.items ≡ []) }
         ensures faults { IfOk result (λ s. s.faults.items ≡ []) }
         ensures ended { IfOk result (λ s. s.ended ≡ None) }
     {
-        let left = Left::new(alloc)?;
+        let left = Left::new(alloc, dialect)?;
         Ok(Survey {
+            dialect,
             left,
             stood: Vec::new(alloc),
             faults: Vec::new(alloc),
@@ -123,7 +126,7 @@ impl Survey {
                 let circle = circle_fault(alloc, &self.left.assignments, before)?;
                 add(&mut self.faults, Some(Fault { origin, kind }))?;
                 add(&mut self.faults, circle)?;
-                self.left = restated(alloc, &self.stood)?;
+                self.left = restated(alloc, self.dialect, &self.stood)?;
                 self.ended = Some(origin.place);
                 Ok(())
             }

@@ -3,7 +3,6 @@
 ghost use Rattle.std.specs.Prelude.{IfOk};
 ghost use Rattle.vax_asm_check.specs.Listed.{AreFirst};
 ghost use Rattle.vax_asm_faults.specs.Refusal.{faults_of};
-ghost use Rattle.vax_dialect.specs.declared.Dialect.TheVariants.{Vax};
 
 use crate::survey::Survey;
 use std::alloc::Global;
@@ -14,8 +13,8 @@ use vax_dialect::Dialect;
 use vax_macro::{Expander, MacroError};
 use vax_space::NoMemory;
 
-/// The faults of a source in MACRO-32: those that lines have by themselves, line by line, and then those that the whole of it
-/// decides, by their lines. Once so many were found the rest of it isn't read.
+/// The faults of a source in a dialect of MACRO-32: those that lines have by themselves, line by line, and then those that
+/// the whole of it decides, by their lines. Once so many were found the rest of it isn't read.
 ///
 /// Behind each fault the statements before it are carried out once more. So it takes the time of an assembly for each
 /// fault, and with the square of the assignments that have no value where they stand.
@@ -23,11 +22,16 @@ use vax_space::NoMemory;
 /// # Errors
 ///
 /// [`NoMemory`] where memory is refused.
-pub fn faults(alloc: Global, source: &[u8], most: usize) -> Result<Vec<Fault>, NoMemory>
-    ensures { IfOk result (λ v. AreFirst most v.items (faults_of Vax source.now)) }
+pub fn faults(
+    alloc: Global,
+    dialect: Dialect,
+    source: &[u8],
+    most: usize,
+) -> Result<Vec<Fault>, NoMemory>
+    ensures { IfOk result (λ v. AreFirst most v.items (faults_of dialect source.now)) }
 {
-    let mut expander = Expander::new(alloc, Dialect::Vax, source)?;
-    let mut survey = Survey::new(alloc)?;
+    let mut expander = Expander::new(alloc, dialect, source)?;
+    let mut survey = Survey::new(alloc, dialect)?;
     'statements: loop {
         if survey.faults.len() >= most {
             return Ok(survey.faults);

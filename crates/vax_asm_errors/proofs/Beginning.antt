@@ -14,7 +14,7 @@ use Rattle.vax_asm_faults.specs.Least.{IsFaultless}
 use Rattle.vax_asm_faults.specs.Refusal.{Faults, faults_of}
 use Rattle.vax_asm_first.specs.declared.types.Origin.{Origin}
 use Rattle.vax_asm_second.specs.declared.types.Fault.{Fault}
-use Rattle.vax_dialect.specs.declared.Dialect.TheVariants.{Vax}
+use Rattle.vax_dialect.specs.declared.Dialect.{Dialect}
 use Rattle.vax_lines.specs.Lines.{lines}
 use Rattle.vax_macro.specs.Fault.{code_of}
 use Rattle.vax_module.specs.declared.Module.{Module}
@@ -40,10 +40,10 @@ none_said (s ∷ said) e = absurd cc
 ends_empty : (name : List ℕ) → ending name 0 ≡ []
 ends_empty name = refl
 
-pub none_told : (name source before after : List ℕ) (m : Module) → IsErrors name source before after → assembled Vax source ≡ Ok m → after ≡ before
-none_told name source before after m e is =
-    let clean : IsFaultless Vax source m = has_none Vax source m is in
-    let found : e.found ≡ [] = none_found e.found (faults_of Vax source) clean.lines clean.whole e.first in
+pub none_told : (dialect : Dialect) (name source before after : List ℕ) (m : Module) → IsErrors dialect name source before after → assembled dialect source ≡ Ok m → after ≡ before
+none_told dialect name source before after m e is =
+    let clean : IsFaultless dialect source m = has_none dialect source m is in
+    let found : e.found ≡ [] = none_found e.found (faults_of dialect source) clean.lines clean.whole e.first in
     let said : e.said ≡ [] = none_said e.said (e.told ∙ ap (λ (l : List Fault). take 100 l) found) in
     e.text ∙ ap (λ (l : List Said). before ++ errors name source l (length e.found)) said ∙ ap (λ (l : List Fault). before ++ ending name (length l)) found
     ∙ ap (λ (l : List ℕ). before ++ l) (ends_empty name) ∙ append-nil before
@@ -87,8 +87,8 @@ begins_by name source before after f first said rest s count text is same origin
           ∙ ap (λ (n : ℕ). before ++ place name n (s.column + 1) ++ behind) line;
     }
 
-pub refused_told : (name source before after : List ℕ) (f : Fault) → IsErrors name source before after → assembled Vax source ≡ Err f → BeginsAt name f before after
-refused_told name source before after f e is =
-    let b : BeginAt f e.found = begin_refused source 300 e.found f (omega arith) e.first is in
+pub refused_told : (dialect : Dialect) (name source before after : List ℕ) (f : Fault) → IsErrors dialect name source before after → assembled dialect source ≡ Err f → BeginsAt name f before after
+refused_told dialect name source before after f e is =
+    let b : BeginAt f e.found = begin_refused dialect source 300 e.found f (omega arith) e.first is in
     let said = first_said e.said b.first (take 99 b.more) (e.told ∙ ap (λ (l : List Fault). take 100 l) b.is) in
     begins_by name source before after f b.first e.said said.1 said.0 (length e.found) e.text said.2 said.3 b.origin

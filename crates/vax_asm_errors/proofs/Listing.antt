@@ -8,7 +8,7 @@ use Rattle.vax_asm_errors.specs.Errors.{IsErrors, IsPlain, ending, error}
 use Rattle.vax_asm_errors.specs.declared.said.Said.{Said}
 use Rattle.vax_asm_faults.specs.Refusal.{faults_of}
 use Rattle.vax_asm_second.specs.declared.types.Fault.{Fault}
-use Rattle.vax_dialect.specs.declared.Dialect.TheVariants.{Vax}
+use Rattle.vax_dialect.specs.declared.Dialect.{Dialect}
 
 pub error_added : {X : Type 0} (told : X → List ℕ) (faults : List X) (i : ℕ) (f : X) (before after all : List ℕ) → i < length faults → f ≡ slice_index_or faults i f → after ≡ before ++ told f
     → before ++ flat_map told (drop i faults) ≡ all → after ++ flat_map told (drop (i + 1) faults) ≡ all
@@ -22,9 +22,9 @@ error_added {X} told faults i f before after all h at more same =
 pub errors_added : {X : Type 0} (told : X → List ℕ) (faults : List X) (i : ℕ) (before all : List ℕ) → length faults ≤ i → before ++ flat_map told (drop i faults) ≡ all → before ≡ all
 errors_added {X} told faults i before all h same = sym (append-nil before) ∙ ap (λ (l : List X). before ++ flat_map told l) (sym (drop_all i faults h)) ∙ same
 
-pub all_added : {A E : Type 0} (r : Result A E) (name source : List ℕ) (found : List Fault) (said : List Said) (count : ℕ) (before between after : List ℕ) → AreFirst 300 found (faults_of Vax source) → map (λ s. s.fault) said ≡ take 100 found → All IsPlain said
-    → between ≡ before ++ flat_map (error name source) said → count ≡ length found → OnOk r (after ≡ between ++ ending name count) → OnOk r (IsErrors name source before after)
-all_added (Ok x) name source found said count before between after first told plain b e h = record {
+pub all_added : {A E : Type 0} (r : Result A E) (dialect : Dialect) (name source : List ℕ) (found : List Fault) (said : List Said) (count : ℕ) (before between after : List ℕ) → AreFirst 300 found (faults_of dialect source) → map (λ s. s.fault) said ≡ take 100 found → All IsPlain said
+    → between ≡ before ++ flat_map (error name source) said → count ≡ length found → OnOk r (after ≡ between ++ ending name count) → OnOk r (IsErrors dialect name source before after)
+all_added (Ok x) dialect name source found said count before between after first told plain b e h = record {
   found = found;
   first = first;
   said = said;
@@ -34,7 +34,7 @@ all_added (Ok x) name source found said count before between after first told pl
       h ∙ ap (λ (n : ℕ). between ++ ending name n) e ∙ ap (λ (l : List ℕ). l ++ ending name (length found)) b
       ∙ append_assoc before (flat_map (error name source) said) (ending name (length found));
 }
-all_added (Err x) name source found said count before between after first told plain b e h = tt
+all_added (Err x) dialect name source found said count before between after first told plain b e h = tt
 
 regroup_pushed : (out n a l d e : List ℕ) → out ++ n ++ a ++ l ++ d ++ e ≡ out ++ (n ++ a ++ l ++ d ++ e)
 regroup_pushed out n a l d e = simp append_assoc

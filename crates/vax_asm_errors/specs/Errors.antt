@@ -6,7 +6,7 @@ use Rattle.vax_asm_faults.specs.Refusal.{faults_of}
 use Rattle.vax_asm_causes.specs.Printed.{ArePrinted}
 use Rattle.vax_asm_errors.specs.declared.said.Said.{Said}
 use Rattle.vax_asm_second.specs.declared.types.Fault.{Fault}
-use Rattle.vax_dialect.specs.declared.Dialect.TheVariants.{Vax}
+use Rattle.vax_dialect.specs.declared.Dialect.{Dialect}
 use Rattle.vax_lines.specs.Lines.{Text, lines}
 use Rattle.vax_macro.specs.Fault.{code_of}
 use Rattle.vax_macro.specs.declared.error.FaultKind.{FaultKind}
@@ -95,10 +95,10 @@ ending name count = if nat_le count 100 then [] else more_words name count
 abbrev pub errors : (name source : Text) → List Said → (count : ℕ) → Text
 errors name source said count = flat_map (error name source) said ++ ending name count
 
--- The errors of a source were added: those of its first hundred faults, or of all. Each has a column and words on its cause.
-pub record IsErrors (name source before after : Text) : Type 0 where
+-- The errors of a source of a dialect were added: those of its first hundred faults, or of all. Each has a column and words on its cause.
+pub record IsErrors (dialect : Dialect) (name source before after : Text) : Type 0 where
   pub found : List Fault
-  pub first : AreFirst 300 found (faults_of Vax source)
+  pub first : AreFirst 300 found (faults_of dialect source)
   pub said : List Said
   pub told : map (λ s. s.fault) said ≡ take 100 found
   pub plain : All IsPlain said

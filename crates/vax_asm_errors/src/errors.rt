@@ -10,6 +10,7 @@ use crate::said::{Said, said_of};
 use std::alloc::Global;
 use vax_asm_check::faults;
 use vax_asm_second::Fault;
+use vax_dialect::Dialect;
 use vax_outside::Text;
 use vax_space::NoMemory;
 
@@ -19,9 +20,10 @@ pub const MOST: usize = 100;
 /// Of a source with so many the rest isn't read.
 pub const COUNTED: usize = 300;
 
-/// A source, and the name of its file.
+/// A source with its dialect, and the name of its file.
 #[derive(Clone, Copy)]
 pub struct Source<'a> {
+    pub dialect: Dialect,
     pub name: &'a [u8],
     pub text: &'a [u8],
 }
@@ -172,10 +174,10 @@ fn told(found: &[Fault]) -> &[Fault]
 ///
 /// [`NoMemory`] where memory is refused.
 pub fn push_errors(alloc: Global, out: &mut Vec<u8>, source: Source<'_>) -> Result<(), NoMemory>
-    ensures { OnOk result
-        (IsErrors source.entry.name.now source.entry.text.now out.old.items out.new.items) }
+    ensures { OnOk result (IsErrors source.entry.dialect source.entry.name.now
+        source.entry.text.now out.old.items out.new.items) }
 {
-    let found = faults(alloc, source.text, COUNTED)?;
+    let found = faults(alloc, source.dialect, source.text, COUNTED)?;
     let said = said_of(alloc, source, told(&found))?;
     push_each(out, source, &said)?;
     push_ending(out, source.name, found.len())

@@ -120,7 +120,7 @@ pub(crate) fn said_of(
     ensures faults { IfOk result (λ v. map (λ s. s.fault) v.items ≡ faults.now) }
     ensures plain { IfOk result (λ v. All IsPlain v.items) }
 {
-    let seen = statements_of(alloc, source.text, faults)?;
+    let seen = statements_of(alloc, source, faults)?;
     let mut all = Vec::new(alloc);
     for fault in faults {
         let one = one_said(alloc, source, &seen, *fault)?;

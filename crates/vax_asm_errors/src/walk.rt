@@ -1,5 +1,6 @@
 // The texts of statements with a fault, and what is known there.
 
+use crate::errors::Source;
 use crate::facts::{facts_behind, facts_here};
 use std::alloc::Global;
 use std::collections::BTreeMap;
@@ -8,7 +9,6 @@ use vax_asm_causes::Facts;
 use vax_asm_first::{Origin, Standing};
 use vax_asm_scope::KnownNames;
 use vax_asm_second::Fault;
-use vax_dialect::Dialect;
 use vax_lex::Value;
 use vax_macro::{Expander, FaultKind, Line, MacroError};
 use vax_space::NoMemory;
@@ -103,15 +103,15 @@ fn complete(
 /// The statements that stand where these faults do.
 pub(crate) fn statements_of(
     alloc: Global,
-    source: &[u8],
+    source: Source<'_>,
     faults: &[Fault],
 ) -> Result<Statements, NoMemory> {
     let mut all = BTreeMap::new(alloc);
     if faults.is_empty() {
         return Ok(all);
     }
-    let mut expander = Expander::new(alloc, Dialect::Vax, source)?;
-    let mut standing = Standing::new(alloc, Dialect::Vax)?;
+    let mut expander = Expander::new(alloc, source.dialect, source.text)?;
+    let mut standing = Standing::new(alloc, source.dialect)?;
     let mut assignments = Vec::new(alloc);
     for _ in 0..MOST_STATEMENTS {
         let here = standing.here()?;

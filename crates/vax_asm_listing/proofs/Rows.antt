@@ -7,7 +7,7 @@ use Rattle.vax_asm_first.specs.Standing.{Standing, at_start}
 use Rattle.vax_asm_first.specs.declared.types.Origin.{Origin}
 use Rattle.vax_asm_second.specs.Modules.{filled_in}
 use Rattle.vax_asm_second.specs.declared.types.Fault.{Fault}
-use Rattle.vax_dialect.specs.declared.Dialect.TheVariants.{Vax}
+use Rattle.vax_dialect.specs.declared.Dialect.{Dialect}
 use Rattle.vax_macro.specs.Rest.{Opening}
 use Rattle.vax_module.specs.declared.Module.{Module}
 use Rattle.vax_asm.specs.View.{Stood}
@@ -16,8 +16,8 @@ use Rattle.vax_asm_listing.specs.declared.types.Trace.{Trace}
 use Rattle.vax_asm_listing.specs.declared.types.Point.{Point}
 use Rattle.vax_asm_listing.specs.declared.types.Row.{Row}
 
-pub begun : (rows : List Row) (s : Standing) (assignments : List Assignment) → rows ≡ [] → s ≡ at_start Vax → assignments ≡ [] → LeadAll (nothing Vax) rows (record { standing = s; assignments = assignments })
-begun rows s assignments e f g = rw (e, f, g) refl
+pub begun : (dialect : Dialect) (rows : List Row) (s : Standing) (assignments : List Assignment) → rows ≡ [] → s ≡ at_start dialect → assignments ≡ [] → LeadAll (nothing dialect) rows (record { standing = s; assignments = assignments })
+begun dialect rows s assignments e f g = rw (e, f, g) refl
 
 pub lead_more : (a : Assembly) (rows : List Row) (b : Assembly) (row : Row) (c : Assembly) → LeadAll a rows b → Leads b row c → LeadAll a (rows ++ row ∷ []) c
 lead_more a [] b row c e h = (c, subst (λ (x : Assembly). Leads x row c) (sym e) h, refl)
@@ -36,9 +36,9 @@ pub ended_is : (a : Assembly) (met : Option Fault) (begin : Option Opening) (m :
 ended_is a None begin m e = record { quiet = refl; filled = no_circle (first_circle a.assignments) (filled_in a.standing a.assignments begin) m e }
 ended_is a (Some f) begin m e = absurd cc
 
-pub trace_ended : (a : Assembly) (met : Option Fault) (t : Trace) → (met ≡ None → LeadAll (nothing Vax) t.notes.rows.items a) → t.notes.labels.items ≡ map (label_of a.standing.scope) a.standing.scope.names.all
-    → ended a met None ≡ Ok t.module → IsTrace t
-trace_ended a met t rows labels e =
+pub trace_ended : (dialect : Dialect) (a : Assembly) (met : Option Fault) (t : Trace) → (met ≡ None → LeadAll (nothing dialect) t.notes.rows.items a) → t.notes.labels.items ≡ map (label_of a.standing.scope) a.standing.scope.names.all
+    → ended a met None ≡ Ok t.module → IsTrace dialect t
+trace_ended dialect a met t rows labels e =
     let h = ended_is a met None t.module e in
     record { behind = a; begin = None; rows = rows h.quiet; filled = h.filled; labels = labels }
 

@@ -9,7 +9,7 @@ use Rattle.vax_asm_scope.specs.Scope.{Scope}
 use Rattle.vax_asm_sections.specs.Layout.{current_of}
 use Rattle.vax_asm_second.specs.Modules.{filled_in}
 use Rattle.vax_asm_values.specs.Values.{value_of}
-use Rattle.vax_dialect.specs.declared.Dialect.TheVariants.{Vax}
+use Rattle.vax_dialect.specs.declared.Dialect.{Dialect}
 use Rattle.vax_macro.specs.Rest.{Opening}
 use Rattle.vax_asm_listing.specs.declared.types.Label.{Label}
 use Rattle.vax_asm_listing.specs.declared.types.Point.{Point}
@@ -46,10 +46,10 @@ LeadAll a (row ∷ rows) b = (c : Assembly) × Leads a row c × LeadAll c rows b
 abbrev pub label_of : Scope → Name → Label
 label_of s n = record { name = n.text; global = n.global; value = value_of s.sources n.definition }
 
--- The statements of a source lead to its module. These are the names that they leave.
-pub record IsTrace (t : Trace) : Type 0 where
+-- The statements of a source of a dialect lead to its module. These are the names that they leave.
+pub record IsTrace (dialect : Dialect) (t : Trace) : Type 0 where
   pub behind : Assembly
   pub begin : Option Opening
-  pub rows : LeadAll (nothing Vax) t.notes.rows.items behind
+  pub rows : LeadAll (nothing dialect) t.notes.rows.items behind
   pub filled : filled_in behind.standing behind.assignments begin ≡ Ok t.module
   pub labels : t.notes.labels.items ≡ map (label_of behind.standing.scope) behind.standing.scope.names.all

@@ -12,6 +12,7 @@ use crate::types::{Notes, Part, Program, Trace};
 use std::alloc::{AllocError, AllocFailed, Global};
 use thiserror::Error;
 use vax_asm::{AsmError, FaultKind};
+use vax_dialect::Dialect;
 use vax_image::{Base, Image};
 use vax_link::{LinkError, addresses, link};
 use vax_module::Module;
@@ -56,12 +57,17 @@ impl<T: Drop> From<AllocFailed<T>> for ListingError {
 }
 
 /// The module of a source, and what its statements leave beside it.
-fn trace_file(alloc: Global, file: u8, source: &[u8]) -> Result<Trace, ListingError>
-    ensures trace { IfOk result (λ t. IsTraced source.now t.module t.notes) }
+fn trace_file(
+    alloc: Global,
+    dialect: Dialect,
+    file: u8,
+    source: &[u8],
+) -> Result<Trace, ListingError>
+    ensures trace { IfOk result (λ t. IsTraced dialect source.now t.module t.notes) }
     ensures formed { IfOk result (λ t. Formed t.module) }
-    ensures refused { IfErr result (FileRefuses source.now file) }
+    ensures refused { IfErr result (FileRefuses dialect source.now file) }
 {
-    match trace(alloc, source) {
+    match trace(alloc, dialect, source) {
         Ok(trace) => Ok(trace),
         Err(AsmError::Fault { line, kind }) => Err(ListingError::Source { file, line, kind }),
         Err(AsmError::NoMemory) => Err(ListingError::NoMemory),
@@ -69,19 +75,23 @@ fn trace_file(alloc: Global, file: u8, source: &[u8]) -> Result<Trace, ListingEr
 }
 
 /// The modules of sources, and what their statements leave beside them.
-fn trace_files(alloc: Global, files: &[Vec<u8>]) -> Result<(Vec<Module>, Vec<Notes>), ListingError>
+fn trace_files(
+    alloc: Global,
+    dialect: Dialect,
+    files: &[Vec<u8>],
+) -> Result<(Vec<Module>, Vec<Notes>), ListingError>
     requires { length files.now ≤ 8 }
-    ensures traced { IfOk result (λ x. AreTraced (texts files.now) x.0.items x.1.items) }
+    ensures traced { IfOk result (λ x. AreTraced dialect (texts files.now) x.0.items x.1.items) }
     ensures formed { IfOk result (λ x. All Formed x.0.items) }
     ensures count { IfOk result (λ x. length x.0.items ≡ length files.now) }
-    ensures refused { IfErr result (FilesRefuse (texts files.now)) }
+    ensures refused { IfErr result (FilesRefuse dialect (texts files.now)) }
 {
     let mut modules = Vec::new(alloc);
     let mut notes = Vec::new(alloc);
     let mut number = 0;
     for file in files {
         number += 1;
-        let trace = match trace_file(alloc, number, file) {
+        let trace = match trace_file(alloc, dialect, number, file) {
             Ok(trace) => trace,
             Err(error) => return Err(error),
         };
@@ -137,17 +147,22 @@ fn parts_in<'a>(
     Ok(parts)
 }
 
-/// The listing of a program's sources, 1 to 8, linked for a base.
+/// The listing of a program's sources, 1 to 8 of a dialect, linked for a base.
 ///
 /// [`ListingError::Source`] with the first fault of the first source that has one; [`ListingError::Link`] with what the linker found;
 /// [`ListingError::NoMemory`] where memory is refused.
-pub fn list_sources(alloc: Global, base: Base, files: &[Vec<u8>]) -> Result<Vec<u8>, ListingError>
+pub fn list_sources(
+    alloc: Global,
+    dialect: Dialect,
+    base: Base,
+    files: &[Vec<u8>],
+) -> Result<Vec<u8>, ListingError>
     requires some { 1 ≤ length files.now }
     requires few { length files.now ≤ 8 }
-    ensures listing { IfOk result (λ text. IsListing base (texts files.now) text.items) }
-    ensures refused { IfErr result (Refuses base (texts files.now)) }
+    ensures listing { IfOk result (λ text. IsListing dialect base (texts files.now) text.items) }
+    ensures refused { IfErr result (Refuses dialect base (texts files.now)) }
 {
-    let (modules, notes) = match trace_files(alloc, files) {
+    let (modules, notes) = match trace_files(alloc, dialect, files) {
         Ok(found) => found,
         Err(error) => return Err(error),
     };

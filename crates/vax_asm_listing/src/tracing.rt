@@ -5,7 +5,7 @@ ghost use Rattle.vax_asm.specs.View.{assembly_of, Says};
 ghost use Rattle.vax_asm.specs.Walk.{assembled, ended, nothing, resumed};
 ghost use Rattle.vax_asm_first.specs.View.{standing_of};
 ghost use Rattle.vax_asm_second.specs.View as second;
-ghost use Rattle.vax_dialect.specs.declared.Dialect.TheVariants.{Vax};
+ghost use Rattle.vax_dialect.specs.declared.Dialect.{Dialect};
 ghost use Rattle.vax_macro.specs.Expanders.{FaultIs, read_of, unclosed_of};
 ghost use Rattle.vax_macro.specs.Expansion.{Opened};
 ghost use Rattle.vax_module.specs.Formed.{Formed};
@@ -68,9 +68,11 @@ fn say(
     ensures says { Says result origin said.text.items
         (assembly_of walk.old.standing walk.old.assignments)
         (assembly_of walk.new.standing walk.new.assignments) walk.old.met walk.new.met }
-    ensures rows { OnOk result ((walk.old.met ≡ None → LeadAll (nothing Vax) rows.old.items
+    ensures rows { OnOk result ((dialect : Dialect) →
+        (walk.old.met ≡ None → LeadAll (nothing dialect) rows.old.items
         (assembly_of walk.old.standing walk.old.assignments)) → walk.new.met ≡ None →
-        LeadAll (nothing Vax) rows.new.items (assembly_of walk.new.standing walk.new.assignments)) }
+        LeadAll (nothing dialect) rows.new.items
+        (assembly_of walk.new.standing walk.new.assignments)) }
 {
     let before = point_of(&walk.standing);
     let Ok(copy) = copied(&said.text, alloc) else {
@@ -88,11 +90,11 @@ fn say(
 /// The module and the names, once the source is read to its end.
 #[tactic(auto, using(crate::proofs::Rows::trace_ended))]
 fn end(walk: Walk, alloc: Global, rows: Vec<Row>) -> Result<Trace, FillError>
-    requires { walk.met ≡ None
-        → LeadAll (nothing Vax) rows.items (assembly_of walk.standing walk.assignments) }
     ensures module { Fills result
         (ended (assembly_of walk.standing walk.assignments) walk.met None) }
-    ensures trace { IfOk result IsTrace }
+    ensures trace { (dialect : Dialect) → (walk.met ≡ None
+        → LeadAll (nothing dialect) rows.items (assembly_of walk.standing walk.assignments)) →
+        IfOk result (IsTrace dialect) }
     ensures formed { IfOk result (λ t. Formed t.module) }
 {
     let Ok(labels) = labels_of(alloc, &walk.standing.scope) else {
@@ -118,15 +120,15 @@ fn stop(walk: Walk, alloc: Global, expander: &Expander, line: u32, kind: FaultKi
 }
 
 #[tactic(auto, using(vax_asm::proofs::Opening::walked_opened))]
-fn traced(alloc: Global, source: &[u8]) -> Result<Trace, FillError>
-    ensures module { Fills result (assembled Vax source.now) }
-    ensures trace { IfOk result IsTrace }
+fn traced(alloc: Global, dialect: Dialect, source: &[u8]) -> Result<Trace, FillError>
+    ensures module { Fills result (assembled dialect source.now) }
+    ensures trace { IfOk result (IsTrace dialect) }
     ensures formed { IfOk result (λ t. Formed t.module) }
 {
-    let Ok(mut expander) = Expander::new(alloc, Dialect::Vax, source) else {
+    let Ok(mut expander) = Expander::new(alloc, dialect, source) else {
         return Err(FillError::NoMemory);
     };
-    let Ok(standing) = Standing::new(alloc, Dialect::Vax) else {
+    let Ok(standing) = Standing::new(alloc, dialect) else {
         return Err(FillError::NoMemory);
     };
     let mut walk = Walk {
@@ -161,17 +163,17 @@ fn traced(alloc: Global, source: &[u8]) -> Result<Trace, FillError>
     }
 }
 
-/// The module of a source in MACRO-32 with what each of its statements put where, or its first fault.
+/// The module of a source in a dialect of MACRO-32 with what each of its statements put where, or its first fault.
 ///
 /// [`AsmError`] as for `vax_asm`'s `assemble`.
-pub fn trace(alloc: Global, source: &[u8]) -> Result<Trace, AsmError>
+pub fn trace(alloc: Global, dialect: Dialect, source: &[u8]) -> Result<Trace, AsmError>
     // The module is that of the assembler.
-    ensures module { Answers result (assembled Vax source.now) }
+    ensures module { Answers result (assembled dialect source.now) }
     // The rows are those of its statements, from the first to the last.
-    ensures trace { IfOk result IsTrace }
+    ensures trace { IfOk result (IsTrace dialect) }
     ensures formed { IfOk result (λ t. Formed t.module) }
 {
-    match traced(alloc, source) {
+    match traced(alloc, dialect, source) {
         Ok(trace) => Ok(trace),
         Err(FillError::Fault(fault)) => Err(AsmError::Fault {
             line: fault.origin.line,

@@ -2,6 +2,7 @@
 use std::test::Fail;
 use vax_asm_check::*;
 use vax_asm_second::Fault;
+use vax_dialect::Dialect;
 use vax_macro::FaultKind;
 
 /// Whether these are the lines of faults, with their kinds.
@@ -71,7 +72,7 @@ fn all_faults_are_listed(rt: HostRuntime) -> Result<(), Fail> {
         },
     ];
     for row in &rows {
-        let found = faults(alloc, row.source, 100)?;
+        let found = faults(alloc, Dialect::Vax, row.source, 100)?;
         assert!(rt; are(&found, row.wanted));
     }
     Ok(())
@@ -80,7 +81,7 @@ fn all_faults_are_listed(rt: HostRuntime) -> Result<(), Fail> {
 #[test]
 fn no_more_are_looked_for(rt: HostRuntime) -> Result<(), Fail> {
     let alloc = rt.alloc();
-    let found = faults(alloc, b" HALT R1\n HALT R2\n HALT R3\n", 2)?;
+    let found = faults(alloc, Dialect::Vax, b" HALT R1\n HALT R2\n HALT R3\n", 2)?;
     assert!(rt; are(&found, &[(1, FaultKind::Count), (2, FaultKind::Count)]));
     Ok(())
 }

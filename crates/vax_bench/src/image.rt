@@ -4,6 +4,7 @@ ghost use Rattle.vax_image.specs.Image.{IsImage};
 
 use anyhow::{Result, bail};
 use std::alloc::Global;
+use vax_dialect::Dialect;
 use vax_guest::executive;
 use vax_image::{Base, Image, start};
 use vax_program::{link_parts, read_parts};
@@ -16,7 +17,7 @@ fn image_of(alloc: Global, base: Base, files: &[Vec<u8>]) -> Option<Image>
     ensures sound { IfSome result IsImage }
     ensures base { IfSome result (λ image. image.base ≡ base) }
 {
-    let Ok(parts) = read_parts(alloc, base, 0, files) else {
+    let Ok(parts) = read_parts(alloc, Dialect::Vax, base, 0, files) else {
         return None;
     };
     let Ok(image) = link_parts(alloc, parts) else {

@@ -7,7 +7,7 @@ use Rattle.vax_asm_errors.specs.Errors.{IsErrors, errors, place}
 use Rattle.vax_asm_second.specs.declared.types.Fault.{Fault}
 use Rattle.vax_check.specs.Beginning.{BeginsAtLine}
 use Rattle.vax_check.specs.Told.{AreTold, IsFileTold}
-use Rattle.vax_dialect.specs.declared.Dialect.TheVariants.{Vax}
+use Rattle.vax_dialect.specs.declared.Dialect.{Dialect}
 use Rattle.vax_lines.specs.Lines.{Text}
 use Rattle.vax_module.specs.declared.Module.{Module}
 use Rattle.vax_program.specs.Program.{InImage, Refusal, Source, and_others, is_linked, modules_of}
@@ -22,19 +22,19 @@ grows_not before after e = ([], e ∙ sym (append-nil before))
 grows_on : (before between after : Text) → Grows before between → Grows between after → Grows before after
 grows_on before between after a b = (a.0 ++ b.0, b.1 ∙ ap (λ (l : Text). l ++ b.0) a.1 ∙ append_assoc before a.0 b.0)
 
-file_grows : (name file before after : Text) → IsFileTold name file before after → Grows before after
-file_grows name file before after (inl none) = grows_not before after none.1
-file_grows name file before after (inr some) = (errors name file some.1.said (length some.1.found), some.1.text)
+file_grows : (dialect : Dialect) (name file before after : Text) → IsFileTold dialect name file before after → Grows before after
+file_grows dialect name file before after (inl none) = grows_not before after none.1
+file_grows dialect name file before after (inr some) = (errors name file some.1.said (length some.1.found), some.1.text)
 
-grows : (names files : List Text) (before after : Text) → AreTold names files before after → Grows before after
-grows [] files before after h = grows_not before after h
-grows (name ∷ names) [] before after h = grows_not before after h
-grows (name ∷ names) (file ∷ files) before after h = grows_on before h.0 after (file_grows name file before h.0 h.1) (grows names files h.0 after h.2)
+grows : (dialect : Dialect) (names files : List Text) (before after : Text) → AreTold dialect names files before after → Grows before after
+grows dialect [] files before after h = grows_not before after h
+grows dialect (name ∷ names) [] before after h = grows_not before after h
+grows dialect (name ∷ names) (file ∷ files) before after h = grows_on before h.0 after (file_grows dialect name file before h.0 h.1) (grows dialect names files h.0 after h.2)
 
 -- the errors of a source, and those of the files behind it
-file_begins : (names : List Text) (first : ℕ) (name file before between after : Text) (f : Fault) → IsErrors name file before between → assembled Vax file ≡ Err f → Grows between after → BeginsAtLine (name ∷ names) first first f.origin.line before after
-file_begins names first name file before between after f e is g =
-    let b : BeginsAt name f before between = source_told name file before between f e is in
+file_begins : (dialect : Dialect) (names : List Text) (first : ℕ) (name file before between after : Text) (f : Fault) → IsErrors dialect name file before between → assembled dialect file ≡ Err f → Grows between after → BeginsAtLine (name ∷ names) first first f.origin.line before after
+file_begins dialect names first name file before between after f e is g =
+    let b : BeginsAt name f before between = source_told dialect name file before between f e is in
     let at : Text = place name f.origin.line b.column in
     record {
       name = name;
@@ -51,32 +51,32 @@ behind_err : (r : Result (List Module) Refusal) (first : ℕ) (m : Module) (refu
 behind_err (Ok others) first m refusal e = absurd cc
 behind_err (Err other) first m refusal e = cc
 
-abbrev Goes : List Text → List Text → Type 0
-Goes names files = (first : ℕ) (before after : Text) (file line kind : ℕ) → length files ≤ length names → AreTold names files before after → modules_of first files ≡ Err (Source file line kind) → BeginsAtLine names first file line before after
+abbrev Goes : Dialect → List Text → List Text → Type 0
+Goes dialect names files = (first : ℕ) (before after : Text) (file line kind : ℕ) → length files ≤ length names → AreTold dialect names files before after → modules_of dialect first files ≡ Err (Source file line kind) → BeginsAtLine names first file line before after
 
-by_source : (names files : List Text) (name text : Text) (first : ℕ) (before between after : Text) (file line kind : ℕ) (r : Result Module Fault) → Goes names files → length files ≤ length names → IsErrors name text before between → AreTold names files between after
-    → assembled Vax text ≡ r → and_others first r (modules_of (suc first) files) ≡ Err (Source file line kind) → BeginsAtLine (name ∷ names) first file line before after
-by_source names files name text first before between after file line kind (Err f) next many e told is refused =
-    let b = file_begins names first name text before between after f e is (grows names files between after told) in
+by_source : (dialect : Dialect) (names files : List Text) (name text : Text) (first : ℕ) (before between after : Text) (file line kind : ℕ) (r : Result Module Fault) → Goes dialect names files → length files ≤ length names → IsErrors dialect name text before between → AreTold dialect names files between after
+    → assembled dialect text ≡ r → and_others first r (modules_of dialect (suc first) files) ≡ Err (Source file line kind) → BeginsAtLine (name ∷ names) first file line before after
+by_source dialect names files name text first before between after file line kind (Err f) next many e told is refused =
+    let b = file_begins dialect names first name text before between after f e is (grows dialect names files between after told) in
     let same_file : first ≡ file = cc in
     let same_line : f.origin.line ≡ line = cc in
     subst (λ (n : ℕ). BeginsAtLine (name ∷ names) first n line before after) same_file (subst (λ (n : ℕ). BeginsAtLine (name ∷ names) first first n before after) same_line b)
-by_source names files name text first before between after file line kind (Ok m) next many e told is refused =
-    let none : between ≡ before = none_told name text before between m e is in
+by_source dialect names files name text first before between after file line kind (Ok m) next many e told is refused =
+    let none : between ≡ before = none_told dialect name text before between m e is in
     later names name first file line before after
-    (next (suc first) before after file line kind many (subst (λ (t : Text). AreTold names files t after) none told) (behind_err (modules_of (suc first) files) first m (Source file line kind) refused))
+    (next (suc first) before after file line kind many (subst (λ (t : Text). AreTold dialect names files t after) none told) (behind_err (modules_of dialect (suc first) files) first m (Source file line kind) refused))
 
-by_file : (names files : List Text) (name text : Text) (first : ℕ) (before between after : Text) (file line kind : ℕ) (b : Bool) → is_linked text ≡ b → Goes names files → length files ≤ length names → IsFileTold name text before between → AreTold names files between after
-    → cond b (Err (InImage 0 11)) (and_others first (assembled Vax text) (modules_of (suc first) files)) ≡ Err (Source file line kind) → BeginsAtLine (name ∷ names) first file line before after
-by_file names files name text first before between after file line kind true is next many h told refused = absurd cc
-by_file names files name text first before between after file line kind false is next many (inl none) told refused = absurd (let linked : is_linked text ≡ true = none.0 in cc)
-by_file names files name text first before between after file line kind false is next many (inr some) told refused = by_source names files name text first before between after file line kind (assembled Vax text) next many some.1 told refl refused
+by_file : (dialect : Dialect) (names files : List Text) (name text : Text) (first : ℕ) (before between after : Text) (file line kind : ℕ) (b : Bool) → is_linked text ≡ b → Goes dialect names files → length files ≤ length names → IsFileTold dialect name text before between → AreTold dialect names files between after
+    → cond b (Err (InImage 0 11)) (and_others first (assembled dialect text) (modules_of dialect (suc first) files)) ≡ Err (Source file line kind) → BeginsAtLine (name ∷ names) first file line before after
+by_file dialect names files name text first before between after file line kind true is next many h told refused = absurd cc
+by_file dialect names files name text first before between after file line kind false is next many (inl none) told refused = absurd (let linked : is_linked text ≡ true = none.0 in cc)
+by_file dialect names files name text first before between after file line kind false is next many (inr some) told refused = by_source dialect names files name text first before between after file line kind (assembled dialect text) next many some.1 told refl refused
 
-goes : (names files : List Text) → Goes names files
-goes names [] = λ first before after file line kind many told refused. absurd cc
-goes [] (text ∷ files) = λ first before after file line kind many told refused. absurd (omega arith)
-goes (name ∷ names) (text ∷ files) = λ first before after file line kind many told refused.
-    by_file names files name text first before told.0 after file line kind (is_linked text) refl (goes names files) (omega arith) told.1 told.2 refused
+goes : (dialect : Dialect) (names files : List Text) → Goes dialect names files
+goes dialect names [] = λ first before after file line kind many told refused. absurd cc
+goes dialect [] (text ∷ files) = λ first before after file line kind many told refused. absurd (omega arith)
+goes dialect (name ∷ names) (text ∷ files) = λ first before after file line kind many told refused.
+    by_file dialect names files name text first before told.0 after file line kind (is_linked text) refl (goes dialect names files) (omega arith) told.1 told.2 refused
 
-pub refused_told : (first : ℕ) (names files : List Text) (before after : Text) (file line kind : ℕ) → length files ≤ length names → AreTold names files before after → modules_of first files ≡ Err (Source file line kind) → BeginsAtLine names first file line before after
-refused_told first names files before after file line kind many told refused = goes names files first before after file line kind many told refused
+pub refused_told : (dialect : Dialect) (first : ℕ) (names files : List Text) (before after : Text) (file line kind : ℕ) → length files ≤ length names → AreTold dialect names files before after → modules_of dialect first files ≡ Err (Source file line kind) → BeginsAtLine names first file line before after
+refused_told dialect first names files before after file line kind many told refused = goes dialect names files first before after file line kind many told refused

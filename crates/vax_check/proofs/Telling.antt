@@ -7,6 +7,7 @@ use Rattle.std.specs.Global.{Vec}
 use Rattle.std.specs.Prelude.{slice_index_or}
 use Rattle.vax_check.specs.Told.{AreRemarked, AreTold, IsFileRemarked, IsFileTold}
 use Rattle.vax_check.specs.View.{names_of}
+use Rattle.vax_dialect.specs.declared.Dialect.{Dialect}
 use Rattle.vax_lines.specs.Lines.{Text}
 use Rattle.vax_program.specs.View.{texts}
 
@@ -23,20 +24,20 @@ past : (names files i stop : ℕ) → stop ≡ min names files → stop ≤ i �
 past names files i stop e h = past_by names files i stop e h (cases_lt i names) (cases_lt i files)
 
 -- the errors of one more file, and of no more
-pub file_more : {All : Text → Type 0} (names : List (Bor Text)) (files : List (Vec ℕ)) (i : ℕ) (n : Bor Text) (f : Vec ℕ) (before between : Text) → i < length names → i < length files → n ≡ slice_index_or names i n → f ≡ slice_index_or files i f → IsFileTold n.now f.items before between
-    → ((after : Text) → AreTold (names_of (drop i names)) (texts (drop i files)) before after → All after) → (after : Text) → AreTold (names_of (drop (i + 1) names)) (texts (drop (i + 1) files)) between after → All after
-file_more names files i n f before between hn hf en ef h all after more = all after (rw (here names i n hn en, here files i f hf ef) (between, h, more))
+pub file_more : {All : Text → Type 0} (dialect : Dialect) (names : List (Bor Text)) (files : List (Vec ℕ)) (i : ℕ) (n : Bor Text) (f : Vec ℕ) (before between : Text) → i < length names → i < length files → n ≡ slice_index_or names i n → f ≡ slice_index_or files i f → IsFileTold dialect n.now f.items before between
+    → ((after : Text) → AreTold dialect (names_of (drop i names)) (texts (drop i files)) before after → All after) → (after : Text) → AreTold dialect (names_of (drop (i + 1) names)) (texts (drop (i + 1) files)) between after → All after
+file_more dialect names files i n f before between hn hf en ef h all after more = all after (rw (here names i n hn en, here files i f hf ef) (between, h, more))
 
-none_told : (names : List Text) (before : Text) → AreTold names [] before before
-none_told [] before = refl
-none_told (name ∷ names) before = refl
+none_told : (dialect : Dialect) (names : List Text) (before : Text) → AreTold dialect names [] before before
+none_told dialect [] before = refl
+none_told dialect (name ∷ names) before = refl
 
-files_done_by : {All : Text → Type 0} (names : List (Bor Text)) (files : List (Vec ℕ)) (i : ℕ) (before : Text) → (length names ≤ i) ⊎ (length files ≤ i) → ((after : Text) → AreTold (names_of (drop i names)) (texts (drop i files)) before after → All after) → All before
-files_done_by names files i before (inl few) all = all before (rw (drop_all i names few) refl)
-files_done_by names files i before (inr few) all = all before (rw (drop_all i files few) (none_told (names_of (drop i names)) before))
+files_done_by : {All : Text → Type 0} (dialect : Dialect) (names : List (Bor Text)) (files : List (Vec ℕ)) (i : ℕ) (before : Text) → (length names ≤ i) ⊎ (length files ≤ i) → ((after : Text) → AreTold dialect (names_of (drop i names)) (texts (drop i files)) before after → All after) → All before
+files_done_by dialect names files i before (inl few) all = all before (rw (drop_all i names few) refl)
+files_done_by dialect names files i before (inr few) all = all before (rw (drop_all i files few) (none_told dialect (names_of (drop i names)) before))
 
-pub files_done : {All : Text → Type 0} (names : List (Bor Text)) (files : List (Vec ℕ)) (i stop : ℕ) (before : Text) → stop ≡ min (length names) (length files) → stop ≤ i → ((after : Text) → AreTold (names_of (drop i names)) (texts (drop i files)) before after → All after) → All before
-files_done names files i stop before e h all = files_done_by names files i before (past (length names) (length files) i stop e h) all
+pub files_done : {All : Text → Type 0} (dialect : Dialect) (names : List (Bor Text)) (files : List (Vec ℕ)) (i stop : ℕ) (before : Text) → stop ≡ min (length names) (length files) → stop ≤ i → ((after : Text) → AreTold dialect (names_of (drop i names)) (texts (drop i files)) before after → All after) → All before
+files_done dialect names files i stop before e h all = files_done_by dialect names files i before (past (length names) (length files) i stop e h) all
 
 -- the remarks on one more file, and on no more
 pub remark_more : {All : Text → Type 0} (names : List (Bor Text)) (files : List (Vec ℕ)) (i : ℕ) (n : Bor Text) (f : Vec ℕ) (before between : Text) → i < length names → i < length files → n ≡ slice_index_or names i n → f ≡ slice_index_or files i f → IsFileRemarked n.now f.items before between

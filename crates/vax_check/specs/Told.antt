@@ -2,19 +2,20 @@
 use Rattle.std.specs.Prelude.{◌≡◌, ◌⊎◌, ℕ, ◌==◌, ◌||◌, true, false, if◌then◌else◌, List, [], ◌∷◌, ◌++◌, codes, decimal, Option, None, Some}
 use Rattle.vax_asm_errors.specs.Errors.{IsErrors}
 use Rattle.vax_asm_errors.specs.Remarks.{IsRemarked}
+use Rattle.vax_dialect.specs.declared.Dialect.{Dialect}
 use Rattle.vax_lines.specs.Lines.{Text}
 use Rattle.vax_outside.specs.Hex.{hex}
 use Rattle.vax_program.specs.Program.{Refusal, Source, Link, InImage, is_linked}
 
--- the errors of one file were added, if it is a source
-abbrev pub IsFileTold : (name file before after : Text) → Type 0
-IsFileTold name file before after = ((is_linked file ≡ true) × (after ≡ before)) ⊎ ((is_linked file ≡ false) × IsErrors name file before after)
+-- the errors of one file of a dialect were added, if it is a source
+abbrev pub IsFileTold : Dialect → (name file before after : Text) → Type 0
+IsFileTold dialect name file before after = ((is_linked file ≡ true) × (after ≡ before)) ⊎ ((is_linked file ≡ false) × IsErrors dialect name file before after)
 
--- the errors of all sources among these files, in order
-abbrev pub AreTold : (names files : List Text) → (before after : Text) → Type 0
-AreTold [] files before after = after ≡ before
-AreTold (name ∷ names) [] before after = after ≡ before
-AreTold (name ∷ names) (file ∷ files) before after = (between : Text) × IsFileTold name file before between × AreTold names files between after
+-- the errors of all sources of a dialect among these files, in order
+abbrev pub AreTold : Dialect → (names files : List Text) → (before after : Text) → Type 0
+AreTold dialect [] files before after = after ≡ before
+AreTold dialect (name ∷ names) [] before after = after ≡ before
+AreTold dialect (name ∷ names) (file ∷ files) before after = (between : Text) × IsFileTold dialect name file before between × AreTold dialect names files between after
 
 -- remarks on one file were added, if it is a source
 abbrev pub IsFileRemarked : (name file before after : Text) → Type 0
@@ -90,12 +91,12 @@ unfoldable pub image_text : ℕ → ℕ → Text
 image_text place kind = image_head kind ++ image_words kind ++ image_place place
 
 -- the faults of all sources, or what the linker found, or the fault of an image's or an executable's file
-abbrev pub AreErrorsOf : (names files : List Text) → Refusal → Text → Type 0
-AreErrorsOf names files (Source file line kind) text = AreTold names files [] text
-AreErrorsOf names files (Link kind name address) text = text ≡ link_text kind name address
-AreErrorsOf names files (InImage place kind) text = text ≡ image_text place kind
+abbrev pub AreErrorsOf : Dialect → (names files : List Text) → Refusal → Text → Type 0
+AreErrorsOf dialect names files (Source file line kind) text = AreTold dialect names files [] text
+AreErrorsOf dialect names files (Link kind name address) text = text ≡ link_text kind name address
+AreErrorsOf dialect names files (InImage place kind) text = text ≡ image_text place kind
 
 -- What is told of files: why they give no program, if they give none, and then remarks on their sources.
-abbrev pub Tells : (names files : List Text) → Option Refusal → Text → Type 0
-Tells names files None text = AreRemarked names files [] text
-Tells names files (Some refusal) text = (errors : Text) × AreErrorsOf names files refusal errors × AreRemarked names files errors text
+abbrev pub Tells : Dialect → (names files : List Text) → Option Refusal → Text → Type 0
+Tells dialect names files None text = AreRemarked names files [] text
+Tells dialect names files (Some refusal) text = (errors : Text) × AreErrorsOf dialect names files refusal errors × AreRemarked names files errors text

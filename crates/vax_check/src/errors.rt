@@ -8,6 +8,7 @@ ghost use Rattle.vax_program.specs.View.{texts as texts_seen};
 
 use std::alloc::Global;
 use vax_asm_errors::{Source, push_errors};
+use vax_dialect::Dialect;
 use vax_elf::is_executable;
 use vax_space::NoMemory;
 
@@ -26,34 +27,35 @@ pub(crate) fn is_linked(file: &[u8]) -> bool
 }
 
 /// Appends the errors of a file, if it is a source.
-fn push_file<'a>(
-    alloc: Global,
-    out: &mut Vec<u8>,
-    name: &'a [u8],
-    text: &'a [u8],
-) -> Result<(), NoMemory>
-    ensures { OnOk result (IsFileTold name.now text.now
+fn push_file(alloc: Global, out: &mut Vec<u8>, file: Source<'_>) -> Result<(), NoMemory>
+    ensures { OnOk result (IsFileTold file.entry.dialect file.entry.name.now file.entry.text.now
         out.old.items out.new.items) }
 {
-    if is_linked(text) {
+    if is_linked(file.text) {
         return Ok(());
     }
-    let source = Source { name, text };
-    push_errors(alloc, out, source)
+    push_errors(alloc, out, file)
 }
 
-/// The errors of all sources among these files, in order.
+/// The errors of all sources of a dialect among these files, in order.
 #[tactic(auto, using(crate::proofs::Telling::file_more))]
 pub(crate) fn errors_of(
     alloc: Global,
+    dialect: Dialect,
     names: &[&str],
     texts: &[Vec<u8>],
 ) -> Result<Vec<u8>, NoMemory>
-    ensures { IfOk result (λ v. AreTold (names_of names.now) (texts_seen texts.now) [] v.items) }
+    ensures { IfOk result
+        (λ v. AreTold dialect (names_of names.now) (texts_seen texts.now) [] v.items) }
 {
     let mut out = Vec::new(alloc);
     for i in 0..names.len().min(texts.len()) {
-        push_file(alloc, &mut out, names[i].as_bytes(), &texts[i])?;
+        let file = Source {
+            dialect,
+            name: names[i].as_bytes(),
+            text: &texts[i],
+        };
+        push_file(alloc, &mut out, file)?;
     }
     Ok(out)
 }

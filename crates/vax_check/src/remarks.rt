@@ -6,26 +6,25 @@ ghost use Rattle.vax_check.specs.View.{names_of};
 ghost use Rattle.vax_program.specs.View.{texts as texts_seen};
 
 use crate::errors::is_linked;
+use crate::text::Files;
 use std::alloc::Global;
 use vax_asm_errors::{Source, Wanted, push_remarks};
 use vax_space::NoMemory;
 
 /// Appends remarks on a file, if it is a source.
-fn push_file<'a>(
+fn push_file(
     alloc: Global,
     out: &mut Vec<u8>,
-    name: &'a [u8],
-    text: &'a [u8],
+    file: Source<'_>,
     wanted: Wanted<'_>,
 ) -> Result<(), NoMemory>
-    ensures { OnOk result (IsFileRemarked name.now text.now
+    ensures { OnOk result (IsFileRemarked file.entry.name.now file.entry.text.now
         out.old.items out.new.items) }
 {
-    if is_linked(text) {
+    if is_linked(file.text) {
         return Ok(());
     }
-    let source = Source { name, text };
-    push_remarks(alloc, out, source, wanted)
+    push_remarks(alloc, out, file, wanted)
 }
 
 /// Appends remarks on all sources among these files, in order.
@@ -33,15 +32,19 @@ fn push_file<'a>(
 pub(crate) fn push_each(
     alloc: Global,
     out: &mut Vec<u8>,
-    names: &[&str],
-    texts: &[Vec<u8>],
+    files: Files<'_>,
     wanted: Wanted<'_>,
 ) -> Result<(), NoMemory>
-    ensures { OnOk result (AreRemarked (names_of names.now) (texts_seen texts.now)
-        out.old.items out.new.items) }
+    ensures { OnOk result (AreRemarked (names_of files.entry.names.now)
+        (texts_seen files.entry.texts.now) out.old.items out.new.items) }
 {
-    for i in 0..names.len().min(texts.len()) {
-        push_file(alloc, out, names[i].as_bytes(), &texts[i], wanted)?;
+    for i in 0..files.names.len().min(files.texts.len()) {
+        let file = Source {
+            dialect: files.dialect,
+            name: files.names[i].as_bytes(),
+            text: &files.texts[i],
+        };
+        push_file(alloc, out, file, wanted)?;
     }
     Ok(())
 }

@@ -12,12 +12,15 @@ use crate::refusal::link_text;
 use crate::remarks::push_each;
 use std::alloc::Global;
 use vax_asm_errors::Wanted;
+use vax_dialect::Dialect;
 use vax_program::Refusal;
 use vax_space::NoMemory;
 
-/// The files of a program: their names and their bytes, one for each name; and whether it is one for the bare machine.
+/// The files of a program: the dialect of its sources, their names and their bytes, one for each name; and whether it is one for the
+/// bare machine.
 #[derive(Clone, Copy)]
 pub struct Files<'a> {
+    pub dialect: Dialect,
     pub names: &'a [&'a str],
     pub texts: &'a [Vec<u8>],
     pub bare: bool,
@@ -25,11 +28,12 @@ pub struct Files<'a> {
 
 /// Why files give no program.
 fn errors_in(alloc: Global, files: Files<'_>, refusal: &Refusal) -> Result<Vec<u8>, NoMemory>
-    ensures { IfOk result (λ v. AreErrorsOf (names_of files.entry.names.now)
-        (texts files.entry.texts.now) (refusal_seen refusal.now) v.items) }
+    ensures { IfOk result (λ v. AreErrorsOf files.entry.dialect
+        (names_of files.entry.names.now) (texts files.entry.texts.now) (refusal_seen refusal.now)
+        v.items) }
 {
     match refusal {
-        Refusal::Source { .. } => errors_of(alloc, files.names, files.texts),
+        Refusal::Source { .. } => errors_of(alloc, files.dialect, files.names, files.texts),
         Refusal::Link {
             kind,
             name,
@@ -71,19 +75,14 @@ pub fn text_of(
     files: Files<'_>,
     refusal: Option<&Refusal>,
 ) -> Result<Vec<u8>, NoMemory>
-    ensures { IfOk result (λ v. Tells (names_of files.entry.names.now) (texts files.entry.texts.now)
+    ensures { IfOk result (λ v. Tells files.entry.dialect
+        (names_of files.entry.names.now) (texts files.entry.texts.now)
         (option_map (λ r. refusal_seen r.now) refusal.entry) v.items) }
 {
     let mut out = match refusal {
         Some(refusal) => errors_in(alloc, files, refusal)?,
         None => Vec::new(alloc),
     };
-    push_each(
-        alloc,
-        &mut out,
-        files.names,
-        files.texts,
-        wanted(files.bare, refusal),
-    )?;
+    push_each(alloc, &mut out, files, wanted(files.bare, refusal))?;
     Ok(out)
 }

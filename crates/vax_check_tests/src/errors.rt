@@ -1,6 +1,7 @@
 //! The errors of sources as text.
 use std::test::Fail;
 use vax_asm_errors::{Source, push_errors};
+use vax_dialect::Dialect;
 
 /// A source and what is told of it.
 #[derive(Clone, Copy)]
@@ -9,14 +10,19 @@ struct Row<'a> {
     told: &'a str,
 }
 
-fn tells(rt: &HostRuntime, row: Row<'_>) -> Result<bool, Fail> {
+fn tells_in(rt: &HostRuntime, dialect: Dialect, row: Row<'_>) -> Result<bool, Fail> {
     let mut out = Vec::new(rt.alloc());
     let source = Source {
+        dialect,
         name: b"a.mar",
         text: row.source.as_bytes(),
     };
     push_errors(rt.alloc(), &mut out, source)?;
     Ok(out.as_slice() == row.told.as_bytes())
+}
+
+fn tells(rt: &HostRuntime, row: Row<'_>) -> Result<bool, Fail> {
+    tells_in(rt, Dialect::Vax, row)
 }
 
 #[test]
@@ -112,10 +118,30 @@ fn more_than_a_hundred_are_counted(rt: HostRuntime) -> Result<(), Fail> {
     }
     let mut out = Vec::new(rt.alloc());
     let source = Source {
+        dialect: Dialect::Vax,
         name: b"a.mar",
         text: &source,
     };
     push_errors(rt.alloc(), &mut out, source)?;
     assert!(rt; out.ends_with(b" MOVX\n ^\na.mar: error: 20 more in this file\n"));
+    Ok(())
+}
+
+#[test]
+fn sources_of_the_larger_dialect_have_its_errors(rt: HostRuntime) -> Result<(), Fail> {
+    let rows = [
+        Row {
+            source: " .NCHR N,<AB CD>\n .BYTE N\n",
+            told: "",
+        },
+        Row {
+            source: " .ODD\n .BYTE 256\n",
+            told: "a.mar:2:8: error: 7: a number or a distance is out of range: a byte holds -128 to 255, not 256\n .BYTE 256\n       ^\n",
+        },
+    ];
+    for row in rows {
+        assert!(rt; tells_in(&rt, Dialect::Vms, row)?);
+        assert!(rt; !tells(&rt, row)?);
+    }
     Ok(())
 }

@@ -1,6 +1,7 @@
 // From files to images.
 use std::alloc::Global;
 use std::test::Fail;
+use vax_dialect::Dialect;
 use vax_image::{Base, Image};
 use vax_program::*;
 
@@ -19,7 +20,7 @@ fn image_of(alloc: Global, base: Base, texts: &[&[u8]]) -> Result<Result<Image, 
     if files.is_empty() || files.len() > 8 {
         return Ok(Err(String::new(alloc)));
     }
-    let parts = match read_parts(alloc, base, 1, &files) {
+    let parts = match read_parts(alloc, Dialect::Vax, base, 1, &files) {
         Ok(parts) => parts,
         Err(error) => return Ok(Err(format!(in alloc; "{error}")?)),
     };

@@ -1,6 +1,7 @@
 //! Listings of programs.
 use std::test::Fail;
 use vax_asm_listing::{ListingError, list_sources};
+use vax_dialect::Dialect;
 use vax_image::Base;
 
 /// A program with a text, a macro and a call of it.
@@ -45,7 +46,7 @@ ENTRY 00000221
 fn listing_of(rt: &HostRuntime, source: &str) -> Result<Vec<u8>, ListingError> {
     let file = Vec::from_slice(rt.alloc(), source.as_bytes())?;
     let files = vec![in rt.alloc(); file]?;
-    list_sources(rt.alloc(), Base::User, &files)
+    list_sources(rt.alloc(), Dialect::Vax, Base::User, &files)
 }
 
 #[test]

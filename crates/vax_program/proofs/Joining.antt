@@ -4,7 +4,7 @@ use Rattle.std.specs.Prelude.{Vec, Result, Ok, Err, slice_index_or}
 use Rattle.std.specs.Global.{Global}
 use Rattle.vax_asm.specs.Walk.{assembled}
 use Rattle.vax_asm_second.specs.declared.types.Fault.{Fault}
-use Rattle.vax_dialect.specs.declared.Dialect.TheVariants.{Vax}
+use Rattle.vax_dialect.specs.declared.Dialect.{Dialect}
 use Rattle.vax_module.specs.declared.Module.{Module}
 use Rattle.vax_program.specs.Program.{Refusal, InImage, and_others, is_linked, modules_of}
 use Rattle.vax_program.specs.View.{Answers, refusal_seen, texts}
@@ -37,33 +37,33 @@ moved : (modules : List Module) (file : ℕ) (m : Module) (rest : Result (List M
 moved modules file m (Ok others) = ap Ok (append_assoc modules (m ∷ []) others)
 moved modules file m (Err e) = refl
 
-pub one_more : (file : ℕ) (modules : List Module) (m : Module) (all : Result (List Module) Refusal) (xs : List (Vec ℕ Global)) (i : ℕ) (x : Vec ℕ Global) → i < length xs → x ≡ slice_index_or xs i x
-    → modules_of file (x.items ∷ []) ≡ Ok (m ∷ [])
-    → ahead modules (modules_of file (texts (drop i xs))) ≡ all
-    → ahead (modules ++ m ∷ []) (modules_of (file + 1) (texts (drop (i + 1) xs))) ≡ all
-one_more file modules m all xs i x h at is same =
-    let rest = modules_of (suc file) (texts (drop (i + 1) xs)) in
-    let front : modules_of file (x.items ∷ texts (drop (i + 1) xs)) ≡ and_others file (Ok m) rest = taken (is_linked x.items) (assembled Vax x.items) file m rest is in
+pub one_more : (dialect : Dialect) (file : ℕ) (modules : List Module) (m : Module) (all : Result (List Module) Refusal) (xs : List (Vec ℕ Global)) (i : ℕ) (x : Vec ℕ Global) → i < length xs → x ≡ slice_index_or xs i x
+    → modules_of dialect file (x.items ∷ []) ≡ Ok (m ∷ [])
+    → ahead modules (modules_of dialect file (texts (drop i xs))) ≡ all
+    → ahead (modules ++ m ∷ []) (modules_of dialect (file + 1) (texts (drop (i + 1) xs))) ≡ all
+one_more dialect file modules m all xs i x h at is same =
+    let rest = modules_of dialect (suc file) (texts (drop (i + 1) xs)) in
+    let front : modules_of dialect file (x.items ∷ texts (drop (i + 1) xs)) ≡ and_others file (Ok m) rest = taken (is_linked x.items) (assembled dialect x.items) file m rest is in
     rw add-one (moved modules file m rest)
     ∙ ap (ahead modules) (sym front)
-    ∙ ap (λ (l : List (List ℕ)). ahead modules (modules_of file l)) (sym (split_at xs i x h at))
+    ∙ ap (λ (l : List (List ℕ)). ahead modules (modules_of dialect file l)) (sym (split_at xs i x h at))
     ∙ same
 
-pub refused : (file : ℕ) (modules : List Module) (e : Refusal) (all : Result (List Module) Refusal) (xs : List (Vec ℕ Global)) (i : ℕ) (x : Vec ℕ Global) → i < length xs → x ≡ slice_index_or xs i x
-    → modules_of file (x.items ∷ []) ≡ Err e
-    → ahead modules (modules_of file (texts (drop i xs))) ≡ all
+pub refused : (dialect : Dialect) (file : ℕ) (modules : List Module) (e : Refusal) (all : Result (List Module) Refusal) (xs : List (Vec ℕ Global)) (i : ℕ) (x : Vec ℕ Global) → i < length xs → x ≡ slice_index_or xs i x
+    → modules_of dialect file (x.items ∷ []) ≡ Err e
+    → ahead modules (modules_of dialect file (texts (drop i xs))) ≡ all
     → all ≡ Err e
-refused file modules e all xs i x h at is same =
+refused dialect file modules e all xs i x h at is same =
     sym same
-    ∙ ap (λ (l : List (List ℕ)). ahead modules (modules_of file l)) (split_at xs i x h at)
-    ∙ ap (ahead modules) (not_taken (is_linked x.items) (assembled Vax x.items) file e (modules_of (suc file) (texts (drop (i + 1) xs))) is)
+    ∙ ap (λ (l : List (List ℕ)). ahead modules (modules_of dialect file l)) (split_at xs i x h at)
+    ∙ ap (ahead modules) (not_taken (is_linked x.items) (assembled dialect x.items) file e (modules_of dialect (suc file) (texts (drop (i + 1) xs))) is)
 
 pub ahead_nil : (front : List Module) (all : Result (List Module) Refusal) → front ≡ [] → ahead front all ≡ all
 ahead_nil front (Ok others) e = rw e refl
 ahead_nil front (Err refusal) e = refl
 
-pub ahead_all : (modules : List Module) (file : ℕ) (rest : List (List ℕ)) (all : Result (List Module) Refusal) → rest ≡ [] → ahead modules (modules_of file rest) ≡ all → all ≡ Ok modules
-ahead_all modules file rest all none same = sym (rw (none, append-nil) at same)
+pub ahead_all : (dialect : Dialect) (modules : List Module) (file : ℕ) (rest : List (List ℕ)) (all : Result (List Module) Refusal) → rest ≡ [] → ahead modules (modules_of dialect file rest) ≡ all → all ≡ Ok modules
+ahead_all dialect modules file rest all none same = sym (rw (none, append-nil) at same)
 
 -- an error of one file is that of all
 pub err_step : (e : ProgramError) (r : Result (Vec Module Global) ProgramError) (one all : Result (List Module) Refusal) → IsErrAnd r (λ x. x ≡ e) → Answers (λ (m : Module). m ∷ []) (Err e) one

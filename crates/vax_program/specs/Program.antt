@@ -3,7 +3,7 @@ use Rattle.std.specs.Prelude.{ℕ, suc, List, [], ◌∷◌, Result, Ok, Err, Bo
 use Rattle.std.specs.Str.{bytes_eq}
 use Rattle.vax_asm.specs.Walk.{assembled}
 use Rattle.vax_asm_second.specs.declared.types.Fault.{Fault}
-use Rattle.vax_dialect.specs.declared.Dialect.TheVariants.{Vax}
+use Rattle.vax_dialect.specs.declared.Dialect.{Dialect}
 use Rattle.vax_elf.specs.Executable.{is_executable}
 use Rattle.vax_elf.specs.Faults.{code_of as elf_code_of}
 use Rattle.vax_elf.specs.Reading as elf
@@ -67,23 +67,23 @@ and_others file (Err fault) others = Err (Source file fault.origin.line (code_of
 and_others file (Ok m) (Ok others) = Ok (m ∷ others)
 and_others file (Ok m) (Err refusal) = Err refusal
 
--- Sources in order. A linked program among several files has a fault at its head.
-abbrev pub modules_of : ℕ → List (List ℕ) → Result (List Module) Refusal
-modules_of file [] = Ok []
-modules_of file (text ∷ texts) =
-    if is_linked text then Err (InImage 0 11) else and_others file (assembled Vax text) (modules_of (suc file) texts)
+-- Sources of a dialect in order. A linked program among several files has a fault at its head.
+abbrev pub modules_of : Dialect → ℕ → List (List ℕ) → Result (List Module) Refusal
+modules_of dialect file [] = Ok []
+modules_of dialect file (text ∷ texts) =
+    if is_linked text then Err (InImage 0 11) else and_others file (assembled dialect text) (modules_of dialect (suc file) texts)
 
 abbrev pub as_parts : Base → Result (List Module) Refusal → Result Parts Refusal
 as_parts wanted (Ok modules) = Ok (Modules wanted modules)
 as_parts wanted (Err refusal) = Err refusal
 
--- The parts of a program for a base; its files are numbered from the first number on.
-unfoldable pub parts_of : Base → ℕ → List (List ℕ) → Result Parts Refusal
-parts_of base first [] = as_parts base (modules_of first [])
-parts_of base first (text ∷ []) =
+-- The parts of a program for a base, whose sources are of a dialect; its files are numbered from the first number on.
+unfoldable pub parts_of : Dialect → Base → ℕ → List (List ℕ) → Result Parts Refusal
+parts_of dialect base first [] = as_parts base (modules_of dialect first [])
+parts_of dialect base first (text ∷ []) =
     if is_image text then from_image base (image_of text)
-    else (if is_executable text then from_executable base (elf.image_of text) else as_parts base (modules_of first (text ∷ [])))
-parts_of base first (text ∷ other ∷ texts) = as_parts base (modules_of first (text ∷ other ∷ texts))
+    else (if is_executable text then from_executable base (elf.image_of text) else as_parts base (modules_of dialect first (text ∷ [])))
+parts_of dialect base first (text ∷ other ∷ texts) = as_parts base (modules_of dialect first (text ∷ other ∷ texts))
 
 abbrev pub from_link : Result Image LinkError → Result Image Refusal
 from_link (Ok image) = Ok image

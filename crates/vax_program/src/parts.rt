@@ -98,8 +98,13 @@ fn read_executable(alloc: Global, base: Base, file: &[u8]) -> Result<Parts, Prog
 }
 
 /// The module of a source among several files.
-fn module_of(alloc: Global, file: u8, source: &[u8]) -> Result<Module, ProgramError>
-    ensures modules { Answers (λ m. m ∷ []) result (modules_of file (source.now ∷ [])) }
+fn module_of(
+    alloc: Global,
+    dialect: Dialect,
+    file: u8,
+    source: &[u8],
+) -> Result<Module, ProgramError>
+    ensures modules { Answers (λ m. m ∷ []) result (modules_of dialect file (source.now ∷ [])) }
     ensures formed { IfOk result Formed }
 {
     if is_linked(source) {
@@ -108,7 +113,7 @@ fn module_of(alloc: Global, file: u8, source: &[u8]) -> Result<Module, ProgramEr
             kind: NOT_ALONE,
         }));
     }
-    match assemble(alloc, Dialect::Vax, source) {
+    match assemble(alloc, dialect, source) {
         Ok(module) => Ok(module),
         Err(AsmError::Fault { line, kind }) => Err(ProgramError::Refused(Refusal::Source {
             file,
@@ -119,18 +124,23 @@ fn module_of(alloc: Global, file: u8, source: &[u8]) -> Result<Module, ProgramEr
     }
 }
 
-/// The modules of sources.
+/// The modules of sources of a dialect.
 #[tactic(auto, using(crate::proofs::Joining::one_more, crate::proofs::Joining::refused))]
-fn read_sources(alloc: Global, first: u8, files: &[Vec<u8>]) -> Result<Vec<Module>, ProgramError>
+fn read_sources(
+    alloc: Global,
+    dialect: Dialect,
+    first: u8,
+    files: &[Vec<u8>],
+) -> Result<Vec<Module>, ProgramError>
     requires few { first + length files.now ≤ 255 }
-    ensures modules { Answers (λ v. v.items) result (modules_of first (texts files.now)) }
+    ensures modules { Answers (λ v. v.items) result (modules_of dialect first (texts files.now)) }
     ensures formed { IfOk result (λ v. All Formed v.items) }
     ensures count { IfOk result (λ v. length v.items ≡ length files.now) }
 {
     let mut modules = Vec::new(alloc);
     let mut number = first;
     for file in files {
-        let module = module_of(alloc, number, file)?;
+        let module = module_of(alloc, dialect, number, file)?;
         modules.push(module)?;
         number += 1;
     }
@@ -138,13 +148,14 @@ fn read_sources(alloc: Global, first: u8, files: &[Vec<u8>]) -> Result<Vec<Modul
 }
 
 /// The parts of a program for a base, whose files are numbered from `first` on: an image or an executable that
-/// stands alone, or sources.
+/// stands alone, or sources, which are of a dialect. To an image or an executable the dialect means nothing.
 ///
 /// [`Refusal::Source`] with the first fault of the first source that has one; [`Refusal::Image`] with the first fault of an
 /// image's or an executable's file, also where it is one for another base, or where it stands among several files; [`ProgramError::NoMemory`] where memory is refused.
 #[tactic(auto, unfolding(crate::specs::Program::parts_of))]
 pub fn read_parts(
     alloc: Global,
+    dialect: Dialect,
     base: Base,
     first: u8,
     files: &[Vec<u8>],
@@ -152,7 +163,7 @@ pub fn read_parts(
     requires some { 1 ≤ length files.now }
     requires few { length files.now ≤ 8 }
     requires numbers { first + length files.now ≤ 255 }
-    ensures parts { Answers parts_seen result (parts_of base first (texts files.now)) }
+    ensures parts { Answers parts_seen result (parts_of dialect base first (texts files.now)) }
     ensures sound { IfOk result IsSound }
     ensures base { IfOk result (λ p. base_of p ≡ base) }
 {
@@ -164,6 +175,6 @@ pub fn read_parts(
             return read_executable(alloc, base, file);
         }
     }
-    let list = read_sources(alloc, first, files)?;
+    let list = read_sources(alloc, dialect, first, files)?;
     Ok(Parts::Modules { base, list })
 }

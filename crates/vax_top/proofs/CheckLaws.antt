@@ -16,6 +16,7 @@ use Rattle.vax_command.specs.ReadingView.{texts}
 use Rattle.vax_command.specs.Status.{refusal_growth}
 use Rattle.vax_command.specs.declared.status.Status.{Status}
 use Rattle.vax_command.specs.declared.status.Status.TheVariants.{NoMemory}
+use Rattle.vax_dialect.specs.declared.Dialect.TheVariants.{Vax}
 use Rattle.vax_image.specs.declared.Base.{Base}
 use Rattle.vax_outside.specs.Blocks.{BlockFile}
 use Rattle.vax_outside.specs.Channels.{Channels, only}
@@ -73,7 +74,7 @@ module _ (base : Base) (files : List Text) where
 
 -- how the call ends that tells it
 module _ (sink : Change Channels) (found : Option Refusal) (names files : List Text) (result : Status) where
-  pub was_told : (text shown : Text) (answer : Status) → Tells names files found text → answer ≡ answer_of found → shown ≡ text → Ends sink answer (only Out shown) result → EndsSo sink (IsChecking untouched found names files) result
+  pub was_told : (text shown : Text) (answer : Status) → Tells Vax names files found text → answer ≡ answer_of found → shown ≡ text → Ends sink answer (only Out shown) result → EndsSo sink (IsChecking untouched found names files) result
   was_told text shown answer t ea es e = record {
     meant = answer;
     grown = only Out shown;

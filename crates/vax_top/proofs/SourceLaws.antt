@@ -30,7 +30,7 @@ use Rattle.vax_top.specs.Loaded.{AreSources, IsRefused, and_then, image_from, so
 use Rattle.vax_top.specs.LoadedView.{Answers, AnswersListing}
 
 -- sources that have modules
-traced_from : (file : ℕ) (sources : List (List ℕ)) (modules : List Module) (notes : List Notes) → AreTraced sources modules notes → sources_from file sources ≡ Ok modules
+traced_from : (file : ℕ) (sources : List (List ℕ)) (modules : List Module) (notes : List Notes) → AreTraced Vax sources modules notes → sources_from file sources ≡ Ok modules
 traced_from file [] [] [] h = refl
 traced_from file [] [] (n ∷ notes) h = absurd h
 traced_from file [] (m ∷ modules) notes h = absurd h
@@ -42,7 +42,7 @@ traced_from file (s ∷ sources) (m ∷ modules) (n ∷ notes) (first, others) =
 
 -- sources of which one has a fault, and those before it have modules
 faulty_from : (number file : ℕ) (before : List (List ℕ)) (source : List ℕ) (rest : List (List ℕ)) (modules : List Module) (notes : List Notes) (fault : Fault)
-    → number ≡ file + length before → AreTraced before modules notes → assembled Vax source ≡ Err fault → sources_from file (before ++ source ∷ rest) ≡ Err (Source number fault.origin.line (code_of fault.kind))
+    → number ≡ file + length before → AreTraced Vax before modules notes → assembled Vax source ≡ Err fault → sources_from file (before ++ source ∷ rest) ≡ Err (Source number fault.origin.line (code_of fault.kind))
 faulty_from number file [] source rest [] [] fault e h is =
     let here : file ≡ number = omega (arith, e) in
     ap (λ (r : Result Module Fault). and_others file r (sources_from (suc file) rest)) is
@@ -56,14 +56,14 @@ faulty_from number file (s ∷ before) source rest (m ∷ modules) (n ∷ notes)
     ∙ ap (and_others file (Ok m)) (faulty_from number (suc file) before source rest modules notes fault (omega (arith, e)) others is)
 
 module _ (region : Base) (sources : List (List ℕ)) where
-  sources_linked : (modules : List Module) (notes : List Notes) → AreTraced sources modules notes → sources_image region sources ≡ from_link (linked region modules)
+  sources_linked : (modules : List Module) (notes : List Notes) → AreTraced Vax sources modules notes → sources_image region sources ≡ from_link (linked region modules)
   unfolding linked_of
   sources_linked modules notes h = ap (λ (r : Result (List Module) Refusal). and_then (as_parts region r) linked_of) (traced_from 1 sources modules notes h)
 
-  pub sources_built : (text : List ℕ) (h : IsListing region sources text) → sources_image region sources ≡ Ok h.image
+  pub sources_built : (text : List ℕ) (h : IsListing Vax region sources text) → sources_image region sources ≡ Ok h.image
   sources_built text h = sources_linked h.modules h.notes h.traced ∙ ap from_link h.links
 
-  sources_faulty : (file line : ℕ) (kind : FaultKind) → IsFaulty sources file line kind → sources_image region sources ≡ Err (Source file line (code_of kind))
+  sources_faulty : (file line : ℕ) (kind : FaultKind) → IsFaulty Vax sources file line kind → sources_image region sources ≡ Err (Source file line (code_of kind))
   sources_faulty file line kind h =
       let fault : Fault = record { origin = record { line = line; place = h.faulty.1.0 }; kind = kind } in
       ap (sources_image region) h.are
@@ -98,17 +98,17 @@ second_is_no : (a b : Bool) → (a || b) ≡ false → b ≡ false
 second_is_no true b e = absurd (cc e)
 second_is_no false b e = e
 
-same_modules : (file : ℕ) (sources : List (List ℕ)) → AreSources sources → sources_from file sources ≡ modules_of file sources
+same_modules : (file : ℕ) (sources : List (List ℕ)) → AreSources sources → sources_from file sources ≡ modules_of Vax file sources
 same_modules file [] h = refl
 same_modules file (s ∷ sources) (one, others) =
     ap (and_others file (assembled Vax s)) (same_modules (suc file) sources others)
-    ∙ sym (chosen (is_linked s) (Err (InImage 0 11)) (and_others file (assembled Vax s) (modules_of (suc file) sources)) one)
+    ∙ sym (chosen (is_linked s) (Err (InImage 0 11)) (and_others file (assembled Vax s) (modules_of Vax (suc file) sources)) one)
 
-same_parts : (region : Base) (sources : List (List ℕ)) → AreSources sources → as_parts region (modules_of 1 sources) ≡ parts_of region 1 sources
+same_parts : (region : Base) (sources : List (List ℕ)) → AreSources sources → as_parts region (modules_of Vax 1 sources) ≡ parts_of Vax region 1 sources
 unfolding parts_of
 same_parts region [] h = refl
 same_parts region (s ∷ []) (one, others) =
-    let parts = as_parts region (modules_of 1 (s ∷ [])) in
+    let parts = as_parts region (modules_of Vax 1 (s ∷ [])) in
     sym (chosen (is_image s) (from_image region (image_of s)) (cond (is_executable s) (from_executable region (elf.image_of s)) parts) (first_is_no (is_image s) (is_executable s) one)
     ∙ chosen (is_executable s) (from_executable region (elf.image_of s)) parts (second_is_no (is_image s) (is_executable s) one))
 same_parts region (s ∷ t ∷ sources) h = refl

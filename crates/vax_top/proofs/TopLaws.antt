@@ -7,6 +7,7 @@ use Rattle.vax_outside.specs.declared.traits.Chan.TheVariants as channel
 use Rattle.vax_outside.specs.Directory.{Directory}
 use Rattle.vax_outside.specs.declared.traits.FilesFault.TheVariants as faults
 use Rattle.vax_space.specs.declared.Area.{Area}
+use Rattle.vax_dialect.specs.declared.Dialect.TheVariants.{Vax}
 use Rattle.vax_image.specs.declared.Image.{Image}
 use Rattle.vax_asm_listing.specs.Listed as listed
 use Rattle.vax_flat.specs.Parts.{machine_at}
@@ -191,7 +192,7 @@ module _ (seen : Around) where
         ends = ends;
       }
 
-      pub sources_listed : (text : Text) → listed.IsListing (base_for linked) files text → Ends seen.sink Done (only channel.Out text) result → Carries seen (listing names linked) result
+      pub sources_listed : (text : Text) → listed.IsListing Vax (base_for linked) files text → Ends seen.sink Done (only channel.Out text) result → Carries seen (listing names linked) result
       sources_listed text l ends = record {
         meant = Done;
         grown = only channel.Out text;

@@ -9,6 +9,7 @@ use Rattle.vax_command.specs.declared.status.Part.{Part}
 use Rattle.vax_command.specs.declared.status.Part.TheVariants as part
 use Rattle.vax_command.specs.declared.status.Status.{Status}
 use Rattle.vax_command.specs.declared.status.Status.TheVariants.{Done, Told}
+use Rattle.vax_dialect.specs.declared.Dialect.TheVariants.{Vax}
 use Rattle.vax_image.specs.declared.Base.{Base}
 use Rattle.vax_outside.specs.Blocks.{BlockFile}
 use Rattle.vax_outside.specs.Channels.{Channels, only}
@@ -48,7 +49,7 @@ answer_of (Some refusal) = Told (part_of refusal)
 -- What was found was told on Out: no error of a program that is built, and of any other what keeps it from that.
 pub record IsTold (found : Option Refusal) (names files : List Text) (status : Status) (grown : Channels) : Type 0 where
   pub text : Text
-  pub tells : Tells names files found text
+  pub tells : Tells Vax names files found text
   pub answer : status ≡ answer_of found
   pub wrote : grown ≡ only Out text
 

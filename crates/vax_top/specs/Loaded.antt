@@ -23,7 +23,7 @@ and_then (Err refusal) next = Err refusal
 
 -- The image of a program's files, which are numbered from 1.
 abbrev pub image_from : Base → List Text → Result Image Refusal
-image_from base texts = and_then (parts_of base 1 texts) linked_of
+image_from base texts = and_then (parts_of Vax base 1 texts) linked_of
 
 -- The modules of sources, numbered from the first number on. A file that begins as an image or an executable is a source here like any other.
 abbrev pub sources_from : ℕ → List Text → Result (List Module) Refusal
@@ -50,7 +50,7 @@ linked_over user system =
 
 abbrev pub user_loaded : List Text → (system : Text) → Result Loaded Refusal
 user_loaded texts system =
-    and_then (parts_of base.User 1 texts) (λ user. and_then (parts_of base.Bare 0 (system ∷ [])) (λ below. linked_over user below))
+    and_then (parts_of Vax base.User 1 texts) (λ user. and_then (parts_of Vax base.Bare 0 (system ∷ [])) (λ below. linked_over user below))
 
 -- the source or the image of a system: the executive, where none is given
 abbrev pub system_text : Option Text → Text

@@ -1,6 +1,7 @@
 -- Several programs that run together: what their files come to.
 use Rattle.std.specs.Prelude.{ℕ, suc, List, [], ◌∷◌, Result, Ok, Err}
 use Rattle.vax_guest.specs.Executive.{executive_source}
+use Rattle.vax_dialect.specs.declared.Dialect.TheVariants.{Vax}
 use Rattle.vax_image.specs.declared.Base.TheVariants as base
 use Rattle.vax_image.specs.declared.Image.{Image}
 use Rattle.vax_program.specs.Program.{Parts, Refusal, parts_of, linked_of}
@@ -17,7 +18,7 @@ and_rest (Ok x) (Err refusal) = Err refusal
 -- the parts of programs in user mode, of one file each, which are numbered from the first number on
 abbrev pub all_parts : ℕ → List Text → Result (List Parts) Refusal
 all_parts file [] = Ok []
-all_parts file (text ∷ texts) = and_rest (parts_of base.User file (text ∷ [])) (all_parts (suc file) texts)
+all_parts file (text ∷ texts) = and_rest (parts_of Vax base.User file (text ∷ [])) (all_parts (suc file) texts)
 
 -- their images
 abbrev pub all_linked : List Parts → Result (List Image) Refusal
@@ -31,4 +32,4 @@ linked_under users below =
 -- Programs in user mode and the executive: all are assembled before any is linked, and the executive behind the programs.
 abbrev pub together_loaded : List Text → Result Users Refusal
 together_loaded texts =
-    and_then (all_parts 1 texts) (λ users. and_then (parts_of base.Bare 0 (executive_source ∷ [])) (λ below. linked_under users below))
+    and_then (all_parts 1 texts) (λ users. and_then (parts_of Vax base.Bare 0 (executive_source ∷ [])) (λ below. linked_under users below))

@@ -10,6 +10,7 @@ use Rattle.vax_cli.specs.declared.command.Base as words_base
 use Rattle.vax_cli.specs.declared.command.Base.TheVariants as words_bases
 use Rattle.vax_cli.specs.declared.command.Format.{Format}
 use Rattle.vax_cli.specs.declared.command.Format.TheVariants.{First, Second}
+use Rattle.vax_dialect.specs.declared.Dialect.TheVariants.{Vax}
 use Rattle.vax_guest.specs.Executive.{executive_source}
 use Rattle.vax_guest.specs.Workload.{workload}
 use Rattle.vax_image.specs.File.{File, File2}
@@ -121,7 +122,7 @@ IsListing image text = text ≡ listing image.areas
 
 -- the listing of sources, which goes with the image that they are linked to
 abbrev pub IsSourceListing : Base → List Text → Image → Text → Type 0
-IsSourceListing linked sources image text = listed.IsListing linked sources text
+IsSourceListing linked sources image text = listed.IsListing Vax linked sources text
 
 -- the image of a program was written to Out, so
 pub record IsWritten (built : Result Image Refusal) (Writes : Image → Text → Type 0) (status : Status) (grown : Channels) : Type 0 where

@@ -18,6 +18,7 @@ use std::alloc::{AllocError, Global};
 use vax_check::{Files as Checked, text_of};
 use vax_cli::Base;
 use vax_command::{Part, Programs, Status, load_files, refuse};
+use vax_dialect::Dialect;
 use vax_image::Image;
 use vax_outside::{Chan, Failed, Files, Sink, put_all};
 use vax_program::{ProgramError, Refusal, link_parts, read_parts};
@@ -29,7 +30,7 @@ fn image_of(alloc: Global, base: vax_image::Base, files: &[Vec<u8>]) -> Result<I
     requires few { length files.now ≤ 8 }
     ensures { Answers (λ image. image) result (image_from base (texts_seen files.now)) }
 {
-    let parts = read_parts(alloc, base, 1, files)?;
+    let parts = read_parts(alloc, Dialect::Vax, base, 1, files)?;
     link_parts(alloc, parts)
 }
 
@@ -45,8 +46,8 @@ fn programs_of(
     ensures { (text : List ℕ) → texts_seen system.now ≡ text ∷ [] →
         Answers loaded_seen result (user_loaded (texts_seen files.now) text) }
 {
-    let user = read_parts(alloc, vax_image::Base::User, 1, files)?;
-    let below = read_parts(alloc, vax_image::Base::Bare, 0, system)?;
+    let user = read_parts(alloc, Dialect::Vax, vax_image::Base::User, 1, files)?;
+    let below = read_parts(alloc, Dialect::Vax, vax_image::Base::Bare, 0, system)?;
     let user = link_parts(alloc, user)?;
     let system = link_parts(alloc, below)?;
     Ok(Programs {
@@ -223,6 +224,7 @@ pub(crate) fn check<S: Files, K: Sink>(
     match load_files(alloc, &all, files) {
         Ok(texts) => {
             let checked = Checked {
+                dialect: Dialect::Vax,
                 names: &all,
                 texts: &texts,
                 bare: base == Base::Bare,

@@ -10,6 +10,7 @@ ghost use Rattle.vax_command.specs.ReadingView.{bytes_of, texts};
 
 use std::alloc::{AllocError, Global};
 use vax_command::{Programs, Status};
+use vax_dialect::Dialect;
 use vax_guest::executive;
 use vax_image::{Base, Image};
 use vax_program::{Parts, ProgramError, Refusal, link_parts, read_parts};
@@ -46,7 +47,7 @@ pub(crate) fn load_image(alloc: Global, base: Base, files: &[Vec<u8>]) -> Result
     ensures sound { IfOk result IsImage }
     ensures base { IfOk result (λ image. image.base ≡ base) }
 {
-    let parts = match read_parts(alloc, base, 1, files) {
+    let parts = match read_parts(alloc, Dialect::Vax, base, 1, files) {
         Ok(parts) => parts,
         Err(error) => return Err(answer_to(error)),
     };
@@ -104,11 +105,11 @@ pub(crate) fn load_user(
         Loads loaded_seen result (user_loaded (texts files.now) text) }
     ensures sound { IfOk result AreSound }
 {
-    let user = match read_parts(alloc, Base::User, 1, files) {
+    let user = match read_parts(alloc, Dialect::Vax, Base::User, 1, files) {
         Ok(parts) => parts,
         Err(error) => return Err(answer_to(error)),
     };
-    let below = match read_parts(alloc, Base::Bare, 0, system) {
+    let below = match read_parts(alloc, Dialect::Vax, Base::Bare, 0, system) {
         Ok(parts) => parts,
         Err(error) => return Err(answer_to(error)),
     };

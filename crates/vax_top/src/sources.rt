@@ -2,6 +2,7 @@
 ghost use Rattle.std.specs.Prelude.{◌≡◌, ◌≤◌, ◌⊎◌, IfErr, IfOk, length};
 ghost use Rattle.vax_asm_listing.specs.Listed.{IsListing};
 ghost use Rattle.vax_command.specs.ReadingView.{texts};
+ghost use Rattle.vax_dialect.specs.declared.Dialect.TheVariants.{Vax};
 ghost use Rattle.vax_top.specs.Loaded.{IsRefused, sources_image};
 ghost use Rattle.vax_top.specs.LoadedView.{AnswersListing};
 
@@ -9,6 +10,7 @@ use crate::programs::answer_to;
 use std::alloc::Global;
 use vax_asm_listing::{ListingError, list_sources};
 use vax_command::Status;
+use vax_dialect::Dialect;
 use vax_image::Base;
 use vax_program::{ProgramError, Refusal, link_refusal};
 
@@ -30,11 +32,11 @@ fn program_error(alloc: Global, error: ListingError) -> ProgramError
 pub(crate) fn load_listing(alloc: Global, base: Base, files: &[Vec<u8>]) -> Result<Vec<u8>, Status>
     requires some { 1 ≤ length files.now }
     requires few { length files.now ≤ 8 }
-    ensures listing { IfOk result (λ text. IsListing base (texts files.now) text.items) }
+    ensures listing { IfOk result (λ text. IsListing Vax base (texts files.now) text.items) }
     ensures refused { IfErr result (λ status.
         IsRefused (sources_image base (texts files.now)) status ⊎ (status ≡ Status.NoMemory)) }
 {
-    match list_sources(alloc, base, files) {
+    match list_sources(alloc, Dialect::Vax, base, files) {
         Ok(text) => Ok(text),
         Err(error) => Err(answer_to(program_error(alloc, error))),
     }

@@ -1,6 +1,7 @@
 //! The programs of the command `jobs`: several in user mode, of one file each, and the executive.
 ghost use Rattle.std.specs.Prelude.{◌≡◌, ◌≤◌, IfOk, length, map};
 ghost use Rattle.std.specs.List.{All};
+ghost use Rattle.vax_dialect.specs.declared.Dialect.TheVariants.{Vax};
 ghost use Rattle.vax_image.specs.declared.Base.TheVariants as base;
 ghost use Rattle.vax_program.specs.Program.{linked_of, parts_of};
 ghost use Rattle.vax_program.specs.View.{IsSound, base_of, parts_seen};
@@ -15,6 +16,7 @@ use crate::programs::{answer_to, system_files};
 use std::alloc::Global;
 use std::collections::VecDeque;
 use vax_command::{Status, Together};
+use vax_dialect::Dialect;
 use vax_image::{Base, Image};
 use vax_program::{Parts, link_parts, read_parts};
 
@@ -22,10 +24,10 @@ use vax_program::{Parts, link_parts, read_parts};
 fn read_one(alloc: Global, file: u8, text: &[Vec<u8>]) -> Result<Parts, Status>
     requires one { length text.now ≡ 1 }
     requires numbers { file ≤ 254 }
-    ensures parts { Loads parts_seen result (parts_of base.User file (texts_seen text.now)) }
+    ensures parts { Loads parts_seen result (parts_of Vax base.User file (texts_seen text.now)) }
     ensures sound { IfOk result IsForUser }
 {
-    match read_parts(alloc, Base::User, file, text) {
+    match read_parts(alloc, Dialect::Vax, Base::User, file, text) {
         Ok(parts) => Ok(parts),
         Err(error) => Err(answer_to(error)),
     }
@@ -110,7 +112,7 @@ pub(crate) fn load_together(alloc: Global, texts: &[Vec<u8>]) -> Result<Together
         return Err(Status::NoMemory);
     };
     let users = read_all(alloc, texts)?;
-    let below = match read_parts(alloc, Base::Bare, 0, &system) {
+    let below = match read_parts(alloc, Dialect::Vax, Base::Bare, 0, &system) {
         Ok(parts) => parts,
         Err(error) => return Err(answer_to(error)),
     };

@@ -14,5 +14,5 @@ returns c =
     let before = c.args.out.now.items in
     let many : c.len.result ≡ length found = search rules in
     let told = c.in_ok-said.ensures.faults ∙ c.told.ensures ∙ ap (λ (l : List Fault). take 100 l) c.deref.ensures.value in
-    all_added c.push_ending.result name source found said c.len.result before c.push_each.new.out.items c.push_ending.new.out.items c.in_ok-found.ensures told c.in_ok-said.ensures.plain
+    all_added c.push_ending.result c.args.source.dialect name source found said c.len.result before c.push_each.new.out.items c.push_ending.new.out.items c.in_ok-found.ensures told c.in_ok-said.ensures.plain
     (c.in_ok-push_each.ensures ∙ ap (λ l. before ++ flat_map (error name source) l) c.deref-2.ensures.value) many c.push_ending.ensures

@@ -15,9 +15,9 @@ loop-file-preserved c =
     = texts_more c.args.files.now c.loop-file.file-index c.file-item.result c.loop-file-test.true c.file-item.is in
     let modules : c.push.new.self.items ≡ c.loop-file.modules.items ++ m ∷ [] = search rules in
     let notes : c.push-in-loop-file.new.self.items ≡ c.loop-file.notes.items ++ n ∷ [] = search rules in
-    let one : IsTraced c.file-item.result.items m n = rw c.deref.ensures.value at c.in-Ok.ensures.trace in
+    let one : IsTraced c.args.dialect c.file-item.result.items m n = rw c.deref.ensures.value at c.in-Ok.ensures.trace in
     record {
-      traced = rw (here, modules, notes) (traced_more (texts (take c.loop-file.file-index c.args.files.now)) c.loop-file.modules.items c.loop-file.notes.items c.file-item.result.items m n inv.traced one);
+      traced = rw (here, modules, notes) (traced_more c.args.dialect (texts (take c.loop-file.file-index c.args.files.now)) c.loop-file.modules.items c.loop-file.notes.items c.file-item.result.items m n inv.traced one);
       formed = rw modules (All-push Formed c.loop-file.modules.items m inv.formed c.in-Ok.ensures.formed);
       count = rw (modules, length_push) (omega (arith, inv.count));
       number = omega (arith, inv.number);
@@ -26,5 +26,5 @@ loop-file-preserved c =
 pub returns-in-Err-clause-refused : goal.returns-in-Err-clause-refused
 returns-in-Err-clause-refused c =
     let inv = c.loop-file.invariant in
-    files_refuse c.args.files.now c.loop-file.file-index c.file-item.result c.loop-file.modules.items c.loop-file.notes.items c.in-Err.error c.loop-file-test.true c.file-item.is inv.traced
+    files_refuse c.args.dialect c.args.files.now c.loop-file.file-index c.file-item.result c.loop-file.modules.items c.loop-file.notes.items c.in-Err.error c.loop-file-test.true c.file-item.is inv.traced
     (rw (c.deref.ensures.value, inv.number) at c.in-Err.ensures.refused)

@@ -6,7 +6,7 @@ use Rattle.vax_asm_listing.proofs.program.trace_files.Given as goal
 
 abbrev pub invariant-loop-file : goal.invariant-loop-file
 invariant-loop-file l = record {
-  traced : AreTraced (texts (take l.file-index l.files)) l.modules.items l.notes.items;
+  traced : AreTraced l.dialect (texts (take l.file-index l.files)) l.modules.items l.notes.items;
   formed : All Formed l.modules.items;
   count : length l.modules.items ≡ l.file-index;
   number : l.number ≡ l.file-index;

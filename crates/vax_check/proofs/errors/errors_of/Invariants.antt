@@ -6,4 +6,4 @@ use Rattle.vax_program.specs.View.{texts}
 use Rattle.vax_check.proofs.errors.errors_of.Given as goal
 
 abbrev pub invariant-loop-i : goal.invariant-loop-i
-invariant-loop-i l = (after : Text) → AreTold (names_of (drop l.i l.names)) (texts (drop l.i l.texts)) l.out.items after → AreTold (names_of l.names) (texts l.texts) [] after
+invariant-loop-i l = (after : Text) → AreTold l.dialect (names_of (drop l.i l.names)) (texts (drop l.i l.texts)) l.out.items after → AreTold l.dialect (names_of l.names) (texts l.texts) [] after

@@ -6,4 +6,4 @@ use Rattle.vax_program.specs.View.{texts}
 use Rattle.vax_check.proofs.remarks.push_each.Given as goal
 
 abbrev pub invariant-loop-i : goal.invariant-loop-i
-invariant-loop-i l = (after : Text) → AreRemarked (names_of (drop l.i l.names)) (texts (drop l.i l.texts)) l.out.items after → AreRemarked (names_of l.names) (texts l.texts) l.fn.out.items after
+invariant-loop-i l = (after : Text) → AreRemarked (names_of (drop l.i l.files.names.now)) (texts (drop l.i l.files.texts.now)) l.out.items after → AreRemarked (names_of l.files.names.now) (texts l.files.texts.now) l.fn.out.items after

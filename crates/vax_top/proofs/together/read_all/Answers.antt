@@ -1,6 +1,7 @@
 use Rattle.std.proofs.Common.{◌≡◌, ◌+◌, ◌-◌, ◌++◌, ◌∷◌, [], rules, refl, ap, sym, ◌∙◌, arith, drop, take, map}
 use Rattle.std.proofs.lemmas.List.{length_push, map_push}
 use Rattle.std.proofs.lemmas.List.Elements.{All-push}
+use Rattle.vax_dialect.specs.declared.Dialect.TheVariants.{Vax}
 use Rattle.vax_image.specs.declared.Base.TheVariants as base
 use Rattle.vax_command.specs.ReadingView.{texts}
 use Rattle.vax_command.proofs.LoadLaws.{pushed}
@@ -27,7 +28,7 @@ loop-place-preserved c =
     let one : here + 1 - here ≡ 1 = omega arith in
     let grown : c.push.new.self.items ≡ c.loop-place.all.items ++ c.in_ok-parts.parts ∷ [] = pushed _ c.loop-place.all.items c.push.new.self.items c.in_ok-parts.parts c.push.ensures.items c.if-is_err.ensures.negation in
     record {
-      parts = one_more front (map parts_seen c.push.new.self.items) (parts_seen c.in_ok-parts.parts) (parts_of base.User (here + 1) (texts (take 1 (drop here xs)))) (all_parts (here + 1 + 1) (texts (drop (here + 1) xs))) _
+      parts = one_more front (map parts_seen c.push.new.self.items) (parts_seen c.in_ok-parts.parts) (parts_of Vax base.User (here + 1) (texts (take 1 (drop here xs)))) (all_parts (here + 1 + 1) (texts (drop (here + 1) xs))) _
           (ap (map parts_seen) grown ∙ map_push parts_seen c.loop-place.all.items c.in_ok-parts.parts) (rw one at c.in_ok-parts.ensures.parts)
           (ap (ahead front) (sym (parts_at (here + 1) here xs (take 1 (drop here xs)) c.loop-place-test.true refl)) ∙ inv.parts);
       sound = rw grown (All-push IsForUser c.loop-place.all.items c.in_ok-parts.parts inv.sound c.in_ok-parts.ensures.sound);

@@ -5,7 +5,6 @@ use Rattle.std.specs.Prelude.{None, Some}
 use Rattle.vax_asm.specs.Placing.{placed, waiting_in}
 use Rattle.vax_asm.specs.PlacingView.{IsPlaced}
 use Rattle.vax_asm.specs.Walk.{nothing}
-use Rattle.vax_dialect.specs.declared.Dialect.TheVariants.{Vax}
 use Rattle.vax_asm_check.proofs.Going.{goes_faulty, goes_label, goes_stands, same_assembly}
 use Rattle.vax_asm_check.proofs.Restating.{kept_more, stands_again}
 use Rattle.vax_asm_check.specs.Restating.{restated}
@@ -39,8 +38,8 @@ returns-in_ok-keep-in-Stands-clause-kept c =
     let p = placed o c.args.said.text.items a.standing in
     let is = subst (λ q. IsPlaced q a.standing b.standing a.assignments b.assignments p) c.in-Stands.is c.in_ok-placed.ensures in
     let s : Stated = record { origin = o; line = c.in_ok-line.line } in
-    ap (λ l. restated (map said_of l) (nothing Vax)) c.in_ok-keep-in-Stands.ensures
-    ∙ kept_more old.stood.items s (nothing Vax) a b c.requires.kept
+    ap (λ l. restated (map said_of l) (nothing old.dialect)) c.in_ok-keep-in-Stands.ensures
+    ∙ kept_more old.stood.items s (nothing old.dialect) a b c.requires.kept
     (stands_again p a b.standing b.assignments is.0 is.1 ∙ ap (λ (t : List _). left_by (placed o t a.standing) a) (sym c.in_ok-line.ensures))
 
 pub returns-in_ok-add-in-FaultyLabel-clause-goes : goal.returns-in_ok-add-in-FaultyLabel-clause-goes
@@ -68,7 +67,7 @@ returns-in_ok-self-in-Faulty-clause-goes c =
     let many : c.len-before.result ≡ length old.left.assignments.items = search rules in
     let told = cons_option c.in_ok-circle-in-Faulty.circle [] in
     let circle = c.in_ok-circle-in-Faulty.ensures a.assignments (waiting_in p) (length-map old.left.assignments.items assignment_of ∙ sym many) (ap (map assignment_of) c.deref-in-Faulty.ensures.value ∙ is.1) in
-    let again : b ≡ a = c.in_ok-self-in-Faulty.ensures ∙ ap (λ l. restated (map said_of l) (nothing Vax)) c.deref-in-Faulty-2.ensures.value ∙ c.requires.kept in
+    let again : b ≡ a = c.in_ok-self-in-Faulty.ensures ∙ ap (λ l. restated (map said_of l) (nothing old.dialect)) c.deref-in-Faulty-2.ensures.value ∙ c.requires.kept in
     let all = c.in_ok-add-in-Faulty-2.ensures ∙ ap (λ (l : List Fault). l ++ told) c.in_ok-add-in-Faulty.ensures in
     λ next. goes_faulty o text a b old.ended old.faults.items told c.in-Faulty.kind next c.requires.goes is.0 again circle
     ∙ ap (λ l. with_faults l (next b (Some o.place))) (sym all)
