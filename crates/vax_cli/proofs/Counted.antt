@@ -38,7 +38,7 @@ given items =
     + present (value key.Base items) + present (value key.Format items) + present (value key.Script items) + present (value key.Seed items)
     + present (value key.Size items) + present (value key.Strict items) + present (value key.Break items) + present (value key.Watch items)
     + present (value key.Text items) + present (value key.Opcode items) + present (value key.Count items) + present (value key.Absent items) + present (value key.Mode items)
-    + present (value key.Order items) + present (value key.Pool items)
+    + present (value key.Order items) + present (value key.Pool items) + present (value key.Dialect items)
 
 -- an option that wasn't there
 one_more : (k : Key) (word : Text) (items : List Item) → is_none (value k items) ≡ true → given (setting k word ∷ items) ≡ given items + 1
@@ -65,6 +65,7 @@ one_more key.Absent word items e = omega (arith, present-some word, present-none
 one_more key.Mode word items e = omega (arith, present-some word, present-none (value key.Mode items) e)
 one_more key.Order word items e = omega (arith, present-some word, present-none (value key.Order items) e)
 one_more key.Pool word items e = omega (arith, present-some word, present-none (value key.Pool items) e)
+one_more key.Dialect word items e = omega (arith, present-some word, present-none (value key.Dialect items) e)
 
 few_given : (items : List Item) → given items ≤ 24
 few_given items =
@@ -93,6 +94,7 @@ few_given items =
       present-one (value key.Mode items),
       present-one (value key.Order items),
       present-one (value key.Pool items),
+      present-one (value key.Dialect items),
     )
 
 both : (a b : Bool) → (a && b) ≡ true → (a ≡ true) × (b ≡ true)

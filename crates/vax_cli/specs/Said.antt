@@ -39,6 +39,7 @@ reading_of (reading.Opened key) = plain.opened key
 
 abbrev pub options : Options → words.Options
 options o = record {
+  dialect = o.dialect;
   input = option_copied o.input;
   system = option_copied o.system;
   schedule = option_copied o.schedule;
@@ -54,15 +55,15 @@ abbrev pub tracing : Tracing → tracing_words.Tracing
 tracing t = record { breaks = t.breaks.items; watches = t.watches.items; texts = t.texts }
 
 abbrev pub jobs_options : JobsOptions → jobs_words.JobsOptions
-jobs_options o = record { order = option_copied o.order; pool = o.pool; steps = o.steps; turns = o.turns; input = option_copied o.input }
+jobs_options o = record { dialect = o.dialect; order = option_copied o.order; pool = o.pool; steps = o.steps; turns = o.turns; input = option_copied o.input }
 
 abbrev pub said : Command → Said
 said (command.Bare files o) = bare (names_of files.items) (options o)
 said (command.Run files o) = run (names_of files.items) (options o)
-said (command.Build files base format) = build (names_of files.items) base format
-said (command.List files base) = list (names_of files.items) base
-said (command.Listing files base) = listing (names_of files.items) base
-said (command.Check files base system) = check (names_of files.items) base (option_copied system)
+said (command.Build files target format) = build (names_of files.items) target format
+said (command.List files target) = list (names_of files.items) target
+said (command.Listing files target) = listing (names_of files.items) target
+said (command.Check files target system) = check (names_of files.items) target (option_copied system)
 said (command.Console files base script o) = console (names_of files.items) base script.now (options o)
 said (command.Trace files base t o) = trace (names_of files.items) base (tracing t) (options o)
 said (command.Save files base o) = save (names_of files.items) base (options o)
@@ -106,10 +107,10 @@ pub record AreShared (count : ℕ) (o : jobs_words.JobsOptions) : Type 0 where
 abbrev pub IsWithin : Said → Type 0
 IsWithin (bare files o) = AreFiles files × AreWithin o
 IsWithin (run files o) = AreFiles files × AreWithin o
-IsWithin (build files linked format) = AreFiles files
-IsWithin (list files linked) = AreFiles files
-IsWithin (listing files linked) = AreFiles files
-IsWithin (check files linked system) = AreFiles files
+IsWithin (build files target format) = AreFiles files
+IsWithin (list files target) = AreFiles files
+IsWithin (listing files target) = AreFiles files
+IsWithin (check files target system) = AreFiles files
 IsWithin (console files linked script o) = AreFiles files × AreWithin o
 IsWithin (trace files linked t o) = AreFiles files × IsTracing t × AreWithin o
 IsWithin (save files linked o) = AreFiles files × AreWithin o

@@ -39,6 +39,7 @@ key_name key.Turns = codes "--turns"
 key_name key.Dump = codes "--dump"
 key_name key.Record = codes "--record"
 key_name key.Base = codes "--base"
+key_name key.Dialect = codes "--dialect"
 key_name key.Format = codes "--format"
 key_name key.Script = codes "--script"
 key_name key.Seed = codes "--seed"
@@ -56,18 +57,18 @@ key_name key.Pool = codes "--pool"
 
 -- the options that a command takes
 abbrev pub keys_of : Verb → List Key
-keys_of verb.Bare = key.Input ∷ key.Schedule ∷ key.Frames ∷ key.Steps ∷ key.Turns ∷ key.Dump ∷ key.Record ∷ key.Strict ∷ []
-keys_of verb.Run = key.Input ∷ key.System ∷ key.Schedule ∷ key.Frames ∷ key.Steps ∷ key.Turns ∷ key.Dump ∷ key.Record ∷ key.Strict ∷ []
-keys_of verb.Build = key.Base ∷ key.Format ∷ []
-keys_of verb.List = key.Base ∷ []
-keys_of verb.Listing = key.Base ∷ []
-keys_of verb.Check = key.Base ∷ key.System ∷ []
-keys_of verb.Console = key.Script ∷ key.Base ∷ key.Input ∷ key.System ∷ key.Schedule ∷ key.Frames ∷ key.Steps ∷ key.Turns ∷ []
-keys_of verb.Trace = key.Base ∷ key.Input ∷ key.System ∷ key.Schedule ∷ key.Frames ∷ key.Steps ∷ key.Turns ∷ key.Dump ∷ key.Break ∷ key.Watch ∷ key.Text ∷ []
-keys_of verb.Save = key.Base ∷ key.Input ∷ key.System ∷ key.Schedule ∷ key.Frames ∷ key.Steps ∷ key.Turns ∷ []
+keys_of verb.Bare = key.Dialect ∷ key.Input ∷ key.Schedule ∷ key.Frames ∷ key.Steps ∷ key.Turns ∷ key.Dump ∷ key.Record ∷ key.Strict ∷ []
+keys_of verb.Run = key.Dialect ∷ key.Input ∷ key.System ∷ key.Schedule ∷ key.Frames ∷ key.Steps ∷ key.Turns ∷ key.Dump ∷ key.Record ∷ key.Strict ∷ []
+keys_of verb.Build = key.Base ∷ key.Dialect ∷ key.Format ∷ []
+keys_of verb.List = key.Base ∷ key.Dialect ∷ []
+keys_of verb.Listing = key.Base ∷ key.Dialect ∷ []
+keys_of verb.Check = key.Base ∷ key.Dialect ∷ key.System ∷ []
+keys_of verb.Console = key.Script ∷ key.Base ∷ key.Dialect ∷ key.Input ∷ key.System ∷ key.Schedule ∷ key.Frames ∷ key.Steps ∷ key.Turns ∷ []
+keys_of verb.Trace = key.Base ∷ key.Dialect ∷ key.Input ∷ key.System ∷ key.Schedule ∷ key.Frames ∷ key.Steps ∷ key.Turns ∷ key.Dump ∷ key.Break ∷ key.Watch ∷ key.Text ∷ []
+keys_of verb.Save = key.Base ∷ key.Dialect ∷ key.Input ∷ key.System ∷ key.Schedule ∷ key.Frames ∷ key.Steps ∷ key.Turns ∷ []
 keys_of verb.Resume = key.Schedule ∷ key.Frames ∷ key.Steps ∷ key.Turns ∷ key.Dump ∷ []
-keys_of verb.Jobs = key.Order ∷ key.Pool ∷ key.Steps ∷ key.Turns ∷ key.Input ∷ []
-keys_of verb.Work = key.Seed ∷ key.Size ∷ key.Schedule ∷ key.Frames ∷ key.Steps ∷ key.Turns ∷ key.Dump ∷ key.Record ∷ key.Strict ∷ []
+keys_of verb.Jobs = key.Dialect ∷ key.Order ∷ key.Pool ∷ key.Steps ∷ key.Turns ∷ key.Input ∷ []
+keys_of verb.Work = key.Dialect ∷ key.Seed ∷ key.Size ∷ key.Schedule ∷ key.Frames ∷ key.Steps ∷ key.Turns ∷ key.Dump ∷ key.Record ∷ key.Strict ∷ []
 keys_of verb.Vectors = key.Opcode ∷ key.Count ∷ key.Seed ∷ key.Absent ∷ key.Mode ∷ []
 
 -- it takes so many files: one to eight, `resume` one and `work` and `vectors` none
@@ -110,6 +111,7 @@ place key.Absent = 19
 place key.Mode = 20
 place key.Order = 21
 place key.Pool = 22
+place key.Dialect = 23
 
 abbrev pub is_same : Key → Key → Bool
 is_same a b = place a == place b

@@ -6,6 +6,8 @@ use Rattle.std.specs.Char.{digit_value}
 use Rattle.std.specs.Str.{bytes_eq}
 use Rattle.std.specs.Str.Parse.{digits_value}
 use Rattle.vax_cli.specs.Table.{Text}
+use Rattle.vax_dialect.specs.declared.Dialect.{Dialect}
+use Rattle.vax_dialect.specs.declared.Dialect.TheVariants.{Vax, Vms}
 use Rattle.vax_cli.specs.declared.command.DumpItem.{DumpItem}
 use Rattle.vax_cli.specs.declared.command.Base.{Base}
 use Rattle.vax_cli.specs.declared.command.Base.TheVariants as base
@@ -64,6 +66,11 @@ size_of word = number_of 100 1 5000 word
 abbrev pub base_of : Option Text → Option Base
 base_of None = Some base.User
 base_of (Some word) = if bytes_eq word (codes "user") then Some base.User else if bytes_eq word (codes "bare") then Some base.Bare else None
+
+-- the dialect of sources: the smaller one where nothing is said
+abbrev pub dialect_of : Option Text → Option Dialect
+dialect_of None = Some Vax
+dialect_of (Some word) = if bytes_eq word (codes "vax") then Some Vax else if bytes_eq word (codes "vms") then Some Vms else None
 
 abbrev pub format_of : Option Text → Option Format
 format_of None = Some format.First

@@ -6,14 +6,16 @@ use Rattle.vax_cli.specs.Table.{Text as Word, keys_of, takes_files, verb_of}
 use Rattle.vax_cli.specs.Jobs.{JobsOptions, pool_of}
 use Rattle.vax_cli.specs.Items.{Item, are_distinct, items_from, names, value}
 use Rattle.vax_cli.specs.Tracing.{Tracing, breaks_of}
-use Rattle.vax_cli.specs.Values.{base_of, dumps_of, format_of, frames_of, seed_of, size_of, steps_of, strictness, switch_of, turns_of}
+use Rattle.vax_cli.specs.Values.{base_of, dialect_of, dumps_of, format_of, frames_of, seed_of, size_of, steps_of, strictness, switch_of, turns_of}
 use Rattle.vax_cli.specs.declared.command.Base.{Base}
 use Rattle.vax_cli.specs.declared.command.Base.TheVariants as base
 use Rattle.vax_cli.specs.declared.command.DumpItem.{DumpItem}
 use Rattle.vax_cli.specs.declared.command.Format.{Format}
 use Rattle.vax_cli.specs.declared.command.Strictness.{Strictness}
 use Rattle.vax_cli.specs.declared.command.Strictness.TheVariants.{Halt, Success}
+use Rattle.vax_cli.specs.declared.command.Target.{Target}
 use Rattle.vax_cli.specs.declared.table.Verb.{Verb}
+use Rattle.vax_dialect.specs.declared.Dialect.{Dialect}
 use Rattle.vax_cli.specs.Vectors.{request_of}
 use Rattle.vax_cli.specs.declared.vectors.VectorRequest.{VectorRequest}
 use Rattle.vax_cli.specs.declared.table.Verb.TheVariants as verb
@@ -22,9 +24,10 @@ use Rattle.vax_cli.specs.declared.table.Key.TheVariants as key
 abbrev pub Text : Type 0
 Text = Word
 
--- what a run is given beside its program: the files of the console's input, of the system and of the schedule; how many pages may be resident; the
+-- what a run is given beside its files: the dialect of its sources; the files of the console's input, of the system and of the schedule; how many pages may be resident; the
 -- most steps and turns; the memory to report; whether evictions are recorded; and what the exit status tells of the end
 pub record Options : Type 0 where
+  pub dialect : Dialect
   pub input : Option Text
   pub system : Option Text
   pub schedule : Option Text
@@ -39,10 +42,10 @@ pub record Options : Type 0 where
 pub data Said : Type 0 where
   bare : List Text → Options → Said
   run : List Text → Options → Said
-  build : List Text → Base → Format → Said
-  list : List Text → Base → Said
-  listing : List Text → Base → Said
-  check : List Text → Base → Option Text → Said
+  build : List Text → Target → Format → Said
+  list : List Text → Target → Said
+  listing : List Text → Target → Said
+  check : List Text → Target → Option Text → Said
   console : List Text → Base → Text → Options → Said
   trace : List Text → Base → Tracing → Options → Said
   save : List Text → Base → Options → Said
@@ -55,12 +58,14 @@ pub data Said : Type 0 where
 -- what the options of a run say, whose exit status may tell so much of its end
 abbrev pub options_of : Strictness → List Item → Option Options
 options_of most items =
+    option_and_then (λ dialect.
     option_and_then (λ frames.
     option_and_then (λ steps.
     option_and_then (λ turns.
     option_and_then (λ dumps.
     option_and_then (λ recorded.
     option_map (λ strict. record {
+      dialect = dialect;
       input = value key.Input items;
       system = value key.System items;
       schedule = value key.Schedule items;
@@ -72,11 +77,16 @@ options_of most items =
       strict = strictness most strict;
     })
     (switch_of (value key.Strict items))) (switch_of (value key.Record items))) (dumps_of (value key.Dump items))) (turns_of (value key.Turns items)))
-    (steps_of (value key.Steps items))) (frames_of (value key.Frames items))
+    (steps_of (value key.Steps items))) (frames_of (value key.Frames items))) (dialect_of (value key.Dialect items))
+
+-- what sources are assembled as, and what for
+abbrev pub target_of : List Item → Option Target
+target_of items =
+    option_and_then (λ dialect. option_map (λ base. record { dialect = dialect; base = base }) (base_of (value key.Base items))) (dialect_of (value key.Dialect items))
 
 abbrev pub build_of : List Item → Option Said
 build_of items =
-    option_and_then (λ base. option_map (λ format. build (names items) base format) (format_of (value key.Format items))) (base_of (value key.Base items))
+    option_and_then (λ target. option_map (λ format. build (names items) target format) (format_of (value key.Format items))) (target_of items)
 
 -- on the bare machine there is no system
 abbrev pub may_have_system : Base → Option Text → Bool
@@ -85,9 +95,9 @@ may_have_system base.Bare system = not (is_some system)
 
 abbrev pub check_of : List Item → Option Said
 check_of items =
-    option_and_then (λ base.
-    if may_have_system base (value key.System items) then Some (check (names items) base (value key.System items)) else None)
-    (base_of (value key.Base items))
+    option_and_then (λ target.
+    if may_have_system target.base (value key.System items) then Some (check (names items) target (value key.System items)) else None)
+    (target_of items)
 
 -- a session has a script, and no other system on the bare machine
 abbrev pub is_session : Base → Options → Bool
@@ -125,10 +135,11 @@ resume_of files options = None
 
 abbrev pub jobs_of : List Item → Option Said
 jobs_of items =
+    option_and_then (λ dialect.
     option_and_then (λ pool.
     option_and_then (λ steps.
-    option_map (λ turns. jobs (names items) (record { order = value key.Order items; pool = pool; steps = steps; turns = turns; input = value key.Input items }))
-    (turns_of (value key.Turns items))) (steps_of (value key.Steps items))) (pool_of (length (names items)) (value key.Pool items))
+    option_map (λ turns. jobs (names items) (record { dialect = dialect; order = value key.Order items; pool = pool; steps = steps; turns = turns; input = value key.Input items }))
+    (turns_of (value key.Turns items))) (steps_of (value key.Steps items))) (pool_of (length (names items)) (value key.Pool items))) (dialect_of (value key.Dialect items))
 
 abbrev pub work_of : List Item → Option Said
 work_of items =
@@ -147,8 +158,8 @@ abbrev pub said_of : Verb → List Item → Option Said
 said_of verb.Bare items = option_map (λ options. bare (names items) options) (options_of Halt items)
 said_of verb.Run items = option_map (λ options. run (names items) options) (options_of Success items)
 said_of verb.Build items = build_of items
-said_of verb.List items = option_map (λ base. list (names items) base) (base_of (value key.Base items))
-said_of verb.Listing items = option_map (λ base. listing (names items) base) (base_of (value key.Base items))
+said_of verb.List items = option_map (λ target. list (names items) target) (target_of items)
+said_of verb.Listing items = option_map (λ target. listing (names items) target) (target_of items)
 said_of verb.Check items = check_of items
 said_of verb.Console items = console_of items
 said_of verb.Trace items = trace_of items

@@ -167,6 +167,10 @@ fn value_and_help<'a>(key: Key) -> (&'a str, &'a str) {
             "user|bare",
             "Link for user mode or for the bare machine; user where it isn't given",
         ),
+        Key::Dialect => (
+            "vax|vms",
+            "The dialect of the sources, the smaller one or that of the manual; vax where it isn't given",
+        ),
         Key::Format => (
             "1|2",
             "The version of the image's format; 1 where it isn't given",

@@ -2,6 +2,7 @@
 use crate::jobs::JobsOptions;
 use crate::vectors::VectorRequest;
 use arrayvec::ArrayVec;
+use vax_dialect::Dialect;
 
 /// The names of a command's files, in order: 1 to 8.
 pub type Names<'a> = ArrayVec<&'a str, 8>;
@@ -28,23 +29,23 @@ pub enum Command<'a> {
     /// `build FILE..`: write the image of a program.
     Build {
         files: Names<'a>,
-        base: Base,
+        target: Target,
         format: Format,
     },
     /// `list FILE..`: write the instructions of a program.
     List {
         files: Names<'a>,
-        base: Base,
+        target: Target,
     },
     /// `listing FILE..`: write the listing of a program's sources.
     Listing {
         files: Names<'a>,
-        base: Base,
+        target: Target,
     },
     /// `check FILE..`: tell all that keeps a program from being built.
     Check {
         files: Names<'a>,
-        base: Base,
+        target: Target,
         /// `--system NAME`: the file of a system that is told of too.
         system: Option<&'a str>,
     },
@@ -94,9 +95,11 @@ pub enum Command<'a> {
     About,
 }
 
-/// What a run is given beside its program. A command leaves the options that it doesn't take as no word says them.
+/// What a run is given beside its files. A command leaves the options that it doesn't take as no word says them.
 #[derive(PartialEq, Eq, Drop)]
 pub struct Options<'a> {
+    /// `--dialect NAME`: the dialect of the sources.
+    pub dialect: Dialect,
     /// `--input NAME`: the file of the console's input; none where there is no input.
     pub input: Option<&'a str>,
     /// `--system NAME`: the file of the system that a program in user mode runs under; none for the built-in one.
@@ -145,6 +148,14 @@ pub struct DumpItem {
     pub address: u32,
     /// How many bytes, 1 to 4,096.
     pub count: u32,
+}
+
+/// What sources are assembled as, and what for.
+#[derive(Clone, Copy, PartialEq, Eq)]
+pub struct Target {
+    /// `--dialect vax` or `--dialect vms`: the dialect of the sources; the smaller one, `vax`, where no word says it.
+    pub dialect: Dialect,
+    pub base: Base,
 }
 
 /// What a program is linked for: `--base user` or `--base bare`; user where no word says it.

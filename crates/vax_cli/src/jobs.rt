@@ -4,10 +4,13 @@ ghost use Rattle.std.specs.Option.{option_copied};
 ghost use Rattle.vax_cli.specs.Jobs.{pool_of};
 
 use crate::number::number_of;
+use vax_dialect::Dialect;
 
 /// What several programs are given.
 #[derive(PartialEq, Eq, Drop)]
 pub struct JobsOptions<'a> {
+    /// `--dialect NAME`: the dialect of the sources.
+    pub dialect: Dialect,
     /// `--order NAME`: the file of the order in which they go; none where each makes one attempt in turn.
     pub order: Option<&'a str>,
     /// `--pool N`: how many pages of all of them may be resident, 64 for each to 32,768; 1,024 where no word says it.

@@ -17,7 +17,7 @@ mod values;
 mod vectors;
 
 pub use command::{
-    Base, Breaks, Command, DumpItem, Dumps, Format, Names, Options, Strictness, Tracing,
+    Base, Breaks, Command, DumpItem, Dumps, Format, Names, Options, Strictness, Target, Tracing,
 };
 pub use jobs::JobsOptions;
 pub use read::{WordsError, about, command_of};

@@ -3,19 +3,19 @@ ghost use Rattle.std.specs.Prelude.{◌≡◌, IfSome, None, length, true};
 ghost use Rattle.std.specs.Option.{option_and_then, option_copied, option_map};
 ghost use Rattle.vax_cli.specs.Table.{keys_of, takes_files};
 ghost use Rattle.vax_cli.specs.Items.{items_from, names};
-ghost use Rattle.vax_cli.specs.Words.{asks_about, asks_help, behind, build_of, check_of, checked, command_of, console_of, is_session, may_have_system, options_of, resume_of, said_of, save_of, trace_of, vectors_of, work_of};
+ghost use Rattle.vax_cli.specs.Words.{asks_about, asks_help, behind, build_of, check_of, checked, command_of, console_of, is_session, may_have_system, options_of, resume_of, said_of, save_of, target_of, trace_of, vectors_of, work_of};
 ghost use Rattle.vax_cli.specs.declared.command.Command.TheVariants.{About};
 ghost use Rattle.vax_cli.specs.declared.command.Strictness.TheVariants.{Halt};
 ghost use Rattle.vax_cli.specs.Said.{AreFiles, AreWithin, IsWithin, items_of, names_of, options, said, texts};
 ghost use Rattle.vax_cli.specs.Words.{jobs_of};
 
-use crate::command::{Base, Command, Names, Options, Strictness, Tracing};
+use crate::command::{Base, Command, Names, Options, Strictness, Target, Tracing};
 use crate::items::{Item, Items, are_distinct, names_in, read_items, value_in};
 use crate::jobs::{JobsOptions, pool_of};
 use crate::table::{Key, Verb, verb_of};
 use crate::values::{
-    base_of, breaks_of, dumps_of, format_of, frames_of, seed_of, size_of, steps_of, strictness,
-    switch_of, turns_of,
+    base_of, breaks_of, dialect_of, dumps_of, format_of, frames_of, seed_of, size_of, steps_of,
+    strictness, switch_of, turns_of,
 };
 use crate::vectors::{VectorWords, request_of};
 
@@ -24,6 +24,7 @@ fn options_of<'a>(most: Strictness, items: &[Item<'a>]) -> Option<Options<'a>>
     ensures options { option_map options result ≡ options_of most (items_of items.now) }
     ensures within { IfSome result (λ o. AreWithin (options o)) }
 {
+    let dialect = dialect_of(value_in(Key::Dialect, items))?;
     let frames = frames_of(value_in(Key::Frames, items))?;
     let steps = steps_of(value_in(Key::Steps, items))?;
     let turns = turns_of(value_in(Key::Turns, items))?;
@@ -31,6 +32,7 @@ fn options_of<'a>(most: Strictness, items: &[Item<'a>]) -> Option<Options<'a>>
     let recorded = switch_of(value_in(Key::Record, items))?;
     let strict = switch_of(value_in(Key::Strict, items))?;
     Some(Options {
+        dialect,
         input: value_in(Key::Input, items),
         system: value_in(Key::System, items),
         schedule: value_in(Key::Schedule, items),
@@ -53,17 +55,26 @@ fn is_session(base: Base, given: &Options) -> bool
     }
 }
 
+/// What the sources of a command are assembled as, and what for.
+fn target_of(items: &[Item]) -> Option<Target>
+    ensures { result ≡ target_of (items_of items.now) }
+{
+    let dialect = dialect_of(value_in(Key::Dialect, items))?;
+    let base = base_of(value_in(Key::Base, items))?;
+    Some(Target { dialect, base })
+}
+
 fn build_of<'a>(files: Names<'a>, items: &[Item<'a>]) -> Option<Command<'a>>
     requires files { names_of files.items ≡ names (items_of items.now) }
     requires are { AreFiles (names_of files.items) }
     ensures said { option_map said result ≡ build_of (items_of items.now) }
     ensures within { IfSome result (λ c. IsWithin (said c)) }
 {
-    let base = base_of(value_in(Key::Base, items))?;
+    let target = target_of(items)?;
     let format = format_of(value_in(Key::Format, items))?;
     Some(Command::Build {
         files,
-        base,
+        target,
         format,
     })
 }
@@ -84,14 +95,14 @@ fn check_of<'a>(files: Names<'a>, items: &[Item<'a>]) -> Option<Command<'a>>
     ensures said { option_map said result ≡ check_of (items_of items.now) }
     ensures within { IfSome result (λ c. IsWithin (said c)) }
 {
-    let base = base_of(value_in(Key::Base, items))?;
+    let target = target_of(items)?;
     let system = value_in(Key::System, items);
-    if !may_have_system(base, system) {
+    if !may_have_system(target.base, system) {
         return None;
     }
     Some(Command::Check {
         files,
-        base,
+        target,
         system,
     })
 }
@@ -181,12 +192,14 @@ fn jobs_of<'a>(files: Names<'a>, items: &[Item<'a>]) -> Option<Command<'a>>
     ensures said { option_map said result ≡ jobs_of (items_of items.now) }
     ensures within { IfSome result (λ c. IsWithin (said c)) }
 {
+    let dialect = dialect_of(value_in(Key::Dialect, items))?;
     let pool = pool_of(files.len(), value_in(Key::Pool, items))?;
     let steps = steps_of(value_in(Key::Steps, items))?;
     let turns = turns_of(value_in(Key::Turns, items))?;
     Some(Command::Jobs {
         files,
         options: JobsOptions {
+            dialect,
             order: value_in(Key::Order, items),
             pool,
             steps,
@@ -243,11 +256,11 @@ fn said_of<'a>(verb: Verb, files: Names<'a>, items: &[Item<'a>]) -> Option<Comma
         Verb::Build => build_of(files, items),
         Verb::List => Some(Command::List {
             files,
-            base: base_of(value_in(Key::Base, items))?,
+            target: target_of(items)?,
         }),
         Verb::Listing => Some(Command::Listing {
             files,
-            base: base_of(value_in(Key::Base, items))?,
+            target: target_of(items)?,
         }),
         Verb::Check => check_of(files, items),
         Verb::Console => console_of(files, items),

@@ -32,6 +32,7 @@ pub(crate) enum Key {
     Dump,
     Record,
     Base,
+    Dialect,
     Format,
     Script,
     Seed,
@@ -93,6 +94,7 @@ impl Verb {
     {
         match self {
             Verb::Bare => &[
+                Key::Dialect,
                 Key::Input,
                 Key::Schedule,
                 Key::Frames,
@@ -103,6 +105,7 @@ impl Verb {
                 Key::Strict,
             ],
             Verb::Run => &[
+                Key::Dialect,
                 Key::Input,
                 Key::System,
                 Key::Schedule,
@@ -113,12 +116,13 @@ impl Verb {
                 Key::Record,
                 Key::Strict,
             ],
-            Verb::Build => &[Key::Base, Key::Format],
-            Verb::List | Verb::Listing => &[Key::Base],
-            Verb::Check => &[Key::Base, Key::System],
+            Verb::Build => &[Key::Base, Key::Dialect, Key::Format],
+            Verb::List | Verb::Listing => &[Key::Base, Key::Dialect],
+            Verb::Check => &[Key::Base, Key::Dialect, Key::System],
             Verb::Console => &[
                 Key::Script,
                 Key::Base,
+                Key::Dialect,
                 Key::Input,
                 Key::System,
                 Key::Schedule,
@@ -128,6 +132,7 @@ impl Verb {
             ],
             Verb::Trace => &[
                 Key::Base,
+                Key::Dialect,
                 Key::Input,
                 Key::System,
                 Key::Schedule,
@@ -141,6 +146,7 @@ impl Verb {
             ],
             Verb::Save => &[
                 Key::Base,
+                Key::Dialect,
                 Key::Input,
                 Key::System,
                 Key::Schedule,
@@ -155,8 +161,16 @@ impl Verb {
                 Key::Turns,
                 Key::Dump,
             ],
-            Verb::Jobs => &[Key::Order, Key::Pool, Key::Steps, Key::Turns, Key::Input],
+            Verb::Jobs => &[
+                Key::Dialect,
+                Key::Order,
+                Key::Pool,
+                Key::Steps,
+                Key::Turns,
+                Key::Input,
+            ],
             Verb::Work => &[
+                Key::Dialect,
                 Key::Seed,
                 Key::Size,
                 Key::Schedule,
@@ -207,6 +221,7 @@ impl Key {
             Key::Dump => "--dump",
             Key::Record => "--record",
             Key::Base => "--base",
+            Key::Dialect => "--dialect",
             Key::Format => "--format",
             Key::Script => "--script",
             Key::Seed => "--seed",

@@ -2,13 +2,14 @@
 ghost use Rattle.std.specs.Prelude.{◌≡◌, ◌<◌, ◌≤◌, ◌^◌, ◌∷◌, All, IfSome, length};
 ghost use Rattle.std.specs.List.{slice_split};
 ghost use Rattle.std.specs.Option.{option_copied, option_map};
-ghost use Rattle.vax_cli.specs.Values.{address_of, base_of, dump_item, dump_items, dumps_of, format_of, frames_of, is_comma, parts_behind, seed_of, size_of, steps_of, strictness, switch_of, turns_of};
+ghost use Rattle.vax_cli.specs.Values.{address_of, base_of, dialect_of, dump_item, dump_items, dumps_of, format_of, frames_of, is_comma, parts_behind, seed_of, size_of, steps_of, strictness, switch_of, turns_of};
 ghost use Rattle.vax_cli.specs.Tracing.{breaks_of};
 ghost use Rattle.vax_cli.specs.Said.{IsDump};
 
 use crate::command::{Base, Breaks, DumpItem, Dumps, Format, Strictness};
 use crate::number::{decimal_from, digits, number_of};
 use arrayvec::ArrayVec;
+use vax_dialect::Dialect;
 
 /// The most steps or turns of a run that a word may ask for.
 const MOST_STEPS: u64 = 1_000_000_000_000_000;
@@ -61,6 +62,17 @@ pub(crate) fn base_of(word: Option<&str>) -> Option<Base>
     match word {
         None | Some("user") => Some(Base::User),
         Some("bare") => Some(Base::Bare),
+        Some(_) => None,
+    }
+}
+
+/// The dialect of sources.
+pub(crate) fn dialect_of(word: Option<&str>) -> Option<Dialect>
+    ensures { result ≡ dialect_of (option_copied word.entry) }
+{
+    match word {
+        None | Some("vax") => Some(Dialect::Vax),
+        Some("vms") => Some(Dialect::Vms),
         Some(_) => None,
     }
 }

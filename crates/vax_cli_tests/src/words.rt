@@ -1,9 +1,10 @@
 //! Words that are plain, and words that aren't.
 use std::test::Fail;
 use vax_cli::{
-    Base, Command, DumpItem, Dumps, Format, Names, Options, Strictness, WordsError, about,
-    command_of,
+    Base, Command, DumpItem, Dumps, Format, JobsOptions, Names, Options, Strictness, Target,
+    WordsError, about, command_of,
 };
+use vax_dialect::Dialect;
 
 /// The words of a line, between single blanks; an empty line has none.
 fn words(rt: &HostRuntime, line: &str) -> Result<Vec<String>, Fail> {
@@ -32,9 +33,18 @@ fn dumps(all: &[DumpItem]) -> Dumps {
     dumps
 }
 
+/// Sources of the smaller dialect, for this base.
+fn target(base: Base) -> Target {
+    Target {
+        dialect: Dialect::Vax,
+        base,
+    }
+}
+
 /// What is asked for where no word says it.
 fn usual<'a>() -> Options<'a> {
     Options {
+        dialect: Dialect::Vax,
         input: None,
         system: None,
         schedule: None,
@@ -44,6 +54,14 @@ fn usual<'a>() -> Options<'a> {
         dumps: Dumps::new(),
         recorded: false,
         strict: Strictness::Off,
+    }
+}
+
+/// The same for sources of the larger dialect.
+fn larger<'a>() -> Options<'a> {
+    Options {
+        dialect: Dialect::Vms,
+        ..usual()
     }
 }
 
@@ -122,6 +140,77 @@ fn reads_options(rt: HostRuntime) -> Result<(), Fail> {
     Ok(())
 }
 
+/// The dialect of each command that reads sources; clap reads them all.
+#[test]
+fn reads_dialects(rt: HostRuntime) -> Result<(), Fail> {
+    let vms = Target {
+        dialect: Dialect::Vms,
+        base: Base::User,
+    };
+    let rows: [(&str, Command); 6] = [
+        (
+            "run A --dialect vms",
+            Command::Run {
+                files: names(&["A"]),
+                options: larger(),
+            },
+        ),
+        (
+            "bare --dialect=vax A",
+            Command::Bare {
+                files: names(&["A"]),
+                options: usual(),
+            },
+        ),
+        (
+            "listing --dialect vms A",
+            Command::Listing {
+                files: names(&["A"]),
+                target: vms,
+            },
+        ),
+        (
+            "check A --dialect=vms",
+            Command::Check {
+                files: names(&["A"]),
+                target: vms,
+                system: None,
+            },
+        ),
+        (
+            "console A --script L --dialect vms",
+            Command::Console {
+                files: names(&["A"]),
+                base: Base::User,
+                script: "L",
+                options: larger(),
+            },
+        ),
+        (
+            "jobs A --dialect vms",
+            Command::Jobs {
+                files: names(&["A"]),
+                options: JobsOptions {
+                    dialect: Dialect::Vms,
+                    order: None,
+                    pool: 1_024,
+                    steps: 10_000_000,
+                    turns: 1_000_000_000_000,
+                    input: None,
+                },
+            },
+        ),
+    ];
+    for (row, command) in rows {
+        let all = words(&rt, row)?;
+        assert!(rt;
+            command_of(rt.alloc(), all.as_slice()) == Ok(command),
+            "{row}"
+        );
+    }
+    Ok(())
+}
+
 /// Plain words of each command; clap reads them all.
 #[test]
 fn reads_commands(rt: HostRuntime) -> Result<(), Fail> {
@@ -147,7 +236,7 @@ fn reads_commands(rt: HostRuntime) -> Result<(), Fail> {
             "build A",
             Command::Build {
                 files: names(&["A"]),
-                base: Base::User,
+                target: target(Base::User),
                 format: Format::First,
             },
         ),
@@ -155,7 +244,7 @@ fn reads_commands(rt: HostRuntime) -> Result<(), Fail> {
             "build --format=2 A --base bare",
             Command::Build {
                 files: names(&["A"]),
-                base: Base::Bare,
+                target: target(Base::Bare),
                 format: Format::Second,
             },
         ),
@@ -163,21 +252,21 @@ fn reads_commands(rt: HostRuntime) -> Result<(), Fail> {
             "list --base user A",
             Command::List {
                 files: names(&["A"]),
-                base: Base::User,
+                target: target(Base::User),
             },
         ),
         (
             "listing A B --base=bare",
             Command::Listing {
                 files: names(&["A", "B"]),
-                base: Base::Bare,
+                target: target(Base::Bare),
             },
         ),
         (
             "check A B --base bare",
             Command::Check {
                 files: names(&["A", "B"]),
-                base: Base::Bare,
+                target: target(Base::Bare),
                 system: None,
             },
         ),
@@ -185,7 +274,7 @@ fn reads_commands(rt: HostRuntime) -> Result<(), Fail> {
             "check A --system=S",
             Command::Check {
                 files: names(&["A"]),
-                base: Base::User,
+                target: target(Base::User),
                 system: Some("S"),
             },
         ),
@@ -265,7 +354,7 @@ fn reads_commands(rt: HostRuntime) -> Result<(), Fail> {
 
 #[test]
 fn refuses_other_words(rt: HostRuntime) -> Result<(), Fail> {
-    let rows: [&str; 54] = [
+    let rows: [&str; 58] = [
         "",
         "boot A",
         "bare",
@@ -310,6 +399,10 @@ fn refuses_other_words(rt: HostRuntime) -> Result<(), Fail> {
         "build A --steps 1",
         "list A --base system",
         "list A --format 1",
+        "list A --dialect x",
+        "list A --dialect VMS",
+        "list A --dialect vms --dialect vms",
+        "resume A --dialect vms",
         "listing",
         "listing A --format 1",
         "check",
@@ -363,7 +456,10 @@ fn shows_help(rt: HostRuntime) -> Result<(), Fail> {
             &["Usage: vax run [OPTIONS] <FILE>...", "--system <FILE>"],
         ),
         ("build --help", &["--base <user|bare>", "--format <1|2>"]),
-        ("list --help", &["--base <user|bare>"]),
+        (
+            "list --help",
+            &["--base <user|bare>", "--dialect <vax|vms>"],
+        ),
         (
             "listing --help",
             &["--base <user|bare>", "vax listing COUNT.MAR"],

@@ -57,8 +57,11 @@ const WORDS: &[u8] =
     CMPB R0,#32\nBLEQU 30$\nTSTL R7\nBNEQ 10$\nINCL R6\nMOVL #1,R7\nBRB 10$\n30$: CLRL R7\nBRB 10$\n\
     40$: ADDL3 #48,R6,R0\nCHMK #1\nMOVL #10,R0\nCHMK #1\nRET\n.END START\n";
 
+/// That of SMALLEST, in the larger dialect alone.
+const LARGER: &[u8] = b".NCHR N,<AB CD>\nBEGIN: MOVL #N,R1\nHALT\n.END BEGIN\n";
+
 /// The files of each call.
-const FILES: [(&str, &[u8]); 16] = [
+const FILES: [(&str, &[u8]); 17] = [
     ("A", SMALLEST),
     ("IMAGE", IMAGE),
     (
@@ -79,6 +82,7 @@ const FILES: [(&str, &[u8]); 16] = [
         "FAR",
         b"BEGIN: HALT\n.EXTERNAL NOWHERE\n.LONG NOWHERE\n.END BEGIN\n",
     ),
+    ("LARGER", LARGER),
     ("EACH", b"each 4 all\n"),
     ("WRONG", b"at 1 80000200\neach 0 all\n"),
 ];
@@ -323,5 +327,49 @@ fn runs_under_a_schedule(rt: HostRuntime) -> Result<(), Fail> {
     };
     let left = call_failing(&rt, line, fails)?;
     begins(&rt, &left, 9, b"", b"ENDING PAGEFAULT\nSTEPS 5\n");
+    Ok(())
+}
+
+/// A source of the larger dialect is refused but where that is asked for.
+#[test]
+fn reads_the_larger_dialect(rt: HostRuntime) -> Result<(), Fail> {
+    let left = call(&rt, "bare LARGER --dialect vms")?;
+    expect(&rt, &left, 0, b"", REPORT.as_bytes());
+    let left = call(&rt, "build --dialect=vms LARGER --base bare")?;
+    expect(&rt, &left, 0, IMAGE, b"");
+    let listing = b"80000200 MOVL S^#^X05,R1\n80000203 HALT\n";
+    let left = call(&rt, "list LARGER --base bare --dialect vms")?;
+    expect(&rt, &left, 0, listing, b"");
+    for line in [
+        "bare LARGER",
+        "run LARGER",
+        "run A --system LARGER",
+        "build LARGER",
+        "list LARGER",
+        "listing LARGER",
+        "trace LARGER --base bare",
+        "save LARGER --base bare",
+        "jobs A LARGER",
+        "console LARGER --base bare --script SCRIPT",
+    ] {
+        assert!(rt; call(&rt, line)?.code == 4, "{line}");
+    }
+    for line in [
+        "run LARGER --dialect vms",
+        "listing LARGER --dialect vms",
+        "check LARGER --base bare --dialect vms",
+        "trace LARGER --base bare --dialect vms",
+        "jobs A LARGER --dialect vms",
+        "console LARGER --base bare --script SCRIPT --steps 1 --dialect vms",
+    ] {
+        assert!(rt; call(&rt, line)?.code == 0, "{line}");
+    }
+    expect(
+        &rt,
+        &call(&rt, "bare A --dialect x")?,
+        1,
+        b"",
+        b"vax: usage\n",
+    );
     Ok(())
 }

@@ -8,7 +8,8 @@ use Rattle.std.specs.Global.{Vec}
 use Rattle.vax_check.specs.Told.{Tells}
 use Rattle.vax_cli.specs.Said.{names_of}
 use Rattle.vax_cli.specs.Words.{Text, check}
-use Rattle.vax_cli.specs.declared.command.Base as words_base
+use Rattle.vax_cli.specs.declared.command.Target.{Target}
+use Rattle.vax_dialect.specs.declared.Dialect.{Dialect}
 use Rattle.vax_command.specs.Around.{Around, Change, around, untouched}
 use Rattle.vax_command.specs.Ends.{Ends, EndsSo}
 use Rattle.vax_command.specs.Reading.{Reads, given}
@@ -16,7 +17,6 @@ use Rattle.vax_command.specs.ReadingView.{texts}
 use Rattle.vax_command.specs.Status.{refusal_growth}
 use Rattle.vax_command.specs.declared.status.Status.{Status}
 use Rattle.vax_command.specs.declared.status.Status.TheVariants.{NoMemory}
-use Rattle.vax_dialect.specs.declared.Dialect.TheVariants.{Vax}
 use Rattle.vax_image.specs.declared.Base.{Base}
 use Rattle.vax_outside.specs.Blocks.{BlockFile}
 use Rattle.vax_outside.specs.Channels.{Channels, only}
@@ -59,8 +59,8 @@ not_zero : (n : ℕ) → (suc n == 0) ≡ false
 not_zero n = grind (arith, nat_tests)
 
 -- what is found without a system's file, and with one
-module _ (base : Base) (files : List Text) where
-  pub found_alone : (system : List (Vec ℕ)) → (length system == 0) ≡ true → refusal_of (image_from base files) ≡ found_in base files (texts system)
+module _ (dialect : Dialect) (base : Base) (files : List Text) where
+  pub found_alone : (system : List (Vec ℕ)) → (length system == 0) ≡ true → refusal_of (image_from dialect base files) ≡ found_in dialect base files (texts system)
   found_alone [] e = refl
   found_alone (file ∷ more) e = let no : false ≡ true = sym (not_zero (length more)) ∙ e in absurd (cc no)
 
@@ -69,12 +69,12 @@ module _ (base : Base) (files : List Text) where
   one_text (file ∷ []) e few = (file.items, refl)
   one_text (file ∷ other ∷ more) e few = let h : length (file ∷ other ∷ more) ≤ 1 = few in absurd (omega (arith, h))
 
-  pub found_under : (system : List (Vec ℕ)) (text : Text) → texts system ≡ text ∷ [] → refusal_of (user_loaded files text) ≡ found_in base files (texts system)
-  found_under system text e = sym (ap (λ (all : List Text). found_in base files all) e)
+  pub found_under : (system : List (Vec ℕ)) (text : Text) → texts system ≡ text ∷ [] → refusal_of (user_loaded dialect files (Some text)) ≡ found_in dialect base files (texts system)
+  found_under system text e = sym (ap (λ (all : List Text). found_in dialect base files all) e)
 
 -- how the call ends that tells it
-module _ (sink : Change Channels) (found : Option Refusal) (names files : List Text) (result : Status) where
-  pub was_told : (text shown : Text) (answer : Status) → Tells Vax names files found text → answer ≡ answer_of found → shown ≡ text → Ends sink answer (only Out shown) result → EndsSo sink (IsChecking untouched found names files) result
+module _ (sink : Change Channels) (dialect : Dialect) (found : Option Refusal) (names files : List Text) (result : Status) where
+  pub was_told : (text shown : Text) (answer : Status) → Tells dialect names files found text → answer ≡ answer_of found → shown ≡ text → Ends sink answer (only Out shown) result → EndsSo sink (IsChecking untouched dialect found names files) result
   was_told text shown answer t ea es e = record {
     meant = answer;
     grown = only Out shown;
@@ -82,54 +82,54 @@ module _ (sink : Change Channels) (found : Option Refusal) (names files : List T
     ends = e;
   }
 
-  pub not_told : Ends sink NoMemory (refusal_growth NoMemory) result → EndsSo sink (IsChecking untouched found names files) result
+  pub not_told : Ends sink NoMemory (refusal_growth NoMemory) result → EndsSo sink (IsChecking untouched dialect found names files) result
   not_told e = record { meant = NoMemory; grown = refusal_growth NoMemory; so = inl (refl, refl, tt); ends = e }
 
 -- the same of files of which so many are the program's
-module _ (sink : Change Channels) (base : Base) (count : ℕ) (names : List Text) (files own system : List (Vec ℕ)) (result : Status) where
-  found_apart : own ≡ take count files → system ≡ drop count files → found_in base (texts own) (texts system) ≡ found_in base (take count (texts files)) (drop count (texts files))
+module _ (sink : Change Channels) (dialect : Dialect) (base : Base) (count : ℕ) (names : List Text) (files own system : List (Vec ℕ)) (result : Status) where
+  found_apart : own ≡ take count files → system ≡ drop count files → found_in dialect base (texts own) (texts system) ≡ found_in dialect base (take count (texts files)) (drop count (texts files))
   found_apart eo es =
-      ap (λ (list : List (Vec ℕ)). found_in base (texts list) (texts system)) eo
-      ∙ ap (λ (list : List (Vec ℕ)). found_in base (texts (take count files)) (texts list)) es
-      ∙ ap (λ (list : List Text). found_in base list (texts (drop count files))) (sym (take-map (λ (v : Vec ℕ). v.items) count files))
-      ∙ ap (λ (list : List Text). found_in base (take count (texts files)) list) (sym (drop-map (λ (v : Vec ℕ). v.items) count files))
+      ap (λ (list : List (Vec ℕ)). found_in dialect base (texts list) (texts system)) eo
+      ∙ ap (λ (list : List (Vec ℕ)). found_in dialect base (texts (take count files)) (texts list)) es
+      ∙ ap (λ (list : List Text). found_in dialect base list (texts (drop count files))) (sym (take-map (λ (v : Vec ℕ). v.items) count files))
+      ∙ ap (λ (list : List Text). found_in dialect base (take count (texts files)) list) (sym (drop-map (λ (v : Vec ℕ). v.items) count files))
 
-  pub apart_told : (found : Option Refusal) → own ≡ take count files → system ≡ drop count files → found ≡ found_in base (texts own) (texts system) → EndsSo sink (IsChecking untouched found names (texts files)) result
-      → EndsSo sink (IsChecking untouched (found_in base (take count (texts files)) (drop count (texts files))) names (texts files)) result
-  apart_told found eo es ef e = subst (λ (o : Option Refusal). EndsSo sink (IsChecking untouched o names (texts files)) result) (ef ∙ found_apart eo es) e
+  pub apart_told : (found : Option Refusal) → own ≡ take count files → system ≡ drop count files → found ≡ found_in dialect base (texts own) (texts system) → EndsSo sink (IsChecking untouched dialect found names (texts files)) result
+      → EndsSo sink (IsChecking untouched dialect (found_in dialect base (take count (texts files)) (drop count (texts files))) names (texts files)) result
+  apart_told found eo es ef e = subst (λ (o : Option Refusal). EndsSo sink (IsChecking untouched dialect o names (texts files)) result) (ef ∙ found_apart eo es) e
 
 -- the same of what was read, by the names of a program's files and all names
-module _ (sink : Change Channels) (names : List (Bor Text)) (linked : words_base.Base) (all files : List Text) (result : Status) where
+module _ (sink : Change Channels) (names : List (Bor Text)) (target : Target) (all files : List Text) (result : Status) where
   abbrev Telling : Base → ℕ → List Text → List Text → Type 0
-  Telling base count shown read = EndsSo sink (IsChecking untouched (found_in base (take count read) (drop count read)) shown read) result
+  Telling base count shown read = EndsSo sink (IsChecking untouched target.dialect (found_in target.dialect base (take count read) (drop count read)) shown read) result
 
-  pub all_told : (base : Base) (count : ℕ) (shown read : List Text) → base ≡ base_for linked → count ≡ length names → shown ≡ all → read ≡ files → Telling base count shown read
-      → EndsSo sink (IsChecking untouched (found_of (base_for linked) (names_of names) files) all files) result
+  pub all_told : (base : Base) (count : ℕ) (shown read : List Text) → base ≡ base_for target.base → count ≡ length names → shown ≡ all → read ≡ files → Telling base count shown read
+      → EndsSo sink (IsChecking untouched target.dialect (found_of target.dialect (base_for target.base) (names_of names) files) all files) result
   all_told built count shown read eb ec es er e =
-      subst (λ (n : ℕ). Telling (base_for linked) n all files) (ec ∙ sym (length-map names (λ (n : Bor Text). n.now)))
-      (subst (λ (list : List Text). Telling (base_for linked) count all list) er
-      (subst (λ (list : List Text). Telling (base_for linked) count list read) es
+      subst (λ (n : ℕ). Telling (base_for target.base) n all files) (ec ∙ sym (length-map names (λ (n : Bor Text). n.now)))
+      (subst (λ (list : List Text). Telling (base_for target.base) count all list) er
+      (subst (λ (list : List Text). Telling (base_for target.base) count list read) es
       (subst (λ (b : Base). Telling b count shown read) eb e)))
 
 -- a program was checked
-module _ (seen : Around) (names : List Text) (linked : words_base.Base) (system : Option Text) (result : Status) where
-  check_comes : (files : List Text) (status : Status) (grown : Channels) → Reads seen.files.before.told (checked_names names system) (Ok files) → IsChecking seen.pages (found_of (base_for linked) names files) (checked_names names system) files status grown
-      → CommandComes seen (check names linked system) status grown
+module _ (seen : Around) (names : List Text) (target : Target) (system : Option Text) (result : Status) where
+  check_comes : (files : List Text) (status : Status) (grown : Channels) → Reads seen.files.before.told (checked_names names system) (Ok files) → IsChecking seen.pages target.dialect (found_of target.dialect (base_for target.base) names files) (checked_names names system) files status grown
+      → CommandComes seen (check names target system) status grown
   check_comes files status grown h (inl e) = let is : status ≡ NoMemory = e.0 in rw is (inl (tt, e.1, e.2))
   check_comes files status grown h (inr d) = inr (files, h, d)
 
-  pub check_carries : (files : List Text) → Reads seen.files.before.told (checked_names names system) (Ok files) → EndsSo seen.sink (IsChecking seen.pages (found_of (base_for linked) names files) (checked_names names system) files) result
-      → Carries seen (check names linked system) result
+  pub check_carries : (files : List Text) → Reads seen.files.before.told (checked_names names system) (Ok files) → EndsSo seen.sink (IsChecking seen.pages target.dialect (found_of target.dialect (base_for target.base) names files) (checked_names names system) files) result
+      → Carries seen (check names target system) result
   check_carries files h b = record { meant = b.meant; grown = b.grown; comes = check_comes files b.meant b.grown h b.so; ends = b.ends }
 
-  pub check_lacking : seen.pages.same → Ends seen.sink NoMemory (refusal_growth NoMemory) result → Carries seen (check names linked system) result
+  pub check_lacking : seen.pages.same → Ends seen.sink NoMemory (refusal_growth NoMemory) result → Carries seen (check names target system) result
   check_lacking k e = record { meant = NoMemory; grown = refusal_growth NoMemory; comes = inl (tt, refl, k); ends = e }
 
 -- beside a page file that it leaves alone
-module _ (files : Change Directory) (sink : Change Channels) (pages : Change BlockFile) (names : List Text) (linked : words_base.Base) (system : Option Text) (result : Status) where
-  check_beside : (status : Status) (grown : Channels) → pages.same → CommandComes (around files sink untouched) (check names linked system) status grown → CommandComes (around files sink pages) (check names linked system) status grown
+module _ (files : Change Directory) (sink : Change Channels) (pages : Change BlockFile) (names : List Text) (target : Target) (system : Option Text) (result : Status) where
+  check_beside : (status : Status) (grown : Channels) → pages.same → CommandComes (around files sink untouched) (check names target system) status grown → CommandComes (around files sink pages) (check names target system) status grown
   check_beside status grown k (inl e) = inl (e.0, e.1, k)
   check_beside status grown k (inr d) = inr (d.0, d.1, (d.2.0, k))
 
-  pub check_kept : pages.same → Carries (around files sink untouched) (check names linked system) result → Carries (around files sink pages) (check names linked system) result
+  pub check_kept : pages.same → Carries (around files sink untouched) (check names target system) result → Carries (around files sink pages) (check names target system) result
   check_kept k c = record { meant = c.meant; grown = c.grown; comes = check_beside c.meant c.grown k c.comes; ends = c.ends }

@@ -38,9 +38,9 @@ module _ (outside : Outside) (loaded : Result Users Refusal) (texts : JobsTexts)
   jobs_made programs is r = record { meant = r.meant; grown = r.grown; so = as_run programs r.meant r.grown is r.so; ends = r.ends }
 
 module _ (seen : Around) (result : Status) (names : List Text) (options : JobsOptions) (texts : JobsTexts) where
-  jobs_come : (status : Status) (grown : Channels) → HasJobsTexts seen.files.before.told names options texts → AreTogetherOf (outside_of seen) (together_loaded texts.programs) texts options status grown → CommandComes seen (jobs names options) status grown
+  jobs_come : (status : Status) (grown : Channels) → HasJobsTexts seen.files.before.told names options texts → AreTogetherOf (outside_of seen) (together_loaded options.dialect texts.programs) texts options status grown → CommandComes seen (jobs names options) status grown
   jobs_come status grown h (inl e) = no_memory seen (jobs names options) status grown e
   jobs_come status grown h (inr d) = inr (h.files, h.read, subst (λ (t : JobsTexts). jobs_of (outside_of seen) t options status grown) (sym h.are) d)
 
-  pub jobs_carries : HasJobsTexts seen.files.before.told names options texts → TogetherOf (outside_of seen) (together_loaded texts.programs) texts options result → Carries seen (jobs names options) result
+  pub jobs_carries : HasJobsTexts seen.files.before.told names options texts → TogetherOf (outside_of seen) (together_loaded options.dialect texts.programs) texts options result → Carries seen (jobs names options) result
   jobs_carries h r = record { meant = r.meant; grown = r.grown; comes = jobs_come r.meant r.grown h r.so; ends = r.ends }

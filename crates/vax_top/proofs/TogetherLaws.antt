@@ -3,7 +3,7 @@ use Rattle.std.proofs.Common.{◌≡◌, ◌⊎◌, inl, inr, ℕ, suc, ◌+◌,
 use Rattle.std.proofs.lemmas.List.{drop-drop}
 use Rattle.std.specs.Prelude.{Vec}
 use Rattle.std.specs.Global.{Global}
-use Rattle.vax_dialect.specs.declared.Dialect.TheVariants.{Vax}
+use Rattle.vax_dialect.specs.declared.Dialect.{Dialect}
 use Rattle.vax_image.specs.declared.Base.TheVariants as base
 use Rattle.vax_command.specs.ReadingView.{texts}
 use Rattle.vax_command.specs.declared.status.Status.{Status}
@@ -43,18 +43,18 @@ module _ {X : Type 0} where
   one_refused front one rest all status same (inr e) = inr e
 
 -- the first of those that are left stands alone in a list of its own
-first_parts : (number : ℕ) (ys one others : List (Vec ℕ Global)) → 0 < length ys → one ≡ take 1 ys → others ≡ drop 1 ys
-    → all_parts number (texts ys) ≡ and_rest (parts_of Vax base.User number (texts one)) (all_parts (suc number) (texts others))
-first_parts number [] one others some is e = absurd (omega arith)
-first_parts number (y ∷ ys) one others some is e = rw (is, e) refl
+first_parts : (dialect : Dialect) (number : ℕ) (ys one others : List (Vec ℕ Global)) → 0 < length ys → one ≡ take 1 ys → others ≡ drop 1 ys
+    → all_parts dialect number (texts ys) ≡ and_rest (parts_of dialect base.User number (texts one)) (all_parts dialect (suc number) (texts others))
+first_parts dialect number [] one others some is e = absurd (omega arith)
+first_parts dialect number (y ∷ ys) one others some is e = rw (is, e) refl
 
-pub parts_at : (number i : ℕ) (xs one : List (Vec ℕ Global)) → i < length xs → one ≡ take 1 (drop i xs)
-    → all_parts number (texts (drop i xs)) ≡ and_rest (parts_of Vax base.User number (texts one)) (all_parts (number + 1) (texts (drop (i + 1) xs)))
-parts_at number i xs one lt is =
+pub parts_at : (dialect : Dialect) (number i : ℕ) (xs one : List (Vec ℕ Global)) → i < length xs → one ≡ take 1 (drop i xs)
+    → all_parts dialect number (texts (drop i xs)) ≡ and_rest (parts_of dialect base.User number (texts one)) (all_parts dialect (number + 1) (texts (drop (i + 1) xs)))
+parts_at dialect number i xs one lt is =
     let behind : drop (i + 1) xs ≡ drop 1 (drop i xs) = sym (drop-drop 1 i xs ∙ ap (λ k. drop k xs) (omega arith)) in
     let next : suc number ≡ number + 1 = omega arith in
-    first_parts number (drop i xs) one (drop (i + 1) xs) (omega (arith, length-drop i xs)) is behind
-    ∙ ap (λ n. and_rest (parts_of Vax base.User number (texts one)) (all_parts n (texts (drop (i + 1) xs)))) next
+    first_parts dialect number (drop i xs) one (drop (i + 1) xs) (omega (arith, length-drop i xs)) is behind
+    ∙ ap (λ n. and_rest (parts_of dialect base.User number (texts one)) (all_parts dialect n (texts (drop (i + 1) xs)))) next
 
 -- an error of one is that of all
 pub err_loads : {X Y : Type 0} (seen : X → Y) (e : Status) (r : Result X Status) (loaded : Result Y Refusal) → IsErrAnd r (λ x. x ≡ e) → IsRefused loaded e ⊎ (e ≡ NoMemory) → Loads seen r loaded

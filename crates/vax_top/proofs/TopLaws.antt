@@ -7,7 +7,6 @@ use Rattle.vax_outside.specs.declared.traits.Chan.TheVariants as channel
 use Rattle.vax_outside.specs.Directory.{Directory}
 use Rattle.vax_outside.specs.declared.traits.FilesFault.TheVariants as faults
 use Rattle.vax_space.specs.declared.Area.{Area}
-use Rattle.vax_dialect.specs.declared.Dialect.TheVariants.{Vax}
 use Rattle.vax_image.specs.declared.Image.{Image}
 use Rattle.vax_asm_listing.specs.Listed as listed
 use Rattle.vax_flat.specs.Parts.{machine_at}
@@ -18,6 +17,8 @@ use Rattle.vax_cli.specs.declared.command.Base as words_base
 use Rattle.vax_cli.specs.declared.command.Format.{Format}
 use Rattle.vax_cli.specs.declared.command.Strictness.{Strictness}
 use Rattle.vax_cli.specs.declared.command.Strictness.TheVariants.{Off}
+use Rattle.vax_cli.specs.declared.command.Target.{Target}
+use Rattle.vax_dialect.specs.declared.Dialect.{Dialect}
 use Rattle.vax_command.specs.Answer.{status_of}
 use Rattle.vax_command.specs.Around.{Around, Change, HasFailed, Outside, around, outside_of, untouched}
 use Rattle.vax_command.specs.Ends.{Ends, EndsSo}
@@ -129,22 +130,22 @@ module _ (seen : Around) where
     }
 
     -- a session was held, or refused
-    session_comes : (names : List Text) (linked : words_base.Base) (script : Text) (options : Options) (texts : Texts) (status : Status) (grown : Channels) → HasTexts seen.files.before.told names options (Some script) texts → IsSessionOf (outside_of seen) (session_programs linked texts) texts options status grown
+    session_comes : (names : List Text) (linked : words_base.Base) (script : Text) (options : Options) (texts : Texts) (status : Status) (grown : Channels) → HasTexts seen.files.before.told names options (Some script) texts → IsSessionOf (outside_of seen) (session_programs options.dialect linked texts) texts options status grown
         → CommandComes seen (console names linked script options) status grown
     session_comes names linked script options texts status grown h (inl e) = no_memory (console names linked script options) status grown e
-    session_comes names linked script options texts status grown h (inr d) = inr (h.files, h.read, subst (λ (t : Texts). session_of (outside_of seen) (session_programs linked) t options status grown) (sym h.are) d)
+    session_comes names linked script options texts status grown h (inr d) = inr (h.files, h.read, subst (λ (t : Texts). session_of (outside_of seen) (session_programs options.dialect linked) t options status grown) (sym h.are) d)
 
-    pub session_carries : (names : List Text) (linked : words_base.Base) (script : Text) (options : Options) (texts : Texts) → HasTexts seen.files.before.told names options (Some script) texts → HeldOf (outside_of seen) (session_programs linked texts) texts options result
+    pub session_carries : (names : List Text) (linked : words_base.Base) (script : Text) (options : Options) (texts : Texts) → HasTexts seen.files.before.told names options (Some script) texts → HeldOf (outside_of seen) (session_programs options.dialect linked texts) texts options result
         → Carries seen (console names linked script options) result
     session_carries names linked script options texts h r = record { meant = r.meant; grown = r.grown; comes = session_comes names linked script options texts r.meant r.grown h r.so; ends = r.ends }
 
     -- a run was saved, or refused
-    save_comes : (names : List Text) (linked : words_base.Base) (options : Options) (texts : Texts) (status : Status) (grown : Channels) → HasTexts seen.files.before.told names options None texts → IsSavedOf (outside_of seen) (session_programs linked texts) texts options status grown
+    save_comes : (names : List Text) (linked : words_base.Base) (options : Options) (texts : Texts) (status : Status) (grown : Channels) → HasTexts seen.files.before.told names options None texts → IsSavedOf (outside_of seen) (session_programs options.dialect linked texts) texts options status grown
         → CommandComes seen (save names linked options) status grown
     save_comes names linked options texts status grown h (inl e) = no_memory (save names linked options) status grown e
-    save_comes names linked options texts status grown h (inr d) = inr (h.files, h.read, subst (λ (t : Texts). SaveDoes (outside_of seen) (session_programs linked t) t options status grown) (sym h.are) d)
+    save_comes names linked options texts status grown h (inr d) = inr (h.files, h.read, subst (λ (t : Texts). SaveDoes (outside_of seen) (session_programs options.dialect linked t) t options status grown) (sym h.are) d)
 
-    pub save_carries : (names : List Text) (linked : words_base.Base) (options : Options) (texts : Texts) → HasTexts seen.files.before.told names options None texts → SavedOf (outside_of seen) (session_programs linked texts) texts options result
+    pub save_carries : (names : List Text) (linked : words_base.Base) (options : Options) (texts : Texts) → HasTexts seen.files.before.told names options None texts → SavedOf (outside_of seen) (session_programs options.dialect linked texts) texts options result
         → Carries seen (save names linked options) result
     save_carries names linked options texts h r = record { meant = r.meant; grown = r.grown; comes = save_comes names linked options texts r.meant r.grown h r.so; ends = r.ends }
 
@@ -175,8 +176,8 @@ module _ (seen : Around) where
     image_refused built Writes status (inr e) k ends = record { meant = status; grown = refusal_growth status; so = inl (e, ap refusal_growth e, k); ends = ends }
 
     -- an image, its instructions, or the listing of sources was written, or these were refused
-    module _ (names : List Text) (linked : words_base.Base) (files : List Text) (h : Reads seen.files.before.told names (Ok files)) (k : seen.pages.same) where
-      pub image_built : (format : Format) (image : Image) (bytes : Text) → image_from (base_for linked) files ≡ Ok image → IsFile format image bytes → Ends seen.sink Done (only channel.Out bytes) result → Carries seen (build names linked format) result
+    module _ (names : List Text) (target : Target) (files : List Text) (h : Reads seen.files.before.told names (Ok files)) (k : seen.pages.same) where
+      pub image_built : (format : Format) (image : Image) (bytes : Text) → image_from target.dialect (base_for target.base) files ≡ Ok image → IsFile format image bytes → Ends seen.sink Done (only channel.Out bytes) result → Carries seen (build names target format) result
       image_built format image bytes is writes ends = record {
         meant = Done;
         grown = only channel.Out bytes;
@@ -184,7 +185,7 @@ module _ (seen : Around) where
         ends = ends;
       }
 
-      pub image_listed : (image : Image) (text : Text) → image_from (base_for linked) files ≡ Ok image → IsListing image text → Ends seen.sink Done (only channel.Out text) result → Carries seen (list names linked) result
+      pub image_listed : (image : Image) (text : Text) → image_from target.dialect (base_for target.base) files ≡ Ok image → IsListing image text → Ends seen.sink Done (only channel.Out text) result → Carries seen (list names target) result
       image_listed image text is writes ends = record {
         meant = Done;
         grown = only channel.Out text;
@@ -192,17 +193,17 @@ module _ (seen : Around) where
         ends = ends;
       }
 
-      pub sources_listed : (text : Text) → listed.IsListing Vax (base_for linked) files text → Ends seen.sink Done (only channel.Out text) result → Carries seen (listing names linked) result
+      pub sources_listed : (text : Text) → listed.IsListing target.dialect (base_for target.base) files text → Ends seen.sink Done (only channel.Out text) result → Carries seen (listing names target) result
       sources_listed text l ends = record {
         meant = Done;
         grown = only channel.Out text;
-        comes = inr (files, h, inr (record { image = l.image; is_built = sources_built (base_for linked) files text l; text = text; writes = l; answer = refl; wrote = refl }, k));
+        comes = inr (files, h, inr (record { image = l.image; is_built = sources_built target.dialect (base_for target.base) files text l; text = text; writes = l; answer = refl; wrote = refl }, k));
         ends = ends;
       }
 
-      pub sources_refused : (status : Status) → IsRefused (sources_image (base_for linked) files) status ⊎ (status ≡ NoMemory) → Ends seen.sink status (refusal_growth status) result → Carries seen (listing names linked) result
+      pub sources_refused : (status : Status) → IsRefused (sources_image target.dialect (base_for target.base) files) status ⊎ (status ≡ NoMemory) → Ends seen.sink status (refusal_growth status) result → Carries seen (listing names target) result
       sources_refused status (inl r) ends = record { meant = status; grown = refusal_growth status; comes = inr (files, h, inl (record { refused = r; wrote = refl; keeps = k })); ends = ends }
-      sources_refused status (inr e) ends = record { meant = status; grown = refusal_growth status; comes = no_memory (listing names linked) status (refusal_growth status) (e, ap refusal_growth e, k); ends = ends }
+      sources_refused status (inr e) ends = record { meant = status; grown = refusal_growth status; comes = no_memory (listing names target) status (refusal_growth status) (e, ap refusal_growth e, k); ends = ends }
 
     -- a text about the program was shown
     about_comes : (status : Status) (grown : Channels) → IsAbout status grown → seen.pages.same → CommandComes seen about status grown
@@ -225,26 +226,26 @@ does_beside : (pages : Change BlockFile) (built : Result Image Refusal) (Writes 
 does_beside pages built Writes status grown k (inl r) = inl (record { refused = r.refused; wrote = r.wrote; keeps = k })
 does_beside pages built Writes status grown k (inr w) = inr (w.0, k)
 
-module _ (files : Change Directory) (sink : Change Channels) (pages : Change BlockFile) (names : List Text) (linked : words_base.Base) (result : Status) where
-  build_beside : (format : Format) (status : Status) (grown : Channels) → pages.same → CommandComes (around files sink untouched) (build names linked format) status grown → CommandComes (around files sink pages) (build names linked format) status grown
+module _ (files : Change Directory) (sink : Change Channels) (pages : Change BlockFile) (names : List Text) (target : Target) (result : Status) where
+  build_beside : (format : Format) (status : Status) (grown : Channels) → pages.same → CommandComes (around files sink untouched) (build names target format) status grown → CommandComes (around files sink pages) (build names target format) status grown
   build_beside format status grown k (inl e) = inl (e.0, e.1, k)
-  build_beside format status grown k (inr d) = inr (d.0, d.1, does_beside pages (image_from (base_for linked) d.0) (IsFile format) status grown k d.2)
+  build_beside format status grown k (inr d) = inr (d.0, d.1, does_beside pages (image_from target.dialect (base_for target.base) d.0) (IsFile format) status grown k d.2)
 
-  pub build_kept : (format : Format) → pages.same → Carries (around files sink untouched) (build names linked format) result → Carries (around files sink pages) (build names linked format) result
+  pub build_kept : (format : Format) → pages.same → Carries (around files sink untouched) (build names target format) result → Carries (around files sink pages) (build names target format) result
   build_kept format k c = record { meant = c.meant; grown = c.grown; comes = build_beside format c.meant c.grown k c.comes; ends = c.ends }
 
-  list_beside : (status : Status) (grown : Channels) → pages.same → CommandComes (around files sink untouched) (list names linked) status grown → CommandComes (around files sink pages) (list names linked) status grown
+  list_beside : (status : Status) (grown : Channels) → pages.same → CommandComes (around files sink untouched) (list names target) status grown → CommandComes (around files sink pages) (list names target) status grown
   list_beside status grown k (inl e) = inl (e.0, e.1, k)
-  list_beside status grown k (inr d) = inr (d.0, d.1, does_beside pages (image_from (base_for linked) d.0) IsListing status grown k d.2)
+  list_beside status grown k (inr d) = inr (d.0, d.1, does_beside pages (image_from target.dialect (base_for target.base) d.0) IsListing status grown k d.2)
 
-  pub list_kept : pages.same → Carries (around files sink untouched) (list names linked) result → Carries (around files sink pages) (list names linked) result
+  pub list_kept : pages.same → Carries (around files sink untouched) (list names target) result → Carries (around files sink pages) (list names target) result
   list_kept k c = record { meant = c.meant; grown = c.grown; comes = list_beside c.meant c.grown k c.comes; ends = c.ends }
 
-  listing_beside : (status : Status) (grown : Channels) → pages.same → CommandComes (around files sink untouched) (listing names linked) status grown → CommandComes (around files sink pages) (listing names linked) status grown
+  listing_beside : (status : Status) (grown : Channels) → pages.same → CommandComes (around files sink untouched) (listing names target) status grown → CommandComes (around files sink pages) (listing names target) status grown
   listing_beside status grown k (inl e) = inl (e.0, e.1, k)
-  listing_beside status grown k (inr d) = inr (d.0, d.1, does_beside pages (sources_image (base_for linked) d.0) (IsSourceListing (base_for linked) d.0) status grown k d.2)
+  listing_beside status grown k (inr d) = inr (d.0, d.1, does_beside pages (sources_image target.dialect (base_for target.base) d.0) (IsSourceListing target.dialect (base_for target.base) d.0) status grown k d.2)
 
-  pub listing_kept : pages.same → Carries (around files sink untouched) (listing names linked) result → Carries (around files sink pages) (listing names linked) result
+  pub listing_kept : pages.same → Carries (around files sink untouched) (listing names target) result → Carries (around files sink pages) (listing names target) result
   listing_kept k c = record { meant = c.meant; grown = c.grown; comes = listing_beside c.meant c.grown k c.comes; ends = c.ends }
 
 -- Which answers a command may give that reads these names, and what it writes where it refuses.
@@ -455,28 +456,28 @@ module _ (seen : Around) (names : Wanted) (grown : Channels) where
   image_allowed built Writes status (inl r) = refused_allowed built status r.refused r.wrote
   image_allowed built Writes status (inr b) = subst (Allowed seen names grown) (sym b.0.answer) tt
 
-  told_allowed : (found : Option Refusal) (checked files : List Text) (status : Status) → IsTold found checked files status grown → Allowed seen names grown status
-  told_allowed None checked files status t = subst (Allowed seen names grown) (sym t.answer) tt
-  told_allowed (Some refusal) checked files status t = subst (Allowed seen names grown) (sym t.answer) tt
+  told_allowed : (dialect : Dialect) (found : Option Refusal) (checked files : List Text) (status : Status) → IsTold dialect found checked files status grown → Allowed seen names grown status
+  told_allowed dialect None checked files status t = subst (Allowed seen names grown) (sym t.answer) tt
+  told_allowed dialect (Some refusal) checked files status t = subst (Allowed seen names grown) (sym t.answer) tt
 
 module _ (seen : Around) (grown : Channels) where
   carried_allowed : (said : Said) (files : List Text) (status : Status) → Does (outside_of seen) said files status grown → Allowed seen (wanted_of said) grown status
   carried_allowed (bare names options) files status d = does_allowed seen (wanted_of (bare names options)) grown _ _ _ options status d
   carried_allowed (run names options) files status d = does_allowed seen (wanted_of (run names options)) grown _ _ _ options status d
-  carried_allowed (build names linked format) files status d = image_allowed seen (plain names) grown _ (IsFile format) status d
-  carried_allowed (list names linked) files status d = image_allowed seen (plain names) grown _ IsListing status d
-  carried_allowed (listing names linked) files status d = image_allowed seen (plain names) grown _ (IsSourceListing (base_for linked) files) status d
-  carried_allowed (check names linked system) files status d = told_allowed seen (plain (checked_names names system)) grown (found_of (base_for linked) names files) (checked_names names system) files status d.0
+  carried_allowed (build names target format) files status d = image_allowed seen (plain names) grown _ (IsFile format) status d
+  carried_allowed (list names target) files status d = image_allowed seen (plain names) grown _ IsListing status d
+  carried_allowed (listing names target) files status d = image_allowed seen (plain names) grown _ (IsSourceListing target.dialect (base_for target.base) files) status d
+  carried_allowed (check names target system) files status d = told_allowed seen (plain (checked_names names system)) grown target.dialect (found_of target.dialect (base_for target.base) names files) (checked_names names system) files status d.0
   carried_allowed (console names linked script options) files status d =
-      let texts = texts_of (length names) options (Some script) files in console_allowed seen (wanted_of (console names linked script options)) grown (session_programs linked texts) texts options status d
+      let texts = texts_of (length names) options (Some script) files in console_allowed seen (wanted_of (console names linked script options)) grown (session_programs options.dialect linked texts) texts options status d
   carried_allowed (trace names linked tracing options) files status d =
-      let texts = texts_of (length names) options None files in trace_allowed seen (wanted_of (trace names linked tracing options)) grown (session_programs linked texts) texts tracing options status d
+      let texts = texts_of (length names) options None files in trace_allowed seen (wanted_of (trace names linked tracing options)) grown (session_programs options.dialect linked texts) texts tracing options status d
   carried_allowed (work seed size options) files status d = does_allowed seen (plain (of_options options None)) grown _ _ _ options status d
   carried_allowed (save names linked options) files status d =
-      let texts = texts_of (length names) options None files in save_allowed seen (wanted_of (save names linked options)) grown (session_programs linked texts) texts options status d
+      let texts = texts_of (length names) options None files in save_allowed seen (wanted_of (save names linked options)) grown (session_programs options.dialect linked texts) texts options status d
   carried_allowed (resume name options) files status d = resume_allowed seen (wanted_of (resume name options)) grown files options status d
   carried_allowed (jobs names options) files status d =
-      let texts = jobs_texts_of (length names) options files in jobs_allowed seen (wanted_of (jobs names options)) grown (together_loaded texts.programs) texts options status d
+      let texts = jobs_texts_of (length names) options files in jobs_allowed seen (wanted_of (jobs names options)) grown (together_loaded options.dialect texts.programs) texts options status d
   carried_allowed (vectors request) files status d = vectors_allowed seen (plain []) grown request status d
   carried_allowed about files status d = subst (Allowed seen (plain []) grown) (sym d.1) tt
 

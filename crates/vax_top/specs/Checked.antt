@@ -9,7 +9,7 @@ use Rattle.vax_command.specs.declared.status.Part.{Part}
 use Rattle.vax_command.specs.declared.status.Part.TheVariants as part
 use Rattle.vax_command.specs.declared.status.Status.{Status}
 use Rattle.vax_command.specs.declared.status.Status.TheVariants.{Done, Told}
-use Rattle.vax_dialect.specs.declared.Dialect.TheVariants.{Vax}
+use Rattle.vax_dialect.specs.declared.Dialect.{Dialect}
 use Rattle.vax_image.specs.declared.Base.{Base}
 use Rattle.vax_outside.specs.Blocks.{BlockFile}
 use Rattle.vax_outside.specs.Channels.{Channels, only}
@@ -23,17 +23,17 @@ refusal_of (Ok x) = None
 refusal_of (Err refusal) = Some refusal
 
 -- Why files give no program, if they give none: no image for a base, or, where a system's file is given, none in user mode under this.
-abbrev pub found_in : Base → (files system : List Text) → Option Refusal
-found_in linked files [] = refusal_of (image_from linked files)
-found_in linked files (system ∷ more) = refusal_of (user_loaded files system)
+abbrev pub found_in : Dialect → Base → (files system : List Text) → Option Refusal
+found_in dialect linked files [] = refusal_of (image_from dialect linked files)
+found_in dialect linked files (system ∷ more) = refusal_of (user_loaded dialect files (Some system))
 
 -- the names of a program's files, and behind them that of a system's, if it is given
 abbrev pub checked_names : List Text → Option Text → List Text
 checked_names names system = names ++ given system
 
 -- the same of files, of which the first are the program's
-abbrev pub found_of : Base → List Text → (files : List Text) → Option Refusal
-found_of linked names files = found_in linked (take (length names) files) (drop (length names) files)
+abbrev pub found_of : Dialect → Base → List Text → (files : List Text) → Option Refusal
+found_of dialect linked names files = found_in dialect linked (take (length names) files) (drop (length names) files)
 
 -- what of a program keeps it from being built
 abbrev pub part_of : Refusal → Part
@@ -47,16 +47,16 @@ answer_of None = Done
 answer_of (Some refusal) = Told (part_of refusal)
 
 -- What was found was told on Out: no error of a program that is built, and of any other what keeps it from that.
-pub record IsTold (found : Option Refusal) (names files : List Text) (status : Status) (grown : Channels) : Type 0 where
+pub record IsTold (dialect : Dialect) (found : Option Refusal) (names files : List Text) (status : Status) (grown : Channels) : Type 0 where
   pub text : Text
-  pub tells : Tells Vax names files found text
+  pub tells : Tells dialect names files found text
   pub answer : status ≡ answer_of found
   pub wrote : grown ≡ only Out text
 
 -- what `check` does
-abbrev pub CheckDoes : Change BlockFile → Option Refusal → (names files : List Text) → Status → Channels → Type 0
-CheckDoes pages found names files status grown = IsTold found names files status grown × pages.same
+abbrev pub CheckDoes : Change BlockFile → Dialect → Option Refusal → (names files : List Text) → Status → Channels → Type 0
+CheckDoes pages dialect found names files status grown = IsTold dialect found names files status grown × pages.same
 
 -- a program was checked so, or memory was refused before
-abbrev pub IsChecking : Change BlockFile → Option Refusal → (names files : List Text) → Status → Channels → Type 0
-IsChecking pages found names files status grown = LacksMemory pages status grown ⊎ CheckDoes pages found names files status grown
+abbrev pub IsChecking : Change BlockFile → Dialect → Option Refusal → (names files : List Text) → Status → Channels → Type 0
+IsChecking pages dialect found names files status grown = LacksMemory pages status grown ⊎ CheckDoes pages dialect found names files status grown

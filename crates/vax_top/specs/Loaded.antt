@@ -1,6 +1,7 @@
 -- The programs of a command: what its files come to.
 use Rattle.std.specs.Prelude.{◌≡◌, ℕ, suc, false, List, [], ◌∷◌, Option, Some, None, Result, Ok, Err}
 use Rattle.vax_asm.specs.Walk.{assembled}
+use Rattle.vax_dialect.specs.declared.Dialect.{Dialect}
 use Rattle.vax_dialect.specs.declared.Dialect.TheVariants.{Vax}
 use Rattle.vax_guest.specs.Executive.{executive_source}
 use Rattle.vax_image.specs.declared.Base.{Base}
@@ -21,18 +22,18 @@ abbrev pub and_then : {X Y : Type 0} → Result X Refusal → (X → Result Y Re
 and_then (Ok x) next = next x
 and_then (Err refusal) next = Err refusal
 
--- The image of a program's files, which are numbered from 1.
-abbrev pub image_from : Base → List Text → Result Image Refusal
-image_from base texts = and_then (parts_of Vax base 1 texts) linked_of
+-- The image of a program's files, which are numbered from 1; its sources are of a dialect.
+abbrev pub image_from : Dialect → Base → List Text → Result Image Refusal
+image_from dialect base texts = and_then (parts_of dialect base 1 texts) linked_of
 
--- The modules of sources, numbered from the first number on. A file that begins as an image or an executable is a source here like any other.
-abbrev pub sources_from : ℕ → List Text → Result (List Module) Refusal
-sources_from file [] = Ok []
-sources_from file (text ∷ texts) = and_others file (assembled Vax text) (sources_from (suc file) texts)
+-- The modules of sources of a dialect, numbered from the first number on. A file that begins as an image or an executable is a source here like any other.
+abbrev pub sources_from : Dialect → ℕ → List Text → Result (List Module) Refusal
+sources_from dialect file [] = Ok []
+sources_from dialect file (text ∷ texts) = and_others file (assembled dialect text) (sources_from dialect (suc file) texts)
 
 -- The image that sources are linked to, which are numbered from 1.
-abbrev pub sources_image : Base → List Text → Result Image Refusal
-sources_image base texts = and_then (as_parts base (sources_from 1 texts)) linked_of
+abbrev pub sources_image : Dialect → Base → List Text → Result Image Refusal
+sources_image dialect base texts = and_then (as_parts base (sources_from dialect 1 texts)) linked_of
 
 -- none of them begins as an image or an executable
 abbrev pub AreSources : List Text → Type 0
@@ -40,22 +41,22 @@ AreSources [] = Unit {0}
 AreSources (text ∷ texts) = (is_linked text ≡ false) × AreSources texts
 
 -- A program for the bare machine.
-abbrev pub bare_loaded : List Text → Result Loaded Refusal
-bare_loaded texts = alone (image_from base.Bare texts)
+abbrev pub bare_loaded : Dialect → List Text → Result Loaded Refusal
+bare_loaded dialect texts = alone (image_from dialect base.Bare texts)
 
 -- A program in user mode and its system, whose file has number 0: both are assembled before either is linked.
 abbrev pub linked_over : Parts → Parts → Result Loaded Refusal
 linked_over user system =
     and_then (linked_of user) (λ program. and_then (linked_of system) (λ below. Ok (record { system = below; user = Some program })))
 
-abbrev pub user_loaded : List Text → (system : Text) → Result Loaded Refusal
-user_loaded texts system =
-    and_then (parts_of Vax base.User 1 texts) (λ user. and_then (parts_of Vax base.Bare 0 (system ∷ [])) (λ below. linked_over user below))
+-- the parts of a system: those of its file, whose source is of the program's dialect, or of the executive, which is of the smaller one
+abbrev pub system_parts : Dialect → Option Text → Result Parts Refusal
+system_parts dialect None = parts_of Vax base.Bare 0 (executive_source ∷ [])
+system_parts dialect (Some text) = parts_of dialect base.Bare 0 (text ∷ [])
 
--- the source or the image of a system: the executive, where none is given
-abbrev pub system_text : Option Text → Text
-system_text None = executive_source
-system_text (Some text) = text
+abbrev pub user_loaded : Dialect → List Text → (system : Option Text) → Result Loaded Refusal
+user_loaded dialect texts system =
+    and_then (parts_of dialect base.User 1 texts) (λ user. and_then (system_parts dialect system) (λ below. linked_over user below))
 
 -- how a refusal is answered
 abbrev pub refused_as : Refusal → Status

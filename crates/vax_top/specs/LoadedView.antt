@@ -2,7 +2,7 @@
 use Rattle.std.specs.Prelude.{◌≡◌, ◌⊎◌, ℕ, List, Result, Ok, Err}
 use Rattle.vax_asm_listing.specs.Listed.{Refuses}
 use Rattle.vax_asm_listing.specs.declared.program.ListingError.{ListingError}
-use Rattle.vax_dialect.specs.declared.Dialect.TheVariants.{Vax}
+use Rattle.vax_dialect.specs.declared.Dialect.{Dialect}
 use Rattle.vax_image.specs.declared.Base.{Base}
 use Rattle.vax_image.specs.declared.Image.{Image}
 use Rattle.vax_program.specs.Program as specs
@@ -27,5 +27,5 @@ Answers errors.NoMemory status = status ≡ NoMemory
 -- this is why sources give no program where that is why they have no listing
 abbrev pub AnswersListing : ListingError → ProgramError → Type 0
 AnswersListing error answer =
-    (region : Base) → (sources : List (List ℕ)) → Refuses Vax region sources error
-    → program.Answers (λ (image : Image). image) (Err answer) (sources_image region sources)
+    (dialect : Dialect) → (region : Base) → (sources : List (List ℕ)) → Refuses dialect region sources error
+    → program.Answers (λ (image : Image). image) (Err answer) (sources_image dialect region sources)

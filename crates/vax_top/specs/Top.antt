@@ -10,8 +10,7 @@ use Rattle.vax_cli.specs.declared.command.Base as words_base
 use Rattle.vax_cli.specs.declared.command.Base.TheVariants as words_bases
 use Rattle.vax_cli.specs.declared.command.Format.{Format}
 use Rattle.vax_cli.specs.declared.command.Format.TheVariants.{First, Second}
-use Rattle.vax_dialect.specs.declared.Dialect.TheVariants.{Vax}
-use Rattle.vax_guest.specs.Executive.{executive_source}
+use Rattle.vax_dialect.specs.declared.Dialect.{Dialect}
 use Rattle.vax_guest.specs.Workload.{workload}
 use Rattle.vax_image.specs.File.{File, File2}
 use Rattle.vax_image.specs.declared.Base.{Base}
@@ -24,7 +23,7 @@ use Rattle.vax_command.specs.Around.{Around, Change, Outside, outside_of}
 use Rattle.vax_command.specs.Ends.{Ends, EndsSo}
 use Rattle.vax_top.specs.Vectors.{VectorsDo}
 use Rattle.vax_top.specs.Checked.{CheckDoes, checked_names, found_of}
-use Rattle.vax_top.specs.Loaded.{IsRefused, bare_loaded, image_from, sources_image, system_text, user_loaded}
+use Rattle.vax_top.specs.Loaded.{IsRefused, bare_loaded, image_from, sources_image, user_loaded}
 use Rattle.vax_command.specs.Reading.{Texts, of_options, texts_of}
 use Rattle.vax_command.specs.Loaded.{Loaded}
 use Rattle.vax_command.specs.Running.{LacksMemory, RunsSo}
@@ -44,10 +43,10 @@ use Rattle.vax_command.specs.declared.status.Status.TheVariants.{Done, NoMemory,
 abbrev pub reads_of : Said → List Text
 reads_of (bare names options) = names ++ of_options options None
 reads_of (run names options) = names ++ of_options options None
-reads_of (build names linked format) = names
-reads_of (list names linked) = names
-reads_of (source_listing names linked) = names
-reads_of (check names linked system) = checked_names names system
+reads_of (build names target format) = names
+reads_of (list names target) = names
+reads_of (source_listing names target) = names
+reads_of (check names target system) = checked_names names system
 reads_of (console names linked script options) = names ++ of_options options (Some script)
 reads_of (trace names linked tracing options) = names ++ of_options options None
 reads_of (save names linked options) = names ++ of_options options None
@@ -109,7 +108,7 @@ TogetherDo outside loaded texts options status grown =
 
 -- their texts come to these programs, and they ran so
 abbrev pub jobs_of : Outside → JobsTexts → JobsOptions → Status → Channels → Type 0
-jobs_of outside texts options status grown = TogetherDo outside (together_loaded texts.programs) texts options status grown
+jobs_of outside texts options status grown = TogetherDo outside (together_loaded options.dialect texts.programs) texts options status grown
 
 -- the bytes of an image in a version of the format
 abbrev pub IsFile : Format → Image → Text → Type 0
@@ -121,8 +120,8 @@ abbrev pub IsListing : Image → Text → Type 0
 IsListing image text = text ≡ listing image.areas
 
 -- the listing of sources, which goes with the image that they are linked to
-abbrev pub IsSourceListing : Base → List Text → Image → Text → Type 0
-IsSourceListing linked sources image text = listed.IsListing Vax linked sources text
+abbrev pub IsSourceListing : Dialect → Base → List Text → Image → Text → Type 0
+IsSourceListing dialect linked sources image text = listed.IsListing dialect linked sources text
 
 -- the image of a program was written to Out, so
 pub record IsWritten (built : Result Image Refusal) (Writes : Image → Text → Type 0) (status : Status) (grown : Channels) : Type 0 where
@@ -174,22 +173,22 @@ IsWriting pages built Writes status grown = LacksMemory pages status grown ⊎ I
 abbrev pub run_of : Outside → (Texts → Result Loaded Refusal) → Texts → Options → Status → Channels → Type 0
 run_of outside loaded texts options status grown = RunDoes outside (loaded texts) texts.input texts.schedule options status grown
 
-abbrev pub bare_programs : Texts → Result Loaded Refusal
-bare_programs texts = bare_loaded texts.programs
+abbrev pub bare_programs : Dialect → Texts → Result Loaded Refusal
+bare_programs dialect texts = bare_loaded dialect texts.programs
 
-abbrev pub user_programs : Texts → Result Loaded Refusal
-user_programs texts = user_loaded texts.programs (system_text texts.system)
+abbrev pub user_programs : Dialect → Texts → Result Loaded Refusal
+user_programs dialect texts = user_loaded dialect texts.programs texts.system
 
 -- a session's, under a system or alone on the machine
-abbrev pub session_loaded : words_base.Base → List Text → Option Text → Result Loaded Refusal
-session_loaded words_bases.User texts system = user_loaded texts (system_text system)
-session_loaded words_bases.Bare texts system = bare_loaded texts
+abbrev pub session_loaded : Dialect → words_base.Base → List Text → Option Text → Result Loaded Refusal
+session_loaded dialect words_bases.User texts system = user_loaded dialect texts system
+session_loaded dialect words_bases.Bare texts system = bare_loaded dialect texts
 
-abbrev pub session_programs : words_base.Base → Texts → Result Loaded Refusal
-session_programs linked texts = session_loaded linked texts.programs texts.system
+abbrev pub session_programs : Dialect → words_base.Base → Texts → Result Loaded Refusal
+session_programs dialect linked texts = session_loaded dialect linked texts.programs texts.system
 
-abbrev pub work_programs : ℕ → ℕ → Texts → Result Loaded Refusal
-work_programs seed size texts = user_loaded (workload seed size ∷ []) executive_source
+abbrev pub work_programs : Dialect → (seed size : ℕ) → Texts → Result Loaded Refusal
+work_programs dialect seed size texts = user_loaded dialect (workload seed size ∷ []) None
 
 -- the texts of a session come to these programs, and it went so
 abbrev pub session_of : Outside → (Texts → Result Loaded Refusal) → Texts → Options → Status → Channels → Type 0
@@ -207,26 +206,26 @@ base_for words_bases.Bare = bases.Bare
 -- what a command does with its files: the table of commands
 abbrev pub Does : Outside → Said → (files : List Text) → Status → Channels → Type 0
 Does outside (bare names options) files status grown =
-    run_of outside bare_programs (texts_of (length names) options None files) options status grown
+    run_of outside (bare_programs options.dialect) (texts_of (length names) options None files) options status grown
 Does outside (run names options) files status grown =
-    run_of outside user_programs (texts_of (length names) options None files) options status grown
+    run_of outside (user_programs options.dialect) (texts_of (length names) options None files) options status grown
 Does outside (work seed size options) files status grown =
-    run_of outside (work_programs seed size) (texts_of 0 options None files) options status grown
-Does outside (build names linked format) files status grown =
-    ImageDoes outside.pages (image_from (base_for linked) files) (IsFile format) status grown
-Does outside (list names linked) files status grown =
-    ImageDoes outside.pages (image_from (base_for linked) files) IsListing status grown
-Does outside (source_listing names linked) files status grown =
-    ImageDoes outside.pages (sources_image (base_for linked) files) (IsSourceListing (base_for linked) files) status grown
-Does outside (check names linked system) files status grown =
-    CheckDoes outside.pages (found_of (base_for linked) names files) (checked_names names system) files status grown
+    run_of outside (work_programs options.dialect seed size) (texts_of 0 options None files) options status grown
+Does outside (build names target format) files status grown =
+    ImageDoes outside.pages (image_from target.dialect (base_for target.base) files) (IsFile format) status grown
+Does outside (list names target) files status grown =
+    ImageDoes outside.pages (image_from target.dialect (base_for target.base) files) IsListing status grown
+Does outside (source_listing names target) files status grown =
+    ImageDoes outside.pages (sources_image target.dialect (base_for target.base) files) (IsSourceListing target.dialect (base_for target.base) files) status grown
+Does outside (check names target system) files status grown =
+    CheckDoes outside.pages target.dialect (found_of target.dialect (base_for target.base) names files) (checked_names names system) files status grown
 Does outside (console names linked script options) files status grown =
-    session_of outside (session_programs linked) (texts_of (length names) options (Some script) files) options status grown
+    session_of outside (session_programs options.dialect linked) (texts_of (length names) options (Some script) files) options status grown
 Does outside (trace names linked tracing options) files status grown =
-    trace_of outside (session_programs linked) (texts_of (length names) options None files) tracing options status grown
+    trace_of outside (session_programs options.dialect linked) (texts_of (length names) options None files) tracing options status grown
 Does outside (vectors request) files status grown = VectorsDo outside.pages request status grown
 Does outside (save names linked options) files status grown =
-    let texts = texts_of (length names) options None files in SaveDoes outside (session_programs linked texts) texts options status grown
+    let texts = texts_of (length names) options None files in SaveDoes outside (session_programs options.dialect linked texts) texts options status grown
 Does outside (resume name options) files status grown = ResumeDoes outside files options status grown
 Does outside (jobs names options) files status grown = jobs_of outside (jobs_texts_of (length names) options files) options status grown
 Does outside about files status grown =

@@ -1,5 +1,5 @@
 //! The command `check`.
-ghost use Rattle.std.specs.Prelude.{◌≡◌, ◌≤◌, ◌+◌, ◌∷◌, [], ℕ, List, IfOk, drop, length, take};
+ghost use Rattle.std.specs.Prelude.{◌≡◌, ◌≤◌, ◌+◌, ◌∷◌, [], ℕ, List, IfOk, Some, drop, length, take};
 ghost use Rattle.std.specs.Option.{option_copied, option_map};
 ghost use Rattle.vax_cli.specs.Said.{names_of};
 ghost use Rattle.vax_cli.specs.Words.{check};
@@ -16,7 +16,7 @@ ghost use Rattle.vax_top.specs.Top.{Carries, base_for};
 use crate::commands::base_for;
 use std::alloc::{AllocError, Global};
 use vax_check::{Files as Checked, text_of};
-use vax_cli::Base;
+use vax_cli::{Base, Target};
 use vax_command::{Part, Programs, Status, load_files, refuse};
 use vax_dialect::Dialect;
 use vax_image::Image;
@@ -25,18 +25,24 @@ use vax_program::{ProgramError, Refusal, link_parts, read_parts};
 use vax_space::NoMemory;
 
 /// The image of a program's files for a base.
-fn image_of(alloc: Global, base: vax_image::Base, files: &[Vec<u8>]) -> Result<Image, ProgramError>
+fn image_of(
+    alloc: Global,
+    dialect: Dialect,
+    base: vax_image::Base,
+    files: &[Vec<u8>],
+) -> Result<Image, ProgramError>
     requires some { 1 ≤ length files.now }
     requires few { length files.now ≤ 8 }
-    ensures { Answers (λ image. image) result (image_from base (texts_seen files.now)) }
+    ensures { Answers (λ image. image) result (image_from dialect base (texts_seen files.now)) }
 {
-    let parts = read_parts(alloc, Dialect::Vax, base, 1, files)?;
+    let parts = read_parts(alloc, dialect, base, 1, files)?;
     link_parts(alloc, parts)
 }
 
 /// A program in user mode and its system, of one file.
 fn programs_of(
     alloc: Global,
+    dialect: Dialect,
     files: &[Vec<u8>],
     system: &[Vec<u8>],
 ) -> Result<Programs, ProgramError>
@@ -44,10 +50,10 @@ fn programs_of(
     requires few { length files.now ≤ 8 }
     requires one { length system.now ≡ 1 }
     ensures { (text : List ℕ) → texts_seen system.now ≡ text ∷ [] →
-        Answers loaded_seen result (user_loaded (texts_seen files.now) text) }
+        Answers loaded_seen result (user_loaded dialect (texts_seen files.now) (Some text)) }
 {
-    let user = read_parts(alloc, Dialect::Vax, vax_image::Base::User, 1, files)?;
-    let below = read_parts(alloc, Dialect::Vax, vax_image::Base::Bare, 0, system)?;
+    let user = read_parts(alloc, dialect, vax_image::Base::User, 1, files)?;
+    let below = read_parts(alloc, dialect, vax_image::Base::Bare, 0, system)?;
     let user = link_parts(alloc, user)?;
     let system = link_parts(alloc, below)?;
     Ok(Programs {
@@ -60,15 +66,16 @@ fn programs_of(
 #[tactic(auto, using(crate::proofs::CheckLaws::not_refused, crate::proofs::CheckLaws::refused_so))]
 fn find_alone(
     alloc: Global,
+    dialect: Dialect,
     base: vax_image::Base,
     files: &[Vec<u8>],
 ) -> Result<Option<Refusal>, NoMemory>
     requires some { 1 ≤ length files.now }
     requires few { length files.now ≤ 8 }
     ensures { IfOk result (λ o. option_map refusal_seen o
-        ≡ refusal_of (image_from base (texts_seen files.now))) }
+        ≡ refusal_of (image_from dialect base (texts_seen files.now))) }
 {
-    match image_of(alloc, base, files) {
+    match image_of(alloc, dialect, base, files) {
         Ok(_) => Ok(None),
         Err(ProgramError::Refused(refusal)) => Ok(Some(refusal)),
         Err(ProgramError::NoMemory) => Err(NoMemory),
@@ -79,6 +86,7 @@ fn find_alone(
 #[tactic(auto, using(crate::proofs::CheckLaws::not_refused, crate::proofs::CheckLaws::refused_so))]
 fn find_under(
     alloc: Global,
+    dialect: Dialect,
     files: &[Vec<u8>],
     system: &[Vec<u8>],
 ) -> Result<Option<Refusal>, NoMemory>
@@ -87,9 +95,9 @@ fn find_under(
     requires one { length system.now ≡ 1 }
     ensures { (text : List ℕ) → texts_seen system.now ≡ text ∷ [] →
         IfOk result (λ o. option_map refusal_seen o
-        ≡ refusal_of (user_loaded (texts_seen files.now) text)) }
+        ≡ refusal_of (user_loaded dialect (texts_seen files.now) (Some text))) }
 {
-    match programs_of(alloc, files, system) {
+    match programs_of(alloc, dialect, files, system) {
         Ok(_) => Ok(None),
         Err(ProgramError::Refused(refusal)) => Ok(Some(refusal)),
         Err(ProgramError::NoMemory) => Err(NoMemory),
@@ -99,6 +107,7 @@ fn find_under(
 /// Why a program's files, and that of its system if there is one, give no program; none where they give one.
 fn find(
     alloc: Global,
+    dialect: Dialect,
     base: vax_image::Base,
     files: &[Vec<u8>],
     system: &[Vec<u8>],
@@ -107,12 +116,12 @@ fn find(
     requires few { length files.now ≤ 8 }
     requires one { length system.now ≤ 1 }
     ensures { IfOk result (λ o. option_map refusal_seen o
-        ≡ found_in base (texts_seen files.now) (texts_seen system.now)) }
+        ≡ found_in dialect base (texts_seen files.now) (texts_seen system.now)) }
 {
     if system.is_empty() {
-        find_alone(alloc, base, files)
+        find_alone(alloc, dialect, base, files)
     } else {
-        find_under(alloc, files, system)
+        find_under(alloc, dialect, files, system)
     }
 }
 
@@ -148,7 +157,8 @@ fn tell_of<K: Sink>(
     sink: &mut K,
 ) -> Status
     ensures { EndsSo (change K.faults K.contents sink.old sink.new)
-        (IsChecking untouched (option_map (λ r. refusal_seen r.now) refusal.entry)
+        (IsChecking untouched files.entry.dialect
+        (option_map (λ r. refusal_seen r.now) refusal.entry)
         (names_of files.entry.names.now) (texts_seen files.entry.texts.now)) result }
 {
     match text_of(alloc, files, refusal) {
@@ -171,11 +181,12 @@ fn tell<K: Sink>(
     requires one { length files.texts.now ≤ count + 1 }
     ensures { let texts = texts_seen files.entry.texts.now in
         EndsSo (change K.faults K.contents sink.old sink.new)
-        (IsChecking untouched (found_in base (take count texts) (drop count texts))
+        (IsChecking untouched files.entry.dialect
+        (found_in files.entry.dialect base (take count texts) (drop count texts))
         (names_of files.entry.names.now) texts) result }
 {
     let (own, system) = files.texts.split_at(count);
-    match find(alloc, base, own, system) {
+    match find(alloc, files.dialect, base, own, system) {
         Ok(None) => tell_of(alloc, files, None, sink),
         Ok(Some(refusal)) => tell_of(alloc, files, Some(&refusal), sink),
         Err(NoMemory) => refuse(Status::NoMemory, sink),
@@ -204,7 +215,7 @@ fn all_names<'a>(
 pub(crate) fn check<S: Files, K: Sink>(
     alloc: Global,
     names: &[&str],
-    base: Base,
+    target: Target,
     system: Option<&str>,
     files: &mut S,
     sink: &mut K,
@@ -215,7 +226,7 @@ pub(crate) fn check<S: Files, K: Sink>(
         (change S.faults S.contents files.old files.new)
         (change K.faults K.contents sink.old sink.new)
         untouched)
-        (check (names_of names.now) base (option_copied system.entry)) result }
+        (check (names_of names.now) target (option_copied system.entry)) result }
     ensures read_failed { Admits (S.faults files.old) (S.faults files.new) Status.ReadFault result }
 {
     let Ok(all) = all_names(alloc, names, system) else {
@@ -224,12 +235,12 @@ pub(crate) fn check<S: Files, K: Sink>(
     match load_files(alloc, &all, files) {
         Ok(texts) => {
             let checked = Checked {
-                dialect: Dialect::Vax,
+                dialect: target.dialect,
                 names: &all,
                 texts: &texts,
-                bare: base == Base::Bare,
+                bare: target.base == Base::Bare,
             };
-            tell(alloc, base_for(base), names.len(), checked, sink)
+            tell(alloc, base_for(target.base), names.len(), checked, sink)
         }
         Err(status) => refuse(status, sink),
     }

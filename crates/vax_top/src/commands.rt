@@ -8,15 +8,15 @@ ghost use Rattle.vax_cli.specs.Words.{bare, build, list, listing as source_listi
 ghost use Rattle.vax_cli.specs.Said.{AreWithin, names_of, options as said_options};
 ghost use Rattle.vax_command.specs.Around.{around, change, outside, untouched};
 ghost use Rattle.vax_command.specs.Ends.{Admits, Ends};
-ghost use Rattle.vax_top.specs.Loaded.{system_text, user_loaded};
+ghost use Rattle.vax_top.specs.Loaded.{user_loaded};
 ghost use Rattle.vax_command.specs.Reading.{file_limit};
 ghost use Rattle.vax_command.specs.ReadingView.{bytes_of, texts as texts_seen};
 ghost use Rattle.vax_top.specs.Top.{Carries, IsFile, RanOf, base_for};
 
-use crate::programs::{alone, load_bare, load_image, load_user, system_files};
+use crate::programs::{alone, load_bare, load_image, load_user};
 use crate::sources::load_listing;
 use std::alloc::Global;
-use vax_cli::{Base, Format, Options};
+use vax_cli::{Base, Format, Options, Target};
 use vax_command::{Given, Status, load_files, load_options, load_run, refuse, run_programs};
 use vax_guest::generate;
 use vax_image::{Image, write, write2};
@@ -64,7 +64,7 @@ pub(crate) fn run_bare<S: Files, K: Sink, F: PageFile>(
         schedule,
         ..
     } = given;
-    match load_bare(alloc, &texts) {
+    match load_bare(alloc, options.dialect, &texts) {
         Ok(programs) => run_programs(alloc, &programs, input, &schedule, options, sink, pages),
         Err(status) => refuse(status, sink),
     }
@@ -87,7 +87,8 @@ fn run_over<K: Sink, F: PageFile>(
     ensures ran { RanOf
         (outside (change K.faults K.contents sink.old sink.new)
         (change F.faults F.contents pages.old pages.new))
-        (user_loaded (texts_seen texts.now) (system_text (bytes_of given.system)))
+        (user_loaded (said_options options.now).dialect (texts_seen texts.now)
+        (bytes_of given.system))
         given.input.items given.schedule.items (said_options options.now) result }
     ensures failed { Admits (F.faults pages.old) (F.faults pages.new) Status.PageFault result }
 {
@@ -97,10 +98,7 @@ fn run_over<K: Sink, F: PageFile>(
         schedule,
         ..
     } = given;
-    let Ok(system) = system_files(alloc, system) else {
-        return refuse(Status::NoMemory, sink);
-    };
-    match load_user(alloc, texts, &system) {
+    match load_user(alloc, options.dialect, texts, system) {
         Ok(programs) => run_programs(alloc, &programs, input, &schedule, options, sink, pages),
         Err(status) => refuse(status, sink),
     }
@@ -203,7 +201,7 @@ fn image_bytes(alloc: Global, format: Format, image: &Image) -> Result<Vec<u8>, 
 pub(crate) fn build<S: Files, K: Sink>(
     alloc: Global,
     names: &[&str],
-    base: Base,
+    target: Target,
     format: Format,
     files: &mut S,
     sink: &mut K,
@@ -214,14 +212,14 @@ pub(crate) fn build<S: Files, K: Sink>(
         (change S.faults S.contents files.old files.new)
         (change K.faults K.contents sink.old sink.new)
         untouched)
-        (build (names_of names.now) base format) result }
+        (build (names_of names.now) target format) result }
     ensures read_failed { Admits (S.faults files.old) (S.faults files.new) Status.ReadFault result }
 {
     let texts = match load_files(alloc, names, files) {
         Ok(texts) => texts,
         Err(status) => return refuse(status, sink),
     };
-    let image = match load_image(alloc, base_for(base), &texts) {
+    let image = match load_image(alloc, target.dialect, base_for(target.base), &texts) {
         Ok(image) => image,
         Err(status) => return refuse(status, sink),
     };
@@ -246,7 +244,7 @@ fn show_listing<K: Sink>(image: &Image, sink: &mut K) -> Status
 pub(crate) fn list<S: Files, K: Sink>(
     alloc: Global,
     names: &[&str],
-    base: Base,
+    target: Target,
     files: &mut S,
     sink: &mut K,
 ) -> Status
@@ -256,14 +254,14 @@ pub(crate) fn list<S: Files, K: Sink>(
         (change S.faults S.contents files.old files.new)
         (change K.faults K.contents sink.old sink.new)
         untouched)
-        (list (names_of names.now) base) result }
+        (list (names_of names.now) target) result }
     ensures read_failed { Admits (S.faults files.old) (S.faults files.new) Status.ReadFault result }
 {
     let texts = match load_files(alloc, names, files) {
         Ok(texts) => texts,
         Err(status) => return refuse(status, sink),
     };
-    match load_image(alloc, base_for(base), &texts) {
+    match load_image(alloc, target.dialect, base_for(target.base), &texts) {
         Ok(image) => show_listing(&image, sink),
         Err(status) => refuse(status, sink),
     }
@@ -273,7 +271,7 @@ pub(crate) fn list<S: Files, K: Sink>(
 pub(crate) fn list_sources<S: Files, K: Sink>(
     alloc: Global,
     names: &[&str],
-    base: Base,
+    target: Target,
     files: &mut S,
     sink: &mut K,
 ) -> Status
@@ -283,14 +281,14 @@ pub(crate) fn list_sources<S: Files, K: Sink>(
         (change S.faults S.contents files.old files.new)
         (change K.faults K.contents sink.old sink.new)
         untouched)
-        (source_listing (names_of names.now) base) result }
+        (source_listing (names_of names.now) target) result }
     ensures read_failed { Admits (S.faults files.old) (S.faults files.new) Status.ReadFault result }
 {
     let texts = match load_files(alloc, names, files) {
         Ok(texts) => texts,
         Err(status) => return refuse(status, sink),
     };
-    match load_listing(alloc, base_for(base), &texts) {
+    match load_listing(alloc, target.dialect, base_for(target.base), &texts) {
         Ok(text) => show(&text, sink),
         Err(status) => refuse(status, sink),
     }

@@ -6,33 +6,20 @@ ghost use Rattle.vax_command.specs.Around.{around, change};
 ghost use Rattle.vax_command.specs.Ends.{Admits};
 ghost use Rattle.vax_command.specs.ReadingView.{bytes_of, texts as texts_seen};
 ghost use Rattle.vax_command.specs.Loaded.{AreSound, loaded_seen};
-ghost use Rattle.vax_top.specs.Loaded.{system_text, user_loaded};
 ghost use Rattle.vax_top.specs.LoadedView.{Loads};
 ghost use Rattle.vax_top.specs.Top.{Carries, session_loaded};
 
-use crate::programs::{load_bare, load_user, system_files};
+use crate::programs::{load_bare, load_user};
 use std::alloc::Global;
 use vax_cli::{Base, Options};
 use vax_command::{Given, Programs, Status, hold_session, load_run, refuse};
+use vax_dialect::Dialect;
 use vax_outside::{Files, PageFile, Sink};
-
-/// A program in user mode and its system, if one is given.
-fn load_under(alloc: Global, texts: &[Vec<u8>], system: Option<Vec<u8>>) -> Result<Programs, Status>
-    requires some { 1 ≤ length texts.now }
-    requires few { length texts.now ≤ 8 }
-    ensures loads { Loads loaded_seen result
-        (user_loaded (texts_seen texts.now) (system_text (bytes_of system))) }
-    ensures sound { IfOk result AreSound }
-{
-    let Ok(system) = system_files(alloc, system) else {
-        return Err(Status::NoMemory);
-    };
-    load_user(alloc, texts, &system)
-}
 
 /// The programs of a session: one in user mode under a system, or one for the bare machine.
 pub(crate) fn load_session(
     alloc: Global,
+    dialect: Dialect,
     base: Base,
     texts: &[Vec<u8>],
     system: Option<Vec<u8>>,
@@ -40,12 +27,12 @@ pub(crate) fn load_session(
     requires some { 1 ≤ length texts.now }
     requires few { length texts.now ≤ 8 }
     ensures loads { Loads loaded_seen result
-        (session_loaded base (texts_seen texts.now) (bytes_of system)) }
+        (session_loaded dialect base (texts_seen texts.now) (bytes_of system)) }
     ensures sound { IfOk result AreSound }
 {
     match base {
-        Base::User => load_under(alloc, texts, system),
-        Base::Bare => load_bare(alloc, texts),
+        Base::User => load_user(alloc, dialect, texts, system),
+        Base::Bare => load_bare(alloc, dialect, texts),
     }
 }
 
@@ -81,7 +68,7 @@ pub(crate) fn run_console<S: Files, K: Sink, F: PageFile>(
         schedule,
         script,
     } = given;
-    match load_session(alloc, base, &texts, system) {
+    match load_session(alloc, options.dialect, base, &texts, system) {
         Ok(programs) => hold_session(
             alloc, &programs, input, &schedule, &script, options, sink, pages,
         ),

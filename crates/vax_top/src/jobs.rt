@@ -36,7 +36,7 @@ pub(crate) fn run_together<S: Files, K: Sink, F: PageFile>(
         Ok(loaded) => loaded,
         Err(status) => return refuse(status, sink),
     };
-    match load_together(alloc, &texts) {
+    match load_together(alloc, options.dialect, &texts) {
         Ok(programs) => run_jobs(alloc, &programs, &given, options, sink, pages),
         Err(status) => refuse(status, sink),
     }

@@ -1,9 +1,10 @@
 //! The programs of a command.
-ghost use Rattle.std.specs.Prelude.{◌≡◌, ◌≤◌, ◌∷◌, [], ℕ, List, IfOk, length};
+ghost use Rattle.std.specs.Prelude.{◌≡◌, ◌≤◌, ◌∷◌, [], IfOk, length};
 ghost use Rattle.vax_image.specs.Image.{IsImage};
 ghost use Rattle.vax_image.specs.declared.Base.TheVariants as base;
+ghost use Rattle.vax_program.specs.Program.{parts_of};
 ghost use Rattle.vax_program.specs.View.{IsSound, base_of, parts_seen};
-ghost use Rattle.vax_top.specs.Loaded.{bare_loaded, image_from, linked_over, system_text, user_loaded};
+ghost use Rattle.vax_top.specs.Loaded.{bare_loaded, image_from, linked_over, system_parts, user_loaded};
 ghost use Rattle.vax_command.specs.Loaded.{AreSound, loaded_seen};
 ghost use Rattle.vax_top.specs.LoadedView.{Answers, Loads};
 ghost use Rattle.vax_command.specs.ReadingView.{bytes_of, texts};
@@ -39,15 +40,20 @@ pub(crate) fn answer_to(error: ProgramError) -> Status
     }
 }
 
-/// The image of a program's files for a base.
-pub(crate) fn load_image(alloc: Global, base: Base, files: &[Vec<u8>]) -> Result<Image, Status>
+/// The image of a program's files for a base; its sources are of a dialect.
+pub(crate) fn load_image(
+    alloc: Global,
+    dialect: Dialect,
+    base: Base,
+    files: &[Vec<u8>],
+) -> Result<Image, Status>
     requires some { 1 ≤ length files.now }
     requires few { length files.now ≤ 8 }
-    ensures image { Loads (λ image. image) result (image_from base (texts files.now)) }
+    ensures image { Loads (λ image. image) result (image_from dialect base (texts files.now)) }
     ensures sound { IfOk result IsImage }
     ensures base { IfOk result (λ image. image.base ≡ base) }
 {
-    let parts = match read_parts(alloc, Dialect::Vax, base, 1, files) {
+    let parts = match read_parts(alloc, dialect, base, 1, files) {
         Ok(parts) => parts,
         Err(error) => return Err(answer_to(error)),
     };
@@ -58,13 +64,17 @@ pub(crate) fn load_image(alloc: Global, base: Base, files: &[Vec<u8>]) -> Result
 }
 
 /// A program for the bare machine.
-pub(crate) fn load_bare(alloc: Global, files: &[Vec<u8>]) -> Result<Programs, Status>
+pub(crate) fn load_bare(
+    alloc: Global,
+    dialect: Dialect,
+    files: &[Vec<u8>],
+) -> Result<Programs, Status>
     requires some { 1 ≤ length files.now }
     requires few { length files.now ≤ 8 }
-    ensures loads { Loads loaded_seen result (bare_loaded (texts files.now)) }
+    ensures loads { Loads loaded_seen result (bare_loaded dialect (texts files.now)) }
     ensures sound { IfOk result AreSound }
 {
-    match load_image(alloc, Base::Bare, files) {
+    match load_image(alloc, dialect, Base::Bare, files) {
         Ok(system) => Ok(Programs { system, user: None }),
         Err(status) => Err(status),
     }
@@ -92,30 +102,6 @@ fn link_over(alloc: Global, user: Parts, below: Parts) -> Result<Programs, Statu
     }
 }
 
-/// A program in user mode, of the texts of its files, and its system, of one text.
-pub(crate) fn load_user(
-    alloc: Global,
-    files: &[Vec<u8>],
-    system: &[Vec<u8>],
-) -> Result<Programs, Status>
-    requires some { 1 ≤ length files.now }
-    requires few { length files.now ≤ 8 }
-    requires one { length system.now ≡ 1 }
-    ensures loads { (text : List ℕ) → texts system.now ≡ text ∷ [] →
-        Loads loaded_seen result (user_loaded (texts files.now) text) }
-    ensures sound { IfOk result AreSound }
-{
-    let user = match read_parts(alloc, Dialect::Vax, Base::User, 1, files) {
-        Ok(parts) => parts,
-        Err(error) => return Err(answer_to(error)),
-    };
-    let below = match read_parts(alloc, Dialect::Vax, Base::Bare, 0, system) {
-        Ok(parts) => parts,
-        Err(error) => return Err(answer_to(error)),
-    };
-    link_over(alloc, user, below)
-}
-
 /// One text as a list of files.
 pub(crate) fn alone(alloc: Global, text: Vec<u8>) -> Result<Vec<Vec<u8>>, AllocError>
     ensures { IfOk result (λ v. v.items ≡ text ∷ []) }
@@ -125,16 +111,61 @@ pub(crate) fn alone(alloc: Global, text: Vec<u8>) -> Result<Vec<Vec<u8>>, AllocE
     Ok(files)
 }
 
-/// The files of a system: the one that is given, else the executive's source.
-pub(crate) fn system_files(
-    alloc: Global,
-    given: Option<Vec<u8>>,
-) -> Result<Vec<Vec<u8>>, AllocError>
-    ensures { IfOk result (λ v. texts v.items ≡ system_text (bytes_of given) ∷ []) }
+/// The parts of a system, of one text.
+fn read_below(alloc: Global, dialect: Dialect, text: Vec<u8>) -> Result<Parts, Status>
+    ensures parts { Loads parts_seen result (parts_of dialect base.Bare 0 (text.items ∷ [])) }
+    ensures sound { IfOk result IsSound }
+    ensures base { IfOk result (λ p. base_of p ≡ base.Bare) }
 {
-    let text = match given {
-        Some(text) => text,
-        None => Vec::from_slice(alloc, executive())?,
+    let Ok(files) = alone(alloc, text) else {
+        return Err(Status::NoMemory);
     };
-    alone(alloc, text)
+    match read_parts(alloc, dialect, Base::Bare, 0, &files) {
+        Ok(parts) => Ok(parts),
+        Err(error) => Err(answer_to(error)),
+    }
+}
+
+/// The parts of a system: of the file that is given, whose source is of a dialect, else of the executive's source, which is
+/// of the smaller one.
+pub(crate) fn read_system(
+    alloc: Global,
+    dialect: Dialect,
+    given: Option<Vec<u8>>,
+) -> Result<Parts, Status>
+    ensures parts { Loads parts_seen result (system_parts dialect (bytes_of given)) }
+    ensures sound { IfOk result IsSound }
+    ensures base { IfOk result (λ p. base_of p ≡ base.Bare) }
+{
+    if let Some(text) = given {
+        return read_below(alloc, dialect, text);
+    }
+    let Ok(text) = Vec::from_slice(alloc, executive()) else {
+        return Err(Status::NoMemory);
+    };
+    read_below(alloc, Dialect::Vax, text)
+}
+
+/// A program in user mode, of the texts of its files, and its system.
+pub(crate) fn load_user(
+    alloc: Global,
+    dialect: Dialect,
+    files: &[Vec<u8>],
+    system: Option<Vec<u8>>,
+) -> Result<Programs, Status>
+    requires some { 1 ≤ length files.now }
+    requires few { length files.now ≤ 8 }
+    ensures loads { Loads loaded_seen result
+        (user_loaded dialect (texts files.now) (bytes_of system)) }
+    ensures sound { IfOk result AreSound }
+{
+    let user = match read_parts(alloc, dialect, Base::User, 1, files) {
+        Ok(parts) => parts,
+        Err(error) => return Err(answer_to(error)),
+    };
+    let below = match read_system(alloc, dialect, system) {
+        Ok(parts) => parts,
+        Err(status) => return Err(status),
+    };
+    link_over(alloc, user, below)
 }

@@ -43,7 +43,7 @@ pub(crate) fn run_save<S: Files, K: Sink, F: PageFile>(
         schedule,
         ..
     } = given;
-    match load_session(alloc, base, &texts, system) {
+    match load_session(alloc, options.dialect, base, &texts, system) {
         Ok(programs) => save_run(alloc, &programs, input, &schedule, options, sink, pages),
         Err(status) => refuse(status, sink),
     }

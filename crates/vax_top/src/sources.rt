@@ -2,7 +2,6 @@
 ghost use Rattle.std.specs.Prelude.{◌≡◌, ◌≤◌, ◌⊎◌, IfErr, IfOk, length};
 ghost use Rattle.vax_asm_listing.specs.Listed.{IsListing};
 ghost use Rattle.vax_command.specs.ReadingView.{texts};
-ghost use Rattle.vax_dialect.specs.declared.Dialect.TheVariants.{Vax};
 ghost use Rattle.vax_top.specs.Loaded.{IsRefused, sources_image};
 ghost use Rattle.vax_top.specs.LoadedView.{AnswersListing};
 
@@ -28,15 +27,20 @@ fn program_error(alloc: Global, error: ListingError) -> ProgramError
     }
 }
 
-/// The listing of the texts of a program's sources for a base.
-pub(crate) fn load_listing(alloc: Global, base: Base, files: &[Vec<u8>]) -> Result<Vec<u8>, Status>
+/// The listing of the texts of a program's sources, of a dialect, for a base.
+pub(crate) fn load_listing(
+    alloc: Global,
+    dialect: Dialect,
+    base: Base,
+    files: &[Vec<u8>],
+) -> Result<Vec<u8>, Status>
     requires some { 1 ≤ length files.now }
     requires few { length files.now ≤ 8 }
-    ensures listing { IfOk result (λ text. IsListing Vax base (texts files.now) text.items) }
+    ensures listing { IfOk result (λ text. IsListing dialect base (texts files.now) text.items) }
     ensures refused { IfErr result (λ status.
-        IsRefused (sources_image base (texts files.now)) status ⊎ (status ≡ Status.NoMemory)) }
+        IsRefused (sources_image dialect base (texts files.now)) status ⊎ (status ≡ Status.NoMemory)) }
 {
-    match list_sources(alloc, Dialect::Vax, base, files) {
+    match list_sources(alloc, dialect, base, files) {
         Ok(text) => Ok(text),
         Err(error) => Err(answer_to(program_error(alloc, error))),
     }

@@ -1,7 +1,6 @@
 //! The programs of the command `jobs`: several in user mode, of one file each, and the executive.
 ghost use Rattle.std.specs.Prelude.{◌≡◌, ◌≤◌, IfOk, length, map};
 ghost use Rattle.std.specs.List.{All};
-ghost use Rattle.vax_dialect.specs.declared.Dialect.TheVariants.{Vax};
 ghost use Rattle.vax_image.specs.declared.Base.TheVariants as base;
 ghost use Rattle.vax_program.specs.Program.{linked_of, parts_of};
 ghost use Rattle.vax_program.specs.View.{IsSound, base_of, parts_seen};
@@ -12,7 +11,7 @@ ghost use Rattle.vax_top.specs.LoadedView.{Loads};
 ghost use Rattle.vax_top.specs.Together.{all_linked, all_parts, linked_under, together_loaded};
 ghost use Rattle.vax_top.specs.TogetherView.{IsForUser};
 
-use crate::programs::{answer_to, system_files};
+use crate::programs::{answer_to, read_system};
 use std::alloc::Global;
 use std::collections::VecDeque;
 use vax_command::{Status, Together};
@@ -21,29 +20,29 @@ use vax_image::{Base, Image};
 use vax_program::{Parts, link_parts, read_parts};
 
 /// The parts of one program, whose file has this number.
-fn read_one(alloc: Global, file: u8, text: &[Vec<u8>]) -> Result<Parts, Status>
+fn read_one(alloc: Global, dialect: Dialect, file: u8, text: &[Vec<u8>]) -> Result<Parts, Status>
     requires one { length text.now ≡ 1 }
     requires numbers { file ≤ 254 }
-    ensures parts { Loads parts_seen result (parts_of Vax base.User file (texts_seen text.now)) }
+    ensures parts { Loads parts_seen result (parts_of dialect base.User file (texts_seen text.now)) }
     ensures sound { IfOk result IsForUser }
 {
-    match read_parts(alloc, Dialect::Vax, Base::User, file, text) {
+    match read_parts(alloc, dialect, Base::User, file, text) {
         Ok(parts) => Ok(parts),
         Err(error) => Err(answer_to(error)),
     }
 }
 
 /// The parts of programs of one file each, which are numbered from 1.
-fn read_all(alloc: Global, texts: &[Vec<u8>]) -> Result<Vec<Parts>, Status>
+fn read_all(alloc: Global, dialect: Dialect, texts: &[Vec<u8>]) -> Result<Vec<Parts>, Status>
     requires few { length texts.now ≤ 8 }
     ensures parts { Loads (λ v. map parts_seen v.items) result
-        (all_parts 1 (texts_seen texts.now)) }
+        (all_parts dialect 1 (texts_seen texts.now)) }
     ensures sound { IfOk result (λ v. All IsForUser v.items) }
     ensures count { IfOk result (λ v. length v.items ≡ length texts.now) }
 {
     let mut all = Vec::new(alloc);
     for place in 0..texts.len() {
-        let parts = read_one(alloc, place as u8 + 1, &texts[place..place + 1])?;
+        let parts = read_one(alloc, dialect, place as u8 + 1, &texts[place..place + 1])?;
         if all.push(parts).is_err() {
             return Err(Status::NoMemory);
         }
@@ -101,20 +100,21 @@ fn link_under(alloc: Global, users: Vec<Parts>, below: Parts) -> Result<Together
 }
 
 /// Programs in user mode and the executive: all are assembled before any is linked.
-pub(crate) fn load_together(alloc: Global, texts: &[Vec<u8>]) -> Result<Together, Status>
+pub(crate) fn load_together(
+    alloc: Global,
+    dialect: Dialect,
+    texts: &[Vec<u8>],
+) -> Result<Together, Status>
     requires some { 1 ≤ length texts.now }
     requires few { length texts.now ≤ 8 }
-    ensures loads { Loads together_seen result (together_loaded (texts_seen texts.now)) }
+    ensures loads { Loads together_seen result (together_loaded dialect (texts_seen texts.now)) }
     ensures sound { IfOk result AreTogether }
     ensures count { IfOk result (λ t. length t.users.items ≡ length texts.now) }
 {
-    let Ok(system) = system_files(alloc, None) else {
-        return Err(Status::NoMemory);
-    };
-    let users = read_all(alloc, texts)?;
-    let below = match read_parts(alloc, Dialect::Vax, Base::Bare, 0, &system) {
+    let users = read_all(alloc, dialect, texts)?;
+    let below = match read_system(alloc, dialect, None) {
         Ok(parts) => parts,
-        Err(error) => return Err(answer_to(error)),
+        Err(status) => return Err(status),
     };
     link_under(alloc, users, below)
 }

@@ -63,9 +63,9 @@ fn carry_out<S: Files, K: Sink, F: PageFile>(
         } => run_user(alloc, names.as_slice(), &options, files, sink, pages),
         Command::Build {
             files: names,
-            base,
+            target,
             format,
-        } => build(alloc, names.as_slice(), base, format, files, sink),
+        } => build(alloc, names.as_slice(), target, format, files, sink),
         Command::Work {
             seed,
             size,
@@ -73,15 +73,19 @@ fn carry_out<S: Files, K: Sink, F: PageFile>(
         } => run_work(alloc, seed, size, &options, files, sink, pages),
         Command::Vectors(request) => write_vectors(alloc, request, sink),
         Command::About => tell(alloc, words, sink),
-        Command::List { files: names, base } => list(alloc, names.as_slice(), base, files, sink),
-        Command::Listing { files: names, base } => {
-            list_sources(alloc, names.as_slice(), base, files, sink)
-        }
+        Command::List {
+            files: names,
+            target,
+        } => list(alloc, names.as_slice(), target, files, sink),
+        Command::Listing {
+            files: names,
+            target,
+        } => list_sources(alloc, names.as_slice(), target, files, sink),
         Command::Check {
             files: names,
-            base,
+            target,
             system,
-        } => check(alloc, names.as_slice(), base, system, files, sink),
+        } => check(alloc, names.as_slice(), target, system, files, sink),
         Command::Console {
             files: names,
             base,

@@ -45,7 +45,7 @@ pub(crate) fn run_trace<S: Files, K: Sink, F: PageFile>(
         schedule,
         ..
     } = given;
-    match load_session(alloc, base, &texts, system) {
+    match load_session(alloc, options.dialect, base, &texts, system) {
         Ok(programs) => trace_programs(
             alloc, &programs, input, &schedule, tracing, options, sink, pages,
         ),

@@ -20,7 +20,7 @@ returns-in-Ok-load_files-clause-carries g c =
     let named : names_of c.deref.result.now ≡ all = ap (λ (list : List (Bor Text)). names_of list) c.deref.ensures.value ∙ c.in-Ok.ensures in
     let shown : names_of c.deref-in-Ok-load_files.result.now ≡ all = ap (λ (list : List (Bor Text)). names_of list) c.deref-in-Ok-load_files.ensures.value ∙ c.in-Ok.ensures in
     let read : texts c.deref-in-Ok-load_files-2.result.now ≡ files = ap texts c.deref-in-Ok-load_files-2.ensures.value in
-    check_carries seen names c.args.base system c.tell.result files
+    check_carries seen names c.args.target system c.tell.result files
     (subst (λ (list : List Text). Reads seen.files.before.told list (Ok files)) named c.in-Ok-load_files.ensures.ok)
-    (all_told seen.sink c.args.names.now c.args.base all files c.tell.result c.base_for.result (length c.args.names.now)
+    (all_told seen.sink c.args.names.now c.args.target all files c.tell.result c.base_for.result (length c.args.names.now)
     (names_of c.deref-in-Ok-load_files.result.now) (texts c.deref-in-Ok-load_files-2.result.now) c.base_for.ensures refl shown read c.tell.ensures)

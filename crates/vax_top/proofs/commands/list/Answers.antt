@@ -15,6 +15,6 @@ returns-in-Ok-load_image-clause-carries g c =
     let image = c.in-Ok-load_image.image in
     let files = texts c.in-Ok.texts.items in
     let seen = around (change g.S.Files.faults g.S.Files.contents c.args.files.now c.load_files.new.files) (change g.K.Sink.faults g.K.Sink.contents c.args.sink.now c.show_listing.new.sink) untouched in
-    let read = subst (λ (list : List (Vec ℕ)). image_from c.base_for.result (texts list) ≡ Ok image) c.deref.ensures.value c.in-Ok-load_image.ensures.image in
-    let is = subst (λ (region : Base). image_from region files ≡ Ok image) c.base_for.ensures read in
-    image_listed seen c.show_listing.result (names_of c.args.names.now) c.args.base files c.in-Ok.ensures.ok tt image (listing image.areas) is refl c.show_listing.ensures
+    let read = subst (λ (list : List (Vec ℕ)). image_from c.args.target.dialect c.base_for.result (texts list) ≡ Ok image) c.deref.ensures.value c.in-Ok-load_image.ensures.image in
+    let is = subst (λ (region : Base). image_from c.args.target.dialect region files ≡ Ok image) c.base_for.ensures read in
+    image_listed seen c.show_listing.result (names_of c.args.names.now) c.args.target files c.in-Ok.ensures.ok tt image (listing image.areas) is refl c.show_listing.ensures

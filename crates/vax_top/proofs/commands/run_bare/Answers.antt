@@ -18,5 +18,5 @@ returns-in-Ok-load_bare-clause-carries g c =
     let program = loaded_seen c.in-Ok-load_bare.programs in
     let seen = around (change g.S.Files.faults g.S.Files.contents c.args.files.now c.load_run.new.files) (change g.K.Sink.faults g.K.Sink.contents c.args.sink.now c.run_programs.new.sink) (change g.F.PageFile.faults g.F.PageFile.contents c.args.pages.now c.run_programs.new.pages) in
     let ran = subst (λ (schedule : Text). Ran (outside_of seen) program files.input schedule options c.run_programs.result) c.deref-in-Ok-load_bare.ensures.value c.run_programs.ensures.ran in
-    run_carries seen c.run_programs.result (bare names options) names options None bare_programs files refl (λ list status grown d. d) c.in-Ok.ensures.ok
-    (files_ran (outside_of seen) (bare_programs files) files.input files.schedule options c.run_programs.result program (ap (λ texts_read. bare_loaded (texts texts_read)) (sym c.deref.ensures.value) ∙ c.in-Ok-load_bare.ensures.loads) ran)
+    run_carries seen c.run_programs.result (bare names options) names options None (bare_programs options.dialect) files refl (λ list status grown d. d) c.in-Ok.ensures.ok
+    (files_ran (outside_of seen) (bare_programs options.dialect files) files.input files.schedule options c.run_programs.result program (ap (λ texts_read. bare_loaded options.dialect (texts texts_read)) (sym c.deref.ensures.value) ∙ c.in-Ok-load_bare.ensures.loads) ran)

@@ -19,5 +19,5 @@ returns-in-Ok-load_session-clause-carries g c =
     let planned = subst (λ (schedule : Text). Held (outside_of seen) program files.input schedule c.deref-in-Ok-load_session-2.result.now options c.hold_session.result) c.deref-in-Ok-load_session.ensures.value c.hold_session.ensures.held in
     let held = subst (λ (script : Text). Held (outside_of seen) program files.input files.schedule script options c.hold_session.result) c.deref-in-Ok-load_session-2.ensures.value planned in
     session_carries seen c.hold_session.result names c.args.base c.args.script.now options files c.in-Ok.ensures.ok
-    (session_held (outside_of seen) (session_programs c.args.base files) files options c.hold_session.result program
-    (ap (λ read. session_loaded c.args.base (texts read) (bytes_of c.in-Ok.loaded.1.system)) (sym c.deref.ensures.value) ∙ c.in-Ok-load_session.ensures.loads) held)
+    (session_held (outside_of seen) (session_programs options.dialect c.args.base files) files options c.hold_session.result program
+    (ap (λ read. session_loaded options.dialect c.args.base (texts read) (bytes_of c.in-Ok.loaded.1.system)) (sym c.deref.ensures.value) ∙ c.in-Ok-load_session.ensures.loads) held)

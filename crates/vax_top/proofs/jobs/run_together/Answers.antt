@@ -23,5 +23,5 @@ returns-in-Ok-load_together-clause-carries g c =
     let count : length programs.users ≡ length files.programs = simp length-map (c.in-Ok-load_together.ensures.count ∙ ap length c.deref.ensures.value) in
     let made = subst (λ (n : ℕ). JobsRan (outside_of seen) programs files.input (order_text n files.order) options c.run_jobs.result) count c.run_jobs.ensures.ran in
     jobs_carries seen c.run_jobs.result names options files c.in-Ok.ensures.ok
-    (jobs_made (outside_of seen) (together_loaded files.programs) files options c.run_jobs.result programs
-    (ap (λ read. together_loaded (texts read)) (sym c.deref.ensures.value) ∙ c.in-Ok-load_together.ensures.loads) made)
+    (jobs_made (outside_of seen) (together_loaded options.dialect files.programs) files options c.run_jobs.result programs
+    (ap (λ read. together_loaded options.dialect (texts read)) (sym c.deref.ensures.value) ∙ c.in-Ok-load_together.ensures.loads) made)

@@ -18,5 +18,5 @@ returns-in-Ok-load_session-clause-carries g c =
     let seen = around (change g.S.Files.faults g.S.Files.contents c.args.files.now c.load_run.new.files) (change g.K.Sink.faults g.K.Sink.contents c.args.sink.now c.save_run.new.sink) (change g.F.PageFile.faults g.F.PageFile.contents c.args.pages.now c.save_run.new.pages) in
     let ran = subst (λ (schedule : Text). HasSavedRun (outside_of seen) program files.input schedule options c.save_run.result) c.deref-in-Ok-load_session.ensures.value c.save_run.ensures.saved in
     save_carries seen c.save_run.result names c.args.base options files c.in-Ok.ensures.ok
-    (run_saved (outside_of seen) (session_programs c.args.base files) files options c.save_run.result program
-    (ap (λ read. session_loaded c.args.base (texts read) (bytes_of c.in-Ok.loaded.1.system)) (sym c.deref.ensures.value) ∙ c.in-Ok-load_session.ensures.loads) ran)
+    (run_saved (outside_of seen) (session_programs options.dialect c.args.base files) files options c.save_run.result program
+    (ap (λ read. session_loaded options.dialect c.args.base (texts read) (bytes_of c.in-Ok.loaded.1.system)) (sym c.deref.ensures.value) ∙ c.in-Ok-load_session.ensures.loads) ran)

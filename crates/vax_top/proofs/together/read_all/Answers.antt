@@ -1,7 +1,6 @@
 use Rattle.std.proofs.Common.{◌≡◌, ◌+◌, ◌-◌, ◌++◌, ◌∷◌, [], rules, refl, ap, sym, ◌∙◌, arith, drop, take, map}
 use Rattle.std.proofs.lemmas.List.{length_push, map_push}
 use Rattle.std.proofs.lemmas.List.Elements.{All-push}
-use Rattle.vax_dialect.specs.declared.Dialect.TheVariants.{Vax}
 use Rattle.vax_image.specs.declared.Base.TheVariants as base
 use Rattle.vax_command.specs.ReadingView.{texts}
 use Rattle.vax_command.proofs.LoadLaws.{pushed}
@@ -14,7 +13,7 @@ use Rattle.vax_top.proofs.together.read_all.Goals as goal
 
 pub loop-place-init : goal.loop-place-init
 loop-place-init c = record {
-  parts = ahead_nil (map parts_seen c.new-all.result.items) (all_parts 1 (texts c.args.texts.now)) (ap (map parts_seen) c.new-all.ensures.items);
+  parts = ahead_nil (map parts_seen c.new-all.result.items) (all_parts c.args.dialect 1 (texts c.args.texts.now)) (ap (map parts_seen) c.new-all.ensures.items);
   sound = search rules;
   count = search rules;
 }
@@ -28,9 +27,9 @@ loop-place-preserved c =
     let one : here + 1 - here ≡ 1 = omega arith in
     let grown : c.push.new.self.items ≡ c.loop-place.all.items ++ c.in_ok-parts.parts ∷ [] = pushed _ c.loop-place.all.items c.push.new.self.items c.in_ok-parts.parts c.push.ensures.items c.if-is_err.ensures.negation in
     record {
-      parts = one_more front (map parts_seen c.push.new.self.items) (parts_seen c.in_ok-parts.parts) (parts_of Vax base.User (here + 1) (texts (take 1 (drop here xs)))) (all_parts (here + 1 + 1) (texts (drop (here + 1) xs))) _
+      parts = one_more front (map parts_seen c.push.new.self.items) (parts_seen c.in_ok-parts.parts) (parts_of c.args.dialect base.User (here + 1) (texts (take 1 (drop here xs)))) (all_parts c.args.dialect (here + 1 + 1) (texts (drop (here + 1) xs))) _
           (ap (map parts_seen) grown ∙ map_push parts_seen c.loop-place.all.items c.in_ok-parts.parts) (rw one at c.in_ok-parts.ensures.parts)
-          (ap (ahead front) (sym (parts_at (here + 1) here xs (take 1 (drop here xs)) c.loop-place-test.true refl)) ∙ inv.parts);
+          (ap (ahead front) (sym (parts_at c.args.dialect (here + 1) here xs (take 1 (drop here xs)) c.loop-place-test.true refl)) ∙ inv.parts);
       sound = rw grown (All-push IsForUser c.loop-place.all.items c.in_ok-parts.parts inv.sound c.in_ok-parts.ensures.sound);
       count = rw (grown, length_push) (omega arith);
     }

@@ -27,8 +27,8 @@ returns-in-Check-clause-carries g c =
     let files = change g.S.Files.faults g.S.Files.contents c.args.files.now c.check.new.files in
     let sink = change g.K.Sink.faults g.K.Sink.contents c.args.sink.now c.check.new.sink in
     let pages = change g.F.PageFile.faults g.F.PageFile.contents c.args.pages.now c.args.pages.now in
-    let kept = check_kept files sink pages (names_of c.as_slice-in-Check.result.now) c.in-Check.base (option_copied c.in-Check.system) c.check.result refl c.check.ensures.carries in
-    let same = ap (λ names. check (names_of names) c.in-Check.base (option_copied c.in-Check.system)) c.as_slice-in-Check.ensures.value ∙ ap said (sym c.in-Check.is) in
+    let kept = check_kept files sink pages (names_of c.as_slice-in-Check.result.now) c.in-Check.target (option_copied c.in-Check.system) c.check.result refl c.check.ensures.carries in
+    let same = ap (λ names. check (names_of names) c.in-Check.target (option_copied c.in-Check.system)) c.as_slice-in-Check.ensures.value ∙ ap said (sym c.in-Check.is) in
     subst (λ (s : Said). Carries (around files sink pages) s c.check.result) same kept
 
 pub returns-in-Console-clause-carries : goal.returns-in-Console-clause-carries

@@ -19,5 +19,5 @@ returns-in-Ok-load_session-clause-carries g c =
     let seen = around (change g.S.Files.faults g.S.Files.contents c.args.files.now c.load_run.new.files) (change g.K.Sink.faults g.K.Sink.contents c.args.sink.now c.trace_programs.new.sink) (change g.F.PageFile.faults g.F.PageFile.contents c.args.pages.now c.trace_programs.new.pages) in
     let made = subst (λ (schedule : Text). Traces (outside_of seen) program files.input schedule tracing options c.trace_programs.result) c.deref-in-Ok-load_session.ensures.value c.trace_programs.ensures.traces in
     trace_carries seen c.trace_programs.result names c.args.base tracing options files c.in-Ok.ensures.ok
-    (trace_made (outside_of seen) (session_programs c.args.base files) files tracing options c.trace_programs.result program
-    (ap (λ read. session_loaded c.args.base (texts read) (bytes_of c.in-Ok.loaded.1.system)) (sym c.deref.ensures.value) ∙ c.in-Ok-load_session.ensures.loads) made)
+    (trace_made (outside_of seen) (session_programs options.dialect c.args.base files) files tracing options c.trace_programs.result program
+    (ap (λ read. session_loaded options.dialect c.args.base (texts read) (bytes_of c.in-Ok.loaded.1.system)) (sym c.deref.ensures.value) ∙ c.in-Ok-load_session.ensures.loads) made)
