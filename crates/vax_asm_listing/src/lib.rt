@@ -11,7 +11,7 @@ mod tracing;
 mod types;
 
 pub use laws::rows_are_statements;
-pub use program::{ListingError, list_sources};
+pub use program::{ListingError, list_sources, trace_files};
 pub use tables::listing;
 pub use tracing::trace;
 pub use types::{Label, Notes, Part, Point, Program, Row, Trace};

@@ -74,8 +74,10 @@ fn trace_file(
     }
 }
 
-/// The modules of sources, and what their statements leave beside them.
-fn trace_files(
+/// The modules of sources, at most 8, and what their statements leave beside them.
+///
+/// [`ListingError::Source`] with the first fault of the first source that has one; [`ListingError::NoMemory`] where memory is refused.
+pub fn trace_files(
     alloc: Global,
     dialect: Dialect,
     files: &[Vec<u8>],

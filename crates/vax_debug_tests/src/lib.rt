@@ -6,4 +6,6 @@ mod names;
 #[cfg(test)]
 mod steps;
 #[cfg(test)]
+mod symbols;
+#[cfg(test)]
 mod words;

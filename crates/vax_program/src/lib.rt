@@ -11,5 +11,5 @@ mod parts;
 mod types;
 
 pub use linking::{link_parts, link_refusal};
-pub use parts::read_parts;
+pub use parts::{is_linked, read_parts};
 pub use types::{Parts, ProgramError, Refusal};

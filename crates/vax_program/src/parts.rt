@@ -35,8 +35,8 @@ fn is_image(file: &[u8]) -> bool
     file.starts_with(b"VAXI")
 }
 
-/// Whether a file is one of a linked program.
-fn is_linked(file: &[u8]) -> bool
+/// Whether a file is one of a linked program: an image or an executable, by its first bytes.
+pub fn is_linked(file: &[u8]) -> bool
     ensures { result ≡ is_linked file.now }
 {
     is_image(file) || is_executable(file)
