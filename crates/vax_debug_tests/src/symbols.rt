@@ -3,7 +3,6 @@ use std::test::Fail;
 use vax_debug_names::{Symbol, number_of};
 use vax_debug_symbols::symbols_of_files;
 use vax_image::Base;
-use vax_space::NoMemory;
 
 /// Two places, a number, a local label, and a name of another module.
 const MAIN: &str = "        .PSECT CODE,NOWRT
@@ -23,18 +22,18 @@ const WORDS: &str = "        .PSECT MORE,NOWRT
 ";
 
 /// The symbols of files.
-fn symbols(rt: &HostRuntime, base: Base, texts: [&str; 2]) -> Result<Vec<Symbol>, NoMemory> {
+fn symbols(rt: &HostRuntime, base: Base, texts: [&str; 2]) -> Result<Vec<Symbol>, Fail> {
     let one = Vec::from_slice(rt.alloc(), texts[0].as_bytes())?;
     let other = Vec::from_slice(rt.alloc(), texts[1].as_bytes())?;
     let files = vec![in rt.alloc(); one, other]?;
-    symbols_of_files(rt.alloc(), base, &files)
+    Ok(symbols_of_files(rt.alloc(), base, &files)?)
 }
 
 /// The symbols of a file.
-fn symbols_of_one(rt: &HostRuntime, text: &str) -> Result<Vec<Symbol>, NoMemory> {
+fn symbols_of_one(rt: &HostRuntime, text: &str) -> Result<Vec<Symbol>, Fail> {
     let file = Vec::from_slice(rt.alloc(), text.as_bytes())?;
     let files = vec![in rt.alloc(); file]?;
-    symbols_of_files(rt.alloc(), Base::User, &files)
+    Ok(symbols_of_files(rt.alloc(), Base::User, &files)?)
 }
 
 /// Whether a symbol has this name, and this value.
