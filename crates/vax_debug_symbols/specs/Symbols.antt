@@ -1,6 +1,7 @@
 -- The symbols of a program's files: what the names of its sources stand for in the program that they are linked to.
 use Rattle.std.specs.Prelude.{◌≡◌, ◌⊎◌, ℕ, Bool, true, false, List, [], ◌∷◌, ◌++◌, length, take, drop, slice_index, Option, Some, None}
 use Rattle.std.specs.List.{flat_map}
+use Rattle.vax_dialect.specs.declared.Dialect.{Dialect}
 use Rattle.vax_lex.specs.declared.value.Value.{Value}
 use Rattle.vax_lex.specs.declared.value.Value.TheVariants as value
 use Rattle.vax_module.specs.declared.Module.{Module}
@@ -59,25 +60,26 @@ abbrev pub is_linked_alone : List (List ℕ) → Bool
 is_linked_alone (text ∷ []) = is_linked text
 is_linked_alone _ = false
 
--- the first source with a fault, and that fault
-pub record HasFault (sources : List (List ℕ)) : Type 0 where
+-- the first source with a fault in a dialect, and that fault
+pub record HasFault (dialect : Dialect) (sources : List (List ℕ)) : Type 0 where
   pub file : ℕ
   pub line : ℕ
   pub kind : FaultKind
-  pub faulty : IsFaulty sources file line kind
+  pub faulty : IsFaulty dialect sources file line kind
 
 -- files that have no symbols: a linked program, or sources with a fault
-pub record HaveNone (files : List (List ℕ)) (symbols : List Symbol) : Type 0 where
-  pub why : (is_linked_alone files ≡ true) ⊎ HasFault files
+pub record HaveNone (dialect : Dialect) (files : List (List ℕ)) (symbols : List Symbol) : Type 0 where
+  pub why : (is_linked_alone files ≡ true) ⊎ HasFault dialect files
   pub none : symbols ≡ []
 
--- sources, of which each is a module and leaves its names
-pub record AreNamed (region : Base) (sources : List (List ℕ)) (symbols : List Symbol) : Type 0 where
+-- sources of a dialect, of which each is a module and leaves its names
+pub record AreNamed (dialect : Dialect) (region : Base) (sources : List (List ℕ)) (symbols : List Symbol) : Type 0 where
   pub modules : List Module
   pub notes : List Notes
-  pub traced : AreTraced sources modules notes
+  pub traced : AreTraced dialect sources modules notes
   pub linked : AreLinked region modules notes symbols
 
--- the symbols of files
-abbrev pub AreSymbols : Base → (files : List (List ℕ)) → List Symbol → Type 0
-AreSymbols region files symbols = HaveNone files symbols ⊎ AreNamed region files symbols
+-- the symbols of files, whose sources are of a dialect
+abbrev pub AreSymbols : Dialect → Base → (files : List (List ℕ)) → List Symbol → Type 0
+AreSymbols dialect region files symbols =
+    HaveNone dialect files symbols ⊎ AreNamed dialect region files symbols

@@ -10,6 +10,7 @@ ghost use Rattle.vax_debug_symbols.specs.Symbols as spec;
 use std::alloc::{AllocError, Global};
 use vax_asm_listing::{Label, ListingError, Notes, trace_files};
 use vax_debug_names::Symbol;
+use vax_dialect::Dialect;
 use vax_image::Base;
 use vax_lex::Value;
 use vax_link::addresses;
@@ -159,22 +160,23 @@ fn is_linked_alone(files: &[Vec<u8>]) -> bool
     }
 }
 
-/// The symbols of a program's files for a base: the names of its sources, those of the first source first, each in the order in which they first
+/// The symbols of a program's files for a base: the names of its sources, which are of a dialect, those of the first source first, each in the order in which they first
 /// appear. Local labels are left out, and so are names that another module defines, or that rest on such.
 ///
 /// An image or an executable has none, and neither have sources with a fault, or for which there is no room. [`NoMemory`] where memory is refused.
 pub fn symbols_of_files(
     alloc: Global,
+    dialect: Dialect,
     base: Base,
     files: &[Vec<u8>],
 ) -> Result<Vec<Symbol>, NoMemory>
     requires { length files.now ≤ 8 }
-    ensures { IfOk result (λ v. spec.AreSymbols base (texts files.now) v.items) }
+    ensures { IfOk result (λ v. spec.AreSymbols dialect base (texts files.now) v.items) }
 {
     if is_linked_alone(files) {
         return Ok(Vec::new(alloc));
     }
-    match trace_files(alloc, files) {
+    match trace_files(alloc, dialect, files) {
         Ok((modules, notes)) => Ok(symbols_of_modules(alloc, base, &modules, &notes)?),
         Err(ListingError::Source { .. }) => Ok(Vec::new(alloc)),
         // Nothing is linked here.

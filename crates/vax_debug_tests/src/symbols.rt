@@ -2,6 +2,7 @@
 use std::test::Fail;
 use vax_debug_names::{Symbol, number_of};
 use vax_debug_symbols::symbols_of_files;
+use vax_dialect::Dialect;
 use vax_image::Base;
 
 /// Two places, a number, a local label, and a name of another module.
@@ -26,14 +27,14 @@ fn symbols(rt: &HostRuntime, base: Base, texts: [&str; 2]) -> Result<Vec<Symbol>
     let one = Vec::from_slice(rt.alloc(), texts[0].as_bytes())?;
     let other = Vec::from_slice(rt.alloc(), texts[1].as_bytes())?;
     let files = vec![in rt.alloc(); one, other]?;
-    Ok(symbols_of_files(rt.alloc(), base, &files)?)
+    Ok(symbols_of_files(rt.alloc(), Dialect::Vax, base, &files)?)
 }
 
 /// The symbols of a file.
 fn symbols_of_one(rt: &HostRuntime, text: &str) -> Result<Vec<Symbol>, Fail> {
     let file = Vec::from_slice(rt.alloc(), text.as_bytes())?;
     let files = vec![in rt.alloc(); file]?;
-    Ok(symbols_of_files(rt.alloc(), Base::User, &files)?)
+    Ok(symbols_of_files(rt.alloc(), Dialect::Vax, Base::User, &files)?)
 }
 
 /// Whether a symbol has this name, and this value.
