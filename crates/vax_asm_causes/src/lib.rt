@@ -1,6 +1,7 @@
 //! Where in a line a fault stands, and what causes it, in words (VAX MACRO and Instruction Set Reference Manual, "Diagnostic messages").
 //!
-//! What is proved of these is that the column lies within the line and that the words can be printed. Which they are is tested.
+//! What is proved of these is that the column lies within the line and that the words can be printed. Which they are is tested. On which line of a source
+//! a name stands first is proved.
 #![tactic(auto)]
 
 mod cause;
@@ -10,6 +11,7 @@ mod facts;
 mod form;
 mod limits;
 mod names;
+mod places;
 mod range;
 mod remarks;
 mod statement;
@@ -19,5 +21,6 @@ mod words;
 pub use cause::{Cause, Place, cause_of};
 pub use expansion::expansion_of;
 pub use facts::{Branch, Facts, KnownValue, branch_of, expressions_in};
-pub use names::{Spot, definition_of, first_use, is_definition};
+pub use names::{definition_of, is_definition};
+pub use places::{Sought, first_line};
 pub use remarks::{Remark, Tone, Wanted, remarks_of};

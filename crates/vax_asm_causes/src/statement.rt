@@ -1,5 +1,8 @@
 // A line as a statement: its label, its operator and its operands.
 
+ghost use Rattle.std.specs.Prelude.{◌≡◌, ◌≤◌, IfOk, length, take};
+ghost use Rattle.vax_asm_causes.specs.Places.{is_mark, is_name, line_pieces, piece_text};
+
 use std::alloc::Global;
 use vax_lex::{Piece, PieceKind, TokenKind, pieces};
 use vax_space::NoMemory;
@@ -7,14 +10,29 @@ use vax_space::NoMemory;
 /// The longest line of a source.
 pub(crate) const LONGEST: usize = 1024;
 
+/// The first so many bytes, or all.
+fn front(line: &[u8], count: usize) -> &[u8]
+    ensures bytes { result.now ≡ take count line.now }
+    ensures few { length result.now ≤ count }
+{
+    line.split_at(count.min(line.len())).0
+}
+
 /// The pieces of a line, of a long one those of its front.
-pub(crate) fn pieces_of(alloc: Global, line: &[u8]) -> Result<Vec<Piece>, NoMemory> {
-    let front = line.split_at(line.len().min(LONGEST)).0;
-    pieces(alloc, front).map_err(|_| NoMemory)
+pub(crate) fn pieces_of(alloc: Global, line: &[u8]) -> Result<Vec<Piece>, NoMemory>
+    ensures { IfOk result (λ v. v.items ≡ line_pieces line.now) }
+{
+    match pieces(alloc, front(line, LONGEST)) {
+        Ok(all) => Ok(all),
+        Err(_) => Err(NoMemory),
+    }
 }
 
 /// The bytes of a piece.
-pub(crate) fn text_of<'a>(line: &'a [u8], piece: Piece) -> &'a [u8] {
+#[tactic(auto, unfolding(crate::specs::Places::piece_text))]
+pub(crate) fn text_of<'a>(line: &'a [u8], piece: Piece) -> &'a [u8]
+    ensures { result.now ≡ piece_text line.entry.now piece }
+{
     match line.get(piece.start as usize..piece.end as usize) {
         Some(text) => text,
         None => &[],
@@ -33,7 +51,9 @@ pub(crate) fn text_between<'a>(line: &'a [u8], pieces: &[Piece]) -> &'a [u8] {
 }
 
 /// Whether a piece is this mark.
-pub(crate) fn is_mark(piece: Piece, mark: u8) -> bool {
+pub(crate) fn is_mark(piece: Piece, mark: u8) -> bool
+    ensures { result ≡ is_mark piece mark }
+{
     match piece.kind {
         PieceKind::Token(TokenKind::Mark(byte)) => byte == mark,
         _ => false,
@@ -41,7 +61,9 @@ pub(crate) fn is_mark(piece: Piece, mark: u8) -> bool {
 }
 
 /// Whether a piece is a name.
-pub(crate) fn is_name(piece: Piece) -> bool {
+pub(crate) fn is_name(piece: Piece) -> bool
+    ensures { result ≡ is_name piece }
+{
     matches!(piece.kind, PieceKind::Token(TokenKind::Name))
 }
 
