@@ -11,7 +11,7 @@ use Rattle.vax_dialect.specs.declared.Dialect.{Dialect}
 use Rattle.vax_lines.specs.Lines.{Text}
 use Rattle.vax_program.specs.View.{texts}
 
-here : {X : Type 0} (list : List X) (i : ℕ) (x : X) → i < length list → x ≡ slice_index_or list i x → drop i list ≡ x ∷ drop (i + 1) list
+pub here : {X : Type 0} (list : List X) (i : ℕ) (x : X) → i < length list → x ≡ slice_index_or list i x → drop i list ≡ x ∷ drop (i + 1) list
 here {X} list i x h at = rw add-one (drop-cons list i x h ∙ ap (λ (y : X). y ∷ drop (suc i) list) (sym at))
 
 -- behind the end of the shorter of two lists
@@ -20,7 +20,7 @@ past_by names files i stop e h (inr few) other = inl few
 past_by names files i stop e h (inl more) (inr few) = inr few
 past_by names files i stop e h (inl more) (inl others) = absurd (omega (arith, e, h, more, others))
 
-past : (names files i stop : ℕ) → stop ≡ min names files → stop ≤ i → (names ≤ i) ⊎ (files ≤ i)
+pub past : (names files i stop : ℕ) → stop ≡ min names files → stop ≤ i → (names ≤ i) ⊎ (files ≤ i)
 past names files i stop e h = past_by names files i stop e h (cases_lt i names) (cases_lt i files)
 
 -- the errors of one more file, and of no more

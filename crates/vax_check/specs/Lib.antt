@@ -1,3 +1,4 @@
 pub mod Beginning
+pub mod Linking
 pub mod Told
 pub mod View

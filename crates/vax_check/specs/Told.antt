@@ -1,10 +1,10 @@
 -- What is told of a program that isn't built.
-use Rattle.std.specs.Prelude.{◌≡◌, ◌⊎◌, ℕ, ◌==◌, ◌||◌, true, false, if◌then◌else◌, List, [], ◌∷◌, ◌++◌, codes, decimal, Option, None, Some}
+use Rattle.std.specs.Prelude.{◌≡◌, ◌⊎◌, ℕ, ◌==◌, true, false, if◌then◌else◌, List, [], ◌∷◌, ◌++◌, codes, decimal, Option, None, Some}
 use Rattle.vax_asm_errors.specs.Errors.{IsErrors}
 use Rattle.vax_asm_errors.specs.Remarks.{IsRemarked}
 use Rattle.vax_dialect.specs.declared.Dialect.{Dialect}
+use Rattle.vax_check.specs.Linking.{files_of, link_text}
 use Rattle.vax_lines.specs.Lines.{Text}
-use Rattle.vax_outside.specs.Hex.{hex}
 use Rattle.vax_program.specs.Program.{Refusal, Source, Link, InImage, is_linked}
 
 -- the errors of one file of a dialect were added, if it is a source
@@ -26,23 +26,6 @@ abbrev pub AreRemarked : (names files : List Text) → (before after : Text) →
 AreRemarked [] files before after = after ≡ before
 AreRemarked (name ∷ names) [] before after = after ≡ before
 AreRemarked (name ∷ names) (file ∷ files) before after = (between : Text) × IsFileRemarked name file before between × AreRemarked names files between after
-
--- what the linker found, in words
-unfoldable pub link_words : ℕ → Text
-link_words kind =
-    if kind == 1 then codes "no file defines the name"
-    else (if kind == 2 then codes "more than one definition for other files has the name"
-    else (if kind == 3 then codes "the program has too many pages or sections"
-    else (if kind == 4 then codes "no file says where the program begins"
-    else (if kind == 5 then codes "a distance to another file's name is too long at address"
-    else codes "the program can't be linked"))))
-
--- behind these stands the name, behind kind 5 an address
-abbrev pub link_detail : ℕ → Text → ℕ → Text
-link_detail kind name address = if (kind == 1) || (kind == 2) then codes " " ++ name else (if kind == 5 then codes " " ++ hex 8 address else [])
-
-unfoldable pub link_text : ℕ → Text → ℕ → Text
-link_text kind name address = codes "error: link " ++ decimal kind ++ codes ": " ++ link_words kind ++ link_detail kind name address ++ codes "\n"
 
 -- the fault of a field of an executable, in words
 unfoldable pub executable_words : ℕ → Text
@@ -93,7 +76,7 @@ image_text place kind = image_head kind ++ image_words kind ++ image_place place
 -- the faults of all sources, or what the linker found, or the fault of an image's or an executable's file
 abbrev pub AreErrorsOf : Dialect → (names files : List Text) → Refusal → Text → Type 0
 AreErrorsOf dialect names files (Source file line kind) text = AreTold dialect names files [] text
-AreErrorsOf dialect names files (Link kind name address) text = text ≡ link_text kind name address
+AreErrorsOf dialect names files (Link kind name address) text = text ≡ link_text kind name address (files_of names files)
 AreErrorsOf dialect names files (InImage place kind) text = text ≡ image_text place kind
 
 -- What is told of files: why they give no program, if they give none, and then remarks on their sources.

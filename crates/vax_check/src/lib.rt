@@ -1,5 +1,5 @@
-//! What keeps a program from being built, as text: all faults of its sources, what the linker finds, or the fault of an image's file; and remarks on
-//! the sources.
+//! What keeps a program from being built, as text: all faults of its sources, what the linker finds with the files and lines that it concerns, or the
+//! fault of an image's file; and remarks on the sources.
 #![tactic(auto)]
 
 mod errors;
@@ -7,6 +7,7 @@ mod image;
 mod laws;
 mod refusal;
 mod remarks;
+mod sources;
 mod text;
 
 pub use laws::errors_begin_with_the_refusal;

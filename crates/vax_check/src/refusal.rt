@@ -1,23 +1,25 @@
 // What the linker found.
 
 ghost use Rattle.std.specs.Prelude.{◌≡◌, ◌++◌, IfOk, OnOk};
-ghost use Rattle.vax_check.specs.Told.{link_detail, link_text, link_words};
+ghost use Rattle.vax_check.specs.Linking.{first_spot, line_for, line_text, link_detail, link_text, link_words, lone_file, other_text, second_text, spot, twice_text, twice_words, undefined_text};
+ghost use Rattle.vax_check.specs.View.{file_seen, files_seen};
 
+use crate::sources::{Role, those};
 use std::alloc::Global;
+use vax_asm_causes::{Sought, first_line};
+use vax_asm_errors::Source;
 use vax_outside::Text;
 use vax_space::NoMemory;
 
-/// What the linker found, in words.
-#[tactic(auto, unfolding(crate::specs::Told::link_words))]
+/// What the linker found beside names, in words.
+#[tactic(auto, unfolding(crate::specs::Linking::link_words))]
 fn link_words(kind: u8) -> &'static [u8]
     ensures { result.now ≡ link_words kind }
 {
     match kind {
-        1 => b"no file defines the name",
-        2 => b"more than one definition for other files has the name",
         3 => b"the program has too many pages or sections",
         4 => b"no file says where the program begins",
-        5 => b"a distance to another file's name is too long at address",
+        5 => b"a distance to another file's name is too long at address ",
         _ => b"the program can't be linked",
     }
 }
@@ -35,40 +37,202 @@ pub(crate) fn push(out: &mut Vec<u8>, bytes: &[u8]) -> Result<(), NoMemory>
     out.extend_from_slice(bytes).map_err(|_| NoMemory)
 }
 
-/// Appends the name or the address that what the linker found has.
-fn push_detail(out: &mut Vec<u8>, kind: u8, name: &[u8], address: u32) -> Result<(), NoMemory>
-    ensures { OnOk result (out.new.items ≡ out.old.items ++ link_detail kind name.now address) }
+/// Appends a line's number behind a file's name, if it is known.
+fn push_line(out: &mut Vec<u8>, line: Option<usize>) -> Result<(), NoMemory>
+    ensures { OnOk result (out.new.items ≡ out.old.items ++ line_text line) }
 {
-    if kind == 1 || kind == 2 {
-        push(out, b" ")?;
-        return push(out, name);
+    let Some(line) = line else {
+        return Ok(());
+    };
+    let mut text = Text::new();
+    text.push(b":");
+    text.push_decimal(line as u64);
+    push(out, text.as_slice())
+}
+
+/// The line where a name is defined; where none is, that on which it stands first.
+fn definition_line(alloc: Global, name: &[u8], source: &[u8]) -> Result<Option<usize>, NoMemory>
+    ensures { IfOk result (λ o. o ≡ line_for Role.Defines name.now source.now) }
+{
+    match first_line(alloc, source, name, Sought::Definition)? {
+        Some(line) => Ok(Some(line)),
+        None => first_line(alloc, source, name, Sought::Anywhere),
     }
-    if kind == 5 {
-        let mut text = Text::new();
-        text.push(b" ");
-        text.push_hex8(address);
-        return push(out, text.as_slice());
+}
+
+/// The line of a source where its part shows.
+fn line_for(
+    alloc: Global,
+    role: Role,
+    name: &[u8],
+    source: &[u8],
+) -> Result<Option<usize>, NoMemory>
+    ensures { IfOk result (λ o. o ≡ line_for role name.now source.now) }
+{
+    match role {
+        Role::Asks => first_line(alloc, source, name, Sought::Anywhere),
+        Role::Defines => definition_line(alloc, name, source),
+        Role::Begins => first_line(alloc, source, b".END", Sought::Anywhere),
     }
-    Ok(())
+}
+
+/// Appends the place where a file's part shows.
+#[tactic(auto, unfolding(crate::specs::Linking::spot))]
+fn push_spot(
+    alloc: Global,
+    out: &mut Vec<u8>,
+    role: Role,
+    name: &[u8],
+    file: Source<'_>,
+) -> Result<(), NoMemory>
+    ensures { OnOk result (out.new.items
+        ≡ out.old.items ++ spot role name.now (file_seen file.entry)) }
+{
+    push(out, file.name)?;
+    let line = line_for(alloc, role, name, file.text)?;
+    push_line(out, line)
+}
+
+/// Appends the place in the first of these files.
+fn push_first(
+    alloc: Global,
+    out: &mut Vec<u8>,
+    role: Role,
+    name: &[u8],
+    files: &[Source<'_>],
+) -> Result<(), NoMemory>
+    ensures { OnOk result (out.new.items
+        ≡ out.old.items ++ first_spot role name.now (files_seen files.now)) }
+{
+    let Some(file) = files.first() else {
+        return Ok(());
+    };
+    push_spot(alloc, out, role, name, *file)?;
+    push(out, b": ")
+}
+
+/// The error of a name that no file defines.
+#[tactic(auto, unfolding(crate::specs::Linking::undefined_text))]
+fn undefined_text(alloc: Global, name: &[u8], files: &[Source<'_>]) -> Result<Vec<u8>, NoMemory>
+    ensures { IfOk result (λ v. v.items ≡ undefined_text name.now (files_seen files.now)) }
+{
+    let asking = those(alloc, Role::Asks, name, files)?;
+    let mut out = Vec::new(alloc);
+    push_first(alloc, &mut out, Role::Asks, name, &asking)?;
+    push(&mut out, b"error: nothing defines the name ")?;
+    push(&mut out, name)?;
+    push(&mut out, b"\n")?;
+    Ok(out)
+}
+
+/// Appends what is there a second time.
+fn push_twice(out: &mut Vec<u8>, role: Role, name: &[u8]) -> Result<(), NoMemory>
+    ensures { OnOk result (out.new.items ≡ out.old.items ++ twice_words role name.now) }
+{
+    match role {
+        Role::Asks => Ok(()),
+        Role::Defines => {
+            push(out, b"a second definition of the name ")?;
+            push(out, name)
+        }
+        Role::Begins => push(out, b"a second beginning of the program"),
+    }
+}
+
+/// The error of what is there a second time.
+fn second_text(
+    alloc: Global,
+    role: Role,
+    name: &[u8],
+    files: &[Source<'_>],
+) -> Result<Vec<u8>, NoMemory>
+    ensures { IfOk result (λ v. v.items ≡ second_text role name.now (files_seen files.now)) }
+{
+    let mut out = Vec::new(alloc);
+    let [first, second, ..] = files else {
+        push(&mut out, b"error: ")?;
+        push_twice(&mut out, role, name)?;
+        push(&mut out, b"\n")?;
+        return Ok(out);
+    };
+    push_spot(alloc, &mut out, role, name, *second)?;
+    push(&mut out, b": error: ")?;
+    push_twice(&mut out, role, name)?;
+    push(&mut out, b"; the first is at ")?;
+    push_spot(alloc, &mut out, role, name, *first)?;
+    push(&mut out, b"\n")?;
+    Ok(out)
+}
+
+/// The error of a second definition or of a second beginning.
+#[tactic(auto, unfolding(crate::specs::Linking::twice_text))]
+fn twice_text(alloc: Global, name: &[u8], files: &[Source<'_>]) -> Result<Vec<u8>, NoMemory>
+    ensures { IfOk result (λ v. v.items ≡ twice_text name.now (files_seen files.now)) }
+{
+    let defining = those(alloc, Role::Defines, name, files)?;
+    if defining.len() >= 2 {
+        return second_text(alloc, Role::Defines, name, &defining);
+    }
+    let beginning = those(alloc, Role::Begins, name, files)?;
+    second_text(alloc, Role::Begins, name, &beginning)
+}
+
+/// Appends the name of a file that stands alone.
+fn push_lone(out: &mut Vec<u8>, files: &[Source<'_>]) -> Result<(), NoMemory>
+    ensures { OnOk result (out.new.items ≡ out.old.items ++ lone_file (files_seen files.now)) }
+{
+    let [file] = files else {
+        return Ok(());
+    };
+    push(out, file.name)?;
+    push(out, b": ")
+}
+
+/// Appends the address that what the linker found has.
+fn push_detail(out: &mut Vec<u8>, kind: u8, address: u32) -> Result<(), NoMemory>
+    ensures { OnOk result (out.new.items ≡ out.old.items ++ link_detail kind address) }
+{
+    if kind != 5 {
+        return Ok(());
+    }
+    let mut text = Text::new();
+    text.push_hex8(address);
+    push(out, text.as_slice())
+}
+
+/// The error of what the linker found beside names.
+#[tactic(auto, unfolding(crate::specs::Linking::other_text))]
+fn other_text(
+    alloc: Global,
+    kind: u8,
+    address: u32,
+    files: &[Source<'_>],
+) -> Result<Vec<u8>, NoMemory>
+    ensures { IfOk result (λ v. v.items ≡ other_text kind address (files_seen files.now)) }
+{
+    let mut out = Vec::new(alloc);
+    push_lone(&mut out, files)?;
+    push(&mut out, b"error: ")?;
+    push(&mut out, link_words(kind))?;
+    push_detail(&mut out, kind, address)?;
+    push(&mut out, b"\n")?;
+    Ok(out)
 }
 
 /// The error of what the linker found.
-#[tactic(auto, unfolding(crate::specs::Told::link_text))]
+#[tactic(auto, unfolding(crate::specs::Linking::link_text))]
 pub(crate) fn link_text(
     alloc: Global,
     kind: u8,
     name: &[u8],
     address: u32,
+    files: &[Source<'_>],
 ) -> Result<Vec<u8>, NoMemory>
-    ensures { IfOk result (λ v. v.items ≡ link_text kind name.now address) }
+    ensures { IfOk result (λ v. v.items ≡ link_text kind name.now address (files_seen files.now)) }
 {
-    let mut text = Text::new();
-    text.push(b"error: link ");
-    text.push_decimal(u64::from(kind));
-    text.push(b": ");
-    let mut out = copied(alloc, text.as_slice())?;
-    push(&mut out, link_words(kind))?;
-    push_detail(&mut out, kind, name, address)?;
-    push(&mut out, b"\n")?;
-    Ok(out)
+    match kind {
+        1 => undefined_text(alloc, name, files),
+        2 => twice_text(alloc, name, files),
+        _ => other_text(alloc, kind, address, files),
+    }
 }

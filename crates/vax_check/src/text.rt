@@ -1,7 +1,8 @@
 // What is told of a program.
 
-ghost use Rattle.std.specs.Prelude.{IfOk};
+ghost use Rattle.std.specs.Prelude.{◌≡◌, IfOk};
 ghost use Rattle.std.specs.Option.{option_map};
+ghost use Rattle.vax_check.specs.Linking.{files_of, link_text};
 ghost use Rattle.vax_check.specs.Told.{AreErrorsOf, Tells};
 ghost use Rattle.vax_check.specs.View.{names_of};
 ghost use Rattle.vax_program.specs.View.{refusal_seen, texts};
@@ -10,6 +11,7 @@ use crate::errors::errors_of;
 use crate::image::image_text;
 use crate::refusal::link_text;
 use crate::remarks::push_each;
+use crate::sources::files_of;
 use std::alloc::Global;
 use vax_asm_errors::Wanted;
 use vax_dialect::Dialect;
@@ -26,6 +28,21 @@ pub struct Files<'a> {
     pub bare: bool,
 }
 
+/// The error of what the linker found.
+fn link_error(
+    alloc: Global,
+    files: Files<'_>,
+    kind: u8,
+    name: &[u8],
+    address: u32,
+) -> Result<Vec<u8>, NoMemory>
+    ensures { IfOk result (λ v. v.items ≡ link_text kind name.now address
+        (files_of (names_of files.entry.names.now) (texts files.entry.texts.now))) }
+{
+    let all = files_of(alloc, files.names, files.texts)?;
+    link_text(alloc, kind, name, address, &all)
+}
+
 /// Why files give no program.
 fn errors_in(alloc: Global, files: Files<'_>, refusal: &Refusal) -> Result<Vec<u8>, NoMemory>
     ensures { IfOk result (λ v. AreErrorsOf files.entry.dialect
@@ -38,7 +55,7 @@ fn errors_in(alloc: Global, files: Files<'_>, refusal: &Refusal) -> Result<Vec<u
             kind,
             name,
             address,
-        } => link_text(alloc, *kind, name.as_slice(), *address),
+        } => link_error(alloc, files, *kind, name.as_slice(), *address),
         Refusal::Image { place, kind } => image_text(alloc, *place, *kind),
     }
 }

@@ -1,0 +1,60 @@
+-- Files, one more at a time.
+use Rattle.std.proofs.Common.{◌≡◌, ◌<◌, ◌≤◌, ◌+◌, ◌⊎◌, inl, inr, ℕ, Bool, true, false, cond, List, [], ◌∷◌, ◌++◌, length, min, drop, map-append, append-nil, append_assoc, refl, sym, ap, ◌∙◌}
+use Rattle.std.proofs.lemmas.List.{drop_all}
+use Rattle.std.specs.Borrow.{Bor}
+use Rattle.std.specs.Global.{Vec}
+use Rattle.std.specs.Prelude.{slice_index_or}
+use Rattle.vax_asm_errors.specs.declared.errors.Source.{Source}
+use Rattle.vax_check.proofs.Telling.{here, past}
+use Rattle.vax_check.specs.Linking.{File, files_of, plays, those}
+use Rattle.vax_check.specs.View.{file_seen, files_seen, names_of}
+use Rattle.vax_check.specs.declared.sources.Role.{Role}
+use Rattle.vax_lines.specs.Lines.{Text}
+use Rattle.vax_program.specs.View.{texts}
+
+-- one more stands in front of the rest
+moved : (before after : List Source) (s : Source) (rest all : List File) → after ≡ before ++ s ∷ [] → files_seen before ++ file_seen s ∷ rest ≡ all → files_seen after ++ rest ≡ all
+moved before after s rest all e h =
+    ap (λ (l : List Source). files_seen l ++ rest) e ∙ ap (λ (l : List File). l ++ rest) (map-append file_seen before (s ∷ []))
+    ∙ append_assoc (files_seen before) (file_seen s ∷ []) rest ∙ h
+
+-- one more file, and none
+pub file_added : (names : List (Bor Text)) (files : List (Vec ℕ)) (i : ℕ) (n : Bor Text) (f : Vec ℕ) (before after : List Source) (s : Source) (all : List File) → i < length names → i < length files → n ≡ slice_index_or names i n → f ≡ slice_index_or files i f
+    → after ≡ before ++ s ∷ [] → s.name.now ≡ n.now → s.text.now ≡ f.items → files_seen before ++ files_of (names_of (drop i names)) (texts (drop i files)) ≡ all → files_seen after ++ files_of (names_of (drop (i + 1) names)) (texts (drop (i + 1) files)) ≡ all
+file_added names files i n f before after s all hn hf en ef e name text h =
+    let rest : List File = files_of (names_of (drop (i + 1) names)) (texts (drop (i + 1) files)) in
+    let file : File = record { name = n.now; text = f.items } in
+    let same : file_seen s ≡ file = cc in
+    let split : files_of (names_of (drop i names)) (texts (drop i files)) ≡ file ∷ rest = rw (here names i n hn en, here files i f hf ef) refl in
+    moved before after s rest all e (ap (λ (x : File). files_seen before ++ x ∷ rest) same ∙ ap (λ (l : List File). files_seen before ++ l) (sym split) ∙ h)
+
+none_left : (names : List Text) → files_of names [] ≡ []
+none_left [] = refl
+none_left (name ∷ names) = refl
+
+none_behind : (names : List (Bor Text)) (files : List (Vec ℕ)) (i : ℕ) → (length names ≤ i) ⊎ (length files ≤ i) → files_of (names_of (drop i names)) (texts (drop i files)) ≡ []
+none_behind names files i (inl few) = rw (drop_all i names few) refl
+none_behind names files i (inr few) = rw (drop_all i files few) (none_left (names_of (drop i names)))
+
+pub files_added : (names : List (Bor Text)) (files : List (Vec ℕ)) (i stop : ℕ) (before : List Source) (all : List File) → stop ≡ min (length names) (length files) → stop ≤ i → files_seen before ++ files_of (names_of (drop i names)) (texts (drop i files)) ≡ all → files_seen before ≡ all
+files_added names files i stop before all e over h =
+    sym (append-nil (files_seen before)) ∙ ap (λ (l : List File). files_seen before ++ l) (sym (none_behind names files i (past (length names) (length files) i stop e over))) ∙ h
+
+-- those of the files that have a part, when one more was tried
+tried : (role : Role) (name : Text) (files : List Source) (i : ℕ) (f : Source) (b : Bool) → i < length files → f ≡ slice_index_or files i f → plays role name (file_seen f) ≡ b
+    → those role name (files_seen (drop i files)) ≡ cond b (file_seen f ∷ those role name (files_seen (drop (i + 1) files))) (those role name (files_seen (drop (i + 1) files)))
+tried role name files i f b h at is = rw (here files i f h at, is) refl
+
+pub one_kept : (role : Role) (name : Text) (files : List Source) (i : ℕ) (f : Source) (b : Bool) (before after : List Source) (all : List File) → i < length files → f ≡ slice_index_or files i f → b ≡ plays role name (file_seen f) → b ≡ true → after ≡ before ++ f ∷ []
+    → files_seen before ++ those role name (files_seen (drop i files)) ≡ all → files_seen after ++ those role name (files_seen (drop (i + 1) files)) ≡ all
+one_kept role name files i f b before after all h at is yes_so e same =
+    moved before after f (those role name (files_seen (drop (i + 1) files))) all e
+    (ap (λ (l : List File). files_seen before ++ l) (sym (tried role name files i f true h at (sym is ∙ yes_so))) ∙ same)
+
+pub one_left : (role : Role) (name : Text) (files : List Source) (i : ℕ) (f : Source) (b : Bool) (before : List Source) (all : List File) → i < length files → f ≡ slice_index_or files i f → b ≡ plays role name (file_seen f) → b ≡ false
+    → files_seen before ++ those role name (files_seen (drop i files)) ≡ all → files_seen before ++ those role name (files_seen (drop (i + 1) files)) ≡ all
+one_left role name files i f b before all h at is not_so same = ap (λ (l : List File). files_seen before ++ l) (sym (tried role name files i f false h at (sym is ∙ not_so))) ∙ same
+
+pub all_tried : (role : Role) (name : Text) (files : List Source) (i : ℕ) (before : List Source) (all : List File) → length files ≤ i → files_seen before ++ those role name (files_seen (drop i files)) ≡ all → files_seen before ≡ all
+all_tried role name files i before all h same =
+    sym (append-nil (files_seen before)) ∙ ap (λ (l : List Source). files_seen before ++ those role name (files_seen l)) (sym (drop_all i files h)) ∙ same

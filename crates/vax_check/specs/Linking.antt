@@ -1,0 +1,115 @@
+-- What the linker found, as text: the files that are concerned, and the lines where it shows.
+use Rattle.std.specs.Prelude.{ℕ, ◌==◌, nat_le, Bool, false, if◌then◌else◌, List, [], ◌∷◌, ◌++◌, length, codes, decimal, Option, None, Some, is_some, Result, Ok, Err}
+use Rattle.std.specs.List.{filter, list_any}
+use Rattle.std.specs.Str.{bytes_eq}
+use Rattle.vax_asm.specs.Walk.{assembled}
+use Rattle.vax_asm_causes.specs.Places.{first_line}
+use Rattle.vax_asm_causes.specs.declared.places.Sought.TheVariants.{Anywhere, Definition}
+use Rattle.vax_asm_second.specs.declared.types.Fault.{Fault}
+use Rattle.vax_check.specs.declared.sources.Role.{Role}
+use Rattle.vax_check.specs.declared.sources.Role.TheVariants.{Asks, Defines, Begins}
+use Rattle.vax_dialect.specs.declared.Dialect.TheVariants.{Vax}
+use Rattle.vax_lines.specs.Lines.{Text}
+use Rattle.vax_module.specs.declared.Module.{Module}
+use Rattle.vax_outside.specs.Hex.{hex}
+use Rattle.vax_program.specs.Program.{is_linked}
+
+-- A file by its name and its bytes.
+pub record File : Type 0 where
+  pub name : Text
+  pub text : Text
+
+unfoldable pub files_of : (names texts : List Text) → List File
+files_of [] texts = []
+files_of (name ∷ names) [] = []
+files_of (name ∷ names) (text ∷ texts) = record { name = name; text = text } ∷ files_of names texts
+
+-- a module asks other files for a name, defines it for them, or says where the program begins
+abbrev pub has_part : Role → (name : Text) → Module → Bool
+has_part Asks name m = list_any (bytes_eq name) m.externals
+has_part Defines name m = list_any (λ symbol. bytes_eq name symbol.name) m.globals
+has_part Begins name m = is_some m.transfer
+
+abbrev pub has_part_so : Role → (name : Text) → Result Module Fault → Bool
+has_part_so role name (Ok m) = has_part role name m
+has_part_so role name (Err fault) = false
+
+-- the same of a file: a source that assembles
+abbrev pub plays : Role → (name : Text) → File → Bool
+plays role name file = if is_linked file.text then false else has_part_so role name (assembled Vax file.text)
+
+-- the files that do
+abbrev pub those : Role → (name : Text) → List File → List File
+those role name files = filter (plays role name) files
+
+abbrev pub or_else : Option ℕ → Option ℕ → Option ℕ
+or_else (Some line) other = Some line
+or_else None other = other
+
+-- the line of a source where it does: where the name stands first, where it is defined, or where `.END` stands
+abbrev pub line_for : Role → (name source : Text) → Option ℕ
+line_for Asks name source = first_line Anywhere name source
+line_for Defines name source = or_else (first_line Definition name source) (first_line Anywhere name source)
+line_for Begins name source = first_line Anywhere (codes ".END") source
+
+-- a place: a file, and a line of it where one is known
+abbrev pub line_text : Option ℕ → Text
+line_text None = []
+line_text (Some line) = codes ":" ++ decimal line
+
+unfoldable pub spot : Role → (name : Text) → File → Text
+spot role name file = file.name ++ line_text (line_for role name file.text)
+
+-- the place of the first of these files
+abbrev pub first_spot : Role → (name : Text) → List File → Text
+first_spot role name [] = []
+first_spot role name (file ∷ files) = spot role name file ++ codes ": "
+
+-- a name that no file defines, at the first file that asks for it
+unfoldable pub undefined_text : (name : Text) → List File → Text
+undefined_text name files = first_spot Asks name (those Asks name files) ++ codes "error: nothing defines the name " ++ name ++ codes "\n"
+
+-- what is there a second time
+abbrev pub twice_words : Role → (name : Text) → Text
+twice_words Asks name = []
+twice_words Defines name = codes "a second definition of the name " ++ name
+twice_words Begins name = codes "a second beginning of the program"
+
+-- that, at the second of these files, with the place in the first
+abbrev pub second_text : Role → (name : Text) → List File → Text
+second_text role name [] = codes "error: " ++ twice_words role name ++ codes "\n"
+second_text role name (first ∷ []) = codes "error: " ++ twice_words role name ++ codes "\n"
+second_text role name (first ∷ second ∷ more) =
+    spot role name second ++ codes ": error: " ++ twice_words role name ++ codes "; the first is at " ++ spot role name first ++ codes "\n"
+
+-- a name that two files define; where no two do, a second file that says where the program begins
+unfoldable pub twice_text : (name : Text) → List File → Text
+twice_text name files =
+    if nat_le 2 (length (those Defines name files)) then second_text Defines name (those Defines name files)
+    else second_text Begins name (those Begins name files)
+
+-- what else the linker found, in words
+unfoldable pub link_words : ℕ → Text
+link_words kind =
+    if kind == 3 then codes "the program has too many pages or sections"
+    else (if kind == 4 then codes "no file says where the program begins"
+    else (if kind == 5 then codes "a distance to another file's name is too long at address "
+    else codes "the program can't be linked"))
+
+-- behind kind 5 stands an address
+abbrev pub link_detail : ℕ → ℕ → Text
+link_detail kind address = if kind == 5 then hex 8 address else []
+
+-- the name of a file that stands alone
+abbrev pub lone_file : List File → Text
+lone_file [] = []
+lone_file (file ∷ []) = file.name ++ codes ": "
+lone_file (file ∷ other ∷ files) = []
+
+unfoldable pub other_text : (kind address : ℕ) → List File → Text
+other_text kind address files = lone_file files ++ codes "error: " ++ link_words kind ++ link_detail kind address ++ codes "\n"
+
+-- the error of what the linker found
+unfoldable pub link_text : (kind : ℕ) → (name : Text) → (address : ℕ) → List File → Text
+link_text kind name address files =
+    if kind == 1 then undefined_text name files else (if kind == 2 then twice_text name files else other_text kind address files)

@@ -1,0 +1,116 @@
+// The sources that a refusal of the linker concerns.
+
+ghost use Rattle.std.specs.Prelude.{◌≡◌, IfOk};
+ghost use Rattle.std.specs.List.{list_any};
+ghost use Rattle.std.specs.Str.{bytes_eq};
+ghost use Rattle.vax_check.specs.Linking.{files_of, has_part, plays, those};
+ghost use Rattle.vax_check.specs.View.{file_seen, files_seen, names_of};
+ghost use Rattle.vax_program.specs.View.{texts as texts_seen};
+
+use crate::errors::is_linked;
+use std::alloc::Global;
+use vax_asm::{AsmError, assemble};
+use vax_asm_errors::Source;
+use vax_dialect::Dialect;
+use vax_module::{Bytes, Module, Symbol};
+use vax_space::NoMemory;
+
+/// The part that a source has in a refusal.
+#[derive(Clone, Copy, PartialEq, Eq)]
+pub(crate) enum Role {
+    /// It asks other files for the name.
+    Asks,
+    /// It defines the name for other files.
+    Defines,
+    /// It says where the program begins.
+    Begins,
+}
+
+/// Whether a name is among these.
+fn is_among(names: &[Bytes], name: &[u8]) -> bool
+    ensures { result ≡ list_any (bytes_eq name.now) names.now }
+{
+    for other in names {
+        if name == other.as_slice() {
+            return true;
+        }
+    }
+    false
+}
+
+/// Whether one of these has a name.
+fn is_named(symbols: &[Symbol], name: &[u8]) -> bool
+    ensures { result ≡ list_any (λ symbol. bytes_eq name.now symbol.name) symbols.now }
+{
+    for symbol in symbols {
+        if name == symbol.name.as_slice() {
+            return true;
+        }
+    }
+    false
+}
+
+/// Whether a module has a part.
+fn has_part(role: Role, name: &[u8], module: &Module) -> bool
+    ensures { result ≡ has_part role name.now module.now }
+{
+    match role {
+        Role::Asks => is_among(module.externals.as_slice(), name),
+        Role::Defines => is_named(module.globals.as_slice(), name),
+        Role::Begins => module.transfer.is_some(),
+    }
+}
+
+/// Whether a file is a source that assembles and has a part.
+fn plays(alloc: Global, role: Role, name: &[u8], source: Source<'_>) -> Result<bool, NoMemory>
+    ensures { IfOk result (λ b. b ≡ plays role name.now (file_seen source.entry)) }
+{
+    if is_linked(source.text) {
+        return Ok(false);
+    }
+    match assemble(alloc, Dialect::Vax, source.text) {
+        Ok(module) => Ok(has_part(role, name, &module)),
+        Err(AsmError::Fault { .. }) => Ok(false),
+        Err(AsmError::NoMemory) => Err(NoMemory),
+    }
+}
+
+/// The files, each with its name.
+#[tactic(auto, using(crate::proofs::Gathering::file_added, crate::proofs::Gathering::files_added))]
+pub(crate) fn files_of<'a>(
+    alloc: Global,
+    names: &'a [&'a str],
+    texts: &'a [Vec<u8>],
+) -> Result<Vec<Source<'a>>, NoMemory>
+    ensures { IfOk result (λ v. files_seen v.items
+        ≡ files_of (names_of names.entry.now) (texts_seen texts.entry.now)) }
+{
+    let mut all = Vec::new(alloc);
+    for i in 0..names.len().min(texts.len()) {
+        let source = Source {
+            name: names[i].as_bytes(),
+            text: texts[i].as_slice(),
+        };
+        all.push(source).map_err(|_| NoMemory)?;
+    }
+    Ok(all)
+}
+
+/// The files that have a part.
+#[tactic(auto, using(crate::proofs::Gathering::one_kept, crate::proofs::Gathering::one_left, crate::proofs::Gathering::all_tried))]
+pub(crate) fn those<'a>(
+    alloc: Global,
+    role: Role,
+    name: &[u8],
+    files: &[Source<'a>],
+) -> Result<Vec<Source<'a>>, NoMemory>
+    ensures { IfOk result (λ v. files_seen v.items ≡ those role name.now (files_seen files.now)) }
+{
+    let mut all = Vec::new(alloc);
+    for file in files {
+        if plays(alloc, role, name, *file)? {
+            all.push(*file).map_err(|_| NoMemory)?;
+        }
+    }
+    Ok(all)
+}
