@@ -1,6 +1,7 @@
 //! The errors of what the linker finds, as text.
 use std::test::Fail;
 use vax_check::{Files, text_of};
+use vax_dialect::Dialect;
 use vax_program::Refusal;
 use vax_space::Bytes;
 
@@ -18,6 +19,7 @@ fn tells(rt: &HostRuntime, row: Row<'_>) -> Result<bool, Fail> {
     texts.push(row.sources[0].as_bytes().to_vec(rt.alloc())?)?;
     texts.push(row.sources[1].as_bytes().to_vec(rt.alloc())?)?;
     let files = Files {
+        dialect: Dialect::Vax,
         names: &["a.mar", "b.mar"],
         texts: &texts,
         bare: false,
