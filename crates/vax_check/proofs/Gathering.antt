@@ -7,8 +7,9 @@ use Rattle.std.specs.Prelude.{slice_index_or}
 use Rattle.vax_asm_errors.specs.declared.errors.Source.{Source}
 use Rattle.vax_check.proofs.Telling.{here, past}
 use Rattle.vax_check.specs.Linking.{File, files_of, plays, those}
-use Rattle.vax_check.specs.View.{file_seen, files_seen, names_of}
+use Rattle.vax_check.specs.View.{file_seen, files_seen, names_of, with_if}
 use Rattle.vax_check.specs.declared.sources.Role.{Role}
+use Rattle.vax_dialect.specs.declared.Dialect.{Dialect}
 use Rattle.vax_lines.specs.Lines.{Text}
 use Rattle.vax_program.specs.View.{texts}
 
@@ -41,20 +42,19 @@ files_added names files i stop before all e over h =
     sym (append-nil (files_seen before)) ∙ ap (λ (l : List File). files_seen before ++ l) (sym (none_behind names files i (past (length names) (length files) i stop e over))) ∙ h
 
 -- those of the files that have a part, when one more was tried
-tried : (role : Role) (name : Text) (files : List Source) (i : ℕ) (f : Source) (b : Bool) → i < length files → f ≡ slice_index_or files i f → plays role name (file_seen f) ≡ b
-    → those role name (files_seen (drop i files)) ≡ cond b (file_seen f ∷ those role name (files_seen (drop (i + 1) files))) (those role name (files_seen (drop (i + 1) files)))
-tried role name files i f b h at is = rw (here files i f h at, is) refl
+tried : (dialect : Dialect) (role : Role) (name : Text) (files : List Source) (i : ℕ) (f : Source) (b : Bool) → i < length files → f ≡ slice_index_or files i f → plays dialect role name (file_seen f) ≡ b
+    → those dialect role name (files_seen (drop i files)) ≡ cond b (file_seen f ∷ those dialect role name (files_seen (drop (i + 1) files))) (those dialect role name (files_seen (drop (i + 1) files)))
+tried dialect role name files i f b h at is = rw (here files i f h at, is) refl
 
-pub one_kept : (role : Role) (name : Text) (files : List Source) (i : ℕ) (f : Source) (b : Bool) (before after : List Source) (all : List File) → i < length files → f ≡ slice_index_or files i f → b ≡ plays role name (file_seen f) → b ≡ true → after ≡ before ++ f ∷ []
-    → files_seen before ++ those role name (files_seen (drop i files)) ≡ all → files_seen after ++ those role name (files_seen (drop (i + 1) files)) ≡ all
-one_kept role name files i f b before after all h at is yes_so e same =
-    moved before after f (those role name (files_seen (drop (i + 1) files))) all e
-    (ap (λ (l : List File). files_seen before ++ l) (sym (tried role name files i f true h at (sym is ∙ yes_so))) ∙ same)
+pub one_tried : (dialect : Dialect) (role : Role) (name : Text) (files : List Source) (i : ℕ) (f : Source) (b : Bool) (before after : List Source) (all : List File) → i < length files → f ≡ slice_index_or files i f → b ≡ plays dialect role name (file_seen f) → after ≡ with_if b f before
+    → files_seen before ++ those dialect role name (files_seen (drop i files)) ≡ all → files_seen after ++ those dialect role name (files_seen (drop (i + 1) files)) ≡ all
+one_tried dialect role name files i f true before after all h at is e same =
+    moved before after f (those dialect role name (files_seen (drop (i + 1) files))) all e
+    (ap (λ (l : List File). files_seen before ++ l) (sym (tried dialect role name files i f true h at (sym is))) ∙ same)
+one_tried dialect role name files i f false before after all h at is e same =
+    ap (λ (l : List Source). files_seen l ++ those dialect role name (files_seen (drop (i + 1) files))) e
+    ∙ ap (λ (l : List File). files_seen before ++ l) (sym (tried dialect role name files i f false h at (sym is))) ∙ same
 
-pub one_left : (role : Role) (name : Text) (files : List Source) (i : ℕ) (f : Source) (b : Bool) (before : List Source) (all : List File) → i < length files → f ≡ slice_index_or files i f → b ≡ plays role name (file_seen f) → b ≡ false
-    → files_seen before ++ those role name (files_seen (drop i files)) ≡ all → files_seen before ++ those role name (files_seen (drop (i + 1) files)) ≡ all
-one_left role name files i f b before all h at is not_so same = ap (λ (l : List File). files_seen before ++ l) (sym (tried role name files i f false h at (sym is ∙ not_so))) ∙ same
-
-pub all_tried : (role : Role) (name : Text) (files : List Source) (i : ℕ) (before : List Source) (all : List File) → length files ≤ i → files_seen before ++ those role name (files_seen (drop i files)) ≡ all → files_seen before ≡ all
-all_tried role name files i before all h same =
-    sym (append-nil (files_seen before)) ∙ ap (λ (l : List Source). files_seen before ++ those role name (files_seen l)) (sym (drop_all i files h)) ∙ same
+pub all_tried : (dialect : Dialect) (role : Role) (name : Text) (files : List Source) (i : ℕ) (before : List Source) (all : List File) → length files ≤ i → files_seen before ++ those dialect role name (files_seen (drop i files)) ≡ all → files_seen before ≡ all
+all_tried dialect role name files i before all h same =
+    sym (append-nil (files_seen before)) ∙ ap (λ (l : List Source). files_seen before ++ those dialect role name (files_seen l)) (sym (drop_all i files h)) ∙ same

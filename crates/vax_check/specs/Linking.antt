@@ -8,7 +8,7 @@ use Rattle.vax_asm_causes.specs.declared.places.Sought.TheVariants.{Anywhere, De
 use Rattle.vax_asm_second.specs.declared.types.Fault.{Fault}
 use Rattle.vax_check.specs.declared.sources.Role.{Role}
 use Rattle.vax_check.specs.declared.sources.Role.TheVariants.{Asks, Defines, Begins}
-use Rattle.vax_dialect.specs.declared.Dialect.TheVariants.{Vax}
+use Rattle.vax_dialect.specs.declared.Dialect.{Dialect}
 use Rattle.vax_lines.specs.Lines.{Text}
 use Rattle.vax_module.specs.declared.Module.{Module}
 use Rattle.vax_outside.specs.Hex.{hex}
@@ -34,13 +34,13 @@ abbrev pub has_part_so : Role → (name : Text) → Result Module Fault → Bool
 has_part_so role name (Ok m) = has_part role name m
 has_part_so role name (Err fault) = false
 
--- the same of a file: a source that assembles
-abbrev pub plays : Role → (name : Text) → File → Bool
-plays role name file = if is_linked file.text then false else has_part_so role name (assembled Vax file.text)
+-- the same of a file: a source that assembles in a dialect
+abbrev pub plays : Dialect → Role → (name : Text) → File → Bool
+plays dialect role name file = if is_linked file.text then false else has_part_so role name (assembled dialect file.text)
 
 -- the files that do
-abbrev pub those : Role → (name : Text) → List File → List File
-those role name files = filter (plays role name) files
+abbrev pub those : Dialect → Role → (name : Text) → List File → List File
+those dialect role name files = filter (plays dialect role name) files
 
 abbrev pub or_else : Option ℕ → Option ℕ → Option ℕ
 or_else (Some line) other = Some line
@@ -66,8 +66,9 @@ first_spot role name [] = []
 first_spot role name (file ∷ files) = spot role name file ++ codes ": "
 
 -- a name that no file defines, at the first file that asks for it
-unfoldable pub undefined_text : (name : Text) → List File → Text
-undefined_text name files = first_spot Asks name (those Asks name files) ++ codes "error: nothing defines the name " ++ name ++ codes "\n"
+unfoldable pub undefined_text : Dialect → (name : Text) → List File → Text
+undefined_text dialect name files =
+    first_spot Asks name (those dialect Asks name files) ++ codes "error: nothing defines the name " ++ name ++ codes "\n"
 
 -- what is there a second time
 abbrev pub twice_words : Role → (name : Text) → Text
@@ -83,10 +84,10 @@ second_text role name (first ∷ second ∷ more) =
     spot role name second ++ codes ": error: " ++ twice_words role name ++ codes "; the first is at " ++ spot role name first ++ codes "\n"
 
 -- a name that two files define; where no two do, a second file that says where the program begins
-unfoldable pub twice_text : (name : Text) → List File → Text
-twice_text name files =
-    if nat_le 2 (length (those Defines name files)) then second_text Defines name (those Defines name files)
-    else second_text Begins name (those Begins name files)
+unfoldable pub twice_text : Dialect → (name : Text) → List File → Text
+twice_text dialect name files =
+    if nat_le 2 (length (those dialect Defines name files)) then second_text Defines name (those dialect Defines name files)
+    else second_text Begins name (those dialect Begins name files)
 
 -- what else the linker found, in words
 unfoldable pub link_words : ℕ → Text
@@ -109,7 +110,7 @@ lone_file (file ∷ other ∷ files) = []
 unfoldable pub other_text : (kind address : ℕ) → List File → Text
 other_text kind address files = lone_file files ++ codes "error: " ++ link_words kind ++ link_detail kind address ++ codes "\n"
 
--- the error of what the linker found
-unfoldable pub link_text : (kind : ℕ) → (name : Text) → (address : ℕ) → List File → Text
-link_text kind name address files =
-    if kind == 1 then undefined_text name files else (if kind == 2 then twice_text name files else other_text kind address files)
+-- the error of what the linker found, where the sources are of a dialect
+unfoldable pub link_text : Dialect → (kind : ℕ) → (name : Text) → (address : ℕ) → List File → Text
+link_text dialect kind name address files =
+    if kind == 1 then undefined_text dialect name files else (if kind == 2 then twice_text dialect name files else other_text kind address files)

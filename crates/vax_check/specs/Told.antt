@@ -76,7 +76,7 @@ image_text place kind = image_head kind ++ image_words kind ++ image_place place
 -- the faults of all sources, or what the linker found, or the fault of an image's or an executable's file
 abbrev pub AreErrorsOf : Dialect → (names files : List Text) → Refusal → Text → Type 0
 AreErrorsOf dialect names files (Source file line kind) text = AreTold dialect names files [] text
-AreErrorsOf dialect names files (Link kind name address) text = text ≡ link_text kind name address (files_of names files)
+AreErrorsOf dialect names files (Link kind name address) text = text ≡ link_text dialect kind name address (files_of names files)
 AreErrorsOf dialect names files (InImage place kind) text = text ≡ image_text place kind
 
 -- What is told of files: why they give no program, if they give none, and then remarks on their sources.

@@ -8,6 +8,7 @@ use crate::sources::{Role, those};
 use std::alloc::Global;
 use vax_asm_causes::{Sought, first_line};
 use vax_asm_errors::Source;
+use vax_dialect::Dialect;
 use vax_outside::Text;
 use vax_space::NoMemory;
 
@@ -113,10 +114,15 @@ fn push_first(
 
 /// The error of a name that no file defines.
 #[tactic(auto, unfolding(crate::specs::Linking::undefined_text))]
-fn undefined_text(alloc: Global, name: &[u8], files: &[Source<'_>]) -> Result<Vec<u8>, NoMemory>
-    ensures { IfOk result (λ v. v.items ≡ undefined_text name.now (files_seen files.now)) }
+fn undefined_text(
+    alloc: Global,
+    dialect: Dialect,
+    name: &[u8],
+    files: &[Source<'_>],
+) -> Result<Vec<u8>, NoMemory>
+    ensures { IfOk result (λ v. v.items ≡ undefined_text dialect name.now (files_seen files.now)) }
 {
-    let asking = those(alloc, Role::Asks, name, files)?;
+    let asking = those(alloc, dialect, Role::Asks, name, files)?;
     let mut out = Vec::new(alloc);
     push_first(alloc, &mut out, Role::Asks, name, &asking)?;
     push(&mut out, b"error: nothing defines the name ")?;
@@ -166,14 +172,19 @@ fn second_text(
 
 /// The error of a second definition or of a second beginning.
 #[tactic(auto, unfolding(crate::specs::Linking::twice_text))]
-fn twice_text(alloc: Global, name: &[u8], files: &[Source<'_>]) -> Result<Vec<u8>, NoMemory>
-    ensures { IfOk result (λ v. v.items ≡ twice_text name.now (files_seen files.now)) }
+fn twice_text(
+    alloc: Global,
+    dialect: Dialect,
+    name: &[u8],
+    files: &[Source<'_>],
+) -> Result<Vec<u8>, NoMemory>
+    ensures { IfOk result (λ v. v.items ≡ twice_text dialect name.now (files_seen files.now)) }
 {
-    let defining = those(alloc, Role::Defines, name, files)?;
+    let defining = those(alloc, dialect, Role::Defines, name, files)?;
     if defining.len() >= 2 {
         return second_text(alloc, Role::Defines, name, &defining);
     }
-    let beginning = those(alloc, Role::Begins, name, files)?;
+    let beginning = those(alloc, dialect, Role::Begins, name, files)?;
     second_text(alloc, Role::Begins, name, &beginning)
 }
 
@@ -219,20 +230,28 @@ fn other_text(
     Ok(out)
 }
 
-/// The error of what the linker found.
+/// What the linker found: its kind, the name that it concerns, and an address.
+#[derive(Clone, Copy)]
+pub(crate) struct Found<'a> {
+    pub(crate) kind: u8,
+    pub(crate) name: &'a [u8],
+    pub(crate) address: u32,
+}
+
+/// The error of what the linker found, where the sources are of a dialect.
 #[tactic(auto, unfolding(crate::specs::Linking::link_text))]
 pub(crate) fn link_text(
     alloc: Global,
-    kind: u8,
-    name: &[u8],
-    address: u32,
+    dialect: Dialect,
+    found: Found<'_>,
     files: &[Source<'_>],
 ) -> Result<Vec<u8>, NoMemory>
-    ensures { IfOk result (λ v. v.items ≡ link_text kind name.now address (files_seen files.now)) }
+    ensures { IfOk result (λ v. v.items ≡ link_text dialect found.entry.kind
+        found.entry.name.now found.entry.address (files_seen files.now)) }
 {
-    match kind {
-        1 => undefined_text(alloc, name, files),
-        2 => twice_text(alloc, name, files),
-        _ => other_text(alloc, kind, address, files),
+    match found.kind {
+        1 => undefined_text(alloc, dialect, found.name, files),
+        2 => twice_text(alloc, dialect, found.name, files),
+        _ => other_text(alloc, found.kind, found.address, files),
     }
 }

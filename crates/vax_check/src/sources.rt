@@ -1,10 +1,10 @@
 // The sources that a refusal of the linker concerns.
 
-ghost use Rattle.std.specs.Prelude.{◌≡◌, IfOk};
+ghost use Rattle.std.specs.Prelude.{◌≡◌, IfOk, OnOk};
 ghost use Rattle.std.specs.List.{list_any};
 ghost use Rattle.std.specs.Str.{bytes_eq};
 ghost use Rattle.vax_check.specs.Linking.{files_of, has_part, plays, those};
-ghost use Rattle.vax_check.specs.View.{file_seen, files_seen, names_of};
+ghost use Rattle.vax_check.specs.View.{file_seen, files_seen, names_of, with_if};
 ghost use Rattle.vax_program.specs.View.{texts as texts_seen};
 
 use crate::errors::is_linked;
@@ -61,14 +61,20 @@ fn has_part(role: Role, name: &[u8], module: &Module) -> bool
     }
 }
 
-/// Whether a file is a source that assembles and has a part.
-fn plays(alloc: Global, role: Role, name: &[u8], source: Source<'_>) -> Result<bool, NoMemory>
-    ensures { IfOk result (λ b. b ≡ plays role name.now (file_seen source.entry)) }
+/// Whether a file is a source that assembles in a dialect and has a part.
+fn plays(
+    alloc: Global,
+    dialect: Dialect,
+    role: Role,
+    name: &[u8],
+    source: Source<'_>,
+) -> Result<bool, NoMemory>
+    ensures { IfOk result (λ b. b ≡ plays dialect role name.now (file_seen source.entry)) }
 {
     if is_linked(source.text) {
         return Ok(false);
     }
-    match assemble(alloc, Dialect::Vax, source.text) {
+    match assemble(alloc, dialect, source.text) {
         Ok(module) => Ok(has_part(role, name, &module)),
         Err(AsmError::Fault { .. }) => Ok(false),
         Err(AsmError::NoMemory) => Err(NoMemory),
@@ -96,21 +102,32 @@ pub(crate) fn files_of<'a>(
     Ok(all)
 }
 
+/// Appends a file, if it is wanted.
+fn add_if<'a>(all: &mut Vec<Source<'a>>, file: Source<'a>, wanted: bool) -> Result<(), NoMemory>
+    ensures { OnOk result (all.new.items ≡ with_if wanted file.entry all.old.items) }
+{
+    if wanted {
+        all.push(file).map_err(|_| NoMemory)?;
+    }
+    Ok(())
+}
+
 /// The files that have a part.
-#[tactic(auto, using(crate::proofs::Gathering::one_kept, crate::proofs::Gathering::one_left, crate::proofs::Gathering::all_tried))]
+#[tactic(auto, using(crate::proofs::Gathering::one_tried, crate::proofs::Gathering::all_tried))]
 pub(crate) fn those<'a>(
     alloc: Global,
+    dialect: Dialect,
     role: Role,
     name: &[u8],
     files: &[Source<'a>],
 ) -> Result<Vec<Source<'a>>, NoMemory>
-    ensures { IfOk result (λ v. files_seen v.items ≡ those role name.now (files_seen files.now)) }
+    ensures { IfOk result (λ v. files_seen v.items
+        ≡ those dialect role name.now (files_seen files.now)) }
 {
     let mut all = Vec::new(alloc);
     for file in files {
-        if plays(alloc, role, name, *file)? {
-            all.push(*file).map_err(|_| NoMemory)?;
-        }
+        let wanted = plays(alloc, dialect, role, name, *file)?;
+        add_if(&mut all, *file, wanted)?;
     }
     Ok(all)
 }

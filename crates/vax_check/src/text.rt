@@ -9,7 +9,7 @@ ghost use Rattle.vax_program.specs.View.{refusal_seen, texts};
 
 use crate::errors::errors_of;
 use crate::image::image_text;
-use crate::refusal::link_text;
+use crate::refusal::{Found, link_text};
 use crate::remarks::push_each;
 use crate::sources::files_of;
 use std::alloc::Global;
@@ -29,18 +29,13 @@ pub struct Files<'a> {
 }
 
 /// The error of what the linker found.
-fn link_error(
-    alloc: Global,
-    files: Files<'_>,
-    kind: u8,
-    name: &[u8],
-    address: u32,
-) -> Result<Vec<u8>, NoMemory>
-    ensures { IfOk result (λ v. v.items ≡ link_text kind name.now address
+fn link_error(alloc: Global, files: Files<'_>, found: Found<'_>) -> Result<Vec<u8>, NoMemory>
+    ensures { IfOk result (λ v. v.items ≡ link_text files.entry.dialect
+        found.entry.kind found.entry.name.now found.entry.address
         (files_of (names_of files.entry.names.now) (texts files.entry.texts.now))) }
 {
     let all = files_of(alloc, files.names, files.texts)?;
-    link_text(alloc, kind, name, address, &all)
+    link_text(alloc, files.dialect, found, &all)
 }
 
 /// Why files give no program.
@@ -55,7 +50,14 @@ fn errors_in(alloc: Global, files: Files<'_>, refusal: &Refusal) -> Result<Vec<u
             kind,
             name,
             address,
-        } => link_error(alloc, files, *kind, name.as_slice(), *address),
+        } => {
+            let found = Found {
+                kind: *kind,
+                name: name.as_slice(),
+                address: *address,
+            };
+            link_error(alloc, files, found)
+        }
         Refusal::Image { place, kind } => image_text(alloc, *place, *kind),
     }
 }
