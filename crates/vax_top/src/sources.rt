@@ -38,7 +38,8 @@ pub(crate) fn load_listing(
     requires few { length files.now ≤ 8 }
     ensures listing { IfOk result (λ text. IsListing dialect base (texts files.now) text.items) }
     ensures refused { IfErr result (λ status.
-        IsRefused (sources_image dialect base (texts files.now)) status ⊎ (status ≡ Status.NoMemory)) }
+        IsRefused (sources_image dialect base (texts files.now)) status
+        ⊎ (status ≡ Status.NoMemory)) }
 {
     match list_sources(alloc, dialect, base, files) {
         Ok(text) => Ok(text),

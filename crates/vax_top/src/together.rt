@@ -23,7 +23,8 @@ use vax_program::{Parts, link_parts, read_parts};
 fn read_one(alloc: Global, dialect: Dialect, file: u8, text: &[Vec<u8>]) -> Result<Parts, Status>
     requires one { length text.now ≡ 1 }
     requires numbers { file ≤ 254 }
-    ensures parts { Loads parts_seen result (parts_of dialect base.User file (texts_seen text.now)) }
+    ensures parts { Loads parts_seen result
+        (parts_of dialect base.User file (texts_seen text.now)) }
     ensures sound { IfOk result IsForUser }
 {
     match read_parts(alloc, dialect, Base::User, file, text) {
