@@ -5,7 +5,6 @@ use Rattle.vax_asm_encode.specs.Operands.{item_size, item_field}
 use Rattle.vax_asm_encode.specs.declared.operand.DataKind.{DataKind}
 use Rattle.vax_asm_encode.specs.declared.operand.DataKind.TheVariants.{Number}
 use Rattle.vax_asm_sections.specs.Layout.{Zeros, Bytes, Field, current_of, gap, put, aligned}
-use Rattle.vax_dialect.specs.declared.Dialect.{Dialect}
 use Rattle.vax_dialect.specs.Differences.{has_empty_items, has_further_directives}
 use Rattle.vax_lex.specs.Characters.{spells}
 use Rattle.vax_lex.specs.Grammar.{symbols_of}
@@ -40,12 +39,12 @@ placed_item kind site before (Err f) filling s = record { fault = lowest before 
 
 -- an item's expression where the item stands
 abbrev pub item_told : Site → Item → Standing → Told
-item_told site item s = told s.dialect (here_at s.dialect site.here (here_in s.sections)) (symbols_of site.line item.expression) s.scope
+item_told site item s = told site.dialect (here_at s.dialect site.here (here_in s.sections)) (symbols_of site.line item.expression) s.scope
 
 abbrev pub expression_stated : DataKind → Site → Item → Standing → Progress
 expression_stated kind site item s =
     let t = item_told site item s in
-    let c = counted s.dialect site item.count t.scope in
+    let c = counted site item.count t.scope in
     placed_item kind site (unless_place (misplaces s.dialect (symbols_of site.line item.expression)) (fault_of_value (item_field kind) 0 0 t.settled)) c.number (filling_by t.value t.written) (with_scope c.scope s)
 
 -- an item without an expression
@@ -55,7 +54,7 @@ is_nothing (t ∷ tokens) = false
 
 abbrev pub zero_stated : DataKind → Site → Item → Standing → Progress
 zero_stated kind site item s =
-    let c = counted s.dialect site item.count s.scope in
+    let c = counted site item.count s.scope in
     placed_item kind site None c.number (Known (value.Absolute (pos 0))) (with_scope c.scope s)
 
 abbrev pub item_stated : DataKind → Site → Item → Standing → Progress
@@ -150,7 +149,7 @@ room size s (Err kind) = Err kind
 
 abbrev pub room_by : Size → Site → Option (List Token) → Standing → Result Standing FaultKind
 room_by size site count s =
-    let c = counted s.dialect site count s.scope in
+    let c = counted site count s.scope in
     room size (with_scope c.scope s) c.number
 
 -- at most one operand
@@ -188,11 +187,11 @@ abbrev pub unless_here : Bool → Result ℕ FaultKind → Result ℕ FaultKind
 unless_here true r = Err fault.Form
 unless_here false r = r
 
-abbrev pub boundary : Dialect → Site → List Token → Option ℕ → Scope → Counted
-boundary dialect site tokens (Some k) s = record { number = Ok k; scope = s }
-boundary dialect site tokens None s =
+abbrev pub boundary : Site → List Token → Option ℕ → Scope → Counted
+boundary site tokens (Some k) s = record { number = Ok k; scope = s }
+boundary site tokens None s =
     let symbols = symbols_of site.line tokens in
-    let t = told dialect site.here symbols s in
+    let t = told site.dialect site.here symbols s in
     record { number = unless_here (uses_place symbols) (power (number_of t.value)); scope = t.scope }
 
 abbrev pub align_to : Standing → Result ℕ FaultKind → Result Standing FaultKind
@@ -201,7 +200,7 @@ align_to s (Err kind) = Err kind
 
 abbrev pub align_by : Site → List Token → Standing → Result Standing FaultKind
 align_by site tokens s =
-    let c = boundary s.dialect site tokens (boundary_named site.line tokens) s.scope in
+    let c = boundary site tokens (boundary_named site.line tokens) s.scope in
     align_to (with_scope c.scope s) c.number
 
 -- Its second operand, where the dialect has further directives: the byte that it fills with.
@@ -226,8 +225,8 @@ filled_by s (Err kind) (Err other) = Err (first_of kind other)
 
 abbrev pub fill_by : Site → (boundary byte : List Token) → Standing → Result Standing FaultKind
 fill_by site tokens byte s =
-    let b = boundary s.dialect site tokens (boundary_named site.line tokens) s.scope in
-    let c = counted s.dialect site (Some byte) b.scope in
+    let b = boundary site tokens (boundary_named site.line tokens) s.scope in
+    let c = counted site (Some byte) b.scope in
     filled_by (with_scope c.scope s) b.number (byte_of c.number)
 
 abbrev pub fill_where : Bool → Site → (boundary byte : List Token) → Standing → Result Standing FaultKind

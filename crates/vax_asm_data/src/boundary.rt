@@ -132,7 +132,7 @@ fn boundary(
 ) -> Result<Result<u8, FaultKind>, NoMemory>
     requires { All (IsTokenOf site.line.now.value.items) tokens.now }
     ensures number { IfOk result (λ n. counted_of n (scope_of standing.new.scope)
-        ≡ boundary standing.old.dialect (site_seen site.entry) tokens.now
+        ≡ boundary (site_seen site.entry) tokens.now
         (boundary_named site.entry.line.now.value.items tokens.now) (scope_of standing.old.scope)) }
     ensures few { IfOk result (λ n. IfOk n (λ k. k ≤ 9)) }
     ensures same { OnOk result (ChangesScope standing.old standing.new) }
@@ -141,7 +141,7 @@ fn boundary(
         return Ok(Ok(power));
     }
     let here = uses_place(site.line, tokens);
-    let told = standing.tell(alloc, site.line, tokens, site.here)?;
+    let told = standing.tell(alloc, site.dialect, site.line, tokens, site.here)?;
     Ok(unless_here(here, power(number_of(told.value))))
 }
 

@@ -88,7 +88,7 @@ fn state_expression(
 {
     let misplaced = misplaces(standing.dialect, site.line, item.expression);
     let here = item_place(standing, site)?;
-    let told = standing.tell(alloc, site.line, item.expression, here)?;
+    let told = standing.tell(alloc, site.dialect, site.line, item.expression, here)?;
     let fault = unless_place(misplaced, fault_of_value(kind.field(), 0, 0, told.settled));
     let count = known_count(standing, alloc, site, item.count)?;
     let count = match count {

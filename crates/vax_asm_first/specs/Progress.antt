@@ -14,13 +14,14 @@ use Rattle.vax_asm_scope.specs.Scope.{Scope}
 
 -- the statement: where it comes from, its line, and what `.` is worth in it
 pub record Site : Type 0 where
+  pub dialect : Dialect
   pub origin : Origin
   pub line : List ℕ
   pub here : Value
 
 -- the statement that comes next
 abbrev pub site_of : Origin → List ℕ → Standing → Site
-site_of origin line s = record { origin = origin; line = line; here = here_in s.sections }
+site_of origin line s = record { dialect = s.dialect; origin = origin; line = line; here = here_in s.sections }
 
 -- What the parts of a statement so far leave: the fault that counts, if one has any, and all that stands.
 pub record Progress : Type 0 where
@@ -56,8 +57,8 @@ pub record Counted : Type 0 where
   pub number : Result ℕ FaultKind
   pub scope : Scope
 
-abbrev pub counted : Dialect → Site → Option (List Token) → Scope → Counted
-counted dialect site None s = record { number = Ok 1; scope = s }
-counted dialect site (Some tokens) s =
-    let t = told dialect site.here (symbols_of site.line tokens) s in
+abbrev pub counted : Site → Option (List Token) → Scope → Counted
+counted site None s = record { number = Ok 1; scope = s }
+counted site (Some tokens) s =
+    let t = told site.dialect site.here (symbols_of site.line tokens) s in
     record { number = number_of t.value; scope = t.scope }

@@ -85,7 +85,7 @@ abbrev pub ChangesScope : (old new : Standing) → Type 0
 ChangesScope old new = standing_of new ≡ standing.with_scope (scope_of new.scope) (standing_of old)
 
 abbrev pub site_seen : Site → progress.Site
-site_seen s = record { origin = s.origin; line = s.line.now.value.items; here = s.here }
+site_seen s = record { dialect = s.dialect; origin = s.origin; line = s.line.now.value.items; here = s.here }
 
 abbrev pub progress_of : Option FaultKind → Standing → progress.Progress
 progress_of fault s = record { fault = fault; standing = standing_of s }

@@ -22,9 +22,10 @@ use vax_lex::{Token, Value};
 use vax_macro::FaultKind;
 use vax_space::NoMemory;
 
-/// The statement: where it comes from, its line, and what `.` is worth in it.
+/// The statement: its dialect, where it comes from, its line, and what `.` is worth in it.
 #[derive(Clone, Copy)]
 pub struct Site<'a> {
+    pub dialect: Dialect,
     pub origin: Origin,
     pub line: &'a Rc<Vec<u8>>,
     pub here: Value,
@@ -40,7 +41,12 @@ pub fn site_of<'a>(
         ≡ site_of origin line.now.value.items (standing_of standing.now)) }
 {
     let here = standing.here()?;
-    Ok(Site { origin, line, here })
+    Ok(Site {
+        dialect: standing.dialect,
+        origin,
+        line,
+        here,
+    })
 }
 
 /// What `.` is worth in the item that comes next.
@@ -99,13 +105,13 @@ pub fn known_count(
 ) -> Result<Result<u64, FaultKind>, NoMemory>
     requires { IfSome tokens (λ t. All (IsTokenOf site.line.now.value.items) t.now) }
     ensures number { IfOk result (λ n. counted_of n (scope_of standing.new.scope)
-        ≡ counted standing.old.dialect (site_seen site.entry)
+        ≡ counted (site_seen site.entry)
         (option_map (λ t. t.now) tokens.entry) (scope_of standing.old.scope)) }
     ensures same { OnOk result (ChangesScope standing.old standing.new) }
 {
     let Some(tokens) = tokens else {
         return Ok(Ok(1));
     };
-    let told = standing.tell(alloc, site.line, tokens, site.here)?;
+    let told = standing.tell(alloc, site.dialect, site.line, tokens, site.here)?;
     Ok(number_of(told.value))
 }

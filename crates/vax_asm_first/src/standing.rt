@@ -76,24 +76,24 @@ impl Standing {
         })
     }
 
-    /// An expression of a line where it stands, and its value by what stands before it. `here` is what `.` is worth.
+    /// An expression of a line in a dialect where it stands, and its value by what stands before it. `here` is what `.` is worth.
     pub fn tell(
         &mut self,
         alloc: Global,
+        dialect: Dialect,
         line: &Rc<Vec<u8>>,
         tokens: &[Token],
         here: Value,
     ) -> Result<Told, NoMemory>
         requires { All (IsTokenOf line.now.value.items) tokens.now }
         ensures told { IfOk result (λ t. told_of t (scope_of self.new.scope)
-            ≡ told self.old.dialect here (symbols_of line.now.value.items tokens.now)
+            ≡ told dialect here (symbols_of line.now.value.items tokens.now)
             (scope_of self.old.scope)) }
         ensures same { OnOk result (ChangesScope self.old self.new) }
         // Its names mean definitions that there are.
         ensures means { IfOk result (λ t. Means (length (scope_of self.new.scope).sources)
             (Worked (written_of t.expression))) }
     {
-        let dialect = self.dialect;
         let expression = self.scope.expression(alloc, dialect, line, tokens, here)?;
         let value = self.scope.evaluate(&expression);
         let settled = settled(&self.scope, &expression, value);

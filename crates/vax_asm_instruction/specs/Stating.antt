@@ -54,7 +54,7 @@ without_expression o s = record { addressed = record { mode = o.mode; index = o.
 abbrev pub prepared : Dialect → Site → modes.Operand → Scope → Prepared
 prepared dialect site o s =
     let symbols = symbols_of site.line o.expression in
-    if has_expression o.mode then with_told o (misplaces dialect symbols) (told dialect site.here symbols s) else without_expression o s
+    if has_expression o.mode then with_told o (misplaces dialect symbols) (told site.dialect site.here symbols s) else without_expression o s
 
 -- The operands so far: where the next one begins, and what they leave.
 pub record Reached : Type 0 where
@@ -88,7 +88,7 @@ stands_at site kind p at s = placed site kind p at s (operand_at kind p.addresse
 
 -- the statement, with what `.` is worth in the operand that begins at a place
 abbrev pub site_for : Standing → (at : ℕ) → Site → Site
-site_for s at site = record { origin = site.origin; line = site.line; here = here_at s.dialect site.here (value.Section s.sections.current (pos at)) }
+site_for s at site = record { dialect = site.dialect; origin = site.origin; line = site.line; here = here_at s.dialect site.here (value.Section s.sections.current (pos at)) }
 
 -- one operand
 abbrev pub operand_stated : Site → OperandKind → List Token → (at : ℕ) → Standing → Reached

@@ -79,7 +79,7 @@ fn prepare(
         });
     }
     let misplaced = misplaces(standing.dialect, site.line, expression);
-    let told = standing.tell(alloc, site.line, expression, site.here)?;
+    let told = standing.tell(alloc, site.dialect, site.line, expression, site.here)?;
     let value = unless_here(misplaced, told.settled);
     Ok(Prepared {
         addressed: Addressed { mode, index, value },
@@ -185,6 +185,7 @@ fn site_for<'a>(standing: &Standing, site: Site<'a>, at: u32) -> Result<Site<'a>
         offset: i64::from(at),
     };
     Ok(Site {
+        dialect: site.dialect,
         origin: site.origin,
         line: site.line,
         here,

@@ -126,7 +126,7 @@ not_assigned kind = record { result = Err kind; waiting = None }
 -- The name appears before what is assigned, which may use `.` and the name's definition before.
 abbrev pub name_assigned : Site → Bool → List ℕ → List Token → Standing → Assigned
 name_assigned site global name tokens s =
-    let t = told s.dialect site.here (symbols_of site.line tokens) (entry name s.scope).scope in
+    let t = told site.dialect site.here (symbols_of site.line tokens) (entry name s.scope).scope in
     let r = assigned name t.written t.scope in
     record {
       result = done (joined (fault_of t.settled) (after_change s (assigned_by global name s r)));
@@ -152,7 +152,7 @@ moved_to (Err kind) s = Err kind
 
 abbrev pub place_moved : Site → List Token → Standing → Result Standing FaultKind
 place_moved site tokens s =
-    let t = told s.dialect site.here (symbols_of site.line tokens) s.scope in
+    let t = told site.dialect site.here (symbols_of site.line tokens) s.scope in
     moved_to (target s.sections.current t.value) (with_scope t.scope s)
 
 -- `. = e`, where the dialect has that

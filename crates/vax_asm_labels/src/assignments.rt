@@ -131,7 +131,7 @@ fn assign(
         (standing_of standing.old)).waiting (map assignment_of assignments.old.items)) }
 {
     standing.scope.appear(alloc, name)?;
-    let told = standing.tell(alloc, site.line, tokens, site.here)?;
+    let told = standing.tell(alloc, site.dialect, site.line, tokens, site.here)?;
     let fault = fault_of(told.settled);
     match define(
         standing,
@@ -178,7 +178,7 @@ fn move_place(
     ensures { States (place_moved (site_seen site.entry) tokens.now)
         result standing.old standing.new }
 {
-    let Ok(told) = standing.tell(alloc, site.line, tokens, site.here) else {
+    let Ok(told) = standing.tell(alloc, site.dialect, site.line, tokens, site.here) else {
         return Err(Refused::NoMemory);
     };
     match target(standing.layout.number(), told.value) {

@@ -23,13 +23,13 @@ fn tells_expressions_where_they_stand(rt: HostRuntime) -> Result<(), Fail> {
     let text = b"X-.".as_slice();
     let tokens = scan(alloc, text)?;
     let line = Rc::new(alloc, text.to_vec(alloc)?)?;
-    let early = standing.tell(alloc, &line, &tokens, here)?;
+    let early = standing.tell(alloc, Dialect::Vax, &line, &tokens, here)?;
     assert!(rt; early.value == Err(ExprError::Unknown));
     assert!(rt; early.settled == Err(ExprError::Unknown));
     let text = b"X/0".as_slice();
     let tokens = scan(alloc, text)?;
     let line = Rc::new(alloc, text.to_vec(alloc)?)?;
-    let never = standing.tell(alloc, &line, &tokens, here)?;
+    let never = standing.tell(alloc, Dialect::Vax, &line, &tokens, here)?;
     assert!(rt; never.value == Err(ExprError::Unknown));
     assert!(rt; never.settled == Err(ExprError::Range));
     standing.scope.label(

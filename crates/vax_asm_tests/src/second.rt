@@ -45,7 +45,7 @@ fn told(standing: &mut Standing, alloc: Global, text: &[u8]) -> Result<Told, Fai
     let tokens = scan(alloc, text)?;
     let line = Rc::new(alloc, text.to_vec(alloc)?)?;
     let here = standing.here()?;
-    let told = standing.tell(alloc, &line, &tokens, here)?;
+    let told = standing.tell(alloc, Dialect::Vax, &line, &tokens, here)?;
     Ok(told)
 }
 

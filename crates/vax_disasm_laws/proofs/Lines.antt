@@ -113,9 +113,9 @@ fields origin there at End = []
 fields origin there at (ReservedHere count) = []
 fields origin there at (Next kind s count rest) = field_for origin kind (there + count) at s ∷ fields origin (there + count) (at + length_for kind s) rest
 
-module _ (origin : Origin) (line : List ℕ) (here : Value) where
+module _ (own : Dialect) (origin : Origin) (line : List ℕ) (here : Value) where
   abbrev site : Site
-  site = record { origin = origin; line = line; here = here }
+  site = record { dialect = own; origin = origin; line = line; here = here }
 
   abbrev AreStated : List OperandKind → (there pos : ℕ) → Sequence → Type 0
   AreStated kinds there pos q = (r : Reached) (extra : List OperandKind) → operands_stated site (parts_at there pos q) (kinds ++ extra) r ≡ adds (fields origin there r.at q) r
@@ -126,7 +126,7 @@ module _ (origin : Origin) (line : List ℕ) (here : Value) where
       let next : ℕ = there + count in
       let spelled : drop pos line ≡ written (specifier_words kind next s) (operands_text 44 next rest) = is ∙ specifier_spelled kind next s (operands_text 44 next rest) in
       let one : operand_stated site kind (tokens_at pos (specifier_words kind next s)) r.at r.progress.standing ≡ left_by origin kind next r.at s r.progress.standing =
-      specifier_stated origin line here kind pos r.at next s r.progress.standing k read.may (are_there line pos (specifier_words kind next s) (operands_text 44 next rest) spelled) in
+      specifier_stated own origin line here kind pos r.at next s r.progress.standing k read.may (are_there line pos (specifier_words kind next s) (operands_text 44 next rest) spelled) in
       let behind_it : drop (behind pos (specifier_words kind next s)) line ≡ operands_text 44 next rest = behind_words line pos (specifier_words kind next s) (operands_text 44 next rest) spelled in
       let later_there : There line (behind pos (specifier_words kind next s) + 1) next rest = there_after line (behind pos (specifier_words kind next s)) next rest behind_it in
       ap (λ (x : Reached). operands_stated site (parts_at next (behind pos (specifier_words kind next s) + 1) rest) (kinds ++ extra) (onward r.progress.fault x)) one
@@ -400,7 +400,7 @@ unfolding instruction_stated
 instruction_made origin line tokens addr opcode pos bytes i q s are ks w e u split there =
     let code : i.opcode ≡ opcode = found_opcode opcode i w in
     let count : (length (parts tokens) == length i.operands) ≡ true = same_number _ _ (ap length split ∙ counted_parts i.operands bytes (addr + 1) pos q e u) in
-    let all = all_stated origin line (here_in s.sections) i.operands bytes (addr + 1) pos q are ks e u there (opcode_stated (row_of i) s) (replicate (6 - length i.operands) no_operand) in
+    let all = all_stated s.dialect origin line (here_in s.sections) i.operands bytes (addr + 1) pos q are ks e u there (opcode_stated (row_of i) s) (replicate (6 - length i.operands) no_operand) in
     counted_true (length (parts tokens) == length i.operands) _ count
     ∙ ap (λ (ps : List (List Token)). done (operands_stated (site_of origin line s) ps (row_of i).operands (opcode_stated (row_of i) s)).progress) split
     ∙ ap (λ (r : Reached). done r.progress) all

@@ -85,8 +85,8 @@ there-append line at (w ∷ front) words there = let rest = there-append line (a
 
 -- ---- what is prepared
 
-abbrev site_at : Origin → List ℕ → Value → Site
-site_at origin line here = record { origin = origin; line = line; here = here }
+abbrev site_at : Dialect → Origin → List ℕ → Value → Site
+site_at own origin line here = record { dialect = own; origin = origin; line = line; here = here }
 
 abbrev moded : Mode → List Token → Option ℕ → modes.Operand
 moded m expression index = record { mode = m; expression = expression; index = index }
@@ -110,12 +110,12 @@ index_for (InMemory p) = None
 index_for (Indexed p x) = Some x
 index_for (BranchBy d) = None
 
-module _ (dialect : Dialect) (origin : Origin) (line : List ℕ) (here : Value) (scope : Scope) where
+module _ (dialect own : Dialect) (origin : Origin) (line : List ℕ) (here : Value) (scope : Scope) where
   with_number : (m : Mode) (index : Option ℕ) (expression : List Token) (z : ℤ) → has_expression m ≡ true → HasValue line expression z
-      → prepared dialect (site_at origin line here) (moded m expression index) scope ≡ with_value m index (value.Absolute z) scope
-  with_number m index expression z e h = rw (e, h.no_names, h.means (record { dialect = dialect; value = named (value_of scope.sources) [] })) refl
+      → prepared dialect (site_at own origin line here) (moded m expression index) scope ≡ with_value m index (value.Absolute z) scope
+  with_number m index expression z e h = rw (e, h.no_names, h.means (record { dialect = own; value = named (value_of scope.sources) [] })) refl
 
-  place_prepared : (p : Place) (index : Option ℕ) (expression : List Token) → PlaceValue line expression p → prepared dialect (site_at origin line here) (moded (place_mode p) expression index) scope ≡ with_value (place_mode p) index (place_value p) scope
+  place_prepared : (p : Place) (index : Option ℕ) (expression : List Token) → PlaceValue line expression p → prepared dialect (site_at own origin line here) (moded (place_mode p) expression index) scope ≡ with_value (place_mode p) index (place_value p) scope
   place_prepared (Deferred n) index expression h = refl
   place_prepared (Decrement n) index expression h = refl
   place_prepared (Increment n) index expression h = refl
@@ -126,12 +126,12 @@ module _ (dialect : Dialect) (origin : Origin) (line : List ℕ) (here : Value) 
 
   module _ (kind : OperandKind) (at : ℕ) (k : IsKind kind) where
     abbrev IsPrepared : (next : ℕ) → Specifier → List Token → Type 0
-    IsPrepared next s tokens = prepared dialect (site_at origin line here) (operand_as kind line tokens) scope ≡ with_value (mode_for s) (index_for s) (value_for next s) scope
+    IsPrepared next s tokens = prepared dialect (site_at own origin line here) (operand_as kind line tokens) scope ≡ with_value (mode_for s) (index_for s) (value_for next s) scope
 
-    as_written : (tokens : List Token) (o : modes.Operand) (p : Prepared) → takes_branch kind.letter ≡ false → operand_of line tokens ≡ o → prepared dialect (site_at origin line here) o scope ≡ p → prepared dialect (site_at origin line here) (operand_as kind line tokens) scope ≡ p
+    as_written : (tokens : List Token) (o : modes.Operand) (p : Prepared) → takes_branch kind.letter ≡ false → operand_of line tokens ≡ o → prepared dialect (site_at own origin line here) o scope ≡ p → prepared dialect (site_at own origin line here) (operand_as kind line tokens) scope ≡ p
     as_written tokens o p clear is e = rw (clear, is) e
 
-    as_branch : (tokens : List Token) (p : Prepared) → takes_branch kind.letter ≡ true → prepared dialect (site_at origin line here) (destination tokens) scope ≡ p → prepared dialect (site_at origin line here) (operand_as kind line tokens) scope ≡ p
+    as_branch : (tokens : List Token) (p : Prepared) → takes_branch kind.letter ≡ true → prepared dialect (site_at own origin line here) (destination tokens) scope ≡ p → prepared dialect (site_at own origin line here) (operand_as kind line tokens) scope ≡ p
     as_branch tokens p takes e = rw takes e
 
     memory_prepared : (next : ℕ) (p : Place) → May kind (InMemory p) → AreThere line at (place_words p []) → IsPrepared next (InMemory p) (tokens_at at (place_words p []))
@@ -214,8 +214,8 @@ length_for kind s = length (operand_bytes kind (operand_for s) 0)
 abbrev pub left_by : Origin → OperandKind → (next at : ℕ) → Specifier → Standing → Reached
 left_by origin kind next at s t = record { at = at + length_for kind s; progress = added (length_for kind s) (field_for origin kind next at s) t }
 
-pub specifier_stated : (origin : Origin) (line : List ℕ) (here : Value) (kind : OperandKind) (place at next : ℕ) (s : Specifier) (t : Standing) → IsKind kind → May kind s → AreThere line place (specifier_words kind next s)
-    → operand_stated (site_at origin line here) kind (tokens_at place (specifier_words kind next s)) at t ≡ left_by origin kind next at s t
-specifier_stated origin line here kind place at next s t k may there =
+pub specifier_stated : (own : Dialect) (origin : Origin) (line : List ℕ) (here : Value) (kind : OperandKind) (place at next : ℕ) (s : Specifier) (t : Standing) → IsKind kind → May kind s → AreThere line place (specifier_words kind next s)
+    → operand_stated (site_at own origin line here) kind (tokens_at place (specifier_words kind next s)) at t ≡ left_by origin kind next at s t
+specifier_stated own origin line here kind place at next s t k may there =
     let long : operand_length kind (operand_for s) ≡ length_for kind s = sym (operand_is_long kind (operand_for s) 0) in
-    rw (specifier_prepared t.dialect origin line (here_at t.dialect here (value.Section t.sections.current (pos at))) t.scope kind place k s next may there, chosen kind next s t.sections.current at may, no_fault kind next s t.sections.current (field_at (operand_for s) at) k may, long) refl
+    rw (specifier_prepared t.dialect own origin line (here_at t.dialect here (value.Section t.sections.current (pos at))) t.scope kind place k s next may there, chosen kind next s t.sections.current at may, no_fault kind next s t.sections.current (field_at (operand_for s) at) k may, long) refl
