@@ -13,7 +13,7 @@ use Rattle.vax_asm_first.specs.Circles.{first_circle}
 use Rattle.vax_asm_first.specs.Faults.{first_of}
 use Rattle.vax_asm_first.specs.Fixups.{Assignment}
 use Rattle.vax_asm_first.specs.Standing.{Standing, at_start, here_in}
-use Rattle.vax_asm_scope.specs.Known.{known}
+use Rattle.vax_asm_scope.specs.Known.{known_here}
 use Rattle.vax_asm_second.specs.Modules.{filled_in}
 use Rattle.vax_asm_second.specs.declared.types.Fault.{Fault}
 use Rattle.vax_asm_first.specs.declared.types.Origin.{Origin}
@@ -83,7 +83,7 @@ onward (Ends begin) a met next = ended a met begin
 
 -- what names are worth where the next statement stands
 abbrev pub names_in : Standing → Sense
-names_in s = record { dialect = s.dialect; value = known (here_in s.sections) s.scope }
+names_in s = known_here s.dialect (here_in s.sections) s.scope
 
 -- What is left to open of a source comes to this, behind what stands: its statements one after another, within so many steps.
 unfoldable pub walked : ℕ → Rest → Assembly → Option Fault → Result Module Fault

@@ -2,6 +2,8 @@
 -- "Terms and expressions").
 use Rattle.std.specs.Prelude.{ℕ, if◌then◌else◌, List, Option, Some, None, option_map, codes}
 use Rattle.std.specs.Str.{bytes_eq}
+use Rattle.vax_dialect.specs.declared.Dialect.{Dialect}
+use Rattle.vax_lex.specs.Values.{Sense}
 use Rattle.vax_lex.specs.declared.value.Value.{Value}
 use Rattle.vax_asm_names.specs.Names as table
 use Rattle.vax_asm_scope.specs.Scope.{Scope, is_local}
@@ -19,3 +21,7 @@ known here s text =
     if bytes_eq text (codes ".") then Some here
     else (if is_local text then known_definition s (option_map (λ l. l.definition) (s.names.locals text))
     else known_definition s (option_map (λ i. (table.name_at s.names.all i).definition) (s.names.numbers text)))
+
+-- what conditions and counts in a dialect are read by
+unfoldable pub known_here : Dialect → Value → Scope → Sense
+known_here dialect here s = record { dialect = dialect; value = known here s }

@@ -1,7 +1,7 @@
 // What names are worth where a statement stands.
 
 ghost use Rattle.vax_asm_scope.specs.Kept.{scope_of};
-ghost use Rattle.vax_asm_scope.specs.Known.{known};
+ghost use Rattle.vax_asm_scope.specs.Known.{known_here};
 
 use crate::scope::Scope;
 use vax_dialect::Dialect;
@@ -17,15 +17,14 @@ pub struct KnownNames<'a> {
 }
 
 impl Names for KnownNames<'_> {
-    ghost meaning = { λ k. record {
-      dialect = k.dialect;
-      value = known k.here (scope_of k.scope.now);
-    } };
+    ghost meaning = { λ k. known_here k.dialect k.here (scope_of k.scope.now) };
 
+    #[tactic(auto, unfolding(crate::specs::Known::known_here))]
     fn dialect(&self) -> Dialect {
         self.dialect
     }
 
+    #[tactic(auto, unfolding(crate::specs::Known::known_here))]
     fn lookup(&self, name: &[u8]) -> Option<Value> {
         self.scope.known(name, self.here)
     }

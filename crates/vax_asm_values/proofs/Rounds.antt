@@ -5,7 +5,7 @@ use Rattle.std.specs.Result.{result_ok}
 use Rattle.std.specs.Str.{bytes_eq}
 use Rattle.vax_lex.specs.declared.value.Value.{Value}
 use Rattle.vax_lex.specs.declared.value.ExprError.{ExprError}
-use Rattle.vax_asm_values.specs.Values.{Meaning, Source, ToCome, Given, Worked, named, worth, source_at, value_under, known_after, value_of}
+use Rattle.vax_asm_values.specs.Values.{value_in, Meaning, Source, ToCome, Given, Worked, named, worth, source_at, value_under, known_after, value_of}
 use Rattle.vax_asm_values.specs.Waiting.{known, count}
 use Rattle.vax_asm_values.proofs.Keeping.{Keeps, value_kept}
 
@@ -23,6 +23,7 @@ is_ok (Ok x) v e = cc
 is_ok (Err d) v e = absurd cc
 
 pub under_kept : (f g : ℕ → Option Value) → Keeps f g → (s : Source) (v : Value) → value_under f s ≡ Some v → value_under g s ≡ Some v
+unfolding value_in
 under_kept f g h ToCome v e = e
 under_kept f g h (Given u) v e = e
 under_kept f g h (Worked w) v e = ap result_ok (value_kept w.dialect (named f w.names) (named g w.names) (names_kept f g h w.names) w.symbols v (is_ok (worth f w) v e))

@@ -6,10 +6,8 @@ use Rattle.std.proofs.Math.ListN.{get_or-eq_default}
 use Rattle.std.specs.Prelude.{◌==◌, ◌||◌, All, map, is_some, slice_index_or, slice_set}
 use Rattle.std.specs.Global.{Vec}
 use Rattle.std.specs.Result.{result_ok}
-use Rattle.vax_lex.specs.Expressions.{value_at}
-use Rattle.vax_asm_values.proofs.Keeping.{under}
 use Rattle.vax_lex.specs.declared.value.Value.{Value}
-use Rattle.vax_asm_values.specs.Values.{Meaning, Source, ToCome, Given, Worked, named, source_at, value_under, known_after}
+use Rattle.vax_asm_values.specs.Values.{value_in, Meaning, Source, ToCome, Given, Worked, named, source_at, value_under, known_after}
 use Rattle.vax_asm_values.specs.Waiting.{known, count, listed, waiters, Watches, Settled, Standing, Grown, weight}
 use Rattle.vax_asm_values.proofs.Keeping.{Keeps}
 use Rattle.vax_asm_values.proofs.Rounds.{under_kept, rounds_kept, count_more, more_known, known_before}
@@ -111,7 +109,7 @@ source_unchanged f g i j waiting same (Worked w) misses watch =
     let yes : listed j (waiters waiting i) ≡ true = subst P is (watch k d h) in
     absurd (true_no (sym yes ∙ misses)) in
     let functions : named g w.names ≡ named f w.names = λ p. λ name. names_unchanged f g i same w.names none name p in
-    ap (λ (names : List ℕ → Option Value). result_ok (value_at (under w.dialect names) w.symbols)) functions
+    ap (λ (names : List ℕ → Option Value). result_ok (value_in w.dialect names w.symbols)) functions
 
 known_other : (values : List (Option Value)) (i : ℕ) (v : Value) (k : ℕ) → k ≢ i → known (slice_set values i (Some v)) k ≡ known values k
 known_other values i v k n = get_or-set_other values i k (Some v) None n

@@ -6,7 +6,6 @@ use Rattle.std.specs.Str.{bytes_eq}
 use Rattle.vax_lex.specs.Grammar.{Symbol}
 use Rattle.vax_dialect.specs.declared.Dialect.{Dialect}
 use Rattle.vax_lex.specs.Expressions.{value_at}
-use Rattle.vax_lex.specs.Values.{Sense}
 use Rattle.vax_lex.specs.declared.value.Value.{Value}
 use Rattle.vax_lex.specs.declared.value.ExprError.{ExprError}
 
@@ -32,13 +31,13 @@ abbrev pub named : (ℕ → Option Value) → List Meaning → List ℕ → Opti
 named values [] name = None
 named values (m ∷ names) name = if bytes_eq m.name name then values m.definition else named values names name
 
--- what an expression is read by under values of definitions
-abbrev pub sense_of : (ℕ → Option Value) → Written → Sense
-sense_of values w = record { dialect = w.dialect; value = named values w.names }
+-- the value of symbols in a dialect under values of names
+unfoldable pub value_in : Dialect → (List ℕ → Option Value) → List Symbol → Result Value ExprError
+value_in dialect names symbols = value_at (record { dialect = dialect; value = names }) symbols
 
 -- the value of an expression under values of definitions
 abbrev pub worth : (ℕ → Option Value) → Written → Result Value ExprError
-worth values w = value_at (sense_of values w) w.symbols
+worth values w = value_in w.dialect (named values w.names) w.symbols
 
 abbrev pub source_at : List Source → ℕ → Source
 source_at sources i = slice_index_or sources i ToCome

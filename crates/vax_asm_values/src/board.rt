@@ -183,6 +183,7 @@ impl Board {
     }
 
     /// The value of an expression by the values so far.
+    #[tactic(auto, unfolding(crate::specs::Values::value_in))]
     pub(crate) fn evaluate(&self, expression: &Expression) -> Result<Value, ExprError>
         ensures { result ≡ worth (known self.now.values.items) (written_of expression.now) }
     {
@@ -195,6 +196,7 @@ impl Board {
     }
 
     /// The fault that an expression has whatever the definitions are worth that have no value so far.
+    #[tactic(auto, unfolding(crate::specs::Certain::certain_in))]
     pub(crate) fn certain_fault(&self, expression: &Expression) -> Option<ExprError>
         ensures { result ≡ certain (known self.now.values.items) (written_of expression.now) }
     {

@@ -26,7 +26,7 @@ use Rattle.vax_asm_statement.specs.Directives.{directive_of}
 use Rattle.vax_asm_statement.specs.Items.{item_of}
 use Rattle.vax_asm_statement.specs.declared.directives.Directive.TheVariants as directive
 use Rattle.vax_asm_statement.specs.Reading.{Operation, parsed}
-use Rattle.vax_asm_values.specs.Values.{named, value_of}
+use Rattle.vax_asm_values.specs.Values.{named, value_of, value_in}
 use Rattle.vax_disasm_laws.proofs.Adding.{adds, begun_at}
 use Rattle.vax_disasm_laws.proofs.Digits.{hex_length, hex_passes, hex_value}
 use Rattle.vax_disasm_laws.proofs.Moded.{HasValue, positive}
@@ -77,7 +77,7 @@ byte_parsed byte = refl
 
 byte_stated : (origin : Origin) (byte : ℕ) (s : Standing) → byte < 256
     → data_stated (data_kind.Number size.B) origin (byte_text byte) (token_at 6 (word (Number byte) (94 ∷ 88 ∷ hex 2 byte)) ∷ []) s ≡ done (adds (byte_part origin byte (current_of s.sections).size ∷ []) (begun_at s)).progress
-unfolding data_stated item_of filled low_bytes
+unfolding data_stated item_of filled low_bytes value_in
 byte_stated origin byte s h =
     let v : HasValue (byte_text byte) (token_at 6 (word (Number byte) (94 ∷ 88 ∷ hex 2 byte)) ∷ []) (pos byte) = positive (byte_text byte) 6 byte (94 ∷ 88 ∷ hex 2 byte) (omega arith) in
     let low : nat_lt byte 256 ≡ true = grind (arith, nat_tests) in

@@ -35,7 +35,7 @@ use Rattle.vax_asm_statement.specs.declared.modes.Mode.TheVariants as mode
 use Rattle.vax_asm_statement.specs.Modes as modes
 use Rattle.vax_asm_statement.specs.Modes.{operand_of, unindexed, direct_form, register_form}
 use Rattle.vax_asm_statement.specs.Sizes.{sized}
-use Rattle.vax_asm_values.specs.Values.{named, value_of}
+use Rattle.vax_asm_values.specs.Values.{named, value_of, value_in}
 use Rattle.vax_disasm_laws.proofs.Words.{Word, tokens_at, behind, AreThere, tokens-append}
 use Rattle.vax_disasm_laws.proofs.Spoken.{sign, register, letter, hexadecimal, place_words, specifier_words}
 use Rattle.vax_disasm_laws.proofs.Scanned.{PlaceFits, Fits}
@@ -113,6 +113,7 @@ index_for (BranchBy d) = None
 module _ (dialect own : Dialect) (origin : Origin) (line : List ℕ) (here : Value) (scope : Scope) where
   with_number : (m : Mode) (index : Option ℕ) (expression : List Token) (z : ℤ) → has_expression m ≡ true → HasValue line expression z
       → prepared dialect (site_at own origin line here) (moded m expression index) scope ≡ with_value m index (value.Absolute z) scope
+  unfolding value_in
   with_number m index expression z e h = rw (e, h.no_names, h.means (record { dialect = own; value = named (value_of scope.sources) [] })) refl
 
   place_prepared : (p : Place) (index : Option ℕ) (expression : List Token) → PlaceValue line expression p → prepared dialect (site_at own origin line here) (moded (place_mode p) expression index) scope ≡ with_value (place_mode p) index (place_value p) scope
