@@ -81,10 +81,11 @@ fn plays(
     }
 }
 
-/// The files, each with its name.
+/// The files, each with its name, in a dialect.
 #[tactic(auto, using(crate::proofs::Gathering::file_added, crate::proofs::Gathering::files_added))]
 pub(crate) fn files_of<'a>(
     alloc: Global,
+    dialect: Dialect,
     names: &'a [&'a str],
     texts: &'a [Vec<u8>],
 ) -> Result<Vec<Source<'a>>, NoMemory>
@@ -94,6 +95,7 @@ pub(crate) fn files_of<'a>(
     let mut all = Vec::new(alloc);
     for i in 0..names.len().min(texts.len()) {
         let source = Source {
+            dialect,
             name: names[i].as_bytes(),
             text: texts[i].as_slice(),
         };

@@ -34,7 +34,7 @@ fn link_error(alloc: Global, files: Files<'_>, found: Found<'_>) -> Result<Vec<u
         found.entry.kind found.entry.name.now found.entry.address
         (files_of (names_of files.entry.names.now) (texts files.entry.texts.now))) }
 {
-    let all = files_of(alloc, files.names, files.texts)?;
+    let all = files_of(alloc, files.dialect, files.names, files.texts)?;
     link_text(alloc, files.dialect, found, &all)
 }
 
