@@ -19,10 +19,10 @@ returns-in-Err-Fault-clause-result c =
     let before = standing_of c.args.standing.now in
     let after = standing_of c.define.new.standing in
     let symbols = symbols_of site.line c.args.tokens.now in
-    let is_told : told_of c.in_ok-told.told (scope_of c.tell.new.self.scope) ≡ told site.here symbols (entry name before.scope).scope =
-    c.in_ok-told.ensures.told ∙ ap (told site.here symbols) c.in_ok-appear.ensures.scope in
+    let is_told : told_of c.in_ok-told.told (scope_of c.tell.new.self.scope) ≡ told site.dialect site.here symbols (entry name before.scope).scope =
+    c.in_ok-told.ensures.told ∙ ap (told site.dialect site.here symbols) c.in_ok-appear.ensures.scope in
     let ends : Told → Standing → Result Standing FaultKind = λ t s. assigned_by c.args.global name s (assigned name t.written t.scope) in
-    let t = told site.here symbols (entry name before.scope).scope in
+    let t = told site.dialect site.here symbols (entry name before.scope).scope in
     let refused : Refused → Type 0 = λ e. Stands (Err e) after (ends (told_of c.in_ok-told.told (scope_of c.tell.new.self.scope)) (standing_of c.tell.new.self)) in
     let fails : ends t before ≡ Err kind =
     sym (scope_left c.args.global name (scope_of c.tell.new.self.scope) before (assigned name t.written t.scope))
