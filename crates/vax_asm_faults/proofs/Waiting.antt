@@ -34,7 +34,7 @@ by_from origin name t (Err e) = tt
 
 name_from : (site : Site) (global : Bool) (name : List ℕ) (tokens : List Token) (s : Standing) → ComesFrom site.origin (name_assigned site global name tokens s).waiting
 name_from site global name tokens s =
-    let t : Told = told site.here (symbols_of site.line tokens) (entry name s.scope).scope in
+    let t : Told = told site.dialect site.here (symbols_of site.line tokens) (entry name s.scope).scope in
     by_from site.origin name t (assigned name t.written t.scope)
 
 either_from : (b : Bool) (origin : Origin) (x y : Assigned) → ComesFrom origin x.waiting → ComesFrom origin y.waiting → ComesFrom origin (let z : Assigned = cond b x y in z).waiting

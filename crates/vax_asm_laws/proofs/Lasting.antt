@@ -12,6 +12,7 @@ use Rattle.vax_dialect.specs.Differences.{assigns_places, has_empty_items, has_f
 use Rattle.vax_asm_encode.specs.declared.operand.DataKind.{DataKind}
 use Rattle.vax_asm_encode.specs.declared.operand.DataKind.TheVariants.{Number}
 use Rattle.vax_asm_encode.specs.declared.operand.Operand.{Operand}
+use Rattle.vax_dialect.specs.declared.Dialect.{Dialect}
 use Rattle.vax_asm_first.specs.Fixups.{Assignment as Waiting, Filling, Fixup}
 use Rattle.vax_asm_first.specs.Progress.{Progress, Site, added, after_change, begun, counted, done, done_by, joined, site_of}
 use Rattle.vax_asm_first.specs.Standing.{Standing, here_at, here_in, misplaces, told, with_scope, with_sections}
@@ -130,8 +131,8 @@ bound_lasts here b (text ∷ texts) =
     let next : Bound = record { names = b.names ++ record { name = text; definition = (mean here text b.scope).definition } ∷ []; scope = (mean here text b.scope).scope } in
     stay_then b.scope.sources next.scope.sources (bind_all here next texts).scope.sources (mean_lasts here text b.scope) (bound_lasts here next texts)
 
-told_lasts : (here : Value) (symbols : List Symbol) (s : Scope) → Lasts s (told here symbols s).scope
-told_lasts here symbols s = bound_lasts here (record { names = []; scope = s }) (used at_term symbols)
+told_lasts : (dialect : Dialect) (here : Value) (symbols : List Symbol) (s : Scope) → Lasts s (told dialect here symbols s).scope
+told_lasts dialect here symbols s = bound_lasts here (record { names = []; scope = s }) (used at_term symbols)
 
 abbrev ScopeIn : Scope → Result Scope Duplicate → Type 0
 ScopeIn s (Ok t) = Lasts s t
@@ -214,7 +215,7 @@ none_in (t ∷ tokens) s r h = h
 
 counted_lasts : (site : Site) (o : Option (List Token)) (s : Scope) → Lasts s (counted site o s).scope
 counted_lasts site None s = stay_same s.sources
-counted_lasts site (Some tokens) s = told_lasts site.here (symbols_of site.line tokens) s
+counted_lasts site (Some tokens) s = told_lasts site.dialect site.here (symbols_of site.line tokens) s
 
 placed_lasts : (kind : DataKind) (site : Site) (before : Option FaultKind) (n : Result ℕ FaultKind) (filling : Filling) (s : Standing) → Lasts s.scope (placed_item kind site before n filling s).standing.scope
 placed_lasts kind site None (Ok n) filling s = added_lasts _ _ s
@@ -231,9 +232,9 @@ expression_lasts : (kind : DataKind) (site : Site) (item : Item) (s : Standing) 
 expression_lasts kind site item s =
     let here : Value = here_at s.dialect site.here (here_in s.sections) in
     let symbols = symbols_of site.line item.expression in
-    let t = told here symbols s.scope in
+    let t = told site.dialect here symbols s.scope in
     let c = counted site item.count t.scope in
-    stay_then s.scope.sources t.scope.sources (expression_stated kind site item s).standing.scope.sources (told_lasts here symbols s.scope)
+    stay_then s.scope.sources t.scope.sources (expression_stated kind site item s).standing.scope.sources (told_lasts site.dialect here symbols s.scope)
     (stay_then t.scope.sources c.scope.sources (expression_stated kind site item s).standing.scope.sources (counted_lasts site item.count t.scope) (placed_lasts kind site _ c.number _ (with_scope c.scope s)))
 
 either_lasts : (b : Bool) (s : Scope) (p q : Progress) → Lasts s p.standing.scope → Lasts s q.standing.scope → Lasts s (cond b p q).standing.scope
@@ -303,7 +304,7 @@ one_or_two_in (one ∷ two ∷ three ∷ more) s stated both h g = tt
 
 boundary_lasts : (site : Site) (tokens : List Token) (o : Option ℕ) (s : Scope) → Lasts s (boundary site tokens o s).scope
 boundary_lasts site tokens (Some k) s = stay_same s.sources
-boundary_lasts site tokens None s = told_lasts site.here (symbols_of site.line tokens) s
+boundary_lasts site tokens None s = told_lasts site.dialect site.here (symbols_of site.line tokens) s
 
 align_in : (s : Standing) (n : Result ℕ FaultKind) → StandIn s (align_to s n)
 align_in s (Ok k) = sections_in s (aligned k s.sections)
@@ -412,8 +413,8 @@ end_in line (name ∷ more ∷ others) s = tt
 
 -- ---- instructions
 
-prepared_by : (b misplaced : Bool) (site : Site) (o : modes.Operand) (s : Scope) → Lasts s (if b then instruction.with_told o misplaced (told site.here (symbols_of site.line o.expression) s) else instruction.without_expression o s).scope
-prepared_by true misplaced site o s = told_lasts site.here (symbols_of site.line o.expression) s
+prepared_by : (b misplaced : Bool) (site : Site) (o : modes.Operand) (s : Scope) → Lasts s (if b then instruction.with_told o misplaced (told site.dialect site.here (symbols_of site.line o.expression) s) else instruction.without_expression o s).scope
+prepared_by true misplaced site o s = told_lasts site.dialect site.here (symbols_of site.line o.expression) s
 prepared_by false misplaced site o s = stay_same s.sources
 
 fixed_lasts : (site : Site) (kind : OperandKind) (o : Operand) (filling : Filling) (at : ℕ) (s : Standing) (f : Option FaultKind) → Lasts s.scope (instruction.fixed site kind o filling at s f).standing.scope
@@ -522,9 +523,9 @@ assigned_by_in global name s u (Err e) a h = tt
 name_in_result : (site : Site) (global : Bool) (name : List ℕ) (tokens : List Token) (s : Standing) → StandIn s (name_assigned site global name tokens s).result
 name_in_result site global name tokens s =
     let e : Scope = (entry name s.scope).scope in
-    let t = told site.here (symbols_of site.line tokens) e in
+    let t = told site.dialect site.here (symbols_of site.line tokens) e in
     let r = assigned name t.written t.scope in
-    let into : Lasts s.scope t.scope = stay_then s.scope.sources e.sources t.scope.sources (entry_lasts name s.scope) (told_lasts site.here (symbols_of site.line tokens) e) in
+    let into : Lasts s.scope t.scope = stay_then s.scope.sources e.sources t.scope.sources (entry_lasts name s.scope) (told_lasts site.dialect site.here (symbols_of site.line tokens) e) in
     done_in s (joined (naming.fault_of t.settled) (after_change s (assigned_by global name s r)))
     (changed_lasts s (assigned_by global name s r) (assigned_by_in global name s t.scope r into (assigned_lasts name t.written t.scope)))
 
@@ -538,8 +539,8 @@ moved_in (Err kind) s = tt
 
 place_in : (b : Bool) (site : Site) (tokens : List Token) (s : Standing) → StandIn s (place_assigned b site tokens s)
 place_in true site tokens s =
-    let w = told site.here (symbols_of site.line tokens) s.scope in
-    stand_then s (with_scope w.scope s) (place_moved site tokens s) (told_lasts site.here (symbols_of site.line tokens) s.scope) (moved_in (target s.sections.current w.value) (with_scope w.scope s))
+    let w = told site.dialect site.here (symbols_of site.line tokens) s.scope in
+    stand_then s (with_scope w.scope s) (place_moved site tokens s) (told_lasts site.dialect site.here (symbols_of site.line tokens) s.scope) (moved_in (target s.sections.current w.value) (with_scope w.scope s))
 place_in false site tokens s = tt
 
 assignment_by : (place local : Bool) (site : Site) (global : Bool) (name : List ℕ) (tokens : List Token) (s : Standing)

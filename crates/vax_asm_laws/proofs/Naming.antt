@@ -69,7 +69,7 @@ assigned_goes global name s t (Err x) c e = cc
 
 name_goes : (site : Site) (global : Bool) (name : List ℕ) (tokens : List Token) (s t : Standing) → IsCounted s → (name_assigned site global name tokens s).result ≡ Ok t → Goes s t
 name_goes site global name tokens s t c e =
-    let w : Told = told site.here (symbols_of site.line tokens) (entry name s.scope).scope in
+    let w : Told = told site.dialect site.here (symbols_of site.line tokens) (entry name s.scope).scope in
     let r : Result Standing FaultKind = assigned_by global name s (assigned name w.written w.scope) in
     done_goes s t (joined (fault_of w.settled) (after_change s r))
     (after_change_goes s r c (λ u made. assigned_goes global name s u (assigned name w.written w.scope) c made)) e
@@ -80,7 +80,7 @@ moved_goes s t (Err kind) c e = cc
 
 place_goes : (b : Bool) (site : Site) (tokens : List Token) (s t : Standing) → IsCounted s → place_assigned b site tokens s ≡ Ok t → Goes s t
 place_goes true site tokens s t c e =
-    let w : Told = told site.here (symbols_of site.line tokens) s.scope in
+    let w : Told = told site.dialect site.here (symbols_of site.line tokens) s.scope in
     moved_goes (with_scope w.scope s) t (target s.sections.current w.value) c e
 place_goes false site tokens s t c e = cc
 
