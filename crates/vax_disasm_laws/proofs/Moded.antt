@@ -1,7 +1,7 @@
 -- The modes of operands, read from their words.
 use Rattle.std.proofs.Common.{◌≡◌, ℕ, suc, ◌+◌, ◌-◌, ◌%◌, ◌<◌, ◌≤◌, ◌^◌, true, false, ℤ, pos, negsuc, List, [], ◌∷◌, Option, Some, None, Ok, refl, ap, ◌∙◌, arith, inl, inr}
 use Rattle.std.specs.Prelude.{◌==◌, nat_lt, if◌then◌else◌}
-use Rattle.std.specs.Int.{w64, cast_signed, int_wrapping_neg}
+use Rattle.std.specs.Int.{w32, w64, cast_signed, int_wrapping_neg}
 use Rattle.std.proofs.lemmas.Bool.{cases_Bool}
 use Rattle.std.proofs.lemmas.Bool.Decides.{nat_tests}
 use Rattle.std.proofs.lemmas.Int.{ints}
@@ -82,8 +82,14 @@ minus_signed n some h =
 low_seen : (n : ℕ) → n < 2 ^ 31 → longword (pos n) ≡ pos n
 low_seen n h = omega (arith, ints)
 
+high_long : (m : ℕ) → 2 ^ 31 ≤ m → cast_signed w32 m ≡ negsuc (2 ^ 32 - suc m)
+high_long m h = let past : nat_lt m (2 ^ 31) ≡ false = grind (arith, nat_tests) in rw past refl
+
 minus_seen : (n : ℕ) → 0 < n → n ≤ 2 ^ 31 → longword (negsuc (n - 1)) ≡ negsuc (n - 1)
-minus_seen n some h = omega (arith, ints)
+minus_seen n some h =
+    let low : (2 ^ 64 - suc (n - 1)) % 4294967296 ≡ 2 ^ 32 - n = omega arith in
+    let less : 2 ^ 32 - suc (2 ^ 32 - n) ≡ n - 1 = omega arith in
+    ap (cast_signed w32) low ∙ high_long (2 ^ 32 - n) (omega arith) ∙ ap negsuc less
 
 long_minus : (n : ℕ) → 0 < n → n ≤ 2 ^ 31 → longword (int_wrapping_neg w64 (longword (pos n))) ≡ negsuc (n - 1)
 long_minus n some h = elim (cases_Bool (nat_lt n (2 ^ 31))) [
