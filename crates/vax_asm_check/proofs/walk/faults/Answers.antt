@@ -8,7 +8,7 @@ use Rattle.vax_asm_check.specs.Restating.{resumed}
 use Rattle.vax_asm_check.specs.View.{left_of}
 use Rattle.vax_asm_faults.specs.Survey.{Onward, stated, with_faults}
 use Rattle.vax_asm_scope.specs.Kept.{scope_of}
-use Rattle.vax_asm_scope.specs.Known.{known}
+use Rattle.vax_asm_scope.specs.Known.{known_here}
 use Rattle.vax_lex.specs.declared.value.Value.{Value}
 use Rattle.vax_macro.specs.Expanders.{Opens, rest_of, statement_of}
 use Rattle.vax_macro.specs.Expansion.{AtEnd, opened}
@@ -35,8 +35,8 @@ statements-preserved c =
     let old = c.statements.survey in
     let new = c.state.new.self in
     let said = c.in-Ok-Some.said in
-    let names = known c.in_ok-here.here (scope_of old.left.standing.scope) in
-    let same = ap (λ (v : Value). opened left (known v (scope_of old.left.standing.scope)) rest) (sym c.in_ok-here.ensures) in
+    let names = known_here old.left.standing.dialect c.in_ok-here.here (scope_of old.left.standing.scope) in
+    let same = ap (λ (v : Value). opened left (known_here old.left.standing.dialect v (scope_of old.left.standing.scope)) rest) (sym c.in_ok-here.ensures) in
     let opens = subst (λ o. Opens (Ok o) c.next.new.self (opened left names rest)) c.in-Ok-Some.field-0-is (c.in-Ok-Some.ensures.opens inv.quiet left inv.goes.1) in
     let does = c.in_ok-state-in-Ok-Some.ensures in
     let goes = subst (λ (p : ℕ). (next : Onward) → with_faults old.faults.items (stated (at said.number p) said.text.items (left_of old.left) old.ended next) ≡ with_faults new.faults.items (next (left_of new.left) new.ended)) c.lines_read.ensures does.goes in
@@ -52,8 +52,8 @@ returns-in-Ok-None c =
     let left = inv.goes.0 in
     let rest = rest_of c.statements.expander in
     let old = c.statements.survey in
-    let names = known c.in_ok-here.here (scope_of old.left.standing.scope) in
-    let same = ap (λ (v : Value). opened left (known v (scope_of old.left.standing.scope)) rest) (sym c.in_ok-here.ensures) in
+    let names = known_here old.left.standing.dialect c.in_ok-here.here (scope_of old.left.standing.scope) in
+    let same = ap (λ (v : Value). opened left (known_here old.left.standing.dialect v (scope_of old.left.standing.scope)) rest) (sym c.in_ok-here.ensures) in
     let opens = subst (λ o. Opens (Ok o) c.next.new.self (opened left names rest)) c.in-Ok-None.field-0-is (c.in-Ok-None.ensures.opens inv.quiet left inv.goes.1) in
     let s = with_faults old.faults.items (resumed (AtEnd None) (left_of old.left) old.ended) in
     let goes = survey_goes c.args.dialect c.args.source.now left rest (left_of old.left) old.ended old.faults.items (AtEnd None) inv.goes.2 (same ∙ opens) in
@@ -65,8 +65,8 @@ returns-in-Err-Fault c =
     let left = inv.goes.0 in
     let rest = rest_of c.statements.expander in
     let old = c.statements.survey in
-    let names = known c.in_ok-here.here (scope_of old.left.standing.scope) in
-    let same = ap (λ (v : Value). opened left (known v (scope_of old.left.standing.scope)) rest) (sym c.in_ok-here.ensures) in
+    let names = known_here old.left.standing.dialect c.in_ok-here.here (scope_of old.left.standing.scope) in
+    let same = ap (λ (v : Value). opened left (known_here old.left.standing.dialect v (scope_of old.left.standing.scope)) rest) (sym c.in_ok-here.ensures) in
     let o = opened left names rest in
     let opens = subst (λ e. Opens (Err e) c.next.new.self o) c.in-Err-Fault.field-0-is (c.in-Err-Fault.ensures.opens inv.quiet left inv.goes.1) in
     let s = with_faults old.faults.items (resumed o (left_of old.left) old.ended) in
