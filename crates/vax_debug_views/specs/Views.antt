@@ -1,0 +1,147 @@
+-- What a debugger shows of the flat machine.
+use Rattle.std.specs.Prelude.{ℕ, zero, suc, ◌+◌, ◌%◌, ◌^◌, ◌==◌, if◌then◌else◌, List, [], ◌++◌, codes, Option, None, Some, slice_index}
+use Rattle.vax_word.specs.declared.Core.{Core}
+use Rattle.vax_flat.specs.Step.{Flat}
+use Rattle.vax_report.specs.Lines.{line, register_line}
+use Rattle.vax_machine.specs.Console.{memory_from}
+use Rattle.vax_debug.specs.Calls.{longword_at}
+use Rattle.vax_debug.specs.Travel.{fp_of, pc_of, sp_of}
+use Rattle.vax_debug_words.specs.declared.command.Form.{Form}
+use Rattle.vax_debug_words.specs.declared.command.Form.TheVariants as form
+use Rattle.vax_debug_words.specs.declared.request.Expression.{Expression}
+use Rattle.vax_debug_words.specs.declared.request.Span.{Span}
+use Rattle.vax_debug_names.specs.declared.Symbol.{Symbol}
+use Rattle.vax_debug_replies.specs.Frames.{frame_line}
+use Rattle.vax_debug_replies.specs.Instructions.{instruction_at, instruction_line, length_of}
+use Rattle.vax_debug_replies.specs.Status.{status_line}
+use Rattle.vax_debug_replies.specs.Values.{ascii_line, value_line}
+use Rattle.vax_debug_replies.specs.declared.frames.Frame.{Frame}
+use Rattle.vax_debug_values.specs.Values.{evaluated}
+
+-- the processor
+
+abbrev pub register_shown : ℕ → Flat → List ℕ
+register_shown n m = register_line n (slice_index m.core.regs n)
+
+abbrev pub status_shown : Flat → List ℕ
+status_shown m = status_line m.core.psl.0
+
+-- memory
+
+-- an address behind another, modulo 2^32
+abbrev pub beyond : ℕ → ℕ → ℕ
+beyond address count = (address + count) % 2 ^ 32
+
+-- so many values of a size, one behind the other, a line for each
+unfoldable pub values_shown : List Symbol → (size count address : ℕ) → Flat → List ℕ
+values_shown symbols size zero address m = []
+values_shown symbols size (suc count) address m =
+    value_line symbols address (memory_from m.memory address size) ++ values_shown symbols size count (beyond address size) m
+
+-- so many characters in one line
+abbrev pub characters_shown : List Symbol → (count address : ℕ) → Flat → List ℕ
+characters_shown symbols count address m = ascii_line symbols address (memory_from m.memory address count)
+
+-- an instruction is looked for in this many bytes
+abbrev pub bytes_at : (address : ℕ) → Flat → List (Option ℕ)
+bytes_at address m = memory_from m.memory address 64
+
+abbrev pub instruction_shown : List Symbol → (address : ℕ) → Flat → List ℕ
+instruction_shown symbols address m = instruction_line symbols address (bytes_at address m)
+
+-- behind the instruction at an address, or the byte there where none begins
+abbrev pub behind_instruction : (address : ℕ) → Flat → ℕ
+behind_instruction address m = beyond address (length_of (instruction_at address (bytes_at address m)))
+
+-- so many instructions, one behind the other
+unfoldable pub instructions_shown : List Symbol → (count address : ℕ) → Flat → List ℕ
+instructions_shown symbols zero address m = []
+instructions_shown symbols (suc count) address m =
+    instruction_shown symbols address m ++ instructions_shown symbols count (behind_instruction address m) m
+
+-- so many values of a form from an address on
+unfoldable pub memory_at_shown : List Symbol → Form → (count address : ℕ) → Flat → List ℕ
+memory_at_shown symbols form.Byte count address m = values_shown symbols 1 count address m
+memory_at_shown symbols form.Word count address m = values_shown symbols 2 count address m
+memory_at_shown symbols form.Long count address m = values_shown symbols 4 count address m
+memory_at_shown symbols form.Quad count address m = values_shown symbols 8 count address m
+memory_at_shown symbols form.Ascii count address m = characters_shown symbols count address m
+memory_at_shown symbols form.Instruction count address m = instructions_shown symbols count address m
+
+-- in place of what an expression leads to, where it leads nowhere
+abbrev pub nowhere_line : List ℕ
+nowhere_line = line (codes "?NO SUCH NAME OR ADDRESS")
+
+-- what is told of an expression's value, or that it has none
+abbrev pub of_value : (ℕ → List ℕ) → Option ℕ → List ℕ
+of_value told None = nowhere_line
+of_value told (Some address) = told address
+
+unfoldable pub memory_shown : List Symbol → Form → Span → Flat → List ℕ
+memory_shown symbols f at m = of_value (λ address. memory_at_shown symbols f at.count address m) (evaluated symbols at.from m)
+
+unfoldable pub disassembled : List Symbol → Span → Flat → List ℕ
+disassembled symbols at m = of_value (λ address. instructions_shown symbols at.count address m) (evaluated symbols at.from m)
+
+-- ten instructions from PC on
+unfoldable pub disassembled_here : List Symbol → Flat → List ℕ
+disassembled_here symbols m = instructions_shown symbols 10 (pc_of m.core) m
+
+-- so many longwords from the stack pointer on
+unfoldable pub stack_shown : List Symbol → (count : ℕ) → Flat → List ℕ
+stack_shown symbols count m = values_shown symbols 4 count (sp_of m.core) m
+
+-- frames of calls
+
+-- what is told of the next one, if there is one
+abbrev pub if_any : {T : Type 0} → (T → List ℕ) → Option T → List ℕ
+if_any told None = []
+if_any told (Some next) = told next
+
+-- where the procedure is that runs
+abbrev pub innermost : Core → Frame
+innermost core = record { pc = pc_of core; ap = slice_index core.regs 12; fp = fp_of core }
+
+abbrev pub frame_of : (pc ap fp : Option ℕ) → Option Frame
+frame_of (Some pc) (Some ap) (Some fp) = Some (record { pc = pc; ap = ap; fp = fp })
+frame_of pc ap fp = None
+
+-- a longword that a frame has so many bytes behind its pointer
+abbrev pub saved : (offset : ℕ) → Frame → Flat → Option ℕ
+saved offset frame m = longword_at m (beyond frame.fp offset)
+
+-- where its caller goes on: a frame has the saved AP, FP and PC at 8, 12 and 16; none where the frame pointer is 0, or memory has them not whole
+unfoldable pub caller : Frame → Flat → Option Frame
+caller frame m = if frame.fp == 0 then None else frame_of (saved 16 frame m) (saved 8 frame m) (saved 12 frame m)
+
+-- at most so many frames, numbered from one on
+unfoldable pub frames_from : List Symbol → (count number : ℕ) → Frame → Flat → List ℕ
+frames_from symbols zero number frame m = []
+frames_from symbols (suc count) number frame m =
+    frame_line symbols number frame ++ if_any (λ next. frames_from symbols count (number + 1) next m) (caller frame m)
+
+-- the frames of calls, the innermost first, at most 64
+unfoldable pub frames_shown : List Symbol → Flat → List ℕ
+frames_shown symbols m = frames_from symbols 64 0 (innermost m.core) m
+
+-- queues
+
+-- the entry that a link leads to, unless that is the head again
+abbrev pub unless_head : (head : ℕ) → Option ℕ → Option ℕ
+unless_head head None = None
+unless_head head (Some link) = if link == head then None else Some link
+
+-- the entry behind this one, where memory has its forward link
+abbrev pub next_entry : (head entry : ℕ) → Flat → Option ℕ
+next_entry head entry m = unless_head head (longword_at m entry)
+
+-- at most so many entries, each with its forward link
+unfoldable pub entries_from : List Symbol → (head count entry : ℕ) → Flat → List ℕ
+entries_from symbols head zero entry m = []
+entries_from symbols head (suc count) entry m =
+    value_line symbols entry (memory_from m.memory entry 4)
+    ++ if_any (λ next. entries_from symbols head count next m) (next_entry head entry m)
+
+-- a queue by its forward links, from its head on, at most 64 entries
+unfoldable pub queue_shown : List Symbol → Expression → Flat → List ℕ
+queue_shown symbols at m = of_value (λ head. entries_from symbols head 64 head m) (evaluated symbols at m)
