@@ -1,0 +1,4 @@
+pub mod Telling
+pub mod Lines
+pub mod Wholes
+pub mod Forms

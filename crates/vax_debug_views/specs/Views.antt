@@ -114,7 +114,7 @@ saved offset frame m = longword_at m (beyond frame.fp offset)
 unfoldable pub caller : Frame → Flat → Option Frame
 caller frame m = if frame.fp == 0 then None else frame_of (saved 16 frame m) (saved 8 frame m) (saved 12 frame m)
 
--- at most so many frames, numbered from one on
+-- at most so many frames, with numbers from this one on
 unfoldable pub frames_from : List Symbol → (count number : ℕ) → Frame → Flat → List ℕ
 frames_from symbols zero number frame m = []
 frames_from symbols (suc count) number frame m =

@@ -89,6 +89,7 @@ fn saved_frame<F: PageFile>(
 }
 
 /// Where the caller goes on of the procedure with this frame, if it has one.
+#[tactic(auto, unfolding(crate::specs::Views::caller))]
 fn caller<F: PageFile>(
     frame: Frame,
     machine: &mut Machine,

@@ -1,0 +1,150 @@
+-- What is shown of a machine, one call behind the other.
+use Rattle.std.proofs.Common.{◌≡◌, ◌+◌, ℕ, true, List, [], ◌++◌, append-nil, append_assoc, Option, Result, Ok, Err, refl, sym, ap, subst, ◌∙◌, arith}
+use Rattle.vax_outside.specs.Channels.{Channels, Grew, GrewByPrefix, nothing, only}
+use Rattle.vax_outside.specs.Faults.{CountsFailure}
+use Rattle.vax_outside.specs.declared.traits.Chan.TheVariants.{Report}
+use Rattle.vax_outside.specs.declared.faults.Failures.{Failures}
+use Rattle.vax_outside.proofs.Counting.{rose_then}
+use Rattle.vax_outside.proofs.Growth.{grew_nothing, prefix_stays, prefix_within, report_grew}
+use Rattle.vax_flat.specs.Step.{Flat}
+use Rattle.vax_machine.specs.Console.{memory_from}
+use Rattle.vax_console.specs.Ends.{Scene}
+use Rattle.vax_console.specs.Transcript.{Session}
+use Rattle.vax_debug.specs.Sessions.{Counts, IsHere, Origin, ShowsFrom, StaysHere}
+use Rattle.vax_debug.specs.declared.failure.Failure.{Failure}
+use Rattle.vax_debug.specs.declared.failure.Failure.TheVariants as failure
+use Rattle.vax_debug_views.specs.Showing.{Replied, Shows, with_sink}
+
+-- failures that are counted
+
+pub write_counts : (file before now : Failures) → CountsFailure true before now → Counts (Err failure.WriteFault) file file before now
+write_counts file before now c = (omega arith, c.later, c.cause, λ n. absurd (n refl))
+
+pub fault_counts : (f g h x y : Failures) → g.count ≡ f.count → y.count ≡ x.count → CountsFailure true g h → Counts (Err failure.PageFault) f h x y
+fault_counts f g h x y a b c = (let l = c.later in omega (arith, a, l), rose_then a c.cause, b)
+
+-- one call
+
+-- a machine stays where it is, whatever was written
+abbrev pub Stays : Scene → Scene → Type 0
+Stays v w = (sink : Option Channels) → StaysHere (with_sink sink v) (with_sink sink w)
+
+-- what is told of one flat machine is told in other words of each that a machine stands for
+abbrev pub SaysAs : Scene → (Flat → List ℕ) → (Flat → List ℕ) → Type 0
+SaysAs v one other =
+    (sink : Option Channels) (o : Origin) (s : Session) (replies : List ℕ) → IsHere o s replies (with_sink sink v) → one s.machine ≡ other s.machine
+
+none_yet : (a : Option Channels) (text : List ℕ) → GrewByPrefix a a (only Report text)
+none_yet a text = record { prefix = nothing; rest = only Report text; splits = refl; grew = grew_nothing a }
+
+-- a reply, while nothing is looked up
+pub replied_shows : (v : Scene) (b : Option Channels) (r : Result (Unit {0}) Failure) (text : List ℕ) (told : Flat → List ℕ) → SaysAs v (λ m. text) told → Replied r v.sink b text → Shows v (with_sink b v) r told
+replied_shows v b r text told is p = record {
+  stays = λ sink o s replies here. here;
+  replied = λ sink o s replies here. subst (λ (z : List ℕ). Replied r v.sink b z) (is sink o s replies here) p;
+}
+
+-- a reply of what memory has
+pub looked_shows : (v w : Scene) (b : Option Channels) (r : Result (Unit {0}) Failure) (text : List (Option ℕ) → List ℕ) (addr count : ℕ) (cells : List (Option ℕ)) → Stays v w → ((sink : Option Channels) → ShowsFrom (with_sink sink v) addr count cells) →
+    Replied r v.sink b (text cells) → Shows v (with_sink b w) r (λ (m : Flat). text (memory_from m.memory addr count))
+looked_shows v w b r text addr count cells stays shows p = record {
+  stays = stays;
+  replied = λ sink o s replies here. subst (λ (z : List (Option ℕ)). Replied r v.sink b (text z)) (shows sink o s replies here) p;
+}
+
+-- a call that shows, behind one that looks something up
+pub shows_behind : (v w x : Scene) (r : Result (Unit {0}) Failure) (inner outer : Flat → List ℕ) → Stays v w → SaysAs v inner outer → Shows (with_sink v.sink w) x r inner → Shows v x r outer
+shows_behind v w x r inner outer stays is p = record {
+  stays = λ sink o s replies here. p.stays sink o s replies (stays sink o s replies here);
+  replied = λ sink o s replies here.
+      subst (λ (z : List ℕ). Replied r v.sink x.sink z) (is sink o s replies here) (p.replied sink o s replies (stays sink o s replies here));
+}
+
+-- a call of the page file failed before anything was written
+pub shows_cut : (v w : Scene) (told : Flat → List ℕ) → Stays v w → Shows v (with_sink v.sink w) (Err failure.PageFault) told
+shows_cut v w told stays = record {
+  stays = stays;
+  replied = λ sink o s replies here. none_yet v.sink (told s.machine);
+}
+
+-- line by line
+
+-- all but the rest was written
+pub record HasReplied (before now : Option Channels) (whole rest : List ℕ) : Type 0 where
+  pub written : List ℕ
+  pub grew : Grew before now (only Report written)
+  pub splits : written ++ rest ≡ whole
+
+-- so it was in each session that the machine makes
+pub record IsShowing (v w : Scene) (whole rest : Flat → List ℕ) : Type 0 where
+  pub stays : Stays v w
+  pub replied : (sink : Option Channels) (o : Origin) (s : Session) (replies : List ℕ) → IsHere o s replies (with_sink sink v) →
+      HasReplied v.sink w.sink (whole s.machine) (rest s.machine)
+
+pub showing_first : (v : Scene) (whole rest : Flat → List ℕ) → ((m : Flat) → rest m ≡ whole m) → IsShowing v v whole rest
+showing_first v whole rest is = record {
+  stays = λ sink o s replies here. here;
+  replied = λ sink o s replies here. record { written = []; grew = grew_nothing v.sink; splits = is s.machine };
+}
+
+-- a line more
+pub showing_line : (v w x : Scene) (u : Unit {0}) (whole rest line after : Flat → List ℕ) → IsShowing v w whole rest → Shows w x (Ok u) line → ((m : Flat) → rest m ≡ line m ++ after m) → IsShowing v x whole after
+showing_line v w x u whole rest line after q p is = record {
+  stays = λ sink o s replies here. p.stays sink o s replies (q.stays sink o s replies here);
+  replied = λ sink o s replies here.
+      let k = q.replied sink o s replies here in
+      record {
+        written = k.written ++ line s.machine;
+        grew = report_grew v.sink w.sink x.sink k.written (line s.machine) k.grew (p.replied sink o s replies (q.stays sink o s replies here));
+        splits = append_assoc k.written (line s.machine) (after s.machine) ∙ (ap (λ (z : List ℕ). k.written ++ z) (sym (is s.machine)) ∙ k.splits);
+      };
+}
+
+-- something was looked up, by which the rest is told in other words
+pub showing_next : (v w x : Scene) (whole rest after : Flat → List ℕ) → IsShowing v w whole rest → Stays w x → SaysAs w rest after → IsShowing v (with_sink w.sink x) whole after
+showing_next v w x whole rest after q stays is = record {
+  stays = λ sink o s replies here. stays sink o s replies (q.stays sink o s replies here);
+  replied = λ sink o s replies here.
+      let k = q.replied sink o s replies here in
+      record {
+        written = k.written;
+        grew = k.grew;
+        splits = ap (λ (z : List ℕ). k.written ++ z) (sym (is sink o s replies (q.stays sink o s replies here))) ∙ k.splits;
+      };
+}
+
+all_written : (a b : Option Channels) (whole rest : List ℕ) → HasReplied a b whole rest → rest ≡ [] → Grew a b (only Report whole)
+all_written a b whole rest k none =
+    let is : k.written ≡ whole = sym (append-nil k.written) ∙ (ap (λ (z : List ℕ). k.written ++ z) (sym none) ∙ k.splits) in
+    subst (λ (z : List ℕ). Grew a b (only Report z)) is k.grew
+
+-- there is no more
+pub showing_done : (v w : Scene) (whole rest : Flat → List ℕ) → IsShowing v w whole rest → ((m : Flat) → rest m ≡ []) → Shows v w (Ok tt) whole
+showing_done v w whole rest q none = record {
+  stays = q.stays;
+  replied = λ sink o s replies here. all_written v.sink w.sink (whole s.machine) (rest s.machine) (q.replied sink o s replies here) (none s.machine);
+}
+
+line_lost : (e : Failure) (a b c : Option Channels) (written line after whole : List ℕ) → written ++ (line ++ after) ≡ whole → Grew a b (only Report written) → Replied (Err e) b c line → Replied (Err e) a c whole
+line_lost failure.Turns a b c written line after whole e p q = absurd q
+line_lost failure.PageFault a b c written line after whole e p q = prefix_within a b c Report written line after whole e p q
+line_lost failure.WriteFault a b c written line after whole e p q = prefix_within a b c Report written line after whole e p q
+
+-- a line wasn't shown whole
+pub showing_lost : (v w x : Scene) (e : Failure) (whole rest line after : Flat → List ℕ) → IsShowing v w whole rest → Shows w x (Err e) line → ((m : Flat) → rest m ≡ line m ++ after m) → Shows v x (Err e) whole
+showing_lost v w x e whole rest line after q p is = record {
+  stays = λ sink o s replies here. p.stays sink o s replies (q.stays sink o s replies here);
+  replied = λ sink o s replies here.
+      let k = q.replied sink o s replies here in
+      line_lost e v.sink w.sink x.sink k.written (line s.machine) (after s.machine) (whole s.machine)
+      (ap (λ (z : List ℕ). k.written ++ z) (sym (is s.machine)) ∙ k.splits) k.grew (p.replied sink o s replies (q.stays sink o s replies here));
+}
+
+-- a call of the page file failed between lines
+pub showing_cut : (v w x : Scene) (whole rest : Flat → List ℕ) → IsShowing v w whole rest → Stays w x → Shows v (with_sink w.sink x) (Err failure.PageFault) whole
+showing_cut v w x whole rest q stays = record {
+  stays = λ sink o s replies here. stays sink o s replies (q.stays sink o s replies here);
+  replied = λ sink o s replies here.
+      let k = q.replied sink o s replies here in
+      prefix_stays v.sink w.sink w.sink Report k.written (rest s.machine) (whole s.machine) k.splits k.grew refl;
+}
