@@ -1,0 +1,144 @@
+-- Replies that were written, and what a request comes to by them.
+use Rattle.std.proofs.Common.{◌≡◌, ℕ, List, [], ◌∷◌, ◌++◌, append-nil, Option, None, Some, Result, Ok, Err, OnOk, refl, sym, ap, subst, ◌∙◌, inl, inr, arith}
+use Rattle.vax_outside.specs.Blocks.{BlockFile}
+use Rattle.vax_outside.specs.Channels.{Channels, Grew, GrewByPrefix, only}
+use Rattle.vax_outside.specs.declared.faults.Failures.{Failures}
+use Rattle.vax_outside.specs.declared.traits.Chan.TheVariants.{Report}
+use Rattle.vax_outside.proofs.Counting.{rose_then}
+use Rattle.vax_outside.proofs.Growth.{grew_more}
+use Rattle.vax_machine.specs.declared.engine.Engine.{Engine}
+use Rattle.vax_flat.specs.Parts.{At}
+use Rattle.vax_console.specs.Transcript.{Session, advanced}
+use Rattle.vax_console.specs.Ends.{ChangesOnce, IsAt, IsWithin, Scene, scene, writes}
+use Rattle.vax_debug.specs.Sessions.{Arrives, Counts, IsHere, Origin}
+use Rattle.vax_debug.specs.declared.failure.Failure.{Failure}
+use Rattle.vax_debug.specs.declared.failure.Failure.TheVariants as failure
+use Rattle.vax_debug_acts.specs.Acting.{Act, Acts, IsToldInPart, Replies, Tells, act}
+use Rattle.vax_debug_acts.specs.Acts.{by_address, by_value, no_value_line}
+
+-- what is written behind what was sent and replied
+
+grew_told : (a b c : Option Channels) (sent replies text : List ℕ) → Grew a b (writes sent replies) → Grew b c (only Report text) → Grew a c (writes sent (replies ++ text))
+grew_told a b c sent replies text p q =
+    subst (λ (z : List ℕ). Grew a c (writes z (replies ++ text))) (append-nil sent) (grew_more a b c (writes sent replies) (only Report text) p q)
+
+pub at_told : (o : Origin) (s : Session) (replies text : List ℕ) (m : Engine) (f : Option BlockFile) (a b : Option Channels) → IsAt o.flat s replies m f o.channels a → Grew a b (only Report text) → IsAt o.flat s (replies ++ text) m f o.channels b
+at_told o s replies text m f a b h g = record {
+  steps = h.steps;
+  means = h.means;
+  sent = h.sent;
+  output = h.output;
+  wrote = grew_told o.channels a b h.sent replies text h.wrote g;
+}
+
+-- a prefix of a reply is one on its channel alone
+
+none_left : (xs ys : List ℕ) → xs ++ ys ≡ [] → xs ≡ []
+none_left [] ys e = refl
+none_left (x ∷ xs) ys e = absurd (cc e)
+
+only_report : (c : Channels) → c.out ≡ [] → c.recorded ≡ [] → c ≡ only Report c.report
+only_report c out recorded i = record { out = out i; report = c.report; recorded = recorded i }
+
+pub in_part : (o : Origin) (s : Session) (replies text : List ℕ) (m : Engine) (f : Option BlockFile) (a b : Option Channels) → IsAt o.flat s replies m f o.channels a → GrewByPrefix a b (only Report text) → IsToldInPart o s replies text (scene m f b)
+in_part o s replies text m f a b h p =
+    let out : p.prefix.out ≡ [] = none_left p.prefix.out p.rest.out (ap (λ (z : Channels). z.out) p.splits) in
+    let recorded : p.prefix.recorded ≡ [] = none_left p.prefix.recorded p.rest.recorded (ap (λ (z : Channels). z.recorded) p.splits) in
+    record {
+      told = p.prefix.report;
+      untold = p.rest.report;
+      splits = ap (λ (z : Channels). z.report) p.splits;
+      at = at_told o s replies p.prefix.report m f a b h (subst (λ (z : Channels). Grew a b z) (only_report p.prefix out recorded) p.grew);
+    }
+
+-- nothing of a reply was written
+pub not_told : (o : Origin) (s : Session) (replies text : List ℕ) (v : Scene) → IsHere o s replies v → IsToldInPart o s replies text v
+not_told o s replies text v h = record {
+  told = [];
+  untold = text;
+  splits = refl;
+  at = subst (λ (z : List ℕ). IsAt o.flat s z v.machine v.file o.channels v.sink) (sym (append-nil replies)) h.at;
+}
+
+pub tells : (r : Result (Unit {0}) Failure) (before now : Failures) (o : Origin) (s : Session) (replies text : List ℕ) (m : Engine) (f : Option BlockFile) (a b : Option Channels) → IsHere o s replies (scene m f a) → Replies r before now a b text → Tells r o s replies text (scene m f b)
+tells (Ok x) before now o s replies text m f a b h p = record { at = at_told o s replies text m f a b h.at p.1; between = h.between }
+tells (Err failure.Turns) before now o s replies text m f a b h p = absurd p
+tells (Err failure.PageFault) before now o s replies text m f a b h p = absurd p
+tells (Err failure.WriteFault) before now o s replies text m f a b h p = in_part o s replies text m f a b h.at p.2
+
+pub tells_as : (r : Result (Unit {0}) Failure) (o : Origin) (s : Session) (replies text said : List ℕ) (v : Scene) → text ≡ said → Tells r o s replies text v → Tells r o s replies said v
+tells_as r o s replies text said v e t = subst (λ (z : List ℕ). Tells r o s replies z v) e t
+
+pub reply_counts : (r : Result (Unit {0}) Failure) (file before now : Failures) (a b : Option Channels) (text : List ℕ) → Replies r before now a b text → Counts r file file before now
+reply_counts (Ok x) file before now a b text p = (refl, p.0)
+reply_counts (Err failure.Turns) file before now a b text p = absurd p
+reply_counts (Err failure.PageFault) file before now a b text p = absurd p
+reply_counts (Err failure.WriteFault) file before now a b text p = (omega arith, p.0, p.1, λ n. absurd (n refl))
+
+-- what a request comes to
+
+-- all was done but a part of the reply
+pub done : (r : Result (Unit {0}) Failure) (turns most : ℕ) (o : Origin) (s t : Session) (replies text : List ℕ) (v : Scene) → Tells r o t replies text v → Acts r turns (act most t text) o s replies v
+done (Ok x) turns most o s t replies text v h = h
+done (Err failure.Turns) turns most o s t replies text v h = absurd h
+done (Err failure.PageFault) turns most o s t replies text v h = inr h
+done (Err failure.WriteFault) turns most o s t replies text v h = inr h
+
+-- steps were cut off
+pub cut_off : (e : Failure) (turns : ℕ) (a : Act) (o : Origin) (s t : Session) (replies : List ℕ) (v : Scene) → Arrives (Err e) turns a.most t o s replies v → Acts (Err e) turns a o s replies v
+cut_off failure.Turns turns a o s t replies v h = h
+cut_off failure.PageFault turns a o s t replies v h = inl h
+cut_off failure.WriteFault turns a o s t replies v h = inl h
+
+-- where a session is, it is on the way through steps
+none_made : (s : Session) → s ≡ advanced 0 s
+unfolding advanced
+none_made s = refl
+
+on_the_way : (o : Origin) (s : Session) (most : ℕ) (replies : List ℕ) (v : Scene) → IsHere o s replies v → IsWithin o.flat s most replies v.machine v.file o.channels v.sink
+on_the_way o s most replies v h = record {
+  place = At s.machine;
+  goes = record {
+    count = 0;
+    few = omega arith;
+    steps = h.at.steps ∙ ap (λ (z : Session). z.steps) (none_made s);
+    goes = ap (λ (z : Session). z.machine) (none_made s);
+  };
+  means = h.at.means;
+  sent = h.at.sent;
+  output = h.at.output;
+  wrote = h.at.wrote;
+}
+
+-- nothing was done
+pub not_done : (turns : ℕ) (a : Act) (o : Origin) (s : Session) (replies : List ℕ) (v : Scene) → IsHere o s replies v → Acts (Err failure.PageFault) turns a o s replies v
+not_done turns a o s replies v h = inl (on_the_way o s a.most replies v h)
+
+-- by the value of an expression
+
+pub with_value : (r : Result (Unit {0}) Failure) (turns n : ℕ) (found : Option ℕ) (asked : ℕ → Act) (o : Origin) (s : Session) (replies : List ℕ) (v : Scene) → Some n ≡ found → Acts r turns (asked n) o s replies v → Acts r turns (by_value found s asked) o s replies v
+with_value r turns n found asked o s replies v is h = subst (λ (z : Option ℕ). Acts r turns (by_value z s asked) o s replies v) is h
+
+pub without_value : (r : Result (Unit {0}) Failure) (turns : ℕ) (found : Option ℕ) (asked : ℕ → Act) (o : Origin) (s : Session) (replies : List ℕ) (v : Scene) → None ≡ found → Tells r o s replies no_value_line v → Acts r turns (by_value found s asked) o s replies v
+without_value r turns found asked o s replies v is h =
+    subst (λ (z : Option ℕ). Acts r turns (by_value z s asked) o s replies v) is (done r turns 0 o s s replies no_value_line v h)
+
+pub ok_if : {T E P : Type 0} (r : Result T E) → P → OnOk r P
+ok_if (Ok x) p = p
+ok_if (Err e) p = tt
+
+pub breaks_at : (r : Result (Unit {0}) Failure) (n : ℕ) (found : Option ℕ) (breaks new : List ℕ) (change : ℕ → List ℕ) → Some n ≡ found → new ≡ change n → OnOk r (new ≡ by_address found breaks change)
+breaks_at r n found breaks new change is e = ok_if r (subst (λ (z : Option ℕ). new ≡ by_address z breaks change) is e)
+
+pub breaks_same : (r : Result (Unit {0}) Failure) (found : Option ℕ) (breaks : List ℕ) (change : ℕ → List ℕ) → None ≡ found → OnOk r (breaks ≡ by_address found breaks change)
+breaks_same r found breaks change is = ok_if r (subst (λ (z : Option ℕ). breaks ≡ by_address z breaks change) is refl)
+
+changes_once_then : (before mid now : Failures) → mid.count ≡ before.count → ChangesOnce mid now → ChangesOnce before now
+changes_once_then before mid now still h = λ n. rose_then still (h (λ e. n (e ∙ still)))
+
+-- calls that failed behind calls of which none did
+pub counts_then : (r : Result (Unit {0}) Failure) (f g h x y z : Failures) → g.count ≡ f.count → y.count ≡ x.count → Counts r g h y z → Counts r f h x z
+counts_then (Ok v) f g h x y z a b c = (c.0 ∙ a, c.1 ∙ b)
+counts_then (Err failure.Turns) f g h x y z a b c = (c.0 ∙ a, c.1 ∙ b)
+counts_then (Err failure.PageFault) f g h x y z a b c = (let l = c.0 in omega (arith, a, l), rose_then a c.1, c.2 ∙ b)
+counts_then (Err failure.WriteFault) f g h x y z a b c = (let l = c.0 in omega (arith, a, l), let m = c.1 in omega (arith, b, m), rose_then b c.2, changes_once_then f g h a c.3)

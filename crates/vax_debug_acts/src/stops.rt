@@ -1,0 +1,105 @@
+//! Where and why steps stopped.
+ghost use Rattle.std.specs.Prelude.{◌≡◌, ◌==◌, ◌≤◌, length, nat_le};
+ghost use Rattle.std.specs.List.{list_any};
+ghost use Rattle.vax_machine.specs.Meaning.{engine};
+ghost use Rattle.vax_console.specs.Ends.{scene};
+ghost use Rattle.vax_debug.specs.Sessions.{Counts};
+ghost use Rattle.vax_debug.specs.Travel.{pc_of};
+ghost use Rattle.vax_debug_replies.specs.Stops.{stop};
+ghost use Rattle.vax_debug_acts.specs.Acting.{Replies, RepliesFrom};
+ghost use Rattle.vax_debug_acts.specs.Acts.{stop_reply, why_stopped};
+
+use crate::reply::reply_with;
+use vax_debug::{Breaks, Failure, examine};
+use vax_debug_names::Symbol;
+use vax_debug_replies::push_stop;
+use vax_flat::Ending;
+use vax_machine::{Limits, Machine};
+use vax_outside::{PageFile, Sink, Text};
+use vax_report::Last;
+use vax_sched::Schedule;
+
+/// What a machine is debugged under.
+#[derive(Clone, Copy)]
+pub struct Setting<'a> {
+    /// The symbols of its program.
+    pub symbols: &'a [Symbol],
+    /// The limits of the whole session.
+    pub limits: &'a Limits,
+    /// When pages are made absent.
+    pub schedule: &'a Schedule,
+}
+
+/// How many bytes an instruction may have.
+const MOST: usize = 64;
+
+/// Why a machine stands still, but that its steps were made.
+fn why_stopped(ended: Option<Ending>, at_break: bool, at_limit: bool) -> Option<Last>
+    ensures { result ≡ why_stopped ended at_break at_limit }
+{
+    match ended {
+        Some(ending) => Some(Last::Ending(ending)),
+        None if at_break => Some(Last::Break),
+        None if at_limit => Some(Last::Steps),
+        None => None,
+    }
+}
+
+/// The program counter.
+fn pc_of(machine: &Machine) -> u32
+    ensures { result ≡ pc_of (engine machine.now).cpu.core }
+{
+    machine.core().regs[15]
+}
+
+/// Why this machine does.
+fn why(breaks: &Breaks, limits: &Limits, machine: &Machine) -> Option<Last>
+    ensures { result ≡ why_stopped (engine machine.now).ended
+        (list_any (λ a. a == pc_of (engine machine.now).cpu.core) breaks.now)
+        (nat_le limits.now.steps (engine machine.now).steps) }
+{
+    let at_break = breaks.has(pc_of(machine));
+    let at_limit = limits.steps <= machine.steps();
+    why_stopped(machine.ended(), at_break, at_limit)
+}
+
+/// Replies where and why steps stopped.
+fn reply_stop<K: Sink>(
+    last: Option<Last>,
+    symbols: &[Symbol],
+    address: u32,
+    cells: &[Option<u8>],
+    sink: &mut K,
+) -> Result<(), Failure>
+    requires { length cells.now ≤ 64 }
+    ensures { Replies result (K.faults sink.old) (K.faults sink.new)
+        (K.contents sink.old) (K.contents sink.new) (stop last symbols.now address cells.now) }
+{
+    let mut text = Text::new();
+    push_stop(&mut text, last, symbols, address, cells);
+    reply_with(text.as_slice(), sink)
+}
+
+/// Replies where and why a machine stopped.
+pub(crate) fn tell_stop<F: PageFile, K: Sink>(
+    setting: &Setting,
+    breaks: &Breaks,
+    machine: &mut Machine,
+    file: &mut F,
+    sink: &mut K,
+) -> Result<(), Failure>
+    ensures replies { RepliesFrom
+        (scene (engine machine.old) (F.contents file.old) (K.contents sink.old))
+        (scene (engine machine.new) (F.contents file.new) (K.contents sink.new)) result
+        (stop_reply setting.now.limits.now.steps setting.now.symbols.now breaks.now) }
+    ensures counts { Counts result (F.faults file.old) (F.faults file.new) (K.faults sink.old)
+        (K.faults sink.new) }
+{
+    let last = why(breaks, setting.limits, machine);
+    let address = pc_of(machine);
+    let mut cells = [None; MOST];
+    match examine(address, &mut cells, machine, file) {
+        Ok(()) => reply_stop(last, setting.symbols, address, &cells, sink),
+        Err(_) => Err(Failure::PageFault),
+    }
+}
