@@ -1,6 +1,8 @@
-//! Tests of the debugger: its words, its names and its steps.
+//! Tests of the debugger: its words, its names, its steps and its acts.
 #![tactic(auto)]
 
+#[cfg(test)]
+mod acts;
 #[cfg(test)]
 mod names;
 #[cfg(test)]

@@ -10,16 +10,16 @@ use vax_space::{Area, Bytes, Space};
 use vax_word::{Core, Psl};
 
 /// BSBB to the INCL of R2, INCL R1, HALT, HALT; INCL R2, RSB.
-const CALLS: [u8; 9] = [0x10, 4, 0xD6, 0x51, 0, 0, 0xD6, 0x52, 5];
+pub(crate) const CALLS: [u8; 9] = [0x10, 4, 0xD6, 0x51, 0, 0, 0xD6, 0x52, 5];
 
 /// Where the subroutine begins.
-const SUBROUTINE: u32 = 0x8000_0206;
+pub(crate) const SUBROUTINE: u32 = 0x8000_0206;
 
 /// The page of the program.
 const PAGE: u32 = 0x40_0001;
 
 /// CALLS of the procedure, HALT; the procedure: no registers saved, INCL R2, RET.
-const PROCEDURE: [u8; 11] = [0xFB, 0, 0xAF, 2, 0, 0, 0, 0, 0xD6, 0x52, 4];
+pub(crate) const PROCEDURE: [u8; 11] = [0xFB, 0, 0xAF, 2, 0, 0, 0, 0, 0xD6, 0x52, 4];
 
 /// A machine at 80000200 with two pages, in which the program lies and a stack behind it.
 fn machine(alloc: Global) -> Result<Machine, Fail> {
@@ -27,7 +27,7 @@ fn machine(alloc: Global) -> Result<Machine, Fail> {
 }
 
 /// The same with another program.
-fn machine_with(alloc: Global, program: &[u8]) -> Result<Machine, Fail> {
+pub(crate) fn machine_with(alloc: Global, program: &[u8]) -> Result<Machine, Fail> {
     let mut areas = Vec::new(alloc);
     areas.push(Area {
         first: PAGE,
@@ -52,15 +52,15 @@ fn machine_with(alloc: Global, program: &[u8]) -> Result<Machine, Fail> {
 
 /// What a session of calls goes with.
 #[derive(Drop)]
-struct Around {
-    limits: Limits,
-    schedule: Schedule,
-    file: MemPages,
-    sink: MemSink,
+pub(crate) struct Around {
+    pub(crate) limits: Limits,
+    pub(crate) schedule: Schedule,
+    pub(crate) file: MemPages,
+    pub(crate) sink: MemSink,
 }
 
 /// A page file and a sink, and a limit of a hundred steps.
-fn surroundings(alloc: Global) -> Result<Around, Fail> {
+pub(crate) fn surroundings(alloc: Global) -> Result<Around, Fail> {
     Ok(Around {
         limits: Limits {
             steps: 100,
