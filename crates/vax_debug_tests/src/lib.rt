@@ -1,4 +1,4 @@
-//! Tests of the debugger: its words, its names, its steps and its acts.
+//! Tests of the debugger: its words, its names, its steps and acts, and what it shows.
 #![tactic(auto)]
 
 #[cfg(test)]
@@ -9,5 +9,7 @@ mod names;
 mod steps;
 #[cfg(test)]
 mod symbols;
+#[cfg(test)]
+mod views;
 #[cfg(test)]
 mod words;
