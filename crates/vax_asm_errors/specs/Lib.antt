@@ -1,4 +1,3 @@
 pub mod Beginning
 pub mod Errors
-pub mod Sources
 pub mod Remarks
