@@ -1,6 +1,6 @@
 -- Files, one more at a time.
-use Rattle.std.proofs.Common.{◌≡◌, ◌<◌, ◌≤◌, ◌+◌, ◌⊎◌, inl, inr, ℕ, Bool, true, false, cond, List, [], ◌∷◌, ◌++◌, length, min, drop, map-append, append-nil, append_assoc, refl, sym, ap, ◌∙◌}
-use Rattle.std.proofs.lemmas.List.{drop_all}
+use Rattle.std.proofs.Common.{◌≡◌, ◌<◌, ◌≤◌, ◌+◌, ◌⊎◌, inl, inr, ℕ, Bool, true, false, cond, List, [], ◌∷◌, ◌++◌, length, min, drop, append-nil, append_assoc, refl, sym, ap, ◌∙◌}
+use Rattle.std.proofs.lemmas.List.{drop_all, map-append}
 use Rattle.std.specs.Borrow.{Bor}
 use Rattle.std.specs.Global.{Vec}
 use Rattle.std.specs.Prelude.{slice_index_or}
@@ -22,6 +22,7 @@ moved before after s rest all e h =
 -- one more file, and none
 pub file_added : (names : List (Bor Text)) (files : List (Vec ℕ)) (i : ℕ) (n : Bor Text) (f : Vec ℕ) (before after : List Source) (s : Source) (all : List File) → i < length names → i < length files → n ≡ slice_index_or names i n → f ≡ slice_index_or files i f
     → after ≡ before ++ s ∷ [] → s.name.now ≡ n.now → s.text.now ≡ f.items → files_seen before ++ files_of (names_of (drop i names)) (texts (drop i files)) ≡ all → files_seen after ++ files_of (names_of (drop (i + 1) names)) (texts (drop (i + 1) files)) ≡ all
+unfolding files_of
 file_added names files i n f before after s all hn hf en ef e name text h =
     let rest : List File = files_of (names_of (drop (i + 1) names)) (texts (drop (i + 1) files)) in
     let file : File = record { name = n.now; text = f.items } in
@@ -30,10 +31,12 @@ file_added names files i n f before after s all hn hf en ef e name text h =
     moved before after s rest all e (ap (λ (x : File). files_seen before ++ x ∷ rest) same ∙ ap (λ (l : List File). files_seen before ++ l) (sym split) ∙ h)
 
 none_left : (names : List Text) → files_of names [] ≡ []
+unfolding files_of
 none_left [] = refl
 none_left (name ∷ names) = refl
 
 none_behind : (names : List (Bor Text)) (files : List (Vec ℕ)) (i : ℕ) → (length names ≤ i) ⊎ (length files ≤ i) → files_of (names_of (drop i names)) (texts (drop i files)) ≡ []
+unfolding files_of
 none_behind names files i (inl few) = rw (drop_all i names few) refl
 none_behind names files i (inr few) = rw (drop_all i files few) (none_left (names_of (drop i names)))
 

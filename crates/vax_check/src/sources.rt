@@ -81,6 +81,16 @@ fn plays(
     }
 }
 
+/// Appends a file, if it is wanted.
+fn add_if<'a>(all: &mut Vec<Source<'a>>, file: Source<'a>, wanted: bool) -> Result<(), NoMemory>
+    ensures { OnOk result (all.new.items ≡ with_if wanted file.entry all.old.items) }
+{
+    if wanted {
+        all.push(file).map_err(|_| NoMemory)?;
+    }
+    Ok(())
+}
+
 /// The files, each with its name, in a dialect.
 #[tactic(auto, using(crate::proofs::Gathering::file_added, crate::proofs::Gathering::files_added))]
 pub(crate) fn files_of<'a>(
@@ -99,19 +109,9 @@ pub(crate) fn files_of<'a>(
             name: names[i].as_bytes(),
             text: texts[i].as_slice(),
         };
-        all.push(source).map_err(|_| NoMemory)?;
+        add_if(&mut all, source, true)?;
     }
     Ok(all)
-}
-
-/// Appends a file, if it is wanted.
-fn add_if<'a>(all: &mut Vec<Source<'a>>, file: Source<'a>, wanted: bool) -> Result<(), NoMemory>
-    ensures { OnOk result (all.new.items ≡ with_if wanted file.entry all.old.items) }
-{
-    if wanted {
-        all.push(file).map_err(|_| NoMemory)?;
-    }
-    Ok(())
 }
 
 /// The files that have a part.

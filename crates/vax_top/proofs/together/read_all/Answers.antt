@@ -8,7 +8,7 @@ use Rattle.vax_program.specs.Program.{parts_of}
 use Rattle.vax_program.specs.View.{parts_seen}
 use Rattle.vax_top.specs.Together.{all_parts}
 use Rattle.vax_top.specs.TogetherView.{IsForUser}
-use Rattle.vax_top.proofs.TogetherLaws.{ahead, ahead_nil, one_more, parts_at}
+use Rattle.vax_top.proofs.TogetherLaws.{ahead, ahead_nil, err_loads, one_more, one_refused, parts_at}
 use Rattle.vax_top.proofs.together.read_all.Goals as goal
 
 pub loop-place-init : goal.loop-place-init
@@ -33,3 +33,15 @@ loop-place-preserved c =
       sound = rw grown (All-push IsForUser c.loop-place.all.items c.in_ok-parts.parts inv.sound c.in_ok-parts.ensures.sound);
       count = rw (grown, length_push) (omega arith);
     }
+
+pub returns-in_err-parts-clause-parts : goal.returns-in_err-parts-clause-parts
+returns-in_err-parts-clause-parts c =
+    let inv = c.loop-place.invariant in
+    let here = c.loop-place.place in
+    let xs = c.args.texts.now in
+    let front = map parts_seen c.loop-place.all.items in
+    let one : here + 1 - here ≡ 1 = omega arith in
+    err_loads (λ v. map parts_seen v.items) c.in_err-parts.field-0.0 c.from_residual.result _ c.from_residual.ensures.1
+    (one_refused front (parts_of c.args.dialect base.User (here + 1) (texts (take 1 (drop here xs)))) (all_parts c.args.dialect (here + 1 + 1) (texts (drop (here + 1) xs))) _ c.in_err-parts.field-0.0
+    (ap (ahead front) (sym (parts_at c.args.dialect (here + 1) here xs (take 1 (drop here xs)) c.loop-place-test.true refl)) ∙ inv.parts)
+    (rw one at c.in_err-parts.ensures.parts))
