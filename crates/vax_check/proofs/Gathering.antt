@@ -1,5 +1,5 @@
 -- Files, one more at a time.
-use Rattle.std.proofs.Common.{◌≡◌, ◌<◌, ◌≤◌, ◌+◌, ◌⊎◌, inl, inr, ℕ, Bool, true, false, cond, List, [], ◌∷◌, ◌++◌, length, min, drop, append-nil, append_assoc, refl, sym, ap, ◌∙◌}
+use Rattle.std.proofs.Common.{◌≡◌, ◌<◌, ◌≤◌, ◌+◌, ◌⊎◌, inl, inr, ℕ, Bool, true, false, cond, List, [], ◌∷◌, ◌++◌, length, min, drop, append-nil, append_assoc, arith, refl, sym, ap, ◌∙◌}
 use Rattle.std.proofs.lemmas.List.{drop_all, map-append}
 use Rattle.std.specs.Borrow.{Bor}
 use Rattle.std.specs.Global.{Vec}
@@ -19,30 +19,19 @@ moved before after s rest all e h =
     ap (λ (l : List Source). files_seen l ++ rest) e ∙ ap (λ (l : List File). l ++ rest) (map-append file_seen before (s ∷ []))
     ∙ append_assoc (files_seen before) (file_seen s ∷ []) rest ∙ h
 
--- one more file, and none
-pub file_added : (names : List (Bor Text)) (files : List (Vec ℕ)) (i : ℕ) (n : Bor Text) (f : Vec ℕ) (before after : List Source) (s : Source) (all : List File) → i < length names → i < length files → n ≡ slice_index_or names i n → f ≡ slice_index_or files i f
-    → after ≡ before ++ s ∷ [] → s.name.now ≡ n.now → s.text.now ≡ f.items → files_seen before ++ files_of (names_of (drop i names)) (texts (drop i files)) ≡ all → files_seen after ++ files_of (names_of (drop (i + 1) names)) (texts (drop (i + 1) files)) ≡ all
-unfolding files_of
-file_added names files i n f before after s all hn hf en ef e name text h =
-    let rest : List File = files_of (names_of (drop (i + 1) names)) (texts (drop (i + 1) files)) in
-    let file : File = record { name = n.now; text = f.items } in
-    let same : file_seen s ≡ file = cc in
-    let split : files_of (names_of (drop i names)) (texts (drop i files)) ≡ file ∷ rest = rw (here names i n hn en, here files i f hf ef) refl in
-    moved before after s rest all e (ap (λ (x : File). files_seen before ++ x ∷ rest) same ∙ ap (λ (l : List File). files_seen before ++ l) (sym split) ∙ h)
-
+-- behind the last text there is no file
 none_left : (names : List Text) → files_of names [] ≡ []
 unfolding files_of
 none_left [] = refl
 none_left (name ∷ names) = refl
 
-none_behind : (names : List (Bor Text)) (files : List (Vec ℕ)) (i : ℕ) → (length names ≤ i) ⊎ (length files ≤ i) → files_of (names_of (drop i names)) (texts (drop i files)) ≡ []
-unfolding files_of
-none_behind names files i (inl few) = rw (drop_all i names few) refl
-none_behind names files i (inr few) = rw (drop_all i files few) (none_left (names_of (drop i names)))
+none_short : (files : List (Vec ℕ)) → length files < 1 → files ≡ []
+none_short [] h = refl
+none_short (f ∷ files) h = absurd (omega (arith, h))
 
-pub files_added : (names : List (Bor Text)) (files : List (Vec ℕ)) (i stop : ℕ) (before : List Source) (all : List File) → stop ≡ min (length names) (length files) → stop ≤ i → files_seen before ++ files_of (names_of (drop i names)) (texts (drop i files)) ≡ all → files_seen before ≡ all
-files_added names files i stop before all e over h =
-    sym (append-nil (files_seen before)) ∙ ap (λ (l : List File). files_seen before ++ l) (sym (none_behind names files i (past (length names) (length files) i stop e over))) ∙ h
+pub none_behind : (names : List Text) (files : List (Vec ℕ)) (before all : List File) → length files < 1 → before ++ files_of names (texts files) ≡ all → before ≡ all
+none_behind names files before all e h =
+    sym (append-nil before) ∙ ap (λ (l : List File). before ++ l) (sym (none_left names)) ∙ ap (λ (fs : List (Vec ℕ)). before ++ files_of names (texts fs)) (sym (none_short files e)) ∙ h
 
 -- those of the files that have a part, when one more was tried
 tried : (dialect : Dialect) (role : Role) (name : Text) (files : List Source) (i : ℕ) (f : Source) (b : Bool) → i < length files → f ≡ slice_index_or files i f → plays dialect role name (file_seen f) ≡ b

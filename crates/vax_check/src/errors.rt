@@ -37,6 +37,25 @@ fn push_file(alloc: Global, out: &mut Vec<u8>, file: Source<'_>) -> Result<(), N
     push_errors(alloc, out, file)
 }
 
+/// Appends the errors of a file of a dialect, if it is a source.
+fn push_named(
+    alloc: Global,
+    out: &mut Vec<u8>,
+    dialect: Dialect,
+    name: &[u8],
+    text: &[u8],
+) -> Result<(), NoMemory>
+    ensures { OnOk result
+        (IsFileTold dialect name.now text.now out.old.items out.new.items) }
+{
+    let file = Source {
+        dialect,
+        name,
+        text,
+    };
+    push_file(alloc, out, file)
+}
+
 /// The errors of all sources of a dialect among these files, in order.
 #[tactic(auto, using(crate::proofs::Telling::file_more))]
 pub(crate) fn errors_of(
@@ -50,12 +69,7 @@ pub(crate) fn errors_of(
 {
     let mut out = Vec::new(alloc);
     for i in 0..names.len().min(texts.len()) {
-        let file = Source {
-            dialect,
-            name: names[i].as_bytes(),
-            text: &texts[i],
-        };
-        push_file(alloc, &mut out, file)?;
+        push_named(alloc, &mut out, dialect, names[i].as_bytes(), &texts[i])?;
     }
     Ok(out)
 }

@@ -9,6 +9,7 @@ use crate::errors::is_linked;
 use crate::text::Files;
 use std::alloc::Global;
 use vax_asm_errors::{Source, Wanted, push_remarks};
+use vax_dialect::Dialect;
 use vax_space::NoMemory;
 
 /// Appends remarks on a file, if it is a source.
@@ -27,6 +28,25 @@ fn push_file(
     push_remarks(alloc, out, file, wanted)
 }
 
+/// Appends remarks on a file of a dialect, if it is a source.
+fn push_named(
+    alloc: Global,
+    out: &mut Vec<u8>,
+    dialect: Dialect,
+    name: &[u8],
+    text: &[u8],
+    wanted: Wanted<'_>,
+) -> Result<(), NoMemory>
+    ensures { OnOk result (IsFileRemarked name.now text.now out.old.items out.new.items) }
+{
+    let file = Source {
+        dialect,
+        name,
+        text,
+    };
+    push_file(alloc, out, file, wanted)
+}
+
 /// Appends remarks on all sources among these files, in order.
 #[tactic(auto, using(crate::proofs::Telling::remark_more))]
 pub(crate) fn push_each(
@@ -39,12 +59,8 @@ pub(crate) fn push_each(
         (texts_seen files.entry.texts.now) out.old.items out.new.items) }
 {
     for i in 0..files.names.len().min(files.texts.len()) {
-        let file = Source {
-            dialect: files.dialect,
-            name: files.names[i].as_bytes(),
-            text: &files.texts[i],
-        };
-        push_file(alloc, out, file, wanted)?;
+        let name = files.names[i].as_bytes();
+        push_named(alloc, out, files.dialect, name, &files.texts[i], wanted)?;
     }
     Ok(())
 }

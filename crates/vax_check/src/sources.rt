@@ -1,6 +1,6 @@
 // The sources that a refusal of the linker concerns.
 
-ghost use Rattle.std.specs.Prelude.{◌≡◌, IfOk, OnOk};
+ghost use Rattle.std.specs.Prelude.{◌≡◌, ◌++◌, ◌∷◌, [], IfOk, OnOk};
 ghost use Rattle.std.specs.List.{list_any};
 ghost use Rattle.std.specs.Str.{bytes_eq};
 ghost use Rattle.vax_check.specs.Linking.{files_of, has_part, plays, those};
@@ -91,8 +91,28 @@ fn add_if<'a>(all: &mut Vec<Source<'a>>, file: Source<'a>, wanted: bool) -> Resu
     Ok(())
 }
 
+/// Appends a file of a dialect with its name.
+fn add_named<'a>(
+    all: &mut Vec<Source<'a>>,
+    dialect: Dialect,
+    name: &'a [u8],
+    text: &'a [u8],
+) -> Result<(), NoMemory>
+    ensures { OnOk result (files_seen all.new.items ≡ files_seen all.old.items ++ record {
+      name = name.entry.now;
+      text = text.entry.now;
+    } ∷ []) }
+{
+    let source = Source {
+        dialect,
+        name,
+        text,
+    };
+    all.push(source).map_err(|_| NoMemory)
+}
+
 /// The files, each with its name, in a dialect.
-#[tactic(auto, using(crate::proofs::Gathering::file_added, crate::proofs::Gathering::files_added))]
+#[tactic(auto, unfolding(crate::specs::Linking::files_of))]
 pub(crate) fn files_of<'a>(
     alloc: Global,
     dialect: Dialect,
@@ -103,13 +123,13 @@ pub(crate) fn files_of<'a>(
         ≡ files_of (names_of names.entry.now) (texts_seen texts.entry.now)) }
 {
     let mut all = Vec::new(alloc);
-    for i in 0..names.len().min(texts.len()) {
-        let source = Source {
-            dialect,
-            name: names[i].as_bytes(),
-            text: texts[i].as_slice(),
+    let mut rest = texts;
+    for name in names {
+        let [text, others @ ..] = rest else {
+            return Ok(all);
         };
-        add_if(&mut all, source, true)?;
+        add_named(&mut all, dialect, name.as_bytes(), text)?;
+        rest = others;
     }
     Ok(all)
 }

@@ -4,5 +4,5 @@ use Rattle.vax_check.specs.View.{files_seen, names_of}
 use Rattle.vax_program.specs.View.{texts}
 use Rattle.vax_check.proofs.sources.files_of.Given as goal
 
-abbrev pub invariant-loop-i : goal.invariant-loop-i
-invariant-loop-i l = files_seen l.all.items ++ files_of (names_of (drop l.i l.names)) (texts (drop l.i l.texts)) ≡ files_of (names_of l.names) (texts l.texts)
+abbrev pub invariant-loop-name : goal.invariant-loop-name
+invariant-loop-name l = files_seen l.all.items ++ files_of (names_of (drop l.name-index l.names)) (texts l.rest) ≡ files_of (names_of l.names) (texts l.texts)
