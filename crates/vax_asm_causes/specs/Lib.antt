@@ -1,2 +1,5 @@
+pub mod Counts
 pub mod Places
 pub mod Printed
+pub mod Remarks
+pub mod View

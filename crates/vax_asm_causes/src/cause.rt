@@ -6,7 +6,7 @@ ghost use Rattle.vax_asm_causes.specs.Printed.{ArePrinted};
 use crate::count::count_cause;
 use crate::facts::Facts;
 use crate::form::form_cause;
-use crate::names::{are_same, definition_of};
+use crate::names::{are_same, definition_of, is_local};
 use crate::range::range_cause;
 use crate::statement::{LONGEST, Statement, is_name, operands_of, parts_of, pieces_of, text_of};
 use crate::words::{Found, as_printed, at, cause_at, decimal};
@@ -69,14 +69,6 @@ fn token_cause(
 fn operator_cause(alloc: Global, place: Place<'_>, operator: Piece) -> Result<Found, NoMemory> {
     let name = text_of(place.line, operator);
     cause_at(alloc, operator.start, &[b": `", name, b"`"])
-}
-
-/// Whether a name is a local label: digits and a `$`.
-pub(crate) fn is_local(name: &[u8]) -> bool {
-    match name.split_last() {
-        Some((b'$', digits)) => digits.iter().all(|digit| digit.is_ascii_digit()),
-        _ => false,
-    }
 }
 
 /// Why a local label isn't there.

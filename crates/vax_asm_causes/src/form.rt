@@ -1,5 +1,8 @@
 // Operands and expressions of no form.
 
+ghost use Rattle.std.specs.Prelude.{◌≡◌};
+ghost use Rattle.vax_asm_causes.specs.Remarks.{is_false_register, is_like_digit, is_like_number, is_ten_to_fifteen, looks_like_register};
+
 use crate::count::instruction;
 use crate::names::definition_of;
 use crate::statement::{is_mark, is_name, text_of};
@@ -9,25 +12,54 @@ use vax_isa::{Letter, OperandKind};
 use vax_lex::Piece;
 use vax_space::NoMemory;
 
-/// Whether a name looks like a register and is none: `R` and a digit, and more than `R15` is.
-pub(crate) fn looks_like_register(name: &[u8]) -> bool {
-    let Some((first, digits)) = name.split_first() else {
-        return false;
-    };
-    if (*first != b'R' && *first != b'r') || digits.len() < 2 || digits.len() > 3 {
-        return false;
-    }
-    match (digits.first(), digits.get(1)) {
-        (Some(b'1'), Some(b'0'..=b'5')) => digits.len() > 2,
-        (Some(b'0'..=b'9'), Some(b'0'..=b'9' | b'o' | b'O' | b'l' | b'L' | b'i' | b'I')) => true,
+/// Whether a byte is a digit, or a letter that is taken for one.
+fn is_like_digit(byte: u8) -> bool
+    ensures { result ≡ is_like_digit byte }
+{
+    byte.is_ascii_digit() || matches!(byte.to_ascii_uppercase(), b'O' | b'I' | b'L')
+}
+
+/// Whether these are the digits of a number from 10 to 15.
+fn is_ten_to_fifteen(digits: &[u8]) -> bool
+    ensures { result ≡ is_ten_to_fifteen digits.now }
+{
+    matches!(digits, [b'1', b'0'..=b'5'])
+}
+
+/// Whether these are a digit, and one or two more bytes that are like digits.
+fn is_like_number(digits: &[u8]) -> bool
+    ensures { result ≡ is_like_number digits.now }
+{
+    match digits {
+        [first, second] => first.is_ascii_digit() && is_like_digit(*second),
+        [first, second, third] => {
+            first.is_ascii_digit() && is_like_digit(*second) && is_like_digit(*third)
+        }
         _ => false,
     }
+}
+
+/// Whether a name looks like a register and is none: `R` and a number that no register has.
+fn looks_like_register(name: &[u8]) -> bool
+    ensures { result ≡ looks_like_register name.now }
+{
+    let [letter, digits @ ..] = name else {
+        return false;
+    };
+    letter.to_ascii_uppercase() == b'R' && is_like_number(digits) && !is_ten_to_fifteen(digits)
+}
+
+/// Whether a piece of a line is a name that looks like a register and is none.
+pub(crate) fn is_false_register(line: &[u8], piece: Piece) -> bool
+    ensures { result ≡ is_false_register line.now piece }
+{
+    is_name(piece) && looks_like_register(text_of(line, piece))
 }
 
 /// The first name that looks like a register and is none.
 fn false_register(line: &[u8], pieces: &[Piece]) -> Option<Piece> {
     for piece in pieces {
-        if is_name(*piece) && looks_like_register(text_of(line, *piece)) {
+        if is_false_register(line, *piece) {
             return Some(*piece);
         }
     }

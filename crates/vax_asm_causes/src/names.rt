@@ -1,7 +1,10 @@
 // Where names stand in a source.
 
 ghost use Rattle.std.specs.Prelude.{◌≡◌, ◌≤◌, length};
+ghost use Rattle.std.specs.Char.{is_ascii_digit};
+ghost use Rattle.std.specs.List.{prefix_len};
 ghost use Rattle.vax_asm_causes.specs.Places.{are_same};
+ghost use Rattle.vax_asm_causes.specs.Remarks.{is_local};
 
 use vax_lex::{is_blank, is_name_character};
 use vax_lines::next_line;
@@ -35,6 +38,26 @@ pub(crate) fn name_length(line: &[u8]) -> usize
         }
     }
     line.len()
+}
+
+/// How many bytes from the first on are digits.
+fn digits(name: &[u8]) -> usize
+    ensures value { result ≡ prefix_len is_ascii_digit name.now }
+    ensures few { result ≤ length name.now }
+{
+    for (i, byte) in name.iter().enumerate() {
+        if !byte.is_ascii_digit() {
+            return i;
+        }
+    }
+    name.len()
+}
+
+/// Whether a name is a local label: digits and a `$`.
+pub(crate) fn is_local(name: &[u8]) -> bool
+    ensures { result ≡ is_local name.now }
+{
+    name.split_at(digits(name)).1 == b"$".as_slice()
 }
 
 /// Whether a line defines a name, as its label or by an assignment.

@@ -1,12 +1,16 @@
 // What is worth a remark in a source: it may assemble, and yet not be what was meant.
 
-use crate::cause::is_local;
-use crate::form::looks_like_register;
-use crate::names::are_same;
-use crate::statement::{is_mark, is_name, parts_of, pieces_of, text_of};
-use crate::words::say;
+ghost use Rattle.std.specs.Prelude.{◌≡◌, ◌++◌, ◌∷◌, [], IfOk, OnOk, take};
+ghost use Rattle.vax_asm_causes.specs.Places.{line_pieces};
+ghost use Rattle.vax_asm_causes.specs.Remarks.{end_name, first_place, is_at, is_unused, line_remarks, mask_remarks, own_label, pieces_remarks, place_in, place_remarks, register_remarks, remark_on, remarks, remarks_if, start_of, unused_remarks};
+ghost use Rattle.vax_asm_causes.specs.View.{IsRead, asked_by};
+
+use crate::counts::{Counts, counts_of, is_once};
+use crate::form::is_false_register;
+use crate::names::is_local;
+use crate::places::{Sought, first_line, is_called};
+use crate::statement::{is_mark, is_name, operation_of, pieces_of, text_of};
 use std::alloc::Global;
-use std::collections::BTreeMap;
 use vax_lex::Piece;
 use vax_lines::next_line;
 use vax_space::NoMemory;
@@ -14,28 +18,31 @@ use vax_space::NoMemory;
 /// So many remarks are made on a source at most.
 const MOST: usize = 100;
 
-/// How a remark is meant.
+/// What a remark is about.
 #[derive(Clone, Copy, PartialEq, Eq)]
-pub enum Tone {
-    /// It may be a mistake.
-    Warning,
-    /// It leads to the place of what was told before.
-    Note,
+pub enum About {
+    /// Here a name stands first that was told of before.
+    Place,
+    /// A name that looks like a register.
+    Register,
+    /// A procedure at which the program begins: the bare machine runs its mask as an instruction.
+    Mask,
+    /// A label that nothing uses.
+    Unused,
 }
 
-/// A remark on a line of a source, counted from 1, and a column of it, counted from 0.
-#[derive(Drop)]
+/// A remark on a piece of a line of a source, which is counted from 1.
+#[derive(Clone, Copy)]
 pub struct Remark {
-    pub tone: Tone,
-    pub line: u32,
-    pub column: u32,
-    pub words: Vec<u8>,
+    pub about: About,
+    pub line: usize,
+    pub piece: Piece,
 }
 
-/// Which remarks are wanted.
+/// Which remarks are wanted beside those on names that look like registers.
 #[derive(Clone, Copy)]
 pub struct Wanted<'a> {
-    /// On masks of procedures, which the bare machine runs as instructions.
+    /// On a procedure at which the program begins: the bare machine runs its mask as an instruction.
     pub bare: bool,
     /// On labels that nothing uses.
     pub unused: bool,
@@ -43,209 +50,273 @@ pub struct Wanted<'a> {
     pub name: &'a [u8],
 }
 
-/// How often each name stands in a source, in capitals.
-type Counts = BTreeMap<Vec<u8>, u32>;
+/// A source that is read for remarks: how often each name stands there, the line on which the wanted one stands first, and the name at which its program
+/// begins, empty where it says none.
+#[derive(Drop)]
+struct Reading<'a> {
+    wanted: Wanted<'a>,
+    source: &'a [u8],
+    counts: Counts,
+    place: Option<usize>,
+    start: &'a [u8],
+}
 
 /// A line with its number and its pieces.
 #[derive(Clone, Copy)]
 struct Numbered<'a> {
-    number: u32,
+    number: usize,
     line: &'a [u8],
     pieces: &'a [Piece],
 }
 
-/// A name in capitals.
-fn capitals(alloc: Global, name: &[u8]) -> Result<Vec<u8>, NoMemory> {
-    let mut all = Vec::new(alloc);
-    for byte in name {
-        all.push(byte.to_ascii_uppercase()).map_err(|_| NoMemory)?;
-    }
-    Ok(all)
-}
-
-/// Counts a name once more.
-fn count(alloc: Global, counts: &mut Counts, name: &[u8]) -> Result<(), NoMemory> {
-    let key = capitals(alloc, name)?;
-    let before = match counts.get(&key) {
-        Some(count) => *count,
-        None => 0,
-    };
-    match counts.insert(key, before.saturating_add(1)) {
-        Ok(_) => Ok(()),
-        Err(_) => Err(NoMemory),
-    }
-}
-
-/// Counts the names of a line.
-fn count_line(alloc: Global, counts: &mut Counts, line: &[u8]) -> Result<(), NoMemory> {
-    let pieces = pieces_of(alloc, line)?;
-    for piece in pieces.as_slice() {
-        if is_name(*piece) {
-            count(alloc, counts, text_of(line, *piece))?;
-        }
-    }
-    Ok(())
-}
-
-/// How often each name stands in a source.
-fn counts_of(alloc: Global, source: &[u8]) -> Result<Counts, NoMemory> {
-    let mut counts = BTreeMap::new(alloc);
-    let mut rest = source;
-    while let Some((line, behind)) = next_line(rest) {
-        count_line(alloc, &mut counts, line)?;
-        rest = behind;
-    }
-    Ok(counts)
-}
-
 /// Adds a remark.
-fn add(
-    all: &mut Vec<Remark>,
-    tone: Tone,
-    at: Numbered<'_>,
-    piece: Piece,
-    words: Vec<u8>,
-) -> Result<(), NoMemory> {
+#[tactic(auto, unfolding(crate::specs::Remarks::remark_on))]
+fn add(all: &mut Vec<Remark>, about: About, number: usize, piece: Piece) -> Result<(), NoMemory>
+    ensures { OnOk result (all.new.items ≡ all.old.items ++ remark_on about number piece ∷ []) }
+{
     all.push(Remark {
-        tone,
-        line: at.number,
-        column: piece.start,
-        words,
+        about,
+        line: number,
+        piece,
     })
     .map_err(|_| NoMemory)
 }
 
-/// Remarks on names of a line that look like registers.
-fn remark_registers(
-    alloc: Global,
-    all: &mut Vec<Remark>,
-    at: Numbered<'_>,
-) -> Result<(), NoMemory> {
+/// A remark on the first place of a name in a line.
+fn remark_place(all: &mut Vec<Remark>, at: Numbered<'_>, name: &[u8]) -> Result<(), NoMemory>
+    ensures { OnOk result (all.new.items ≡ all.old.items ++ place_in name.now
+        at.entry.number at.entry.line.now at.entry.pieces.now) }
+{
     for piece in at.pieces {
-        let name = text_of(at.line, *piece);
-        if is_name(*piece) && looks_like_register(name) {
-            let words = say(alloc, &[b"`", name, b"` is a name and no register"])?;
-            add(all, Tone::Warning, at, *piece, words)?;
+        if is_called(at.line, *piece, name) {
+            return add(all, About::Place, at.number, *piece);
         }
     }
     Ok(())
+}
+
+/// Remarks on names of a line that look like registers.
+fn remark_registers(all: &mut Vec<Remark>, at: Numbered<'_>) -> Result<(), NoMemory>
+    ensures { OnOk result (all.new.items ≡ all.old.items ++ register_remarks
+        at.entry.number at.entry.line.now at.entry.pieces.now) }
+{
+    for piece in at.pieces {
+        if is_false_register(at.line, *piece) {
+            add(all, About::Register, at.number, *piece)?;
+        }
+    }
+    Ok(())
+}
+
+/// The name behind an operator `.END` of a line; empty where there is none.
+#[tactic(auto, unfolding(crate::specs::Remarks::end_name))]
+fn end_name<'a>(line: &'a [u8], pieces: &[Piece]) -> &'a [u8]
+    ensures { result.now ≡ end_name line.entry.now pieces.now }
+{
+    match pieces {
+        [operator, name, ..] if is_called(line, *operator, b".END") && is_name(*name) => {
+            text_of(line, *name)
+        }
+        _ => &[],
+    }
+}
+
+/// The name at which a source says that its program begins; empty where it says none.
+#[tactic(auto, unfolding(crate::specs::Remarks::first_end))]
+fn start_of<'a>(alloc: Global, source: &'a [u8]) -> Result<&'a [u8], NoMemory>
+    ensures { IfOk result (λ name. name.now ≡ start_of source.entry.now) }
+{
+    let mut rest = source;
+    while let Some((line, behind)) = next_line(rest) {
+        let pieces = pieces_of(alloc, line)?;
+        let name = end_name(line, operation_of(&pieces));
+        if !name.is_empty() {
+            return Ok(name);
+        }
+        rest = behind;
+    }
+    Ok(&[])
+}
+
+/// A remark on a procedure at which the program begins, for the bare machine.
+fn remark_mask(all: &mut Vec<Remark>, at: Numbered<'_>, start: &[u8]) -> Result<(), NoMemory>
+    ensures { OnOk result (all.new.items ≡ all.old.items ++ mask_remarks start.now
+        at.entry.number at.entry.line.now at.entry.pieces.now) }
+{
+    match operation_of(at.pieces) {
+        [operator, name, ..]
+            if is_called(at.line, *operator, b".ENTRY") && is_called(at.line, *name, start) => {
+            add(all, About::Mask, at.number, *operator)
+        }
+        _ => Ok(()),
+    }
 }
 
 /// The label of a line that only its file can use.
-fn own_label(pieces: &[Piece]) -> Option<Piece> {
-    let (first, rest) = pieces.split_first()?;
-    let (colon, rest) = rest.split_first()?;
-    if !is_name(*first) || !is_mark(*colon, b':') {
+fn own_label(pieces: &[Piece]) -> Option<Piece>
+    ensures { result ≡ own_label pieces.now }
+{
+    let [label, colon, rest @ ..] = pieces else {
+        return None;
+    };
+    if !is_name(*label) || !is_mark(*colon, b':') {
         return None;
     }
-    match rest.first() {
-        Some(next) if is_mark(*next, b':') => None,
-        _ => Some(*first),
+    match rest {
+        [next, ..] if is_mark(*next, b':') => None,
+        _ => Some(*label),
     }
 }
 
-/// Remarks on a line's label that nothing uses.
+/// Whether a label is no local one, and stands nowhere else.
+fn is_unused(alloc: Global, reading: &Reading<'_>, name: &[u8]) -> Result<bool, NoMemory>
+    requires { IsRead reading.now }
+    ensures { IfOk result (λ b. b ≡ is_unused reading.now.source.now name.now) }
+{
+    Ok(!is_local(name) && is_once(alloc, &reading.counts, name)?)
+}
+
+/// A remark on a line's label that nothing uses.
 fn remark_unused(
     alloc: Global,
     all: &mut Vec<Remark>,
-    counts: &Counts,
+    reading: &Reading<'_>,
     at: Numbered<'_>,
-) -> Result<(), NoMemory> {
+) -> Result<(), NoMemory>
+    requires { IsRead reading.now }
+    ensures { OnOk result (all.new.items ≡ all.old.items ++ unused_remarks
+        reading.now.source.now at.entry.number at.entry.line.now at.entry.pieces.now) }
+{
     let Some(label) = own_label(at.pieces) else {
         return Ok(());
     };
-    let name = text_of(at.line, label);
-    let key = capitals(alloc, name)?;
-    if is_local(name) || counts.get(&key) != Some(&1) {
+    if !is_unused(alloc, reading, text_of(at.line, label))? {
         return Ok(());
     }
-    let words = say(alloc, &[b"nothing uses the label `", name, b"`"])?;
-    add(all, Tone::Warning, at, label, words)
+    add(all, About::Unused, at.number, label)
 }
 
-/// Remarks on a mask of a procedure for the bare machine.
-fn remark_mask(alloc: Global, all: &mut Vec<Remark>, at: Numbered<'_>) -> Result<(), NoMemory> {
-    let Some(operator) = parts_of(at.pieces).operator else {
-        return Ok(());
-    };
-    if !are_same(text_of(at.line, operator), b".ENTRY") {
-        return Ok(());
+/// Whether the line with this number is that one.
+fn is_at(number: usize, place: Option<usize>) -> bool
+    ensures { result ≡ is_at number place }
+{
+    match place {
+        None => false,
+        Some(place) => place == number,
     }
-    let words = say(
-        alloc,
-        &[
-            b"a program for the bare machine begins at an instruction, and .ENTRY begins with a mask",
-        ],
-    )?;
-    add(all, Tone::Warning, at, operator, words)
 }
 
-/// Notes where a name stands in a line; whether it does.
-fn note_name(
+/// The remarks on a line with these pieces.
+#[tactic(auto, unfolding(crate::specs::Remarks::pieces_remarks))]
+fn remark_pieces(
     alloc: Global,
     all: &mut Vec<Remark>,
+    reading: &Reading<'_>,
     at: Numbered<'_>,
-    name: &[u8],
-) -> Result<bool, NoMemory> {
-    for piece in at.pieces {
-        if is_name(*piece) && are_same(text_of(at.line, *piece), name) {
-            let words = say(alloc, &[b"`", name, b"` stands here"])?;
-            add(all, Tone::Note, at, *piece, words)?;
-            return Ok(true);
-        }
+) -> Result<(), NoMemory>
+    requires { IsRead reading.now }
+    ensures { OnOk result (all.new.items ≡ all.old.items ++ pieces_remarks
+        (asked_by reading.now.wanted) reading.now.source.now
+        at.entry.number at.entry.line.now at.entry.pieces.now) }
+{
+    if is_at(at.number, reading.place) {
+        remark_place(all, at, reading.wanted.name)?;
     }
-    Ok(false)
-}
-
-/// The remarks on a line.
-fn remark_line(
-    alloc: Global,
-    all: &mut Vec<Remark>,
-    counts: &Counts,
-    at: Numbered<'_>,
-    wanted: Wanted<'_>,
-) -> Result<(), NoMemory> {
-    remark_registers(alloc, all, at)?;
-    if wanted.bare {
-        remark_mask(alloc, all, at)?;
+    remark_registers(all, at)?;
+    if reading.wanted.bare {
+        remark_mask(all, at, reading.start)?;
     }
-    if wanted.unused {
-        remark_unused(alloc, all, counts, at)?;
+    if reading.wanted.unused {
+        remark_unused(alloc, all, reading, at)?;
     }
     Ok(())
 }
 
-/// The remarks on a source that are wanted, line by line, at most a hundred.
+/// The remarks on the line with this number.
+fn remark_line(
+    alloc: Global,
+    all: &mut Vec<Remark>,
+    reading: &Reading<'_>,
+    number: usize,
+    line: &[u8],
+) -> Result<(), NoMemory>
+    requires { IsRead reading.now }
+    ensures { OnOk result (all.new.items ≡ all.old.items ++ line_remarks
+        (asked_by reading.now.wanted) reading.now.source.now number line.now) }
+{
+    let pieces = pieces_of(alloc, line)?;
+    let at = Numbered {
+        number,
+        line,
+        pieces: &pieces,
+    };
+    remark_pieces(alloc, all, reading, at)
+}
+
+/// Where a name stands first; of no name nowhere.
+fn first_place(alloc: Global, name: &[u8], source: &[u8]) -> Result<Option<usize>, NoMemory>
+    ensures { IfOk result (λ o. o ≡ first_place name.now source.now) }
+{
+    if name.is_empty() {
+        return Ok(None);
+    }
+    first_line(alloc, source, name, Sought::Anywhere)
+}
+
+impl<'a> Reading<'a> {
+    fn new(alloc: Global, source: &'a [u8], wanted: Wanted<'a>) -> Result<Reading<'a>, NoMemory>
+        ensures read { IfOk result IsRead }
+        ensures source { IfOk result (λ r. r.source ≡ source.entry) }
+        ensures wanted { IfOk result (λ r. r.wanted ≡ wanted.entry) }
+    {
+        Ok(Reading {
+            wanted,
+            source,
+            counts: counts_of(alloc, source)?,
+            place: first_place(alloc, wanted.name, source)?,
+            start: start_of(alloc, source)?,
+        })
+    }
+}
+
+/// The first hundred.
+fn cut(all: Vec<Remark>) -> Vec<Remark>
+    ensures { result.items ≡ take 100 all.items }
+{
+    let mut all = all;
+    all.truncate(MOST);
+    all
+}
+
+/// The remarks of a source that is read.
+#[tactic(auto, unfolding(crate::specs::Remarks::lines_remarks))]
+fn remarks_in(alloc: Global, reading: &Reading<'_>) -> Result<Vec<Remark>, NoMemory>
+    requires { IsRead reading.now }
+    ensures { IfOk result
+        (λ v. v.items ≡ remarks (asked_by reading.now.wanted) reading.now.source.now) }
+{
+    let mut all = Vec::new(alloc);
+    let mut number: usize = 1;
+    let mut rest = reading.source;
+    while let Some((line, behind)) = next_line(rest) {
+        if all.len() >= MOST {
+            return Ok(cut(all));
+        }
+        remark_line(alloc, &mut all, reading, number, line)?;
+        number += 1;
+        rest = behind;
+    }
+    Ok(cut(all))
+}
+
+/// The first hundred remarks on a source that are wanted, line by line.
 ///
 /// # Errors
 ///
 /// [`NoMemory`] where memory is refused.
-pub fn remarks_of(
-    alloc: Global,
-    source: &[u8],
-    wanted: Wanted<'_>,
-) -> Result<Vec<Remark>, NoMemory> {
-    let counts = counts_of(alloc, source)?;
-    let mut all = Vec::new(alloc);
-    let mut named = wanted.name.is_empty();
-    let mut number: u32 = 1;
-    let mut rest = source;
-    while let Some((line, behind)) = next_line(rest) {
-        if all.len() >= MOST {
-            return Ok(all);
-        }
-        let pieces = pieces_of(alloc, line)?;
-        let at = Numbered {
-            number,
-            line,
-            pieces: &pieces,
-        };
-        if !named {
-            named = note_name(alloc, &mut all, at, wanted.name)?;
-        }
-        remark_line(alloc, &mut all, &counts, at, wanted)?;
-        number = number.saturating_add(1);
-        rest = behind;
-    }
-    Ok(all)
+pub fn remarks_of(alloc: Global, source: &[u8], wanted: Wanted<'_>) -> Result<Vec<Remark>, NoMemory>
+    ensures { IfOk result (λ v. v.items ≡ remarks (asked_by wanted.entry) source.now) }
+{
+    let reading = Reading::new(alloc, source, wanted)?;
+    remarks_in(alloc, &reading)
 }

@@ -2,6 +2,7 @@
 
 ghost use Rattle.std.specs.Prelude.{◌≡◌, ◌≤◌, IfOk, length, take};
 ghost use Rattle.vax_asm_causes.specs.Places.{is_mark, is_name, line_pieces, piece_text};
+ghost use Rattle.vax_asm_causes.specs.Remarks.{operation_of, without_mark};
 
 use std::alloc::Global;
 use vax_lex::{Piece, PieceKind, TokenKind, pieces};
@@ -30,7 +31,7 @@ pub(crate) fn pieces_of(alloc: Global, line: &[u8]) -> Result<Vec<Piece>, NoMemo
 
 /// The bytes of a piece.
 #[tactic(auto, unfolding(crate::specs::Places::piece_text))]
-pub(crate) fn text_of<'a>(line: &'a [u8], piece: Piece) -> &'a [u8]
+pub fn text_of<'a>(line: &'a [u8], piece: Piece) -> &'a [u8]
     ensures { result.now ≡ piece_text line.entry.now piece }
 {
     match line.get(piece.start as usize..piece.end as usize) {
@@ -90,6 +91,29 @@ fn behind_mark<'a>(pieces: &'a [Piece], mark: u8) -> Option<&'a [Piece]> {
         return Some(rest);
     }
     None
+}
+
+/// Without one such mark at the front.
+fn without_mark<'a>(pieces: &'a [Piece], mark: u8) -> &'a [Piece]
+    ensures { result.now ≡ without_mark mark pieces.entry.now }
+{
+    match pieces {
+        [first, rest @ ..] if is_mark(*first, mark) => rest,
+        _ => pieces,
+    }
+}
+
+/// The statement of these pieces from its operator on. An assignment has none.
+pub(crate) fn operation_of<'a>(pieces: &'a [Piece]) -> &'a [Piece]
+    ensures { result.now ≡ operation_of pieces.entry.now }
+{
+    let [_, second, rest @ ..] = pieces else {
+        return pieces;
+    };
+    if is_mark(*second, b':') {
+        return without_mark(rest, b':');
+    }
+    if is_mark(*second, b'=') { &[] } else { pieces }
 }
 
 /// What stands behind one mark or two.

@@ -1,0 +1,174 @@
+-- What is worth a remark in a source: it may assemble, and yet not be what was meant.
+use Rattle.std.specs.Prelude.{ℕ, ◌+◌, ◌==◌, ◌&&◌, ◌||◌, Bool, false, not, nat_le, if◌then◌else◌, List, [], ◌∷◌, ◌++◌, length, map, take, drop, codes, Option, None, Some}
+use Rattle.std.specs.Char.{is_ascii_digit, to_ascii_uppercase}
+use Rattle.std.specs.List.{filter, flat_map, prefix_len}
+use Rattle.std.specs.Str.{bytes_eq}
+use Rattle.vax_asm_causes.specs.Places.{are_same, first_line, is_called, is_mark, is_name, line_pieces, piece_text}
+use Rattle.vax_asm_causes.specs.declared.places.Sought.TheVariants.{Anywhere}
+use Rattle.vax_asm_causes.specs.declared.remarks.About.{About}
+use Rattle.vax_asm_causes.specs.declared.remarks.About.TheVariants as about
+use Rattle.vax_asm_causes.specs.declared.remarks.Remark.{Remark}
+use Rattle.vax_lex.specs.declared.token.Piece.{Piece}
+use Rattle.vax_lines.specs.Lines.{Text, lines}
+
+-- Which remarks are asked for beside those on names that look like registers.
+pub record Asked : Type 0 where
+  -- on masks of procedures, which the bare machine runs as instructions
+  pub bare : Bool
+  -- on labels that nothing uses
+  pub unused : Bool
+  -- where this name stands first; none, if it is empty
+  pub name : Text
+
+-- a remark on a piece of the line with this number
+unfoldable pub remark_on : About → (number : ℕ) → Piece → Remark
+remark_on about number p = record { about = about; line = number; piece = p }
+
+-- ---- names that look like registers
+
+-- a digit, or a letter that is taken for one: `O`, `I` or `L`
+abbrev pub is_like_digit : ℕ → Bool
+is_like_digit c = is_ascii_digit c || (to_ascii_uppercase c == 79) || (to_ascii_uppercase c == 73) || (to_ascii_uppercase c == 76)
+
+-- 10 to 15
+abbrev pub is_ten_to_fifteen : Text → Bool
+is_ten_to_fifteen (a ∷ b ∷ []) = (a == 49) && nat_le 48 b && nat_le b 53
+is_ten_to_fifteen digits = false
+
+-- a digit, and one or two more that are like digits
+abbrev pub is_like_number : Text → Bool
+is_like_number (a ∷ b ∷ []) = is_ascii_digit a && is_like_digit b
+is_like_number (a ∷ b ∷ c ∷ []) = is_ascii_digit a && is_like_digit b && is_like_digit c
+is_like_number digits = false
+
+-- `R` and what is like a number of two or three digits, but is none of 10 to 15
+abbrev pub looks_like_register : Text → Bool
+looks_like_register [] = false
+looks_like_register (r ∷ digits) = (to_ascii_uppercase r == 82) && is_like_number digits && not (is_ten_to_fifteen digits)
+
+abbrev pub is_false_register : (line : Text) → Piece → Bool
+is_false_register line p = is_name p && looks_like_register (piece_text line p)
+
+abbrev pub register_remarks : (number : ℕ) → (line : Text) → List Piece → List Remark
+register_remarks number line pieces = map (remark_on about.Register number) (filter (is_false_register line) pieces)
+
+-- ---- masks of procedures
+
+abbrev pub head_of : List Piece → Option Piece
+head_of [] = None
+head_of (p ∷ pieces) = Some p
+
+-- without one such mark at the front
+abbrev pub without_mark : (mark : ℕ) → List Piece → List Piece
+without_mark mark [] = []
+without_mark mark (p ∷ pieces) = if is_mark p mark then pieces else p ∷ pieces
+
+-- A statement from its operator on: from its first piece, or from the first behind a label with its colon or two. An assignment has none.
+abbrev pub operation_of : List Piece → List Piece
+operation_of [] = []
+operation_of (p ∷ []) = p ∷ []
+operation_of (p ∷ q ∷ pieces) = if is_mark q 58 then without_mark 58 pieces else (if is_mark q 61 then [] else p ∷ q ∷ pieces)
+
+-- the name behind an operator `.END`; empty where there is none
+unfoldable pub end_name : (line : Text) → List Piece → Text
+end_name line [] = []
+end_name line (p ∷ []) = []
+end_name line (p ∷ q ∷ more) = if is_called (codes ".END") line p && is_name q then piece_text line q else []
+
+abbrev pub name_or : Text → Text → Text
+name_or [] other = other
+name_or (b ∷ name) other = b ∷ name
+
+-- the first such name in some lines
+unfoldable pub first_end : List Text → Text
+first_end [] = []
+first_end (line ∷ more) = name_or (end_name line (operation_of (line_pieces line))) (first_end more)
+
+-- where a source says that its program begins
+abbrev pub start_of : (source : Text) → Text
+start_of source = first_end (lines source)
+
+abbrev pub mask_at : (start : Text) → (number : ℕ) → (line : Text) → List Piece → List Remark
+mask_at start number line [] = []
+mask_at start number line (p ∷ []) = []
+mask_at start number line (p ∷ q ∷ more) = if is_called (codes ".ENTRY") line p && is_called start line q then remark_on about.Mask number p ∷ [] else []
+
+-- `.ENTRY` with the name at which the program begins
+abbrev pub mask_remarks : (start : Text) → (number : ℕ) → (line : Text) → List Piece → List Remark
+mask_remarks start number line pieces = mask_at start number line (operation_of pieces)
+
+-- ---- labels that nothing uses
+
+-- the names of a line, and of a source
+abbrev pub line_names : (line : Text) → List Text
+line_names line = map (piece_text line) (filter is_name (line_pieces line))
+
+abbrev pub names_in : (source : Text) → List Text
+names_in source = flat_map line_names (lines source)
+
+-- a name stands in a source once, in letters of either case
+abbrev pub stands_once : (source name : Text) → Bool
+stands_once source name = length (filter (λ other. are_same other name) (names_in source)) == 1
+
+-- a local label: digits and a `$`
+abbrev pub is_local : (name : Text) → Bool
+is_local name = bytes_eq (drop (prefix_len is_ascii_digit name) name) (codes "$")
+
+-- the label of a line that other files don't see: it has one colon
+abbrev pub own_label : List Piece → Option Piece
+own_label (p ∷ q ∷ []) = if is_name p && is_mark q 58 then Some p else None
+own_label (p ∷ q ∷ r ∷ pieces) = if is_name p && is_mark q 58 && not (is_mark r 58) then Some p else None
+own_label pieces = None
+
+abbrev pub is_unused : (source name : Text) → Bool
+is_unused source name = not (is_local name) && stands_once source name
+
+abbrev pub unused_at : (source : Text) → (number : ℕ) → (line : Text) → Option Piece → List Remark
+unused_at source number line None = []
+unused_at source number line (Some p) = if is_unused source (piece_text line p) then remark_on about.Unused number p ∷ [] else []
+
+-- a label that is no local one and whose name stands nowhere else
+abbrev pub unused_remarks : (source : Text) → (number : ℕ) → (line : Text) → List Piece → List Remark
+unused_remarks source number line pieces = unused_at source number line (own_label pieces)
+
+-- ---- where a name stands first
+
+-- the number of that line, of no name none
+abbrev pub first_place : (name source : Text) → Option ℕ
+first_place [] source = None
+first_place (b ∷ name) source = first_line Anywhere (b ∷ name) source
+
+abbrev pub is_at : ℕ → Option ℕ → Bool
+is_at number None = false
+is_at number (Some other) = other == number
+
+-- the first place in a line
+abbrev pub place_in : (name : Text) → (number : ℕ) → (line : Text) → List Piece → List Remark
+place_in name number line pieces = map (remark_on about.Place number) (take 1 (filter (is_called name line) pieces))
+
+abbrev pub remarks_if : Bool → List Remark → List Remark
+remarks_if asked remarks = if asked then remarks else []
+
+-- that of the first such line
+abbrev pub place_remarks : (name source : Text) → (number : ℕ) → (line : Text) → List Piece → List Remark
+place_remarks name source number line pieces = remarks_if (is_at number (first_place name source)) (place_in name number line pieces)
+
+-- ---- all of them
+
+-- those on a line of these pieces
+unfoldable pub pieces_remarks : Asked → (source : Text) → (number : ℕ) → (line : Text) → List Piece → List Remark
+pieces_remarks asked source number line pieces =
+    place_remarks asked.name source number line pieces ++ register_remarks number line pieces
+    ++ remarks_if asked.bare (mask_remarks (start_of source) number line pieces) ++ remarks_if asked.unused (unused_remarks source number line pieces)
+
+abbrev pub line_remarks : Asked → (source : Text) → (number : ℕ) → (line : Text) → List Remark
+line_remarks asked source number line = pieces_remarks asked source number line (line_pieces line)
+
+-- those on lines of a source, of which the first has this number
+unfoldable pub lines_remarks : Asked → (source : Text) → (number : ℕ) → List Text → List Remark
+lines_remarks asked source number [] = []
+lines_remarks asked source number (line ∷ more) = line_remarks asked source number line ++ lines_remarks asked source (number + 1) more
+
+-- the first hundred of those on a source
+abbrev pub remarks : Asked → (source : Text) → List Remark
+remarks asked source = take 100 (lines_remarks asked source 1 (lines source))

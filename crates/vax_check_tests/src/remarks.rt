@@ -1,0 +1,173 @@
+//! The remarks on sources as text.
+use std::test::Fail;
+use vax_asm_errors::{Source, Wanted, push_remarks};
+use vax_dialect::Dialect;
+
+/// A source, what is asked of it, and what is told.
+#[derive(Clone, Copy)]
+struct Row<'a> {
+    source: &'a str,
+    bare: bool,
+    unused: bool,
+    name: &'a str,
+    told: &'a str,
+}
+
+fn tells(rt: &HostRuntime, row: Row<'_>) -> Result<bool, Fail> {
+    let mut out = Vec::new(rt.alloc());
+    let source = Source {
+        dialect: Dialect::Vax,
+        name: b"a.mar",
+        text: row.source.as_bytes(),
+    };
+    let wanted = Wanted {
+        bare: row.bare,
+        unused: row.unused,
+        name: row.name.as_bytes(),
+    };
+    push_remarks(rt.alloc(), &mut out, source, wanted)?;
+    Ok(out.as_slice() == row.told.as_bytes())
+}
+
+#[test]
+fn names_that_look_like_registers_are_told(rt: HostRuntime) -> Result<(), Fail> {
+    let rows = [
+        // R15 is the last, and a number may be written with letters
+        Row {
+            source: " CLRL R15\n MOVL R16,r1O\n CLRL R00\n CLRL R1\n",
+            bare: false,
+            unused: false,
+            name: "",
+            told: "a.mar:2:7: warning: `R16` is a name and no register\n MOVL R16,r1O\n      ^\na.mar:2:11: warning: `r1O` is a name and no register\n MOVL R16,r1O\n          ^\na.mar:3:7: warning: `R00` is a name and no register\n CLRL R00\n      ^\n",
+        },
+        Row {
+            source: " CLRL R150\n",
+            bare: false,
+            unused: false,
+            name: "",
+            told: "a.mar:1:7: warning: `R150` is a name and no register\n CLRL R150\n      ^\n",
+        },
+        // no number, one that is too long, another letter, and a comment
+        Row {
+            source: " MOVL RO,R2D2\n MOVL R10X,R1000\n CLRL S16 ; R16\n",
+            bare: false,
+            unused: false,
+            name: "",
+            told: "",
+        },
+    ];
+    for row in rows {
+        assert!(rt; tells(&rt, row)?);
+    }
+    Ok(())
+}
+
+#[test]
+fn labels_that_nothing_uses_are_told(rt: HostRuntime) -> Result<(), Fail> {
+    let rows = [
+        Row {
+            source: "A: HALT\nB: BRB b\n",
+            bare: false,
+            unused: true,
+            name: "",
+            told: "a.mar:1:1: warning: nothing uses the label `A`\nA: HALT\n^\n",
+        },
+        // one that other files see, a local one, an assignment, and one that isn't asked for
+        Row {
+            source: "A:: HALT\n1$: HALT\nB = 1\n",
+            bare: false,
+            unused: true,
+            name: "",
+            told: "",
+        },
+        Row {
+            source: "A: HALT\n",
+            bare: false,
+            unused: false,
+            name: "",
+            told: "",
+        },
+    ];
+    for row in rows {
+        assert!(rt; tells(&rt, row)?);
+    }
+    Ok(())
+}
+
+#[test]
+fn masks_and_first_places_are_told(rt: HostRuntime) -> Result<(), Fail> {
+    let mask =
+        "a.mar:1:2: warning: a program for the bare machine begins at an instruction, and .ENTRY begins with a mask\n .entry S,0\n ^\n";
+    let rows = [
+        // the program begins at the procedure
+        Row {
+            source: " .entry S,0\n .end s\n",
+            bare: true,
+            unused: false,
+            name: "",
+            told: mask,
+        },
+        Row {
+            source: " .entry S,0\n .end s\n",
+            bare: false,
+            unused: false,
+            name: "",
+            told: "",
+        },
+        // it begins elsewhere
+        Row {
+            source: " .ENTRY S,0\nT: HALT\n .END T\n",
+            bare: true,
+            unused: false,
+            name: "",
+            told: "",
+        },
+        // the first line alone, and there the first place
+        Row {
+            source: " HALT\n ADDL2 x,X\n CLRL X\n",
+            bare: false,
+            unused: false,
+            name: "X",
+            told: "a.mar:2:8: note: `X` stands here\n ADDL2 x,X\n       ^\n",
+        },
+        // on one line the note stands first, then registers, masks and labels
+        Row {
+            source: "R1l: .ENTRY R20,X\n .END R20\n",
+            bare: true,
+            unused: true,
+            name: "X",
+            told: "a.mar:1:17: note: `X` stands here\nR1l: .ENTRY R20,X\n                ^\na.mar:1:1: warning: `R1l` is a name and no register\nR1l: .ENTRY R20,X\n^\na.mar:1:13: warning: `R20` is a name and no register\nR1l: .ENTRY R20,X\n            ^\na.mar:1:6: warning: a program for the bare machine begins at an instruction, and .ENTRY begins with a mask\nR1l: .ENTRY R20,X\n     ^\na.mar:1:1: warning: nothing uses the label `R1l`\nR1l: .ENTRY R20,X\n^\na.mar:2:7: warning: `R20` is a name and no register\n .END R20\n      ^\n",
+        },
+    ];
+    for row in rows {
+        assert!(rt; tells(&rt, row)?);
+    }
+    Ok(())
+}
+
+#[test]
+fn a_hundred_remarks_are_told(rt: HostRuntime) -> Result<(), Fail> {
+    let mut text = Vec::new(rt.alloc());
+    for _ in 0..40u32 {
+        text.extend_from_slice(b" ADDL3 R16,R17,R18\n")?;
+    }
+    let source = Source {
+        dialect: Dialect::Vax,
+        name: b"a.mar",
+        text: &text,
+    };
+    let wanted = Wanted {
+        bare: false,
+        unused: false,
+        name: b"",
+    };
+    let mut out = Vec::new(rt.alloc());
+    push_remarks(rt.alloc(), &mut out, source, wanted)?;
+    // three on each of 33 lines, and one on the next
+    assert!(rt;
+        out.ends_with(
+            b"a.mar:34:8: warning: `R16` is a name and no register\n ADDL3 R16,R17,R18\n       ^\n"
+        )
+    );
+    Ok(())
+}
